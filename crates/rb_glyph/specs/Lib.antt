@@ -1,0 +1,11 @@
+pub mod Categories
+pub mod Category
+pub mod Characters
+pub mod Fields
+pub mod FlagSets
+pub mod Hangul
+pub mod Rows
+pub mod Scripts
+pub mod Search
+pub mod Tables
+pub mod UnicodeProps

@@ -1,0 +1,127 @@
+//! Hangul syllables, made from their parts by the rule of the Unicode Standard, section 3.12, with no table.
+
+ghost use Rattle.std.specs.Prelude.{◌≡◌, ◌↔◌, ℕ, Some};
+ghost use Rattle.rb_glyph.specs.Hangul.{ComposesTo, DecomposesTo, HangulAgrees, LeadingComposes, TrailingComposes};
+
+const S_BASE: u32 = 0xAC00;
+
+const L_BASE: u32 = 0x1100;
+
+const V_BASE: u32 = 0x1161;
+
+const T_BASE: u32 = 0x11A7;
+
+const L_COUNT: u32 = 19;
+
+const V_COUNT: u32 = 21;
+
+const T_COUNT: u32 = 28;
+
+const S_COUNT: u32 = L_COUNT * V_COUNT * T_COUNT;
+
+/// The syllable that two characters make: a leading consonant and a vowel, or a syllable without a trailing consonant
+/// and such a consonant. U+11A7, which stands before the trailing consonants, is none.
+pub fn compose_hangul(a: char, b: char) -> Option<char>
+    ensures { ComposesTo a b result }
+{
+    if let Some(s) = compose_leading(a, b) {
+        return Some(s);
+    }
+    compose_trailing(a, b)
+}
+
+/// The syllable of a leading consonant and a vowel.
+fn compose_leading(a: char, b: char) -> Option<char>
+    ensures { (s : ℕ) → (result ≡ Some s) ↔ LeadingComposes s a b }
+{
+    let i = (a as u32).checked_sub(L_BASE)?;
+    let j = (b as u32).checked_sub(V_BASE)?;
+    if i >= L_COUNT || j >= V_COUNT {
+        return None;
+    }
+    char::from_u32(S_BASE + (i * V_COUNT + j) * T_COUNT)
+}
+
+/// The syllable of a syllable without a trailing consonant and such a consonant.
+fn compose_trailing(a: char, b: char) -> Option<char>
+    ensures { (s : ℕ) → (result ≡ Some s) ↔ TrailingComposes s a b }
+{
+    let index = (a as u32).checked_sub(S_BASE)?;
+    let t = (b as u32).checked_sub(T_BASE)?;
+    if index >= S_COUNT || index % T_COUNT != 0 || t == 0 || t >= T_COUNT {
+        return None;
+    }
+    char::from_u32(a as u32 + t)
+}
+
+/// The two characters that make a syllable.
+pub fn decompose_hangul(s: char) -> Option<(char, char)>
+    ensures { DecomposesTo s result }
+{
+    let index = (s as u32).checked_sub(S_BASE)?;
+    if index >= S_COUNT {
+        return None;
+    }
+    let t = index % T_COUNT;
+    if t != 0 {
+        return Some((char::from_u32(s as u32 - t)?, char::from_u32(T_BASE + t)?));
+    }
+    let i = index / T_COUNT / V_COUNT;
+    let j = index / T_COUNT % V_COUNT;
+    Some((char::from_u32(L_BASE + i)?, char::from_u32(V_BASE + j)?))
+}
+
+/// A law with no code: `compose_hangul(a, b)` is `Some(s)` exactly if `decompose_hangul(s)` is `Some((a, b))`.
+pub fn hangul_law()
+    ensures { HangulAgrees }
+{}
+
+#[cfg(test)]
+mod tests {
+    use super::*;
+
+    #[test]
+    fn consonant_and_vowel(rt: HostRuntime) {
+        assert_eq!(rt; compose_hangul('\u{1100}', '\u{1161}'), Some('\u{AC00}'));
+        assert_eq!(rt; compose_hangul('\u{1112}', '\u{1175}'), Some('\u{D788}'));
+        assert_eq!(rt; compose_hangul('\u{1113}', '\u{1161}'), None);
+        assert_eq!(rt; compose_hangul('\u{1100}', '\u{1176}'), None);
+    }
+
+    #[test]
+    fn syllable_and_trailing_consonant(rt: HostRuntime) {
+        assert_eq!(rt; compose_hangul('\u{AC00}', '\u{11A8}'), Some('\u{AC01}'));
+        assert_eq!(rt; compose_hangul('\u{D788}', '\u{11C2}'), Some('\u{D7A3}'));
+        assert_eq!(rt; compose_hangul('\u{AC00}', '\u{11A7}'), None);
+        assert_eq!(rt; compose_hangul('\u{AC00}', '\u{11C3}'), None);
+        assert_eq!(rt; compose_hangul('\u{AC01}', '\u{11A8}'), None);
+        assert_eq!(rt; compose_hangul('a', '\u{301}'), None);
+    }
+
+    #[test]
+    fn parts_of_syllables(rt: HostRuntime) {
+        assert_eq!(rt;
+            decompose_hangul('\u{AC00}'),
+            Some(('\u{1100}', '\u{1161}'))
+        );
+        assert_eq!(rt;
+            decompose_hangul('\u{AC01}'),
+            Some(('\u{AC00}', '\u{11A8}'))
+        );
+        assert_eq!(rt;
+            decompose_hangul('\u{D7A3}'),
+            Some(('\u{D788}', '\u{11C2}'))
+        );
+        assert_eq!(rt;
+            decompose_hangul('\u{D788}'),
+            Some(('\u{1112}', '\u{1175}'))
+        );
+        assert_eq!(rt; decompose_hangul('\u{ABFF}'), None);
+        assert_eq!(rt; decompose_hangul('\u{D7A4}'), None);
+    }
+
+    #[test]
+    fn law_of_composition_stands(_rt: HostRuntime) {
+        hangul_law();
+    }
+}

@@ -1,0 +1,185 @@
+//! The properties that a character is given before it is shaped.
+ghost use Rattle.std.specs.Prelude.{◌≡◌};
+ghost use Rattle.std.specs.Char.{IsScalar};
+ghost use Rattle.rb_glyph.specs.Categories.{category_of_char};
+ghost use Rattle.rb_glyph.specs.Fields.{with_field};
+ghost use Rattle.rb_glyph.specs.UnicodeProps.{kind_bits, ignorable_bits, ignorable_scratch, mark_bits, props_word, props_scratch};
+
+use crate::category::{GeneralCategoryExt, hb_unicode_general_category_t};
+use crate::characters::CharExt;
+use crate::flag_sets::UnicodeProps;
+use crate::info::hb_glyph_info_t;
+use crate::scratch::{
+    HB_BUFFER_SCRATCH_FLAG_DEFAULT, HB_BUFFER_SCRATCH_FLAG_HAS_CGJ,
+    HB_BUFFER_SCRATCH_FLAG_HAS_DEFAULT_IGNORABLES, HB_BUFFER_SCRATCH_FLAG_HAS_NON_ASCII,
+    hb_buffer_scratch_flags_t,
+};
+use crate::tables::CombiningClasses;
+use crate::{lookup, ranges};
+use bitflags::Flags;
+
+const GRAPHEME_JOINER: char = '\u{34f}';
+
+impl hb_glyph_info_t {
+    /// Sets the Unicode properties of an item that is not shaped yet, and adds to the scratch flags what it remembers of
+    /// its character.
+    ///
+    /// The properties are the number of the general category, and past ASCII how an invisible character is treated,
+    /// and the class that a mark is reordered by, in bits 8 to 15 (HarfBuzz, `_hb_glyph_info_set_unicode_props`).
+    pub fn init_unicode_props(
+        &mut self,
+        scratch_flags: &mut hb_buffer_scratch_flags_t,
+        classes: &CombiningClasses,
+    )
+        requires { IsScalar self.old.glyph_id }
+        ensures word { self.new ≡ record self.old { var2 = with_field self.old.var2 0 16 (props_word self.old.glyph_id classes.now) } }
+        ensures remembered { scratch_flags.new ≡ props_scratch self.old.glyph_id scratch_flags.old }
+    {
+        let c = self.as_char();
+        let category = c.general_category();
+        let mut props = category.to_rb() as u16;
+        if c >= '\u{80}' {
+            let (ignorable, remembered) = of_ignorable(c);
+            props = props | ignorable | of_mark(c, category, classes);
+            *scratch_flags = *scratch_flags | (HB_BUFFER_SCRATCH_FLAG_HAS_NON_ASCII | remembered);
+        }
+        self.set_unicode_props(props);
+    }
+}
+
+/// The bits of an invisible character, and what is remembered of it; none of any other.
+fn of_ignorable(c: char) -> (u16, hb_buffer_scratch_flags_t)
+    ensures bits { result.0 ≡ ignorable_bits c }
+    ensures remembered { result.1 ≡ ignorable_scratch c }
+{
+    if !c.is_default_ignorable() {
+        return (0, HB_BUFFER_SCRATCH_FLAG_DEFAULT);
+    }
+    let joiner = if c == GRAPHEME_JOINER {
+        HB_BUFFER_SCRATCH_FLAG_HAS_CGJ
+    } else {
+        HB_BUFFER_SCRATCH_FLAG_DEFAULT
+    };
+    (
+        UnicodeProps::IGNORABLE.bits() | kind_of_ignorable(c),
+        HB_BUFFER_SCRATCH_FLAG_HAS_DEFAULT_IGNORABLES | joiner,
+    )
+}
+
+/// The kind of an invisible character: whether it joins, parts or stays hidden.
+fn kind_of_ignorable(c: char) -> u16
+    ensures { result ≡ kind_bits c }
+{
+    if c == '\u{200c}' {
+        UnicodeProps::CF_ZWNJ.bits()
+    } else if c == '\u{200d}' {
+        UnicodeProps::CF_ZWJ.bits()
+    } else if lookup::holds(&ranges::HIDDEN_IGNORABLES, c) {
+        UnicodeProps::HIDDEN.bits()
+    } else {
+        0
+    }
+}
+
+/// The bits of a mark; none of any other character.
+fn of_mark(c: char, category: hb_unicode_general_category_t, classes: &CombiningClasses) -> u16
+    requires { category ≡ category_of_char c }
+    ensures { result ≡ mark_bits c classes.now }
+{
+    if category.is_mark() {
+        UnicodeProps::CONTINUATION.bits() | ((c.modified_combining_class(classes) as u16) << 8)
+    } else {
+        0
+    }
+}
+
+#[cfg(test)]
+mod tests {
+    use super::*;
+    use std::test::Fail;
+
+    /// Characters, and with no class rows their properties and the scratch flags that they set.
+    static WITHOUT_ROWS: [(char, u16, hb_buffer_scratch_flags_t); 19] = [
+        ('a', 5, 0),
+        ('\u{7f}', 0, 0),
+        ('\u{80}', 0, 1),
+        ('\u{e9}', 5, 1),
+        ('\u{34f}', 0xec, 0x13),
+        ('\u{200d}', 0x121, 3),
+        ('\u{200c}', 0x221, 3),
+        ('\u{ad}', 0x21, 3),
+        ('\u{180a}', 21, 1),
+        ('\u{180b}', 0xec, 3),
+        ('\u{180d}', 0xec, 3),
+        ('\u{180e}', 0x21, 3),
+        ('\u{180f}', 0xec, 3),
+        ('\u{e001f}', 0x22, 3),
+        ('\u{e0020}', 0x61, 3),
+        ('\u{e007f}', 0x61, 3),
+        ('\u{e0080}', 0x22, 3),
+        ('\u{1a60}', 0xfe8c, 1),
+        ('\u{903}', 0x8a, 1),
+    ];
+
+    /// Marks and their properties, where U+0301 has class 230 and U+0651 class 33.
+    static WITH_ROWS: [(char, u16); 4] = [
+        ('\u{301}', 0xe68c),
+        ('\u{651}', 0x1b8c),
+        ('\u{300}', 0x8c),
+        ('\u{488}', 0x8b),
+    ];
+
+    fn info_of(c: char) -> hb_glyph_info_t
+        ensures { result.glyph_id ≡ c }
+    {
+        hb_glyph_info_t {
+            glyph_id: c as u32,
+            mask: 2,
+            cluster: 3,
+            var1: 4,
+            var2: 0x5678_ffff,
+        }
+    }
+
+    #[test]
+    fn a_character_has_its_properties(rt: HostRuntime) -> Result<(), Fail> {
+        let classes = CombiningClasses::new(&[]).ok_or("no rows")?;
+        for &(c, props, scratch) in &WITHOUT_ROWS {
+            let mut info = info_of(c);
+            let mut scratch_flags = 0;
+            info.init_unicode_props(&mut scratch_flags, &classes);
+            assert_eq!(rt; info.unicode_props(), props);
+            assert_eq!(rt; scratch_flags, scratch);
+        }
+        Ok(())
+    }
+
+    #[test]
+    fn a_mark_carries_its_class(rt: HostRuntime) -> Result<(), Fail> {
+        let rows = [('\u{301}', 230), ('\u{651}', 33)];
+        let classes = CombiningClasses::new(&rows).ok_or("two rows")?;
+        for &(c, props) in &WITH_ROWS {
+            let mut info = info_of(c);
+            let mut scratch_flags = 0;
+            info.init_unicode_props(&mut scratch_flags, &classes);
+            assert_eq!(rt; info.unicode_props(), props);
+            assert_eq!(rt; scratch_flags, 1);
+        }
+        Ok(())
+    }
+
+    #[test]
+    fn all_else_stays(rt: HostRuntime) -> Result<(), Fail> {
+        let classes = CombiningClasses::new(&[]).ok_or("no rows")?;
+        let mut info = info_of('\u{200d}');
+        let mut scratch_flags = 0x0100_0020;
+        info.init_unicode_props(&mut scratch_flags, &classes);
+        assert_eq!(rt; scratch_flags, 0x0100_0023);
+        assert_eq!(rt; info.glyph_id, 0x200d);
+        assert_eq!(rt; info.mask, 2);
+        assert_eq!(rt; info.cluster, 3);
+        assert_eq!(rt; info.var1, 4);
+        assert_eq!(rt; info.var2, 0x5678_0121);
+        Ok(())
+    }
+}

@@ -1,0 +1,187 @@
+ghost use Rattle.std.specs.Prelude.{◌≡◌, ℕ, Option, not};
+ghost use Rattle.rb_text.specs.Direction.{is_horizontal_of, is_forward_of, reversed, direction_of};
+
+use crate::script::{self, Script};
+use std::str::FromStr;
+
+/// The way in which a line of text runs.
+#[derive(Clone, Copy, PartialEq, Eq, Hash, Debug, Default)]
+pub enum Direction {
+    /// Not known yet.
+    #[default]
+    Invalid,
+    /// A horizontal line from left to right.
+    LeftToRight,
+    /// A horizontal line from right to left.
+    RightToLeft,
+    /// A vertical line from top to bottom.
+    TopToBottom,
+    /// A vertical line from bottom to top.
+    BottomToTop,
+}
+
+impl Direction {
+    /// Whether lines are horizontal: from left to right or from right to left.
+    pub fn is_horizontal(self) -> bool
+        ensures { result ≡ is_horizontal_of self }
+    {
+        matches!(self, Direction::LeftToRight | Direction::RightToLeft)
+    }
+
+    /// The negation of [`Direction::is_horizontal`], so also true of [`Direction::Invalid`].
+    pub fn is_vertical(self) -> bool
+        ensures { result ≡ not (is_horizontal_of self) }
+    {
+        !self.is_horizontal()
+    }
+
+    /// Whether the text runs as coordinates rise: from left to right or from top to bottom.
+    pub fn is_forward(self) -> bool
+        ensures { result ≡ is_forward_of self }
+    {
+        matches!(self, Direction::LeftToRight | Direction::TopToBottom)
+    }
+
+    /// The negation of [`Direction::is_forward`], so also true of [`Direction::Invalid`].
+    pub fn is_backward(self) -> bool
+        ensures { result ≡ not (is_forward_of self) }
+    {
+        !self.is_forward()
+    }
+
+    /// The opposite way along the same line; [`Direction::Invalid`] stays.
+    pub fn reverse(self) -> Self
+        ensures { result ≡ reversed self }
+    {
+        match self {
+            Direction::Invalid => Direction::Invalid,
+            Direction::LeftToRight => Direction::RightToLeft,
+            Direction::RightToLeft => Direction::LeftToRight,
+            Direction::TopToBottom => Direction::BottomToTop,
+            Direction::BottomToTop => Direction::TopToBottom,
+        }
+    }
+
+    /// The horizontal direction of a script, as HarfBuzz's table of scripts gives it. It is `None`
+    /// for the scripts that are written either way: Old Hungarian, Old Italic, Runic and Tifinagh.
+    pub fn from_script(script: Script) -> Option<Self>
+        ensures { result ≡ direction_of script }
+    {
+        match script {
+            script::ARABIC
+            | script::HEBREW
+            | script::SYRIAC
+            | script::THAANA
+            | script::CYPRIOT
+            | script::KHAROSHTHI
+            | script::PHOENICIAN
+            | script::NKO
+            | script::LYDIAN
+            | script::AVESTAN
+            | script::IMPERIAL_ARAMAIC
+            | script::INSCRIPTIONAL_PAHLAVI
+            | script::INSCRIPTIONAL_PARTHIAN
+            | script::OLD_SOUTH_ARABIAN
+            | script::OLD_TURKIC
+            | script::SAMARITAN
+            | script::MANDAIC
+            | script::MEROITIC_CURSIVE
+            | script::MEROITIC_HIEROGLYPHS
+            | script::MANICHAEAN
+            | script::MENDE_KIKAKUI
+            | script::NABATAEAN
+            | script::OLD_NORTH_ARABIAN
+            | script::PALMYRENE
+            | script::PSALTER_PAHLAVI
+            | script::HATRAN
+            | script::ADLAM
+            | script::HANIFI_ROHINGYA
+            | script::OLD_SOGDIAN
+            | script::SOGDIAN
+            | script::ELYMAIC
+            | script::CHORASMIAN
+            | script::YEZIDI
+            | script::OLD_UYGHUR => Some(Direction::RightToLeft),
+            script::OLD_HUNGARIAN | script::OLD_ITALIC | script::RUNIC | script::TIFINAGH => None,
+            _ => Some(Direction::LeftToRight),
+        }
+    }
+}
+
+impl FromStr for Direction {
+    type Err = &'static str;
+
+    ghost use Rattle.std.specs.Prelude.{codes};
+    ghost use Rattle.rb_text.specs.Answer.{Answers};
+    ghost use Rattle.rb_text.specs.Direction.{direction_named};
+
+    ghost from_str_gives = { λ text r. Answers (direction_named text) (codes "invalid direction") r };
+
+    /// The direction that the first letter names, in either case: `l`, `r`, `t` or `b`, as in
+    /// HarfBuzz's `ltr`, `rtl`, `ttb` and `btt`. What follows it is not read. Any other text is
+    /// refused with `invalid direction`.
+    fn from_str(text: &str) -> Result<Direction, &'static str> {
+        match text.as_bytes().first() {
+            Some(b'l' | b'L') => Ok(Direction::LeftToRight),
+            Some(b'r' | b'R') => Ok(Direction::RightToLeft),
+            Some(b't' | b'T') => Ok(Direction::TopToBottom),
+            Some(b'b' | b'B') => Ok(Direction::BottomToTop),
+            _ => Err("invalid direction"),
+        }
+    }
+}
+
+#[cfg(test)]
+mod tests {
+    use super::*;
+
+    #[test]
+    fn axes_and_senses(rt: HostRuntime) {
+        let rows = [
+            (Direction::Invalid, false, false, Direction::Invalid),
+            (Direction::LeftToRight, true, true, Direction::RightToLeft),
+            (Direction::RightToLeft, true, false, Direction::LeftToRight),
+            (Direction::TopToBottom, false, true, Direction::BottomToTop),
+            (Direction::BottomToTop, false, false, Direction::TopToBottom),
+        ];
+        for (direction, is_horizontal, is_forward, reverse) in rows {
+            assert_eq!(rt; direction.is_horizontal(), is_horizontal);
+            assert_eq!(rt; direction.is_vertical(), !is_horizontal);
+            assert_eq!(rt; direction.is_forward(), is_forward);
+            assert_eq!(rt; direction.is_backward(), !is_forward);
+            assert_eq!(rt; direction.reverse(), reverse);
+        }
+        assert_eq!(rt; Direction::default(), Direction::Invalid);
+    }
+
+    #[test]
+    fn scripts_have_directions(rt: HostRuntime) {
+        let right_to_left = Some(Direction::RightToLeft);
+        assert_eq!(rt; Direction::from_script(script::HEBREW), right_to_left);
+        assert_eq!(rt; Direction::from_script(script::OLD_UYGHUR), right_to_left);
+        assert_eq!(rt; Direction::from_script(script::RUNIC), None);
+        assert_eq!(rt;
+            Direction::from_script(script::LATIN),
+            Some(Direction::LeftToRight)
+        );
+        assert_eq!(rt;
+            Direction::from_script(script::GARAY),
+            Some(Direction::LeftToRight)
+        );
+    }
+
+    #[test]
+    fn the_first_letter_names_a_direction(rt: HostRuntime) {
+        let rows = [
+            ("ltr", Direction::LeftToRight),
+            ("Rx", Direction::RightToLeft),
+            ("T", Direction::TopToBottom),
+            ("bottom", Direction::BottomToTop),
+        ];
+        for (text, direction) in rows {
+            assert_eq!(rt; text.parse::<Direction>(), Ok(direction), "{text}");
+        }
+        assert_eq!(rt; "".parse::<Direction>(), Err("invalid direction"));
+        assert_eq!(rt; " ltr".parse::<Direction>(), Err("invalid direction"));
+    }
+}

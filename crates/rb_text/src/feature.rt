@@ -1,0 +1,214 @@
+ghost use Rattle.std.specs.Prelude.{◌≡◌, ℕ, List, option_map};
+ghost use Rattle.rb_text.specs.declared.feature.Feature.{Feature as TheFeature};
+ghost use Rattle.rb_text.specs.Feature.{prefix_of, ReadsAs};
+ghost use Rattle.rb_text.specs.FeatureParts.{parts_text};
+ghost use Rattle.rb_text.specs.FeatureReading.{tag_in, range_in, setting_in, feature_in};
+ghost use Rattle.rb_text.specs.TextParser.{is_sign, first_if, after_if};
+
+use crate::tag::Tag;
+use crate::text_parser::TextParser;
+use std::ops::Bound;
+use std::str::FromStr;
+
+#[cfg(test)]
+mod tests;
+
+/// The `start` of a feature that reaches the whole text.
+pub const HB_FEATURE_GLOBAL_START: u32 = 0;
+
+/// The `end` of a feature that reaches the whole text.
+pub const HB_FEATURE_GLOBAL_END: u32 = u32::MAX;
+
+/// A font feature with its value, for a range of a text.
+///
+/// Features are listed in the OpenType tag registry. A value of 0 is off and 1 is on; a feature that
+/// chooses among alternates takes the number of the choice. The range is counted in cluster
+/// numbers, and an end of [`HB_FEATURE_GLOBAL_END`] stands for the end of the text.
+#[derive(Clone, Copy, PartialEq, Eq, Hash, Debug)]
+pub struct Feature {
+    /// The feature's tag.
+    pub tag: Tag,
+    /// What the feature is set to: 0 is off.
+    pub value: u32,
+    /// The first cluster that the feature reaches.
+    pub start: u32,
+    /// The cluster before which the feature ends.
+    pub end: u32,
+}
+
+impl Feature {
+    ghost use Rattle.std.specs.Prelude.{◌≡◌, ◌↔◌, IsTrue};
+    ghost use Rattle.rb_text.specs.Feature.{start_of, end_of};
+
+    /// A feature over the clusters between two bounds.
+    ///
+    /// An included bound is `start` or `end` as it stands. An excluded `start` gives the number
+    /// after it, and an excluded `end` the number before it, or 0. No bound gives 0 and
+    /// [`HB_FEATURE_GLOBAL_END`]. Numbers past `u32::MAX` give `u32::MAX`.
+    pub fn new(tag: Tag, value: u32, start: Bound<usize>, end: Bound<usize>) -> Self
+        ensures { result
+            ≡ record { tag = tag; value = value; start = start_of start; end = end_of end } }
+    {
+        let max = u32::MAX as usize;
+        let start = match start {
+            Bound::Included(n) => n.min(max) as u32,
+            Bound::Excluded(n) => n.saturating_add(1).min(max) as u32,
+            Bound::Unbounded => HB_FEATURE_GLOBAL_START,
+        };
+        let end = match end {
+            Bound::Included(n) => n.min(max) as u32,
+            Bound::Excluded(n) => n.saturating_sub(1).min(max) as u32,
+            Bound::Unbounded => HB_FEATURE_GLOBAL_END,
+        };
+        Feature {
+            tag,
+            value,
+            start,
+            end,
+        }
+    }
+
+    /// Whether the feature reaches the whole text.
+    pub fn is_global(&self) -> bool
+        ensures { IsTrue result
+            ↔ ((self.now.start ≡ HB_FEATURE_GLOBAL_START) × (self.now.end ≡ HB_FEATURE_GLOBAL_END)) }
+    {
+        self.start == HB_FEATURE_GLOBAL_START && self.end == HB_FEATURE_GLOBAL_END
+    }
+}
+
+impl FromStr for Feature {
+    type Err = &'static str;
+
+    ghost use Rattle.std.specs.Prelude.{◌≡◌, ◌↔◌, Ok, IfErr, codes};
+    ghost use Rattle.rb_text.specs.declared.feature.Feature.{Feature as TheFeature};
+    ghost use Rattle.rb_text.specs.Feature.{ReadsAs};
+
+    ghost from_str_gives = { λ text r. ((f : TheFeature) → (r ≡ Ok f) ↔ ReadsAs text f)
+        × IfErr r (λ e. e.now ≡ codes "invalid feature") };
+
+    /// The feature that a text reads as in HarfBuzz's syntax of features; any text that reads as
+    /// none, the empty one among them, is refused with `invalid feature`.
+    ///
+    /// In order: `-` (value 0), `+` or nothing (value 1); spaces; a tag of up to four letters,
+    /// digits and `_`, which may stand between two equal quotes; spaces; a range in brackets or
+    /// nothing; `=` or nothing; a value or nothing; spaces. A value is a number, or spaces and
+    /// then `on` or `off` in any case. Where neither stands, the prefix's value holds and other
+    /// letters may stand there, but not behind `=`. Spaces stand nowhere else: none between `]` and
+    /// `=`, and none between either of them and a number.
+    ///
+    /// | Text | Value | Start | End |
+    /// |---|---|---|---|
+    /// | `kern`, `+kern`, `kern=on` | 1 | 0 | `u32::MAX` |
+    /// | `-kern`, `kern=0`, `kern off` | 0 | 0 | `u32::MAX` |
+    /// | `aalt=2` | 2 | 0 | `u32::MAX` |
+    /// | `kern[]`, `kern[:]` | 1 | 0 | `u32::MAX` |
+    /// | `kern[5:]`, `kern[5;]` | 1 | 5 | `u32::MAX` |
+    /// | `kern[:5]` | 1 | 0 | 5 |
+    /// | `kern[3:5]` | 1 | 3 | 5 |
+    /// | `kern[3]` | 1 | 3 | 4 |
+    /// | `aalt[3:5]=2` | 2 | 3 | 5 |
+    ///
+    /// Numbers are those of [`TextParser::consume_i32`], and count modulo 2^32.
+    fn from_str(text: &str) -> Result<Feature, &'static str> {
+        parse(text).ok_or("invalid feature")
+    }
+}
+
+/// What holds of every reading of a feature's text: a text reads as at most one feature, and the
+/// parts that the reading cuts it into are, one after another, the whole text.
+pub fn feature_texts_read_one_way()
+    ensures one { (text : List ℕ) (f g : TheFeature) → ReadsAs text f → ReadsAs text g → f ≡ g }
+    ensures whole { (text : List ℕ) (f : TheFeature) (reading : ReadsAs text f)
+        → text ≡ parts_text text f reading }
+{}
+
+/// The whole text, read from the left.
+#[tactic(auto, unfolding(crate::specs::FeatureReading::feature_in))]
+fn parse(text: &str) -> Option<Feature>
+    ensures { result ≡ feature_in text.now }
+{
+    if text.is_empty() {
+        return None;
+    }
+    let mut p = TextParser::new(text);
+    let prefix = prefix(&mut p);
+    let tag = tag(&mut p)?;
+    p.skip_spaces();
+    let (start, end) = range(&mut p)?;
+    let value = setting(&mut p, prefix)?;
+    p.skip_spaces();
+    if !p.at_end() {
+        return None;
+    }
+    Some(Feature {
+        tag,
+        value,
+        start,
+        end,
+    })
+}
+
+/// The value that a sign, or none, in front of the tag gives.
+fn prefix(p: &mut TextParser<'_>) -> u32
+    ensures value { result ≡ prefix_of (first_if is_sign p.old) }
+    ensures rest { p.new ≡ after_if is_sign p.old }
+{
+    if p.consume_byte(b'-').is_some() {
+        return 0;
+    }
+    p.consume_byte(b'+');
+    1
+}
+
+/// The tag, with the quotes and the spaces before them.
+#[tactic(auto, unfolding(crate::specs::FeatureReading::tag_in))]
+fn tag(p: &mut TextParser<'_>) -> Option<Tag>
+    ensures { tag_in p.old ≡ option_map (λ t. (t.0, p.new)) result }
+{
+    p.skip_spaces();
+    let quote = p.consume_quote();
+    let tag = p.consume_tag()?;
+    if let Some(quote) = quote {
+        p.consume_byte(quote)?;
+    }
+    Some(tag)
+}
+
+/// The start and the end of the range in brackets, or of the whole text where no `[` stands.
+#[tactic(auto, unfolding(crate::specs::FeatureReading::range_in))]
+fn range(p: &mut TextParser<'_>) -> Option<(u32, u32)>
+    ensures { range_in p.old ≡ option_map (λ r. ((r.0, r.1), p.new)) result }
+{
+    if p.consume_byte(b'[').is_none() {
+        return Some((HB_FEATURE_GLOBAL_START, HB_FEATURE_GLOBAL_END));
+    }
+    let first = p.consume_i32();
+    let start = first.map_or(0, |n| n.cast_unsigned());
+    let end = if let Some(b':' | b';') = p.curr_byte() {
+        p.advance(1);
+        p.consume_i32().map_or(u32::MAX, |n| n.cast_unsigned())
+    } else if first.is_some() && start != u32::MAX {
+        start + 1
+    } else {
+        u32::MAX
+    };
+    p.consume_byte(b']')?;
+    Some((start, end))
+}
+
+/// The value behind the range, or that of the prefix.
+#[tactic(auto, unfolding(crate::specs::FeatureReading::setting_in))]
+fn setting(p: &mut TextParser<'_>, prefix: u32) -> Option<u32>
+    ensures { setting_in prefix p.old ≡ option_map (λ v. (v, p.new)) result }
+{
+    let has_equals = p.consume_byte(b'=').is_some();
+    if let Some(value) = p.consume_i32() {
+        return Some(value.cast_unsigned());
+    }
+    match p.consume_bool() {
+        Some(value) => Some(u32::from(value)),
+        None if has_equals => None,
+        None => Some(prefix),
+    }
+}

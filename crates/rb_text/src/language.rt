@@ -1,0 +1,131 @@
+ghost use Rattle.std.specs.Prelude.{◌≡◌, ◌↔◌, [], map, IfOk, IsErrOf};
+ghost use Rattle.std.specs.Char.{to_ascii_lowercase};
+
+use std::alloc::Global;
+use std::hash::{Hash, Hasher};
+use std::marker::Model;
+use thiserror::Error;
+
+/// A language tag of BCP 47 (`en`, `zh-Hant`), with its ASCII letters made small. Nothing else of
+/// the tag's form is asked. A contract sees a language as its bytes.
+#[derive(Debug, Drop)]
+pub struct Language(String);
+
+impl Model for Language {
+    ghost use Rattle.std.specs.Prelude.{ℕ, List, string_bytes};
+
+    ghost Value = { List ℕ };
+
+    ghost view = { λ l. string_bytes l.0 };
+}
+
+/// Why a text is no language.
+#[derive(Clone, Copy, PartialEq, Eq, Debug, Error)]
+pub enum LanguageError {
+    /// The text is empty.
+    #[error("invalid language")]
+    Invalid,
+    /// There is no memory for a copy of the text.
+    #[error("out of memory")]
+    Memory,
+}
+
+impl Language {
+    /// The language of a text, with its ASCII letters made small.
+    ///
+    /// The empty text is [`LanguageError::Invalid`], which is tested first, and
+    /// [`LanguageError::Memory`] says that there is no memory for a copy of any other.
+    pub fn from_str(alloc: Global, text: &str) -> Result<Self, LanguageError>
+        ensures value { IfOk result (λ language. language ≡ map to_ascii_lowercase text.now) }
+        ensures invalid { IsErrOf result LanguageError.Invalid ↔ (text.now ≡ []) }
+    {
+        if text.is_empty() {
+            return Err(LanguageError::Invalid);
+        }
+        match text.to_ascii_lowercase(alloc) {
+            Ok(lowercase) => Ok(Language(lowercase)),
+            Err(_) => Err(LanguageError::Memory),
+        }
+    }
+
+    /// The text of the language.
+    pub fn as_str(&self) -> &str
+        ensures { result.now ≡ self.now }
+    {
+        self.0.as_str()
+    }
+}
+
+impl PartialEq for Language {
+    ghost use Rattle.std.specs.Cmp.{partial_equiv_from_equiv};
+    ghost use Rattle.std.specs.Cmp.Lexicographic.{nat_list_eq_equiv};
+    ghost use Rattle.std.specs.Str.{bytes_eq};
+
+    ghost eq = { bytes_eq };
+
+    ghost laws = { partial_equiv_from_equiv nat_list_eq_equiv };
+
+    fn eq(&self, other: &Self) -> bool {
+        self.as_str() == other.as_str()
+    }
+}
+
+impl Eq for Language {
+    ghost use Rattle.std.specs.Cmp.Lexicographic.{nat_list_eq_equiv};
+
+    ghost laws = { nat_list_eq_equiv };
+}
+
+impl Hash for Language {
+    ghost use Rattle.std.specs.Hash as fed;
+    ghost use Rattle.std.specs.Cmp.Rules.{hashing};
+    ghost use Rattle.std.proofs.Common.{rules};
+
+    ghost hash_input = { fed.str };
+
+    ghost respects_eq = { Prim.search (hashing, rules) };
+
+    fn hash<H: Hasher>(&self, state: &mut H) {
+        self.as_str().hash(state);
+    }
+}
+
+#[cfg(test)]
+mod tests {
+    use super::*;
+    use std::hash::DefaultHasher;
+    use std::test::Fail;
+
+    fn hash_of(language: &Language) -> u64 {
+        let mut hasher = DefaultHasher::new();
+        language.hash(&mut hasher);
+        hasher.finish()
+    }
+
+    #[test]
+    fn letters_are_made_small(rt: HostRuntime) -> Result<(), Fail> {
+        let language = Language::from_str(rt.alloc(), "zh-Hant-\u{c9}")?;
+        assert_eq!(rt; language.as_str(), "zh-hant-\u{c9}");
+        Ok(())
+    }
+
+    #[test]
+    fn languages_of_one_text_are_equal(rt: HostRuntime) -> Result<(), Fail> {
+        let one = Language::from_str(rt.alloc(), "EN")?;
+        let two = Language::from_str(rt.alloc(), "en")?;
+        let other = Language::from_str(rt.alloc(), "fr")?;
+        assert!(rt; one == two);
+        assert!(rt; one != other);
+        assert_eq!(rt; hash_of(&one), hash_of(&two));
+        Ok(())
+    }
+
+    #[test]
+    fn the_empty_text_is_no_language(rt: HostRuntime) -> Result<(), Fail> {
+        let refused = Language::from_str(rt.alloc(), "").err();
+        assert_eq!(rt; refused, Some(LanguageError::Invalid));
+        let message = format!(in rt.alloc(); "{}", LanguageError::Invalid)?;
+        assert_eq!(rt; message.as_str(), "invalid language");
+        Ok(())
+    }
+}

@@ -1,0 +1,18 @@
+//! Tags, scripts, directions, languages and font features: the words that a text shaper is told in.
+#![tactic(auto)]
+
+pub mod direction;
+pub mod feature;
+pub mod glyph_id;
+pub mod language;
+pub mod script;
+pub mod tag;
+pub mod text_parser;
+
+pub use direction::Direction;
+pub use feature::{Feature, HB_FEATURE_GLOBAL_END, HB_FEATURE_GLOBAL_START};
+pub use glyph_id::{GlyphId, hb_codepoint_t};
+pub use language::{Language, LanguageError};
+pub use script::Script;
+pub use tag::{Tag, TagExt};
+pub use text_parser::TextParser;

@@ -1,0 +1,269 @@
+ghost use Rattle.std.specs.Prelude.{◌≡◌, ◌==◌, ◌≤◌, ◌↔◌, ℕ, IsTrue, Bool, [], length, drop, option_map, is_some};
+ghost use Rattle.std.specs.Char.{is_ascii_whitespace, is_ascii_alphabetic, is_ascii_digit};
+ghost use Rattle.std.specs.List.{take_while, AllPass};
+ghost use Rattle.rb_text.specs.TextParser.{first_if, after_if, skipped, is_quote, is_word, short_tag, signed_of, number_in, after_number, toggle_of, Computes};
+
+use crate::tag::Tag;
+use std::marker::Model;
+
+/// Reads a text from its front, byte by byte or a run of bytes at a time.
+///
+/// A contract sees a parser as the bytes that are left. Every method that answers `None` for a
+/// byte that does not stand there leaves them as they were; those that read a run say what they
+/// consume.
+#[derive(Drop)]
+pub struct TextParser<'a> {
+    rest: &'a [u8],
+}
+
+impl<'a> Model for TextParser<'a> {
+    ghost use Rattle.std.specs.Prelude.{ℕ, List};
+
+    ghost Value = { List ℕ };
+
+    ghost view = { λ p. p.rest.now };
+}
+
+impl<'a> TextParser<'a> {
+    /// A parser before the first byte of a text.
+    pub fn new(text: &'a str) -> Self
+        ensures { result ≡ text.now }
+    {
+        TextParser {
+            rest: text.as_bytes(),
+        }
+    }
+
+    /// Whether no byte is left.
+    pub fn at_end(&self) -> bool
+        ensures { IsTrue result ↔ (self.now ≡ []) }
+    {
+        self.rest.is_empty()
+    }
+
+    /// The next byte, which stays, or `None` at the end.
+    pub fn curr_byte(&self) -> Option<u8>
+        ensures { result ≡ first_if (λ _. Bool.true) self.now }
+    {
+        self.rest.first().copied()
+    }
+
+    /// Passes over `n` bytes, which must be left.
+    pub fn advance(&mut self, n: usize)
+        requires { n ≤ length self.old }
+        ensures { self.new ≡ drop n self.old }
+    {
+        self.rest = &self.rest[n..];
+    }
+
+    /// Consumes the byte `c` where it is the next one.
+    pub fn consume_byte(&mut self, c: u8) -> Option<()>
+        ensures found { is_some result ≡ is_some (first_if (λ b. b == c) self.old) }
+        ensures rest { self.new ≡ after_if (λ b. b == c) self.old }
+    {
+        if self.curr_byte()? != c {
+            return None;
+        }
+        self.advance(1);
+        Some(())
+    }
+
+    /// Skips ASCII spaces: space, tab, line feed, form feed and carriage return.
+    pub fn skip_spaces(&mut self)
+        ensures { self.new ≡ skipped is_ascii_whitespace self.old }
+    {
+        self.skip_bytes(|b| b.is_ascii_whitespace());
+    }
+
+    /// Consumes a quote, `'` or `"`, where it is the next byte, and gives it.
+    pub fn consume_quote(&mut self) -> Option<u8>
+        ensures found { result ≡ first_if is_quote self.old }
+        ensures rest { self.new ≡ after_if is_quote self.old }
+    {
+        let c = self.curr_byte()?;
+        if matches!(c, b'\'' | b'"') {
+            self.advance(1);
+            Some(c)
+        } else {
+            None
+        }
+    }
+
+    /// Consumes and gives the longest run of next bytes for which `f` answers true.
+    ///
+    /// The contract speaks of every test that `f` computes, and so says nothing of an `f` that is
+    /// no function of its argument.
+    pub fn consume_bytes<F: Fn(u8) -> bool + Drop>(&mut self, f: F) -> &'a [u8]
+        requires { F.IsAlwaysCallable f }
+        ensures part { (test : ℕ → Bool) → Computes (F.post f) test
+            → result.now ≡ take_while test self.old }
+        ensures rest { (test : ℕ → Bool) → Computes (F.post f) test
+            → self.new ≡ skipped test self.old }
+    {
+        let rest = self.rest;
+        let mut n = 0;
+        while n < rest.len() && f(rest[n]) {
+            n += 1;
+        }
+        let (front, rest) = rest.split_at(n);
+        self.rest = rest;
+        front
+    }
+
+    /// Skips the longest run of next bytes for which `f` answers true. Of `f` its contract says
+    /// what that of [`TextParser::consume_bytes`] says.
+    pub fn skip_bytes<F: Fn(u8) -> bool + Drop>(&mut self, f: F)
+        requires { F.IsAlwaysCallable f }
+        ensures { (test : ℕ → Bool) → Computes (F.post f) test
+            → self.new ≡ skipped test self.old }
+    {
+        self.consume_bytes(f);
+    }
+
+    /// Consumes all letters, digits and `_` that come next, and gives their tag, padded with
+    /// spaces. No such byte gives the null tag, and more than four give `None`.
+    pub fn consume_tag(&mut self) -> Option<Tag>
+        ensures value { option_map (λ t. t.0) result ≡ short_tag (take_while is_word self.old) }
+        ensures rest { self.new ≡ skipped is_word self.old }
+    {
+        let tag = self.consume_bytes(|b| b.is_ascii_alphanumeric() || b == b'_');
+        if tag.len() > 4 {
+            return None;
+        }
+        Some(Tag::from_bytes_lossy(tag))
+    }
+
+    /// Consumes a sign, if there is one, and all decimal digits after it, and gives their number.
+    /// They are consumed also where they give `None`: where there is no digit, or the number does
+    /// not fit.
+    #[tactic(auto, using(crate::proofs::Digits::number_lemmas))]
+    pub fn consume_i32(&mut self) -> Option<i32>
+        ensures value { result ≡ number_in self.old }
+        ensures rest { self.new ≡ after_number self.old }
+    {
+        let sign = self.curr_byte();
+        if let Some(b'-' | b'+') = sign {
+            self.advance(1);
+        }
+        let digits = self.consume_bytes(|b| b.is_ascii_digit());
+        number(sign == Some(b'-'), digits)
+    }
+
+    /// Skips spaces, consumes all ASCII letters after them, and answers for `on` and `off` in any
+    /// case. The spaces and letters are consumed also where they give `None`.
+    pub fn consume_bool(&mut self) -> Option<bool>
+        ensures value { result
+            ≡ toggle_of (take_while is_ascii_alphabetic (skipped is_ascii_whitespace self.old)) }
+        ensures rest { self.new
+            ≡ skipped is_ascii_alphabetic (skipped is_ascii_whitespace self.old) }
+    {
+        self.skip_spaces();
+        match *self.consume_bytes(|b| b.is_ascii_alphabetic()) {
+            [b'o' | b'O', b'n' | b'N'] => Some(true),
+            [b'o' | b'O', b'f' | b'F', b'f' | b'F'] => Some(false),
+            _ => None,
+        }
+    }
+}
+
+/// What decimal digits behind a minus or none stand for, where there is a digit and it fits.
+#[tactic(auto, using(crate::proofs::Digits::number_lemmas))]
+fn number(is_negative: bool, digits: &[u8]) -> Option<i32>
+    requires { AllPass is_ascii_digit digits.now }
+    ensures { result ≡ signed_of is_negative digits.now }
+{
+    match str::from_utf8(digits).unwrap().parse::<u32>() {
+        Ok(size) => {
+            let size = i64::from(size);
+            i32::try_from(if is_negative { -size } else { size }).ok()
+        }
+        Err(_) => None,
+    }
+}
+
+#[cfg(test)]
+mod tests {
+    use super::*;
+
+    #[test]
+    fn bytes_one_by_one(rt: HostRuntime) {
+        let mut p = TextParser::new("ab");
+        assert_eq!(rt; p.curr_byte(), Some(b'a'));
+        p.advance(1);
+        assert_eq!(rt; p.consume_byte(b'a'), None);
+        assert!(rt; !p.at_end());
+        assert_eq!(rt; p.consume_byte(b'b'), Some(()));
+        assert!(rt; p.at_end());
+        assert_eq!(rt; p.curr_byte(), None);
+    }
+
+    #[test]
+    fn spaces_and_quotes(rt: HostRuntime) {
+        let mut p = TextParser::new(" \t\n\u{c}\r\"'\u{b}");
+        p.skip_spaces();
+        assert_eq!(rt; p.consume_quote(), Some(b'"'));
+        assert_eq!(rt; p.consume_quote(), Some(b'\''));
+        assert_eq!(rt; p.consume_quote(), None);
+        p.skip_spaces();
+        assert_eq!(rt; p.curr_byte(), Some(0x0b));
+    }
+
+    #[test]
+    fn runs_of_bytes(rt: HostRuntime) {
+        let mut p = TextParser::new("aab12c");
+        assert!(rt; p.consume_bytes(|b| b == b'a') == b"aa".as_slice());
+        p.skip_bytes(|b| b != b'2');
+        assert_eq!(rt; p.curr_byte(), Some(b'2'));
+        assert!(rt; p.consume_bytes(|b| b > b'9').is_empty());
+    }
+
+    #[test]
+    fn tags(rt: HostRuntime) {
+        let mut p = TextParser::new("k_9,kern,kerns;");
+        assert_eq!(rt; p.consume_tag(), Some(Tag::from_bytes(b"k_9 ")));
+        assert_eq!(rt; p.consume_tag(), Some(Tag(0)));
+        p.advance(1);
+        assert_eq!(rt; p.consume_tag(), Some(Tag::from_bytes(b"kern")));
+        p.advance(1);
+        assert_eq!(rt; p.consume_tag(), None);
+        assert_eq!(rt; p.curr_byte(), Some(b';'));
+    }
+
+    #[test]
+    fn numbers(rt: HostRuntime) {
+        let rows = [
+            ("12x", Some(12), Some(b'x')),
+            ("+12", Some(12), None),
+            ("-0012", Some(-12), None),
+            ("2147483647", Some(2147483647), None),
+            ("-2147483648", Some(-2147483648), None),
+            ("2147483648,", None, Some(b',')),
+            ("-2147483649,", None, Some(b',')),
+            ("99999999999999999999,", None, Some(b',')),
+            ("-x", None, Some(b'x')),
+            ("--1", None, Some(b'-')),
+            ("", None, None),
+        ];
+        for (text, number, next) in rows {
+            let mut p = TextParser::new(text);
+            assert_eq!(rt; p.consume_i32(), number, "{text}");
+            assert_eq!(rt; p.curr_byte(), next, "{text}");
+        }
+    }
+
+    #[test]
+    fn on_and_off(rt: HostRuntime) {
+        let rows = [
+            ("on", Some(true), None),
+            (" \toN5", Some(true), Some(b'5')),
+            ("OFF", Some(false), None),
+            (" one.", None, Some(b'.')),
+            (" 1", None, Some(b'1')),
+        ];
+        for (text, toggle, next) in rows {
+            let mut p = TextParser::new(text);
+            assert_eq!(rt; p.consume_bool(), toggle, "{text}");
+            assert_eq!(rt; p.curr_byte(), next, "{text}");
+        }
+    }
+}

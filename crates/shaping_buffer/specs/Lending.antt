@@ -1,0 +1,57 @@
+-- References that a buffer hands out: what stands in it once they are given back.
+use Rattle.std.specs.Prelude.{ℕ, ◌-◌, List, length, slice_set}
+use Rattle.std.specs.Option.{option_map}
+use Rattle.std.specs.List.{refill}
+use Rattle.std.specs.Borrow.{Lends, MutBor, Fml, Array}
+use Rattle.rb_glyph.specs.declared.info.hb_glyph_info_t.{hb_glyph_info_t}
+use Rattle.rb_glyph.specs.declared.position.GlyphPosition.{GlyphPosition}
+use Rattle.rb_glyph.specs.contracts.info.hb_glyph_info_t as glyph
+use Rattle.rb_glyph.specs.contracts.position.GlyphPosition as position
+use Rattle.shaping_buffer.specs.contracts.buffer.hb_buffer_t.{the_row}
+use Rattle.shaping_buffer.specs.State.{State, place_of}
+
+-- these in place of the first ones, cut to the length
+abbrev pub refilled : {X : Type 0} → List X → List X → List X
+refilled xs ws = refill (length xs) xs ws
+
+-- another glyph k places after the cursor
+abbrev pub with_cur : State → ℕ → hb_glyph_info_t → State
+with_cur s k g = record s { input = slice_set s.input (place_of s k) g }
+
+-- another glyph as the last that was put out
+abbrev pub with_prev : State → hb_glyph_info_t → State
+with_prev s g = record s { out = slice_set s.out (length s.out - 1) g }
+
+-- other glyphs in the list
+abbrev pub with_input : State → List hb_glyph_info_t → State
+with_input s gs = record s { input = refilled s.input gs }
+
+-- other glyphs on the out side
+abbrev pub with_out : State → List hb_glyph_info_t → State
+with_out s gs = record s { out = refilled s.out gs }
+
+-- another position at the cursor
+abbrev pub with_cur_pos : State → GlyphPosition → State
+with_cur_pos s p = record s { positions = option_map (λ l. slice_set l s.idx p) s.positions }
+
+-- other positions
+abbrev pub with_positions : State → List GlyphPosition → State
+with_positions s ps = record s { positions = option_map (λ l. refilled l ps) s.positions }
+
+abbrev pub LendsCur : MutBor State → ℕ → MutBor hb_glyph_info_t → Fml
+LendsCur s k r = Lends the_row glyph.the_row s r (with_cur s.now k)
+
+abbrev pub LendsPrev : MutBor State → MutBor hb_glyph_info_t → Fml
+LendsPrev s r = Lends the_row glyph.the_row s r (with_prev s.now)
+
+abbrev pub LendsInput : MutBor State → MutBor (List hb_glyph_info_t) → Fml
+LendsInput s r = Lends the_row (Array glyph.the_row 0) s r (with_input s.now)
+
+abbrev pub LendsOut : MutBor State → MutBor (List hb_glyph_info_t) → Fml
+LendsOut s r = Lends the_row (Array glyph.the_row 0) s r (with_out s.now)
+
+abbrev pub LendsCurPos : MutBor State → MutBor GlyphPosition → Fml
+LendsCurPos s r = Lends the_row position.the_row s r (with_cur_pos s.now)
+
+abbrev pub LendsPositions : MutBor State → MutBor (List GlyphPosition) → Fml
+LendsPositions s r = Lends the_row (Array position.the_row 0) s r (with_positions s.now)

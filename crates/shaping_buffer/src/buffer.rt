@@ -1,0 +1,265 @@
+//! The buffer: its fields, what callers see of it, and its readers.
+
+ghost use Rattle.std.specs.Prelude.{◌≡◌, ◌<◌, ◌≤◌, ◌==◌, ◌↔◌, length, IsTrue, IsSome, if◌then◌else◌};
+ghost use Rattle.shaping_buffer.specs.State.{len_of, ahead_of, empty_state, cleared};
+
+use crate::cluster_level::{HB_BUFFER_CLUSTER_LEVEL_DEFAULT, hb_buffer_cluster_level_t};
+use crate::context::Context;
+use rb_glyph::{
+    BufferFlags, Flags, GlyphPosition, HB_BUFFER_SCRATCH_FLAG_DEFAULT, hb_buffer_scratch_flags_t,
+    hb_glyph_info_t,
+};
+use rb_text::{Direction, GlyphId, Language, Script};
+use std::alloc::Global;
+use std::marker::Model;
+
+mod cursor;
+mod deletion;
+mod glyph_flags;
+mod growth;
+mod masks;
+mod merging;
+mod positions;
+mod properties;
+mod references;
+#[cfg(test)]
+mod tests;
+
+/// A text on its way through shaping: glyphs in reading order with a cursor, and while an output is open a second
+/// list, the out side, that calls put glyphs into while they read the first.
+#[derive(Drop)]
+pub struct hb_buffer_t {
+    /// How the text is to be treated.
+    pub flags: BufferFlags,
+    /// How far clusters are merged: a level of HarfBuzz's, where any number but 1 and 2 acts as 0.
+    pub cluster_level: hb_buffer_cluster_level_t,
+    /// The glyph that stands for an invisible character, where the font's space does not.
+    pub invisible: Option<GlyphId>,
+    /// The glyph that stands for a variation selector that the font does not know.
+    pub not_found_variation_selector: Option<u32>,
+    /// The way in which the line runs.
+    pub direction: Direction,
+    /// The script of the text.
+    pub script: Option<Script>,
+    /// The language of the text.
+    pub language: Option<Language>,
+    /// Whether shaping met a limit.
+    pub shaping_failed: bool,
+    /// The last number that was given to a ligature.
+    pub serial: u8,
+    /// What was seen of the text, as flags that a shaper keeps for itself.
+    pub scratch_flags: hb_buffer_scratch_flags_t,
+    /// How many more operations a shaper may make.
+    pub max_ops: i32,
+    /// The whole input; what lies before the cursor was read.
+    info: Vec<hb_glyph_info_t>,
+    out_info: Vec<hb_glyph_info_t>,
+    pos: Vec<GlyphPosition>,
+    cursor: usize,
+    have_output: bool,
+    have_positions: bool,
+    successful: bool,
+    max_len: usize,
+    pre_context: Context,
+    post_context: Context,
+}
+
+impl Model for hb_buffer_t {
+    ghost use Rattle.std.specs.Prelude.{if◌then◌else◌, drop, Some, None};
+    ghost use Rattle.shaping_buffer.specs.State.{State};
+
+    ghost Value = { State };
+
+    ghost use Rattle.shaping_buffer.specs.Kept.{Kept};
+
+    ghost view = { λ b. record {
+      is_open = b.have_output;
+      out = b.out_info.items;
+      input = if b.have_output then drop b.cursor b.info.items else b.info.items;
+      idx = b.cursor;
+      ok = b.successful;
+      limit = b.max_len;
+      positions = if b.have_positions then Some b.pos.items else None;
+      pre_context = b.pre_context.items;
+      post_context = b.post_context.items;
+      flags = b.flags;
+      cluster_level = b.cluster_level;
+      invisible = b.invisible;
+      not_found_variation_selector = b.not_found_variation_selector;
+      direction = b.direction;
+      script = b.script;
+      language = b.language;
+      shaping_failed = b.shaping_failed;
+      serial = b.serial;
+      scratch_flags = b.scratch_flags;
+      max_ops = b.max_ops;
+    } };
+
+    ghost invariant = { Kept };
+}
+
+impl hb_buffer_t {
+    /// The most glyphs that a side may hold, where nothing else is said.
+    pub const MAX_LEN_DEFAULT: usize = 0x3FFF_FFFF;
+
+    /// How many operations a shaper may make, where nothing else is said.
+    pub const MAX_OPS_DEFAULT: i32 = 0x1FFF_FFFF;
+
+    /// An empty buffer, which takes its memory from `alloc` later.
+    pub fn new(alloc: Global) -> Self
+        ensures { result ≡ empty_state Self.MAX_LEN_DEFAULT Self.MAX_OPS_DEFAULT }
+    {
+        hb_buffer_t {
+            flags: BufferFlags::empty(),
+            cluster_level: HB_BUFFER_CLUSTER_LEVEL_DEFAULT,
+            invisible: None,
+            not_found_variation_selector: None,
+            direction: Direction::Invalid,
+            script: None,
+            language: None,
+            shaping_failed: false,
+            serial: 0,
+            scratch_flags: HB_BUFFER_SCRATCH_FLAG_DEFAULT,
+            max_ops: Self::MAX_OPS_DEFAULT,
+            info: Vec::new(alloc),
+            out_info: Vec::new(alloc),
+            pos: Vec::new(alloc),
+            cursor: 0,
+            have_output: false,
+            have_positions: false,
+            successful: true,
+            max_len: Self::MAX_LEN_DEFAULT,
+            pre_context: Context::new(),
+            post_context: Context::new(),
+        }
+    }
+
+    /// How many glyphs the input has, those before the cursor among them.
+    pub fn len(&self) -> usize
+        ensures len { result ≡ len_of self.now }
+        ensures within { len_of self.now ≤ self.now.limit }
+        ensures cursor { self.now.idx ≤ len_of self.now }
+    {
+        self.info.len()
+    }
+
+    /// How many glyphs were put out.
+    pub fn out_len(&self) -> usize
+        ensures out_len { result ≡ length self.now.out }
+        ensures within { length self.now.out ≤ self.now.limit }
+    {
+        self.out_info.len()
+    }
+
+    /// The cursor: how many glyphs of the input were read.
+    pub fn idx(&self) -> usize
+        ensures { result ≡ self.now.idx }
+    {
+        self.cursor
+    }
+
+    /// How many glyphs each side may hold at the most.
+    pub fn max_len(&self) -> usize
+        ensures { result ≡ self.now.limit }
+    {
+        self.max_len
+    }
+
+    /// Whether no call was refused for length since the buffer was made or cleared.
+    pub fn successful(&self) -> bool
+        ensures { result ≡ self.now.ok }
+    {
+        self.successful
+    }
+
+    /// Whether an output is open.
+    pub fn have_output(&self) -> bool
+        ensures { result ≡ self.now.is_open }
+    {
+        self.have_output
+    }
+
+    /// Whether the glyphs have positions.
+    pub fn have_positions(&self) -> bool
+        ensures { IsTrue result ↔ IsSome self.now.positions }
+    {
+        self.have_positions
+    }
+
+    /// Whether the input has no glyph, before the cursor or after it.
+    pub fn is_empty(&self) -> bool
+        ensures { IsTrue result ↔ (len_of self.now ≡ 0) }
+    {
+        self.info.is_empty()
+    }
+
+    /// The glyphs that are left to read; with no output open the whole list.
+    pub fn info(&self) -> &[hb_glyph_info_t]
+        ensures { result.now ≡ self.now.input }
+    {
+        if self.have_output {
+            &self.info[self.cursor..]
+        } else {
+            &self.info
+        }
+    }
+
+    /// The glyphs that were put out.
+    pub fn out_info(&self) -> &[hb_glyph_info_t]
+        ensures { result.now ≡ self.now.out }
+    {
+        &self.out_info
+    }
+
+    /// How many glyphs stand before the cursor: those that were put out, or with no output open those before it.
+    pub fn backtrack_len(&self) -> usize
+        ensures { result ≡ (if self.now.is_open then length self.now.out else self.now.idx) }
+    {
+        if self.have_output {
+            self.out_info.len()
+        } else {
+            self.cursor
+        }
+    }
+
+    /// How many glyphs there are at the cursor and after it.
+    pub fn lookahead_len(&self) -> usize
+        ensures { result ≡ ahead_of self.now }
+    {
+        self.info.len() - self.cursor
+    }
+
+    /// The characters next to the text, at most five, nearest first: before it (side 0) or after it (side 1).
+    pub fn context(&self, side: usize) -> &[char]
+        requires { side < 2 }
+        ensures { result.now ≡ (if side == 0 then self.now.pre_context else self.now.post_context) }
+    {
+        if side == 0 {
+            return self.pre_context.as_slice();
+        }
+        self.post_context.as_slice()
+    }
+
+    /// Empties the buffer for the next text: both sides, the contexts and what was said of the text. The limits,
+    /// `flags`, `invisible` and `shaping_failed` stay.
+    pub fn clear(&mut self)
+        ensures { self.new ≡ cleared self.old }
+    {
+        self.info.clear();
+        self.out_info.clear();
+        self.pos.clear();
+        self.cursor = 0;
+        self.have_output = false;
+        self.have_positions = false;
+        self.successful = true;
+        self.pre_context.clear();
+        self.post_context.clear();
+        self.cluster_level = HB_BUFFER_CLUSTER_LEVEL_DEFAULT;
+        self.not_found_variation_selector = None;
+        self.direction = Direction::Invalid;
+        self.script = None;
+        self.language = None;
+        self.serial = 0;
+        self.scratch_flags = HB_BUFFER_SCRATCH_FLAG_DEFAULT;
+    }
+}

@@ -1,0 +1,78 @@
+//! Texts and characters that are put at the end of the list.
+
+ghost use Rattle.std.specs.Prelude.{◌≡◌, ◌+◌, ◌≤◌, ◌++◌, false, None, length, vec_len, vec_capacity, chars};
+ghost use Rattle.shaping_buffer.specs.Guess.{AreCharacters};
+ghost use Rattle.shaping_buffer.specs.Pushed.{glyphs_at, pushed, added};
+ghost use Rattle.shaping_buffer.specs.Step.{MeetsOnList};
+
+use super::hb_buffer_t;
+use rb_glyph::hb_glyph_info_t;
+use std::alloc::AllocError;
+
+impl hb_buffer_t {
+    /// Pushes the characters of a text, all or none, each in a cluster of its own.
+    #[tactic(auto, using(crate::proofs::PushedLemmas::length_pushed, crate::proofs::CharactersLemmas::characters_pushed))]
+    pub(crate) fn push_str(&mut self, text: &str) -> Result<bool, AllocError>
+        requires closed { self.old.is_open ≡ false }
+        requires plain { self.old.positions ≡ None }
+        ensures grown { MeetsOnList (pushed text.now self.old) self.old result self.new }
+        ensures characters { AreCharacters self.old.input → AreCharacters self.new.input }
+    {
+        let more = count_characters(text);
+        if more > self.max_len - self.info.len() {
+            self.successful = false;
+            return Ok(false);
+        }
+        self.info.reserve(more)?;
+        self.pos.reserve(self.info.len() + more)?;
+        append_characters(&mut self.info, text);
+        Ok(true)
+    }
+
+    /// Adds one character with a cluster, and forgets the text after it.
+    #[tactic(auto, using(crate::proofs::CharactersLemmas::characters_added))]
+    pub(crate) fn add(&mut self, codepoint: char, cluster: u32) -> Result<bool, AllocError>
+        requires closed { self.old.is_open ≡ false }
+        requires plain { self.old.positions ≡ None }
+        ensures grown { MeetsOnList (added codepoint cluster self.old) self.old result self.new }
+        ensures characters { AreCharacters self.old.input → AreCharacters self.new.input }
+    {
+        if self.info.len() >= self.max_len {
+            self.successful = false;
+            return Ok(false);
+        }
+        self.pos.reserve(self.info.len() + 1)?;
+        self.info.push(hb_glyph_info_t {
+            glyph_id: codepoint as u32,
+            mask: 0,
+            cluster,
+            var1: 0,
+            var2: 0,
+        })?;
+        self.post_context.clear();
+        Ok(true)
+    }
+}
+
+#[tactic(auto, using(std::proofs::lemmas::Str::chars_from_encodes))]
+fn count_characters(text: &str) -> usize
+    ensures { result ≡ length (chars text.now) }
+{
+    text.chars().count()
+}
+
+/// A glyph for each character, where there is room.
+fn append_characters(info: &mut Vec<hb_glyph_info_t>, text: &str)
+    requires { vec_len info.old + length (chars text.now) ≤ vec_capacity info.old }
+    ensures { info.new.items ≡ info.old.items ++ glyphs_at 0 (chars text.now) }
+{
+    for (i, c) in text.char_indices() {
+        info.push_reserved(hb_glyph_info_t {
+            glyph_id: c as u32,
+            mask: 0,
+            cluster: (i % 0x1_0000_0000) as u32,
+            var1: 0,
+            var2: 0,
+        });
+    }
+}

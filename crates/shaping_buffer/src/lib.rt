@@ -1,0 +1,34 @@
+//! The shaping buffer of HarfBuzz, proved: glyphs with clusters, edited at a cursor, texts in and out.
+//!
+//! A text goes in by [`UnicodeBuffer`], becomes an [`hb_buffer_t`], is edited by its calls, and leaves as a
+//! [`GlyphBuffer`] and its text.
+#![tactic(auto)]
+
+pub use buffer::hb_buffer_t;
+pub use cluster_level::BufferClusterLevel;
+pub use glyph_buffer::GlyphBuffer;
+pub use rb_glyph;
+pub use rb_glyph::{
+    BufferFlags, Flags, GlyphExtents, GlyphInfo, GlyphNames, GlyphPosition, SerializeFlags,
+    glyph_flag, hb_glyph_info_t,
+};
+pub use rb_text;
+pub use rb_text::{Direction, Feature, GlyphId, Language, LanguageError, Script, Tag};
+pub use unicode_buffer::UnicodeBuffer;
+
+mod buffer;
+pub mod cluster_level;
+mod cluster_numbers;
+mod context;
+mod deleting;
+mod glyph_buffer;
+#[cfg(test)]
+mod glyph_lists;
+mod guess;
+mod joining;
+pub mod laws;
+mod marking;
+mod masking;
+mod merge_range;
+mod serialize;
+mod unicode_buffer;

@@ -1,0 +1,6 @@
+pub mod Queries
+pub mod Replies
+pub mod Session
+pub mod StateText
+pub mod Transcript
+pub mod Words

@@ -1,0 +1,36 @@
+-- The answers to questions that are asked of no text.
+use Rattle.std.specs.Prelude.{ℕ, ◌≡◌, ◌-◌, false, List, ◌∷◌, ◌++◌, length, replicate, codes}
+use Rattle.std.specs.Fmt.{decimal, radix_digits}
+use Rattle.rb_text.specs.declared.feature.Feature.{Feature}
+use Rattle.rb_text.specs.Feature.{ReadsAs}
+use Rattle.rb_glyph.specs.Hangul.{HangulComposes}
+
+-- a number in small hexadecimal digits
+abbrev pub hexadecimal : ℕ → List ℕ
+hexadecimal n = radix_digits 16 false n
+
+-- the same in eight digits at least
+abbrev pub eight_digits : ℕ → List ℕ
+eight_digits n = replicate (8 - length (hexadecimal n)) 48 ++ hexadecimal n
+
+-- the tag, the value, the start and the end of a feature, parted by spaces
+abbrev pub feature_text : Feature → List ℕ
+feature_text f = eight_digits f.tag.0 ++ 32 ∷ decimal f.value ++ 32 ∷ decimal f.start ++ 32 ∷ decimal f.end
+
+-- the feature that a text reads as, where it reads as one
+abbrev pub AnswersFeature : List ℕ → List ℕ → Type 0
+AnswersFeature text answer =
+    ((f : Feature) → ReadsAs text f → answer ≡ feature_text f)
+    × (((f : Feature) → ¬ ReadsAs text f) → answer ≡ codes "invalid feature")
+
+-- the syllable that two characters make, where they make one
+abbrev pub AnswersCompose : ℕ → ℕ → List ℕ → Type 0
+AnswersCompose a b answer =
+    ((s : ℕ) → HangulComposes s a b → answer ≡ hexadecimal s)
+    × (((s : ℕ) → ¬ HangulComposes s a b) → answer ≡ codes "none")
+
+-- the two characters that make a syllable
+abbrev pub AnswersDecompose : ℕ → List ℕ → Type 0
+AnswersDecompose s answer =
+    ((a b : ℕ) → HangulComposes s a b → answer ≡ hexadecimal a ++ 32 ∷ hexadecimal b)
+    × (((a b : ℕ) → ¬ HangulComposes s a b) → answer ≡ codes "none")

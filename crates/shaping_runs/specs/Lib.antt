@@ -1,0 +1,3 @@
+pub mod Replay
+pub mod HeldMerges
+pub mod Callers

@@ -1,0 +1,51 @@
+//! The calls of a buffer as values, and what comes of one.
+
+/// A call of a buffer, by the name of the method that it makes, with the same arguments.
+#[derive(Clone, Copy, Debug)]
+pub enum Call {
+    /// Opens an output. Asks that none is open.
+    ClearOutput,
+    /// Puts the glyph at the cursor out. Asks a glyph there.
+    NextGlyph,
+    /// Drops the glyph at the cursor. Asks a glyph there.
+    SkipGlyph,
+    /// Puts the glyph at the cursor out under this id. Asks an output and a glyph at the cursor.
+    ReplaceGlyph(u32),
+    /// Puts a copy of the glyph at the cursor out, under this id. Asks an output.
+    OutputGlyph(u32),
+    /// Makes what was put out and what is left to read the list. Asks an output.
+    Sync,
+    /// Drops the glyph at the cursor and keeps its cluster. Asks an output and a glyph at the cursor.
+    DeleteGlyph,
+    /// Merges the clusters of the input from a start to an end. Asks `start <= end <= len`, and with an output open
+    /// that the start is not before the cursor.
+    MergeClusters(usize, usize),
+    /// Merges the clusters of the out side from a start to an end. Asks an output and `start <= end <= out_len`.
+    MergeOutClusters(usize, usize),
+    /// Marks the input from a start (the origin) to an end (the length, to which it is cut) as unsafe to break.
+    /// Asks `start <= end`, and with an output open that the start is not before the cursor.
+    UnsafeToBreak(Option<usize>, Option<usize>),
+    /// The same of the out side from a start and the input up to an end. With an output open it asks
+    /// `start <= out_len` and that the end is not before the cursor, and else `start <= end`.
+    UnsafeToBreakFromOutbuffer(Option<usize>, Option<usize>),
+    /// Marks the input from a start to an end as safe for a tatweel, where the buffer's flags ask for that, and else
+    /// as unsafe to break. Asks what `UnsafeToBreak` asks.
+    SafeToInsertTatweel(Option<usize>, Option<usize>),
+    /// Marks all of the input from a start to an end as unsafe to join, where the buffer's flags ask for that. Asks
+    /// what `UnsafeToBreak` asks.
+    UnsafeToConcat(Option<usize>, Option<usize>),
+    /// The same of the out side from a start and the input up to an end. Asks what `UnsafeToBreakFromOutbuffer`
+    /// asks.
+    UnsafeToConcatFromOutbuffer(Option<usize>, Option<usize>),
+}
+
+/// What came of a call.
+#[derive(Clone, Copy, PartialEq, Eq, Debug)]
+pub enum Answer {
+    /// The call was made.
+    Done,
+    /// The call was refused for length, or because an earlier one was.
+    Refused,
+    /// What the call asks does not hold: nothing changed.
+    Outside,
+}

@@ -1,0 +1,12 @@
+//! Lists of calls on a shaping buffer, made in order, with an answer to each.
+#![tactic(auto)]
+
+pub use call::{Answer, Call};
+pub use call_list::{Stopped, replay};
+pub use shaping_buffer;
+
+pub mod call;
+mod call_list;
+#[cfg(test)]
+mod callers;
+pub mod laws;
