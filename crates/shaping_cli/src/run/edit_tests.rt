@@ -1,5 +1,6 @@
 //! Tests of the commands that join clusters, delete glyphs and mark them: the two lists after these lines.
 use super::*;
+use std::test::Fail;
 
 /// Whether a run over these lines ends with this line.
 fn ends_with(alloc: Global, lines: &str, last: &str) -> bool {
@@ -112,7 +113,7 @@ fn some_flags_are_only_given_where_they_are_asked_for(rt: HostRuntime) {
 }
 
 #[test]
-fn a_call_outside_its_condition_changes_nothing(rt: HostRuntime) {
+fn a_call_outside_its_condition_changes_nothing(rt: HostRuntime) -> Result<(), Fail> {
     let calls = [
         "merge_clusters 0 2",
         "merge_clusters 2 1",
@@ -128,13 +129,12 @@ fn a_call_outside_its_condition_changes_nothing(rt: HostRuntime) {
         "add 64 3",
     ];
     for call in calls {
-        let lines = format!(in rt.alloc();
-            "push abc\nclear_output\nnext_glyph\n{call}\nstate"
-        ).unwrap();
+        let lines = format!(in rt.alloc(); "push abc\nclear_output\nnext_glyph\n{call}\nstate")?;
         let last = "outside\nopen=1 idx=1 ok=1 out=[97:0:0] in=[98:1:0 99:2:0]";
         assert!(rt; ends_with(rt.alloc(), lines.as_str(), last), "at {call:?}");
     }
     let lines = "push abc\ndelete_glyph\nmerge_out_clusters 0 0\nstate";
     let last = "outside\noutside\nopen=0 idx=0 ok=1 out=[] in=[97:0:0 98:1:0 99:2:0]";
     assert!(rt; ends_with(rt.alloc(), lines, last));
+    Ok(())
 }

@@ -1,5 +1,6 @@
 //! Tests of the commands that ask of no text, and of those that say how the text is treated.
 use super::*;
+use std::test::Fail;
 
 /// Whether a run over these lines gives these answers.
 fn answers(alloc: Global, lines: &str, answers: &str) -> bool {
@@ -28,7 +29,7 @@ fn features_are_read(rt: HostRuntime) {
 }
 
 #[test]
-fn other_texts_are_no_features(rt: HostRuntime) {
+fn other_texts_are_no_features(rt: HostRuntime) -> Result<(), Fail> {
     for text in [
         "",
         "kern= 5",
@@ -38,10 +39,11 @@ fn other_texts_are_no_features(rt: HostRuntime) {
         "kerne",
         "kern=on1",
     ] {
-        let lines = format!(in rt.alloc(); "feature {text}\npush a").unwrap();
+        let lines = format!(in rt.alloc(); "feature {text}\npush a")?;
         let wanted = "invalid feature\ntrue\n";
         assert!(rt; answers(rt.alloc(), lines.as_str(), wanted), "at {text:?}");
     }
+    Ok(())
 }
 
 #[test]
