@@ -14,7 +14,7 @@ abbrev pub variation_selectors : List (ℕ × ℕ)
 variation_selectors =
     (0xFE00, 0xFE0F) ∷ (0xE0100, 0xE01EF) ∷ []
 
--- the characters that emoji are made from, in ranges: Extended_Pictographic
+-- the characters that emoji are made from, in ranges: a list of this project's own, after Extended_Pictographic
 abbrev pub extended_pictographics : List (ℕ × ℕ)
 extended_pictographics =
     (0x00A9, 0x00A9) ∷ (0x00AE, 0x00AE) ∷ (0x203C, 0x203C) ∷ (0x2049, 0x2049) ∷ (0x2122, 0x2122) ∷ (0x2139, 0x2139) ∷

@@ -45,7 +45,8 @@ pub trait CharExt: Sized {
     fn mirrored(self, mirrors: &Mirrors) -> Option<char>
         ensures { result ≡ value_of (code_point self) mirrors.now };
 
-    /// Whether emoji are made from the character (Unicode Technical Standard 51, Extended_Pictographic).
+    /// Whether emoji are made from the character: by a list of this project's own, after
+    /// Extended_Pictographic of Unicode Technical Standard 51.
     fn is_emoji_extended_pictographic(self) -> bool
         ensures { result ≡ holds (code_point self) extended_pictographics };
 

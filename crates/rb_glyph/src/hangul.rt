@@ -84,7 +84,9 @@ mod tests {
     fn consonant_and_vowel(rt: HostRuntime) {
         assert_eq!(rt; compose_hangul('\u{1100}', '\u{1161}'), Some('\u{AC00}'));
         assert_eq!(rt; compose_hangul('\u{1112}', '\u{1175}'), Some('\u{D788}'));
+        assert_eq!(rt; compose_hangul('\u{10FF}', '\u{1161}'), None);
         assert_eq!(rt; compose_hangul('\u{1113}', '\u{1161}'), None);
+        assert_eq!(rt; compose_hangul('\u{1100}', '\u{1160}'), None);
         assert_eq!(rt; compose_hangul('\u{1100}', '\u{1176}'), None);
     }
 
@@ -95,6 +97,8 @@ mod tests {
         assert_eq!(rt; compose_hangul('\u{AC00}', '\u{11A7}'), None);
         assert_eq!(rt; compose_hangul('\u{AC00}', '\u{11C3}'), None);
         assert_eq!(rt; compose_hangul('\u{AC01}', '\u{11A8}'), None);
+        assert_eq!(rt; compose_hangul('\u{ABFF}', '\u{11A8}'), None);
+        assert_eq!(rt; compose_hangul('\u{D7A4}', '\u{11A8}'), None);
         assert_eq!(rt; compose_hangul('a', '\u{301}'), None);
     }
 

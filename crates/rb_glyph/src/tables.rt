@@ -1,7 +1,7 @@
 //! Tables that a caller hands in: rows in the order of their keys, borrowed as they stand.
 //!
-//! The rows are those of the Unicode Character Database: nothing is copied, and a look-up is a
-//! bisection.
+//! The rows are meant to be those of the Unicode Character Database, which nothing checks. Nothing is
+//! copied, and a look-up is a bisection.
 ghost use Rattle.std.specs.Prelude.{◌≡◌, Some, None, if◌then◌else◌};
 ghost use Rattle.rb_glyph.specs.Rows.{keys_rise, value_of};
 ghost use Rattle.rb_glyph.specs.Tables.{pairs_rise, composition_of, decompositions_rise, decomposition_of};

@@ -62,8 +62,9 @@ impl Direction {
         }
     }
 
-    /// The horizontal direction of a script, as HarfBuzz's table of scripts gives it. It is `None`
-    /// for the scripts that are written either way: Old Hungarian, Old Italic, Runic and Tifinagh.
+    /// The horizontal direction of a script, as rustybuzz's table of scripts gives it, with Garay from
+    /// left to right. It is `None` for the scripts that are written either way: Old Hungarian, Old
+    /// Italic, Runic and Tifinagh.
     pub fn from_script(script: Script) -> Option<Self>
         ensures { result ≡ direction_of script }
     {

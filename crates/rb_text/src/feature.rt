@@ -93,9 +93,10 @@ impl FromStr for Feature {
     /// In order: `-` (value 0), `+` or nothing (value 1); spaces; a tag of up to four letters,
     /// digits and `_`, which may stand between two equal quotes; spaces; a range in brackets or
     /// nothing; `=` or nothing; a value or nothing; spaces. A value is a number, or spaces and
-    /// then `on` or `off` in any case. Where neither stands, the prefix's value holds and other
-    /// letters may stand there, but not behind `=`. Spaces stand nowhere else: none between `]` and
-    /// `=`, and none between either of them and a number.
+    /// then `on` or `off` in any case; behind `=` one of them must stand. Where neither stands, the
+    /// prefix's value holds and other letters may stand there. Spaces stand nowhere else: none
+    /// between `]` and `=`, and none between either of them and a number. As in rustybuzz, no tag at
+    /// all is the null tag, and a vertical tab is no space.
     ///
     /// | Text | Value | Start | End |
     /// |---|---|---|---|

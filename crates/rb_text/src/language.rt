@@ -24,10 +24,10 @@ impl Model for Language {
 pub enum LanguageError {
     /// The text is empty.
     #[error("invalid language")]
-    Invalid,
+    Invalid = 1,
     /// There is no memory for a copy of the text.
     #[error("out of memory")]
-    Memory,
+    Memory = 2,
 }
 
 impl Language {
@@ -126,6 +126,10 @@ mod tests {
         assert_eq!(rt; refused, Some(LanguageError::Invalid));
         let message = format!(in rt.alloc(); "{}", LanguageError::Invalid)?;
         assert_eq!(rt; message.as_str(), "invalid language");
+        let message = format!(in rt.alloc(); "{}", LanguageError::Memory)?;
+        assert_eq!(rt; message.as_str(), "out of memory");
+        assert_eq!(rt; LanguageError::Invalid as u8, 1);
+        assert_eq!(rt; LanguageError::Memory as u8, 2);
         Ok(())
     }
 }

@@ -8,6 +8,8 @@ pub mod language;
 pub mod script;
 pub mod tag;
 pub mod text_parser;
+#[cfg(test)]
+mod wording;
 
 pub use direction::Direction;
 pub use feature::{Feature, HB_FEATURE_GLOBAL_END, HB_FEATURE_GLOBAL_START};

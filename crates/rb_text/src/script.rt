@@ -31,8 +31,8 @@ impl Script {
     ///
     /// The null tag has none. The variants of a script that ISO 15924 lists (`Hans`, `Latf`) give
     /// the script itself, as do the private codes that Unicode once used (`Qaai`, `Qaac`). Any
-    /// other tag in the form of four letters names a script of its own, known or not; a tag of
-    /// another form gives [`UNKNOWN`].
+    /// other tag whose four bytes stand in the columns of the letters, from `@` to DEL, names a
+    /// script of its own, known or not; any other tag gives [`UNKNOWN`].
     #[tactic(auto, using(crate::proofs::Titled::titled_again))]
     pub fn from_iso15924_tag(tag: Tag) -> Option<Script>
         ensures { result ≡ script_of tag.0 }

@@ -9,7 +9,7 @@ use Rattle.std.proofs.lemmas.List.{take_at, drop_at}
 use Rattle.std.proofs.lemmas.List.Elements.{All-append, All-take, All-drop, All-map, All-weaker, All-head, All-tail}
 use Rattle.rb_glyph.specs.declared.info.hb_glyph_info_t.{hb_glyph_info_t}
 use Rattle.shaping_buffer.specs.Parts.{part}
-use Rattle.shaping_buffer.specs.Clusters.{clusters, least, with_cluster, run_join, run_start, range_least, widened_start, widened_end}
+use Rattle.shaping_buffer.specs.Clusters.{clusters, least, occurs, with_cluster, join, run_join, run_start, range_least, widened_start, widened_end}
 use Rattle.shaping_buffer.specs.Marks.{marked, mark, mark_others, mark_part, end_mark, ends}
 use Rattle.shaping_buffer.specs.Deletion.{Sides, merged, deleted, is_some, begins_with, last_cluster, run_retold}
 use Rattle.shaping_buffer.specs.GlyphFlags.{BreakImpliesConcat, FlagsAgree}
@@ -81,6 +81,15 @@ zero_agrees : BreakImpliesConcat 0
 zero_agrees = by_bits 0 (λ e. absurd (omega (arith, e)))
 
 -- a glyph that moves loses its flags, and another keeps them
+pub join_keeps_flags : (l r : List hb_glyph_info_t) → FlagsAgree l → FlagsAgree (join l r)
+unfolding join
+join_keeps_flags l r h =
+    let m = least (clusters r) in
+    let f : hb_glyph_info_t → hb_glyph_info_t = λ g. cond (occurs g.cluster (clusters r)) (with_cluster m 0 g) g in
+    All-map Agrees f l
+    (All-weaker Agrees (λ g. Agrees (f g))
+    (λ g old. cond_both (occurs g.cluster (clusters r)) (with_cluster m 0 g) g Agrees (λ _. with_cluster_agrees m 0 zero_agrees g old) (λ _. old)) l h)
+
 pub run_join_keeps_flags : (l : List hb_glyph_info_t) (p q floor : ℕ) → FlagsAgree l → FlagsAgree (run_join l p q floor)
 unfolding run_join
 run_join_keeps_flags l p q floor h =

@@ -13,6 +13,7 @@ pub mod ScansLemmas
 pub mod DeletingLemmas
 pub mod MaskingLemmas
 pub mod Rows
+pub mod BufferRows
 pub mod OrderLemmas
 pub mod ReadingsLemmas
 pub mod MarksLemmas

@@ -1,4 +1,4 @@
--- Deletion: the head of the input goes, and its cluster is kept where it would be lost.
+-- Deletion: the head of the input goes, and its cluster is kept where it is lower than its neighbour's.
 use Rattle.std.specs.Prelude.{ℕ, ◌-◌, ◌==◌, ◌||◌, ◌&&◌, ◌++◌, Bool, true, false, List, [], ◌∷◌, length, take, drop, nat_lt, slice_index, if◌then◌else◌}
 use Rattle.rb_glyph.specs.declared.info.hb_glyph_info_t.{hb_glyph_info_t}
 use Rattle.shaping_buffer.specs.Parts.{part, map_range}

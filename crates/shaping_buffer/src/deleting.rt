@@ -1,4 +1,4 @@
-//! A glyph that leaves the input, and its cluster, which is kept where it would be lost.
+//! A glyph that leaves the input, and its cluster, which is kept where it is lower than its neighbour's.
 
 ghost use Rattle.std.specs.Prelude.{not, ◌≡◌, ℕ, ◌+◌, ◌-◌, ◌<◌, ◌≤◌, ◌==◌, ◌&&◌, ◌||◌, ◌++◌, List, length, take, drop, nat_lt, slice_index_or, if◌then◌else◌};
 ghost use Rattle.shaping_buffer.specs.Clusters.{zero_glyph};

@@ -186,6 +186,7 @@ pub fn added_bits_agree()
 
 /// Where each glyph that is unsafe to break is unsafe to concatenate too, that stays so.
 pub fn flags_still_agree()
+    ensures join { (l r : List hb_glyph_info_t) → FlagsAgree l → FlagsAgree (join l r) }
     ensures run_join { (l : List hb_glyph_info_t) (p q floor : ℕ)
         → FlagsAgree l → FlagsAgree (run_join l p q floor) }
     ensures merge { (marks : Bool) (l : List hb_glyph_info_t) (p q floor : ℕ)
@@ -207,3 +208,26 @@ pub fn flags_still_agree()
     ensures range { (l new : List hb_glyph_info_t) (p q : ℕ) → FlagsAgree l → FlagsAgree new
         → FlagsAgree (take p l ++ new ++ drop q l) }
 {}
+
+#[cfg(test)]
+mod tests {
+    use super::*;
+
+    #[test]
+    fn laws_stand(_rt: HostRuntime) {
+        join_is_least_coarsening();
+        end_scan_is_mark();
+        join_shares_clusters();
+        join_changes_clusters_and_masks();
+        run_join_changes_clusters_and_masks();
+        marks_change_masks_alone();
+        lengths_stay();
+        order_stays();
+        numbered_list_is_coarse();
+        coarse_lists_stay();
+        no_cluster_is_new();
+        least_cluster_stays();
+        added_bits_agree();
+        flags_still_agree();
+    }
+}

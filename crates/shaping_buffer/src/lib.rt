@@ -9,11 +9,16 @@ pub use cluster_level::BufferClusterLevel;
 pub use glyph_buffer::GlyphBuffer;
 pub use rb_glyph;
 pub use rb_glyph::{
-    BufferFlags, Flags, GlyphExtents, GlyphInfo, GlyphNames, GlyphPosition, SerializeFlags,
-    glyph_flag, hb_glyph_info_t,
+    BufferFlags, CharExt, CombiningClasses, Compositions, Decompositions, Flags,
+    GeneralCategoryExt, GlyphExtents, GlyphInfo, GlyphNames, GlyphPosition, GlyphPropsFlags,
+    Mirrors, SerializeFlags, UnicodeProps, glyph_flag, hb_glyph_info_t,
+    hb_unicode_general_category_t,
 };
 pub use rb_text;
-pub use rb_text::{Direction, Feature, GlyphId, Language, LanguageError, Script, Tag};
+pub use rb_text::{
+    Direction, Feature, GlyphId, Language, LanguageError, Script, Tag, TagExt, TextParser,
+    hb_codepoint_t, script,
+};
 pub use unicode_buffer::UnicodeBuffer;
 
 mod buffer;

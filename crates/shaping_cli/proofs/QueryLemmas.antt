@@ -1,5 +1,5 @@
 -- A number in eight hexadecimal digits.
-use Rattle.std.proofs.Common.{ℕ, ◌≡◌, ◌^◌, ◌-◌, ◌++◌, List, [], length, replicate, false, refl, ap, ◌∙◌, arith, append-nil}
+use Rattle.std.proofs.Common.{ℕ, ◌≡◌, ◌^◌, ◌-◌, ◌++◌, [], length, replicate, false, ap, ◌∙◌, arith, append-nil}
 use Rattle.std.specs.Fmt.{padded_integral, format_spec, char_count}
 use Rattle.shaping_cli.specs.Queries.{hexadecimal, eight_digits}
 

@@ -1,6 +1,6 @@
 -- One answer more.
-use Rattle.std.proofs.Common.{ℕ, ◌≡◌, ◌++◌, List, [], ◌∷◌, Option, None, Some, refl, sym, ap, ◌∙◌, append_assoc, append-nil}
-use Rattle.std.specs.Io.KnownBytes.{Appends, Keeps}
+use Rattle.std.proofs.Common.{ℕ, ◌≡◌, ◌++◌, List, [], ◌∷◌, Option, None, Some, sym, ap, ◌∙◌, append_assoc, append-nil}
+use Rattle.std.specs.Io.KnownBytes.{Appends}
 use Rattle.shaping_cli.specs.Transcript.{transcript}
 
 pub transcript-push : (answers : List (List ℕ)) (answer : List ℕ) → transcript (answers ++ answer ∷ []) ≡ transcript answers ++ (answer ++ 10 ∷ [])

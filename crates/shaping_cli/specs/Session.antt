@@ -1,6 +1,5 @@
 -- What a command makes of a session.
-use Rattle.std.specs.Prelude.{ℕ, ◌≡◌, List, Bool, true, false, codes, if◌then◌else◌}
-use Rattle.rb_glyph.specs.FlagSets.{buffer_bits}
+use Rattle.std.specs.Prelude.{ℕ, ◌≡◌, List, Bool, codes, if◌then◌else◌}
 use Rattle.shaping_buffer.specs.ClusterLevel.{level_of}
 use Rattle.shaping_buffer.specs.Positions.{with_zero_positions}
 use Rattle.shaping_buffer.specs.Pushed.{pushed, added}
@@ -8,7 +7,6 @@ use Rattle.shaping_buffer.specs.State.{State, empty_state, cleared}
 use Rattle.shaping_buffer.specs.Step.{Outcome}
 use Rattle.shaping_buffer.specs.Text.{text_of}
 use Rattle.shaping_buffer.specs.declared.buffer.TheConstants.hb_buffer_t.{MAX_LEN_DEFAULT, MAX_OPS_DEFAULT}
-use Rattle.shaping_buffer.specs.declared.cluster_level.BufferClusterLevel.{BufferClusterLevel}
 use Rattle.shaping_runs.specs.Replay.{turn}
 use Rattle.shaping_runs.specs.declared.call.Call.{Call}
 use Rattle.shaping_cli.specs.Queries.{AnswersFeature, AnswersCompose, AnswersDecompose}

@@ -35,11 +35,12 @@ AnswersAll input status answers =
 abbrev pub with_held : Option (List ℕ) → List ℕ → Option (List ℕ)
 with_held contents held = append_known contents held
 
--- what is written over the lines of an input: whole answers, also where there was no memory for the next
+-- what is written over the lines of an input: whole answers, also where there was no memory for the next, and no more than lines
 abbrev pub Writes : List ℕ → Option (List ℕ) → Option (List ℕ) → Result ℕ RunFault → Type 0
 Writes input before after (Ok status) =
     (answers : List (List ℕ)) × Appends before after (transcript answers) × AnswersAll input status answers
-Writes input before after (Err Memory) = (answers : List (List ℕ)) × Appends before after (transcript answers)
+Writes input before after (Err Memory) =
+    (answers : List (List ℕ)) × Appends before after (transcript answers) × (length answers ≤ line_count input)
 Writes input before after (Err Read) = ⊥
 Writes input before after (Err Write) = ⊤
 
@@ -47,10 +48,12 @@ Writes input before after (Err Write) = ⊤
 abbrev pub IsReadTo : Option (List ℕ) → Option (List ℕ) → List ℕ → List ℕ → Type 0
 IsReadTo before after old new = (piece : List ℕ) × Consumes before after piece × (new ≡ old ++ piece)
 
--- what a run reads and writes: all of the input, and what answers it; nothing is said of what a writer that failed took
+-- what a run reads and writes: all of the input, and what answers it. Where there was no memory for the input, nothing was written;
+-- nothing is said of what a writer that failed took
 abbrev pub Answers : Option (List ℕ) → Option (List ℕ) → Option (List ℕ) → Option (List ℕ) → Result ℕ RunFault → Type 0
 Answers unread rest before after (Ok status) =
     (input : List ℕ) × Consumes unread rest input × IsAtEnd rest × Writes input before after (Ok status)
 Answers unread rest before after (Err Read) = Keeps before after
-Answers unread rest before after (Err Memory) = Writes [] before after (Err Memory)
+Answers unread rest before after (Err Memory) =
+    Keeps before after ⊎ ((input : List ℕ) × Consumes unread rest input × IsAtEnd rest × Writes input before after (Err Memory))
 Answers unread rest before after (Err Write) = ⊤

@@ -31,7 +31,7 @@ pub enum Command<'a> {
     Decompose(char),
 }
 
-/// The command that a line writes, if it writes one.
+/// The command that a line writes, if it writes one. Which line is which command is shown by tests alone.
 pub fn parse(line: &str) -> Option<Command<'_>> {
     let mut words = Words::of(line);
     let name = words.word()?;

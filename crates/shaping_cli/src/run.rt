@@ -18,7 +18,7 @@ pub enum RunFault {
     Read = 1,
     /// The writer failed. What it took is not known.
     Write = 2,
-    /// There was no memory. The commands before were answered.
+    /// There was no memory. The commands before were answered; while the input was read, nothing was written.
     Memory = 3,
 }
 

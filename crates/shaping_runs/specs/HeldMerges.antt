@@ -1,4 +1,4 @@
--- Merges that are held back: those made with no output open and glyphs before the cursor, which they leave alone.
+-- Merges whose start is not widened past the cursor: those made with no output open and glyphs before it.
 use Rattle.std.specs.Prelude.{⊤, ◌≡◌, ◌&&◌, Bool, false, not, List, [], ◌∷◌, nat_lt}
 use Rattle.shaping_buffer.specs.State.{State}
 use Rattle.shaping_buffer.specs.ClusterStep.{is_input_range}

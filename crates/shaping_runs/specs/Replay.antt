@@ -56,6 +56,7 @@ outcome_of (SafeToInsertTatweel start end) s = step.unlimited (cluster_step.tatw
 outcome_of (UnsafeToConcat start end) s = step.unlimited (cluster_step.concat_unsafe start end s)
 outcome_of (UnsafeToConcatFromOutbuffer start end) s = step.unlimited (cluster_step.concat_unsafe_sides start end s)
 
+-- how it is answered that a call was done, or refused
 abbrev pub answer_of : Bool → Answer
 answer_of true = Done
 answer_of false = Refused

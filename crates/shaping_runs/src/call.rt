@@ -11,11 +11,13 @@ pub enum Call {
     SkipGlyph,
     /// Puts the glyph at the cursor out under this id. Asks an output and a glyph at the cursor.
     ReplaceGlyph(u32),
-    /// Puts a copy of the glyph at the cursor out, under this id. Asks an output.
+    /// Puts a copy of the glyph at the cursor out, under this id, or of the last that was put out where none is left to
+    /// read; nothing where both sides are empty. Asks an output.
     OutputGlyph(u32),
     /// Makes what was put out and what is left to read the list. Asks an output.
     Sync,
-    /// Drops the glyph at the cursor and keeps its cluster. Asks an output and a glyph at the cursor.
+    /// Drops the glyph at the cursor and keeps its cluster where it is lower than its neighbour's. Asks an output and a
+    /// glyph at the cursor.
     DeleteGlyph,
     /// Merges the clusters of the input from a start to an end. Asks `start <= end <= len`, and with an output open
     /// that the start is not before the cursor.

@@ -35,3 +35,16 @@ pub fn coarse_lists_stay()
     ensures { (calls : List Call) (s : State) → HoldsNoMerge calls s
         → IsCoarse (both s) → IsCoarse (both (after calls s)) }
 {}
+
+#[cfg(test)]
+mod tests {
+    use super::*;
+
+    #[test]
+    fn laws_stand(_rt: HostRuntime) {
+        flags_still_agree();
+        order_stays();
+        no_cluster_is_new();
+        coarse_lists_stay();
+    }
+}

@@ -1,4 +1,4 @@
-use super::CharExt;
+use super::{CharExt, character_tables_law};
 use crate::category::hb_unicode_general_category_t as Category;
 use crate::hb_unicode_funcs_t::*;
 use crate::tables::{CombiningClasses, Mirrors};
@@ -398,4 +398,9 @@ fn script_of<T: CharExt>(character: T) -> Script {
 #[test]
 fn the_properties_are_asked_through_the_trait(rt: HostRuntime) {
     assert_eq!(rt; script_of('a'), script::LATIN);
+}
+
+#[test]
+fn law_of_the_tables_stands(_rt: HostRuntime) {
+    character_tables_law();
 }

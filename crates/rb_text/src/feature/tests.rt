@@ -57,6 +57,7 @@ fn ranges_in_brackets(rt: HostRuntime) {
             ("kern[:]", 1, 0, M),
             ("kern[:-1]", 1, 0, M),
             ("kern[5:]", 1, 5, M),
+            ("kern[5;]", 1, 5, M),
             ("kern[:5]", 1, 0, 5),
             ("kern[3:5]", 1, 3, 5),
             ("kern[3]", 1, 3, 4),
@@ -64,6 +65,7 @@ fn ranges_in_brackets(rt: HostRuntime) {
             ("kern[3;5]=2", 2, 3, 5),
         ],
     );
+    reads_as(&rt, "aalt[3:5]=2", "aalt", 2, 3, 5);
 }
 
 #[test]
@@ -103,6 +105,8 @@ fn spaces_and_letters(rt: HostRuntime) {
             ("kern =5", 5, 0, M),
             ("kern off", 0, 0, M),
             ("kern=\t off", 0, 0, M),
+            ("-kern on", 1, 0, M),
+            ("-kern= \ton", 1, 0, M),
             ("kern[1] off", 0, 1, 2),
             ("kern xyz", 1, 0, M),
             ("-kern xyz", 0, 0, M),

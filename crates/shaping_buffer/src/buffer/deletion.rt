@@ -10,9 +10,9 @@ use crate::deleting;
 use rb_glyph::HB_BUFFER_SCRATCH_FLAG_HAS_GLYPH_FLAGS;
 
 impl hb_buffer_t {
-    /// Drops the glyph at the cursor, and keeps its cluster: where no neighbour shares it, the glyphs before take it
-    /// if it is lower than theirs, or with nothing put out the next glyph is merged with it. It asks an output and a
-    /// glyph at the cursor.
+    /// Drops the glyph at the cursor, and keeps its cluster where it is lower than its neighbour's: where no neighbour
+    /// shares it, the glyphs before take it if it is lower than theirs, or with nothing put out the next glyph is
+    /// merged with it, which at level 2 marks that glyph instead. It asks an output and a glyph at the cursor.
     pub fn delete_glyph(&mut self)
         requires opened { self.old.is_open ≡ true }
         requires glyph { 0 < ahead_of self.old }

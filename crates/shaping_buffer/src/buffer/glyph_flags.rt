@@ -18,7 +18,8 @@ const BREAK_BITS: u32 = glyph_flag::UNSAFE_TO_BREAK | glyph_flag::UNSAFE_TO_CONC
 
 impl hb_buffer_t {
     /// Marks the input's glyphs from `start` (the origin) to `end` (the length, to which it is cut) that are not in
-    /// the least cluster as unsafe to break and to join before. It asks `start <= end`, and with an output open
+    /// the least cluster as unsafe to break and to join before. At level 2, and on monotone clusters, these are all
+    /// such glyphs; else the scan goes by the clusters at the ends. It asks `start <= end`, and with an output open
     /// that `start` is not before the cursor.
     pub fn unsafe_to_break(&mut self, start: Option<usize>, end: Option<usize>)
         requires order { range_start start ≤ range_end end self.old }
@@ -169,7 +170,6 @@ impl hb_buffer_t {
     }
 
     /// Adds the bits to all glyphs of the input from `from` to `to`.
-
     fn flag_input(&mut self, bits: u32, from: usize, to: usize)
         requires order { from ≤ to }
         requires within { to ≤ len_of self.old }

@@ -20,7 +20,8 @@ impl hb_buffer_t {
 
     /// Merges the clusters of the input's glyphs from `start` to `end`, and of the runs at its ends, into the least
     /// of them. At level 2 the range is marked as unsafe to break instead. It asks `start <= end <= len`, and with
-    /// an output open that `start` is not before the cursor. A merge with no output open stays above the cursor.
+    /// an output open that `start` is not before the cursor. With no output open the start is not widened past the
+    /// cursor.
     pub fn merge_clusters(&mut self, start: usize, end: usize)
         requires order { start ≤ end }
         requires within { end ≤ len_of self.old }

@@ -47,6 +47,23 @@ fn glyphs_are_told_with_and_without_positions(rt: HostRuntime) -> Result<(), Fai
 }
 
 #[test]
+fn offsets_and_advances_are_told(rt: HostRuntime) -> Result<(), Fail> {
+    let mut characters = UnicodeBuffer::new(rt.alloc());
+    assert_eq!(rt; characters.push_str("ab"), Ok(true));
+    let mut buffer = characters.into_buffer();
+    buffer.clear_positions();
+    for position in buffer.pos_mut() {
+        position.x_offset = 2;
+        position.x_advance = 10;
+        position.y_advance = -1;
+    }
+    let shaped = GlyphBuffer::from_buffer(buffer);
+    let text = shaped.serialize(rt.alloc(), &Nameless, SerializeFlags::NO_GLYPH_NAMES)?;
+    assert_eq!(rt; text.as_str(), "97=0@2,0+10,-1|98=1@2,0+10,-1");
+    Ok(())
+}
+
+#[test]
 fn glyphs_have_infos_and_positions(rt: HostRuntime) -> Result<(), Fail> {
     let shaped = glyphs(&rt, rt.alloc(), "ab");
     assert_eq!(rt; shaped.len(), 2);

@@ -59,6 +59,23 @@ fn a_hebrew_letter_tells_script_and_direction(rt: HostRuntime) -> Result<(), Fai
 }
 
 #[test]
+fn a_pushed_text_keeps_the_text_after(rt: HostRuntime) -> Result<(), Fail> {
+    let mut text = UnicodeBuffer::new(rt.alloc());
+    text.set_post_context("ab");
+    assert_eq!(rt; text.push_str("x"), Ok(true));
+    assert_eq!(rt; text.into_buffer().context(1), ['a', 'b'].as_slice());
+    Ok(())
+}
+
+#[test]
+fn levels_are_printed_by_name(rt: HostRuntime) -> Result<(), Fail> {
+    let level = BufferClusterLevel::default();
+    let printed = format!(in rt.alloc(); "{level:?}")?;
+    assert_eq!(rt; printed.as_str(), "MonotoneGraphemes");
+    Ok(())
+}
+
+#[test]
 fn digits_tell_no_script(rt: HostRuntime) -> Result<(), Fail> {
     let mut text = UnicodeBuffer::new(rt.alloc());
     assert_eq!(rt; text.push_str("12"), Ok(true));

@@ -32,6 +32,10 @@ fn clusters_are_merged_with_the_runs_at_the_ends(rt: HostRuntime) {
             "open=1 idx=0 ok=1 out=[] in=[97:0:0 98:1:3 99:1:0]",
         ),
         (
+            "add 61 3\nadd 62 3\nadd 63 3\nadd 64 1\nskip_glyph\nmerge_clusters 2 4\nstate",
+            "open=0 idx=1 ok=1 out=[] in=[97:3:0 98:1:0 99:1:0 100:1:0]",
+        ),
+        (
             "push abc\nlevel 2\nclear_output\nmerge_clusters 0 2\nstate",
             "open=1 idx=0 ok=1 out=[] in=[97:0:0 98:1:3 99:2:0]",
         ),
@@ -51,6 +55,14 @@ fn a_deleted_glyph_leaves_its_cluster(rt: HostRuntime) {
         (
             "add 61 3\nadd 62 3\nadd 63 2\nadd 64 1\nclear_output\nnext_glyph\nnext_glyph\ndelete_glyph\nstate",
             "open=1 idx=3 ok=1 out=[97:2:0 98:2:0] in=[100:1:0]",
+        ),
+        (
+            "add 61 3\nadd 62 3\nadd 63 2\nadd 64 1\nunsafe_to_break 2 4\nclear_output\nnext_glyph\nnext_glyph\ndelete_glyph\nstate",
+            "open=1 idx=3 ok=1 out=[97:2:3 98:2:3] in=[100:1:0]",
+        ),
+        (
+            "level 2\nadd 61 0\nadd 62 1\nadd 63 2\nclear_output\ndelete_glyph\nstate",
+            "open=1 idx=1 ok=1 out=[] in=[98:1:3 99:2:0]",
         ),
     ];
     for (lines, last) in cases {

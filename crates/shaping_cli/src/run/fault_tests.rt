@@ -52,11 +52,13 @@ impl Read for SlowReader<'_> {
 struct Endless {
     is_interrupted: bool,
     reads: usize,
+    largest: usize,
 }
 
 impl Read for Endless {
     fn read(&mut self, buf: &mut [u8]) -> io::Result<usize> {
         self.reads = self.reads.wrapping_add(1);
+        self.largest = self.largest.max(buf.len());
         if self.is_interrupted {
             return Err(io::Error::from(ErrorKind::Interrupted));
         }
@@ -148,11 +150,13 @@ fn an_input_without_an_end_is_given_up(rt: HostRuntime) {
         let mut reader = Endless {
             is_interrupted,
             reads: 0,
+            largest: 0,
         };
         let outcome = run(rt.alloc(), &mut reader, &mut written);
         assert_eq!(rt; outcome, Err(RunFault::Read));
         assert_eq!(rt; written.len(), 0);
         assert_eq!(rt; reader.reads, 65536);
+        assert_eq!(rt; reader.largest, 65536);
     }
 }
 

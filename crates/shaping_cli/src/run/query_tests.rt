@@ -16,6 +16,7 @@ fn features_are_read(rt: HostRuntime) {
         ("feature kern[-1]", "6b65726e 1 4294967295 4294967295\n"),
         ("feature kern[2147483648]", "6b65726e 1 0 4294967295\n"),
         ("feature kern=+off", "6b65726e 0 0 4294967295\n"),
+        ("feature kern=-1", "6b65726e 4294967295 0 4294967295\n"),
         ("feature kern xyz", "6b65726e 1 0 4294967295\n"),
         ("feature kern 5", "6b65726e 5 0 4294967295\n"),
         ("feature -", "00000000 0 0 4294967295\n"),

@@ -1,4 +1,5 @@
 use super::*;
+use std::test::Fail;
 
 /// What a run over these lines gives, and what it writes.
 fn run_over(alloc: Global, lines: &[u8]) -> (Result<u8, RunFault>, Vec<u8>) {
@@ -25,6 +26,10 @@ fn each_line_is_answered(rt: HostRuntime) {
             "push ab\nclear_output\nskip_glyph\nreplace_glyph 7\noutput_glyph 8\nsync\nserialize 6",
             "true\ndone\ndone\ndone\ndone\ndone\n7=1|8=1\n",
         ),
+        (
+            "clear_output\noutput_glyph 5\nsync\nserialize 4\n",
+            "done\ndone\ndone\n\n",
+        ),
     ];
     for (lines, answers) in cases {
         let (outcome, written) = run_over(rt.alloc(), lines.as_bytes());
@@ -47,6 +52,10 @@ fn what_cannot_be_done_is_outside(rt: HostRuntime) {
         (
             "push a\nreplace_glyph 1\noutput_glyph 1\nserialize 6\n",
             "true\noutside\noutside\n97=0\n",
+        ),
+        (
+            "push ab\nnext_glyph\nskip_glyph\nnext_glyph\nserialize 6\n",
+            "true\ndone\ndone\noutside\n97=0|98=1\n",
         ),
     ];
     for (lines, answers) in cases {
@@ -99,4 +108,11 @@ fn each_fault_has_its_number_and_its_message(rt: HostRuntime) {
         assert_eq!(rt; fault as u8, number);
         assert_eq!(rt; fault.message(), message);
     }
+}
+
+#[test]
+fn faults_are_printed_by_name(rt: HostRuntime) -> Result<(), Fail> {
+    let printed = format!(in rt.alloc(); "{:?}", RunFault::Memory)?;
+    assert_eq!(rt; printed.as_str(), "Memory");
+    Ok(())
 }

@@ -264,6 +264,28 @@ fn the_calls_after_one_outside_its_condition_are_made(rt: HostRuntime) -> Result
 }
 
 #[test]
+fn a_deletion_at_level_2_says_that_there_are_flags(rt: HostRuntime) -> Result<(), Fail> {
+    let mut text = text(rt.alloc(), &[0, 1, 2])?;
+    text.set_cluster_level(BufferClusterLevel::Characters);
+    let mut buffer = text.into_buffer();
+    let calls = [Call::ClearOutput, Call::DeleteGlyph];
+    assert_eq!(rt;
+        answers(&rt, &mut buffer, calls),
+        [Answer::Done, Answer::Done]
+    );
+    assert_open(&rt, &buffer, 1, &[], &[(98, 1, 3), (99, 2, 0)]);
+    assert_eq!(rt; buffer.scratch_flags, 0x20);
+    Ok(())
+}
+
+#[test]
+fn answers_are_printed_by_name(rt: HostRuntime) -> Result<(), Fail> {
+    let printed = format!(in rt.alloc(); "{:?} {:?}", Answer::Outside, Stopped { at: 3 })?;
+    assert_eq!(rt; printed.as_str(), "Outside Stopped { at: 3 }");
+    Ok(())
+}
+
+#[test]
 fn no_calls_are_made_of_an_empty_list(rt: HostRuntime) -> Result<(), Fail> {
     let mut buffer = text(rt.alloc(), &[0])?.into_buffer();
     let made: Result<(), Stopped> = replay(&mut buffer, &[], &mut []);

@@ -1,6 +1,9 @@
-use Rattle.shaping_buffer.proofs.GlyphFlagsLemmas.{run_join_keeps_flags, merged_keeps_flags, deleted_keeps_flags, marked_keep_flags, mark_keeps_flags, end_mark_keeps_flags, mark_part_keeps_flags, new_part_keeps_flags}
+use Rattle.shaping_buffer.proofs.GlyphFlagsLemmas.{join_keeps_flags, run_join_keeps_flags, merged_keeps_flags, deleted_keeps_flags, marked_keep_flags, mark_keeps_flags, end_mark_keeps_flags, mark_part_keeps_flags, new_part_keeps_flags}
 use Rattle.shaping_buffer.proofs.ReplacementLemmas.{replaced_keeps_flags}
 use Rattle.shaping_buffer.proofs.laws.flags_still_agree.Goals as goal
+
+pub returns-clause-join : goal.returns-clause-join
+returns-clause-join c = join_keeps_flags
 
 pub returns-clause-run_join : goal.returns-clause-run_join
 returns-clause-run_join c = run_join_keeps_flags

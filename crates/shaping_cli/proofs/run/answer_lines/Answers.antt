@@ -1,5 +1,4 @@
-use Rattle.std.proofs.Common.{rules, ◌≡◌, ◌+◌, ◌<◌, ◌≤◌, ◌++◌, [], ◌∷◌, ℕ, List, length, codes, refl, arith, inr}
-use Rattle.shaping_cli.specs.Transcript.{line_count}
+use Rattle.std.proofs.Common.{rules, ◌<◌, ◌++◌, [], ◌∷◌, length, codes, refl, arith, inr}
 use Rattle.shaping_cli.proofs.LineLemmas.{counts_one_more}
 use Rattle.shaping_cli.proofs.TranscriptLemmas.{appends_answer}
 use Rattle.shaping_cli.proofs.run.answer_lines.Goals as goal

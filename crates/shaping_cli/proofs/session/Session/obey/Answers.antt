@@ -1,4 +1,4 @@
-use Rattle.std.proofs.Common.{rules, refl}
+use Rattle.std.proofs.Common.{refl}
 use Rattle.shaping_cli.specs.Replies.{reply_text}
 use Rattle.shaping_cli.specs.Queries.{AnswersCompose}
 use Rattle.shaping_cli.proofs.session.Session.obey.Goals as goal
