@@ -1,7 +1,8 @@
 //! Tests of how values are printed by `Debug`.
 use crate::{
-    BufferFlags, GlyphExtents, GlyphPosition, GlyphPropsFlags, SerializeFlags, UnicodeProps,
-    hb_glyph_info_t, hb_unicode_general_category_t,
+    BufferFlags, CombiningClasses, Compositions, Decompositions, GlyphExtents, GlyphPosition,
+    GlyphPropsFlags, Mirrors, SerializeFlags, UnicodeProps, hb_glyph_info_t,
+    hb_unicode_general_category_t,
 };
 use std::alloc::Global;
 use std::fmt::Debug;
@@ -53,5 +54,26 @@ fn sets_are_printed_by_their_numbers(rt: HostRuntime) -> Result<(), Fail> {
 fn categories_are_printed_by_name(rt: HostRuntime) -> Result<(), Fail> {
     let letter = hb_unicode_general_category_t::LowercaseLetter;
     assert_eq!(rt; printed(rt.alloc(), &letter)?.as_str(), "LowercaseLetter");
+    Ok(())
+}
+
+#[test]
+fn tables_are_printed_by_their_rows(rt: HostRuntime) -> Result<(), Fail> {
+    assert_eq!(rt;
+        printed(rt.alloc(), &CombiningClasses::new(&[('a', 1)]))?.as_str(),
+        "Some(CombiningClasses { rows: [('a', 1)] })"
+    );
+    assert_eq!(rt;
+        printed(rt.alloc(), &Mirrors::new(&[('(', ')')]))?.as_str(),
+        "Some(Mirrors { rows: [('(', ')')] })"
+    );
+    assert_eq!(rt;
+        printed(rt.alloc(), &Compositions::new(&[(('a', 'b'), 'c')]))?.as_str(),
+        "Some(Compositions { rows: [(('a', 'b'), 'c')] })"
+    );
+    assert_eq!(rt;
+        printed(rt.alloc(), &Decompositions::new(&[('c', 'a', None)]))?.as_str(),
+        "Some(Decompositions { rows: [('c', 'a', None)] })"
+    );
     Ok(())
 }

@@ -12,7 +12,7 @@ is_horizontal_of RightToLeft = true
 is_horizontal_of TopToBottom = false
 is_horizontal_of BottomToTop = false
 
--- the text runs as coordinates rise
+-- forward, as HarfBuzz says it: from left to right or from top to bottom
 abbrev pub is_forward_of : Direction → Bool
 is_forward_of Invalid = false
 is_forward_of LeftToRight = true
@@ -51,7 +51,7 @@ direction_of script =
     else if list_any (λ tag. tag == script) either_way then None
     else Some LeftToRight
 
--- the direction that a small letter names
+-- the direction that a small letter names: `l` is 108, `r` 114, `t` 116 and `b` 98
 abbrev pub direction_by : ℕ → Option Direction
 direction_by letter =
     if letter == 108 then Some LeftToRight

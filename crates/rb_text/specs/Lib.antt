@@ -4,5 +4,6 @@ pub mod Feature
 pub mod FeatureParts
 pub mod FeatureReading
 pub mod Script
+pub mod ScriptConstants
 pub mod Tag
 pub mod TextParser

@@ -1,3 +1,4 @@
+//! The direction in which a line of text runs: as a value, by its script and by HarfBuzz's name.
 ghost use Rattle.std.specs.Prelude.{◌≡◌, ℕ, Option, not};
 ghost use Rattle.rb_text.specs.Direction.{is_horizontal_of, is_forward_of, reversed, direction_of};
 
@@ -28,21 +29,23 @@ impl Direction {
         matches!(self, Direction::LeftToRight | Direction::RightToLeft)
     }
 
-    /// The negation of [`Direction::is_horizontal`], so also true of [`Direction::Invalid`].
+    /// The negation of [`Direction::is_horizontal`], so also true of [`Direction::Invalid`], as in
+    /// rustybuzz.
     pub fn is_vertical(self) -> bool
         ensures { result ≡ not (is_horizontal_of self) }
     {
         !self.is_horizontal()
     }
 
-    /// Whether the text runs as coordinates rise: from left to right or from top to bottom.
+    /// Whether the text runs forward, as HarfBuzz says it: from left to right or from top to bottom.
     pub fn is_forward(self) -> bool
         ensures { result ≡ is_forward_of self }
     {
         matches!(self, Direction::LeftToRight | Direction::TopToBottom)
     }
 
-    /// The negation of [`Direction::is_forward`], so also true of [`Direction::Invalid`].
+    /// The negation of [`Direction::is_forward`], so also true of [`Direction::Invalid`], as in
+    /// rustybuzz.
     pub fn is_backward(self) -> bool
         ensures { result ≡ not (is_forward_of self) }
     {

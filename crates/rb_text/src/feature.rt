@@ -1,3 +1,4 @@
+//! Font features for ranges of a text, and the syntax in which HarfBuzz writes them.
 ghost use Rattle.std.specs.Prelude.{◌≡◌, ℕ, List, option_map};
 ghost use Rattle.rb_text.specs.declared.feature.Feature.{Feature as TheFeature};
 ghost use Rattle.rb_text.specs.Feature.{prefix_of, ReadsAs};
@@ -13,10 +14,10 @@ use std::str::FromStr;
 #[cfg(test)]
 mod tests;
 
-/// The `start` of a feature that reaches the whole text.
+/// The `start` of a feature that reaches the whole text, as in HarfBuzz's `hb_feature_t`.
 pub const HB_FEATURE_GLOBAL_START: u32 = 0;
 
-/// The `end` of a feature that reaches the whole text.
+/// The `end` of a feature that reaches the whole text, as in HarfBuzz's `hb_feature_t`.
 pub const HB_FEATURE_GLOBAL_END: u32 = u32::MAX;
 
 /// A font feature with its value, for a range of a text.
@@ -40,7 +41,8 @@ impl Feature {
     ghost use Rattle.std.specs.Prelude.{◌≡◌, ◌↔◌, IsTrue};
     ghost use Rattle.rb_text.specs.Feature.{start_of, end_of};
 
-    /// A feature over the clusters between two bounds.
+    /// A feature over the clusters between two bounds: the fields of HarfBuzz's `hb_feature_t`, with
+    /// the bounds read as rustybuzz reads them.
     ///
     /// An included bound is `start` or `end` as it stands. An excluded `start` gives the number
     /// after it, and an excluded `end` the number before it, or 0. No bound gives 0 and
@@ -168,12 +170,12 @@ fn tag(p: &mut TextParser<'_>) -> Option<Tag>
     ensures { tag_in p.old ≡ option_map (λ t. (t.0, p.new)) result }
 {
     p.skip_spaces();
-    let quote = p.consume_quote();
-    let tag = p.consume_tag()?;
-    if let Some(quote) = quote {
-        p.consume_byte(quote)?;
-    }
-    Some(tag)
+    let Some(quote) = p.consume_quote() else {
+        return p.consume_tag();
+    };
+    let quoted = p.consume_tag()?;
+    p.consume_byte(quote)?;
+    Some(quoted)
 }
 
 /// The start and the end of the range in brackets, or of the whole text where no `[` stands.

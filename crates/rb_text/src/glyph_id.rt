@@ -1,3 +1,4 @@
+//! Characters and glyphs, by their numbers.
 /// A character of a text: a Unicode scalar value. The name is HarfBuzz's.
 pub type hb_codepoint_t = char;
 

@@ -1,3 +1,4 @@
+//! Languages, named by tags of BCP 47.
 ghost use Rattle.std.specs.Prelude.{◌≡◌, ◌↔◌, [], map, IfOk, IsErrOf};
 ghost use Rattle.std.specs.Char.{to_ascii_lowercase};
 
@@ -34,7 +35,8 @@ impl Language {
     /// The language of a text, with its ASCII letters made small.
     ///
     /// The empty text is [`LanguageError::Invalid`], which is tested first, and
-    /// [`LanguageError::Memory`] says that there is no memory for a copy of any other.
+    /// [`LanguageError::Memory`] says that there is no memory for a copy of any other; nothing of the
+    /// text is kept then.
     pub fn from_str(alloc: Global, text: &str) -> Result<Self, LanguageError>
         ensures value { IfOk result (λ language. language ≡ map to_ascii_lowercase text.now) }
         ensures invalid { IsErrOf result LanguageError.Invalid ↔ (text.now ≡ []) }

@@ -1,6 +1,8 @@
 //! Tags, scripts, directions, languages and font features: the words that a text shaper is told in.
 #![tactic(auto)]
 
+#[cfg(test)]
+mod comparing;
 pub mod direction;
 pub mod feature;
 pub mod glyph_id;

@@ -1,3 +1,5 @@
+//! The scripts of Unicode Standard Annex 24, named by their ISO 15924 tags: a constant for each that
+//! Unicode 16 has, for mathematical notation, and for Burmese text in the Zawgyi encoding.
 ghost use Rattle.std.specs.Prelude.{◌≡◌, ℕ, Option, Some};
 ghost use Rattle.rb_text.specs.Script.{script_of, alias_of};
 
@@ -5,8 +7,11 @@ use crate::tag::Tag;
 use std::marker::Model;
 use std::str::FromStr;
 
+mod tags;
 #[cfg(test)]
 mod tests;
+
+pub use tags::constant_tags;
 
 /// A script, named by its ISO 15924 tag in title case (`Latn`).
 ///
@@ -94,8 +99,6 @@ fn alias(titled: u32) -> Option<Script>
         _ => None,
     }
 }
-
-// The scripts of Unicode, with their ISO 15924 tags.
 
 /// `Zyyy`
 pub const COMMON: Script = Script(Tag(0x5a797979));

@@ -1,3 +1,4 @@
+//! The names of four bytes that OpenType gives.
 ghost use Rattle.std.specs.Prelude.{◌≡◌, ◌↔◌, ℕ, IsTrue, codes};
 ghost use Rattle.std.specs.Int.{to_be_bytes, w32};
 ghost use Rattle.rb_text.specs.Tag.{tag_of, lossy_tag_of, uppercase_tag};

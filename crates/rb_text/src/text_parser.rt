@@ -1,3 +1,4 @@
+//! A parser of short texts, such as those of font features.
 ghost use Rattle.std.specs.Prelude.{◌≡◌, ◌==◌, ◌≤◌, ◌↔◌, ℕ, IsTrue, Bool, [], length, drop, option_map, is_some};
 ghost use Rattle.std.specs.Char.{is_ascii_whitespace, is_ascii_alphabetic, is_ascii_digit};
 ghost use Rattle.std.specs.List.{take_while, AllPass};
@@ -7,6 +8,9 @@ use crate::tag::Tag;
 use std::marker::Model;
 
 /// Reads a text from its front, byte by byte or a run of bytes at a time.
+///
+/// It has what HarfBuzz's syntax of features needs, that of `hb_feature_from_string`. A vertical
+/// tab is no space here, as in rustybuzz.
 ///
 /// A contract sees a parser as the bytes that are left. Every method that answers `None` for a
 /// byte that does not stand there leaves them as they were; those that read a run say what they
@@ -80,13 +84,11 @@ impl<'a> TextParser<'a> {
         ensures found { result ≡ first_if is_quote self.old }
         ensures rest { self.new ≡ after_if is_quote self.old }
     {
-        let c = self.curr_byte()?;
-        if matches!(c, b'\'' | b'"') {
-            self.advance(1);
-            Some(c)
-        } else {
-            None
-        }
+        let Some(quote @ (b'\'' | b'"')) = self.curr_byte() else {
+            return None;
+        };
+        self.advance(1);
+        Some(quote)
     }
 
     /// Consumes and gives the longest run of next bytes for which `f` answers true.

@@ -7,7 +7,7 @@ use Rattle.std.proofs.lemmas.Bool.{cond-true, cond-false}
 use Rattle.rb_glyph.specs.declared.info.hb_glyph_info_t.{hb_glyph_info_t}
 use Rattle.shaping_buffer.specs.Parts.{map_range}
 use Rattle.shaping_buffer.specs.Clusters.{clusters, with_cluster, run_start, zero_glyph}
-use Rattle.shaping_buffer.specs.Deletion.{Sides, begins_with, is_some, last_cluster, merged, run_retold, deleted}
+use Rattle.shaping_buffer.specs.Deletion.{Sides, begins_with, is_not_empty, last_cluster, merged, run_retold, deleted}
 use Rattle.shaping_buffer.proofs.ClustersLemmas.{get_or-clusters}
 
 -- ---- neighbours
@@ -22,21 +22,21 @@ unfolding begins_with
 begins_some c [] d h = absurd (omega arith)
 begins_some c (g ∷ l) d h = refl
 
-pub some_none : (l : List hb_glyph_info_t) → length l ≡ 0 → is_some l ≡ false
-unfolding is_some
-some_none [] h = refl
-some_none (g ∷ l) h = absurd (omega arith)
+pub not_empty_none : (l : List hb_glyph_info_t) → length l ≡ 0 → is_not_empty l ≡ false
+unfolding is_not_empty
+not_empty_none [] h = refl
+not_empty_none (g ∷ l) h = absurd (omega arith)
 
-pub some_some : (l : List hb_glyph_info_t) → 0 < length l → is_some l ≡ true
-unfolding is_some
-some_some [] h = absurd (omega arith)
-some_some (g ∷ l) h = refl
+pub not_empty_some : (l : List hb_glyph_info_t) → 0 < length l → is_not_empty l ≡ true
+unfolding is_not_empty
+not_empty_some [] h = absurd (omega arith)
+not_empty_some (g ∷ l) h = refl
 
 pub last_at : (l : List hb_glyph_info_t) (d : hb_glyph_info_t) → 0 < length l → last_cluster l ≡ (get_or l (length l - 1) d).cluster
 unfolding last_cluster
 last_at l d h = get_or-clusters l (length l - 1) d (omega arith)
 
-pub ruleset neighbours = (begins_none, begins_some, some_none, some_some, last_at)
+pub ruleset neighbours = (begins_none, begins_some, not_empty_none, not_empty_some, last_at)
 
 -- ---- the trailing run
 
@@ -71,7 +71,7 @@ rest_merged marks out l l2 i h none e =
 module _ (marks : Bool) (out : List hb_glyph_info_t) (x : hb_glyph_info_t) (rest : List hb_glyph_info_t) where
   -- a neighbour has the cluster
   abbrev near : Bool
-  near = begins_with x.cluster rest || (is_some out && (last_cluster out == x.cluster))
+  near = begins_with x.cluster rest || (is_not_empty out && (last_cluster out == x.cluster))
 
   pub deleted_near : near ≡ true → deleted marks out x rest ≡ record { out = out; rest = rest }
   unfolding deleted
@@ -86,12 +86,12 @@ module _ (marks : Bool) (out : List hb_glyph_info_t) (x : hb_glyph_info_t) (rest
 
   pub deleted_behind : near ≡ false → 0 < length out → deleted marks out x rest ≡ record { out = (if nat_lt x.cluster (last_cluster out) then run_retold x.cluster x.mask out else out); rest = rest }
   unfolding deleted
-  deleted_behind h some = cond-false _ _ _ h ∙ cond-true _ _ _ (some_some out some) ∙ lowered (nat_lt x.cluster (last_cluster out)) (run_retold x.cluster x.mask out)
+  deleted_behind h some = cond-false _ _ _ h ∙ cond-true _ _ _ (not_empty_some out some) ∙ lowered (nat_lt x.cluster (last_cluster out)) (run_retold x.cluster x.mask out)
 
   pub deleted_before : near ≡ false → length out ≡ 0 → 0 < length rest → deleted marks out x rest ≡ record { out = out; rest = drop 1 (merged marks (x ∷ rest) 0 2 0) }
   unfolding deleted
-  deleted_before h none some = cond-false _ _ _ h ∙ cond-false _ _ _ (some_none out none) ∙ cond-true _ _ _ (some_some rest some)
+  deleted_before h none some = cond-false _ _ _ h ∙ cond-false _ _ _ (not_empty_none out none) ∙ cond-true _ _ _ (not_empty_some rest some)
 
   pub deleted_alone : near ≡ false → length out ≡ 0 → length rest ≡ 0 → deleted marks out x rest ≡ record { out = out; rest = rest }
   unfolding deleted
-  deleted_alone h none none2 = cond-false _ _ _ h ∙ cond-false _ _ _ (some_none out none) ∙ cond-false _ _ _ (some_none rest none2)
+  deleted_alone h none none2 = cond-false _ _ _ h ∙ cond-false _ _ _ (not_empty_none out none) ∙ cond-false _ _ _ (not_empty_none rest none2)

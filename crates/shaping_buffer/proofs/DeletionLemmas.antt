@@ -5,7 +5,7 @@ use Rattle.std.proofs.lemmas.Bool.{cond_both, cases_lt, ltb-true, ltb-false}
 use Rattle.rb_glyph.specs.declared.info.hb_glyph_info_t.{hb_glyph_info_t}
 use Rattle.shaping_buffer.specs.Parts.{map_range}
 use Rattle.shaping_buffer.specs.Clusters.{clusters, with_cluster, run_join, run_start, range_least, widened_start, widened_end, IsMonotone, IsCoarse, zero_glyph}
-use Rattle.shaping_buffer.specs.Deletion.{Sides, deleted, merged, run_retold, last_cluster, begins_with, is_some}
+use Rattle.shaping_buffer.specs.Deletion.{Sides, deleted, merged, run_retold, last_cluster, begins_with, is_not_empty}
 use Rattle.shaping_buffer.proofs.PartsLemmas.{length-map_range, map_range-before, map_range-within, map_range-append, map_range_cut}
 use Rattle.shaping_buffer.proofs.ClustersLemmas.{length-clusters, range_least_more, range_least_one}
 use Rattle.shaping_buffer.proofs.RunsLemmas.{run_start-le, run_start_more, run_start-append, widened_start_run, widened_end_plain}
@@ -74,8 +74,8 @@ joined_back out x rest some low =
     ∙ ap (λ s. s ++ f x ∷ rest) (sym (map_range_cut f out a (n + 1) (omega arith)) ∙ ap (λ b. map_range f out a b) k)
 
 -- a list that has a glyph
-pub length_some : (l : List hb_glyph_info_t) → is_some l ≡ true → 0 < length l
-unfolding is_some
+pub length_some : (l : List hb_glyph_info_t) → is_not_empty l ≡ true → 0 < length l
+unfolding is_not_empty
 length_some [] e = cc
 length_some (g ∷ l) e = omega arith
 
@@ -95,11 +95,11 @@ pub length-deleted : (marks : Bool) (out : List hb_glyph_info_t) (x : hb_glyph_i
 unfolding deleted run_retold
 length-deleted marks out x rest =
     let Q : Sides → Type 0 = λ d. (length d.out ≡ length out) × (length d.rest ≡ length rest) in
-    cond_both (begins_with x.cluster rest || (is_some out && eqb (last_cluster out) x.cluster)) _ _ Q (λ _. (refl, refl))
-    (λ _. cond_both (is_some out) _ _ Q
+    cond_both (begins_with x.cluster rest || (is_not_empty out && eqb (last_cluster out) x.cluster)) _ _ Q (λ _. (refl, refl))
+    (λ _. cond_both (is_not_empty out) _ _ Q
     (λ _. cond_both (ltb x.cluster (last_cluster out)) _ _ Q
     (λ _. (length-map_range (with_cluster x.cluster x.mask) out (run_start (clusters out) (last_cluster out) 0 (length out)) (length out) (run_start-le (clusters out) (last_cluster out) 0 (length out)), refl)) (λ _. (refl, refl)))
-    (λ _. cond_both (is_some rest) _ _ Q
+    (λ _. cond_both (is_not_empty rest) _ _ Q
     (λ _. (refl, omega (arith, length-drop 1 (merged marks (x ∷ rest) 0 2 0), length-merged marks (x ∷ rest) 0 2 0))) (λ _. (refl, refl))))
 
 -- ---- what readings and joins keep, a merge keeps
@@ -130,9 +130,9 @@ module _ (P : List hb_glyph_info_t → Type 0)
       (reads _ _ (reading_dropped (map_range (with_cluster x.cluster 0) out a (length out)) (with_cluster x.cluster 0 x) rest) l2)
 
   -- the head and the next glyph are merged, and the head then goes
-  next_keeps : (marks : Bool) (out : List hb_glyph_info_t) (x : hb_glyph_info_t) (rest : List hb_glyph_info_t) → is_some out ≡ false → is_some rest ≡ true
+  next_keeps : (marks : Bool) (out : List hb_glyph_info_t) (x : hb_glyph_info_t) (rest : List hb_glyph_info_t) → is_not_empty out ≡ false → is_not_empty rest ≡ true
       → P (out ++ x ∷ rest) → P (out ++ drop 1 (merged marks (x ∷ rest) 0 2 0))
-  unfolding is_some
+  unfolding is_not_empty
   next_keeps marks [] x [] e e2 h = cc
   next_keeps marks [] x (y ∷ ys) e e2 h =
       let l = merged marks (x ∷ y ∷ ys) 0 2 0 in
@@ -148,10 +148,10 @@ module _ (P : List hb_glyph_info_t → Type 0)
   deleted_keeps marks out x rest h =
       let Q : Sides → Type 0 = λ d. P (d.out ++ d.rest) in
       let plain : P (out ++ rest) = reads _ _ (reading_dropped out x rest) h in
-      cond_both (begins_with x.cluster rest || (is_some out && eqb (last_cluster out) x.cluster)) _ _ Q (λ _. plain)
-      (λ _. cond_both (is_some out) _ _ Q
+      cond_both (begins_with x.cluster rest || (is_not_empty out && eqb (last_cluster out) x.cluster)) _ _ Q (λ _. plain)
+      (λ _. cond_both (is_not_empty out) _ _ Q
       (λ some. cond_both (ltb x.cluster (last_cluster out)) _ _ Q (λ low. retold_keeps out x rest h (length_some out some) (ltb-true _ _ low)) (λ _. plain))
-      (λ none. cond_both (is_some rest) _ _ Q (λ more. next_keeps marks out x rest none more h) (λ _. plain)))
+      (λ none. cond_both (is_not_empty rest) _ _ Q (λ more. next_keeps marks out x rest none more h) (λ _. plain)))
 
 -- ---- order and coarse lists stay
 

@@ -11,7 +11,7 @@ use Rattle.rb_glyph.specs.declared.info.hb_glyph_info_t.{hb_glyph_info_t}
 use Rattle.shaping_buffer.specs.Parts.{part}
 use Rattle.shaping_buffer.specs.Clusters.{clusters, least, occurs, with_cluster, join, run_join, run_start, range_least, widened_start, widened_end}
 use Rattle.shaping_buffer.specs.Marks.{marked, mark, mark_others, mark_part, end_mark, ends}
-use Rattle.shaping_buffer.specs.Deletion.{Sides, merged, deleted, is_some, begins_with, last_cluster, run_retold}
+use Rattle.shaping_buffer.specs.Deletion.{Sides, merged, deleted, is_not_empty, begins_with, last_cluster, run_retold}
 use Rattle.shaping_buffer.specs.GlyphFlags.{BreakImpliesConcat, FlagsAgree}
 use Rattle.shaping_buffer.proofs.PartsLemmas.{All-map_range}
 
@@ -104,7 +104,7 @@ module _ (bits : ℕ) (safe : BreakImpliesConcat bits) where
   pub marked_keep_flags : (r : List hb_glyph_info_t) → FlagsAgree r → FlagsAgree (map (marked bits) r)
   marked_keep_flags r h = All-map Agrees (marked bits) r (All-weaker Agrees (λ g. Agrees (marked bits g)) (marked_agrees bits safe) r h)
 
-  mark_others_keeps_flags : (m : ℕ) (r : List hb_glyph_info_t) → FlagsAgree r → FlagsAgree (mark_others bits m r)
+  pub mark_others_keeps_flags : (m : ℕ) (r : List hb_glyph_info_t) → FlagsAgree r → FlagsAgree (mark_others bits m r)
   mark_others_keeps_flags m r h =
       let f : hb_glyph_info_t → hb_glyph_info_t = λ g. cond (eqb g.cluster m) g (marked bits g) in
       All-map Agrees f r
@@ -151,10 +151,10 @@ deleted_keeps_flags marks out x rest h =
     let after : FlagsAgree (x ∷ rest) = subst FlagsAgree (drop_at out (x ∷ rest) (length out) refl) (All-drop Agrees (length out) (out ++ x ∷ rest) h) in
     let behind : FlagsAgree rest = All-tail Agrees x rest after in
     let plain : FlagsAgree (out ++ rest) = All-append Agrees out rest before behind in
-    cond_both (begins_with x.cluster rest || (is_some out && eqb (last_cluster out) x.cluster)) _ _ Q (λ _. plain)
-    (λ _. cond_both (is_some out) _ _ Q
+    cond_both (begins_with x.cluster rest || (is_not_empty out && eqb (last_cluster out) x.cluster)) _ _ Q (λ _. plain)
+    (λ _. cond_both (is_not_empty out) _ _ Q
     (λ _. cond_both (ltb x.cluster (last_cluster out)) _ _ Q
     (λ _. All-append Agrees (run_retold x.cluster x.mask out) rest (run_retold_keeps_flags x.cluster x.mask out (All-head Agrees x rest after) before) behind) (λ _. plain))
-    (λ _. cond_both (is_some rest) _ _ Q
+    (λ _. cond_both (is_not_empty rest) _ _ Q
     (λ _. All-append Agrees out (drop 1 (merged marks (x ∷ rest) 0 2 0)) before (All-drop Agrees 1 (merged marks (x ∷ rest) 0 2 0) (merged_keeps_flags marks (x ∷ rest) 0 2 0 after)))
     (λ _. plain)))

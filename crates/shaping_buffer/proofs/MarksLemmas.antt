@@ -211,6 +211,10 @@ module _ (bits : ℕ) where
   unfolding with_mask marked
   masks_reset-marked g = refl
 
+  pub masks_reset-mark_others : (m : ℕ) (r : List hb_glyph_info_t) → masks_reset 0 (mark_others bits m r) ≡ masks_reset 0 r
+  unfolding masks_reset
+  masks_reset-mark_others m r = map-map_same (with_mask 0) (other bits m) (λ g. cond_both (eqb g.cluster m) g (marked bits g) (λ x. with_mask 0 x ≡ with_mask 0 g) (λ _. refl) (λ _. masks_reset-marked g)) r
+
   pub masks_reset-mark : (r : List hb_glyph_info_t) → masks_reset 0 (mark bits r) ≡ masks_reset 0 r
   unfolding masks_reset
   masks_reset-mark r = map-mark (with_mask 0) bits masks_reset-marked r

@@ -5,7 +5,7 @@ use Rattle.std.proofs.lemmas.Bool.{cases_lt, cond_both, cond-true, le-leb, eqb-t
 use Rattle.rb_glyph.specs.declared.info.hb_glyph_info_t.{hb_glyph_info_t}
 use Rattle.shaping_buffer.specs.Parts.{map_range}
 use Rattle.shaping_buffer.specs.Clusters.{clusters, occurs, least, with_cluster, run_join, run_start, range_least, widened_start, widened_end, zero_glyph}
-use Rattle.shaping_buffer.specs.Deletion.{Sides, merged, deleted, run_retold, last_cluster, begins_with, is_some}
+use Rattle.shaping_buffer.specs.Deletion.{Sides, merged, deleted, run_retold, last_cluster, begins_with, is_not_empty}
 use Rattle.shaping_buffer.proofs.PartsLemmas.{length-map_range, map_range-before, map_range-within}
 use Rattle.shaping_buffer.proofs.ClustersLemmas.{get_or-clusters, length-clusters, occurs_at, occurs_place, least-le, least-stands, least_is, range_least-le, range_least-stands}
 use Rattle.shaping_buffer.proofs.RunsLemmas.{run_start-le, run_start-all, run_start_more, run_end-all, widened_start-le, widened_end-ge, widened_start_plain, widened_start_run, widened_end_plain, widened_end_run}
@@ -189,17 +189,17 @@ stands_cases c out x rest w =
     go (suc j) h e = inr (j, omega arith, e)
 
 -- a neighbour has the cluster of x
-beside : (out : List hb_glyph_info_t) (c : ℕ) (rest : List hb_glyph_info_t) → (begins_with c rest || (is_some out && eqb (last_cluster out) c)) ≡ true → Stands c (out ++ rest)
-unfolding begins_with is_some last_cluster
+beside : (out : List hb_glyph_info_t) (c : ℕ) (rest : List hb_glyph_info_t) → (begins_with c rest || (is_not_empty out && eqb (last_cluster out) c)) ≡ true → Stands c (out ++ rest)
+unfolding begins_with is_not_empty last_cluster
 beside out c [] e =
-    let w = and_parts (is_some out) (eqb (last_cluster out) c) e in
+    let w = and_parts (is_not_empty out) (eqb (last_cluster out) c) e in
     let n : 0 < length out = length_some out w.0 in
     stands_left c out [] (length out - 1, omega arith, sym (get_or-clusters out (length out - 1) zero_glyph (omega arith)) ∙ eqb-true _ c w.1)
 beside out c (y ∷ rest) e =
-    elim (or_cases (eqb y.cluster c) (is_some out && eqb (last_cluster out) c) e) [
+    elim (or_cases (eqb y.cluster c) (is_not_empty out && eqb (last_cluster out) c) e) [
       | inl a ↦ stands_right c out (y ∷ rest) (0, omega arith, eqb-true _ c a)
       | inr a ↦
-          let w = and_parts (is_some out) (eqb (last_cluster out) c) a in
+          let w = and_parts (is_not_empty out) (eqb (last_cluster out) c) a in
           let n : 0 < length out = length_some out w.0 in
           stands_left c out (y ∷ rest) (length out - 1, omega arith, sym (get_or-clusters out (length out - 1) zero_glyph (omega arith)) ∙ eqb-true _ c w.1)
     ]
@@ -259,7 +259,7 @@ module _ (c : ℕ) (out : List hb_glyph_info_t) (x : hb_glyph_info_t) (rest : Li
       by_others (λ e. apart (omega (arith, low_out (length out - 1) (omega arith), get_or-clusters out (length out - 1) zero_glyph (omega arith))))
 
   -- a neighbour of x has its cluster
-  by_neighbour : (begins_with x.cluster rest || (is_some out && eqb (last_cluster out) x.cluster)) ≡ true → Stands c (out ++ rest)
+  by_neighbour : (begins_with x.cluster rest || (is_not_empty out && eqb (last_cluster out) x.cluster)) ≡ true → Stands c (out ++ rest)
   by_neighbour e =
       elim (cases_Bool (eqb x.cluster c)) [
         | inl is ↦ subst (λ d. Stands d (out ++ rest)) (eqb-true _ _ is) (beside out x.cluster rest e)
@@ -295,15 +295,15 @@ neither false false d e e2 = cc
 
 -- what the merge with the next glyph leaves, where nothing was put out
 by_merge : (c : ℕ) (out : List hb_glyph_info_t) (x : hb_glyph_info_t) (rest : List hb_glyph_info_t) → IsLeast c (out ++ x ∷ rest)
-    → is_some out ≡ false → is_some rest ≡ true → Stands c (out ++ drop 1 (run_join (x ∷ rest) 0 2 0))
-unfolding is_some
+    → is_not_empty out ≡ false → is_not_empty rest ≡ true → Stands c (out ++ drop 1 (run_join (x ∷ rest) 0 2 0))
+unfolding is_not_empty
 by_merge c [] x [] h e e2 = cc
 by_merge c [] x (y ∷ r) h e e2 = by_next c x y r h
 by_merge c (o ∷ out) x rest h e e2 = cc
 
 -- no glyph is left on either side
-nothing_left : (out rest : List hb_glyph_info_t) → is_some out ≡ false → is_some rest ≡ false → 0 < length (out ++ rest) → ⊥
-unfolding is_some
+nothing_left : (out rest : List hb_glyph_info_t) → is_not_empty out ≡ false → is_not_empty rest ≡ false → 0 < length (out ++ rest) → ⊥
+unfolding is_not_empty
 nothing_left [] [] e e2 h = omega arith
 nothing_left [] (y ∷ r) e e2 h = cc
 nothing_left (o ∷ out) r e e2 h = cc
@@ -314,12 +314,12 @@ pub least_stands_after_deletion : (c : ℕ) (out : List hb_glyph_info_t) (x : hb
 unfolding deleted merged
 least_stands_after_deletion c out x rest h left =
     let Q : Sides → Type 0 = λ d. Stands c (d.out ++ d.rest) in
-    cond_both (begins_with x.cluster rest || (is_some out && eqb (last_cluster out) x.cluster)) _ _ Q (λ e. by_neighbour c out x rest h e)
-    (λ apart. cond_both (is_some out) _ _ Q
+    cond_both (begins_with x.cluster rest || (is_not_empty out && eqb (last_cluster out) x.cluster)) _ _ Q (λ e. by_neighbour c out x rest h e)
+    (λ apart. cond_both (is_not_empty out) _ _ Q
     (λ some. cond_both (ltb x.cluster (last_cluster out)) _ _ Q
     (λ low. by_run c out x rest h (length_some out some) (ltb-true _ _ low))
     (λ high. by_higher c out x rest h (length_some out some) (ltb-false _ _ high) (eqb-false _ _ (neither _ _ _ apart some))))
-    (λ none. cond_both (is_some rest) _ _ Q (λ more. by_merge c out x rest h none more) (λ no_more. absurd (nothing_left out rest none no_more left))))
+    (λ none. cond_both (is_not_empty rest) _ _ Q (λ more. by_merge c out x rest h none more) (λ no_more. absurd (nothing_left out rest none no_more left))))
 
 -- so the least number is the same
 pub least-deleted : (out : List hb_glyph_info_t) (x : hb_glyph_info_t) (rest : List hb_glyph_info_t) → 0 < length (out ++ rest)

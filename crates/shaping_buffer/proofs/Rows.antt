@@ -3,7 +3,7 @@ use Rattle.std.proofs.Common.{◌≡◌, ℕ, List, [], ◌∷◌, refl, map, tr
 use Rattle.rb_glyph.specs.declared.info.hb_glyph_info_t.{hb_glyph_info_t}
 use Rattle.shaping_buffer.specs.Clusters.{zero_glyph, least, with_cluster, join, run_start, run_end, range_least, widened_start, widened_end, run_join}
 use Rattle.shaping_buffer.specs.Marks.{marked, mark, mark_part, ends, end_mark, ends_least}
-use Rattle.shaping_buffer.specs.Deletion.{merged, deleted, is_some, begins_with, last_cluster, run_retold}
+use Rattle.shaping_buffer.specs.Deletion.{merged, deleted, is_not_empty, begins_with, last_cluster, run_retold}
 use Rattle.shaping_buffer.specs.Replacement.{replaced}
 use Rattle.shaping_buffer.specs.Masks.{with_mask, masks_reset, with_bits, masks_set}
 
@@ -62,19 +62,19 @@ join_reaches_each_equal_number = refl
 -- ---- deletion
 
 next_glyph_takes_a_lower_cluster : deleted false [] (glyph 0 0) (plain (1 ∷ 2 ∷ [])) ≡ record { out = []; rest = plain (0 ∷ 2 ∷ []) }
-unfolding deleted begins_with last_cluster is_some merged run_join range_least widened_start widened_end run_start run_end least with_cluster
+unfolding deleted begins_with last_cluster is_not_empty merged run_join range_least widened_start widened_end run_start run_end least with_cluster
 next_glyph_takes_a_lower_cluster = refl
 
 last_glyph_takes_cluster_and_flags : deleted false (glyph 5 0 ∷ []) (glyph 3 1) (plain (2 ∷ [])) ≡ record { out = glyph 3 1 ∷ []; rest = plain (2 ∷ []) }
-unfolding deleted begins_with last_cluster is_some run_retold run_start with_cluster
+unfolding deleted begins_with last_cluster is_not_empty run_retold run_start with_cluster
 last_glyph_takes_cluster_and_flags = refl
 
 trailing_run_takes_the_cluster : deleted false (plain (3 ∷ 3 ∷ [])) (glyph 2 0) (plain (1 ∷ [])) ≡ record { out = plain (2 ∷ 2 ∷ []); rest = plain (1 ∷ []) }
-unfolding deleted begins_with last_cluster is_some run_retold run_start with_cluster
+unfolding deleted begins_with last_cluster is_not_empty run_retold run_start with_cluster
 trailing_run_takes_the_cluster = refl
 
 higher_cluster_is_lost : deleted false (plain (0 ∷ [])) (glyph 5 0) (plain (1 ∷ [])) ≡ record { out = plain (0 ∷ []); rest = plain (1 ∷ []) }
-unfolding deleted begins_with last_cluster is_some
+unfolding deleted begins_with last_cluster is_not_empty
 higher_cluster_is_lost = refl
 
 -- ---- replacement
@@ -91,7 +91,7 @@ unfolding merged mark marked least
 merge_marks = refl
 
 deletion_by_a_merge_that_marks : deleted true [] (glyph 0 0) (plain (1 ∷ [])) ≡ record { out = []; rest = glyph 1 3 ∷ [] }
-unfolding deleted begins_with last_cluster is_some merged mark marked least
+unfolding deleted begins_with last_cluster is_not_empty merged mark marked least
 deletion_by_a_merge_that_marks = refl
 
 -- ---- marks
@@ -108,9 +108,9 @@ marks_before_the_least_cluster : end_mark 3 (plain (4 ∷ 3 ∷ 3 ∷ 1 ∷ []))
 unfolding end_mark mark_part marked ends least
 marks_before_the_least_cluster = refl
 
-marks_against_tatweel : end_mark 4 (plain (0 ∷ 1 ∷ 2 ∷ [])) ≡ (glyph 0 0 ∷ glyph 1 4 ∷ glyph 2 4 ∷ [])
+marks_safe_for_tatweel : end_mark 4 (plain (0 ∷ 1 ∷ 2 ∷ [])) ≡ (glyph 0 0 ∷ glyph 1 4 ∷ glyph 2 4 ∷ [])
 unfolding end_mark mark_part marked ends least
-marks_against_tatweel = refl
+marks_safe_for_tatweel = refl
 
 marks_all_outside_the_least_cluster : mark 3 (plain (2 ∷ 1 ∷ 3 ∷ 1 ∷ [])) ≡ (glyph 2 3 ∷ glyph 1 0 ∷ glyph 3 3 ∷ glyph 1 0 ∷ [])
 unfolding mark marked least

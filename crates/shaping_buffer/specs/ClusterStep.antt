@@ -81,11 +81,11 @@ abbrev pub on_input : (List hb_glyph_info_t → List hb_glyph_info_t) → ℕ �
 on_input f a b s = take (input_place s a) s.input ++ f (part s.input (input_place s a) (input_place s b)) ++ drop (input_place s b) s.input
 
 -- another input, or other sides
-abbrev pub with_input : List hb_glyph_info_t → State → State
-with_input l s = record s { input = l }
+abbrev pub with_new_input : List hb_glyph_info_t → State → State
+with_new_input l s = record s { input = l }
 
-abbrev pub with_sides : List hb_glyph_info_t → List hb_glyph_info_t → State → State
-with_sides out input s = record s { out = out; input = input }
+abbrev pub with_new_sides : List hb_glyph_info_t → List hb_glyph_info_t → State → State
+with_new_sides out input s = record s { out = out; input = input }
 
 -- there are glyph flags
 abbrev pub flagged : State → State
@@ -93,7 +93,7 @@ flagged s = record s { scratch_flags = bit_or s.scratch_flags 32 }
 
 -- a scan of the input from a up to b
 abbrev pub scan : ℕ → ℕ → ℕ → State → State
-scan bits a b s = with_input (on_input (scanned (marks_merges s) bits) a b s) (flagged s)
+scan bits a b s = with_new_input (on_input (scanned (marks_merges s) bits) a b s) (flagged s)
 
 -- a plain scan does nothing where there are fewer than two glyphs
 abbrev pub plain_scan : ℕ → ℕ → ℕ → State → State
@@ -111,15 +111,15 @@ abbrev pub scanned_input : ℕ → ℕ → ℕ → State → List hb_glyph_info_
 scanned_input bits a b s = scanned_part (marks_merges s) bits (sides_least a b s) (take (b - s.idx) s.input) ++ drop (b - s.idx) s.input
 
 abbrev pub scan_sides : ℕ → ℕ → ℕ → State → State
-scan_sides bits a b s = with_sides (scanned_out bits a b s) (scanned_input bits a b s) (flagged s)
+scan_sides bits a b s = with_new_sides (scanned_out bits a b s) (scanned_input bits a b s) (flagged s)
 
 -- the bits for all glyphs of the input from a up to b
 abbrev pub flag_all : ℕ → ℕ → ℕ → State → State
-flag_all bits a b s = with_input (on_input (map (marked bits)) a b s) (flagged s)
+flag_all bits a b s = with_new_input (on_input (map (marked bits)) a b s) (flagged s)
 
 -- the bits for all glyphs of both parts: the out side from a, and the input from the cursor up to b
 abbrev pub flag_sides : ℕ → ℕ → ℕ → State → State
-flag_sides bits a b s = with_sides (map_range (marked bits) s.out a (length s.out)) (map_range (marked bits) s.input 0 (b - s.idx)) (flagged s)
+flag_sides bits a b s = with_new_sides (map_range (marked bits) s.out a (length s.out)) (map_range (marked bits) s.input 0 (b - s.idx)) (flagged s)
 
 -- whether a flag of the buffer is on
 abbrev pub asks : ℕ → State → Bool

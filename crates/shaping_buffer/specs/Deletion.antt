@@ -16,15 +16,17 @@ merged marks l p q floor =
     if marks then (if nat_lt (q - p) 2 then l else take p l ++ mark 3 (part l p q) ++ drop q l)
     else run_join l p q floor
 
-unfoldable pub is_some : List hb_glyph_info_t → Bool
-is_some [] = false
-is_some (g ∷ l) = true
+-- the list has a glyph
+unfoldable pub is_not_empty : List hb_glyph_info_t → Bool
+is_not_empty [] = false
+is_not_empty (g ∷ l) = true
 
 -- the list begins with cluster c
 unfoldable pub begins_with : ℕ → List hb_glyph_info_t → Bool
 begins_with c [] = false
 begins_with c (g ∷ l) = g.cluster == c
 
+-- the cluster of the last glyph
 unfoldable pub last_cluster : List hb_glyph_info_t → ℕ
 last_cluster l = slice_index (clusters l) (length l - 1)
 
@@ -36,9 +38,9 @@ run_retold c w l = map_range (with_cluster c w) l (run_start (clusters l) (last_
 -- takes its cluster and flags, if that is a lower one. Else, with nothing put out, it is first merged with the next glyph.
 unfoldable pub deleted : Bool → List hb_glyph_info_t → hb_glyph_info_t → List hb_glyph_info_t → Sides
 deleted marks out x rest =
-    if begins_with x.cluster rest || (is_some out && (last_cluster out == x.cluster)) then record { out = out; rest = rest }
-    else (if is_some out then
+    if begins_with x.cluster rest || (is_not_empty out && (last_cluster out == x.cluster)) then record { out = out; rest = rest }
+    else (if is_not_empty out then
     (if nat_lt x.cluster (last_cluster out) then record { out = run_retold x.cluster x.mask out; rest = rest }
     else record { out = out; rest = rest })
-    else (if is_some rest then record { out = out; rest = drop 1 (merged marks (x ∷ rest) 0 2 0) }
+    else (if is_not_empty rest then record { out = out; rest = drop 1 (merged marks (x ∷ rest) 0 2 0) }
     else record { out = out; rest = rest }))

@@ -24,12 +24,12 @@ unlimited after = record { done = true; state = after }
 abbrev pub refused : State → Outcome
 refused s = record { done = false; state = s }
 
--- What came of a cursor call: its outcome, or want of memory. Want of memory hides no refusal, and changes nothing.
+-- What came of a cursor call: its outcome, or want of memory, which comes with an output open alone, hides no refusal and changes nothing.
 abbrev pub Meets : Outcome → State → Result Bool AllocError → State → Type 0
 Meets outcome old (Ok done) new = (done ≡ outcome.done) × (new ≡ outcome.state)
-Meets outcome old (Err e) new = (outcome.done ≡ true) × (new ≡ old)
+Meets outcome old (Err e) new = (old.is_open ≡ true) × (outcome.done ≡ true) × (new ≡ old)
 
--- The same of a call that grows the list.
+-- What came of a call that grows the list: its outcome, or want of memory, which hides no refusal and changes nothing.
 abbrev pub MeetsOnList : Outcome → State → Result Bool AllocError → State → Type 0
 MeetsOnList outcome old (Ok done) new = (done ≡ outcome.done) × (new ≡ outcome.state)
 MeetsOnList outcome old (Err e) new = (outcome.done ≡ true) × (new ≡ old)

@@ -240,8 +240,9 @@ impl hb_buffer_t {
         self.post_context.as_slice()
     }
 
-    /// Empties the buffer for the next text: both sides, the contexts and what was said of the text. The limits,
-    /// `flags`, `invisible` and `shaping_failed` stay.
+    /// Empties the buffer for the next text: both sides, the contexts and what was said of the text. `max_len`,
+    /// `max_ops`, `flags`, `invisible` and `shaping_failed` stay, and all else is as in a new buffer: no output, no
+    /// positions, and `successful`.
     pub fn clear(&mut self)
         ensures { self.new ≡ cleared self.old }
     {

@@ -7,13 +7,14 @@ ghost use Rattle.shaping_buffer.specs.ClusterLevel.{level_of, named_level};
 /// [`HB_BUFFER_CLUSTER_LEVEL_MONOTONE_GRAPHEMES`].
 pub type hb_buffer_cluster_level_t = u32;
 
-/// Clusters stay in order, and the characters of a grapheme share one.
+/// Merges join. A shaper that stands above first makes the characters of a grapheme one cluster; no call here does.
 pub const HB_BUFFER_CLUSTER_LEVEL_MONOTONE_GRAPHEMES: hb_buffer_cluster_level_t = 0;
 
-/// Clusters stay in order, and each character begins in one of its own.
+/// Merges join. A shaper that stands above leaves each character in its own cluster.
 pub const HB_BUFFER_CLUSTER_LEVEL_MONOTONE_CHARACTERS: hb_buffer_cluster_level_t = 1;
 
-/// Clusters are not merged, and may stand in any order.
+/// Merges mark glyphs as unsafe to break instead, and clusters may stand in any order. A deletion may still hand its
+/// cluster on.
 pub const HB_BUFFER_CLUSTER_LEVEL_CHARACTERS: hb_buffer_cluster_level_t = 2;
 
 /// The level where nothing else is said.
@@ -23,12 +24,13 @@ pub const HB_BUFFER_CLUSTER_LEVEL_DEFAULT: hb_buffer_cluster_level_t =
 /// How far clusters are merged, by name.
 #[derive(Clone, Copy, PartialEq, Eq, Hash, Debug, Default)]
 pub enum BufferClusterLevel {
-    /// Clusters stay in order, and the characters of a grapheme share one.
+    /// Merges join. A shaper that stands above first makes the characters of a grapheme one cluster; no call here does.
     #[default]
     MonotoneGraphemes,
-    /// Clusters stay in order, and each character begins in one of its own.
+    /// Merges join. A shaper that stands above leaves each character in its own cluster.
     MonotoneCharacters,
-    /// Clusters are not merged, and may stand in any order.
+    /// Merges mark glyphs as unsafe to break instead, and clusters may stand in any order. A deletion may still hand
+    /// its cluster on.
     Characters,
 }
 

@@ -2,7 +2,7 @@
 
 ghost use Rattle.std.specs.Prelude.{not, ◌≡◌, ℕ, ◌+◌, ◌-◌, ◌<◌, ◌≤◌, ◌==◌, ◌&&◌, ◌||◌, ◌++◌, List, length, take, drop, nat_lt, slice_index_or, if◌then◌else◌};
 ghost use Rattle.shaping_buffer.specs.Clusters.{zero_glyph};
-ghost use Rattle.shaping_buffer.specs.Deletion.{begins_with, is_some, last_cluster, merged, run_retold, deleted};
+ghost use Rattle.shaping_buffer.specs.Deletion.{begins_with, is_not_empty, last_cluster, merged, run_retold, deleted};
 
 use crate::joining::{merge_or_mark, set_range};
 use crate::merge_range::run_start_before;
@@ -19,7 +19,7 @@ fn first_is_in(info: &[hb_glyph_info_t], cluster: u32) -> bool
 /// Whether the last glyph is in the cluster.
 #[tactic(auto, using(crate::proofs::DeletingLemmas::neighbours))]
 fn last_is_in(info: &[hb_glyph_info_t], cluster: u32) -> bool
-    ensures { result ≡ (is_some info.now && (last_cluster info.now == cluster)) }
+    ensures { result ≡ (is_not_empty info.now && (last_cluster info.now == cluster)) }
 {
     !info.is_empty() && info[info.len() - 1].cluster == cluster
 }
@@ -32,7 +32,7 @@ fn has_neighbour_in_cluster(
 ) -> bool
     requires { cursor < length info.now }
     ensures { result
-        ≡ (begins_with (slice_index_or info.now cursor zero_glyph).cluster (drop (cursor + 1) info.now) || (is_some out.now && (last_cluster out.now == (slice_index_or info.now cursor zero_glyph).cluster))) }
+        ≡ (begins_with (slice_index_or info.now cursor zero_glyph).cluster (drop (cursor + 1) info.now) || (is_not_empty out.now && (last_cluster out.now == (slice_index_or info.now cursor zero_glyph).cluster))) }
 {
     let cluster = info[cursor].cluster;
     first_is_in(&info[cursor + 1..], cluster) || last_is_in(out, cluster)

@@ -71,7 +71,8 @@ impl GlyphBuffer {
         self.buffer.pos()
     }
 
-    /// An empty text in the same storage. The limit stays.
+    /// An empty text, as rustybuzz makes it. The buffer's `max_len`, `max_ops`, `flags`, `invisible` and
+    /// `shaping_failed` stay, and all else is as in a new text.
     pub fn clear(self) -> UnicodeBuffer
         ensures { result ≡ cleared self }
     {
@@ -80,8 +81,10 @@ impl GlyphBuffer {
         UnicodeBuffer::of_cleared(buffer)
     }
 
-    /// The glyphs as a text, in the format of HarfBuzz's `hb_buffer_serialize_glyphs`: `id=cluster@x,y+advance`
-    /// for each, joined by `|`. It asks `NO_GLYPH_NAMES`, alone or with `NO_POSITIONS`.
+    /// The glyphs as a text, in rustybuzz's form of the format of HarfBuzz's `hb_buffer_serialize_glyphs`, with no
+    /// brackets around: `id=cluster` for each, then `@x,y` unless both offsets are 0, `+x`, and `,y` unless that advance
+    /// is 0 (neither offset nor advance under `NO_POSITIONS`), joined by `|`. It asks `NO_GLYPH_NAMES`, alone or with
+    /// `NO_POSITIONS`. `Err(AllocError)` where memory ran out: then there is no text.
     pub fn serialize<F: GlyphNames>(
         &self,
         alloc: Global,

@@ -7,14 +7,17 @@ ghost use Rattle.shaping_buffer.specs.Deletion.{merged};
 
 use crate::marking::scan_range;
 use crate::merge_range::merge_range;
-use rb_glyph::hb_glyph_info_t;
+use rb_glyph::{glyph_flag, hb_glyph_info_t};
+
+/// What `unsafe_to_break` and a merge that marks add: text that is unsafe to break is unsafe to join, too.
+pub(crate) const BREAK_BITS: u32 = glyph_flag::UNSAFE_TO_BREAK | glyph_flag::UNSAFE_TO_CONCAT;
 
 /// Puts the glyph into a cluster. Where that changes its cluster, its defined flags become those of `mask`.
 pub(crate) fn set_cluster(info: &mut hb_glyph_info_t, cluster: u32, mask: u32)
     ensures { info.new ≡ with_cluster cluster mask info.old }
 {
     if info.cluster != cluster {
-        info.mask = (info.mask & !7) | (mask & 7);
+        info.mask = (info.mask & !glyph_flag::DEFINED) | (mask & glyph_flag::DEFINED);
         info.cluster = cluster;
     }
 }
@@ -127,7 +130,7 @@ pub(crate) fn merge_or_mark(
     let len = out.len();
     let from = cursor + (start - len);
     let to = cursor + (end - len);
-    scan_range(info, from, to, 3, true);
+    scan_range(info, from, to, BREAK_BITS, true);
 }
 
 #[cfg(test)]

@@ -1,17 +1,19 @@
-//! Laws of the definitions of joins, marks, deletion and replacement.
+//! Laws of the definitions of joins, marks, deletion, replacement and `sync`.
 //!
-//! Each function here is empty. Its contract is a fact of the definitions that the contracts of a
-//! buffer's calls name, and holds for every list of glyphs.
+//! Each function here is empty. Its contract is a fact of definitions, those that the contracts of a
+//! buffer's calls name among them, and holds for every list of glyphs.
 
-ghost use Rattle.std.specs.Prelude.{◌≡◌, ◌⊎◌, ◌↔◌, ℕ, ◌+◌, ◌<◌, ◌≤◌, ◌++◌, Bool, true, false, List, ◌∷◌, length, map, take, drop, slice_index, slice_index_or};
+ghost use Rattle.std.specs.Prelude.{◌≡◌, ◌⊎◌, ◌↔◌, ℕ, ◌+◌, ◌<◌, ◌≤◌, ◌++◌, Bool, true, false, List, [], ◌∷◌, length, map, take, drop, slice_index, slice_index_or};
 ghost use Rattle.rb_glyph.specs.declared.info.hb_glyph_info_t.{hb_glyph_info_t};
 ghost use Rattle.shaping_buffer.specs.Parts.{part};
 ghost use Rattle.shaping_buffer.specs.Clusters.{clusters, least, occurs, zero_glyph, join, run_join, IsMonotone, IsCoarse};
-ghost use Rattle.shaping_buffer.specs.Marks.{marked, mark, mark_part, end_mark, ends_least};
+ghost use Rattle.shaping_buffer.specs.Marks.{marked, mark, mark_others, mark_part, end_mark, ends_least};
 ghost use Rattle.shaping_buffer.specs.Deletion.{deleted, merged};
 ghost use Rattle.shaping_buffer.specs.Masks.{masks_reset};
 ghost use Rattle.shaping_buffer.specs.GlyphFlags.{BreakImpliesConcat, FlagsAgree};
 ghost use Rattle.shaping_buffer.specs.Replacement.{replaced};
+ghost use Rattle.shaping_buffer.specs.State.{State};
+ghost use Rattle.shaping_buffer.specs.Step as step;
 
 // ---- joins and scans on monotone clusters
 
@@ -77,6 +79,8 @@ pub fn marks_change_masks_alone()
         → masks_reset 0 (end_mark bits r) ≡ masks_reset 0 r }
     ensures part { (bits m : ℕ) (r : List hb_glyph_info_t)
         → masks_reset 0 (mark_part bits m r) ≡ masks_reset 0 r }
+    ensures others { (bits m : ℕ) (r : List hb_glyph_info_t)
+        → masks_reset 0 (mark_others bits m r) ≡ masks_reset 0 r }
     ensures range { (l new : List hb_glyph_info_t) (p q : ℕ) → p ≤ q
         → masks_reset 0 new ≡ masks_reset 0 (part l p q)
         → masks_reset 0 (take p l ++ new ++ drop q l) ≡ masks_reset 0 l }
@@ -174,6 +178,17 @@ pub fn least_cluster_stays()
         → least (clusters (replaced false l p q ids)) ≡ least (clusters l) }
 {}
 
+// ---- both sides as one list
+
+/// Where `sync` is done, the list is what was put out, and then what was left to read.
+pub fn done_sync_gives_the_list()
+    ensures list { (s : State) → (step.sync s).done ≡ true
+        → (step.sync s).state.input ≡ s.out ++ s.input }
+    ensures closed { (s : State) → (step.sync s).done ≡ true
+        → ((step.sync s).state.out ≡ []) × ((step.sync s).state.is_open ≡ false)
+        × ((step.sync s).state.idx ≡ 0) }
+{}
+
 // ---- glyph flags
 
 /// The bits that scans and the calls on concatenation add say unsafe to concatenate where they say
@@ -205,6 +220,8 @@ pub fn flags_still_agree()
         → FlagsAgree r → FlagsAgree (end_mark bits r) }
     ensures part { (bits : ℕ) → BreakImpliesConcat bits → (m : ℕ) (r : List hb_glyph_info_t)
         → FlagsAgree r → FlagsAgree (mark_part bits m r) }
+    ensures others { (bits : ℕ) → BreakImpliesConcat bits → (m : ℕ) (r : List hb_glyph_info_t)
+        → FlagsAgree r → FlagsAgree (mark_others bits m r) }
     ensures range { (l new : List hb_glyph_info_t) (p q : ℕ) → FlagsAgree l → FlagsAgree new
         → FlagsAgree (take p l ++ new ++ drop q l) }
 {}
@@ -227,6 +244,7 @@ mod tests {
         coarse_lists_stay();
         no_cluster_is_new();
         least_cluster_stays();
+        done_sync_gives_the_list();
         added_bits_agree();
         flags_still_agree();
     }

@@ -59,16 +59,19 @@ impl UnicodeBuffer {
         self.buffer.is_empty()
     }
 
-    /// Pushes the characters of a text, all or none. Each is a cluster of its own, numbered by the place of its
-    /// first byte in this text, modulo 2^32. `Ok(false)` where the text would grow too long.
+    /// Pushes the characters of a text, all or none, as HarfBuzz's `hb_buffer_add_utf8`. The cluster of each is the
+    /// place of its first byte in this text, modulo 2^32, so that a second text begins at 0 again. `Ok(false)` where
+    /// the text would grow too long: then only whether a call was refused changes. `Err(AllocError)` where memory ran
+    /// out: then nothing changed.
     pub fn push_str(&mut self, text: &str) -> Result<bool, AllocError>
         ensures { MeetsOnList (pushed text.now self.old) self.old result self.new }
     {
         self.buffer.push_str(text)
     }
 
-    /// Adds one character with a cluster, and forgets the text after it. `Ok(false)` where the text would grow too
-    /// long: then only whether a call was refused changes.
+    /// Adds one character with a cluster, and forgets the text after it, as HarfBuzz's `hb_buffer_add`. `Ok(false)`
+    /// where the text would grow too long: then only whether a call was refused changes. `Err(AllocError)` where
+    /// memory ran out: then nothing changed.
     pub fn add(&mut self, codepoint: char, cluster: u32) -> Result<bool, AllocError>
         ensures { MeetsOnList (added codepoint cluster self.old) self.old result self.new }
     {
@@ -139,7 +142,7 @@ impl UnicodeBuffer {
     }
 
     /// Fills in the script and the direction where none was said: the script of the first character that has one of
-    /// its own (Unicode Standard Annex 24), and the direction of that script, or else from left to right. The
+    /// its own (Unicode Standard Annex 24), and the direction of the text's script, or else from left to right. The
     /// language stays.
     pub fn guess_segment_properties(&mut self)
         ensures { self.new ≡ guessed self.old }
@@ -183,7 +186,8 @@ impl UnicodeBuffer {
         self.buffer.reset_clusters();
     }
 
-    /// Empties the text, and forgets its contexts and what was said of it. The limits and the flags stay.
+    /// Empties the text, and forgets its contexts, its cluster level and what was said of it, as rustybuzz does. The
+    /// buffer's `max_len`, `max_ops`, `flags`, `invisible` and `shaping_failed` stay, and all else is as in a new text.
     pub fn clear(&mut self)
         ensures { self.new ≡ cleared self.old }
     {

@@ -10,6 +10,11 @@ fault_text Read = codes "read failed"
 fault_text Write = codes "write failed"
 fault_text Memory = codes "out of memory"
 
+-- the status that the program ends with: that of the run, and 3 after a fault
+abbrev pub status_after : Result ℕ RunFault → ℕ
+status_after (Ok status) = status
+status_after (Err fault) = 3
+
 -- what ends a line
 abbrev pub is_line_feed : ℕ → Bool
 is_line_feed b = b == 10

@@ -1,10 +1,12 @@
 //! A program that edits a shaping buffer: one command a line, one answer a line.
 #![tactic(auto)]
 
+use ending::conclude;
 use run::run;
 use std::process::ExitCode;
 
 mod command;
+mod ending;
 mod query;
 mod reply;
 mod run;
@@ -12,17 +14,7 @@ mod session;
 mod state_text;
 mod words;
 
-/// The exit status after a fault.
-const FAULT: u8 = 3;
-
 fn main(rt: HostRuntime) -> ExitCode {
-    match run(rt.alloc(), rt.reader(), std::io::writer(&rt)) {
-        Ok(status) => ExitCode::from(status),
-        Err(fault) => {
-            let message = fault.message();
-            // Where standard error fails too, there is nobody left to tell.
-            let _ = eprintln!(rt; "{message}");
-            ExitCode::from(FAULT)
-        }
-    }
+    let outcome = run(rt.alloc(), rt.reader(), std::io::writer(&rt));
+    conclude(&rt, outcome)
 }

@@ -6,11 +6,11 @@ use Rattle.std.proofs.lemmas.List.{take_at, drop_at}
 use Rattle.std.proofs.lemmas.List.Elements.{All-append, All-take, All-drop, All-map, All-weaker}
 use Rattle.rb_glyph.specs.declared.info.hb_glyph_info_t.{hb_glyph_info_t}
 use Rattle.shaping_buffer.specs.Parts.{part, map_range}
-use Rattle.shaping_buffer.specs.Marks.{marked, mark_others}
+use Rattle.shaping_buffer.specs.Marks.{marked}
 use Rattle.shaping_buffer.specs.Scans.{scanned, scanned_part}
 use Rattle.shaping_buffer.specs.GlyphFlags.{BreakImpliesConcat, FlagsAgree}
 use Rattle.shaping_buffer.specs.Step.{with_id}
-use Rattle.shaping_buffer.proofs.GlyphFlagsLemmas.{flags_added, deleted_keeps_flags, merged_keeps_flags, mark_keeps_flags, end_mark_keeps_flags, mark_part_keeps_flags, marked_keep_flags, new_part_keeps_flags}
+use Rattle.shaping_buffer.proofs.GlyphFlagsLemmas.{deleted_keeps_flags, merged_keeps_flags, mark_keeps_flags, end_mark_keeps_flags, mark_others_keeps_flags, mark_part_keeps_flags, marked_keep_flags, new_part_keeps_flags}
 use Rattle.shaping_runs.proofs.Steps.{StepsKeep}
 
 abbrev Agrees : hb_glyph_info_t → Type 0
@@ -33,18 +33,11 @@ renamed_agree id l h = All-map Agrees (with_id id) l (All-weaker Agrees (λ g. A
 -- ---- marks
 
 module _ (bits : ℕ) (safe : BreakImpliesConcat bits) where
-  others_agree : (m : ℕ) (r : List hb_glyph_info_t) → FlagsAgree r → FlagsAgree (mark_others bits m r)
-  unfolding marked
-  others_agree m r h =
-      let f : hb_glyph_info_t → hb_glyph_info_t = λ g. cond (eqb g.cluster m) g (marked bits g) in
-      All-map Agrees f r
-      (All-weaker Agrees (λ g. Agrees (f g)) (λ g old. cond_both (eqb g.cluster m) g (marked bits g) Agrees (λ _. old) (λ _. flags_added g.mask bits old safe)) r h)
-
   scanned_agree : (reads_all : Bool) (r : List hb_glyph_info_t) → FlagsAgree r → FlagsAgree (scanned reads_all bits r)
   scanned_agree reads_all r h = cond_both reads_all _ _ FlagsAgree (λ _. mark_keeps_flags bits safe r h) (λ _. end_mark_keeps_flags bits safe r h)
 
   scanned_part_agree : (reads_all : Bool) (m : ℕ) (r : List hb_glyph_info_t) → FlagsAgree r → FlagsAgree (scanned_part reads_all bits m r)
-  scanned_part_agree reads_all m r h = cond_both reads_all _ _ FlagsAgree (λ _. others_agree m r h) (λ _. mark_part_keeps_flags bits safe m r h)
+  scanned_part_agree reads_all m r h = cond_both reads_all _ _ FlagsAgree (λ _. mark_others_keeps_flags bits safe m r h) (λ _. mark_part_keeps_flags bits safe m r h)
 
   marked_range_agrees : (l : List hb_glyph_info_t) (p q : ℕ) → FlagsAgree l → FlagsAgree (map_range (marked bits) l p q)
   marked_range_agrees l p q h = new_part_keeps_flags l (map (marked bits) (part l p q)) p q h (marked_keep_flags bits safe (part l p q) (part_agrees l p q h))

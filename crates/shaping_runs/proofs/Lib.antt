@@ -4,3 +4,4 @@ pub mod FlagSteps
 pub mod ReadingSteps
 pub mod RunLaws
 pub mod Rows
+pub mod Refusals

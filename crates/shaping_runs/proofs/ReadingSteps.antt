@@ -5,13 +5,12 @@ use Rattle.std.proofs.lemmas.List.{append-nil, map-append, length-map, take-appe
 use Rattle.rb_glyph.specs.declared.info.hb_glyph_info_t.{hb_glyph_info_t}
 use Rattle.shaping_buffer.specs.Parts.{part, map_range}
 use Rattle.shaping_buffer.specs.Clusters.{run_join, zero_glyph}
-use Rattle.shaping_buffer.specs.Marks.{marked, mark_others}
+use Rattle.shaping_buffer.specs.Marks.{marked}
 use Rattle.shaping_buffer.specs.Masks.{masks_reset, with_mask}
 use Rattle.shaping_buffer.specs.Scans.{scanned, scanned_part}
 use Rattle.shaping_buffer.specs.Step.{with_id}
-use Rattle.shaping_buffer.proofs.PartsLemmas.{map-map_same}
 use Rattle.shaping_buffer.proofs.ReadingsLemmas.{at, Reading, reading_alike, reading_dropped, reading_copied, reading_but_masks}
-use Rattle.shaping_buffer.proofs.MarksLemmas.{masks_reset-mark, masks_reset-mark_part, masks_reset-end_mark, masks_reset-map_marked, masks_reset-new_part}
+use Rattle.shaping_buffer.proofs.MarksLemmas.{masks_reset-mark, masks_reset-mark_others, masks_reset-mark_part, masks_reset-end_mark, masks_reset-map_marked, masks_reset-new_part}
 use Rattle.shaping_buffer.proofs.DeletionLemmas.{merged_keeps, deleted_keeps}
 use Rattle.shaping_runs.proofs.Steps.{StepsKeep}
 
@@ -66,17 +65,11 @@ module _ (id : ℕ) (out : List hb_glyph_info_t) (some : 0 < length out) where
 -- ---- masks
 
 module _ (bits : ℕ) where
-  masks_reset-others : (m : ℕ) (r : List hb_glyph_info_t) → masks_reset 0 (mark_others bits m r) ≡ masks_reset 0 r
-  unfolding masks_reset with_mask marked
-  masks_reset-others m r =
-      let f : hb_glyph_info_t → hb_glyph_info_t = λ g. cond (eqb g.cluster m) g (marked bits g) in
-      map-map_same (with_mask 0) f (λ g. cond_both (eqb g.cluster m) g (marked bits g) (λ x. with_mask 0 x ≡ with_mask 0 g) (λ _. refl) (λ _. refl)) r
-
   masks_reset-scanned : (reads_all : Bool) (r : List hb_glyph_info_t) → masks_reset 0 (scanned reads_all bits r) ≡ masks_reset 0 r
   masks_reset-scanned reads_all r = cond_both reads_all _ _ (λ l. masks_reset 0 l ≡ masks_reset 0 r) (λ _. masks_reset-mark bits r) (λ _. masks_reset-end_mark bits r)
 
   masks_reset-scanned_part : (reads_all : Bool) (m : ℕ) (r : List hb_glyph_info_t) → masks_reset 0 (scanned_part reads_all bits m r) ≡ masks_reset 0 r
-  masks_reset-scanned_part reads_all m r = cond_both reads_all _ _ (λ l. masks_reset 0 l ≡ masks_reset 0 r) (λ _. masks_reset-others m r) (λ _. masks_reset-mark_part bits m r)
+  masks_reset-scanned_part reads_all m r = cond_both reads_all _ _ (λ l. masks_reset 0 l ≡ masks_reset 0 r) (λ _. masks_reset-mark_others bits m r) (λ _. masks_reset-mark_part bits m r)
 
 -- two lists, one after the other
 masks_reset-two : (out out2 input input2 : List hb_glyph_info_t) → masks_reset 0 out2 ≡ masks_reset 0 out → masks_reset 0 input2 ≡ masks_reset 0 input → masks_reset 0 (out2 ++ input2) ≡ masks_reset 0 (out ++ input)

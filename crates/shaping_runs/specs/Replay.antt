@@ -81,14 +81,26 @@ abbrev pub answers_of : List Call → State → List Answer
 answers_of [] s = []
 answers_of (call ∷ calls) s = (turn call s).answer ∷ answers_of calls (turn call s).state
 
--- What came of one call: its turn, or want of memory, where it would have been done. Then nothing changed.
-abbrev pub GivesTurn : Turn → State → Result Answer AllocError → State → Type 0
-GivesTurn t old (Ok answer) new = (answer ≡ t.answer) × (new ≡ t.state)
-GivesTurn t old (Err e) new = (t.answer ≡ Done) × (new ≡ old)
+-- whether a call may find no memory: with an output open, those that put a glyph out, and `sync`
+abbrev pub may_want_memory : Call → State → Bool
+may_want_memory NextGlyph s = s.is_open
+may_want_memory (ReplaceGlyph g) s = s.is_open
+may_want_memory (OutputGlyph g) s = s.is_open
+may_want_memory Sync s = s.is_open
+may_want_memory _ s = false
+
+-- where a call finds no memory: it may want some, and else it would be done
+abbrev pub MayStop : Call → State → Type 0
+MayStop call s = (may_want_memory call s ≡ true) × ((turn call s).answer ≡ Done)
+
+-- What came of one call: its turn, or want of memory. Then nothing changed.
+abbrev pub GivesTurn : Call → State → Result Answer AllocError → State → Type 0
+GivesTurn call old (Ok answer) new = (answer ≡ (turn call old).answer) × (new ≡ (turn call old).state)
+GivesTurn call old (Err e) new = MayStop call old × (new ≡ old)
 
 -- The calls before it stand, the call at this place found no memory, and the answers from there on are as they were.
 pub record StopsAt (at : ℕ) (calls : List Call) (old : State) (before : List Answer) (new : State) (answers : List Answer) : Type 0 where
   pub within : at < length calls
-  pub due : IfSome (slice_get calls at) (λ call. (turn call new).answer ≡ Done)
+  pub due : IfSome (slice_get calls at) (λ call. MayStop call new)
   pub state : new ≡ after (take at calls) old
   pub told : answers ≡ answers_of (take at calls) old ++ drop at before

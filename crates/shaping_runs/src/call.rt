@@ -5,9 +5,9 @@
 pub enum Call {
     /// Opens an output. Asks that none is open.
     ClearOutput,
-    /// Puts the glyph at the cursor out. Asks a glyph there.
+    /// Puts the glyph at the cursor out; with no output open only the cursor moves. Asks a glyph there.
     NextGlyph,
-    /// Drops the glyph at the cursor. Asks a glyph there.
+    /// Drops the glyph at the cursor; with no output open only the cursor moves. Asks a glyph there.
     SkipGlyph,
     /// Puts the glyph at the cursor out under this id. Asks an output and a glyph at the cursor.
     ReplaceGlyph(u32),
@@ -24,14 +24,15 @@ pub enum Call {
     MergeClusters(usize, usize),
     /// Merges the clusters of the out side from a start to an end. Asks an output and `start <= end <= out_len`.
     MergeOutClusters(usize, usize),
-    /// Marks the input from a start (the origin) to an end (the length, to which it is cut) as unsafe to break.
-    /// Asks `start <= end`, and with an output open that the start is not before the cursor.
+    /// Marks the input's glyphs from a start (the origin) to an end (the length, to which it is cut) that a scan finds
+    /// outside the least cluster as unsafe to break and to join. Asks `start <= end`, and with an output open that the
+    /// start is not before the cursor.
     UnsafeToBreak(Option<usize>, Option<usize>),
     /// The same of the out side from a start and the input up to an end. With an output open it asks
     /// `start <= out_len` and that the end is not before the cursor, and else `start <= end`.
     UnsafeToBreakFromOutbuffer(Option<usize>, Option<usize>),
-    /// Marks the input from a start to an end as safe for a tatweel, where the buffer's flags ask for that, and else
-    /// as unsafe to break. Asks what `UnsafeToBreak` asks.
+    /// Marks the glyphs that `UnsafeToBreak` would mark as safe for a tatweel, where the buffer's flags ask for that,
+    /// and else as `UnsafeToBreak` does. Asks what `UnsafeToBreak` asks.
     SafeToInsertTatweel(Option<usize>, Option<usize>),
     /// Marks all of the input from a start to an end as unsafe to join, where the buffer's flags ask for that. Asks
     /// what `UnsafeToBreak` asks.
@@ -50,4 +51,36 @@ pub enum Answer {
     Refused,
     /// What the call asks does not hold: nothing changed.
     Outside,
+}
+
+#[cfg(test)]
+mod tests {
+    use super::*;
+    use crate::Stopped;
+    use std::test::Fail;
+
+    #[test]
+    fn calls_are_printed_by_name_with_their_arguments(rt: HostRuntime) -> Result<(), Fail> {
+        let calls = [
+            Call::ClearOutput,
+            Call::ReplaceGlyph(7),
+            Call::MergeClusters(0, 2),
+            Call::UnsafeToBreak(Some(1), None),
+        ];
+        let text = format!(in rt.alloc(); "{calls:?}")?;
+        assert_eq!(rt;
+            text.as_str(),
+            "[ClearOutput, ReplaceGlyph(7), MergeClusters(0, 2), UnsafeToBreak(Some(1), None)]"
+        );
+        Ok(())
+    }
+
+    #[test]
+    fn outcomes_are_printed_by_name(rt: HostRuntime) -> Result<(), Fail> {
+        let answer = format!(in rt.alloc(); "{:?}", Answer::Outside)?;
+        assert_eq!(rt; answer.as_str(), "Outside");
+        let stop = format!(in rt.alloc(); "{:?}", Stopped { at: 3 })?;
+        assert_eq!(rt; stop.as_str(), "Stopped { at: 3 }");
+        Ok(())
+    }
 }

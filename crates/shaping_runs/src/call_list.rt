@@ -3,7 +3,7 @@
 ghost use Rattle.std.specs.Prelude.{◌≡◌, true, length, OnOk, IfErr};
 ghost use Rattle.shaping_buffer.specs.Step.{Meets};
 ghost use Rattle.shaping_buffer.specs.ClusterStep as cluster_step;
-ghost use Rattle.shaping_runs.specs.Replay.{GivesTurn, turn, outcome_of, answers_of, after, StopsAt};
+ghost use Rattle.shaping_runs.specs.Replay.{GivesTurn, outcome_of, may_want_memory, answers_of, after, StopsAt};
 
 use crate::call::{Answer, Call};
 use shaping_buffer::hb_buffer_t;
@@ -15,6 +15,7 @@ mod tests;
 /// The call at this place found no memory.
 #[derive(Clone, Copy, PartialEq, Eq, Debug)]
 pub struct Stopped {
+    /// The place of the call in the list.
     pub at: usize,
 }
 
@@ -43,7 +44,7 @@ pub fn replay(
 
 /// Makes one call, where its condition holds.
 fn make(buffer: &mut hb_buffer_t, call: Call) -> Result<Answer, AllocError>
-    ensures { GivesTurn (turn call buffer.old) buffer.old result buffer.new }
+    ensures { GivesTurn call buffer.old result buffer.new }
 {
     if !may_be_made(buffer, call) {
         return Ok(Answer::Outside);
@@ -106,7 +107,8 @@ fn range_end(buffer: &hb_buffer_t, end: Option<usize>) -> usize
 /// Makes a call whose condition holds. `Ok(false)` where it was refused.
 fn perform(buffer: &mut hb_buffer_t, call: Call) -> Result<bool, AllocError>
     requires { Rattle.shaping_runs.specs.Replay.may_be_made call buffer.old ≡ true }
-    ensures { Meets (outcome_of call buffer.old) buffer.old result buffer.new }
+    ensures outcome { Meets (outcome_of call buffer.old) buffer.old result buffer.new }
+    ensures memory { IfErr result (λ _. may_want_memory call buffer.old ≡ true) }
 {
     match call {
         Call::ClearOutput => buffer.clear_output(),

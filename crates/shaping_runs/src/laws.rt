@@ -3,14 +3,15 @@
 //! Each function here is empty. Its contract is a fact of the definitions that the contract of
 //! [`replay`](crate::replay) names, and holds for every list of calls and every state.
 
-ghost use Rattle.std.specs.Prelude.{◌≡◌, ℕ, true, List};
+ghost use Rattle.std.specs.Prelude.{◌≡◌, ℕ, true, false, List};
 ghost use Rattle.shaping_buffer.specs.Clusters.{clusters, occurs, IsMonotone, IsCoarse};
 ghost use Rattle.shaping_buffer.specs.GlyphFlags.{FlagsAgree};
 ghost use Rattle.shaping_buffer.specs.State.{State};
 ghost use Rattle.shaping_buffer.specs.ClusterStep.{both};
+ghost use Rattle.shaping_runs.specs.declared.call.Answer.{Answer};
 ghost use Rattle.shaping_runs.specs.declared.call.Call.{Call};
 ghost use Rattle.shaping_runs.specs.HeldMerges.{HoldsNoMerge};
-ghost use Rattle.shaping_runs.specs.Replay.{after};
+ghost use Rattle.shaping_runs.specs.Replay.{after, turn};
 
 /// Where each glyph that is unsafe to break is unsafe to concatenate too, that stays so along
 /// every list of calls.
@@ -36,6 +37,16 @@ pub fn coarse_lists_stay()
         → IsCoarse (both s) → IsCoarse (both (after calls s)) }
 {}
 
+/// After a refusal for length, what says so stays along every list of calls, and each `sync` with an output open is
+/// refused and changes nothing.
+pub fn refusals_stay()
+    ensures stays { (calls : List Call) (s : State) → s.ok ≡ false → (after calls s).ok ≡ false }
+    ensures sync { (calls : List Call) (s : State) → s.ok ≡ false → (after calls s).is_open ≡ true
+        → (turn Call.Sync (after calls s)).answer ≡ Answer.Refused }
+    ensures unchanged { (calls : List Call) (s : State) → s.ok ≡ false → (after calls s).is_open ≡ true
+        → (turn Call.Sync (after calls s)).state ≡ after calls s }
+{}
+
 #[cfg(test)]
 mod tests {
     use super::*;
@@ -46,5 +57,6 @@ mod tests {
         order_stays();
         no_cluster_is_new();
         coarse_lists_stay();
+        refusals_stay();
     }
 }

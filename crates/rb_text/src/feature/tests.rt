@@ -1,3 +1,4 @@
+//! Tests of texts that are features and of texts that are none, and of new features.
 use super::*;
 use std::process::Abort;
 
@@ -61,11 +62,13 @@ fn ranges_in_brackets(rt: HostRuntime) {
             ("kern[:5]", 1, 0, 5),
             ("kern[3:5]", 1, 3, 5),
             ("kern[3]", 1, 3, 4),
+            ("kern [3]", 1, 3, 4),
             ("kern[3:5]=2", 2, 3, 5),
             ("kern[3;5]=2", 2, 3, 5),
         ],
     );
     reads_as(&rt, "aalt[3:5]=2", "aalt", 2, 3, 5);
+    are_refused(&rt, &["kern[ 3]", "kern[3 ]"]);
 }
 
 #[test]
@@ -103,6 +106,7 @@ fn spaces_and_letters(rt: HostRuntime) {
             (" kern ", 1, 0, M),
             ("kern 5", 5, 0, M),
             ("kern =5", 5, 0, M),
+            ("kern=2 ", 2, 0, M),
             ("kern off", 0, 0, M),
             ("kern=\t off", 0, 0, M),
             ("-kern on", 1, 0, M),
@@ -120,6 +124,7 @@ fn spaces_and_letters(rt: HostRuntime) {
             "kern[1] 5",
             "kern=onx",
             "kern=on1",
+            "kern= on1",
             "kern\u{b}",
         ],
     );

@@ -1,3 +1,4 @@
+//! Tests of the constants by name, of other names of a script, and of texts in any case.
 use super::*;
 use std::process::Abort;
 
@@ -296,4 +297,15 @@ fn tags_and_texts_are_read_in_any_case(rt: HostRuntime) {
     assert_eq!(rt; "ab".parse::<Script>(), Ok(UNKNOWN));
     assert_eq!(rt; "".parse::<Script>(), Err("invalid script"));
     assert_eq!(rt; Script::from_iso15924_tag(Tag::default()), None);
+}
+
+#[test]
+fn each_constant_has_its_own_tag(rt: HostRuntime) {
+    let tags = constant_tags();
+    assert_eq!(rt; tags.len(), 173);
+    assert_eq!(rt; tags.first().copied(), Some(Tag::from_bytes(b"Zyyy")));
+    for tag in tags.iter() {
+        let script = Script::from_iso15924_tag(*tag);
+        assert_eq!(rt; script.map(|script| script.tag()), Some(*tag));
+    }
 }

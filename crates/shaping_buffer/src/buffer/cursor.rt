@@ -1,4 +1,7 @@
-//! The cursor calls: glyphs are read at the cursor, and put out.
+//! The cursor calls: glyphs are read at the cursor, and put out. They are those of HarfBuzz's `hb_buffer_t`.
+//!
+//! A call that may want memory answers `Err(AllocError)` where there was none: then nothing changed. With no output
+//! open none does.
 
 ghost use Rattle.std.specs.Prelude.{◌≡◌, ◌<◌, ◌≤◌, ◌∷◌, [], true, false, length};
 ghost use Rattle.shaping_buffer.specs.State.{ahead_of};
@@ -86,7 +89,8 @@ impl hb_buffer_t {
         )
     }
 
-    /// Closes the output: the list is what was put out, and then what was left to read. It asks an output.
+    /// Closes the output: the list is what was put out, and then what was left to read, and the cursor is at its
+    /// start. It asks an output.
     /// `Ok(false)` after an earlier refusal, with nothing changed, and where both sides together are too long:
     /// then only `successful` changes.
     pub fn sync(&mut self) -> Result<bool, AllocError>

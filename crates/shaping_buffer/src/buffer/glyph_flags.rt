@@ -1,26 +1,30 @@
-//! Glyph flags: where a line may be broken, joined or stretched.
+//! Glyph flags: where a line may be broken, joined or stretched. They are HarfBuzz's `hb_glyph_flags_t`:
+//! `HB_GLYPH_FLAG_UNSAFE_TO_BREAK`, `HB_GLYPH_FLAG_UNSAFE_TO_CONCAT` and `HB_GLYPH_FLAG_SAFE_TO_INSERT_TATWEEL`, which
+//! its `hb_buffer_t` sets by these calls.
+//!
+//! The places of a range are counted from the start of the input, glyphs that were read among them, and the glyph at
+//! `end` is not part of it. In the `_from_outbuffer` calls, while an output is open, `start` is counted from the start
+//! of the out side. No call changes a cluster. A call that may have marked glyphs also sets the scratch flag
+//! `HB_BUFFER_SCRATCH_FLAG_HAS_GLYPH_FLAGS`: each says when.
 
 ghost use Rattle.std.specs.Prelude.{◌≡◌, ◌-◌, ◌≤◌, true, false, length, map};
 ghost use Rattle.shaping_buffer.specs.State.{len_of};
 ghost use Rattle.shaping_buffer.specs.ClusterStep as step;
-ghost use Rattle.shaping_buffer.specs.ClusterStep.{range_start, range_end, with_input, with_sides};
+ghost use Rattle.shaping_buffer.specs.ClusterStep.{range_start, range_end, with_new_input, with_new_sides};
 ghost use Rattle.shaping_buffer.specs.Marks.{marked};
 ghost use Rattle.shaping_buffer.specs.Parts.{map_range};
 ghost use Rattle.shaping_buffer.specs.Scans.{scanned};
 
 use super::hb_buffer_t;
-use crate::cluster_level::HB_BUFFER_CLUSTER_LEVEL_CHARACTERS;
+use crate::joining::BREAK_BITS;
 use crate::marking;
 use rb_glyph::{BufferFlags, Flags, HB_BUFFER_SCRATCH_FLAG_HAS_GLYPH_FLAGS, glyph_flag};
-
-/// What `unsafe_to_break` adds: text that is unsafe to break is unsafe to join, too.
-const BREAK_BITS: u32 = glyph_flag::UNSAFE_TO_BREAK | glyph_flag::UNSAFE_TO_CONCAT;
 
 impl hb_buffer_t {
     /// Marks the input's glyphs from `start` (the origin) to `end` (the length, to which it is cut) that are not in
     /// the least cluster as unsafe to break and to join before. At level 2, and on monotone clusters, these are all
-    /// such glyphs; else the scan goes by the clusters at the ends. It asks `start <= end`, and with an output open
-    /// that `start` is not before the cursor.
+    /// such glyphs; else the scan goes by the clusters at the ends. Of fewer than two glyphs nothing happens; else it
+    /// sets the scratch flag. It asks `start <= end`, and with an output open that `start` is not before the cursor.
     pub fn unsafe_to_break(&mut self, start: Option<usize>, end: Option<usize>)
         requires order { range_start start ≤ range_end end self.old }
         requires past_cursor { self.old.is_open ≡ true → self.old.idx ≤ range_start start }
@@ -30,7 +34,8 @@ impl hb_buffer_t {
     }
 
     /// The same over both sides while an output is open: the out side from `start` and the input from the cursor to
-    /// `end`. It asks then `start <= out_len` and that `end` is not before the cursor, and else `start <= end`.
+    /// `end`. It always sets the scratch flag. It asks with an output open `start <= out_len` and that `end` is not
+    /// before the cursor, and else `start <= end`.
     pub fn unsafe_to_break_from_outbuffer(&mut self, start: Option<usize>, end: Option<usize>)
         requires order { self.old.is_open ≡ false → range_start start ≤ range_end end self.old }
         requires from_out { self.old.is_open ≡ true → range_start start ≤ length self.old.out }
@@ -39,7 +44,7 @@ impl hb_buffer_t {
     {
         let from = start.unwrap_or(0);
         let to = self.range_end(end);
-        self.scratch_flags |= HB_BUFFER_SCRATCH_FLAG_HAS_GLYPH_FLAGS;
+        self.tell_glyph_flags();
         if self.have_output {
             self.scan_sides(BREAK_BITS, from, to);
         } else {
@@ -48,16 +53,14 @@ impl hb_buffer_t {
     }
 
     /// Marks the glyphs that `unsafe_to_break` would mark: as places where a tatweel may be put in, if the flag
-    /// `PRODUCE_SAFE_TO_INSERT_TATWEEL` asks for that, and else as unsafe to break. It asks the same.
+    /// `PRODUCE_SAFE_TO_INSERT_TATWEEL` asks for that, and else as unsafe to break. It sets the scratch flag in the
+    /// same cases, and asks the same.
     pub fn safe_to_insert_tatweel(&mut self, start: Option<usize>, end: Option<usize>)
         requires order { range_start start ≤ range_end end self.old }
         requires past_cursor { self.old.is_open ≡ true → self.old.idx ≤ range_start start }
         ensures { self.new ≡ step.tatweel_safe start end self.old }
     {
-        let bits = if self
-            .flags
-            .contains(BufferFlags::PRODUCE_SAFE_TO_INSERT_TATWEEL)
-        {
+        let bits = if self.asks(BufferFlags::PRODUCE_SAFE_TO_INSERT_TATWEEL) {
             glyph_flag::SAFE_TO_INSERT_TATWEEL
         } else {
             BREAK_BITS
@@ -66,38 +69,54 @@ impl hb_buffer_t {
     }
 
     /// Marks all the input's glyphs from `start` to `end` as unsafe to join, if the flag `PRODUCE_UNSAFE_TO_CONCAT`
-    /// asks for that. It asks what `unsafe_to_break` asks.
+    /// asks for that. Then it sets the scratch flag, whatever the range, and else nothing changes. It asks what
+    /// `unsafe_to_break` asks.
     pub fn unsafe_to_concat(&mut self, start: Option<usize>, end: Option<usize>)
         requires order { range_start start ≤ range_end end self.old }
         requires past_cursor { self.old.is_open ≡ true → self.old.idx ≤ range_start start }
         ensures { self.new ≡ step.concat_unsafe start end self.old }
     {
-        if !self.flags.contains(BufferFlags::PRODUCE_UNSAFE_TO_CONCAT) {
+        if !self.asks(BufferFlags::PRODUCE_UNSAFE_TO_CONCAT) {
             return;
         }
         let to = self.range_end(end);
-        self.scratch_flags |= HB_BUFFER_SCRATCH_FLAG_HAS_GLYPH_FLAGS;
+        self.tell_glyph_flags();
         self.flag_input(glyph_flag::UNSAFE_TO_CONCAT, start.unwrap_or(0), to);
     }
 
-    /// The same over both sides while an output is open. It asks what `unsafe_to_break_from_outbuffer` asks.
+    /// The same over both sides while an output is open: the out side from `start` and the input from the cursor to
+    /// `end`. It asks what `unsafe_to_break_from_outbuffer` asks.
     pub fn unsafe_to_concat_from_outbuffer(&mut self, start: Option<usize>, end: Option<usize>)
         requires order { self.old.is_open ≡ false → range_start start ≤ range_end end self.old }
         requires from_out { self.old.is_open ≡ true → range_start start ≤ length self.old.out }
         requires past_cursor { self.old.is_open ≡ true → self.old.idx ≤ range_end end self.old }
         ensures { self.new ≡ step.concat_unsafe_sides start end self.old }
     {
-        if !self.flags.contains(BufferFlags::PRODUCE_UNSAFE_TO_CONCAT) {
+        if !self.asks(BufferFlags::PRODUCE_UNSAFE_TO_CONCAT) {
             return;
         }
         let from = start.unwrap_or(0);
         let to = self.range_end(end);
-        self.scratch_flags |= HB_BUFFER_SCRATCH_FLAG_HAS_GLYPH_FLAGS;
+        self.tell_glyph_flags();
         if self.have_output {
             self.flag_sides(glyph_flag::UNSAFE_TO_CONCAT, from, to);
         } else {
             self.flag_input(glyph_flag::UNSAFE_TO_CONCAT, from, to);
         }
+    }
+
+    /// Says that there are glyph flags.
+    pub(super) fn tell_glyph_flags(&mut self)
+        ensures { self.new ≡ step.flagged self.old }
+    {
+        self.scratch_flags |= HB_BUFFER_SCRATCH_FLAG_HAS_GLYPH_FLAGS;
+    }
+
+    /// Whether the buffer's flags ask for this.
+    fn asks(&self, flag: BufferFlags) -> bool
+        ensures { result ≡ step.asks flag.0 self.now }
+    {
+        self.flags.contains(flag)
     }
 
     /// A scan of the input from `start` to `end`, unless there are fewer than two glyphs.
@@ -111,7 +130,7 @@ impl hb_buffer_t {
         if to - from < 2 {
             return;
         }
-        self.scratch_flags |= HB_BUFFER_SCRATCH_FLAG_HAS_GLYPH_FLAGS;
+        self.tell_glyph_flags();
         self.scan_input(bits, from, to);
     }
 
@@ -129,9 +148,9 @@ impl hb_buffer_t {
         requires order { from ≤ to }
         requires within { to ≤ len_of self.old }
         requires past_cursor { self.old.is_open ≡ true → self.old.idx ≤ from }
-        ensures { self.new ≡ with_input (step.on_input (scanned (step.marks_merges self.old) bits) from to self.old) self.old }
+        ensures { self.new ≡ with_new_input (step.on_input (scanned (step.marks_merges self.old) bits) from to self.old) self.old }
     {
-        let reads_all = self.cluster_level == HB_BUFFER_CLUSTER_LEVEL_CHARACTERS;
+        let reads_all = self.marks_merges();
         if self.have_output {
             let cursor = self.cursor;
             marking::scan_input(
@@ -153,9 +172,9 @@ impl hb_buffer_t {
         requires from_out { from ≤ length self.old.out }
         requires past_cursor { self.old.idx ≤ to }
         requires within { to ≤ len_of self.old }
-        ensures { self.new ≡ with_sides (step.scanned_out bits from to self.old) (step.scanned_input bits from to self.old) self.old }
+        ensures { self.new ≡ with_new_sides (step.scanned_out bits from to self.old) (step.scanned_input bits from to self.old) self.old }
     {
-        let reads_all = self.cluster_level == HB_BUFFER_CLUSTER_LEVEL_CHARACTERS;
+        let reads_all = self.marks_merges();
         let cursor = self.cursor;
         let count = to - cursor;
         marking::scan_parts(
@@ -174,7 +193,7 @@ impl hb_buffer_t {
         requires order { from ≤ to }
         requires within { to ≤ len_of self.old }
         requires past_cursor { self.old.is_open ≡ true → self.old.idx ≤ from }
-        ensures { self.new ≡ with_input (step.on_input (map (marked bits)) from to self.old) self.old }
+        ensures { self.new ≡ with_new_input (step.on_input (map (marked bits)) from to self.old) self.old }
     {
         if self.have_output {
             let cursor = self.cursor;
@@ -190,7 +209,7 @@ impl hb_buffer_t {
         requires from_out { from ≤ length self.old.out }
         requires past_cursor { self.old.idx ≤ to }
         requires within { to ≤ len_of self.old }
-        ensures { self.new ≡ with_sides (map_range (marked bits) self.old.out from (length self.old.out)) (map_range (marked bits) self.old.input 0 (to - self.old.idx)) self.old }
+        ensures { self.new ≡ with_new_sides (map_range (marked bits) self.old.out from (length self.old.out)) (map_range (marked bits) self.old.input 0 (to - self.old.idx)) self.old }
     {
         let out_len = self.out_info.len();
         let cursor = self.cursor;

@@ -1,4 +1,5 @@
-//! Texts and characters that are put at the end of the list.
+//! Texts and characters that are put at the end of the list, as by HarfBuzz's `hb_buffer_add_utf8` and
+//! `hb_buffer_add`.
 
 ghost use Rattle.std.specs.Prelude.{◌≡◌, ◌+◌, ◌≤◌, ◌++◌, false, None, length, vec_len, vec_capacity, chars};
 ghost use Rattle.shaping_buffer.specs.Guess.{AreCharacters};
@@ -10,7 +11,8 @@ use rb_glyph::hb_glyph_info_t;
 use std::alloc::AllocError;
 
 impl hb_buffer_t {
-    /// Pushes the characters of a text, all or none, each in a cluster of its own.
+    /// Pushes the characters of a text, all or none, each with the place of its first byte as cluster. `Ok(false)` where the list would
+    /// grow too long: then only `successful` changes. `Err(AllocError)` where memory ran out: then nothing changed.
     #[tactic(auto, using(crate::proofs::PushedLemmas::length_pushed, crate::proofs::CharactersLemmas::characters_pushed))]
     pub(crate) fn push_str(&mut self, text: &str) -> Result<bool, AllocError>
         requires closed { self.old.is_open ≡ false }
@@ -29,7 +31,8 @@ impl hb_buffer_t {
         Ok(true)
     }
 
-    /// Adds one character with a cluster, and forgets the text after it.
+    /// Adds one character with a cluster, and forgets the text after it. `Ok(false)` and `Err(AllocError)` come and
+    /// leave the buffer as those of `push_str`.
     #[tactic(auto, using(crate::proofs::CharactersLemmas::characters_added))]
     pub(crate) fn add(&mut self, codepoint: char, cluster: u32) -> Result<bool, AllocError>
         requires closed { self.old.is_open ≡ false }

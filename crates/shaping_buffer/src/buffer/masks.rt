@@ -1,4 +1,4 @@
-//! Masks of features.
+//! Masks of features, as HarfBuzz's `hb_buffer_t` sets them over the ranges of clusters of an `hb_feature_t`.
 
 ghost use Rattle.std.specs.Prelude.{◌≡◌, false};
 ghost use Rattle.shaping_buffer.specs.ClusterStep as step;

@@ -1,4 +1,8 @@
-//! Merges of clusters.
+//! Merges of clusters, as HarfBuzz's `hb_buffer_t` makes them; its manual has a chapter on clusters and their levels.
+//!
+//! The places of a range are counted from the start of the input, glyphs that were read among them
+//! (`merge_clusters`), or of the out side (`merge_out_clusters`), and the glyph at `end` is not part of it. A glyph whose
+//! cluster changes loses its glyph flags, and the others keep theirs. Of fewer than two glyphs nothing happens.
 
 ghost use Rattle.std.specs.Prelude.{◌≡◌, ◌≤◌, true, false, length};
 ghost use Rattle.shaping_buffer.specs.State.{len_of};
@@ -8,10 +12,11 @@ ghost use Rattle.shaping_buffer.specs.ClusterStep as step;
 use super::hb_buffer_t;
 use crate::cluster_level::HB_BUFFER_CLUSTER_LEVEL_CHARACTERS;
 use crate::joining;
-use rb_glyph::{HB_BUFFER_SCRATCH_FLAG_HAS_GLYPH_FLAGS, hb_glyph_info_t};
+use rb_glyph::hb_glyph_info_t;
 
 impl hb_buffer_t {
-    /// Puts a glyph into a cluster. Where that changes its cluster, its glyph flags become those of `mask`.
+    /// Puts a glyph into a cluster. Where that changes its cluster, its glyph flags, the low three bits of its mask,
+    /// become those of `mask`, and the other bits stay. Else nothing changes.
     pub fn set_cluster(info: &mut hb_glyph_info_t, cluster: u32, mask: u32)
         ensures { info.new ≡ with_cluster cluster mask info.old }
     {
@@ -19,9 +24,10 @@ impl hb_buffer_t {
     }
 
     /// Merges the clusters of the input's glyphs from `start` to `end`, and of the runs at its ends, into the least
-    /// of them. At level 2 the range is marked as unsafe to break instead. It asks `start <= end <= len`, and with
-    /// an output open that `start` is not before the cursor. With no output open the start is not widened past the
-    /// cursor.
+    /// of them; a glyph that changes its cluster loses its glyph flags. At level 2 its glyphs outside the least
+    /// cluster are marked as unsafe to break and to join instead, and the scratch flag
+    /// `HB_BUFFER_SCRATCH_FLAG_HAS_GLYPH_FLAGS` is set. Of fewer than two glyphs nothing happens. With no output open the start is not widened past the cursor. It asks `start <= end <= len`,
+    /// and with an output open that `start` is not before the cursor.
     pub fn merge_clusters(&mut self, start: usize, end: usize)
         requires order { start ≤ end }
         requires within { end ≤ len_of self.old }
@@ -30,7 +36,7 @@ impl hb_buffer_t {
     {
         let marks = self.marks_merges();
         if marks && end - start >= 2 {
-            self.scratch_flags |= HB_BUFFER_SCRATCH_FLAG_HAS_GLYPH_FLAGS;
+            self.tell_glyph_flags();
         }
         if self.have_output {
             let out_len = self.out_info.len();
@@ -60,8 +66,8 @@ impl hb_buffer_t {
     }
 
     /// Merges the clusters of the out side's glyphs from `start` to `end`, and of the runs at its ends, also into
-    /// the input, into the least of them. At level 2 nothing changes. It asks an output and
-    /// `start <= end <= out_len`.
+    /// the input, into the least of them; a glyph that changes its cluster loses its glyph flags. At level 2, and of
+    /// fewer than two glyphs, nothing happens. It asks an output and `start <= end <= out_len`.
     pub fn merge_out_clusters(&mut self, start: usize, end: usize)
         requires opened { self.old.is_open ≡ true }
         requires order { start ≤ end }

@@ -1,7 +1,7 @@
 ghost use Rattle.std.specs.Prelude.{◌≡◌, false};
 
 use super::*;
-use crate::glyph_lists::assert_glyphs;
+use crate::glyph_lists::{assert_glyphs, glyph};
 use crate::unicode_buffer::UnicodeBuffer;
 use std::process::Abort;
 use std::test::Fail;
@@ -99,6 +99,8 @@ fn the_largest_cluster_is_in_the_range_of_all(rt: HostRuntime) -> Result<(), Fai
     let mut text = UnicodeBuffer::new(rt.alloc());
     assert_eq!(rt; text.add('a', u32::MAX), Ok(true));
     let mut buffer = text.into_buffer();
+    buffer.reset_masks(5);
+    assert_glyphs(&rt, buffer.info(), &[(u32::MAX, 5)]);
     buffer.reset_masks(0);
     buffer.set_masks(8, 8, 1, u32::MAX);
     assert_glyphs(&rt, buffer.info(), &[(u32::MAX, 0)]);
@@ -119,6 +121,34 @@ fn merges_and_flags_with_no_output(rt: HostRuntime) -> Result<(), Fail> {
     buffer.unsafe_to_break(None, Some(9));
     assert_glyphs(&rt, buffer.info(), &[(0, 0), (1, 3), (1, 3), (3, 3)]);
     assert_eq!(rt; buffer.scratch_flags, 0x20);
+    Ok(())
+}
+
+#[test]
+fn a_change_of_cluster_takes_the_glyph_flags(rt: HostRuntime) {
+    let mut info = glyph(3, 31);
+    hb_buffer_t::set_cluster(&mut info, 3, 0);
+    assert_glyphs(&rt, &[info], &[(3, 31)]);
+    hb_buffer_t::set_cluster(&mut info, 1, 10);
+    assert_glyphs(&rt, &[info], &[(1, 26)]);
+}
+
+#[test]
+fn the_glyph_before_takes_a_lower_cluster_with_its_flags(rt: HostRuntime) -> Result<(), Fail> {
+    let mut text = UnicodeBuffer::new(rt.alloc());
+    assert_eq!(rt; text.add('a', 5), Ok(true));
+    assert_eq!(rt; text.add('b', 3), Ok(true));
+    assert_eq!(rt; text.add('c', 2), Ok(true));
+    let mut buffer = text.into_buffer();
+    buffer.set_masks(1, 1, 3, 4);
+    buffer.clear_output();
+    assert!(rt; buffer.lookahead_len() > 0);
+    assert_eq!(rt; buffer.next_glyph(), Ok(true));
+    assert!(rt; buffer.have_output());
+    assert!(rt; buffer.lookahead_len() > 0);
+    buffer.delete_glyph();
+    assert_glyphs(&rt, buffer.out_info(), &[(3, 1)]);
+    assert_glyphs(&rt, buffer.info(), &[(2, 0)]);
     Ok(())
 }
 

@@ -39,6 +39,10 @@ fn clusters_are_merged_with_the_runs_at_the_ends(rt: HostRuntime) {
             "push abc\nlevel 2\nclear_output\nmerge_clusters 0 2\nstate",
             "open=1 idx=0 ok=1 out=[] in=[97:0:0 98:1:3 99:2:0]",
         ),
+        (
+            "level 2\nadd 61 0\nadd 62 1\nadd 63 1\nadd 64 2\nclear_output\nnext_glyph\nnext_glyph\nmerge_out_clusters 0 2\nstate",
+            "done\nopen=1 idx=2 ok=1 out=[97:0:0 98:1:0] in=[99:1:0 100:2:0]",
+        ),
     ];
     for (lines, last) in cases {
         assert!(rt; ends_with(rt.alloc(), lines, last), "at {lines:?}");

@@ -178,6 +178,25 @@ fn unsafe_to_break_marks_both_sides(rt: HostRuntime) -> Result<(), Fail> {
 }
 
 #[test]
+fn with_no_output_a_call_on_both_sides_works_on_the_input(rt: HostRuntime) -> Result<(), Fail> {
+    let mut plain = text(rt.alloc(), &[0, 1, 2])?.into_buffer();
+    let concat = [Call::UnsafeToConcatFromOutbuffer(Some(1), Some(3))];
+    assert_eq!(rt; answers(&rt, &mut plain, concat), [Answer::Done]);
+    assert_eq!(rt; plain.scratch_flags, 0);
+    let scan = [Call::UnsafeToBreakFromOutbuffer(Some(1), Some(2))];
+    assert_eq!(rt; answers(&rt, &mut plain, scan), [Answer::Done]);
+    assert_closed(&rt, &plain, &[(97, 0, 0), (98, 1, 0), (99, 2, 0)]);
+    assert_eq!(rt; plain.scratch_flags, 0x20);
+    let mut asked = text(rt.alloc(), &[0, 1, 2])?;
+    asked.set_flags(BufferFlags::PRODUCE_UNSAFE_TO_CONCAT);
+    let mut asked = asked.into_buffer();
+    assert_eq!(rt; answers(&rt, &mut asked, concat), [Answer::Done]);
+    assert_closed(&rt, &asked, &[(97, 0, 0), (98, 1, 2), (99, 2, 2)]);
+    assert_eq!(rt; asked.scratch_flags, 0x20);
+    Ok(())
+}
+
+#[test]
 fn a_tatweel_has_a_flag_of_its_own_where_the_flags_ask_for_it(rt: HostRuntime) -> Result<(), Fail> {
     let mut plain = text(rt.alloc(), &[0, 1, 2])?.into_buffer();
     let calls = [Call::SafeToInsertTatweel(Some(0), Some(3))];

@@ -1,4 +1,4 @@
-use Rattle.shaping_buffer.proofs.GlyphFlagsLemmas.{join_keeps_flags, run_join_keeps_flags, merged_keeps_flags, deleted_keeps_flags, marked_keep_flags, mark_keeps_flags, end_mark_keeps_flags, mark_part_keeps_flags, new_part_keeps_flags}
+use Rattle.shaping_buffer.proofs.GlyphFlagsLemmas.{join_keeps_flags, run_join_keeps_flags, merged_keeps_flags, deleted_keeps_flags, marked_keep_flags, mark_keeps_flags, mark_others_keeps_flags, end_mark_keeps_flags, mark_part_keeps_flags, new_part_keeps_flags}
 use Rattle.shaping_buffer.proofs.ReplacementLemmas.{replaced_keeps_flags}
 use Rattle.shaping_buffer.proofs.laws.flags_still_agree.Goals as goal
 
@@ -28,6 +28,9 @@ returns-clause-scan c = end_mark_keeps_flags
 
 pub returns-clause-part : goal.returns-clause-part
 returns-clause-part c = mark_part_keeps_flags
+
+pub returns-clause-others : goal.returns-clause-others
+returns-clause-others c = mark_others_keeps_flags
 
 pub returns-clause-range : goal.returns-clause-range
 returns-clause-range c = new_part_keeps_flags
