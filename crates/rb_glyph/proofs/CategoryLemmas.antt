@@ -1,5 +1,6 @@
 -- The categories stand in the order of their numbers.
-use Rattle.std.proofs.Common.{◌≡◌, ◌+◌, ◌<◌, ℕ, zero, suc, Bool, true, List, [], ◌∷◌, length, get_or, ◌==◌, refl, ◌∙◌, arith}
+use Rattle.std.proofs.Common.{◌≡◌, ◌+◌, ◌<◌, ℕ, zero, suc, Bool, true, List, [], ◌∷◌, length, get_or, ◌==◌, refl, ◌∙◌}
+use Rattle.std.proofs.Common.{arith}
 use Rattle.std.specs.Prelude.{◌&&◌}
 use Rattle.std.proofs.lemmas.Bool.{and_parts, eqb-true}
 use Rattle.rb_glyph.specs.declared.category.hb_unicode_general_category_t.{hb_unicode_general_category_t}
@@ -11,14 +12,17 @@ abbrev counts_from : ℕ → List hb_unicode_general_category_t → Bool
 counts_from first [] = true
 counts_from first (category ∷ rest) = (number_of category == first) && counts_from (first + 1) rest
 
-counted : (first : ℕ) (listed : List hb_unicode_general_category_t) (n : ℕ) → counts_from first listed ≡ true → n < length listed
+counted : (first : ℕ) (listed : List hb_unicode_general_category_t) (n : ℕ) → counts_from first listed ≡ true
+    → n < length listed
     → number_of (get_or listed n Unassigned) ≡ first + n
 counted first [] n h below = absurd (omega arith)
 counted first (category ∷ rest) zero h below =
     let is : number_of category ≡ first = eqb-true (number_of category) first (and_parts _ _ h).0 in
     omega arith
 counted first (category ∷ rest) (suc n) h below =
-    let next : number_of (get_or rest n Unassigned) ≡ first + 1 + n = counted (first + 1) rest n (and_parts (number_of category == first) (counts_from (first + 1) rest) h).1 (let k : n < length rest = omega arith in k) in
+    let next : number_of (get_or rest n Unassigned) ≡ first + 1 + n =
+    counted (first + 1) rest n (and_parts (number_of category == first) (counts_from (first + 1) rest) h).1
+    (let k : n < length rest = omega arith in k) in
     omega arith
 
 pub number_of_category : (n : ℕ) → n < 30 → number_of (category_of n) ≡ n

@@ -1,5 +1,6 @@
 -- Rows that rise may be searched by bisection.
-use Rattle.std.proofs.Common.{◌≡◌, ℕ, zero, suc, ◌<◌, ◌≤◌, Bool, true, false, ◌&&◌, ◌||◌, ◌==◌, nat_lt, nat_le, List, [], ◌∷◌, length, get_or, Some, is_some, if◌then◌else◌, refl, ◌∙◌, ap, arith}
+use Rattle.std.proofs.Common.{◌≡◌, ℕ, zero, suc, ◌<◌, ◌≤◌, Bool, true, false, ◌&&◌, ◌||◌, ◌==◌, nat_lt, nat_le, List}
+use Rattle.std.proofs.Common.{[], ◌∷◌, length, get_or, Some, is_some, if◌then◌else◌, refl, ◌∙◌, ap, arith}
 use Rattle.std.specs.List.{find, list_any, list_all}
 use Rattle.std.specs.Ordering.{ordering_index, nat_cmp, is_eq, ordering_then}
 use Rattle.std.specs.declared.cmp.Ordering.{Ordering}
@@ -10,23 +11,31 @@ use Rattle.rb_glyph.specs.Tables.{pair_lt, pairs_rise}
 use Rattle.rb_glyph.specs.Search.{IsSearchable, place_of}
 use Rattle.rb_glyph.proofs.Bisection.{both, and_true, find_same}
 
-module _ {R : Type 0} (below : R → R → Bool) (joins : (a b c : R) → below a b ≡ true → below b c ≡ true → below a c ≡ true) where
+module _ {R : Type 0} (below : R → R → Bool)
+    (joins : (a b c : R) → below a b ≡ true → below b c ≡ true → below a c ≡ true) where
   -- the first row is below each later one
-  first_below : (a : R) (rows : List R) → rise below (a ∷ rows) ≡ true → (j : ℕ) (d : R) → j < length rows → below a (get_or rows j d) ≡ true
+  first_below : (a : R) (rows : List R) → rise below (a ∷ rows) ≡ true → (j : ℕ) (d : R) → j < length rows
+      → below a (get_or rows j d) ≡ true
   first_below a [] up j d in_range = absurd (omega arith)
   first_below a (b ∷ rows) up zero d in_range = (both _ _ up).0
-  first_below a (b ∷ rows) up (suc j) d in_range = joins a b _ (both _ _ up).0 (first_below b rows (both _ _ up).1 j d (omega arith))
+  first_below a (b ∷ rows) up (suc j) d in_range =
+      joins a b _ (both _ _ up).0 (first_below b rows (both _ _ up).1 j d (omega arith))
 
   -- each row is below each later one
-  far_below : (rows : List R) → rise below rows ≡ true → (i j : ℕ) (d : R) → i < j → j < length rows → below (get_or rows i d) (get_or rows j d) ≡ true
+  far_below : (rows : List R) → rise below rows ≡ true → (i j : ℕ) (d : R) → i < j → j < length rows
+      → below (get_or rows i d) (get_or rows j d) ≡ true
   far_below [] up i j d before in_range = absurd (omega arith)
   far_below (a ∷ rows) up i zero d before in_range = absurd (omega arith)
   far_below (a ∷ rows) up zero (suc j) d before in_range = first_below a rows up j d (omega arith)
   far_below (a ∷ []) up (suc i) (suc j) d before in_range = absurd (omega arith)
-  far_below (a ∷ (b ∷ rows)) up (suc i) (suc j) d before in_range = far_below (b ∷ rows) (both _ _ up).1 i j d (omega arith) (omega arith)
+  far_below (a ∷ (b ∷ rows)) up (suc i) (suc j) d before in_range =
+      far_below (b ∷ rows) (both _ _ up).1 i j d (omega arith) (omega arith)
 
   -- so a bisection serves an order that climbs from each row to those that it is below, and is `Equal` at one alone
-  searchable : (order : R → Ordering) → ((a b : R) → below a b ≡ true → (ordering_index (order a) ≤ ordering_index (order b)) × (order a ≡ Equal → order b ≡ Equal → ⊥)) → (rows : List R) → rise below rows ≡ true → IsSearchable order rows
+  searchable : (order : R → Ordering)
+      → ((a b : R) → below a b ≡ true
+      → (ordering_index (order a) ≤ ordering_index (order b)) × (order a ≡ Equal → order b ≡ Equal → ⊥))
+      → (rows : List R) → rise below rows ≡ true → IsSearchable order rows
   searchable order climb rows up = record {
     climbs = λ i j d before in_range. (climb _ _ (far_below rows up i j d before in_range)).0;
     single = λ i j d before in_range. (climb _ _ (far_below rows up i j d before in_range)).1;
@@ -37,15 +46,20 @@ module _ {R : Type 0} (below : R → R → Bool) (joins : (a b c : R) → below 
 lt_joins : (a b c : ℕ) → nat_lt a b ≡ true → nat_lt b c ≡ true → nat_lt a c ≡ true
 lt_joins a b c p q = grind (arith, nat_tests)
 
-lt_climbs : (key a b : ℕ) → nat_lt a b ≡ true → (ordering_index (nat_cmp a key) ≤ ordering_index (nat_cmp b key)) × (nat_cmp a key ≡ Equal → nat_cmp b key ≡ Equal → ⊥)
+lt_climbs : (key a b : ℕ) → nat_lt a b ≡ true
+    → (ordering_index (nat_cmp a key) ≤ ordering_index (nat_cmp b key)) ×
+    (nat_cmp a key ≡ Equal → nat_cmp b key ≡ Equal → ⊥)
 lt_climbs key a b p = (grind (arith, nat_tests), λ q r. grind (arith, nat_tests))
 
 is_eq_cmp : (a key : ℕ) → is_eq (nat_cmp a key) ≡ (a == key)
 is_eq_cmp a key = grind (arith, nat_tests)
 
 module _ {R : Type 0} (key : R → ℕ) (asked : ℕ) (rows : List R) where
-  pub keys_searchable : rise (λ a b. nat_lt (key a) (key b)) rows ≡ true → IsSearchable (λ row. nat_cmp (key row) asked) rows
-  keys_searchable up = searchable (λ a b. nat_lt (key a) (key b)) (λ a b c. lt_joins (key a) (key b) (key c)) (λ row. nat_cmp (key row) asked) (λ a b. lt_climbs asked (key a) (key b)) rows up
+  pub keys_searchable : rise (λ a b. nat_lt (key a) (key b)) rows ≡ true
+      → IsSearchable (λ row. nat_cmp (key row) asked) rows
+  keys_searchable up =
+      searchable (λ a b. nat_lt (key a) (key b)) (λ a b c. lt_joins (key a) (key b) (key c))
+      (λ row. nat_cmp (key row) asked) (λ a b. lt_climbs asked (key a) (key b)) rows up
 
   pub keys_found : find (λ row. is_eq (nat_cmp (key row) asked)) rows ≡ find (λ row. key row == asked) rows
   keys_found = find_same _ _ (λ row. is_eq_cmp (key row) asked) rows
@@ -59,7 +73,9 @@ pair_cmp a b = ordering_then (nat_cmp a.0 b.0) (nat_cmp a.1 b.1)
 pair_joins : (a b c : ℕ × ℕ) → pair_lt a b ≡ true → pair_lt b c ≡ true → pair_lt a c ≡ true
 pair_joins a b c p q = grind (arith, nat_tests)
 
-pair_climbs : (key a b : ℕ × ℕ) → pair_lt a b ≡ true → (ordering_index (pair_cmp a key) ≤ ordering_index (pair_cmp b key)) × (pair_cmp a key ≡ Equal → pair_cmp b key ≡ Equal → ⊥)
+pair_climbs : (key a b : ℕ × ℕ) → pair_lt a b ≡ true
+    → (ordering_index (pair_cmp a key) ≤ ordering_index (pair_cmp b key)) ×
+    (pair_cmp a key ≡ Equal → pair_cmp b key ≡ Equal → ⊥)
 pair_climbs key a b p = (grind (arith, nat_tests), λ q r. grind (arith, nat_tests))
 
 is_eq_pair_cmp : (a key : ℕ × ℕ) → is_eq (pair_cmp a key) ≡ (a.0 == key.0 && a.1 == key.1)
@@ -67,9 +83,12 @@ is_eq_pair_cmp a key = grind (arith, nat_tests)
 
 module _ (asked : ℕ × ℕ) (rows : List ((ℕ × ℕ) × ℕ)) where
   pub pairs_searchable : pairs_rise rows ≡ true → IsSearchable (λ row. pair_cmp row.0 asked) rows
-  pairs_searchable up = searchable (λ a b. pair_lt a.0 b.0) (λ a b c. pair_joins a.0 b.0 c.0) (λ row. pair_cmp row.0 asked) (λ a b. pair_climbs asked a.0 b.0) rows up
+  pairs_searchable up =
+      searchable (λ a b. pair_lt a.0 b.0) (λ a b c. pair_joins a.0 b.0 c.0) (λ row. pair_cmp row.0 asked)
+      (λ a b. pair_climbs asked a.0 b.0) rows up
 
-  pub pairs_found : find (λ row. is_eq (pair_cmp row.0 asked)) rows ≡ find (λ row. row.0.0 == asked.0 && row.0.1 == asked.1) rows
+  pub pairs_found : find (λ row. is_eq (pair_cmp row.0 asked)) rows
+      ≡ find (λ row. row.0.0 == asked.0 && row.0.1 == asked.1) rows
   pairs_found = find_same _ _ (λ row. is_eq_pair_cmp row.0 asked) rows
 
 -- ranges
@@ -81,27 +100,36 @@ before_range a b = nat_le a.0 a.1 && nat_lt a.1 b.0
 range_joins : (a b c : ℕ × ℕ) → before_range a b ≡ true → before_range b c ≡ true → before_range a c ≡ true
 range_joins a b c p q = grind (arith, nat_tests)
 
-range_climbs : (c : ℕ) (a b : ℕ × ℕ) → before_range a b ≡ true → (ordering_index (place_of c a) ≤ ordering_index (place_of c b)) × (place_of c a ≡ Equal → place_of c b ≡ Equal → ⊥)
+range_climbs : (c : ℕ) (a b : ℕ × ℕ) → before_range a b ≡ true
+    → (ordering_index (place_of c a) ≤ ordering_index (place_of c b)) ×
+    (place_of c a ≡ Equal → place_of c b ≡ Equal → ⊥)
 range_climbs c a b p = (grind (arith, nat_tests), λ q r. grind (arith, nat_tests))
 
 range_is_eq : (c : ℕ) (a : ℕ × ℕ) → is_eq (place_of c a) ≡ (nat_le a.0 c && nat_le c a.1)
 range_is_eq c a = grind (arith, nat_tests)
 
-ranges_rise : (ranges : List (ℕ × ℕ)) → list_all (λ r. nat_le r.0 r.1) ranges ≡ true → rise (λ a b. nat_lt a.1 b.0) ranges ≡ true → rise before_range ranges ≡ true
+ranges_rise : (ranges : List (ℕ × ℕ)) → list_all (λ r. nat_le r.0 r.1) ranges ≡ true
+    → rise (λ a b. nat_lt a.1 b.0) ranges ≡ true → rise before_range ranges ≡ true
 ranges_rise [] full up = refl
 ranges_rise (a ∷ []) full up = refl
 ranges_rise (a ∷ (b ∷ ranges)) full up =
     let f = both (nat_le a.0 a.1) (list_all (λ (r : ℕ × ℕ). nat_le r.0 r.1) (b ∷ ranges)) full in
     let u = both (nat_lt a.1 b.0) (rise (λ (x y : ℕ × ℕ). nat_lt x.1 y.0) (b ∷ ranges)) up in
-    and_true (before_range a b) (rise before_range (b ∷ ranges)) (and_true (nat_le a.0 a.1) (nat_lt a.1 b.0) f.0 u.0) (ranges_rise (b ∷ ranges) f.1 u.1)
+    and_true (before_range a b) (rise before_range (b ∷ ranges)) (and_true (nat_le a.0 a.1) (nat_lt a.1 b.0) f.0 u.0)
+    (ranges_rise (b ∷ ranges) f.1 u.1)
 
 any_found : {R : Type 0} (test : R → Bool) (rows : List R) → is_some (find test rows) ≡ list_any test rows
 any_found test [] = refl
-any_found test (x ∷ rows) = elim (test x) as (λ t. is_some (if t then Some x else find test rows) ≡ (t || list_any test rows)) [ true ↦ refl | false ↦ any_found test rows ]
+any_found test (x ∷ rows) =
+    elim (test x) as
+    (λ t. is_some (if t then Some x else find test rows) ≡
+    (t || list_any test rows)) [ true ↦ refl | false ↦ any_found test rows ]
 
 module _ (c : ℕ) (ranges : List (ℕ × ℕ)) where
   pub ranges_searchable : are_apart ranges ≡ true → IsSearchable (place_of c) ranges
-  ranges_searchable apart = searchable before_range range_joins (place_of c) (range_climbs c) ranges (ranges_rise ranges (both _ _ apart).0 (both _ _ apart).1)
+  ranges_searchable apart =
+      searchable before_range range_joins (place_of c) (range_climbs c) ranges
+      (ranges_rise ranges (both _ _ apart).0 (both _ _ apart).1)
 
   pub range_found : is_some (find (λ r. is_eq (place_of c r)) ranges) ≡ holds c ranges
   unfolding holds

@@ -52,8 +52,8 @@ unicode_table =
     (codes "CF_ZWNJ", 0x200) ∷
     (codes "CF_VS", 0x400) ∷ []
 
-unfoldable pub glyph_props_table : List Row
-glyph_props_table =
+unfoldable pub glyph_table : List Row
+glyph_table =
     (codes "BASE_GLYPH", 0x02) ∷
     (codes "LIGATURE", 0x04) ∷
     (codes "MARK", 0x08) ∷

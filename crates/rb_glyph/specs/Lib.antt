@@ -1,6 +1,7 @@
 pub mod Categories
 pub mod Category
 pub mod Characters
+pub mod Constants
 pub mod Fields
 pub mod FlagSets
 pub mod Hangul

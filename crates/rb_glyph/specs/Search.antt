@@ -6,8 +6,10 @@ use Rattle.std.specs.declared.cmp.Ordering.TheVariants.{Less, Equal, Greater}
 
 -- the rows come from below what is asked to above it, and one row at most is equal to it
 pub record IsSearchable {R : Type 0} (order : R → Ordering) (rows : List R) : Type 0 where
-  pub climbs : (i j : ℕ) (d : R) → i < j → j < length rows → ordering_index (order (slice_index_or rows i d)) ≤ ordering_index (order (slice_index_or rows j d))
-  pub single : (i j : ℕ) (d : R) → i < j → j < length rows → order (slice_index_or rows i d) ≡ Equal → ¬ (order (slice_index_or rows j d) ≡ Equal)
+  pub climbs : (i j : ℕ) (d : R) → i < j → j < length rows
+      → ordering_index (order (slice_index_or rows i d)) ≤ ordering_index (order (slice_index_or rows j d))
+  pub single : (i j : ℕ) (d : R) → i < j → j < length rows → order (slice_index_or rows i d) ≡ Equal
+      → ¬ (order (slice_index_or rows j d) ≡ Equal)
 
 -- where a range lies from the character: before it, at it or after it
 abbrev pub place_of : ℕ → ℕ × ℕ → Ordering

@@ -48,26 +48,24 @@ mod tests {
     use super::*;
 
     #[test]
-    fn first_and_last_flags(rt: HostRuntime) {
-        assert_eq!(rt; rb_flag(0), 1);
-        assert_eq!(rt; rb_flag(31), 0x8000_0000);
-        assert_eq!(rt; rb_flag64(0), 1);
-        assert_eq!(rt; rb_flag64(63), 9_223_372_036_854_775_808);
-    }
-
-    #[test]
-    fn flags_past_the_width_are_none(rt: HostRuntime) {
-        assert_eq!(rt; rb_flag_unsafe(31), 0x8000_0000);
-        assert_eq!(rt; rb_flag_unsafe(32), 0);
-        assert_eq!(rt; rb_flag64_unsafe(63), 9_223_372_036_854_775_808);
-        assert_eq!(rt; rb_flag64_unsafe(64), 0);
-    }
-
-    #[test]
-    fn ranges_have_both_ends(rt: HostRuntime) {
-        assert_eq!(rt; rb_flag_range(2, 4), 28);
-        assert_eq!(rt; rb_flag_range(5, 5), 32);
-        assert_eq!(rt; rb_flag_range(0, 31), 4_294_967_295);
-        assert_eq!(rt; rb_flag_range(31, 31), 0x8000_0000);
+    fn words_have_the_bits_that_are_named(rt: HostRuntime) {
+        let words = [
+            rb_flag(0),
+            rb_flag(31),
+            rb_flag_unsafe(31),
+            rb_flag_unsafe(32),
+            rb_flag_range(2, 4),
+            rb_flag_range(0, 31),
+        ];
+        let highest = 0x8000_0000;
+        assert_eq!(rt; words, [1, highest, highest, 0, 0x1C, 0xFFFF_FFFF]);
+        let words = [
+            rb_flag64(0),
+            rb_flag64(63),
+            rb_flag64_unsafe(63),
+            rb_flag64_unsafe(64),
+        ];
+        let highest = 0x8000_0000_0000_0000;
+        assert_eq!(rt; words, [1, highest, highest, 0]);
     }
 }

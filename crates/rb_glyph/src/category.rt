@@ -78,9 +78,9 @@ pub trait GeneralCategoryExt: Sized {
     ghost of_number: { ℕ → Self };
 
     // Whether a category is one of marks, and whether it is one of letters.
-    ghost marks: { Self → Bool };
+    ghost is_a_mark: { Self → Bool };
 
-    ghost letters: { Self → Bool };
+    ghost is_a_letter: { Self → Bool };
 
     /// The category's number in the module `hb_gc`.
     fn to_rb(&self) -> u32
@@ -94,11 +94,11 @@ pub trait GeneralCategoryExt: Sized {
 
     /// Whether the category is one of marks: spacing, enclosing or nonspacing.
     fn is_mark(&self) -> bool
-        ensures { result ≡ marks self.now };
+        ensures { result ≡ is_a_mark self.now };
 
     /// Whether the category is one of letters: lowercase, modifier, other, titlecase or uppercase.
     fn is_letter(&self) -> bool
-        ensures { result ≡ letters self.now };
+        ensures { result ≡ is_a_letter self.now };
 }
 
 impl GeneralCategoryExt for hb_unicode_general_category_t {
@@ -106,9 +106,9 @@ impl GeneralCategoryExt for hb_unicode_general_category_t {
 
     ghost of_number = { category_of };
 
-    ghost marks = { is_mark_category };
+    ghost is_a_mark = { is_mark_category };
 
-    ghost letters = { is_letter_category };
+    ghost is_a_letter = { is_letter_category };
 
     fn to_rb(&self) -> u32 {
         match *self {

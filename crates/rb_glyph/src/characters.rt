@@ -1,7 +1,9 @@
 //! What a shaper asks of a character.
 ghost use Rattle.std.specs.Prelude.{◌≡◌, ℕ, IsTrue};
 ghost use Rattle.rb_glyph.specs.Categories.{category_of_char};
-ghost use Rattle.rb_glyph.specs.Characters.{default_ignorables, variation_selectors, extended_pictographics, vertical_forms, spaces, class_changes, space_of, modified_class, changed_class};
+ghost use Rattle.rb_glyph.specs.Characters.{default_ignorables, variation_selectors, extended_pictographics};
+ghost use Rattle.rb_glyph.specs.Characters.{vertical_forms, spaces, class_changes, space_fallback};
+ghost use Rattle.rb_glyph.specs.Characters.{modified_combining_class, reordering_class};
 ghost use Rattle.rb_glyph.specs.Rows.{are_apart, keys_rise, holds, value_of};
 ghost use Rattle.rb_glyph.specs.Scripts.{script_of_char};
 
@@ -34,12 +36,12 @@ pub trait CharExt: Sized {
     /// The kind of a space, by which a font without a glyph for it makes up its width; `NOT_SPACE` for any other
     /// character.
     fn space_fallback(self) -> space_t
-        ensures { result ≡ space_of (code_point self) };
+        ensures { result ≡ space_fallback (code_point self) };
 
     /// The class that a mark is reordered by: its canonical combining class in the table, changed as the module
     /// `modified_combining_class` says; three characters have a class of their own.
     fn modified_combining_class(self, classes: &CombiningClasses) -> u8
-        ensures { result ≡ modified_class (code_point self) classes.now };
+        ensures { result ≡ modified_combining_class (code_point self) classes.now };
 
     /// The mirror image in the table, or `None` where the character has no row.
     fn mirrored(self, mirrors: &Mirrors) -> Option<char>
@@ -98,7 +100,7 @@ impl CharExt for char {
         match self {
             '\u{1a60}' | '\u{fc6}' => 254,
             '\u{f39}' => 127,
-            _ => changed(classes.class_of(self).unwrap_or(0)),
+            _ => reordering_class(classes.class_of(self).unwrap_or(0)),
         }
     }
 
@@ -169,8 +171,8 @@ pub fn character_tables_law()
 {}
 
 /// The class that marks of a canonical combining class are reordered by.
-fn changed(class: u8) -> u8
-    ensures { result ≡ changed_class class }
+fn reordering_class(class: u8) -> u8
+    ensures { result ≡ reordering_class class }
 {
     match class {
         10 => CCC10,

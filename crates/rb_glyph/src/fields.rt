@@ -37,13 +37,3 @@ pub(crate) fn write_field(word: &mut u32, from: u32, bits: u32, value: u32)
 pub fn field_law()
     ensures { FieldsKeep }
 {}
-
-#[cfg(test)]
-mod tests {
-    use super::*;
-
-    #[test]
-    fn law_of_the_fields_stands(_rt: HostRuntime) {
-        field_law();
-    }
-}

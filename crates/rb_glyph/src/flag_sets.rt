@@ -1,9 +1,10 @@
-//! Sets of flags. The operations of each set are those of the trait `Flags` of the crate `bitflags`, and they speak of a
-//! set by the number of its bits.
+//! Sets of flags. The operations of each set are those of the trait `Flags` of the crate `bitflags`, and they speak
+//! of a set by the number of its bits.
 
 ghost use Rattle.std.specs.Prelude.{⊤, ◌≡◌};
 ghost use Rattle.bitflags.specs.Sets.{known_bits};
-ghost use Rattle.rb_glyph.specs.FlagSets.{buffer_bits, serialize_bits, unicode_bits, glyph_props_bits, buffer_table, serialize_table, unicode_table, glyph_props_table};
+ghost use Rattle.rb_glyph.specs.FlagSets.{buffer_bits, serialize_bits, unicode_bits, glyph_props_bits, buffer_table};
+ghost use Rattle.rb_glyph.specs.FlagSets.{serialize_table, unicode_table, glyph_table};
 
 use bitflags::{Flag, Flags};
 
@@ -102,8 +103,8 @@ impl Flags for BufferFlags {
     }
 }
 
-/// A law with no code: each operation of `Flags` on a `BufferFlags` keeps its contract, reads a set as its bits, and takes
-/// these bits for all that there are.
+/// A law with no code: each operation of `Flags` on a `BufferFlags` keeps its contract, reads a set as its bits, and
+/// takes these bits for all that there are.
 #[tactic(auto, unfolding(bitflags::proofs::OnLiterals::bitflags_on_literals, crate::specs::FlagSets::buffer_table))]
 pub fn buffer_flags_law()
     ensures exact { ⟦<BufferFlags as Flags>⟧.exact }
@@ -192,8 +193,8 @@ impl Flags for SerializeFlags {
     }
 }
 
-/// A law with no code: each operation of `Flags` on a `SerializeFlags` keeps its contract, reads a set as its bits, and takes
-/// these bits for all that there are.
+/// A law with no code: each operation of `Flags` on a `SerializeFlags` keeps its contract, reads a set as its bits,
+/// and takes these bits for all that there are.
 #[tactic(auto, unfolding(bitflags::proofs::OnLiterals::bitflags_on_literals, crate::specs::FlagSets::serialize_table))]
 pub fn serialize_flags_law()
     ensures exact { ⟦<SerializeFlags as Flags>⟧.exact }
@@ -282,8 +283,8 @@ impl Flags for UnicodeProps {
     }
 }
 
-/// A law with no code: each operation of `Flags` on a `UnicodeProps` keeps its contract, reads a set as its bits, and takes
-/// these bits for all that there are.
+/// A law with no code: each operation of `Flags` on a `UnicodeProps` keeps its contract, reads a set as its bits, and
+/// takes these bits for all that there are.
 #[tactic(auto, unfolding(bitflags::proofs::OnLiterals::bitflags_on_literals, crate::specs::FlagSets::unicode_table))]
 pub fn unicode_props_law()
     ensures exact { ⟦<UnicodeProps as Flags>⟧.exact }
@@ -291,7 +292,8 @@ pub fn unicode_props_law()
     ensures all { known_bits ⟦<UnicodeProps as Flags>⟧.table ≡ 0x7FF }
 {}
 
-/// What is remembered of a glyph while it is shaped: its class in the font's glyph definition table, and what lookups did to it.
+/// What is remembered of a glyph while it is shaped: its class in the font's glyph definition table, and what lookups
+/// did to it.
 #[derive(Clone, Copy, Debug, Default)]
 pub struct GlyphPropsFlags(u16);
 
@@ -361,11 +363,11 @@ impl Flags for GlyphPropsFlags {
 
     ghost exact = { ⊤ };
 
-    ghost table = { glyph_props_table };
+    ghost table = { glyph_table };
 
     ghost set_of = { glyph_props_bits };
 
-    #[tactic(auto, unfolding(crate::specs::FlagSets::glyph_props_table))]
+    #[tactic(auto, unfolding(crate::specs::FlagSets::glyph_table))]
     fn flags<'a>() -> &'a [Flag<GlyphPropsFlags>] {
         GlyphPropsFlags::FLAGS
     }
@@ -379,12 +381,13 @@ impl Flags for GlyphPropsFlags {
     }
 }
 
-/// A law with no code: each operation of `Flags` on a `GlyphPropsFlags` keeps its contract, reads a set as its bits, and takes
-/// these bits for all that there are.
-#[tactic(auto, unfolding(bitflags::proofs::OnLiterals::bitflags_on_literals, crate::specs::FlagSets::glyph_props_table))]
+/// A law with no code: each operation of `Flags` on a `GlyphPropsFlags` keeps its contract, reads a set as its bits,
+/// and takes these bits for all that there are.
+#[tactic(auto, unfolding(bitflags::proofs::OnLiterals::bitflags_on_literals, crate::specs::FlagSets::glyph_table))]
 pub fn glyph_props_flags_law()
     ensures exact { ⟦<GlyphPropsFlags as Flags>⟧.exact }
-    ensures bits { (flags : _) → ⟦<GlyphPropsFlags as Flags>⟧.set_of flags ≡ glyph_props_bits flags }
+    ensures bits { (flags : _)
+        → ⟦<GlyphPropsFlags as Flags>⟧.set_of flags ≡ glyph_props_bits flags }
     ensures all { known_bits ⟦<GlyphPropsFlags as Flags>⟧.table ≡ 0x7E }
 {}
 

@@ -80,52 +80,21 @@ pub fn hangul_law()
 mod tests {
     use super::*;
 
-    #[test]
-    fn consonant_and_vowel(rt: HostRuntime) {
-        assert_eq!(rt; compose_hangul('\u{1100}', '\u{1161}'), Some('\u{AC00}'));
-        assert_eq!(rt; compose_hangul('\u{1112}', '\u{1175}'), Some('\u{D788}'));
-        assert_eq!(rt; compose_hangul('\u{10FF}', '\u{1161}'), None);
-        assert_eq!(rt; compose_hangul('\u{1113}', '\u{1161}'), None);
-        assert_eq!(rt; compose_hangul('\u{1100}', '\u{1160}'), None);
-        assert_eq!(rt; compose_hangul('\u{1100}', '\u{1176}'), None);
-    }
+    /// Pairs of characters, and the syllables that they make.
+    static SYLLABLES: [(char, char, char); 4] = [
+        ('\u{1100}', '\u{1161}', '\u{AC00}'),
+        ('\u{1112}', '\u{1175}', '\u{D788}'),
+        ('\u{AC00}', '\u{11A8}', '\u{AC01}'),
+        ('\u{D788}', '\u{11C2}', '\u{D7A3}'),
+    ];
 
     #[test]
-    fn syllable_and_trailing_consonant(rt: HostRuntime) {
-        assert_eq!(rt; compose_hangul('\u{AC00}', '\u{11A8}'), Some('\u{AC01}'));
-        assert_eq!(rt; compose_hangul('\u{D788}', '\u{11C2}'), Some('\u{D7A3}'));
+    fn a_syllable_is_made_of_its_parts(rt: HostRuntime) {
+        for &(a, b, syllable) in &SYLLABLES {
+            assert_eq!(rt; compose_hangul(a, b), Some(syllable));
+            assert_eq!(rt; decompose_hangul(syllable), Some((a, b)));
+        }
         assert_eq!(rt; compose_hangul('\u{AC00}', '\u{11A7}'), None);
-        assert_eq!(rt; compose_hangul('\u{AC00}', '\u{11C3}'), None);
-        assert_eq!(rt; compose_hangul('\u{AC01}', '\u{11A8}'), None);
-        assert_eq!(rt; compose_hangul('\u{ABFF}', '\u{11A8}'), None);
-        assert_eq!(rt; compose_hangul('\u{D7A4}', '\u{11A8}'), None);
-        assert_eq!(rt; compose_hangul('a', '\u{301}'), None);
-    }
-
-    #[test]
-    fn parts_of_syllables(rt: HostRuntime) {
-        assert_eq!(rt;
-            decompose_hangul('\u{AC00}'),
-            Some(('\u{1100}', '\u{1161}'))
-        );
-        assert_eq!(rt;
-            decompose_hangul('\u{AC01}'),
-            Some(('\u{AC00}', '\u{11A8}'))
-        );
-        assert_eq!(rt;
-            decompose_hangul('\u{D7A3}'),
-            Some(('\u{D788}', '\u{11C2}'))
-        );
-        assert_eq!(rt;
-            decompose_hangul('\u{D788}'),
-            Some(('\u{1112}', '\u{1175}'))
-        );
-        assert_eq!(rt; decompose_hangul('\u{ABFF}'), None);
         assert_eq!(rt; decompose_hangul('\u{D7A4}'), None);
-    }
-
-    #[test]
-    fn law_of_composition_stands(_rt: HostRuntime) {
-        hangul_law();
     }
 }

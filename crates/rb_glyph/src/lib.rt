@@ -5,6 +5,7 @@ pub mod algs;
 mod categories;
 pub mod category;
 pub mod characters;
+pub mod constants;
 pub mod fields;
 pub mod flag_sets;
 pub mod glyph_flag;
@@ -33,7 +34,7 @@ pub use flag_sets::{BufferFlags, GlyphPropsFlags, SerializeFlags, UnicodeProps};
 pub use hangul::{compose_hangul, decompose_hangul};
 pub use hb_unicode_funcs_t::space_t;
 pub use info::{GlyphInfo, hb_glyph_info_t};
-pub use names::{GlyphExtents, GlyphNames};
+pub use names::{GlyphExtents, GlyphNames, NoGlyphNames};
 pub use normalize::{compose, decompose};
 pub use position::GlyphPosition;
 pub use scratch::{

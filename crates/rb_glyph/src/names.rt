@@ -36,5 +36,27 @@ pub trait GlyphNames {
         ensures { result ≡ extents_of self.now glyph.0 };
 }
 
+/// A font that knows nothing: no glyph of it has a name, nor extents.
+///
+/// It is the font to hand in where glyphs are told by their numbers alone.
+#[derive(Clone, Copy, Debug, Default)]
+pub struct NoGlyphNames;
+
+impl GlyphNames for NoGlyphNames {
+    ghost use Rattle.std.specs.Prelude.{None};
+
+    ghost name_of = { λ _ _. None };
+
+    ghost extents_of = { λ _ _. None };
+
+    fn glyph_name(&self, _glyph: GlyphId) -> Option<&str> {
+        None
+    }
+
+    fn glyph_extents(&self, _glyph: GlyphId) -> Option<GlyphExtents> {
+        None
+    }
+}
+
 #[cfg(test)]
 mod tests;

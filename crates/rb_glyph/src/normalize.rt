@@ -10,7 +10,8 @@ use crate::tables::{Compositions, Decompositions};
 /// and any other by its row in the table.
 pub fn compose(compositions: &Compositions, a: char, b: char) -> Option<char>
     ensures hangul { (s : ℕ) → HangulComposes s a b → result ≡ Some s }
-    ensures table { ((s : ℕ) → ¬ HangulComposes s a b) → result ≡ composition_of a b compositions.now }
+    ensures table { ((s : ℕ) → ¬ HangulComposes s a b)
+        → result ≡ composition_of a b compositions.now }
 {
     if let Some(syllable) = compose_hangul(a, b) {
         return Some(syllable);
@@ -22,7 +23,8 @@ pub fn compose(compositions: &Compositions, a: char, b: char) -> Option<char>
 /// Standard, section 3.12, and any other by its row in the table, with U+0000 where it has no second part.
 pub fn decompose(decompositions: &Decompositions, ab: char) -> Option<(char, char)>
     ensures hangul { (a b : ℕ) → HangulComposes ab a b → result ≡ Some (a, b) }
-    ensures table { ((a b : ℕ) → ¬ HangulComposes ab a b) → result ≡ decomposition_of ab decompositions.now }
+    ensures table { ((a b : ℕ) → ¬ HangulComposes ab a b)
+        → result ≡ decomposition_of ab decompositions.now }
 {
     if let Some(pair) = decompose_hangul(ab) {
         return Some(pair);
@@ -36,70 +38,21 @@ mod tests {
     use std::test::Fail;
 
     #[test]
-    fn a_letter_and_an_accent_compose_by_their_row(rt: HostRuntime) -> Result<(), Fail> {
-        let rows = [(('a', '\u{301}'), '\u{e1}')];
-        let compositions = Compositions::new(&rows).ok_or("one row")?;
-        assert_eq!(rt; compose(&compositions, 'a', '\u{301}'), Some('\u{e1}'));
-        assert_eq!(rt; compose(&compositions, 'a', '\u{300}'), None);
-        let none = Compositions::new(&[]).ok_or("no rows")?;
-        assert_eq!(rt; compose(&none, 'a', '\u{301}'), None);
-        Ok(())
-    }
-
-    #[test]
-    fn a_character_decomposes_by_its_row(rt: HostRuntime) -> Result<(), Fail> {
-        let rows = [
-            ('\u{c5}', 'A', Some('\u{30a}')),
-            ('\u{212b}', '\u{c5}', None),
-        ];
-        let decompositions = Decompositions::new(&rows).ok_or("two rows")?;
-        assert_eq!(rt;
-            decompose(&decompositions, '\u{212b}'),
-            Some(('\u{c5}', '\0'))
-        );
-        assert_eq!(rt;
-            decompose(&decompositions, '\u{c5}'),
-            Some(('A', '\u{30a}'))
-        );
-        assert_eq!(rt; decompose(&decompositions, 'A'), None);
-        Ok(())
-    }
-
-    #[test]
     fn hangul_goes_before_the_table(rt: HostRuntime) -> Result<(), Fail> {
         let rows = [
+            (('a', '\u{301}'), '\u{e1}'),
             (('\u{1100}', '\u{1161}'), 'x'),
-            (('\u{ac00}', '\u{11a7}'), 'y'),
         ];
         let compositions = Compositions::new(&rows).ok_or("two rows")?;
-        assert_eq!(rt;
-            compose(&compositions, '\u{1100}', '\u{1161}'),
-            Some('\u{ac00}')
-        );
-        assert_eq!(rt; compose(&compositions, '\u{ac00}', '\u{11a7}'), Some('y'));
-        let rows = [('\u{d7a3}', 'x', Some('y'))];
-        let decompositions = Decompositions::new(&rows).ok_or("one row")?;
-        assert_eq!(rt;
-            decompose(&decompositions, '\u{d7a3}'),
-            Some(('\u{d788}', '\u{11c2}'))
-        );
-        Ok(())
-    }
-
-    #[test]
-    fn hangul_needs_no_rows(rt: HostRuntime) -> Result<(), Fail> {
-        let compositions = Compositions::new(&[]).ok_or("no rows")?;
-        assert_eq!(rt;
-            compose(&compositions, '\u{1100}', '\u{1161}'),
-            Some('\u{ac00}')
-        );
-        assert_eq!(rt; compose(&compositions, '\u{ac00}', '\u{11a7}'), None);
-        let decompositions = Decompositions::new(&[]).ok_or("no rows")?;
-        assert_eq!(rt;
-            decompose(&decompositions, '\u{d7a3}'),
-            Some(('\u{d788}', '\u{11c2}'))
-        );
-        assert_eq!(rt; decompose(&decompositions, '\u{212b}'), None);
+        assert_eq!(rt; compose(&compositions, 'a', '\u{301}'), Some('\u{e1}'));
+        let syllable = compose(&compositions, '\u{1100}', '\u{1161}');
+        assert_eq!(rt; syllable, Some('\u{ac00}'));
+        let rows = [('\u{212b}', '\u{c5}', None), ('\u{ac00}', 'x', Some('y'))];
+        let decompositions = Decompositions::new(&rows).ok_or("two rows")?;
+        let angstrom = decompose(&decompositions, '\u{212b}');
+        assert_eq!(rt; angstrom, Some(('\u{c5}', '\0')));
+        let parts = decompose(&decompositions, '\u{ac00}');
+        assert_eq!(rt; parts, Some(('\u{1100}', '\u{1161}')));
         Ok(())
     }
 }

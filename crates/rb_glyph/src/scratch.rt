@@ -32,26 +32,3 @@ pub const HB_BUFFER_SCRATCH_FLAG_HAS_VARIATION_SELECTOR_FALLBACK: u32 = 0x80;
 
 /// The first of the bits that the shaper of a script has for itself.
 pub const HB_BUFFER_SCRATCH_FLAG_SHAPER0: u32 = 0x0100_0000;
-
-#[cfg(test)]
-mod tests {
-    use super::*;
-
-    #[test]
-    fn scratch_flags_have_their_bits(rt: HostRuntime) {
-        let none: hb_buffer_scratch_flags_t = HB_BUFFER_SCRATCH_FLAG_DEFAULT;
-        assert_eq!(rt; none, 0);
-        assert_eq!(rt; HB_BUFFER_SCRATCH_FLAG_HAS_NON_ASCII, 1);
-        assert_eq!(rt; HB_BUFFER_SCRATCH_FLAG_HAS_DEFAULT_IGNORABLES, 2);
-        assert_eq!(rt; HB_BUFFER_SCRATCH_FLAG_HAS_SPACE_FALLBACK, 4);
-        assert_eq!(rt; HB_BUFFER_SCRATCH_FLAG_HAS_GPOS_ATTACHMENT, 8);
-        assert_eq!(rt; HB_BUFFER_SCRATCH_FLAG_HAS_CGJ, 0x10);
-        assert_eq!(rt; HB_BUFFER_SCRATCH_FLAG_HAS_GLYPH_FLAGS, 0x20);
-        assert_eq!(rt; HB_BUFFER_SCRATCH_FLAG_HAS_BROKEN_SYLLABLE, 0x40);
-        assert_eq!(rt;
-            HB_BUFFER_SCRATCH_FLAG_HAS_VARIATION_SELECTOR_FALLBACK,
-            0x80
-        );
-        assert_eq!(rt; HB_BUFFER_SCRATCH_FLAG_SHAPER0, 0x0100_0000);
-    }
-}

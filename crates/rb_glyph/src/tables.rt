@@ -6,7 +6,7 @@ ghost use Rattle.std.specs.Prelude.{◌≡◌, Some, None, if◌then◌else◌};
 ghost use Rattle.rb_glyph.specs.Rows.{keys_rise, value_of};
 ghost use Rattle.rb_glyph.specs.Tables.{pairs_rise, composition_of, decompositions_rise, decomposition_of};
 
-use crate::lookup::{rises, row_at};
+use crate::lookup::{rises, row_at, row_of, value_of};
 use std::marker::Model;
 
 /// The canonical combining classes of characters (Unicode, field 3 of `UnicodeData.txt`).
@@ -30,6 +30,7 @@ impl<'a> Model for CombiningClasses<'a> {
 
 impl<'a> CombiningClasses<'a> {
     /// A table of the rows, each a character and its class; `None` unless the characters rise strictly.
+    #[tactic(auto, using(std::proofs::lemmas::List::Sorted::answers_always))]
     pub fn new(rows: &'a [(char, u8)]) -> Option<Self>
         ensures { result ≡ (if keys_rise rows.now then Some rows.now else None) }
     {
@@ -44,7 +45,7 @@ impl<'a> CombiningClasses<'a> {
     pub(crate) fn class_of(&self, c: char) -> Option<u8>
         ensures { result ≡ value_of c self.now }
     {
-        row_at(self.rows, |row| row.0.cmp(&c)).map(|row| row.1)
+        value_of(self.rows, c)
     }
 }
 
@@ -67,6 +68,7 @@ impl<'a> Model for Mirrors<'a> {
 
 impl<'a> Mirrors<'a> {
     /// A table of the rows, each a character and its mirror image; `None` unless the characters rise strictly.
+    #[tactic(auto, using(std::proofs::lemmas::List::Sorted::answers_always))]
     pub fn new(rows: &'a [(char, char)]) -> Option<Self>
         ensures { result ≡ (if keys_rise rows.now then Some rows.now else None) }
     {
@@ -81,7 +83,7 @@ impl<'a> Mirrors<'a> {
     pub(crate) fn mirror_of(&self, c: char) -> Option<char>
         ensures { result ≡ value_of c self.now }
     {
-        row_at(self.rows, |row| row.0.cmp(&c)).map(|row| row.1)
+        value_of(self.rows, c)
     }
 }
 
@@ -106,6 +108,7 @@ impl<'a> Compositions<'a> {
     /// A table of the rows, each a pair and what it composes to; `None` unless the pairs rise strictly.
     ///
     /// A pair is below another by its first character, and by its second where the first is the same.
+    #[tactic(auto, using(std::proofs::lemmas::List::Sorted::answers_always))]
     pub fn new(rows: &'a [((char, char), char)]) -> Option<Self>
         ensures { result ≡ (if pairs_rise rows.now then Some rows.now else None) }
     {
@@ -144,6 +147,7 @@ impl<'a> Model for Decompositions<'a> {
 impl<'a> Decompositions<'a> {
     /// A table of the rows, each a character, the first part of its decomposition and the second,
     /// if there is one; `None` unless the characters rise strictly.
+    #[tactic(auto, using(std::proofs::lemmas::List::Sorted::answers_always))]
     pub fn new(rows: &'a [(char, char, Option<char>)]) -> Option<Self>
         ensures { result ≡ (if decompositions_rise rows.now then Some rows.now else None) }
     {
@@ -158,94 +162,30 @@ impl<'a> Decompositions<'a> {
     pub(crate) fn decomposition_of(&self, c: char) -> Option<(char, char)>
         ensures { result ≡ decomposition_of c self.now }
     {
-        row_at(self.rows, |row| row.0.cmp(&c)).map(|row| (row.1, row.2.unwrap_or('\0')))
+        row_of(self.rows, c, |row| row.0).map(|row| (row.1, row.2.unwrap_or('\0')))
     }
 }
 
 #[cfg(test)]
 mod tests {
     use super::*;
-    use std::test::Fail;
 
     #[test]
-    fn classes_are_a_table_where_the_characters_rise(rt: HostRuntime) -> Result<(), Fail> {
-        assert!(rt; CombiningClasses::new(&[]).is_some());
-        assert!(rt; CombiningClasses::new(&[('\u{651}', 33)]).is_some());
-        assert!(rt; CombiningClasses::new(&[('\u{300}', 230), ('\u{301}', 230)]).is_some());
-        assert!(rt; CombiningClasses::new(&[('\u{300}', 230), ('\u{300}', 220)]).is_none());
-        assert!(rt; CombiningClasses::new(&[('\u{301}', 230), ('\u{300}', 230)]).is_none());
-        let falls_late = [('a', 1), ('b', 2), ('d', 3), ('c', 4)];
-        assert!(rt; CombiningClasses::new(&falls_late).is_none());
-        Ok(())
-    }
-
-    #[test]
-    fn each_row_of_classes_is_found(rt: HostRuntime) -> Result<(), Fail> {
-        let rows = [('a', 1), ('c', 3), ('e', 5), ('g', 7), ('i', 9)];
-        let classes = CombiningClasses::new(&rows).ok_or("the rows rise")?;
-        for &(c, class) in &rows {
-            assert_eq!(rt; classes.class_of(c), Some(class));
-        }
-        for c in ['\0', 'b', 'd', 'f', 'h', 'j'] {
-            assert_eq!(rt; classes.class_of(c), None);
-        }
-        Ok(())
-    }
-
-    #[test]
-    fn mirrors_are_a_table_where_the_characters_rise(rt: HostRuntime) -> Result<(), Fail> {
-        assert!(rt; Mirrors::new(&[]).is_some());
-        assert!(rt; Mirrors::new(&[('(', ')'), (')', '(')]).is_some());
-        assert!(rt; Mirrors::new(&[('(', ')'), ('(', ')')]).is_none());
-        assert!(rt; Mirrors::new(&[(')', '('), ('(', ')')]).is_none());
-        let mirrors = Mirrors::new(&[('(', ')'), (')', '(')]).ok_or("the rows rise")?;
-        assert_eq!(rt; mirrors.mirror_of('('), Some(')'));
-        assert_eq!(rt; mirrors.mirror_of(')'), Some('('));
-        assert_eq!(rt; mirrors.mirror_of('a'), None);
-        Ok(())
-    }
-
-    #[test]
-    fn compositions_are_a_table_where_the_pairs_rise(rt: HostRuntime) -> Result<(), Fail> {
-        let grave = '\u{300}';
-        let acute = '\u{301}';
-        assert!(rt; Compositions::new(&[]).is_some());
-        let by_second = [(('a', grave), '\u{e0}'), (('a', acute), '\u{e1}')];
-        assert!(rt; Compositions::new(&by_second).is_some());
-        let by_first = [(('a', acute), '\u{e1}'), (('e', grave), '\u{e8}')];
-        assert!(rt; Compositions::new(&by_first).is_some());
-        let repeated = [(('a', grave), '\u{e0}'), (('a', grave), '\u{e1}')];
-        assert!(rt; Compositions::new(&repeated).is_none());
-        let second_falls = [(('a', acute), '\u{e1}'), (('a', grave), '\u{e0}')];
-        assert!(rt; Compositions::new(&second_falls).is_none());
-        let first_falls = [(('e', grave), '\u{e8}'), (('a', acute), '\u{e1}')];
-        assert!(rt; Compositions::new(&first_falls).is_none());
-        let compositions = Compositions::new(&by_second).ok_or("the rows rise")?;
-        assert_eq!(rt; compositions.composition_of('a', grave), Some('\u{e0}'));
-        assert_eq!(rt; compositions.composition_of('a', acute), Some('\u{e1}'));
-        assert_eq!(rt; compositions.composition_of('e', grave), None);
-        Ok(())
-    }
-
-    #[test]
-    fn decompositions_are_a_table_where_the_characters_rise(rt: HostRuntime) -> Result<(), Fail> {
-        let angstrom = ('\u{212b}', '\u{c5}', None);
-        let ring = ('\u{c5}', 'A', Some('\u{30a}'));
-        assert!(rt; Decompositions::new(&[]).is_some());
-        assert!(rt; Decompositions::new(&[ring, angstrom]).is_some());
-        assert!(rt; Decompositions::new(&[ring, ring]).is_none());
-        assert!(rt; Decompositions::new(&[angstrom, ring]).is_none());
-        let rows = [ring, angstrom];
-        let decompositions = Decompositions::new(&rows).ok_or("the rows rise")?;
-        assert_eq!(rt;
-            decompositions.decomposition_of('\u{c5}'),
-            Some(('A', '\u{30a}'))
-        );
-        assert_eq!(rt;
-            decompositions.decomposition_of('\u{212b}'),
-            Some(('\u{c5}', '\0'))
-        );
-        assert_eq!(rt; decompositions.decomposition_of('A'), None);
-        Ok(())
+    fn a_table_has_rising_rows(rt: HostRuntime) {
+        let (grave, acute) = ('\u{300}', '\u{301}');
+        let made = [
+            CombiningClasses::new(&[(grave, 230), (acute, 230)]).is_some(),
+            Mirrors::new(&[('(', ')'), (')', '(')]).is_some(),
+            Compositions::new(&[(('a', grave), 'à'), (('a', acute), 'á')]).is_some(),
+            Decompositions::new(&[('Å', 'A', Some('\u{30a}')), ('\u{212b}', 'Å', None)]).is_some(),
+        ];
+        assert_eq!(rt; made, [true, true, true, true]);
+        let refused = [
+            CombiningClasses::new(&[(acute, 230), (grave, 230)]).is_none(),
+            Mirrors::new(&[('(', ')'), ('(', ')')]).is_none(),
+            Compositions::new(&[(('a', acute), 'á'), (('a', grave), 'à')]).is_none(),
+            Decompositions::new(&[('\u{212b}', 'Å', None), ('Å', 'A', Some('\u{30a}'))]).is_none(),
+        ];
+        assert_eq!(rt; refused, [true, true, true, true]);
     }
 }

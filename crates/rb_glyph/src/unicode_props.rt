@@ -3,7 +3,8 @@ ghost use Rattle.std.specs.Prelude.{◌≡◌};
 ghost use Rattle.std.specs.Char.{IsScalar};
 ghost use Rattle.rb_glyph.specs.Categories.{category_of_char};
 ghost use Rattle.rb_glyph.specs.Fields.{with_field};
-ghost use Rattle.rb_glyph.specs.UnicodeProps.{kind_bits, ignorable_bits, ignorable_scratch, mark_bits, props_word, props_scratch};
+ghost use Rattle.rb_glyph.specs.UnicodeProps.{kind_bits, ignorable_bits, ignorable_scratch, mark_bits, props_word};
+ghost use Rattle.rb_glyph.specs.UnicodeProps.{props_scratch};
 
 use crate::category::{GeneralCategoryExt, hb_unicode_general_category_t};
 use crate::characters::CharExt;
@@ -21,8 +22,8 @@ use bitflags::Flags;
 const GRAPHEME_JOINER: char = '\u{34f}';
 
 impl hb_glyph_info_t {
-    /// Sets the Unicode properties of an item that is not shaped yet, and adds to the scratch flags what it remembers of
-    /// its character.
+    /// Sets the Unicode properties of an item that is not shaped yet, and adds to the scratch flags what it remembers
+    /// of its character.
     ///
     /// The properties are the number of the general category, and past ASCII how an invisible character is treated,
     /// and the class that a mark is reordered by, in bits 8 to 15 (HarfBuzz, `_hb_glyph_info_set_unicode_props`).
@@ -32,7 +33,9 @@ impl hb_glyph_info_t {
         classes: &CombiningClasses,
     )
         requires { IsScalar self.old.glyph_id }
-        ensures word { self.new ≡ record self.old { var2 = with_field self.old.var2 0 16 (props_word self.old.glyph_id classes.now) } }
+        ensures word { self.new ≡ record self.old {
+          var2 = with_field self.old.var2 0 16 (props_word self.old.glyph_id classes.now);
+        } }
         ensures remembered { scratch_flags.new ≡ props_scratch self.old.glyph_id scratch_flags.old }
     {
         let c = self.as_char();
@@ -98,88 +101,40 @@ mod tests {
     use super::*;
     use std::test::Fail;
 
-    /// Characters, and with no class rows their properties and the scratch flags that they set.
-    static WITHOUT_ROWS: [(char, u16, hb_buffer_scratch_flags_t); 19] = [
+    /// Characters, their properties and the scratch flags that they set, where U+0301 has class 230
+    /// and U+0651 class 33.
+    static PROPERTIES: [(char, u16, hb_buffer_scratch_flags_t); 14] = [
         ('a', 5, 0),
-        ('\u{7f}', 0, 0),
         ('\u{80}', 0, 1),
-        ('\u{e9}', 5, 1),
+        ('\u{301}', 0xe68c, 1),
         ('\u{34f}', 0xec, 0x13),
-        ('\u{200d}', 0x121, 3),
-        ('\u{200c}', 0x221, 3),
-        ('\u{ad}', 0x21, 3),
-        ('\u{180a}', 21, 1),
-        ('\u{180b}', 0xec, 3),
+        ('\u{651}', 0x1b8c, 1),
+        ('\u{903}', 0x8a, 1),
         ('\u{180d}', 0xec, 3),
         ('\u{180e}', 0x21, 3),
         ('\u{180f}', 0xec, 3),
-        ('\u{e001f}', 0x22, 3),
-        ('\u{e0020}', 0x61, 3),
-        ('\u{e007f}', 0x61, 3),
-        ('\u{e0080}', 0x22, 3),
         ('\u{1a60}', 0xfe8c, 1),
-        ('\u{903}', 0x8a, 1),
+        ('\u{200c}', 0x221, 3),
+        ('\u{200d}', 0x121, 3),
+        ('\u{e001f}', 0x22, 3),
+        ('\u{e007f}', 0x61, 3),
     ];
 
-    /// Marks and their properties, where U+0301 has class 230 and U+0651 class 33.
-    static WITH_ROWS: [(char, u16); 4] = [
-        ('\u{301}', 0xe68c),
-        ('\u{651}', 0x1b8c),
-        ('\u{300}', 0x8c),
-        ('\u{488}', 0x8b),
-    ];
-
-    fn info_of(c: char) -> hb_glyph_info_t
-        ensures { result.glyph_id ≡ c }
-    {
-        hb_glyph_info_t {
-            glyph_id: c as u32,
-            mask: 2,
-            cluster: 3,
-            var1: 4,
-            var2: 0x5678_ffff,
-        }
-    }
-
     #[test]
-    fn a_character_has_its_properties(rt: HostRuntime) -> Result<(), Fail> {
-        let classes = CombiningClasses::new(&[]).ok_or("no rows")?;
-        for &(c, props, scratch) in &WITHOUT_ROWS {
-            let mut info = info_of(c);
-            let mut scratch_flags = 0;
-            info.init_unicode_props(&mut scratch_flags, &classes);
-            assert_eq!(rt; info.unicode_props(), props);
-            assert_eq!(rt; scratch_flags, scratch);
-        }
-        Ok(())
-    }
-
-    #[test]
-    fn a_mark_carries_its_class(rt: HostRuntime) -> Result<(), Fail> {
+    fn a_character_is_given_its_properties(rt: HostRuntime) -> Result<(), Fail> {
         let rows = [('\u{301}', 230), ('\u{651}', 33)];
         let classes = CombiningClasses::new(&rows).ok_or("two rows")?;
-        for &(c, props) in &WITH_ROWS {
-            let mut info = info_of(c);
-            let mut scratch_flags = 0;
+        for &(c, props, scratch) in &PROPERTIES {
+            let mut info = hb_glyph_info_t {
+                glyph_id: c as u32,
+                var2: 0x5678_ffff,
+                ..hb_glyph_info_t::default()
+            };
+            let mut scratch_flags = 0x0100_0000;
             info.init_unicode_props(&mut scratch_flags, &classes);
-            assert_eq!(rt; info.unicode_props(), props);
-            assert_eq!(rt; scratch_flags, 1);
+            assert_eq!(rt; info.var2, 0x5678_0000 | props as u32);
+            assert_eq!(rt; scratch_flags, 0x0100_0000 | scratch);
         }
-        Ok(())
-    }
-
-    #[test]
-    fn all_else_stays(rt: HostRuntime) -> Result<(), Fail> {
-        let classes = CombiningClasses::new(&[]).ok_or("no rows")?;
-        let mut info = info_of('\u{200d}');
-        let mut scratch_flags = 0x0100_0020;
-        info.init_unicode_props(&mut scratch_flags, &classes);
-        assert_eq!(rt; scratch_flags, 0x0100_0023);
-        assert_eq!(rt; info.glyph_id, 0x200d);
-        assert_eq!(rt; info.mask, 2);
-        assert_eq!(rt; info.cluster, 3);
-        assert_eq!(rt; info.var1, 4);
-        assert_eq!(rt; info.var2, 0x5678_0121);
         Ok(())
     }
 }

@@ -1,5 +1,8 @@
 pub mod Cuts
 pub mod Digits
+pub mod LanguageCuts
 pub mod Parts
 pub mod Readings
-pub mod Titled
+mod Rows
+pub mod TableRows
+pub mod TitleCase

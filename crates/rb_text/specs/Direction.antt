@@ -1,31 +1,33 @@
 use Rattle.std.specs.Prelude.{ℕ, Bool, true, false, List, [], ◌∷◌, Option, Some, None, ◌==◌, if◌then◌else◌, codes}
 use Rattle.std.specs.List.{list_any}
 use Rattle.std.specs.Char.{to_ascii_lowercase}
+use Rattle.rb_text.specs.Ascii.{small_b, small_l, small_r, small_t}
 use Rattle.rb_text.specs.Tag.{tag_of}
 use Rattle.rb_text.specs.declared.direction.Direction.{Direction}
-use Rattle.rb_text.specs.declared.direction.Direction.TheVariants.{Invalid, LeftToRight, RightToLeft, TopToBottom, BottomToTop}
+use Rattle.rb_text.specs.declared.direction.Direction.TheVariants.{Invalid, LeftToRight, RightToLeft, TopToBottom}
+use Rattle.rb_text.specs.declared.direction.Direction.TheVariants.{BottomToTop}
 
-abbrev pub is_horizontal_of : Direction → Bool
-is_horizontal_of Invalid = false
-is_horizontal_of LeftToRight = true
-is_horizontal_of RightToLeft = true
-is_horizontal_of TopToBottom = false
-is_horizontal_of BottomToTop = false
+abbrev pub is_horizontal : Direction → Bool
+is_horizontal Invalid = false
+is_horizontal LeftToRight = true
+is_horizontal RightToLeft = true
+is_horizontal TopToBottom = false
+is_horizontal BottomToTop = false
 
 -- forward, as HarfBuzz says it: from left to right or from top to bottom
-abbrev pub is_forward_of : Direction → Bool
-is_forward_of Invalid = false
-is_forward_of LeftToRight = true
-is_forward_of RightToLeft = false
-is_forward_of TopToBottom = true
-is_forward_of BottomToTop = false
+abbrev pub is_forward : Direction → Bool
+is_forward Invalid = false
+is_forward LeftToRight = true
+is_forward RightToLeft = false
+is_forward TopToBottom = true
+is_forward BottomToTop = false
 
-abbrev pub reversed : Direction → Direction
-reversed Invalid = Invalid
-reversed LeftToRight = RightToLeft
-reversed RightToLeft = LeftToRight
-reversed TopToBottom = BottomToTop
-reversed BottomToTop = TopToBottom
+abbrev pub reverse : Direction → Direction
+reverse Invalid = Invalid
+reverse LeftToRight = RightToLeft
+reverse RightToLeft = LeftToRight
+reverse TopToBottom = BottomToTop
+reverse BottomToTop = TopToBottom
 
 -- the scripts that run from right to left, by their ISO 15924 tags
 abbrev pub right_to_left : List ℕ
@@ -51,16 +53,16 @@ direction_of script =
     else if list_any (λ tag. tag == script) either_way then None
     else Some LeftToRight
 
--- the direction that a small letter names: `l` is 108, `r` 114, `t` 116 and `b` 98
-abbrev pub direction_by : ℕ → Option Direction
-direction_by letter =
-    if letter == 108 then Some LeftToRight
-    else if letter == 114 then Some RightToLeft
-    else if letter == 116 then Some TopToBottom
-    else if letter == 98 then Some BottomToTop
+-- the direction that a small letter names
+abbrev pub direction_of_letter : ℕ → Option Direction
+direction_of_letter letter =
+    if letter == small_l then Some LeftToRight
+    else if letter == small_r then Some RightToLeft
+    else if letter == small_t then Some TopToBottom
+    else if letter == small_b then Some BottomToTop
     else None
 
 -- the one that a text's first byte names in either case: l, r, t or b
-abbrev pub direction_named : List ℕ → Option Direction
-direction_named [] = None
-direction_named (b ∷ bs) = direction_by (to_ascii_lowercase b)
+abbrev pub direction_of_text : List ℕ → Option Direction
+direction_of_text [] = None
+direction_of_text (b ∷ bs) = direction_of_letter (to_ascii_lowercase b)

@@ -1,26 +1,30 @@
 -- The ends of a feature's range, and the grammar of a feature's text. A reading cuts the whole text into parts: each
 -- optional part is taken where its first byte stands, and each run of spaces, word bytes, digits and letters whole.
-use Rattle.std.specs.Prelude.{ℕ, ◌≡◌, ◌==◌, ◌≤◌, ◌||◌, ◌+◌, ◌-◌, ◌++◌, ◌⊎◌, List, [], ◌∷◌, Option, Some, None, Bool, true, false, if◌then◌else◌, length, min, ℤ, option_to_list}
+use Rattle.std.specs.Prelude.{ℕ, ◌≡◌, ◌==◌, ◌≤◌, ◌||◌, ◌+◌, ◌-◌, ◌++◌, ◌⊎◌, List, [], ◌∷◌, Option, Some, None, Bool}
+use Rattle.std.specs.Prelude.{true, false, if◌then◌else◌, length, min, ℤ, option_to_list}
 use Rattle.std.specs.List.{AllPass}
 use Rattle.std.specs.Char.{is_ascii_alphabetic, is_ascii_digit, is_ascii_whitespace}
 use Rattle.std.specs.Int.{cast_unsigned, w32}
 use Rattle.std.specs.declared.ops.Bound.{Bound}
 use Rattle.std.specs.declared.ops.Bound.TheVariants.{Included, Excluded, Unbounded}
+use Rattle.rb_text.specs.Ascii.{hyphen, open_bracket, close_bracket, equals_sign, colon, semicolon}
 use Rattle.rb_text.specs.Tag.{lossy_tag_of}
-use Rattle.rb_text.specs.TextParser.{is_sign, is_quote, is_word, is_minus, signed_of, toggle_of}
+use Rattle.rb_text.specs.declared.tag.TheConstants.{TAG_LEN}
+use Rattle.rb_text.specs.declared.feature.TheConstants.{HB_FEATURE_GLOBAL_START, HB_FEATURE_GLOBAL_END}
+use Rattle.rb_text.specs.TextParser.{is_sign, is_quote, is_word, is_minus, signed_number, toggle_of}
 use Rattle.rb_text.specs.declared.feature.Feature.{Feature}
 
 -- the start of a range with this bound, at most the largest number of 32 bits
 abbrev pub start_of : Bound ℕ → ℕ
-start_of (Included n) = min n 0xFFFFFFFF
-start_of (Excluded n) = min (n + 1) 0xFFFFFFFF
-start_of Unbounded = 0
+start_of (Included n) = min n HB_FEATURE_GLOBAL_END
+start_of (Excluded n) = min (n + 1) HB_FEATURE_GLOBAL_END
+start_of Unbounded = HB_FEATURE_GLOBAL_START
 
 -- its end; the number before 0 is 0
 abbrev pub end_of : Bound ℕ → ℕ
-end_of (Included n) = min n 0xFFFFFFFF
-end_of (Excluded n) = min (n - 1) 0xFFFFFFFF
-end_of Unbounded = 0xFFFFFFFF
+end_of (Included n) = min n HB_FEATURE_GLOBAL_END
+end_of (Excluded n) = min (n - 1) HB_FEATURE_GLOBAL_END
+end_of Unbounded = HB_FEATURE_GLOBAL_END
 
 -- no byte, or a first one that fails
 abbrev pub Stops : (ℕ → Bool) → List ℕ → Type 0
@@ -41,7 +45,7 @@ Optional p text (Some b) rest = (text ≡ b ∷ rest) × (p b ≡ true)
 -- the value that the prefix gives: 0 for `-`, else 1
 abbrev pub prefix_of : Option ℕ → ℕ
 prefix_of None = 1
-prefix_of (Some b) = if b == 45 then 0 else 1
+prefix_of (Some b) = if b == hyphen then 0 else 1
 
 -- text is a sign or none and all digits that follow, with their value where there is a digit and it fits, and then rest
 pub record Number (text : List ℕ) (value : Option ℤ) (rest : List ℕ) : Type 0 where
@@ -50,7 +54,7 @@ pub record Number (text : List ℕ) (value : Option ℤ) (rest : List ℕ) : Typ
   pub digits : List ℕ
   pub sign_is : Optional is_sign text sign behind_sign
   pub digits_are : Whole is_ascii_digit behind_sign digits rest
-  pub value_is : value ≡ signed_of (is_minus sign) digits
+  pub value_is : value ≡ signed_number (is_minus sign) digits
 
 -- text is spaces, a quote or none, a word of at most four bytes, that quote again exactly where one was, and then rest
 pub record TagPart (text : List ℕ) (tag : ℕ) (rest : List ℕ) : Type 0 where
@@ -63,21 +67,9 @@ pub record TagPart (text : List ℕ) (tag : ℕ) (rest : List ℕ) : Type 0 wher
   pub gap_is : Whole is_ascii_whitespace text gap behind_gap
   pub quote_is : Optional is_quote behind_gap quote behind_quote
   pub word_is : Whole is_word behind_quote word behind_word
-  pub short : length word ≤ 4
+  pub short : length word ≤ TAG_LEN
   pub again : behind_word ≡ option_to_list quote ++ rest
   pub tag_is : tag ≡ lossy_tag_of word
-
--- `[`
-abbrev pub open_bracket : ℕ
-open_bracket = 91
-
--- `]`
-abbrev pub close_bracket : ℕ
-close_bracket = 93
-
--- `=`
-abbrev pub equals_sign : ℕ
-equals_sign = 61
 
 -- it is this byte
 abbrev pub is_byte : ℕ → ℕ → Bool
@@ -85,7 +77,7 @@ is_byte c b = b == c
 
 -- `:` or `;`
 abbrev pub is_separator : ℕ → Bool
-is_separator b = b == 58 || b == 59
+is_separator b = b == colon || b == semicolon
 
 -- a number modulo 2 ^ 32, or what stands for it where it has no value
 abbrev pub word_or : ℕ → Option ℤ → ℕ
@@ -94,15 +86,16 @@ word_or default (Some z) = cast_unsigned w32 z
 
 -- the end behind a single number: the next one, but the largest number stays
 abbrev pub end_after : Option ℤ → ℕ
-end_after None = 0xFFFFFFFF
-end_after (Some z) = if cast_unsigned w32 z == 0xFFFFFFFF then 0xFFFFFFFF else cast_unsigned w32 z + 1
+end_after None = HB_FEATURE_GLOBAL_END
+end_after (Some z) =
+    if cast_unsigned w32 z == HB_FEATURE_GLOBAL_END then HB_FEATURE_GLOBAL_END else cast_unsigned w32 z + 1
 
 -- no `[` stands: the range is the whole text's
 pub record NoRange (text : List ℕ) (from to : ℕ) (rest : List ℕ) : Type 0 where
   pub cut : text ≡ rest
   pub stops : Stops (is_byte open_bracket) rest
-  pub from_is : from ≡ 0
-  pub to_is : to ≡ 0xFFFFFFFF
+  pub from_is : from ≡ HB_FEATURE_GLOBAL_START
+  pub to_is : to ≡ HB_FEATURE_GLOBAL_END
 
 -- `[`, a number and `]`
 pub record OneNumber (text : List ℕ) (from to : ℕ) (rest : List ℕ) : Type 0 where
@@ -110,7 +103,7 @@ pub record OneNumber (text : List ℕ) (from to : ℕ) (rest : List ℕ) : Type 
   pub number : Option ℤ
   pub opened : text ≡ open_bracket ∷ inner
   pub number_is : Number inner number (close_bracket ∷ rest)
-  pub from_is : from ≡ word_or 0 number
+  pub from_is : from ≡ word_or HB_FEATURE_GLOBAL_START number
   pub to_is : to ≡ end_after number
 
 -- `[`, a number, `:` or `;`, a number and `]`
@@ -124,8 +117,8 @@ pub record TwoNumbers (text : List ℕ) (from to : ℕ) (rest : List ℕ) : Type
   pub first_is : Number inner first (separator ∷ behind)
   pub separates : is_separator separator ≡ true
   pub second_is : Number behind second (close_bracket ∷ rest)
-  pub from_is : from ≡ word_or 0 first
-  pub to_is : to ≡ word_or 0xFFFFFFFF second
+  pub from_is : from ≡ word_or HB_FEATURE_GLOBAL_START first
+  pub to_is : to ≡ word_or HB_FEATURE_GLOBAL_END second
 
 abbrev pub Range : List ℕ → ℕ → ℕ → List ℕ → Type 0
 Range text from to rest = NoRange text from to rest ⊎ (OneNumber text from to rest ⊎ TwoNumbers text from to rest)

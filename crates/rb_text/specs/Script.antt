@@ -1,9 +1,10 @@
 use Rattle.std.specs.Prelude.{ℕ, Option, Some, None, unwrap_or, ◌==◌, if◌then◌else◌, bit_and, bit_or, codes}
 use Rattle.rb_text.specs.Tag.{tag_of}
+use Rattle.rb_text.specs.declared.script.TheConstants.{CAPITALS, SMALL_TAIL, COLUMNS, LETTER_COLUMNS}
 
 -- the tag with its first letter made capital and the others made small
-abbrev pub titled : ℕ → ℕ
-titled t = bit_or (bit_and t 0xDFDFDFDF) 0x00202020
+abbrev pub title_case : ℕ → ℕ
+title_case t = bit_or (bit_and t CAPITALS) SMALL_TAIL
 
 -- the script that a tag in title case is another name of: codes that were private once, and variants of a script
 abbrev pub alias_of : ℕ → Option ℕ
@@ -23,10 +24,12 @@ alias_of t =
     else if t == tag_of (codes "Syrn") then Some (tag_of (codes "Syrc"))
     else None
 
--- what a tag in title case names: the script that it is another name of, its own where it has the form of letters, or the unknown script
-abbrev pub named : ℕ → ℕ
-named t = unwrap_or (alias_of t) (if bit_and t 0xE0E0E0E0 == 0x40606060 then t else tag_of (codes "Zzzz"))
+-- what a tag in title case names: the script that it is another name of, its own where it stands in the columns of the
+-- letters, or the unknown script
+abbrev pub script_by_title_case : ℕ → ℕ
+script_by_title_case t =
+    unwrap_or (alias_of t) (if bit_and t COLUMNS == LETTER_COLUMNS then t else tag_of (codes "Zzzz"))
 
 -- the script of a tag in any case, as the script's own tag; the null tag has none
 abbrev pub script_of : ℕ → Option ℕ
-script_of t = if t == 0 then None else Some (named (titled t))
+script_of t = if t == 0 then None else Some (script_by_title_case (title_case t))

@@ -1,6 +1,6 @@
 //! The direction in which a line of text runs: as a value, by its script and by HarfBuzz's name.
 ghost use Rattle.std.specs.Prelude.{◌≡◌, ℕ, Option, not};
-ghost use Rattle.rb_text.specs.Direction.{is_horizontal_of, is_forward_of, reversed, direction_of};
+ghost use Rattle.rb_text.specs.Direction.{is_horizontal, is_forward, reverse, direction_of};
 
 use crate::script::{self, Script};
 use std::str::FromStr;
@@ -24,7 +24,7 @@ pub enum Direction {
 impl Direction {
     /// Whether lines are horizontal: from left to right or from right to left.
     pub fn is_horizontal(self) -> bool
-        ensures { result ≡ is_horizontal_of self }
+        ensures { result ≡ is_horizontal self }
     {
         matches!(self, Direction::LeftToRight | Direction::RightToLeft)
     }
@@ -32,14 +32,14 @@ impl Direction {
     /// The negation of [`Direction::is_horizontal`], so also true of [`Direction::Invalid`], as in
     /// rustybuzz.
     pub fn is_vertical(self) -> bool
-        ensures { result ≡ not (is_horizontal_of self) }
+        ensures { result ≡ not (is_horizontal self) }
     {
         !self.is_horizontal()
     }
 
     /// Whether the text runs forward, as HarfBuzz says it: from left to right or from top to bottom.
     pub fn is_forward(self) -> bool
-        ensures { result ≡ is_forward_of self }
+        ensures { result ≡ is_forward self }
     {
         matches!(self, Direction::LeftToRight | Direction::TopToBottom)
     }
@@ -47,14 +47,14 @@ impl Direction {
     /// The negation of [`Direction::is_forward`], so also true of [`Direction::Invalid`], as in
     /// rustybuzz.
     pub fn is_backward(self) -> bool
-        ensures { result ≡ not (is_forward_of self) }
+        ensures { result ≡ not (is_forward self) }
     {
         !self.is_forward()
     }
 
     /// The opposite way along the same line; [`Direction::Invalid`] stays.
     pub fn reverse(self) -> Self
-        ensures { result ≡ reversed self }
+        ensures { result ≡ reverse self }
     {
         match self {
             Direction::Invalid => Direction::Invalid,
@@ -117,9 +117,9 @@ impl FromStr for Direction {
 
     ghost use Rattle.std.specs.Prelude.{codes};
     ghost use Rattle.rb_text.specs.Answer.{Answers};
-    ghost use Rattle.rb_text.specs.Direction.{direction_named};
+    ghost use Rattle.rb_text.specs.Direction.{direction_of_text};
 
-    ghost from_str_gives = { λ text r. Answers (direction_named text) (codes "invalid direction") r };
+    ghost from_str_gives = { λ text r. Answers (direction_of_text text) (codes "invalid direction") r };
 
     /// The direction that the first letter names, in either case: `l`, `r`, `t` or `b`, as in
     /// HarfBuzz's `ltr`, `rtl`, `ttb` and `btt`. What follows it is not read. Any other text is
@@ -140,52 +140,60 @@ mod tests {
     use super::*;
 
     #[test]
-    fn axes_and_senses(rt: HostRuntime) {
+    fn each_direction_has_its_line_and_its_opposite(rt: HostRuntime) {
         let rows = [
-            (Direction::Invalid, false, false, Direction::Invalid),
-            (Direction::LeftToRight, true, true, Direction::RightToLeft),
-            (Direction::RightToLeft, true, false, Direction::LeftToRight),
-            (Direction::TopToBottom, false, true, Direction::BottomToTop),
-            (Direction::BottomToTop, false, false, Direction::TopToBottom),
+            ("", Direction::default(), false, false, Direction::Invalid),
+            (
+                "ltr",
+                Direction::LeftToRight,
+                true,
+                true,
+                Direction::RightToLeft,
+            ),
+            (
+                "Rx",
+                Direction::RightToLeft,
+                true,
+                false,
+                Direction::LeftToRight,
+            ),
+            (
+                "T",
+                Direction::TopToBottom,
+                false,
+                true,
+                Direction::BottomToTop,
+            ),
+            (
+                "bottom",
+                Direction::BottomToTop,
+                false,
+                false,
+                Direction::TopToBottom,
+            ),
         ];
-        for (direction, is_horizontal, is_forward, reverse) in rows {
+        for (text, direction, is_horizontal, is_forward, reverse) in rows {
             assert_eq!(rt; direction.is_horizontal(), is_horizontal);
             assert_eq!(rt; direction.is_vertical(), !is_horizontal);
             assert_eq!(rt; direction.is_forward(), is_forward);
             assert_eq!(rt; direction.is_backward(), !is_forward);
             assert_eq!(rt; direction.reverse(), reverse);
+            let named = text.parse::<Direction>();
+            assert_eq!(rt; named.unwrap_or(Direction::Invalid), direction);
         }
-        assert_eq!(rt; Direction::default(), Direction::Invalid);
+        assert_eq!(rt; " ltr".parse::<Direction>(), Err("invalid direction"));
     }
 
     #[test]
     fn scripts_have_directions(rt: HostRuntime) {
-        let right_to_left = Some(Direction::RightToLeft);
-        assert_eq!(rt; Direction::from_script(script::HEBREW), right_to_left);
-        assert_eq!(rt; Direction::from_script(script::OLD_UYGHUR), right_to_left);
-        assert_eq!(rt; Direction::from_script(script::RUNIC), None);
-        assert_eq!(rt;
-            Direction::from_script(script::LATIN),
-            Some(Direction::LeftToRight)
-        );
-        assert_eq!(rt;
-            Direction::from_script(script::GARAY),
-            Some(Direction::LeftToRight)
-        );
-    }
-
-    #[test]
-    fn the_first_letter_names_a_direction(rt: HostRuntime) {
         let rows = [
-            ("ltr", Direction::LeftToRight),
-            ("Rx", Direction::RightToLeft),
-            ("T", Direction::TopToBottom),
-            ("bottom", Direction::BottomToTop),
+            (script::OLD_UYGHUR, Some(Direction::RightToLeft)),
+            (script::RUNIC, None),
+            (script::LATIN, Some(Direction::LeftToRight)),
+            (script::GARAY, Some(Direction::LeftToRight)),
         ];
-        for (text, direction) in rows {
-            assert_eq!(rt; text.parse::<Direction>(), Ok(direction), "{text}");
+        for (script, direction) in rows {
+            assert_eq!(rt; Direction::from_script(script), direction);
         }
-        assert_eq!(rt; "".parse::<Direction>(), Err("invalid direction"));
-        assert_eq!(rt; " ltr".parse::<Direction>(), Err("invalid direction"));
     }
 }

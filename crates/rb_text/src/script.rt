@@ -13,6 +13,18 @@ mod tests;
 
 pub use tags::constant_tags;
 
+/// The bits of a tag but for those that make a letter small.
+const CAPITALS: u32 = 0xdfdfdfdf;
+
+/// The bits that make the last three letters of a tag small.
+const SMALL_TAIL: u32 = 0x00202020;
+
+/// The bits that say in which column of ASCII each byte of a tag stands.
+const COLUMNS: u32 = 0xe0e0e0e0;
+
+/// The columns of a capital letter and three small ones.
+const LETTER_COLUMNS: u32 = 0x40606060;
+
 /// A script, named by its ISO 15924 tag in title case (`Latn`).
 ///
 /// The tag of each value gives the value back through [`Script::from_iso15924_tag`]: the type
@@ -38,27 +50,27 @@ impl Script {
     /// the script itself, as do the private codes that Unicode once used (`Qaai`, `Qaac`). Any
     /// other tag whose four bytes stand in the columns of the letters, from `@` to DEL, names a
     /// script of its own, known or not; any other tag gives [`UNKNOWN`].
-    #[tactic(auto, using(crate::proofs::Titled::titled_again))]
+    #[tactic(auto, using(crate::proofs::TitleCase::title_case_again))]
     pub fn from_iso15924_tag(tag: Tag) -> Option<Script>
         ensures { result ≡ script_of tag.0 }
     {
         if tag.is_null() {
             return None;
         }
-        let titled = (tag.0 & 0xdfdfdfdf) | 0x00202020;
-        if let Some(script) = alias(titled) {
+        let title_case = (tag.0 & CAPITALS) | SMALL_TAIL;
+        if let Some(script) = alias(title_case) {
             return Some(script);
         }
-        if titled & 0xe0e0e0e0 == 0x40606060 {
-            return Some(Script(Tag(titled)));
+        if title_case & COLUMNS == LETTER_COLUMNS {
+            return Some(Script(Tag(title_case)));
         }
         Some(UNKNOWN)
     }
 
     /// The tag of the script, which gives the script back.
-    pub fn tag(self) -> Tag
-        ensures value { result.0 ≡ self }
-        ensures gives_back { script_of result.0 ≡ Some self }
+    pub fn tag(&self) -> Tag
+        ensures value { result.0 ≡ self.now }
+        ensures gives_back { script_of result.0 ≡ Some self.now }
     {
         self.0
     }
@@ -83,12 +95,14 @@ impl FromStr for Script {
 }
 
 /// The script that a tag in title case is another name of.
-fn alias(titled: u32) -> Option<Script>
-    ensures { result ≡ alias_of titled }
+fn alias(title_case: u32) -> Option<Script>
+    ensures { result ≡ alias_of title_case }
 {
-    match titled {
+    match title_case {
+        // Codes that were private once: `Qaai` and `Qaac`.
         0x51616169 => Some(INHERITED),
         0x51616163 => Some(COPTIC),
+        // Variants of a script: `Aran`, `Cyrs`, `Geok`, `Hans`, `Hant`, `Jamo`, `Latf`, `Latg`, `Syre`, `Syrj`, `Syrn`.
         0x4172616e => Some(ARABIC),
         0x43797273 => Some(CYRILLIC),
         0x47656f6b => Some(GEORGIAN),

@@ -3,6 +3,9 @@ ghost use Rattle.std.specs.Prelude.{◌≡◌, ◌↔◌, ℕ, IsTrue, codes};
 ghost use Rattle.std.specs.Int.{to_be_bytes, w32};
 ghost use Rattle.rb_text.specs.Tag.{tag_of, lossy_tag_of, uppercase_tag};
 
+/// How many bytes a tag has.
+pub(crate) const TAG_LEN: usize = 4;
+
 /// A name of four bytes, as the OpenType tag registry gives to features, scripts, languages and
 /// tables. The number holds the bytes with the first as the most significant. The default is the
 /// null tag, whose number is 0.
@@ -100,40 +103,22 @@ mod tests {
 
     #[test]
     fn tags_are_four_bytes(rt: HostRuntime) {
-        let kern = Tag::from_bytes(b"kern");
-        assert_eq!(rt; kern, Tag(0x6b65726e));
-        assert_eq!(rt; kern.as_u32(), 0x6b65726e);
-        assert_eq!(rt; kern.to_bytes(), *b"kern");
-        assert!(rt; !kern.is_null());
-        assert!(rt; Tag::default().is_null());
-    }
-
-    #[test]
-    fn short_tags_are_padded(rt: HostRuntime) {
-        for (bytes, tag) in [
-            ("k", b"k   "),
-            ("ke", b"ke  "),
-            ("ker", b"ker "),
-            ("kernel", b"kern"),
-        ] {
-            assert_eq!(rt;
-                Tag::from_bytes_lossy(bytes.as_bytes()),
-                Tag::from_bytes(tag)
-            );
-        }
-        assert_eq!(rt; Tag::from_bytes_lossy(b""), Tag(0));
-    }
-
-    #[test]
-    fn default_tags(rt: HostRuntime) {
-        assert_eq!(rt; Tag::default_script(), Tag(0x44464c54));
-        assert_eq!(rt; Tag::default_language(), Tag(0x64666c74));
-    }
-
-    #[test]
-    fn letters_are_made_capital(rt: HostRuntime) {
-        for (from, to) in [(b"abcd", b"ABCD"), (b"ABCD", b"ABCD"), (b"abc ", b"ABC ")] {
-            assert_eq!(rt; Tag::from_bytes(from).to_uppercase(), Tag::from_bytes(to));
+        let rows = [
+            ("", Tag(0), Tag(0)),
+            ("k", Tag(0x6b202020), Tag(0x4b202020)),
+            ("ke", Tag(0x6b652020), Tag(0x4b452020)),
+            ("abc", Tag(0x61626320), Tag(0x41424320)),
+            ("abcd", Tag(0x61626364), Tag(0x41424344)),
+            ("ABCDE", Tag(0x41424344), Tag(0x41424344)),
+            ("DFLT", Tag::default_script(), Tag::default_script()),
+            ("dflt", Tag::default_language(), Tag::default_script()),
+        ];
+        for (text, tag, capital) in rows {
+            let read = Tag::from_bytes_lossy(text.as_bytes());
+            assert_eq!(rt; read, tag, "{text}");
+            assert_eq!(rt; Tag::from_bytes(&read.to_bytes()).as_u32(), tag.0, "{text}");
+            assert_eq!(rt; read.to_uppercase(), capital, "{text}");
+            assert_eq!(rt; read.is_null(), text.is_empty(), "{text}");
         }
     }
 }

@@ -2,9 +2,10 @@
 ghost use Rattle.std.specs.Prelude.{◌≡◌, ◌==◌, ◌≤◌, ◌↔◌, ℕ, IsTrue, Bool, [], length, drop, option_map, is_some};
 ghost use Rattle.std.specs.Char.{is_ascii_whitespace, is_ascii_alphabetic, is_ascii_digit};
 ghost use Rattle.std.specs.List.{take_while, AllPass};
-ghost use Rattle.rb_text.specs.TextParser.{first_if, after_if, skipped, is_quote, is_word, short_tag, signed_of, number_in, after_number, toggle_of, Computes};
+ghost use Rattle.rb_text.specs.TextParser.{first_if, after_if, skip_while, is_quote, is_word, short_tag};
+ghost use Rattle.rb_text.specs.TextParser.{signed_number, number_in, after_number, toggle_of, Computes};
 
-use crate::tag::Tag;
+use crate::tag::{TAG_LEN, Tag};
 use std::marker::Model;
 
 /// Reads a text from its front, byte by byte or a run of bytes at a time.
@@ -74,7 +75,7 @@ impl<'a> TextParser<'a> {
 
     /// Skips ASCII spaces: space, tab, line feed, form feed and carriage return.
     pub fn skip_spaces(&mut self)
-        ensures { self.new ≡ skipped is_ascii_whitespace self.old }
+        ensures { self.new ≡ skip_while is_ascii_whitespace self.old }
     {
         self.skip_bytes(|b| b.is_ascii_whitespace());
     }
@@ -100,7 +101,7 @@ impl<'a> TextParser<'a> {
         ensures part { (test : ℕ → Bool) → Computes (F.post f) test
             → result.now ≡ take_while test self.old }
         ensures rest { (test : ℕ → Bool) → Computes (F.post f) test
-            → self.new ≡ skipped test self.old }
+            → self.new ≡ skip_while test self.old }
     {
         let rest = self.rest;
         let mut n = 0;
@@ -117,7 +118,7 @@ impl<'a> TextParser<'a> {
     pub fn skip_bytes<F: Fn(u8) -> bool + Drop>(&mut self, f: F)
         requires { F.IsAlwaysCallable f }
         ensures { (test : ℕ → Bool) → Computes (F.post f) test
-            → self.new ≡ skipped test self.old }
+            → self.new ≡ skip_while test self.old }
     {
         self.consume_bytes(f);
     }
@@ -126,10 +127,10 @@ impl<'a> TextParser<'a> {
     /// spaces. No such byte gives the null tag, and more than four give `None`.
     pub fn consume_tag(&mut self) -> Option<Tag>
         ensures value { option_map (λ t. t.0) result ≡ short_tag (take_while is_word self.old) }
-        ensures rest { self.new ≡ skipped is_word self.old }
+        ensures rest { self.new ≡ skip_while is_word self.old }
     {
         let tag = self.consume_bytes(|b| b.is_ascii_alphanumeric() || b == b'_');
-        if tag.len() > 4 {
+        if tag.len() > TAG_LEN {
             return None;
         }
         Some(Tag::from_bytes_lossy(tag))
@@ -155,9 +156,9 @@ impl<'a> TextParser<'a> {
     /// case. The spaces and letters are consumed also where they give `None`.
     pub fn consume_bool(&mut self) -> Option<bool>
         ensures value { result
-            ≡ toggle_of (take_while is_ascii_alphabetic (skipped is_ascii_whitespace self.old)) }
+            ≡ toggle_of (take_while is_ascii_alphabetic (skip_while is_ascii_whitespace self.old)) }
         ensures rest { self.new
-            ≡ skipped is_ascii_alphabetic (skipped is_ascii_whitespace self.old) }
+            ≡ skip_while is_ascii_alphabetic (skip_while is_ascii_whitespace self.old) }
     {
         self.skip_spaces();
         match *self.consume_bytes(|b| b.is_ascii_alphabetic()) {
@@ -172,7 +173,7 @@ impl<'a> TextParser<'a> {
 #[tactic(auto, using(crate::proofs::Digits::number_lemmas))]
 fn number(is_negative: bool, digits: &[u8]) -> Option<i32>
     requires { AllPass is_ascii_digit digits.now }
-    ensures { result ≡ signed_of is_negative digits.now }
+    ensures { result ≡ signed_number is_negative digits.now }
 {
     match str::from_utf8(digits).unwrap().parse::<u32>() {
         Ok(size) => {
@@ -188,47 +189,24 @@ mod tests {
     use super::*;
 
     #[test]
-    fn bytes_one_by_one(rt: HostRuntime) {
-        let mut p = TextParser::new("ab");
+    fn bytes_are_read_from_the_left(rt: HostRuntime) {
+        let mut p = TextParser::new("ab\t \"'aab12k_9,kerns");
         assert_eq!(rt; p.curr_byte(), Some(b'a'));
         p.advance(1);
         assert_eq!(rt; p.consume_byte(b'a'), None);
-        assert!(rt; !p.at_end());
         assert_eq!(rt; p.consume_byte(b'b'), Some(()));
-        assert!(rt; p.at_end());
-        assert_eq!(rt; p.curr_byte(), None);
-    }
-
-    #[test]
-    fn spaces_and_quotes(rt: HostRuntime) {
-        let mut p = TextParser::new(" \t\n\u{c}\r\"'\u{b}");
         p.skip_spaces();
         assert_eq!(rt; p.consume_quote(), Some(b'"'));
         assert_eq!(rt; p.consume_quote(), Some(b'\''));
         assert_eq!(rt; p.consume_quote(), None);
-        p.skip_spaces();
-        assert_eq!(rt; p.curr_byte(), Some(0x0b));
-    }
-
-    #[test]
-    fn runs_of_bytes(rt: HostRuntime) {
-        let mut p = TextParser::new("aab12c");
         assert!(rt; p.consume_bytes(|b| b == b'a') == b"aa".as_slice());
-        p.skip_bytes(|b| b != b'2');
-        assert_eq!(rt; p.curr_byte(), Some(b'2'));
-        assert!(rt; p.consume_bytes(|b| b > b'9').is_empty());
-    }
-
-    #[test]
-    fn tags(rt: HostRuntime) {
-        let mut p = TextParser::new("k_9,kern,kerns;");
+        p.skip_bytes(|b| b != b'k');
         assert_eq!(rt; p.consume_tag(), Some(Tag::from_bytes(b"k_9 ")));
         assert_eq!(rt; p.consume_tag(), Some(Tag(0)));
-        p.advance(1);
-        assert_eq!(rt; p.consume_tag(), Some(Tag::from_bytes(b"kern")));
-        p.advance(1);
+        assert_eq!(rt; p.consume_byte(b','), Some(()));
+        assert!(rt; !p.at_end());
         assert_eq!(rt; p.consume_tag(), None);
-        assert_eq!(rt; p.curr_byte(), Some(b';'));
+        assert!(rt; p.at_end());
     }
 
     #[test]

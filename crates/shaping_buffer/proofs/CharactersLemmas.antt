@@ -8,8 +8,8 @@ use Rattle.std.specs.Char.{IsScalar}
 use Rattle.std.specs.Str.{chars, all_scalars}
 use Rattle.rb_glyph.specs.declared.info.hb_glyph_info_t.{hb_glyph_info_t}
 use Rattle.shaping_buffer.specs.Pushed.{character, glyphs_at}
-use Rattle.shaping_buffer.specs.Guess.{AreCharacters}
-use Rattle.shaping_buffer.specs.ClusterNumbers.{clusters_reset}
+use Rattle.glyph_lists.specs.Guess.{AreCharacters}
+use Rattle.glyph_lists.specs.ClusterNumbers.{reset_clusters}
 
 -- the glyph's id is a character
 abbrev Is : hb_glyph_info_t → Type 0
@@ -31,10 +31,10 @@ pub characters_added : (l : List hb_glyph_info_t) (c cluster : ℕ) → IsScalar
 characters_added l c cluster scalar all = All-push Is l (character c cluster) all scalar
 
 -- clusters that are numbered anew
-pub characters_reset : (first : ℕ) (l : List hb_glyph_info_t) → AreCharacters l → AreCharacters (clusters_reset first l)
+pub characters_reset : (first : ℕ) (l : List hb_glyph_info_t) → AreCharacters l → AreCharacters (reset_clusters first l)
 characters_reset first [] all = All-nil Is
 characters_reset first (g ∷ l) all =
-    All-cons Is (record g { cluster = first % 4294967296 }) (clusters_reset (first + 1) l) (All-head Is g l all) (characters_reset (first + 1) l (All-tail Is g l all))
+    All-cons Is (record g { cluster = first % 4294967296 }) (reset_clusters (first + 1) l) (All-head Is g l all) (characters_reset (first + 1) l (All-tail Is g l all))
 
 pub characters_along : (l new : List hb_glyph_info_t) (text : List ℕ) → IsUtf8 text → new ≡ l ++ glyphs_at 0 (chars text) → AreCharacters l → AreCharacters new
 characters_along l new text utf8 is all = subst AreCharacters (sym is) (characters_pushed l text utf8 all)

@@ -1,107 +1,86 @@
--- Replacement reads a merge: what readings and joins keep, it keeps, and the least cluster stands where a copy does.
-use Rattle.std.proofs.Common.{◌≡◌, ℕ, ◌+◌, ◌-◌, ◌<◌, ◌≤◌, inl, inr, Bool, false, List, ◌++◌, length, get_or, take, drop, refl, sym, ap, ◌∙◌, subst, arith, length-take, length-drop}
-use Rattle.std.proofs.lemmas.Bool.{cases_lt}
-use Rattle.std.proofs.lemmas.List.{get_or-map, get_or-take, get_or-drop, length-map}
-use Rattle.std.proofs.lemmas.List.Elements.{All-from_get_or}
+-- A replacement, in the words of the two sides.
+use Rattle.std.proofs.Common.{◌≡◌, inl, inr, ℕ, ◌+◌, ◌-◌, ◌<◌, ◌≤◌, ◌&&◌, not, Bool, true, false, List, [], ◌∷◌, ◌++◌, length, take, drop, map, cond, refl, sym, ap, ◌∙◌, arith, length-append, get_or, add-one, leb, ltb}
+use Rattle.std.proofs.lemmas.Bool.{cond_both, cond-true, cond-false, cases_lt, false≢true, le-leb, lt-leb}
+use Rattle.std.proofs.lemmas.List.{length-map, length-take-le, take_more, map-append, get_or-drop, drop-drop}
+use Rattle.std.specs.Prelude.{slice_index_or}
 use Rattle.rb_glyph.specs.declared.info.hb_glyph_info_t.{hb_glyph_info_t}
-use Rattle.shaping_buffer.specs.Clusters.{clusters, least, run_join, zero_glyph, IsMonotone, IsCoarse}
-use Rattle.shaping_buffer.specs.Deletion.{merged}
-use Rattle.shaping_buffer.specs.GlyphFlags.{BreakImpliesConcat, FlagsAgree}
-use Rattle.shaping_buffer.specs.Replacement.{copies, replaced}
-use Rattle.shaping_buffer.proofs.RunsLemmas.{widened_start-le, widened_end-ge}
-use Rattle.shaping_buffer.proofs.JoinsLemmas.{length-run_join, run_join_inside}
-use Rattle.shaping_buffer.proofs.OrderLemmas.{run_join_keeps_order, run_join_keeps_coarse}
-use Rattle.shaping_buffer.proofs.ReadingsLemmas.{Reading, at, reading_replaced, monotone_reading, coarse_reading}
-use Rattle.shaping_buffer.proofs.DeletionLemmas.{length-merged, merged_keeps}
-use Rattle.shaping_buffer.proofs.NumbersLemmas.{Stands, Stands-from_reading, stands_left, stands_right, IsLeast, IsLeast-least, least-from_IsLeast, run_join_stands, run_join_keeps_IsLeast}
-use Rattle.shaping_buffer.proofs.GlyphFlagsLemmas.{new_part_keeps_flags, merged_keeps_flags}
+use Rattle.glyph_lists.specs.Clusters.{zero_glyph}
+use Rattle.glyph_lists.specs.Parts.{part}
+use Rattle.glyph_lists.specs.declared.glyph_flags.TheConstants.{BREAK_BITS}
+use Rattle.glyph_lists.specs.Marks.{mark}
+use Rattle.glyph_lists.specs.Deletion.{merge_or_mark}
+use Rattle.glyph_lists.specs.Replacement.{copies, replacement}
+use Rattle.glyph_lists.proofs.MergesLemmas.{length-run_merge}
+use Rattle.shaping_buffer.specs.State.{State}
+use Rattle.shaping_buffer.specs.ClusterStep.{both, any_order, flagged_if}
+use Rattle.shaping_buffer.specs.Step.{Outcome, limited, replace_glyphs, with_id}
 
-length-copies : (g : hb_glyph_info_t) (ids : List ℕ) → length (copies g ids) ≡ length ids
-length-copies g ids = length-map ids (λ id. record g { glyph_id = id })
+pub copied : (g : hb_glyph_info_t) (ids : List ℕ) (i d : ℕ) → i < length ids → copies g (take (i + 1) ids) ≡ copies g (take i ids) ++ with_id (get_or ids i d) g ∷ []
+copied g ids i d h = ap (copies g) (take_more ids i d h) ∙ map-append (λ id. with_id id g) (take i ids) (get_or ids i d ∷ [])
 
--- what reads no id finds each copy as the glyph
-copy_at : (f : hb_glyph_info_t → ℕ) (g : hb_glyph_info_t) → ((id : ℕ) → f (record g { glyph_id = id }) ≡ f g) → (ids : List ℕ) (k : ℕ) → k < length (copies g ids) → f (at (copies g ids) k) ≡ f g
-copy_at f g reads_no_id ids k h =
-    ap f (get_or-map (λ id. record g { glyph_id = id }) ids k 0 zero_glyph (omega (arith, length-copies g ids))) ∙ reads_no_id (get_or ids k 0)
+pub length_copies : (g : hb_glyph_info_t) (ids : List ℕ) → length (copies g ids) ≡ length ids
+length_copies g ids = length-map ids (λ id. with_id id g)
 
-module _ (marks : Bool) (l : List hb_glyph_info_t) (p q : ℕ) (ids : List ℕ) (up : p ≤ q) (in_l : q ≤ length l) (here : p < length l) where
-  abbrev after_merge : List hb_glyph_info_t
-  after_merge = merged marks l p q 0
+-- both sides, the first n glyphs of the input merged
+abbrev pub front_merged : ℕ → State → List hb_glyph_info_t
+front_merged n s = merge_or_mark (any_order s) (both s) (length s.out) (length s.out + n) 0
 
-  -- after the merge, the replacement reads it
-  reading_replaced_of_merged : Reading after_merge (replaced marks l p q ids)
-  unfolding replaced
-  reading_replaced_of_merged =
-      let n = length-merged marks l p q 0 in
-      reading_replaced after_merge (copies (at after_merge p) ids) p q up (omega arith) (omega arith) (copy_at (λ g. g.cluster) (at after_merge p) (λ _. refl) ids) (copy_at (λ g. g.var2) (at after_merge p) (λ _. refl) ids)
+abbrev pub front_replaced : ℕ → List ℕ → State → State
+front_replaced n ids s =
+    let l = front_merged n s in
+    record s {
+      out = take (length s.out) l ++ copies (slice_index_or (drop (length s.out) l) 0 zero_glyph) ids;
+      input = drop n (drop (length s.out) l);
+      idx = s.idx + n;
+      scratch_flags = flagged_if (any_order s && not (ltb n 2)) s;
+    }
 
-  -- what readings and joins keep, a replacement keeps
-  pub replaced_keeps : (P : List hb_glyph_info_t → Type 0) → ((xs ys : List hb_glyph_info_t) → Reading xs ys → P xs → P ys)
-      → ((xs : List hb_glyph_info_t) (a b : ℕ) → b ≤ length xs → P xs → P (run_join xs a b 0)) → P l → P (replaced marks l p q ids)
-  replaced_keeps P reads joins h = reads after_merge (replaced marks l p q ids) reading_replaced_of_merged (merged_keeps P 0 reads joins marks l p q in_l h)
+pub replaced_sides : (n : ℕ) (ids : List ℕ) (s : State) → s.have_output ≡ true → replace_glyphs n ids s ≡ limited (length s.out + length ids) s (front_replaced n ids s)
+replaced_sides n ids s opened =
+    let start : length s.out + (s.idx - s.idx) ≡ length s.out = omega arith in
+    let end : length s.out + (s.idx + n - s.idx) ≡ length s.out + n = omega arith in
+    let count : s.idx + n - s.idx ≡ n = omega arith in
+    let head = slice_index_or (drop (length s.out) (front_merged n s)) 0 zero_glyph in
+    rw (opened, start, end, count, length-append s.out, length_copies head ids)
 
-  -- order, coarse lists, numbers and flags
-  pub replaced_keeps_order : IsMonotone l → IsMonotone (replaced marks l p q ids)
-  replaced_keeps_order = replaced_keeps IsMonotone monotone_reading (λ xs a b. run_join_keeps_order xs a b 0)
+-- it is done where the copies fit
+pub replaced_done : (n : ℕ) (ids : List ℕ) (s : State) → s.have_output ≡ true → length s.out + length ids ≤ s.max_len → replace_glyphs n ids s ≡ record { done = true; state = front_replaced n ids s }
+replaced_done n ids s opened fits = replaced_sides n ids s opened ∙ cond-true (leb (length s.out + length ids) s.max_len) _ _ (le-leb (length s.out + length ids) s.max_len fits)
 
-  pub replaced_keeps_coarse : IsCoarse l → IsCoarse (replaced marks l p q ids)
-  replaced_keeps_coarse = replaced_keeps IsCoarse coarse_reading run_join_keeps_coarse
+pub replaced_refused : (n : ℕ) (ids : List ℕ) (s : State) → s.have_output ≡ true → s.max_len < length s.out + length ids → replace_glyphs n ids s ≡ record { done = false; state = record s { successful = false } }
+replaced_refused n ids s opened long = replaced_sides n ids s opened ∙ cond-false (leb (length s.out + length ids) s.max_len) _ _ (lt-leb (length s.out + length ids) s.max_len long)
 
-  pub replaced_stands : (c : ℕ) → Stands c (replaced marks l p q ids) → Stands c l
-  replaced_stands c = replaced_keeps (λ xs. Stands c xs → Stands c l) (λ xs ys r h w. h (Stands-from_reading c xs ys r w)) (λ xs a b in_xs h w. h (run_join_stands xs a b 0 c in_xs w)) (λ w. w)
+-- a merge keeps the front in its place
+front_stays : (any_order : Bool) (l : List hb_glyph_info_t) (p q : ℕ) → p ≤ length l → p ≤ length (merge_or_mark any_order l p q 0)
+unfolding merge_or_mark
+front_stays true l p q h =
+    cond_both (ltb (q - p) 2) _ _ (λ (r : List hb_glyph_info_t). p ≤ length r) (λ _. h)
+    (λ _. omega (arith, length-append (take p l ++ mark BREAK_BITS (part l p q)) (drop q l), length-append (take p l) (mark BREAK_BITS (part l p q)), length-take-le p l h))
+front_stays false l p q h = omega (arith, length-run_merge l p q 0)
 
-  pub replaced_keeps_flags : FlagsAgree l → FlagsAgree (replaced marks l p q ids)
-  unfolding replaced
-  replaced_keeps_flags h =
-      let all : FlagsAgree after_merge = merged_keeps_flags marks l p q 0 h in
-      let head : BreakImpliesConcat (at after_merge p).mask = all p zero_glyph (omega (arith, length-merged marks l p q 0)) in
-      let same = copy_at (λ g. g.mask) (at after_merge p) (λ _. refl) ids in
-      new_part_keeps_flags after_merge (copies (at after_merge p) ids) p q all
-      (All-from_get_or (λ g. BreakImpliesConcat g.mask) (copies (at after_merge p) ids) zero_glyph (λ k lt. subst BreakImpliesConcat (sym (same k lt)) head))
+-- the out side becomes longer by the copies
+pub length_replaced : (n : ℕ) (ids : List ℕ) (s : State) → length (front_replaced n ids s).out ≡ length s.out + length ids
+length_replaced n ids s =
+    let l = front_merged n s in
+    let head = slice_index_or (drop (length s.out) l) 0 zero_glyph in
+    let whole = length-append s.out s.input in
+    let stays = front_stays (any_order s) (both s) (length s.out) (length s.out + n) (omega arith) in
+    omega (arith, length-append (take (length s.out) l) (copies head ids), length_copies head ids, length-take-le (length s.out) l stays)
 
--- where merges join, and a copy stands, so does the least cluster
-module _ (l : List hb_glyph_info_t) (p q : ℕ) (ids : List ℕ) (up : p ≤ q) (in_l : q ≤ length l) (here : p < length l) (some : 0 < length ids) where
-  abbrev after_join : List hb_glyph_info_t
-  after_join = run_join l p q 0
+-- of both sides as one list it is a replacement
+pub replaced_both : (n : ℕ) (ids : List ℕ) (s : State) → both (front_replaced n ids s) ≡ replacement (any_order s) (both s) (length s.out) (length s.out + n) ids
+unfolding replacement
+replaced_both n ids s =
+    let p = length s.out in
+    let l = front_merged n s in
+    let start : p + 0 ≡ p = omega arith in
+    ap (λ g. (take p l ++ copies g ids) ++ drop n (drop p l)) (get_or-drop p l 0 zero_glyph ∙ ap (λ k. get_or l k zero_glyph) start)
+    ∙ ap (λ r. (take p l ++ copies (get_or l p zero_glyph) ids) ++ r) (drop-drop n p l)
 
-  -- the places that are replaced are in one cluster
-  range_is_one : (k : ℕ) → p ≤ k → k < q → (at after_join k).cluster ≡ (at after_join p).cluster
-  range_is_one k h h2 =
-      let some_range : p < q = omega arith in
-      let start = widened_start-le (clusters l) p q 0 in
-      let end = widened_end-ge (clusters l) p q in
-      run_join_inside l p q 0 some_range k (omega arith) (omega arith) (omega arith) ∙ sym (run_join_inside l p q 0 some_range p here (omega arith) (omega arith))
-
-  least_stands_after_replacement : (c : ℕ) → IsLeast c l → Stands c (replaced false l p q ids)
-  unfolding replaced merged
-  least_stands_after_replacement c h =
-      let n = length-run_join l p q 0 in
-      let w = (run_join_keeps_IsLeast l p q 0 c in_l h).stands in
-      let k = w.0 in
-      let before : List hb_glyph_info_t = take p after_join in
-      let middle : List hb_glyph_info_t = copies (at after_join p) ids in
-      let after : List hb_glyph_info_t = drop q after_join in
-      let n_before : length before ≡ p = simp length-take (omega arith) in
-      let n_after : length after ≡ length after_join - q = length-drop q after_join in
-      elim (cases_lt k p) [
-        | inl lt ↦ stands_left c (before ++ middle) after (stands_left c before middle (k, omega arith, ap (λ g. g.cluster) (get_or-take p after_join k zero_glyph lt) ∙ w.2))
-        | inr ge ↦ elim (cases_lt k q) [
-          | inl lt ↦
-              let n_middle = length-copies (at after_join p) ids in
-              stands_left c (before ++ middle) after (stands_right c before middle
-              (0, omega arith, copy_at (λ g. g.cluster) (at after_join p) (λ _. refl) ids 0 (omega arith) ∙ sym (range_is_one k ge lt) ∙ w.2))
-          | inr ge2 ↦
-              let i : q + (k - q) ≡ k = omega arith in
-              stands_right c (before ++ middle) after (k - q, omega (arith, w.1), ap (λ g. g.cluster) (get_or-drop q after_join (k - q) zero_glyph ∙ ap (at after_join) i) ∙ w.2)
-        ]
-      ]
-
-  pub least-replaced : least (clusters (replaced false l p q ids)) ≡ least (clusters l)
-  least-replaced =
-      let c = least (clusters l) in
-      let h : IsLeast c l = IsLeast-least l (omega arith) in
-      let new : List hb_glyph_info_t = replaced false l p q ids in
-      least-from_IsLeast c new (record {
-        stands = least_stands_after_replacement c h;
-        low = λ k lt. let w = replaced_stands false l p q ids up in_l here (at new k).cluster (k, lt, refl) in omega (arith, h.low w.0 w.1, w.2);
-      })
+pub done_replacement : (n : ℕ) (ids : List ℕ) (s : State) → s.have_output ≡ true → (replace_glyphs n ids s).done ≡ true
+    → both (replace_glyphs n ids s).state ≡ replacement (any_order s) (both s) (length s.out) (length s.out + n) ids
+done_replacement n ids s opened done =
+    elim (cases_lt s.max_len (length s.out + length ids)) [
+      | inl long ↦ absurd (false≢true (sym (ap (λ (o : Outcome). o.done) (replaced_refused n ids s opened long)) ∙ done))
+      | inr fits ↦ ap (λ (o : Outcome). both o.state) (replaced_done n ids s opened fits) ∙ replaced_both n ids s
+    ]

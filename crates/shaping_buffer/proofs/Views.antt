@@ -1,7 +1,8 @@
 -- Lists seen from the whole input and from what is left of it.
-use Rattle.std.proofs.Common.{◌≡◌, ℕ, ◌+◌, ◌≤◌, Bool, true, false, List, length, drop, refl, sym, arith, if◌then◌else◌, length-drop}
+use Rattle.std.proofs.Common.{◌≡◌, ℕ, ◌+◌, ◌≤◌, Bool, true, false, List, ◌++◌, length, take, drop, refl, sym, ap, ◌∙◌, arith, if◌then◌else◌, length-drop}
 use Rattle.std.proofs.Math.ListN.{set}
-use Rattle.std.proofs.lemmas.List.{drop-drop, drop-set-add}
+use Rattle.std.proofs.Math.Seq.{drop-append_seam}
+use Rattle.std.proofs.lemmas.List.{drop-drop, drop-set-add, drop_at, length-take-le}
 
 -- what is left after one more glyph, seen from the vector and from what was left
 pub left_after : {X : Type 0} (is : Bool) (n : ℕ) (xs : List X) → (if is then drop (n + 1) xs else xs) ≡ (if is then drop 1 (if is then drop n xs else xs) else (if is then drop n xs else xs))
@@ -17,3 +18,22 @@ set_left false n k xs x = refl
 pub len_left : {X : Type 0} (is : Bool) (n : ℕ) (xs : List X) → n ≤ length xs → (if is then n + length (if is then drop n xs else xs) else length (if is then drop n xs else xs)) ≡ length xs
 len_left true n xs h = omega (arith, length-drop n xs)
 len_left false n xs h = refl
+
+-- ---- what an open output leaves to read, or the whole input
+
+-- seen from the vector
+pub input_of : {X : Type 0} (is : Bool) (n : ℕ) (xs : List X) → drop (if is then n else 0) xs ≡ (if is then drop n xs else xs)
+input_of true n xs = refl
+input_of false n xs = refl
+
+-- other items in its stead
+pub new_input : {X : Type 0} (is : Bool) (n : ℕ) (xs ys : List X) → n ≤ length xs
+    → (if is then drop n (take (if is then n else 0) xs ++ ys) else take (if is then n else 0) xs ++ ys) ≡ ys
+new_input true n xs ys h = drop_at (take n xs) ys n (length-take-le n xs h)
+new_input false n xs ys h = refl
+
+pub ruleset sides = (input_of, new_input)
+
+-- what stands after a front that is whole
+pub behind : {X : Type 0} (n : ℕ) (xs ys : List X) → n ≤ length xs → drop n (take n xs ++ ys) ≡ ys
+behind n xs ys h = ap (λ k. drop k (take n xs ++ ys)) (sym (length-take-le n xs h)) ∙ drop-append_seam (take n xs) ys

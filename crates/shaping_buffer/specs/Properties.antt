@@ -2,9 +2,9 @@
 use Rattle.std.specs.Prelude.{ℕ, List, Option, None, Some}
 use Rattle.rb_text.specs.declared.direction.Direction.{Direction}
 use Rattle.rb_text.specs.declared.direction.Direction.TheVariants.{Invalid}
-use Rattle.shaping_buffer.specs.Context.{before_text, after_text}
-use Rattle.shaping_buffer.specs.Guess.{guessed_script, guessed_direction}
-use Rattle.shaping_buffer.specs.ClusterNumbers.{clusters_reset}
+use Rattle.glyph_lists.specs.Context.{before_text, after_text}
+use Rattle.glyph_lists.specs.Guess.{guessed_script, guessed_direction}
+use Rattle.glyph_lists.specs.ClusterNumbers.{reset_clusters}
 use Rattle.shaping_buffer.specs.State.{State}
 
 abbrev pub with_pre_context : List ℕ → State → State
@@ -15,7 +15,7 @@ with_post_context text s = record s { post_context = after_text text }
 
 -- each glyph has its place as cluster, modulo 2^32
 abbrev pub with_clusters_reset : State → State
-with_clusters_reset s = record s { input = clusters_reset 0 s.input }
+with_clusters_reset s = record s { input = reset_clusters 0 s.input }
 
 -- the first, or the second where there is none
 abbrev pub or_else : {X : Type 0} → Option X → Option X → Option X

@@ -16,7 +16,7 @@ glyphs_at offset (c ∷ cs) = character c (offset % 4294967296) ∷ glyphs_at (o
 
 -- these glyphs stand at the end of the list
 abbrev pub grown : List hb_glyph_info_t → State → Outcome
-grown xs s = limited (s.input ++ xs) s (record s { input = s.input ++ xs })
+grown xs s = limited (length (s.input ++ xs)) s (record s { input = s.input ++ xs })
 
 -- `push_str`: the glyphs of the text, numbered from its first byte, stand at the end of the list
 abbrev pub pushed : List ℕ → State → Outcome
@@ -26,4 +26,4 @@ pushed text s = grown (glyphs_at 0 (chars text)) s
 abbrev pub added : ℕ → ℕ → State → Outcome
 added c cluster s =
     let list = s.input ++ character c cluster ∷ [] in
-    limited list s (record s { input = list; post_context = [] })
+    limited (length list) s (record s { input = list; post_context = [] })

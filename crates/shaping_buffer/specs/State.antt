@@ -6,19 +6,19 @@ use Rattle.rb_text.specs.declared.direction.Direction.TheVariants.{Invalid}
 use Rattle.rb_glyph.specs.declared.flag_sets.BufferFlags.{BufferFlags}
 use Rattle.rb_glyph.specs.declared.info.hb_glyph_info_t.{hb_glyph_info_t}
 use Rattle.rb_glyph.specs.declared.position.GlyphPosition.{GlyphPosition}
-use Rattle.shaping_buffer.specs.Guess.{AreCharacters}
+use Rattle.glyph_lists.specs.Guess.{AreCharacters}
 
 -- While an output is open, `out` is what was put out, and `input` what is left to read.
 -- With no output open `out` is empty, and `input` is the whole list, with the cursor in it.
 pub record State : Type 0 where
-  pub is_open : Bool
+  pub have_output : Bool
   pub out : List hb_glyph_info_t
   pub input : List hb_glyph_info_t
   pub idx : ℕ
   -- whether no call was refused for length
-  pub ok : Bool
+  pub successful : Bool
   -- how many glyphs a side may hold
-  pub limit : ℕ
+  pub max_len : ℕ
   -- the positions, while they are on
   pub positions : Option (List GlyphPosition)
   -- the characters next to the text, before it and after it, nearest first
@@ -38,16 +38,16 @@ pub record State : Type 0 where
   pub max_ops : ℤ
 
 -- how many glyphs the input has, those before the cursor among them
-abbrev pub len_of : State → ℕ
-len_of s = if s.is_open then s.idx + length s.input else length s.input
+abbrev pub len : State → ℕ
+len s = if s.have_output then s.idx + length s.input else length s.input
 
 -- how many glyphs there are at the cursor and after it
-abbrev pub ahead_of : State → ℕ
-ahead_of s = len_of s - s.idx
+abbrev pub lookahead_len : State → ℕ
+lookahead_len s = len s - s.idx
 
 -- where the glyph k places after the cursor lies in the input
 abbrev pub place_of : State → ℕ → ℕ
-place_of s k = if s.is_open then k else s.idx + k
+place_of s k = if s.have_output then k else s.idx + k
 
 -- no flags
 abbrev pub no_flags : BufferFlags
@@ -55,13 +55,13 @@ no_flags = record { 0 = 0 }
 
 -- nothing is held
 abbrev pub empty_state : ℕ → ℤ → State
-empty_state limit max_ops = record {
-  is_open = false;
+empty_state max_len max_ops = record {
+  have_output = false;
   out = [];
   input = [];
   idx = 0;
-  ok = true;
-  limit = limit;
+  successful = true;
+  max_len = max_len;
   positions = None;
   pre_context = [];
   post_context = [];
@@ -80,16 +80,16 @@ empty_state limit max_ops = record {
 
 -- emptied for the next text: the limits, the flags, the invisible glyph and whether shaping failed stay
 abbrev pub cleared : State → State
-cleared s = record (empty_state s.limit s.max_ops) { flags = s.flags; invisible = s.invisible; shaping_failed = s.shaping_failed }
+cleared s = record (empty_state s.max_len s.max_ops) { flags = s.flags; invisible = s.invisible; shaping_failed = s.shaping_failed }
 
 -- a text that is not yet shaped: no output is open, the cursor is at the start, there are no positions, and the ids are characters
 pub record IsText (s : State) : Type 0 where
-  pub closed : s.is_open ≡ false
+  pub closed : s.have_output ≡ false
   pub at_start : s.idx ≡ 0
   pub plain : s.positions ≡ None
   pub characters : AreCharacters s.input
 
 -- shaped glyphs: no output is open, and positions are on
-pub record IsPlaced (s : State) : Type 0 where
-  pub closed : s.is_open ≡ false
+pub record HasPositions (s : State) : Type 0 where
+  pub closed : s.have_output ≡ false
   pub placed : IsSome s.positions

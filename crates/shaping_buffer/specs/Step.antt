@@ -1,8 +1,10 @@
 -- A cursor call's step: what it makes of the two lists, and when it is refused for length.
-use Rattle.std.specs.Prelude.{◌≡◌, ℕ, ◌+◌, ◌-◌, ◌==◌, Bool, true, false, List, [], ◌++◌, length, take, drop, map, None, Result, Ok, Err, nat_le, if◌then◌else◌}
+use Rattle.std.specs.Prelude.{◌≡◌, ℕ, ◌+◌, ◌-◌, ◌<◌, ◌==◌, ◌⊎◌, Bool, true, false, List, [], ◌∷◌, ◌++◌, length, take, drop, map, None, Result, Ok, Err, nat_le, if◌then◌else◌}
 use Rattle.std.specs.declared.alloc.AllocError.{AllocError}
 use Rattle.rb_glyph.specs.declared.info.hb_glyph_info_t.{hb_glyph_info_t}
-use Rattle.shaping_buffer.specs.State.{State}
+use Rattle.glyph_lists.specs.Replacement.{copies}
+use Rattle.shaping_buffer.specs.State.{State, len}
+use Rattle.shaping_buffer.specs.ClusterStep.{merge_clusters, head_of}
 
 -- ---- the answer of a call
 
@@ -11,10 +13,12 @@ pub record Outcome : Type 0 where
   pub done : Bool
   pub state : State
 
--- The length rule: a call that holds these glyphs in the end is refused exactly where they are more than the limit. Then it only clears ok.
-abbrev pub limited : List hb_glyph_info_t → State → State → Outcome
+-- The length rule: a call that holds so many glyphs in the end is refused exactly where they are more than max_len. Then
+-- it only clears successful.
+abbrev pub limited : ℕ → State → State → Outcome
 limited held before after =
-    if nat_le (length held) before.limit then record { done = true; state = after } else record { done = false; state = record before { ok = false } }
+    if nat_le held before.max_len then record { done = true; state = after }
+    else record { done = false; state = record before { successful = false } }
 
 -- a call that holds nothing is never refused
 abbrev pub unlimited : State → Outcome
@@ -24,15 +28,27 @@ unlimited after = record { done = true; state = after }
 abbrev pub refused : State → Outcome
 refused s = record { done = false; state = s }
 
--- What came of a cursor call: its outcome, or want of memory, which comes with an output open alone, hides no refusal and changes nothing.
-abbrev pub Meets : Outcome → State → Result Bool AllocError → State → Type 0
-Meets outcome old (Ok done) new = (done ≡ outcome.done) × (new ≡ outcome.state)
-Meets outcome old (Err e) new = (old.is_open ≡ true) × (outcome.done ≡ true) × (new ≡ old)
+-- one side becomes longer
+abbrev pub Grows : State → State → Type 0
+Grows before after = (length before.out < length after.out) ⊎ (length before.input < length after.input)
 
--- What came of a call that grows the list: its outcome, or want of memory, which hides no refusal and changes nothing.
-abbrev pub MeetsOnList : Outcome → State → Result Bool AllocError → State → Type 0
-MeetsOnList outcome old (Ok done) new = (done ≡ outcome.done) × (new ≡ outcome.state)
-MeetsOnList outcome old (Err e) new = (outcome.done ≡ true) × (new ≡ old)
+-- What came of a call: its outcome, or want of memory, which comes where the call may want some, hides no refusal and
+-- changes nothing.
+abbrev pub MeetsOrWants : Type 0 → Outcome → State → Result Bool AllocError → State → Type 0
+MeetsOrWants may_want outcome old (Ok done) new = (done ≡ outcome.done) × (new ≡ outcome.state)
+MeetsOrWants may_want outcome old (Err e) new = may_want × (outcome.done ≡ true) × (new ≡ old)
+
+-- of a cursor call: it may want memory where an output is open and a side becomes longer
+abbrev pub Meets : Outcome → State → Result Bool AllocError → State → Type 0
+Meets outcome old result new = MeetsOrWants ((old.have_output ≡ true) × Grows old outcome.state) outcome old result new
+
+-- of a call that grows the list: it may want memory where the list becomes longer
+abbrev pub GrowthMeets : Outcome → State → Result Bool AllocError → State → Type 0
+GrowthMeets outcome old result new = MeetsOrWants (length old.input < length outcome.state.input) outcome old result new
+
+-- of `ensure`: it may want memory where there is to be more room than the list takes
+abbrev pub RoomMeets : ℕ → Outcome → State → Result Bool AllocError → State → Type 0
+RoomMeets size outcome old result new = MeetsOrWants (len old < size) outcome old result new
 
 -- ---- the steps
 
@@ -40,46 +56,88 @@ MeetsOnList outcome old (Err e) new = (outcome.done ≡ true) × (new ≡ old)
 abbrev pub with_id : ℕ → hb_glyph_info_t → hb_glyph_info_t
 with_id id g = record g { glyph_id = id }
 
--- these glyphs are put out
-abbrev pub appended : List hb_glyph_info_t → State → State
-appended xs s = record s { out = s.out ++ xs }
-
--- the cursor goes over n glyphs
-abbrev pub passed : ℕ → State → State
-passed n s = record s { input = (if s.is_open then drop n s.input else s.input); idx = s.idx + n }
-
--- these glyphs are put out, and the cursor goes over n
-abbrev pub put : List hb_glyph_info_t → ℕ → State → Outcome
-put xs n s = limited (s.out ++ xs) s (passed n (appended xs s))
+-- these glyphs are put out, and all else is as in `after`
+abbrev pub put_out : List hb_glyph_info_t → State → State → Outcome
+put_out xs s after = limited (length (s.out ++ xs)) s (record after { out = after.out ++ xs })
 
 -- `clear_output`: an output is open with nothing in it, the cursor is at the start, and positions are off
-abbrev pub opened : State → State
-opened s = record s { is_open = true; out = []; idx = 0; positions = None }
+abbrev pub clear_output : State → State
+clear_output s = record s { have_output = true; out = []; idx = 0; positions = None }
 
--- `next_glyph`: the head goes to the end of the out side; with no output only the cursor moves
-abbrev pub next : State → Outcome
-next s = if s.is_open then put (take 1 s.input) 1 s else unlimited (passed 1 s)
+-- n glyphs at the cursor are dropped; with no output only the cursor moves
+abbrev pub skip_glyphs : ℕ → State → State
+skip_glyphs n s = record s { input = (if s.have_output then drop n s.input else s.input); idx = s.idx + n }
 
--- `skip_glyph`: the head is dropped; with no output only the cursor moves
-abbrev pub skipped : State → State
-skipped s = passed 1 s
+-- `skip_glyph`
+abbrev pub skip_glyph : State → State
+skip_glyph s = skip_glyphs 1 s
 
--- `replace_glyph`: the head goes to the end of the out side under another id
-abbrev pub replace : ℕ → State → Outcome
-replace id s = put (map (with_id id) (take 1 s.input)) 1 s
+-- `next_glyphs`: n glyphs at the cursor are put out; with no output only the cursor moves
+abbrev pub next_glyphs : ℕ → State → Outcome
+next_glyphs n s = if s.have_output then put_out (take n s.input) s (skip_glyphs n s) else unlimited (skip_glyphs n s)
+
+-- `next_glyph`
+abbrev pub next_glyph : State → Outcome
+next_glyph s = next_glyphs 1 s
+
+-- `replace_glyph`: the head is put out under another id
+abbrev pub replace_glyph : ℕ → State → Outcome
+replace_glyph id s = put_out (map (with_id id) (take 1 s.input)) s (skip_glyph s)
+
+-- `replace_glyphs`: the first n glyphs of the input are merged, or marked, and in their stead copies of the head as it
+-- then stands are put out, one under each id; where they are too many, nothing is merged
+abbrev pub replace_glyphs : ℕ → List ℕ → State → Outcome
+replace_glyphs n ids s =
+    let m = merge_clusters s.idx (s.idx + n) s in
+    put_out (copies (head_of m) ids) s (skip_glyphs n m)
 
 -- the glyph that a new one is a copy of: the head of the input, or the last that was put out where nothing is left
-abbrev pub model_of : State → List hb_glyph_info_t
-model_of s = if length s.input == 0 then drop (length s.out - 1) s.out else take 1 s.input
+abbrev pub glyph_to_copy : State → List hb_glyph_info_t
+glyph_to_copy s = if length s.input == 0 then drop (length s.out - 1) s.out else take 1 s.input
 
--- `output_glyph`: a copy of the model under another id is put out, and nothing where both sides are empty
-abbrev pub output : ℕ → State → Outcome
-output id s = let after = appended (map (with_id id) (model_of s)) s in limited after.out s after
+-- `output_glyph`: a copy is put out under another id, and nothing where both sides are empty
+abbrev pub output_glyph : ℕ → State → Outcome
+output_glyph id s = put_out (map (with_id id) (glyph_to_copy s)) s s
 
--- the output is closed: the list is what was put out, and then what was left to read
-abbrev pub closed : State → State
-closed s = record s { is_open = false; out = []; input = s.out ++ s.input; idx = 0 }
+-- `output_info`: this glyph is put out
+abbrev pub output_info : hb_glyph_info_t → State → Outcome
+output_info g s = put_out (g ∷ []) s s
 
--- `sync`: as closed, once every call was done; after a refusal nothing
+-- `copy_glyph`: a copy of the head is put out
+abbrev pub copy_glyph : State → Outcome
+copy_glyph s = put_out (take 1 s.input) s s
+
+-- both sides, split at i; the cursor counts on by the glyphs that were put out, and back by those that were taken back, not
+-- below the start
+abbrev pub split_at : ℕ → State → State
+split_at i s =
+    record s {
+      out = take i (s.out ++ s.input);
+      input = drop i (s.out ++ s.input);
+      idx = s.idx + (i - length s.out) - (length s.out - i);
+    }
+
+-- the last place that `move_to` may go to
+abbrev pub last_place : State → ℕ
+last_place s = if s.have_output then length s.out + length s.input else length s.input
+
+-- `move_to`: both sides are split at i, and a move forward holds what was then put out, one backward what is then left to
+-- read; with no output only the cursor moves; after a refusal nothing
+abbrev pub move_to : ℕ → State → Outcome
+move_to i s =
+    let after = split_at i s in
+    if s.have_output then
+    (if s.successful then limited (if nat_le (length s.out) i then length after.out else length after.input) s after
+    else refused s)
+    else unlimited (record s { idx = i })
+
+-- `sync`: the output is closed, and the list is what was put out, and then what was left to read; after a refusal nothing
 abbrev pub sync : State → Outcome
-sync s = if s.ok then limited (s.out ++ s.input) s (closed s) else refused s
+sync s =
+    let l = s.out ++ s.input in
+    if s.successful then limited (length l) s (record s { have_output = false; out = []; input = l; idx = 0 })
+    else refused s
+
+-- `ensure`: room alone is made
+abbrev pub ensure : ℕ → State → Outcome
+ensure n s = limited n s s

@@ -1,13 +1,17 @@
 //! The buffer: its fields, what callers see of it, and its readers.
 
-ghost use Rattle.std.specs.Prelude.{◌≡◌, ◌<◌, ◌≤◌, ◌==◌, ◌↔◌, length, IsTrue, IsSome, if◌then◌else◌};
-ghost use Rattle.shaping_buffer.specs.State.{len_of, ahead_of, empty_state, cleared};
+ghost use Rattle.std.specs.Prelude.{◌≡◌, ◌<◌, ◌≤◌, ◌==◌, ◌↔◌, [], true, false, if◌then◌else◌};
+ghost use Rattle.std.specs.Prelude.{None, IsSome, IsTrue, length, pos};
+ghost use Rattle.shaping_buffer.specs.State.{len, lookahead_len, empty_state, cleared};
+ghost use Rattle.shaping_buffer.specs.ClusterStep as cluster_step;
 
-use crate::cluster_level::{HB_BUFFER_CLUSTER_LEVEL_DEFAULT, hb_buffer_cluster_level_t};
-use crate::context::Context;
+use crate::cluster_level::{
+    HB_BUFFER_CLUSTER_LEVEL_CHARACTERS, HB_BUFFER_CLUSTER_LEVEL_DEFAULT, hb_buffer_cluster_level_t,
+};
+use glyph_lists::context::{CONTEXT_LENGTH, Context};
 use rb_glyph::{
-    BufferFlags, Flags, GlyphPosition, HB_BUFFER_SCRATCH_FLAG_DEFAULT, hb_buffer_scratch_flags_t,
-    hb_glyph_info_t,
+    BufferFlags, Flags, GlyphPosition, HB_BUFFER_SCRATCH_FLAG_DEFAULT,
+    HB_BUFFER_SCRATCH_FLAG_HAS_GLYPH_FLAGS, hb_buffer_scratch_flags_t, hb_glyph_info_t,
 };
 use rb_text::{Direction, GlyphId, Language, Script};
 use std::alloc::Global;
@@ -16,12 +20,19 @@ use std::marker::Model;
 mod cursor;
 mod deletion;
 mod glyph_flags;
+mod groups;
 mod growth;
+mod limits;
 mod masks;
 mod merging;
+mod moving;
 mod positions;
 mod properties;
+#[cfg(test)]
+mod reader_tests;
 mod references;
+mod replacement;
+mod sides;
 #[cfg(test)]
 mod tests;
 
@@ -70,15 +81,15 @@ impl Model for hb_buffer_t {
 
     ghost Value = { State };
 
-    ghost use Rattle.shaping_buffer.specs.Kept.{Kept};
+    ghost use Rattle.shaping_buffer.specs.IsConsistent.{IsConsistent};
 
     ghost view = { λ b. record {
-      is_open = b.have_output;
+      have_output = b.have_output;
       out = b.out_info.items;
       input = if b.have_output then drop b.cursor b.info.items else b.info.items;
       idx = b.cursor;
-      ok = b.successful;
-      limit = b.max_len;
+      successful = b.successful;
+      max_len = b.max_len;
       positions = if b.have_positions then Some b.pos.items else None;
       pre_context = b.pre_context.items;
       post_context = b.post_context.items;
@@ -95,7 +106,7 @@ impl Model for hb_buffer_t {
       max_ops = b.max_ops;
     } };
 
-    ghost invariant = { Kept };
+    ghost invariant = { IsConsistent };
 }
 
 impl hb_buffer_t {
@@ -105,9 +116,11 @@ impl hb_buffer_t {
     /// How many operations a shaper may make, where nothing else is said.
     pub const MAX_OPS_DEFAULT: i32 = 0x1FFF_FFFF;
 
-    /// An empty buffer, which takes its memory from `alloc` later.
+    /// An empty buffer with the limits above, which takes its memory from `alloc` later.
     pub fn new(alloc: Global) -> Self
-        ensures { result ≡ empty_state Self.MAX_LEN_DEFAULT Self.MAX_OPS_DEFAULT }
+        ensures empty { result ≡ empty_state Self.MAX_LEN_DEFAULT Self.MAX_OPS_DEFAULT }
+        ensures max_len { result.max_len ≡ 0x3FFF_FFFF }
+        ensures max_ops { result.max_ops ≡ pos 0x1FFF_FFFF }
     {
         hb_buffer_t {
             flags: BufferFlags::empty(),
@@ -136,17 +149,18 @@ impl hb_buffer_t {
 
     /// How many glyphs the input has, those before the cursor among them.
     pub fn len(&self) -> usize
-        ensures len { result ≡ len_of self.now }
-        ensures within { len_of self.now ≤ self.now.limit }
-        ensures cursor { self.now.idx ≤ len_of self.now }
+        ensures len { result ≡ len self.now }
+        ensures within { len self.now ≤ self.now.max_len }
+        ensures cursor { self.now.idx ≤ len self.now }
     {
         self.info.len()
     }
 
-    /// How many glyphs were put out.
+    /// How many glyphs were put out: none while no output is open.
     pub fn out_len(&self) -> usize
         ensures out_len { result ≡ length self.now.out }
-        ensures within { length self.now.out ≤ self.now.limit }
+        ensures within { length self.now.out ≤ self.now.max_len }
+        ensures closed { self.now.have_output ≡ false → self.now.out ≡ [] }
     {
         self.out_info.len()
     }
@@ -160,35 +174,36 @@ impl hb_buffer_t {
 
     /// How many glyphs each side may hold at the most.
     pub fn max_len(&self) -> usize
-        ensures { result ≡ self.now.limit }
+        ensures { result ≡ self.now.max_len }
     {
         self.max_len
     }
 
     /// Whether no call was refused for length since the buffer was made or cleared.
     pub fn successful(&self) -> bool
-        ensures { result ≡ self.now.ok }
+        ensures { result ≡ self.now.successful }
     {
         self.successful
     }
 
     /// Whether an output is open.
     pub fn have_output(&self) -> bool
-        ensures { result ≡ self.now.is_open }
+        ensures { result ≡ self.now.have_output }
     {
         self.have_output
     }
 
-    /// Whether the glyphs have positions.
+    /// Whether the glyphs have positions. While an output is open they have none.
     pub fn have_positions(&self) -> bool
-        ensures { IsTrue result ↔ IsSome self.now.positions }
+        ensures on { IsTrue result ↔ IsSome self.now.positions }
+        ensures open { self.now.have_output ≡ true → self.now.positions ≡ None }
     {
         self.have_positions
     }
 
     /// Whether the input has no glyph, before the cursor or after it.
     pub fn is_empty(&self) -> bool
-        ensures { IsTrue result ↔ (len_of self.now ≡ 0) }
+        ensures { IsTrue result ↔ (len self.now ≡ 0) }
     {
         self.info.is_empty()
     }
@@ -213,7 +228,7 @@ impl hb_buffer_t {
 
     /// How many glyphs stand before the cursor: those that were put out, or with no output open those before it.
     pub fn backtrack_len(&self) -> usize
-        ensures { result ≡ (if self.now.is_open then length self.now.out else self.now.idx) }
+        ensures { result ≡ (if self.now.have_output then length self.now.out else self.now.idx) }
     {
         if self.have_output {
             self.out_info.len()
@@ -224,15 +239,18 @@ impl hb_buffer_t {
 
     /// How many glyphs there are at the cursor and after it.
     pub fn lookahead_len(&self) -> usize
-        ensures { result ≡ ahead_of self.now }
+        ensures { result ≡ lookahead_len self.now }
     {
         self.info.len() - self.cursor
     }
 
-    /// The characters next to the text, at most five, nearest first: before it (side 0) or after it (side 1).
+    /// The characters next to the text, at most five, nearest first: before it (side 0) or after it (side 1). Requires
+    /// one of these sides.
     pub fn context(&self, side: usize) -> &[char]
         requires { side < 2 }
-        ensures { result.now ≡ (if side == 0 then self.now.pre_context else self.now.post_context) }
+        ensures side { result.now
+            ≡ (if side == 0 then self.now.pre_context else self.now.post_context) }
+        ensures at_most_five { length result.now ≤ CONTEXT_LENGTH }
     {
         if side == 0 {
             return self.pre_context.as_slice();
@@ -262,5 +280,20 @@ impl hb_buffer_t {
         self.language = None;
         self.serial = 0;
         self.scratch_flags = HB_BUFFER_SCRATCH_FLAG_DEFAULT;
+    }
+
+    /// Whether clusters may stand in any order: then merges mark glyphs in place of merging, and scans read all
+    /// clusters.
+    fn any_order(&self) -> bool
+        ensures { result ≡ cluster_step.any_order self.now }
+    {
+        self.cluster_level == HB_BUFFER_CLUSTER_LEVEL_CHARACTERS
+    }
+
+    /// Says that there are glyph flags.
+    fn set_has_glyph_flags(&mut self)
+        ensures { self.new ≡ cluster_step.flagged self.old }
+    {
+        self.scratch_flags |= HB_BUFFER_SCRATCH_FLAG_HAS_GLYPH_FLAGS;
     }
 }

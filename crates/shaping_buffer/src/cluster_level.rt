@@ -7,10 +7,11 @@ ghost use Rattle.shaping_buffer.specs.ClusterLevel.{level_of, named_level};
 /// [`HB_BUFFER_CLUSTER_LEVEL_MONOTONE_GRAPHEMES`].
 pub type hb_buffer_cluster_level_t = u32;
 
-/// Merges join. A shaper that stands above first makes the characters of a grapheme one cluster; no call here does.
+/// Merges change clusters. A shaper that stands above first makes the characters of a grapheme one cluster; no call
+/// here does.
 pub const HB_BUFFER_CLUSTER_LEVEL_MONOTONE_GRAPHEMES: hb_buffer_cluster_level_t = 0;
 
-/// Merges join. A shaper that stands above leaves each character in its own cluster.
+/// Merges change clusters. A shaper that stands above leaves each character in its own cluster.
 pub const HB_BUFFER_CLUSTER_LEVEL_MONOTONE_CHARACTERS: hb_buffer_cluster_level_t = 1;
 
 /// Merges mark glyphs as unsafe to break instead, and clusters may stand in any order. A deletion may still hand its
@@ -24,10 +25,11 @@ pub const HB_BUFFER_CLUSTER_LEVEL_DEFAULT: hb_buffer_cluster_level_t =
 /// How far clusters are merged, by name.
 #[derive(Clone, Copy, PartialEq, Eq, Hash, Debug, Default)]
 pub enum BufferClusterLevel {
-    /// Merges join. A shaper that stands above first makes the characters of a grapheme one cluster; no call here does.
+    /// Merges change clusters. A shaper that stands above first makes the characters of a grapheme one cluster; no
+    /// call here does.
     #[default]
     MonotoneGraphemes,
-    /// Merges join. A shaper that stands above leaves each character in its own cluster.
+    /// Merges change clusters. A shaper that stands above leaves each character in its own cluster.
     MonotoneCharacters,
     /// Merges mark glyphs as unsafe to break instead, and clusters may stand in any order. A deletion may still hand
     /// its cluster on.

@@ -1,13 +1,12 @@
 //! Shaped glyphs.
 
-ghost use Rattle.std.specs.Prelude.{◌≡◌, ◌⊎◌, ◌==◌, false, length, IsTrue, ◌↔◌, Some, IsSome, IfOk, string_bytes};
-ghost use Rattle.shaping_buffer.specs.State.{cleared, IsPlaced};
-ghost use Rattle.shaping_buffer.specs.Text.{text_of};
+ghost use Rattle.std.specs.Prelude.{◌≡◌, true, false, length, IsTrue, ◌↔◌, Some, IsSome, IfOk, string_bytes};
+ghost use Rattle.shaping_buffer.specs.State.{cleared, HasPositions};
+ghost use Rattle.shaping_buffer.specs.Text.{text_of, asks_font, AreGlyphs};
 
 use crate::buffer::hb_buffer_t;
 use crate::serialize::glyphs_text;
 use crate::unicode_buffer::UnicodeBuffer;
-use bitflags::Flags;
 use rb_glyph::{GlyphNames, GlyphPosition, SerializeFlags, hb_glyph_info_t};
 use std::alloc::{AllocError, Global};
 use std::marker::Model;
@@ -22,22 +21,22 @@ pub struct GlyphBuffer {
 }
 
 impl Model for GlyphBuffer {
-    ghost use Rattle.shaping_buffer.specs.State.{State, IsPlaced};
+    ghost use Rattle.shaping_buffer.specs.State.{State, HasPositions};
 
     ghost Value = { State };
 
     ghost view = { λ g. g.buffer };
 
-    ghost invariant = { λ g. IsPlaced g.buffer };
+    ghost invariant = { λ g. HasPositions g.buffer };
 }
 
 impl GlyphBuffer {
     /// The glyphs of a buffer. It asks that no output is open and positions are on.
     pub fn from_buffer(buffer: hb_buffer_t) -> Self
-        requires closed { buffer.is_open ≡ false }
+        requires closed { buffer.have_output ≡ false }
         requires placed { IsSome buffer.positions }
         ensures is { result ≡ buffer }
-        ensures placed { IsPlaced result }
+        ensures placed { HasPositions result }
     {
         GlyphBuffer { buffer }
     }
@@ -81,23 +80,30 @@ impl GlyphBuffer {
         UnicodeBuffer::of_cleared(buffer)
     }
 
-    /// The glyphs as a text, in rustybuzz's form of the format of HarfBuzz's `hb_buffer_serialize_glyphs`, with no
-    /// brackets around: `id=cluster` for each, then `@x,y` unless both offsets are 0, `+x`, and `,y` unless that advance
-    /// is 0 (neither offset nor advance under `NO_POSITIONS`), joined by `|`. It asks `NO_GLYPH_NAMES`, alone or with
-    /// `NO_POSITIONS`. `Err(AllocError)` where memory ran out: then there is no text.
+    /// The glyphs as a text, in rustybuzz's form of the format of HarfBuzz's `hb_buffer_serialize_glyphs`: one text for
+    /// each glyph, joined by `|`, with no brackets around. A glyph's text is its name, or `gid` and its number where the
+    /// font has no name for it; `=` and the cluster; `@x,y`, the offsets, unless both are 0; `+x`, the advance, and then
+    /// `,y` unless that is 0; under `GLYPH_FLAGS` `#` and the glyph flags as a digit, unless they are 0; under
+    /// `GLYPH_EXTENTS` `<x_bearing,y_bearing,width,height>`, zeros where the font has none. `NO_GLYPH_NAMES` writes the
+    /// number alone, `NO_CLUSTERS` leaves the cluster out, `NO_POSITIONS` offsets and advances, and `NO_ADVANCES` the
+    /// advances: then the sums of all earlier advances are added to the offsets.
+    ///
+    /// Requires numbers of at most 65535 where names or extents are written. `Err(AllocError)` where memory ran out: then
+    /// there is no text.
     pub fn serialize<F: GlyphNames>(
         &self,
         alloc: Global,
-        _font: &F,
+        font: &F,
         flags: SerializeFlags,
     ) -> Result<String, AllocError>
-        requires { (flags.0 ≡ 4) ⊎ (flags.0 ≡ 6) }
-        ensures { IfOk result (λ text. string_bytes text ≡ text_of (flags.0 == 4) self.now) }
+        requires { asks_font flags ≡ true → AreGlyphs self.now.input }
+        ensures { IfOk result (λ text. string_bytes text ≡ text_of
+            (record { name = F.name_of font.now; extents = F.extents_of font.now }) flags self.now) }
     {
-        let with_positions = !flags.contains(SerializeFlags::NO_POSITIONS);
         glyphs_text(
             alloc,
-            with_positions,
+            font,
+            flags,
             self.glyph_infos(),
             self.glyph_positions(),
         )

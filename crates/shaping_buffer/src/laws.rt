@@ -1,229 +1,69 @@
-//! Laws of the definitions of joins, marks, deletion, replacement and `sync`.
+//! Laws of the definitions that the contracts of a buffer's calls name.
 //!
-//! Each function here is empty. Its contract is a fact of definitions, those that the contracts of a
-//! buffer's calls name among them, and holds for every list of glyphs.
+//! Each function here is empty. Its contract is a fact of definitions, and holds for every state.
 
-ghost use Rattle.std.specs.Prelude.{◌≡◌, ◌⊎◌, ◌↔◌, ℕ, ◌+◌, ◌<◌, ◌≤◌, ◌++◌, Bool, true, false, List, [], ◌∷◌, length, map, take, drop, slice_index, slice_index_or};
+ghost use Rattle.std.specs.Prelude.{◌≡◌, ◌≤◌, ◌+◌, ◌++◌, ℕ, pos, Bool, true, false, List, [], length, map};
+ghost use Rattle.std.specs.List.{All};
+ghost use Rattle.glyph_lists.specs.Replacement.{replacement};
+ghost use Rattle.shaping_buffer.specs.declared.buffer.TheConstants.hb_buffer_t.{MAX_LEN_DEFAULT, MAX_LEN_FACTOR, MAX_LEN_MIN, MAX_OPS_DEFAULT, MAX_OPS_FACTOR, MAX_OPS_MIN};
+ghost use Rattle.shaping_buffer.specs.ClusterStep.{both, any_order};
 ghost use Rattle.rb_glyph.specs.declared.info.hb_glyph_info_t.{hb_glyph_info_t};
-ghost use Rattle.shaping_buffer.specs.Parts.{part};
-ghost use Rattle.shaping_buffer.specs.Clusters.{clusters, least, occurs, zero_glyph, join, run_join, IsMonotone, IsCoarse};
-ghost use Rattle.shaping_buffer.specs.Marks.{marked, mark, mark_others, mark_part, end_mark, ends_least};
-ghost use Rattle.shaping_buffer.specs.Deletion.{deleted, merged};
-ghost use Rattle.shaping_buffer.specs.Masks.{masks_reset};
-ghost use Rattle.shaping_buffer.specs.GlyphFlags.{BreakImpliesConcat, FlagsAgree};
-ghost use Rattle.shaping_buffer.specs.Replacement.{replaced};
+ghost use Rattle.rb_glyph.specs.declared.position.GlyphPosition.{GlyphPosition};
 ghost use Rattle.shaping_buffer.specs.State.{State};
 ghost use Rattle.shaping_buffer.specs.Step as step;
-
-// ---- joins and scans on monotone clusters
-
-/// On monotone clusters the run join of a range, held back by no floor, is the cluster join of its
-/// glyphs.
-pub fn join_is_least_coarsening()
-    ensures { (l : List hb_glyph_info_t) (p q : ℕ) → q ≤ length l → IsMonotone l
-        → run_join l p q 0 ≡ join l (part l p q) }
-{}
-
-/// On monotone clusters the scan by the ends marks what the mark does, over one part and over two.
-/// Either of the two may be empty.
-pub fn end_scan_is_mark()
-    ensures one { (bits : ℕ) (r : List hb_glyph_info_t) → IsMonotone r
-        → end_mark bits r ≡ mark bits r }
-    ensures two { (bits : ℕ) (r s : List hb_glyph_info_t) → IsMonotone (r ++ s)
-        → mark_part bits (ends_least r s) r ++ mark_part bits (ends_least r s) s ≡ mark bits (r ++ s) }
-{}
-
-// ---- what a join changes
-
-/// After a cluster join two glyphs share a cluster exactly if they did before, or both their
-/// clusters occur among the glyphs that are joined.
-pub fn join_shares_clusters()
-    ensures { (l r : List hb_glyph_info_t) (i j : ℕ) → i < length l → j < length l
-        → (slice_index (clusters (join l r)) i ≡ slice_index (clusters (join l r)) j)
-        ↔ ((slice_index (clusters l) i ≡ slice_index (clusters l) j)
-        ⊎ ((occurs (slice_index (clusters l) i) (clusters r) ≡ true)
-        × (occurs (slice_index (clusters l) j) (clusters r) ≡ true))) }
-{}
-
-/// Where a cluster join leaves a glyph's cluster, it leaves the glyph. Elsewhere it changes its
-/// cluster and its mask alone.
-pub fn join_changes_clusters_and_masks()
-    ensures stays { (l r : List hb_glyph_info_t) (k : ℕ) → k < length l
-        → slice_index (clusters (join l r)) k ≡ slice_index (clusters l) k
-        → slice_index_or (join l r) k zero_glyph ≡ slice_index_or l k zero_glyph }
-    ensures others { (l r : List hb_glyph_info_t) (k : ℕ) → k < length l
-        → let new = slice_index_or (join l r) k zero_glyph in
-        let old = slice_index_or l k zero_glyph in
-        (new.glyph_id ≡ old.glyph_id) × (new.var1 ≡ old.var1) × (new.var2 ≡ old.var2) }
-{}
-
-/// The same of a run join, in any order of clusters.
-pub fn run_join_changes_clusters_and_masks()
-    ensures stays { (l : List hb_glyph_info_t) (p q floor k : ℕ) → k < length l
-        → slice_index (clusters (run_join l p q floor)) k ≡ slice_index (clusters l) k
-        → slice_index_or (run_join l p q floor) k zero_glyph ≡ slice_index_or l k zero_glyph }
-    ensures others { (l : List hb_glyph_info_t) (p q floor k : ℕ) → k < length l
-        → let new = slice_index_or (run_join l p q floor) k zero_glyph in
-        let old = slice_index_or l k zero_glyph in
-        (new.glyph_id ≡ old.glyph_id) × (new.var1 ≡ old.var1) × (new.var2 ≡ old.var2) }
-{}
-
-/// Marks and scans change masks alone, also those of a range in a list, and so they leave the
-/// clusters.
-pub fn marks_change_masks_alone()
-    ensures each { (bits : ℕ) (r : List hb_glyph_info_t)
-        → masks_reset 0 (map (marked bits) r) ≡ masks_reset 0 r }
-    ensures mark { (bits : ℕ) (r : List hb_glyph_info_t)
-        → masks_reset 0 (mark bits r) ≡ masks_reset 0 r }
-    ensures scan { (bits : ℕ) (r : List hb_glyph_info_t)
-        → masks_reset 0 (end_mark bits r) ≡ masks_reset 0 r }
-    ensures part { (bits m : ℕ) (r : List hb_glyph_info_t)
-        → masks_reset 0 (mark_part bits m r) ≡ masks_reset 0 r }
-    ensures others { (bits m : ℕ) (r : List hb_glyph_info_t)
-        → masks_reset 0 (mark_others bits m r) ≡ masks_reset 0 r }
-    ensures range { (l new : List hb_glyph_info_t) (p q : ℕ) → p ≤ q
-        → masks_reset 0 new ≡ masks_reset 0 (part l p q)
-        → masks_reset 0 (take p l ++ new ++ drop q l) ≡ masks_reset 0 l }
-    ensures clusters { (l m : List hb_glyph_info_t) → masks_reset 0 l ≡ masks_reset 0 m
-        → clusters l ≡ clusters m }
-{}
-
-/// Joins and merges keep the length. So does a deletion on each side, the head aside.
-pub fn lengths_stay()
-    ensures join { (l r : List hb_glyph_info_t) → length (join l r) ≡ length l }
-    ensures run_join { (l : List hb_glyph_info_t) (p q floor : ℕ)
-        → length (run_join l p q floor) ≡ length l }
-    ensures merge { (marks : Bool) (l : List hb_glyph_info_t) (p q floor : ℕ)
-        → length (merged marks l p q floor) ≡ length l }
-    ensures deletion_out { (marks : Bool) (out : List hb_glyph_info_t) (x : hb_glyph_info_t)
-        (rest : List hb_glyph_info_t) → length (deleted marks out x rest).out ≡ length out }
-    ensures deletion_rest { (marks : Bool) (out : List hb_glyph_info_t) (x : hb_glyph_info_t)
-        (rest : List hb_glyph_info_t) → length (deleted marks out x rest).rest ≡ length rest }
-{}
-
-// ---- order
-
-/// Monotone clusters stay monotone, with any floor of a join, and whether merges join or mark.
-pub fn order_stays()
-    ensures run_join { (l : List hb_glyph_info_t) (p q floor : ℕ) → q ≤ length l
-        → IsMonotone l → IsMonotone (run_join l p q floor) }
-    ensures merge { (marks : Bool) (l : List hb_glyph_info_t) (p q floor : ℕ) → q ≤ length l
-        → IsMonotone l → IsMonotone (merged marks l p q floor) }
-    ensures deletion { (marks : Bool) (out : List hb_glyph_info_t) (x : hb_glyph_info_t)
-        (rest : List hb_glyph_info_t) → IsMonotone (out ++ x ∷ rest)
-        → IsMonotone ((deleted marks out x rest).out ++ (deleted marks out x rest).rest) }
-    ensures replacement { (marks : Bool) (l : List hb_glyph_info_t) (p q : ℕ) (ids : List ℕ)
-        → p ≤ q → q ≤ length l → p < length l → IsMonotone l
-        → IsMonotone (replaced marks l p q ids) }
-    ensures range { (l : List hb_glyph_info_t) (p q : ℕ) → q ≤ length l → IsMonotone l
-        → IsMonotone (part l p q) }
-    ensures masks { (l m : List hb_glyph_info_t) → masks_reset 0 l ≡ masks_reset 0 m
-        → IsMonotone l → IsMonotone m }
-{}
-
-/// A list with monotone clusters that keeps each of them in its second word too is coarse.
-pub fn numbered_list_is_coarse()
-    ensures { (l : List hb_glyph_info_t) → IsMonotone l
-        → ((i : ℕ) → i < length l
-        → (slice_index_or l i zero_glyph).var2 ≡ (slice_index_or l i zero_glyph).cluster)
-        → IsCoarse l }
-{}
-
-/// Coarse lists stay coarse, where joins are held back by no floor: clusters only merge.
-pub fn coarse_lists_stay()
-    ensures run_join { (l : List hb_glyph_info_t) (p q : ℕ) → q ≤ length l
-        → IsCoarse l → IsCoarse (run_join l p q 0) }
-    ensures merge { (marks : Bool) (l : List hb_glyph_info_t) (p q : ℕ) → q ≤ length l
-        → IsCoarse l → IsCoarse (merged marks l p q 0) }
-    ensures deletion { (marks : Bool) (out : List hb_glyph_info_t) (x : hb_glyph_info_t)
-        (rest : List hb_glyph_info_t) → IsCoarse (out ++ x ∷ rest)
-        → IsCoarse ((deleted marks out x rest).out ++ (deleted marks out x rest).rest) }
-    ensures replacement { (marks : Bool) (l : List hb_glyph_info_t) (p q : ℕ) (ids : List ℕ)
-        → p ≤ q → q ≤ length l → p < length l → IsCoarse l
-        → IsCoarse (replaced marks l p q ids) }
-    ensures range { (l : List hb_glyph_info_t) (p q : ℕ) → q ≤ length l → IsCoarse l
-        → IsCoarse (part l p q) }
-    ensures masks { (l m : List hb_glyph_info_t) → masks_reset 0 l ≡ masks_reset 0 m
-        → IsCoarse l → IsCoarse m }
-{}
-
-// ---- cluster numbers
-
-/// No cluster number is brought in that was not there, in any order of clusters.
-pub fn no_cluster_is_new()
-    ensures run_join { (l : List hb_glyph_info_t) (p q floor c : ℕ) → q ≤ length l
-        → occurs c (clusters (run_join l p q floor)) ≡ true → occurs c (clusters l) ≡ true }
-    ensures merge { (marks : Bool) (l : List hb_glyph_info_t) (p q floor c : ℕ) → q ≤ length l
-        → occurs c (clusters (merged marks l p q floor)) ≡ true → occurs c (clusters l) ≡ true }
-    ensures deletion { (marks : Bool) (out : List hb_glyph_info_t) (x : hb_glyph_info_t)
-        (rest : List hb_glyph_info_t) (c : ℕ)
-        → occurs c (clusters ((deleted marks out x rest).out ++ (deleted marks out x rest).rest)) ≡ true
-        → occurs c (clusters (out ++ x ∷ rest)) ≡ true }
-    ensures replacement { (marks : Bool) (l : List hb_glyph_info_t) (p q : ℕ) (ids : List ℕ) (c : ℕ)
-        → p ≤ q → q ≤ length l → p < length l
-        → occurs c (clusters (replaced marks l p q ids)) ≡ true → occurs c (clusters l) ≡ true }
-{}
-
-/// Where merges join, the least cluster stays, in any order of clusters: after a deletion while a
-/// glyph remains, and after a replacement by one glyph or more.
-pub fn least_cluster_stays()
-    ensures run_join { (l : List hb_glyph_info_t) (p q floor : ℕ) → q ≤ length l
-        → least (clusters (run_join l p q floor)) ≡ least (clusters l) }
-    ensures deletion { (out : List hb_glyph_info_t) (x : hb_glyph_info_t) (rest : List hb_glyph_info_t)
-        → 0 < length (out ++ rest)
-        → least (clusters ((deleted false out x rest).out ++ (deleted false out x rest).rest))
-        ≡ least (clusters (out ++ x ∷ rest)) }
-    ensures replacement { (l : List hb_glyph_info_t) (p q : ℕ) (ids : List ℕ)
-        → p ≤ q → q ≤ length l → p < length l → 0 < length ids
-        → least (clusters (replaced false l p q ids)) ≡ least (clusters l) }
-{}
-
-// ---- both sides as one list
+ghost use Rattle.shaping_buffer.specs.GroupStep.{reverse, delete_glyphs_inplace, walk_by_calls};
+ghost use Rattle.shaping_buffer.specs.Text.{Font, glyphs_text};
+ghost use Rattle.shaping_buffer.specs.TextReading.{numbers_and_flags, told_of, FitsItsFields};
 
 /// Where `sync` is done, the list is what was put out, and then what was left to read.
 pub fn done_sync_gives_the_list()
     ensures list { (s : State) → (step.sync s).done ≡ true
         → (step.sync s).state.input ≡ s.out ++ s.input }
     ensures closed { (s : State) → (step.sync s).done ≡ true
-        → ((step.sync s).state.out ≡ []) × ((step.sync s).state.is_open ≡ false)
+        → ((step.sync s).state.out ≡ []) × ((step.sync s).state.have_output ≡ false)
         × ((step.sync s).state.idx ≡ 0) }
 {}
 
-// ---- glyph flags
-
-/// The bits that scans and the calls on concatenation add say unsafe to concatenate where they say
-/// unsafe to break.
-pub fn added_bits_agree()
-    ensures concat { BreakImpliesConcat 2 }
-    ensures break_and_concat { BreakImpliesConcat 3 }
-    ensures tatweel { BreakImpliesConcat 4 }
+/// With an output open `move_to` keeps both sides as one list, and one that is done splits it at the place.
+pub fn move_keeps_the_list()
+    ensures list { (i : ℕ) (s : State) → s.have_output ≡ true → both (step.move_to i s).state ≡ both s }
+    ensures place { (i : ℕ) (s : State) → s.have_output ≡ true → i ≤ step.last_place s
+        → (step.move_to i s).done ≡ true → length (step.move_to i s).state.out ≡ i }
 {}
 
-/// Where each glyph that is unsafe to break is unsafe to concatenate too, that stays so.
-pub fn flags_still_agree()
-    ensures join { (l r : List hb_glyph_info_t) → FlagsAgree l → FlagsAgree (join l r) }
-    ensures run_join { (l : List hb_glyph_info_t) (p q floor : ℕ)
-        → FlagsAgree l → FlagsAgree (run_join l p q floor) }
-    ensures merge { (marks : Bool) (l : List hb_glyph_info_t) (p q floor : ℕ)
-        → FlagsAgree l → FlagsAgree (merged marks l p q floor) }
-    ensures deletion { (marks : Bool) (out : List hb_glyph_info_t) (x : hb_glyph_info_t)
-        (rest : List hb_glyph_info_t) → FlagsAgree (out ++ x ∷ rest)
-        → FlagsAgree ((deleted marks out x rest).out ++ (deleted marks out x rest).rest) }
-    ensures replacement { (marks : Bool) (l : List hb_glyph_info_t) (p q : ℕ) (ids : List ℕ)
-        → p ≤ q → q ≤ length l → p < length l → FlagsAgree l
-        → FlagsAgree (replaced marks l p q ids) }
-    ensures each { (bits : ℕ) → BreakImpliesConcat bits → (r : List hb_glyph_info_t)
-        → FlagsAgree r → FlagsAgree (map (marked bits) r) }
-    ensures mark { (bits : ℕ) → BreakImpliesConcat bits → (r : List hb_glyph_info_t)
-        → FlagsAgree r → FlagsAgree (mark bits r) }
-    ensures scan { (bits : ℕ) → BreakImpliesConcat bits → (r : List hb_glyph_info_t)
-        → FlagsAgree r → FlagsAgree (end_mark bits r) }
-    ensures part { (bits : ℕ) → BreakImpliesConcat bits → (m : ℕ) (r : List hb_glyph_info_t)
-        → FlagsAgree r → FlagsAgree (mark_part bits m r) }
-    ensures others { (bits : ℕ) → BreakImpliesConcat bits → (m : ℕ) (r : List hb_glyph_info_t)
-        → FlagsAgree r → FlagsAgree (mark_others bits m r) }
-    ensures range { (l new : List hb_glyph_info_t) (p q : ℕ) → FlagsAgree l → FlagsAgree new
-        → FlagsAgree (take p l ++ new ++ drop q l) }
+/// What a `replace_glyphs` that is done makes of both sides as one list is a replacement of that list.
+pub fn done_replacement_is_of_the_list()
+    ensures { (n : ℕ) (ids : List ℕ) (s : State) → s.have_output ≡ true → (step.replace_glyphs n ids s).done ≡ true
+        → both (step.replace_glyphs n ids s).state
+        ≡ replacement (any_order s) (both s) (length s.out) (length s.out + n) ids }
+{}
+
+/// The numbers of the limits.
+pub fn limits_have_their_numbers()
+    ensures len { (MAX_LEN_FACTOR ≡ 64) × (MAX_LEN_MIN ≡ 16384) × (MAX_LEN_DEFAULT ≡ 1073741823) }
+    ensures ops { (MAX_OPS_FACTOR ≡ pos 1024) × (MAX_OPS_MIN ≡ pos 16384) × (MAX_OPS_DEFAULT ≡ pos 536870911) }
+{}
+
+/// A list that is reversed twice is as it was, and so are its positions, where there are any.
+pub fn two_reversals_are_none()
+    ensures { (s : State) → reverse (reverse s) ≡ s }
+{}
+
+/// `delete_glyphs_inplace` leaves the glyphs that `clear_output`, a walk by `delete_glyph` and `next_glyph`, and `sync`
+/// leave, where no refusal stands: none of these calls is refused then.
+pub fn deletion_in_place_is_deletion_by_calls()
+    ensures { (test : hb_glyph_info_t → Bool) (s : State) → s.successful ≡ true → length s.input ≤ s.max_len
+        → let closed = step.sync (walk_by_calls test (length s.input) (step.clear_output s)) in
+        (closed.done ≡ true) × (closed.state.input ≡ (delete_glyphs_inplace test s).input) }
+{}
+
+/// Under `NO_GLYPH_NAMES` and `GLYPH_FLAGS` alone a text tells its glyphs apart: where two texts are equal, whatever the
+/// fonts are, there are as many glyphs, with equal numbers, clusters, offsets, advances and glyph flags.
+pub fn equal_texts_tell_of_equal_glyphs()
+    ensures { (font other : Font) (xs ys : List (hb_glyph_info_t × GlyphPosition))
+        → All FitsItsFields xs → All FitsItsFields ys
+        → glyphs_text font numbers_and_flags xs ≡ glyphs_text other numbers_and_flags ys
+        → map told_of xs ≡ map told_of ys }
 {}
 
 #[cfg(test)]
@@ -232,20 +72,12 @@ mod tests {
 
     #[test]
     fn laws_stand(_rt: HostRuntime) {
-        join_is_least_coarsening();
-        end_scan_is_mark();
-        join_shares_clusters();
-        join_changes_clusters_and_masks();
-        run_join_changes_clusters_and_masks();
-        marks_change_masks_alone();
-        lengths_stay();
-        order_stays();
-        numbered_list_is_coarse();
-        coarse_lists_stay();
-        no_cluster_is_new();
-        least_cluster_stays();
         done_sync_gives_the_list();
-        added_bits_agree();
-        flags_still_agree();
+        move_keeps_the_list();
+        done_replacement_is_of_the_list();
+        limits_have_their_numbers();
+        two_reversals_are_none();
+        deletion_in_place_is_deletion_by_calls();
+        equal_texts_tell_of_equal_glyphs();
     }
 }

@@ -23,17 +23,11 @@ pub use unicode_buffer::UnicodeBuffer;
 
 mod buffer;
 pub mod cluster_level;
-mod cluster_numbers;
-mod context;
-mod deleting;
 mod glyph_buffer;
-#[cfg(test)]
-mod glyph_lists;
-mod guess;
-mod joining;
 pub mod laws;
-mod marking;
-mod masking;
-mod merge_range;
+mod moves;
+mod replacement;
 mod serialize;
+#[cfg(test)]
+mod test_lists;
 mod unicode_buffer;

@@ -1,28 +1,88 @@
 //! Glyphs as a text.
 
-ghost use Rattle.std.specs.Prelude.{◌≡◌, ◌++◌, length, map, IfOk, OnOk, string_bytes};
-ghost use Rattle.std.specs.List.{zip, join_with_byte};
-ghost use Rattle.shaping_buffer.specs.Text.{bar_before, glyph_text, offset_text, advance_text};
+ghost use Rattle.std.specs.Prelude.{◌≡◌, ◌++◌, ◌∷◌, true, false, length, IfOk, OnOk, string_bytes, ◌+ℤ◌, ◌+◌, ◌≤◌, nat_abs};
+ghost use Rattle.std.specs.Fmt.{signed_decimal};
+ghost use Rattle.std.specs.List.{zip};
+ghost use Rattle.shaping_buffer.specs.Text as texts;
+ghost use Rattle.shaping_buffer.specs.Text.{has, asks_font, AreGlyphs, bar_before, name_text, cluster_text, offset_text, advance_text, position_text, flags_text, extents_text, box_text};
+ghost use Rattle.shaping_buffer.specs.Point.{IsNear};
+ghost use Rattle.rb_glyph.specs.declared.flag_sets.TheConstants.SerializeFlags.{NO_GLYPH_NAMES, GLYPH_EXTENTS};
 
-use rb_glyph::{GlyphPosition, hb_glyph_info_t};
+use bitflags::Flags;
+use itoa::{Buffer, Integer};
+use rb_glyph::{
+    GlyphExtents, GlyphNames, GlyphPosition, SerializeFlags, glyph_flag, hb_glyph_info_t,
+};
 use std::alloc::{AllocError, Global};
-use std::fmt::Write;
+
+/// A place relative to the start of the line.
+#[derive(Clone, Copy)]
+struct Point {
+    x: i128,
+    y: i128,
+}
+
+impl Point {
+    fn of_offset(position: &GlyphPosition) -> Point
+        ensures x { result.x ≡ position.now.x_offset }
+        ensures y { result.y ≡ position.now.y_offset }
+    {
+        Point {
+            x: i128::from(position.x_offset),
+            y: i128::from(position.y_offset),
+        }
+    }
+
+    fn plus_offset(self, position: &GlyphPosition) -> Point
+        requires { IsNear self }
+        ensures x { result.x ≡ self.x +ℤ position.now.x_offset }
+        ensures y { result.y ≡ self.y +ℤ position.now.y_offset }
+    {
+        Point {
+            x: self.x + i128::from(position.x_offset),
+            y: self.y + i128::from(position.y_offset),
+        }
+    }
+
+    fn plus_advance(self, position: &GlyphPosition) -> Point
+        requires { IsNear self }
+        ensures x { result.x ≡ self.x +ℤ position.now.x_advance }
+        ensures y { result.y ≡ self.y +ℤ position.now.y_advance }
+        ensures near_x { nat_abs result.x ≤ nat_abs self.x + 2147483648 }
+        ensures near_y { nat_abs result.y ≤ nat_abs self.y + 2147483648 }
+    {
+        Point {
+            x: self.x + i128::from(position.x_advance),
+            y: self.y + i128::from(position.y_advance),
+        }
+    }
+}
 
 /// The texts of the glyphs, joined by bars.
-pub(crate) fn glyphs_text(
+pub(crate) fn glyphs_text<F: GlyphNames>(
     alloc: Global,
-    with_positions: bool,
+    font: &F,
+    flags: SerializeFlags,
     infos: &[hb_glyph_info_t],
     positions: &[GlyphPosition],
 ) -> Result<String, AllocError>
-    requires { length positions.now ≡ length infos.now }
-    ensures { IfOk result (λ text. string_bytes text
-        ≡ join_with_byte 124 (map (glyph_text with_positions) (zip infos.now positions.now))) }
+    requires as_many { length positions.now ≡ length infos.now }
+    requires glyphs { asks_font flags ≡ true → AreGlyphs infos.now }
+    ensures { IfOk result (λ text. string_bytes text ≡ texts.glyphs_text
+        (record { name = F.name_of font.now; extents = F.extents_of font.now }) flags
+        (zip infos.now positions.now)) }
 {
     let mut text = String::new(alloc);
+    let mut pen = Point { x: 0, y: 0 };
     for (i, info) in infos.iter().enumerate() {
+        let position = &positions[i];
         write_bar(&mut text, i)?;
-        write_glyph(&mut text, with_positions, info, &positions[i])?;
+        write_name(&mut text, font, flags, info)?;
+        write_cluster(&mut text, flags, info)?;
+        write_position(&mut text, flags, pen, position)?;
+        write_flags(&mut text, flags, info)?;
+        write_extents(&mut text, font, flags, info)?;
+        pen = pen.plus_advance(position);
     }
     Ok(text)
 }
@@ -32,49 +92,144 @@ fn write_bar(text: &mut String, i: usize) -> Result<(), AllocError>
     ensures { OnOk result (string_bytes text.new ≡ string_bytes text.old ++ bar_before i) }
 {
     if i > 0 {
-        text.push('|')?;
+        text.push_str("|")?;
     }
     Ok(())
 }
 
-fn write_glyph(
+fn write_number<I: Integer>(text: &mut String, before: &str, number: I) -> Result<(), AllocError>
+    ensures { OnOk result (string_bytes text.new
+        ≡ string_bytes text.old ++ before.now ++ I.text number) }
+{
+    let mut digits = Buffer::new();
+    text.push_str(before)?;
+    text.push_str(digits.format(number))
+}
+
+fn write_name<F: GlyphNames>(
     text: &mut String,
-    with_positions: bool,
+    font: &F,
+    flags: SerializeFlags,
     info: &hb_glyph_info_t,
-    position: &GlyphPosition,
+) -> Result<(), AllocError>
+    requires { has flags NO_GLYPH_NAMES ≡ false → info.now.glyph_id ≤ 65535 }
+    ensures { OnOk result (string_bytes text.new ≡ string_bytes text.old
+        ++ name_text flags (F.name_of font.now info.now.glyph_id) info.now.glyph_id) }
+{
+    if flags.contains(SerializeFlags::NO_GLYPH_NAMES) {
+        return write_number(text, "", info.glyph_id);
+    }
+    match font.glyph_name(info.as_glyph()) {
+        Some(name) => text.push_str(name),
+        None => write_number(text, "gid", info.glyph_id),
+    }
+}
+
+fn write_cluster(
+    text: &mut String,
+    flags: SerializeFlags,
+    info: &hb_glyph_info_t,
 ) -> Result<(), AllocError>
     ensures { OnOk result (string_bytes text.new
-        ≡ string_bytes text.old ++ glyph_text with_positions (info.now, position.now)) }
+        ≡ string_bytes text.old ++ cluster_text flags info.now.cluster) }
 {
-    let id = info.glyph_id;
-    let cluster = info.cluster;
-    write!(text, "{id}={cluster}")?;
-    if with_positions {
-        write_offset(text, position)?;
-        write_advance(text, position)?;
+    if flags.contains(SerializeFlags::NO_CLUSTERS) {
+        return Ok(());
     }
-    Ok(())
+    write_number(text, "=", info.cluster)
 }
 
-fn write_offset(text: &mut String, position: &GlyphPosition) -> Result<(), AllocError>
-    ensures { OnOk result (string_bytes text.new ≡ string_bytes text.old ++ offset_text position.now) }
+fn write_position(
+    text: &mut String,
+    flags: SerializeFlags,
+    pen: Point,
+    position: &GlyphPosition,
+) -> Result<(), AllocError>
+    requires { IsNear pen }
+    ensures { OnOk result (string_bytes text.new
+        ≡ string_bytes text.old ++ position_text flags pen.x pen.y position.now) }
 {
-    let x = position.x_offset;
-    let y = position.y_offset;
-    if x != 0 || y != 0 {
-        write!(text, "@{x},{y}")?;
+    if flags.contains(SerializeFlags::NO_POSITIONS) {
+        return Ok(());
     }
-    Ok(())
+    if flags.contains(SerializeFlags::NO_ADVANCES) {
+        return write_offset(text, pen.plus_offset(position));
+    }
+    write_offset(text, Point::of_offset(position))?;
+    write_advance(text, position)
+}
+
+fn write_offset(text: &mut String, offset: Point) -> Result<(), AllocError>
+    ensures { OnOk result (string_bytes text.new
+        ≡ string_bytes text.old ++ offset_text offset.x offset.y) }
+{
+    if offset.x == 0 && offset.y == 0 {
+        return Ok(());
+    }
+    write_number(text, "@", offset.x)?;
+    write_number(text, ",", offset.y)
 }
 
 fn write_advance(text: &mut String, position: &GlyphPosition) -> Result<(), AllocError>
-    ensures { OnOk result (string_bytes text.new ≡ string_bytes text.old ++ advance_text position.now) }
+    ensures { OnOk result (string_bytes text.new
+        ≡ string_bytes text.old ++ advance_text position.now.x_advance position.now.y_advance) }
 {
-    let x = position.x_advance;
-    let y = position.y_advance;
-    write!(text, "+{x}")?;
-    if y != 0 {
-        write!(text, ",{y}")?;
+    write_number(text, "+", position.x_advance)?;
+    if position.y_advance == 0 {
+        return Ok(());
     }
-    Ok(())
+    write_number(text, ",", position.y_advance)
+}
+
+fn write_flags(
+    text: &mut String,
+    flags: SerializeFlags,
+    info: &hb_glyph_info_t,
+) -> Result<(), AllocError>
+    ensures { OnOk result (string_bytes text.new
+        ≡ string_bytes text.old ++ flags_text flags info.now.mask) }
+{
+    let defined = info.mask & glyph_flag::DEFINED;
+    if !flags.contains(SerializeFlags::GLYPH_FLAGS) || defined == 0 {
+        return Ok(());
+    }
+    write_number(text, "#", defined)
+}
+
+fn write_extents<F: GlyphNames>(
+    text: &mut String,
+    font: &F,
+    flags: SerializeFlags,
+    info: &hb_glyph_info_t,
+) -> Result<(), AllocError>
+    requires { has flags GLYPH_EXTENTS ≡ true → info.now.glyph_id ≤ 65535 }
+    ensures { OnOk result (string_bytes text.new
+        ≡ string_bytes text.old ++ extents_text flags (F.extents_of font.now info.now.glyph_id)) }
+{
+    if !flags.contains(SerializeFlags::GLYPH_EXTENTS) {
+        return Ok(());
+    }
+    let extents = font.glyph_extents(info.as_glyph()).unwrap_or(GlyphExtents {
+        x_bearing: 0,
+        y_bearing: 0,
+        width: 0,
+        height: 0,
+    });
+    write_box(text, extents)
+}
+
+fn write_box(text: &mut String, extents: GlyphExtents) -> Result<(), AllocError>
+    ensures { OnOk result (string_bytes text.new ≡ string_bytes text.old ++ box_text extents) }
+{
+    write_pair(text, "<", extents.x_bearing, extents.y_bearing)?;
+    write_pair(text, ",", extents.width, extents.height)?;
+    text.push_str(">")
+}
+
+fn write_pair(text: &mut String, before: &str, first: i32, second: i32) -> Result<(), AllocError>
+    ensures { OnOk result (string_bytes text.new ≡ string_bytes text.old ++ before.now
+        ++ signed_decimal first ++ 44 ∷ signed_decimal second) }
+{
+    write_number(text, before, first)?;
+    write_number(text, ",", second)
 }

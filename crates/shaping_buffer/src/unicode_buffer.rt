@@ -1,13 +1,13 @@
 //! A text before it is shaped.
 
-ghost use Rattle.std.specs.Prelude.{◌≡◌, length, IsTrue, ◌↔◌, unwrap_or};
+ghost use Rattle.std.specs.Prelude.{◌≡◌, length, pos, IsTrue, ◌↔◌, unwrap_or};
 ghost use Rattle.std.specs.Option.{option_copied};
 ghost use Rattle.shaping_buffer.specs.State.{empty_state, cleared, IsText};
 ghost use Rattle.shaping_buffer.specs.ClusterLevel.{level_of, named_level};
 ghost use Rattle.shaping_buffer.specs.Properties.{with_pre_context, with_post_context, with_clusters_reset, guessed};
-ghost use Rattle.shaping_buffer.specs.Guess.{unknown_script};
+ghost use Rattle.glyph_lists.specs.Guess.{unknown_script};
 ghost use Rattle.shaping_buffer.specs.Pushed.{pushed, added};
-ghost use Rattle.shaping_buffer.specs.Step.{MeetsOnList};
+ghost use Rattle.shaping_buffer.specs.Step.{GrowthMeets};
 
 use crate::buffer::hb_buffer_t;
 use crate::cluster_level::BufferClusterLevel;
@@ -38,7 +38,10 @@ impl Model for UnicodeBuffer {
 impl UnicodeBuffer {
     /// An empty text, which takes its memory from `alloc` later.
     pub fn new(alloc: Global) -> Self
-        ensures { result ≡ empty_state hb_buffer_t.MAX_LEN_DEFAULT hb_buffer_t.MAX_OPS_DEFAULT }
+        ensures empty { result
+            ≡ empty_state hb_buffer_t.MAX_LEN_DEFAULT hb_buffer_t.MAX_OPS_DEFAULT }
+        ensures max_len { result.max_len ≡ 0x3FFF_FFFF }
+        ensures max_ops { result.max_ops ≡ pos 0x1FFF_FFFF }
     {
         UnicodeBuffer {
             buffer: hb_buffer_t::new(alloc),
@@ -64,7 +67,7 @@ impl UnicodeBuffer {
     /// the text would grow too long: then only whether a call was refused changes. `Err(AllocError)` where memory ran
     /// out: then nothing changed.
     pub fn push_str(&mut self, text: &str) -> Result<bool, AllocError>
-        ensures { MeetsOnList (pushed text.now self.old) self.old result self.new }
+        ensures { GrowthMeets (pushed text.now self.old) self.old result self.new }
     {
         self.buffer.push_str(text)
     }
@@ -73,7 +76,7 @@ impl UnicodeBuffer {
     /// where the text would grow too long: then only whether a call was refused changes. `Err(AllocError)` where
     /// memory ran out: then nothing changed.
     pub fn add(&mut self, codepoint: char, cluster: u32) -> Result<bool, AllocError>
-        ensures { MeetsOnList (added codepoint cluster self.old) self.old result self.new }
+        ensures { GrowthMeets (added codepoint cluster self.old) self.old result self.new }
     {
         self.buffer.add(codepoint, cluster)
     }

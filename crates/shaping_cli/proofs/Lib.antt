@@ -1,4 +1,7 @@
+pub mod CommandLemmas
 pub mod LineLemmas
+pub mod OneLineLemmas
+pub mod PrintedLemmas
 pub mod QueryLemmas
 pub mod StateTextLemmas
 pub mod TranscriptLemmas

@@ -1,35 +1,36 @@
 -- The lines of an input.
-use Rattle.std.proofs.Common.{ℕ, suc, ◌≡◌, ◌+◌, ◌<◌, ◌++◌, List, [], ◌∷◌, length, length-append, Bool, true, false, refl, sym, ap, ◌∙◌, arith, zero-add}
-use Rattle.std.specs.List.{after_first, position_or_len}
-use Rattle.shaping_cli.specs.Transcript.{is_line_feed, line_count}
+use Rattle.std.proofs.Common.{ℕ, suc, ◌≡◌, ◌+◌, ◌<◌, List, [], ◌∷◌, length, Bool, true, false, refl, sym, ap, ◌∙◌, arith}
+use Rattle.std.specs.List.{after_first, before_first, position_or_len}
+use Rattle.shaping_cli.specs.Transcript.{lines_of, with_first}
+use Rattle.shaping_cli.specs.Replies.{is_line_feed}
 
 -- the first that passes is not at the front
 after_first-skip : (p : ℕ → Bool) (b : ℕ) (rest : List ℕ) → p b ≡ false → after_first p (b ∷ rest) ≡ after_first p rest
 after_first-skip p b rest h =
     let e : 1 + position_or_len p rest + 1 ≡ suc (position_or_len p rest + 1) = omega arith in rw (h, e) refl
 
--- behind a byte that ends no line, the line goes on
-line_goes_on : (b c : ℕ) (rest : List ℕ) → is_line_feed b ≡ false → line_count (b ∷ c ∷ rest) ≡ line_count (c ∷ rest)
-line_goes_on b c rest h = rw h (zero-add (line_count (c ∷ rest)))
+before_first-skip : (p : ℕ → Bool) (b : ℕ) (rest : List ℕ) → p b ≡ false → before_first p (b ∷ rest) ≡ b ∷ before_first p rest
+before_first-skip p b rest h =
+    let e : 1 + position_or_len p rest ≡ suc (position_or_len p rest) = omega arith in rw (h, e) refl
 
--- behind the first line there is one line less
-pub line_count-after_first : (bytes : List ℕ) → 0 < length bytes → line_count bytes ≡ 1 + line_count (after_first is_line_feed bytes)
-line_count-after_first [] h = absurd (omega (arith, h))
-line_count-after_first (b ∷ []) h = first (is_line_feed b) refl
+-- the first line, and the lines behind it
+pub first_line : (bytes : List ℕ) → 0 < length bytes
+    → lines_of bytes ≡ before_first is_line_feed bytes ∷ lines_of (after_first is_line_feed bytes)
+first_line [] h = absurd (omega (arith, h))
+first_line (b ∷ []) h = cases (is_line_feed b) refl
   where
-    first : (v : Bool) → is_line_feed b ≡ v → 1 ≡ 1 + line_count (after_first is_line_feed (b ∷ []))
-    first true e = rw e refl
-    first false e = rw e refl
-line_count-after_first (b ∷ c ∷ rest) h = first (is_line_feed b) refl (line_count-after_first (c ∷ rest) (omega arith))
+    cases : (v : Bool) → is_line_feed b ≡ v
+        → lines_of (b ∷ []) ≡ before_first is_line_feed (b ∷ []) ∷ lines_of (after_first is_line_feed (b ∷ []))
+    cases true e = rw e refl
+    cases false e = rw e refl
+first_line (b ∷ c ∷ rest) h = cases (is_line_feed b) refl (first_line (c ∷ rest) (omega arith))
   where
-    first : (v : Bool) → is_line_feed b ≡ v → line_count (c ∷ rest) ≡ 1 + line_count (after_first is_line_feed (c ∷ rest))
-        → line_count (b ∷ c ∷ rest) ≡ 1 + line_count (after_first is_line_feed (b ∷ c ∷ rest))
-    first true e more = rw e refl
-    first false e more =
-        line_goes_on b c rest e ∙ more ∙ ap (λ l. 1 + line_count l) (sym (after_first-skip is_line_feed b (c ∷ rest) e))
-
--- one answer more, and one line less
-pub counts_one_more : (answers : List (List ℕ)) (answer rest next : List ℕ) (total : ℕ) → 0 < length rest → next ≡ after_first is_line_feed rest
-    → length answers + line_count rest ≡ total → length (answers ++ answer ∷ []) + line_count next ≡ total
-counts_one_more answers answer rest next total some e counted =
-    rw e (omega (arith, line_count-after_first rest some, length-append answers (answer ∷ []), counted))
+    cases : (v : Bool) → is_line_feed b ≡ v
+        → lines_of (c ∷ rest) ≡ before_first is_line_feed (c ∷ rest) ∷ lines_of (after_first is_line_feed (c ∷ rest))
+        → lines_of (b ∷ c ∷ rest) ≡ before_first is_line_feed (b ∷ c ∷ rest) ∷ lines_of (after_first is_line_feed (b ∷ c ∷ rest))
+    cases true e more = rw e refl
+    cases false e more =
+        let goes_on : lines_of (b ∷ c ∷ rest) ≡ with_first b (lines_of (c ∷ rest)) = rw e refl in
+        goes_on ∙ ap (with_first b) more
+        ∙ ap (λ line. line ∷ lines_of (after_first is_line_feed (c ∷ rest))) (sym (before_first-skip is_line_feed b (c ∷ rest) e))
+        ∙ ap (λ bytes. before_first is_line_feed (b ∷ c ∷ rest) ∷ lines_of bytes) (sym (after_first-skip is_line_feed b (c ∷ rest) e))

@@ -1,3 +1,4 @@
+pub mod Commands
 pub mod Queries
 pub mod Replies
 pub mod Session

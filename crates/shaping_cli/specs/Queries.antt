@@ -4,6 +4,7 @@ use Rattle.std.specs.Fmt.{decimal, radix_digits}
 use Rattle.rb_text.specs.declared.feature.Feature.{Feature}
 use Rattle.rb_text.specs.Feature.{ReadsAs}
 use Rattle.rb_glyph.specs.Hangul.{HangulComposes}
+use Rattle.shaping_cli.specs.Replies.{IsOneLine}
 
 -- a number in small hexadecimal digits
 abbrev pub hexadecimal : ℕ → List ℕ
@@ -22,15 +23,18 @@ abbrev pub AnswersFeature : List ℕ → List ℕ → Type 0
 AnswersFeature text answer =
     ((f : Feature) → ReadsAs text f → answer ≡ feature_text f)
     × (((f : Feature) → ¬ ReadsAs text f) → answer ≡ codes "invalid feature")
+    × IsOneLine answer
 
 -- the syllable that two characters make, where they make one
 abbrev pub AnswersCompose : ℕ → ℕ → List ℕ → Type 0
 AnswersCompose a b answer =
     ((s : ℕ) → HangulComposes s a b → answer ≡ hexadecimal s)
     × (((s : ℕ) → ¬ HangulComposes s a b) → answer ≡ codes "none")
+    × IsOneLine answer
 
 -- the two characters that make a syllable
 abbrev pub AnswersDecompose : ℕ → List ℕ → Type 0
 AnswersDecompose s answer =
     ((a b : ℕ) → HangulComposes s a b → answer ≡ hexadecimal a ++ 32 ∷ hexadecimal b)
     × (((a b : ℕ) → ¬ HangulComposes s a b) → answer ≡ codes "none")
+    × IsOneLine answer

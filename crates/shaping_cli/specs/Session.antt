@@ -1,19 +1,22 @@
 -- What a command makes of a session.
-use Rattle.std.specs.Prelude.{ℕ, ◌≡◌, List, Bool, codes, if◌then◌else◌}
-use Rattle.shaping_buffer.specs.ClusterLevel.{level_of}
+use Rattle.std.specs.Prelude.{ℕ, ◌≡◌, ◌&&◌, ◌||◌, not, List, length, None, Bool, codes, nat_le, if◌then◌else◌}
+use Rattle.std.specs.List.{list_all}
+use Rattle.rb_glyph.specs.declared.info.hb_glyph_info_t.{hb_glyph_info_t}
+use Rattle.rb_glyph.specs.declared.flag_sets.SerializeFlags.{SerializeFlags}
+use Rattle.shaping_buffer.specs.Limits.{set_max_len}
 use Rattle.shaping_buffer.specs.Positions.{with_zero_positions}
 use Rattle.shaping_buffer.specs.Pushed.{pushed, added}
-use Rattle.shaping_buffer.specs.State.{State, empty_state, cleared}
+use Rattle.shaping_buffer.specs.State.{State, len, empty_state, cleared}
 use Rattle.shaping_buffer.specs.Step.{Outcome}
-use Rattle.shaping_buffer.specs.Text.{text_of}
+use Rattle.shaping_buffer.specs.Text.{Font, asks_font, text_of}
 use Rattle.shaping_buffer.specs.declared.buffer.TheConstants.hb_buffer_t.{MAX_LEN_DEFAULT, MAX_OPS_DEFAULT}
 use Rattle.shaping_runs.specs.Replay.{turn}
 use Rattle.shaping_runs.specs.declared.call.Call.{Call}
 use Rattle.shaping_cli.specs.Queries.{AnswersFeature, AnswersCompose, AnswersDecompose}
 use Rattle.shaping_cli.specs.Replies.{answer_text, truth_text}
 use Rattle.shaping_cli.specs.StateText.{state_text}
-use Rattle.shaping_cli.specs.declared.command.Command.{Command}
-use Rattle.shaping_cli.specs.declared.command.Command.TheVariants.{Push, Add, Level, Flags, Make, State as Show, Serialize, New, Feature, Compose, Decompose}
+use Rattle.shaping_cli.specs.Commands.{Request, push, add, level, flags, limit, call, state, serialize, new, feature, compose, decompose}
+use Rattle.shaping_cli.specs.declared.session.TheConstants.{LAST_GLYPH}
 use Rattle.shaping_cli.specs.declared.session.Session.{Session}
 use Rattle.shaping_cli.specs.declared.session.Session.TheVariants.{Text, Turned}
 
@@ -42,31 +45,57 @@ abbrev pub Grows : (State → Outcome) → Session → Session → List ℕ → 
 Grows step (Text text) after answer = (after ≡ Text (step text).state) × (answer ≡ truth_text (step text).done)
 Grows step (Turned buffer) after answer = (after ≡ Turned buffer) × (answer ≡ codes "outside")
 
+-- whether no side holds more glyphs than so many
+abbrev pub is_within : ℕ → State → Bool
+is_within number s = nat_le (len s) number && nat_le (length s.out) number
+
+-- a limit is one of a buffer of which no side holds more
+abbrev pub FollowsLimit : ℕ → Session → Session → List ℕ → Type 0
+FollowsLimit number before after answer =
+    let held = held_by before in
+    (after ≡ Turned (if is_within number held then set_max_len number held else held))
+    × (answer ≡ (if is_within number held then codes "ok" else codes "outside"))
+
 -- a call works on a buffer
 abbrev pub FollowsCall : Call → Session → Session → List ℕ → Type 0
-FollowsCall call before after answer =
-    (after ≡ Turned (turn call (held_by before)).state) × (answer ≡ answer_text (turn call (held_by before)).answer)
+FollowsCall c before after answer =
+    (after ≡ Turned (turn c (held_by before)).state) × (answer ≡ answer_text (turn c (held_by before)).answer)
 
 -- and so does the printing of the two lists
 abbrev pub FollowsState : Session → Session → List ℕ → Type 0
 FollowsState before after answer = (after ≡ Turned (held_by before)) × (answer ≡ state_text (held_by before))
 
--- where no output is open, glyphs are printed with positions that are all 0, and a new text begins
-abbrev pub FollowsSerialize : Bool → Session → Session → List ℕ → Type 0
-FollowsSerialize with_positions before after answer =
-    let held = held_by before in
-    (after ≡ (if held.is_open then Turned held else Text (cleared held)))
-    × (answer ≡ (if held.is_open then codes "outside" else text_of with_positions (with_zero_positions held)))
+-- a font of which nothing is known
+abbrev pub nothing_known : Font
+nothing_known = record { name = λ _. None; extents = λ _. None }
 
-abbrev pub Follows : Command → Session → Session → List ℕ → Type 0
-Follows (Push text) before after answer = Grows (pushed text.now) before after answer
-Follows (Add c cluster) before after answer = Grows (added c cluster) before after answer
-Follows (Level level) before after answer = (after ≡ with_level (level_of level) before) × (answer ≡ codes "ok")
-Follows (Flags flags) before after answer = (after ≡ with_flags flags before) × (answer ≡ codes "ok")
-Follows (Make call) before after answer = FollowsCall call before after answer
-Follows Show before after answer = FollowsState before after answer
-Follows (Serialize with_positions) before after answer = FollowsSerialize with_positions before after answer
-Follows New before after answer = (after ≡ fresh) × (answer ≡ codes "ok")
-Follows (Feature text) before after answer = (after ≡ before) × AnswersFeature text.now answer
-Follows (Compose a b) before after answer = (after ≡ before) × AnswersCompose a b answer
-Follows (Decompose c) before after answer = (after ≡ before) × AnswersDecompose c answer
+-- the number of a glyph has 16 bits
+abbrev pub is_glyph : hb_glyph_info_t → Bool
+is_glyph g = nat_le g.glyph_id LAST_GLYPH
+
+-- whether glyphs may be printed under these flags: no output is open, and where the font is asked each id is a glyph's
+unfoldable pub may_be_printed : SerializeFlags → State → Bool
+may_be_printed set s = not s.have_output && (not (asks_font set) || list_all is_glyph s.input)
+
+-- glyphs that may be printed are, with positions that are all 0, and a new text begins
+abbrev pub FollowsSerialize : SerializeFlags → Session → Session → List ℕ → Type 0
+FollowsSerialize set before after answer =
+    let held = held_by before in
+    let printed = text_of nothing_known set (with_zero_positions held) in
+    (after ≡ (if may_be_printed set held then Text (cleared held) else Turned held))
+    × (answer ≡ (if may_be_printed set held then printed else codes "outside"))
+
+-- what a request makes of a session, and how it is answered
+abbrev pub Follows : Request → Session → Session → List ℕ → Type 0
+Follows (push text) before after answer = Grows (pushed text) before after answer
+Follows (add character cluster) before after answer = Grows (added character cluster) before after answer
+Follows (level number) before after answer = (after ≡ with_level number before) × (answer ≡ codes "ok")
+Follows (flags number) before after answer = (after ≡ with_flags number before) × (answer ≡ codes "ok")
+Follows (limit number) before after answer = FollowsLimit number before after answer
+Follows (call c) before after answer = FollowsCall c before after answer
+Follows state before after answer = FollowsState before after answer
+Follows (serialize number) before after answer = FollowsSerialize (record { 0 = number }) before after answer
+Follows new before after answer = (after ≡ fresh) × (answer ≡ codes "ok")
+Follows (feature text) before after answer = (after ≡ before) × AnswersFeature text answer
+Follows (compose a b) before after answer = (after ≡ before) × AnswersCompose a b answer
+Follows (decompose c) before after answer = (after ≡ before) × AnswersDecompose c answer

@@ -1,6 +1,7 @@
 -- The words of a line.
-use Rattle.std.specs.Prelude.{ℕ, ◌<◌, ◌==◌, ◌≡◌, List, [], length, Option, Some, None, Bool, true, if◌then◌else◌, nat_lt, unwrap_or, IsSomeAnd}
-use Rattle.std.specs.Char.{is_ascii_digit, is_ascii_hexdigit, IsScalar}
+use Rattle.std.specs.Prelude.{ℕ, ◌<◌, ◌^◌, ◌&&◌, ◌==◌, ◌≡◌, List, length, Option, Some, None, Bool, true, if◌then◌else◌, nat_lt, option_and_then}
+use lib.Utf8.{scalar}
+use Rattle.std.specs.Char.{is_ascii_digit, is_ascii_hexdigit}
 use Rattle.std.specs.List.{before_first, after_first, position_or_len, list_all}
 use Rattle.std.specs.Str.Parse.{digits_value}
 
@@ -8,52 +9,61 @@ use Rattle.std.specs.Str.Parse.{digits_value}
 abbrev pub is_space : ℕ → Bool
 is_space b = b == 32
 
+-- what is left of a line, where its end was not taken yet
+abbrev pub Left : Type 0
+Left = Option (List ℕ)
+
 -- a word is not empty
 abbrev pub unless_empty : List ℕ → Option (List ℕ)
 unless_empty word = if length word == 0 then None else Some word
 
 -- the next word of what is left of a line: it ends before the first space
-abbrev pub first_word : Option (List ℕ) → Option (List ℕ)
+abbrev pub first_word : Left → Option (List ℕ)
 first_word None = None
 first_word (Some text) = unless_empty (before_first is_space text)
 
 -- what follows the first space, where there is one
-abbrev pub past_space : List ℕ → Option (List ℕ)
-past_space text = if nat_lt (position_or_len is_space text) (length text) then Some (after_first is_space text) else None
+abbrev pub past_space : List ℕ → Left
+past_space text =
+    if nat_lt (position_or_len is_space text) (length text) then Some (after_first is_space text) else None
 
 -- what is left once the next word was taken
-abbrev pub past_first_word : Option (List ℕ) → Option (List ℕ)
+abbrev pub past_first_word : Left → Option (List ℕ)
 past_first_word None = None
 past_first_word (Some text) = past_space text
+
+-- the number that decimal digits write
+abbrev pub decimal_value : List ℕ → ℕ
+decimal_value word = digits_value 10 word
+
+-- the number that hexadecimal digits write, of either case
+abbrev pub hexadecimal_value : List ℕ → ℕ
+hexadecimal_value word = digits_value 16 word
 
 -- decimal digits alone, at least one
 abbrev pub IsDecimal : List ℕ → Type 0
 IsDecimal word = (0 < length word) × (list_all is_ascii_digit word ≡ true)
 
--- the number that they write
-abbrev pub decimal_value : List ℕ → ℕ
-decimal_value word = digits_value 10 word
-
--- the next word writes a number below the bound
-abbrev pub NextIsNumber : ℕ → Option (List ℕ) → Type 0
-NextIsNumber bound left = IsSomeAnd (first_word left) (λ word. IsDecimal word × (decimal_value word < bound))
-
--- the number that the next word writes
-abbrev pub next_number : Option (List ℕ) → ℕ
-next_number left = decimal_value (unwrap_or (first_word left) [])
-
--- hexadecimal digits alone, of either case, at least one
+-- hexadecimal digits alone, at least one
 abbrev pub IsHexadecimal : List ℕ → Type 0
 IsHexadecimal word = (0 < length word) × (list_all is_ascii_hexdigit word ≡ true)
 
--- the number that they write
-abbrev pub hexadecimal_value : List ℕ → ℕ
-hexadecimal_value word = digits_value 16 word
+-- the number of a word, where decimal digits alone write one below the bound
+abbrev pub number_below : ℕ → List ℕ → Option ℕ
+number_below bound word =
+    if list_all is_ascii_digit word && nat_lt (decimal_value word) bound then Some (decimal_value word) else None
 
--- the next word writes the number of a character
-abbrev pub NextIsCharacter : Option (List ℕ) → Type 0
-NextIsCharacter left = IsSomeAnd (first_word left) (λ word. IsHexadecimal word × IsScalar (hexadecimal_value word))
+-- the character of a word, where hexadecimal digits alone write a scalar value
+abbrev pub character_of : List ℕ → Option ℕ
+character_of word =
+    if list_all is_ascii_hexdigit word && scalar (hexadecimal_value word) then Some (hexadecimal_value word) else None
 
--- the character that the next word writes
-abbrev pub next_character : Option (List ℕ) → ℕ
-next_character left = hexadecimal_value (unwrap_or (first_word left) [])
+-- the next word as a number of 32 bits, as one of 64 bits, and as a character
+abbrev pub next_u32 : Left → Option ℕ
+next_u32 left = option_and_then (number_below (2 ^ 32)) (first_word left)
+
+abbrev pub next_place : Left → Option ℕ
+next_place left = option_and_then (number_below (2 ^ 64)) (first_word left)
+
+abbrev pub next_character : Left → Option ℕ
+next_character left = option_and_then character_of (first_word left)

@@ -1,8 +1,14 @@
 //! The commands, and how a line writes them.
 
+ghost use Rattle.std.specs.Prelude.{◌≡◌, ◌<◌, ◌≤◌, Some, None, MatchOption};
+ghost use Rattle.shaping_buffer.specs.ClusterLevel as cluster_level;
+ghost use Rattle.shaping_cli.specs.Commands.{request_in_bytes, request_in, command_in, treatment_in, question_in, call_in, edit_call_in, flag_call_in, call_request, request_of, at_most};
+
 use crate::words::Words;
 use shaping_buffer::BufferClusterLevel;
+use shaping_buffer::cluster_level::HB_BUFFER_CLUSTER_LEVEL_CHARACTERS;
 use shaping_runs::Call;
+use std::str;
 
 /// What a line asks for.
 #[derive(Drop)]
@@ -15,12 +21,14 @@ pub enum Command<'a> {
     Level(BufferClusterLevel),
     /// `flags N`: say how the text is treated, by the number of a set of flags.
     Flags(u32),
+    /// `limit N`: say how many glyphs each side may hold.
+    Limit(usize),
     /// A call's name and its numbers: make the call.
-    Make(Call),
+    Make(Call<'static>),
     /// `state`: print the two lists.
     State,
-    /// `serialize N`: print the glyphs, and begin anew.
-    Serialize { with_positions: bool },
+    /// `serialize N`: print the glyphs under the flags of a number, and begin anew.
+    Serialize(u8),
     /// `new`: begin with a new text.
     New,
     /// `feature T`: print the feature that a text reads as.
@@ -31,8 +39,28 @@ pub enum Command<'a> {
     Decompose(char),
 }
 
-/// The command that a line writes, if it writes one. Which line is which command is shown by tests alone.
-pub fn parse(line: &str) -> Option<Command<'_>> {
+/// All flags of a buffer: any number up to this is a set of them.
+const ALL_BUFFER_FLAGS: u32 = 255;
+
+/// All flags to print by: any number up to this is a set of them.
+const ALL_SERIALIZE_FLAGS: u8 = 63;
+
+/// The command that the bytes of a line write, if they write one.
+pub fn parse_bytes(line: &[u8]) -> Option<Command<'_>>
+    ensures { MatchOption result (request_in_bytes line.now ≡ None)
+        (λ command. request_in_bytes line.now ≡ Some (request_of command)) }
+{
+    match str::from_utf8(line) {
+        Ok(text) => parse(text),
+        Err(_) => None,
+    }
+}
+
+/// The command that a line writes, if it writes one.
+fn parse(line: &str) -> Option<Command<'_>>
+    ensures { MatchOption result (request_in line.now ≡ None)
+        (λ command. request_in line.now ≡ Some (request_of command)) }
+{
     let mut words = Words::of(line);
     let name = words.word()?;
     let command = command_of(name, &mut words)?;
@@ -40,33 +68,87 @@ pub fn parse(line: &str) -> Option<Command<'_>> {
 }
 
 /// The command of a name, which takes what belongs to it from the words that follow.
-fn command_of<'a>(name: &str, words: &mut Words<'a>) -> Option<Command<'a>> {
+#[tactic(auto, unfolding(crate::specs::Commands::command_in))]
+fn command_of<'a>(name: &str, words: &mut Words<'a>) -> Option<Command<'a>>
+    ensures { MatchOption result (command_in name.now words.old ≡ None)
+        (λ command. command_in name.now words.old ≡ Some (request_of command, words.new)) }
+{
     match name {
         "push" => Some(Command::Push(words.text()?)),
         "add" => Some(Command::Add {
             character: words.character()?,
             cluster: words.number()?,
         }),
-        "level" => Some(Command::Level(level_of(words.number()?)?)),
-        "flags" => Some(Command::Flags(flags_of(words.number()?)?)),
-        "state" => Some(Command::State),
-        "serialize" => serialize_of(words.number()?),
         "new" => Some(Command::New),
-        "feature" => Some(Command::Feature(words.text()?)),
-        "compose" => Some(Command::Compose(words.character()?, words.character()?)),
-        "decompose" => Some(Command::Decompose(words.character()?)),
-        _ => Some(Command::Make(call_of(name, words)?)),
+        _ => treatment_of(name, words),
     }
 }
 
-fn call_of(name: &str, words: &mut Words<'_>) -> Option<Call> {
+/// The commands that say how the text is treated.
+#[tactic(auto, unfolding(crate::specs::Commands::treatment_in))]
+fn treatment_of<'a>(name: &str, words: &mut Words<'a>) -> Option<Command<'a>>
+    ensures { MatchOption result (treatment_in name.now words.old ≡ None)
+        (λ command. treatment_in name.now words.old ≡ Some (request_of command, words.new)) }
+{
+    match name {
+        "level" => Some(Command::Level(level_of(words.number()?)?)),
+        "flags" => Some(Command::Flags(flags_of(words.number()?)?)),
+        "limit" => Some(Command::Limit(words.place()?)),
+        _ => question_of(name, words),
+    }
+}
+
+/// The commands that print something.
+#[tactic(auto, unfolding(crate::specs::Commands::question_in))]
+fn question_of<'a>(name: &str, words: &mut Words<'a>) -> Option<Command<'a>>
+    ensures { MatchOption result (question_in name.now words.old ≡ None)
+        (λ command. question_in name.now words.old ≡ Some (request_of command, words.new)) }
+{
+    match name {
+        "state" => Some(Command::State),
+        "serialize" => Some(Command::Serialize(serialize_flags_of(words.number()?)?)),
+        "feature" => Some(Command::Feature(words.text()?)),
+        "compose" => Some(Command::Compose(words.character()?, words.character()?)),
+        "decompose" => Some(Command::Decompose(words.character()?)),
+        _ => make_of(name, words),
+    }
+}
+
+/// The command that makes the call of a name.
+fn make_of<'a>(name: &str, words: &mut Words<'a>) -> Option<Command<'a>>
+    ensures { MatchOption result (call_request (call_in name.now words.old) ≡ None)
+        (λ command. call_request (call_in name.now words.old)
+        ≡ Some (request_of command, words.new)) }
+{
+    Some(Command::Make(call_of(name, words)?))
+}
+
+#[tactic(auto, unfolding(crate::specs::Commands::call_in))]
+fn call_of(name: &str, words: &mut Words<'_>) -> Option<Call<'static>>
+    ensures { MatchOption result (call_in name.now words.old ≡ None)
+        (λ call. call_in name.now words.old ≡ Some (call, words.new)) }
+{
     match name {
         "clear_output" => Some(Call::ClearOutput),
         "next_glyph" => Some(Call::NextGlyph),
+        "next_glyphs" => Some(Call::NextGlyphs(words.place()?)),
         "skip_glyph" => Some(Call::SkipGlyph),
+        "move_to" => Some(Call::MoveTo(words.place()?)),
+        "sync" => Some(Call::Sync),
+        _ => edit_call_of(name, words),
+    }
+}
+
+/// The calls that put glyphs out in place of others, or drop one, and those that merge clusters.
+#[tactic(auto, unfolding(crate::specs::Commands::edit_call_in))]
+fn edit_call_of(name: &str, words: &mut Words<'_>) -> Option<Call<'static>>
+    ensures { MatchOption result (edit_call_in name.now words.old ≡ None)
+        (λ call. edit_call_in name.now words.old ≡ Some (call, words.new)) }
+{
+    match name {
         "replace_glyph" => Some(Call::ReplaceGlyph(words.number()?)),
         "output_glyph" => Some(Call::OutputGlyph(words.number()?)),
-        "sync" => Some(Call::Sync),
+        "copy_glyph" => Some(Call::CopyGlyph),
         "delete_glyph" => Some(Call::DeleteGlyph),
         "merge_clusters" => Some(Call::MergeClusters(words.place()?, words.place()?)),
         "merge_out_clusters" => Some(Call::MergeOutClusters(words.place()?, words.place()?)),
@@ -75,7 +157,11 @@ fn call_of(name: &str, words: &mut Words<'_>) -> Option<Call> {
 }
 
 /// The calls that mark glyphs from one place to another.
-fn flag_call_of(name: &str, words: &mut Words<'_>) -> Option<Call> {
+#[tactic(auto, unfolding(crate::specs::Commands::flag_call_in))]
+fn flag_call_of(name: &str, words: &mut Words<'_>) -> Option<Call<'static>>
+    ensures { MatchOption result (flag_call_in name.now words.old ≡ None)
+        (λ call. flag_call_in name.now words.old ≡ Some (call, words.new)) }
+{
     let start = Some(words.place()?);
     let end = Some(words.place()?);
     match name {
@@ -89,7 +175,10 @@ fn flag_call_of(name: &str, words: &mut Words<'_>) -> Option<Call> {
 }
 
 /// The cluster level of a number.
-fn level_of(number: u32) -> Option<BufferClusterLevel> {
+fn level_of(number: u32) -> Option<BufferClusterLevel>
+    ensures { MatchOption result (at_most HB_BUFFER_CLUSTER_LEVEL_CHARACTERS (Some number) ≡ None)
+        (λ level. at_most HB_BUFFER_CLUSTER_LEVEL_CHARACTERS (Some number) ≡ Some (cluster_level.level_of level)) }
+{
     match number {
         0 => Some(BufferClusterLevel::MonotoneGraphemes),
         1 => Some(BufferClusterLevel::MonotoneCharacters),
@@ -99,22 +188,24 @@ fn level_of(number: u32) -> Option<BufferClusterLevel> {
 }
 
 /// A number that has none but flags of a buffer.
-fn flags_of(number: u32) -> Option<u32> {
-    if number <= 255 { Some(number) } else { None }
-}
-
-/// The flags that are printed by: no names of glyphs, and positions or none.
-fn serialize_of<'a>(flags: u32) -> Option<Command<'a>> {
-    match flags {
-        4 => Some(Command::Serialize {
-            with_positions: true,
-        }),
-        6 => Some(Command::Serialize {
-            with_positions: false,
-        }),
-        _ => None,
+fn flags_of(number: u32) -> Option<u32>
+    ensures { result ≡ at_most ALL_BUFFER_FLAGS (Some number) }
+{
+    if number <= ALL_BUFFER_FLAGS {
+        Some(number)
+    } else {
+        None
     }
 }
 
-#[cfg(test)]
-mod tests;
+/// A number that has none but flags to print by.
+fn serialize_flags_of(number: u32) -> Option<u8>
+    ensures { result ≡ at_most ALL_SERIALIZE_FLAGS (Some number) }
+{
+    let flags = u8::try_from(number).ok()?;
+    if flags <= ALL_SERIALIZE_FLAGS {
+        Some(flags)
+    } else {
+        None
+    }
+}

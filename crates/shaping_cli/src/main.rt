@@ -1,8 +1,7 @@
 //! A program that edits a shaping buffer: one command a line, one answer a line.
 #![tactic(auto)]
 
-use ending::conclude;
-use run::run;
+use ending::run_to_end;
 use std::process::ExitCode;
 
 mod command;
@@ -15,6 +14,7 @@ mod state_text;
 mod words;
 
 fn main(rt: HostRuntime) -> ExitCode {
-    let outcome = run(rt.alloc(), rt.reader(), std::io::writer(&rt));
-    conclude(&rt, outcome)
+    let mut reader = rt.reader();
+    let mut writer = std::io::writer(&rt);
+    run_to_end(rt.alloc(), &mut reader, &mut writer, &rt)
 }

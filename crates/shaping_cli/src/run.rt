@@ -3,13 +3,13 @@
 ghost use Rattle.std.specs.Prelude.{◌≡◌, ◌+◌, ◌<◌, ◌≤◌, ◌++◌, ◌⊎◌, true, [], ◌∷◌, length, vec_len, vec_capacity, position, IfOk, OnOk, IfErr, Err};
 ghost use Rattle.std.specs.List.{before_first, after_first};
 ghost use Rattle.std.specs.Io.KnownBytes.{Appends, Consumes, IsAtEnd};
-ghost use Rattle.shaping_cli.specs.Transcript.{is_line_feed, fault_text, with_held, IsReadTo, Writes, Answers};
+ghost use Rattle.shaping_cli.specs.Replies.{is_line_feed};
+ghost use Rattle.shaping_cli.specs.Transcript.{fault_text, with_held, Finishes, IsReadTo, Writes, Answers};
 
-use crate::command::parse;
+use crate::command::parse_bytes;
 use crate::session::Session;
 use std::alloc::Global;
 use std::io::{ErrorKind, Read, Write};
-use std::str;
 
 /// Why a run ended early.
 #[derive(Clone, Copy, Debug, PartialEq, Eq)]
@@ -72,17 +72,30 @@ pub fn run_on<R: Read, W: Write>(
         return Err(RunFault::Memory);
     };
     let outcome = answer_lines(alloc, input.as_slice(), writer, &mut held);
-    // What was answered before the memory ran out is written too.
-    if !matches!(outcome, Err(RunFault::Write)) {
-        write_held(writer, &mut held)?;
-        writer.flush().map_err(|_| RunFault::Write)?;
+    finish(writer, &mut held, outcome)
+}
+
+/// Writes what is held, also where the memory ran out, before the outcome is told. A writer that failed gets no more.
+fn finish<W: Write>(
+    writer: &mut W,
+    held: &mut Vec<u8>,
+    outcome: Result<u8, RunFault>,
+) -> Result<u8, RunFault>
+    ensures { Finishes (W.contents writer.old) (W.contents writer.new)
+        held.old.items outcome result }
+{
+    if outcome == Err(RunFault::Write) {
+        return outcome;
     }
+    write_held(writer, held)?;
+    writer.flush().map_err(|_| RunFault::Write)?;
     outcome
 }
 
 /// All that the reader gives.
 fn read_all<R: Read>(alloc: Global, reader: &mut R) -> Result<Vec<u8>, RunFault>
-    ensures bytes { IfOk result (λ input. Consumes (R.remaining reader.old) (R.remaining reader.new) input.items) }
+    ensures bytes { IfOk result (λ input.
+        Consumes (R.remaining reader.old) (R.remaining reader.new) input.items) }
     ensures end { OnOk result (IsAtEnd (R.remaining reader.new)) }
     ensures err { IfErr result (λ fault. (fault ≡ RunFault.Read) ⊎ (fault ≡ RunFault.Memory)) }
 {
@@ -111,7 +124,9 @@ fn read_piece<R: Read>(
     input: &mut Vec<u8>,
 ) -> Result<bool, RunFault>
     requires { 0 < length piece.old }
-    ensures bytes { IfOk result (λ _. IsReadTo (R.remaining reader.old) (R.remaining reader.new) input.old.items input.new.items) }
+    ensures bytes { IfOk result (λ _.
+        IsReadTo (R.remaining reader.old) (R.remaining reader.new)
+        input.old.items input.new.items) }
     ensures end { IfOk result (λ at_end. at_end ≡ true → IsAtEnd (R.remaining reader.new)) }
     ensures err { IfErr result (λ fault. (fault ≡ RunFault.Read) ⊎ (fault ≡ RunFault.Memory)) }
 {
@@ -143,7 +158,7 @@ fn answer_lines<W: Write>(
     while !rest.is_empty() {
         let (line, others) = cut_line(rest);
         rest = others;
-        let Some(command) = str::from_utf8(line).ok().and_then(parse) else {
+        let Some(command) = parse_bytes(line) else {
             put_line(writer, held, "unknown command")?;
             return Ok(2);
         };
@@ -226,10 +241,6 @@ fn write_held<W: Write>(writer: &mut W, held: &mut Vec<u8>) -> Result<(), RunFau
 }
 
 #[cfg(test)]
-mod edit_tests;
-#[cfg(test)]
-mod fault_tests;
-#[cfg(test)]
-mod query_tests;
+mod stream_tests;
 #[cfg(test)]
 mod tests;

@@ -1,18 +1,26 @@
 //! What the commands work on, and what each of them does.
 
-ghost use Rattle.std.specs.Prelude.{◌≡◌, IfOk, codes};
+ghost use Rattle.std.specs.Prelude.{◌≡◌, IfOk, true, false, codes, string_bytes};
+ghost use Rattle.std.specs.List.{list_all};
+ghost use Rattle.shaping_buffer.specs.Text as texts;
+ghost use Rattle.shaping_buffer.specs.Text.{AreGlyphs};
+ghost use Rattle.shaping_cli.specs.Session as session;
 ghost use Rattle.shaping_buffer.specs.ClusterLevel.{level_of};
 ghost use Rattle.shaping_buffer.specs.Pushed.{pushed, added};
+ghost use Rattle.shaping_cli.specs.Commands.{request_of};
 ghost use Rattle.shaping_cli.specs.Replies.{reply_text};
-ghost use Rattle.shaping_cli.specs.Session.{fresh, held_by, with_level, with_flags, Follows, Grows, FollowsCall, FollowsSerialize, FollowsState};
+ghost use Rattle.shaping_cli.specs.Session.{fresh, held_by, with_level, with_flags, Follows, Grows, FollowsCall, FollowsLimit, FollowsSerialize, FollowsState};
+ghost use Rattle.shaping_cli.specs.Session.{is_glyph, nothing_known};
+ghost use Rattle.shaping_buffer.specs.State.{cleared};
+ghost use Rattle.shaping_buffer.specs.Positions.{with_zero_positions};
 
 use crate::command::Command;
 use crate::query;
 use crate::reply::Reply;
 use crate::state_text::print_state;
+use rb_glyph::{NoGlyphNames, hb_glyph_info_t};
 use shaping_buffer::{
-    BufferClusterLevel, BufferFlags, Flags, GlyphBuffer, GlyphExtents, GlyphId, GlyphNames,
-    SerializeFlags, UnicodeBuffer, hb_buffer_t,
+    BufferClusterLevel, BufferFlags, Flags, GlyphBuffer, SerializeFlags, UnicodeBuffer, hb_buffer_t,
 };
 use shaping_runs::{Answer, Call, replay};
 use std::alloc::{AllocError, Global};
@@ -34,16 +42,18 @@ impl Session {
 
     /// Does what a command asks for, and answers it.
     pub fn obey(self, alloc: Global, command: Command<'_>) -> Result<(Session, Reply), AllocError>
-        ensures { IfOk result (λ next. Follows command.entry self next.0 (reply_text next.1)) }
+        ensures { IfOk result (λ next.
+            Follows (request_of command.entry) self next.0 (reply_text next.1)) }
     {
         match command {
             Command::Push(text) => self.push(text),
             Command::Add { character, cluster } => self.add(character, cluster),
             Command::Level(level) => Ok(self.set_level(level)),
             Command::Flags(flags) => Ok(self.set_flags(flags)),
+            Command::Limit(number) => Ok(self.limit(number)),
             Command::Make(call) => self.make(call),
             Command::State => self.state(alloc),
-            Command::Serialize { with_positions } => self.serialize(alloc, with_positions),
+            Command::Serialize(flags) => self.serialize(alloc, flags),
             Command::New => Ok((Session::new(alloc), Reply::ok())),
             Command::Feature(text) => Ok((self, query::feature(alloc, text)?)),
             Command::Compose(a, b) => Ok((self, query::compose(alloc, a, b)?)),
@@ -74,7 +84,8 @@ impl Session {
     }
 
     fn add(self, character: char, cluster: u32) -> Result<(Session, Reply), AllocError>
-        ensures { IfOk result (λ next. Grows (added character cluster) self next.0 (reply_text next.1)) }
+        ensures { IfOk result (λ next.
+            Grows (added character cluster) self next.0 (reply_text next.1)) }
     {
         match self {
             Session::Text(mut buffer) => {
@@ -120,6 +131,18 @@ impl Session {
         (session, Reply::ok())
     }
 
+    /// Says how many glyphs each side may hold. It asks that none holds more.
+    fn limit(self, number: usize) -> (Session, Reply)
+        ensures { FollowsLimit number self result.0 (reply_text result.1) }
+    {
+        let mut buffer = self.into_buffer();
+        if buffer.len() > number || buffer.out_len() > number {
+            return (Session::Turned(buffer), Reply::outside());
+        }
+        buffer.set_max_len(number);
+        (Session::Turned(buffer), Reply::ok())
+    }
+
     /// Prints the two lists.
     fn state(self, alloc: Global) -> Result<(Session, Reply), AllocError>
         ensures { IfOk result (λ next. FollowsState self next.0 (reply_text next.1)) }
@@ -129,8 +152,8 @@ impl Session {
         Ok((Session::Turned(buffer), Reply::Text(text)))
     }
 
-    fn make(self, call: Call) -> Result<(Session, Reply), AllocError>
-        ensures { IfOk result (λ next. FollowsCall call self next.0 (reply_text next.1)) }
+    fn make(self, call: Call<'static>) -> Result<(Session, Reply), AllocError>
+        ensures { IfOk result (λ next. FollowsCall call.entry self next.0 (reply_text next.1)) }
     {
         let mut buffer = self.into_buffer();
         let mut answers = [Answer::Outside];
@@ -141,37 +164,73 @@ impl Session {
         Ok((Session::Turned(buffer), reply))
     }
 
-    /// Prints the glyphs, with their positions all 0 or with none. It asks that no output is open.
-    fn serialize(self, alloc: Global, with_positions: bool) -> Result<(Session, Reply), AllocError>
-        ensures { IfOk result (λ next. FollowsSerialize with_positions self next.0 (reply_text next.1)) }
+    /// Prints the glyphs, with their positions all 0. It asks that no output is open, and ids of 16 bits where names or
+    /// extents are printed.
+    fn serialize(self, alloc: Global, flags: u8) -> Result<(Session, Reply), AllocError>
+        ensures { IfOk result (λ next.
+            FollowsSerialize (record { 0 = flags }) self next.0 (reply_text next.1)) }
     {
-        let mut buffer = self.into_buffer();
-        if buffer.have_output() {
+        let flags = flags_of(flags);
+        let buffer = self.into_buffer();
+        if !may_be_printed(flags, &buffer) {
             return Ok((Session::Turned(buffer), Reply::outside()));
         }
-        buffer.clear_positions();
-        let glyphs = GlyphBuffer::from_buffer(buffer);
-        let flags = SerializeFlags::from_bits_retain(if with_positions { 4 } else { 6 });
-        let text = glyphs.serialize(alloc, &NoFont, flags)?;
-        Ok((Session::Text(glyphs.clear()), Reply::Text(text)))
+        let (next, text) = print_glyphs(alloc, flags, buffer)?;
+        Ok((Session::Text(next), Reply::Text(text)))
     }
 }
 
-/// A font of which nothing is known.
-struct NoFont;
+/// The set of flags of a number.
+fn flags_of(number: u8) -> SerializeFlags
+    ensures { result ≡ record { 0 = number } }
+{
+    SerializeFlags::from_bits_retain(number)
+}
 
-impl GlyphNames for NoFont {
-    ghost use Rattle.std.specs.Prelude.{None};
+/// The text that begins anew, and the glyphs, with positions that are all 0.
+fn print_glyphs(
+    alloc: Global,
+    flags: SerializeFlags,
+    buffer: hb_buffer_t,
+) -> Result<(UnicodeBuffer, String), AllocError>
+    requires closed { buffer.have_output ≡ false }
+    requires glyphs { texts.asks_font flags ≡ true → AreGlyphs buffer.input }
+    ensures next { IfOk result (λ printed. printed.0 ≡ cleared buffer) }
+    ensures text { IfOk result (λ printed. string_bytes printed.1
+        ≡ texts.text_of nothing_known flags (with_zero_positions buffer)) }
+{
+    let mut placed = buffer;
+    placed.clear_positions();
+    let glyphs = GlyphBuffer::from_buffer(placed);
+    let text = glyphs.serialize(alloc, &NoGlyphNames, flags)?;
+    Ok((glyphs.clear(), text))
+}
 
-    ghost name_of = { λ _ _. None };
+/// The highest number of a glyph.
+const LAST_GLYPH: u32 = 65535;
 
-    ghost extents_of = { λ _ _. None };
+/// Whether glyphs may be printed under these flags.
+#[tactic(auto, unfolding(crate::specs::Session::may_be_printed))]
+fn may_be_printed(flags: SerializeFlags, buffer: &hb_buffer_t) -> bool
+    ensures is { result ≡ session.may_be_printed flags buffer.now }
+    ensures closed { result ≡ true → buffer.now.have_output ≡ false }
+    ensures glyphs { result ≡ true → texts.asks_font flags ≡ true → AreGlyphs buffer.now.input }
+{
+    !buffer.have_output() && (!asks_font(flags) || are_glyphs(buffer.info()))
+}
 
-    fn glyph_name(&self, _glyph: GlyphId) -> Option<&str> {
-        None
-    }
+/// Whether names or extents are printed under these flags.
+fn asks_font(flags: SerializeFlags) -> bool
+    ensures { result ≡ texts.asks_font flags }
+{
+    !flags.contains(SerializeFlags::NO_GLYPH_NAMES) || flags.contains(SerializeFlags::GLYPH_EXTENTS)
+}
 
-    fn glyph_extents(&self, _glyph: GlyphId) -> Option<GlyphExtents> {
-        None
-    }
+/// Whether each id is the number of a glyph.
+#[tactic(auto, using(crate::proofs::PrintedLemmas::all_glyphs))]
+fn are_glyphs(infos: &[hb_glyph_info_t]) -> bool
+    ensures is { result ≡ list_all is_glyph infos.now }
+    ensures glyphs { result ≡ true → AreGlyphs infos.now }
+{
+    infos.iter().all(|info| info.glyph_id <= LAST_GLYPH)
 }

@@ -3,7 +3,7 @@
 ghost use Rattle.std.specs.Prelude.{◌≡◌, ◌^◌, ◌<◌, ◌↔◌, Some, None, IsTrue, SomeIff, option_copied};
 ghost use Rattle.std.specs.Char.{is_ascii_digit, is_ascii_hexdigit};
 ghost use Rattle.std.specs.List.{before_first, list_all};
-ghost use Rattle.shaping_cli.specs.Words.{is_space, first_word, past_space, past_first_word, IsDecimal, decimal_value, NextIsNumber, next_number, IsHexadecimal, hexadecimal_value, NextIsCharacter, next_character};
+ghost use Rattle.shaping_cli.specs.Words.{is_space, first_word, past_space, past_first_word, IsDecimal, decimal_value, next_u32, next_place, IsHexadecimal, hexadecimal_value, next_character};
 
 use std::marker::Model;
 
@@ -43,7 +43,7 @@ impl<'a> Words<'a> {
 
     /// Takes the next word where decimal digits alone write a number of 32 bits.
     pub fn number(&mut self) -> Option<u32>
-        ensures number { SomeIff result (NextIsNumber (2 ^ 32) self.old) (next_number self.old) }
+        ensures number { result ≡ next_u32 self.old }
         ensures rest { self.new ≡ past_first_word self.old }
     {
         let value = decimal(self.word()?)?;
@@ -52,7 +52,7 @@ impl<'a> Words<'a> {
 
     /// Takes the next word where decimal digits alone write a number of 64 bits.
     pub fn place(&mut self) -> Option<usize>
-        ensures number { SomeIff result (NextIsNumber (2 ^ 64) self.old) (next_number self.old) }
+        ensures number { result ≡ next_place self.old }
         ensures rest { self.new ≡ past_first_word self.old }
     {
         let value = decimal(self.word()?)?;
@@ -61,7 +61,7 @@ impl<'a> Words<'a> {
 
     /// Takes the next word where hexadecimal digits alone, of either case, write the number of a character.
     pub fn character(&mut self) -> Option<char>
-        ensures character { SomeIff result (NextIsCharacter self.old) (next_character self.old) }
+        ensures character { result ≡ next_character self.old }
         ensures rest { self.new ≡ past_first_word self.old }
     {
         let code = hexadecimal(self.word()?)?;
@@ -98,7 +98,8 @@ fn cut_word(text: &str) -> (&str, Option<&str>)
 /// The number that decimal digits alone write, where it fits.
 #[tactic(auto, using(crate::proofs::WordLemmas::decimal_from_parse))]
 fn decimal(word: &str) -> Option<u64>
-    ensures { SomeIff result (IsDecimal word.now × (decimal_value word.now < 2 ^ 64)) (decimal_value word.now) }
+    ensures { SomeIff result (IsDecimal word.now × (decimal_value word.now < 2 ^ 64))
+        (decimal_value word.now) }
 {
     if !is_all_digits(word) {
         return None;
@@ -115,7 +116,8 @@ fn is_all_digits(word: &str) -> bool
 /// The number that hexadecimal digits alone write, where it fits.
 #[tactic(auto, using(crate::proofs::WordLemmas::hexadecimal_from_parse))]
 fn hexadecimal(word: &str) -> Option<u32>
-    ensures { SomeIff result (IsHexadecimal word.now × (hexadecimal_value word.now < 2 ^ 32)) (hexadecimal_value word.now) }
+    ensures { SomeIff result (IsHexadecimal word.now × (hexadecimal_value word.now < 2 ^ 32))
+        (hexadecimal_value word.now) }
 {
     if !is_all_hexadecimal_digits(word) {
         return None;

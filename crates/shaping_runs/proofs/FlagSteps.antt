@@ -5,12 +5,13 @@ use Rattle.std.proofs.lemmas.Bool.{cond_both}
 use Rattle.std.proofs.lemmas.List.{take_at, drop_at}
 use Rattle.std.proofs.lemmas.List.Elements.{All-append, All-take, All-drop, All-map, All-weaker}
 use Rattle.rb_glyph.specs.declared.info.hb_glyph_info_t.{hb_glyph_info_t}
-use Rattle.shaping_buffer.specs.Parts.{part, map_range}
-use Rattle.shaping_buffer.specs.Marks.{marked}
-use Rattle.shaping_buffer.specs.Scans.{scanned, scanned_part}
-use Rattle.shaping_buffer.specs.GlyphFlags.{BreakImpliesConcat, FlagsAgree}
+use Rattle.glyph_lists.specs.Parts.{part, map_range}
+use Rattle.glyph_lists.specs.Marks.{with_glyph_flags}
+use Rattle.glyph_lists.specs.Scans.{scan_least, part_scan, two_part_scan}
+use Rattle.glyph_lists.specs.GlyphFlags.{BreakImpliesConcat, FlagsAgree}
 use Rattle.shaping_buffer.specs.Step.{with_id}
-use Rattle.shaping_buffer.proofs.GlyphFlagsLemmas.{deleted_keeps_flags, merged_keeps_flags, mark_keeps_flags, end_mark_keeps_flags, mark_others_keeps_flags, mark_part_keeps_flags, marked_keep_flags, new_part_keeps_flags}
+use Rattle.glyph_laws.proofs.GlyphFlagsLemmas.{deletion_keeps_flags, merge_or_mark_keeps_flags, mark_keeps_flags, end_mark_keeps_flags, mark_others_keeps_flags, mark_part_keeps_flags, marked_keep_flags, new_part_keeps_flags}
+use Rattle.glyph_laws.proofs.ReplacementLemmas.{replaced_keeps_flags}
 use Rattle.shaping_runs.proofs.Steps.{StepsKeep}
 
 abbrev Agrees : hb_glyph_info_t → Type 0
@@ -33,14 +34,15 @@ renamed_agree id l h = All-map Agrees (with_id id) l (All-weaker Agrees (λ g. A
 -- ---- marks
 
 module _ (bits : ℕ) (safe : BreakImpliesConcat bits) where
-  scanned_agree : (reads_all : Bool) (r : List hb_glyph_info_t) → FlagsAgree r → FlagsAgree (scanned reads_all bits r)
-  scanned_agree reads_all r h = cond_both reads_all _ _ FlagsAgree (λ _. mark_keeps_flags bits safe r h) (λ _. end_mark_keeps_flags bits safe r h)
+  part_scan_agrees : (any_order : Bool) (m : ℕ) (r : List hb_glyph_info_t) → FlagsAgree r → FlagsAgree (part_scan any_order bits m r)
+  part_scan_agrees any_order m r h = cond_both any_order _ _ FlagsAgree (λ _. mark_others_keeps_flags bits safe m r h) (λ _. mark_part_keeps_flags bits safe m r h)
 
-  scanned_part_agree : (reads_all : Bool) (m : ℕ) (r : List hb_glyph_info_t) → FlagsAgree r → FlagsAgree (scanned_part reads_all bits m r)
-  scanned_part_agree reads_all m r h = cond_both reads_all _ _ FlagsAgree (λ _. mark_others_keeps_flags bits safe m r h) (λ _. mark_part_keeps_flags bits safe m r h)
-
-  marked_range_agrees : (l : List hb_glyph_info_t) (p q : ℕ) → FlagsAgree l → FlagsAgree (map_range (marked bits) l p q)
-  marked_range_agrees l p q h = new_part_keeps_flags l (map (marked bits) (part l p q)) p q h (marked_keep_flags bits safe (part l p q) (part_agrees l p q h))
+  two_part_scan_agrees : (any_order : Bool) (k : ℕ) (r : List hb_glyph_info_t) → FlagsAgree r → FlagsAgree (two_part_scan any_order bits k r)
+  unfolding two_part_scan
+  two_part_scan_agrees any_order k r h =
+      let m = scan_least any_order (take k r) (drop k r) in
+      All-append Agrees (part_scan any_order bits m (take k r)) (part_scan any_order bits m (drop k r))
+      (part_scan_agrees any_order m (take k r) (All-take Agrees k r h)) (part_scan_agrees any_order m (drop k r) (All-drop Agrees k r h))
 
 -- ---- the steps
 
@@ -59,19 +61,15 @@ flags_steps = record {
       (All-append Agrees out (map (with_id id) model) (left_agrees out input h)
       (renamed_agree id model (cond_both (eqb (length input) 0) _ _ FlagsAgree (λ _. All-drop Agrees (length out - 1) out (left_agrees out input h)) (λ _. All-take Agrees 1 input (right_agrees out input h)))))
       (right_agrees out input h);
-  removed = deleted_keeps_flags;
-  joined = λ marks l p q floor _ in_l h. merged_keeps_flags marks l p q floor h;
-  scanned_range = λ reads_all bits safe out input i j up h.
-      All-append Agrees out (take i input ++ scanned reads_all bits (part input i j) ++ drop j input) (left_agrees out input h)
-      (new_part_keeps_flags input (scanned reads_all bits (part input i j)) i j (right_agrees out input h) (scanned_agree bits safe reads_all (part input i j) (part_agrees input i j (right_agrees out input h))));
-  scanned_sides = λ reads_all bits m safe out input i j h.
-      let before = left_agrees out input h in
-      let behind = right_agrees out input h in
-      All-append Agrees (take i out ++ scanned_part reads_all bits m (drop i out)) (scanned_part reads_all bits m (take j input) ++ drop j input)
-      (All-append Agrees (take i out) (scanned_part reads_all bits m (drop i out)) (All-take Agrees i out before) (scanned_part_agree bits safe reads_all m (drop i out) (All-drop Agrees i out before)))
-      (All-append Agrees (scanned_part reads_all bits m (take j input)) (drop j input) (scanned_part_agree bits safe reads_all m (take j input) (All-take Agrees j input behind)) (All-drop Agrees j input behind));
-  marked_range = λ bits safe out input i j up h. All-append Agrees out (map_range (marked bits) input i j) (left_agrees out input h) (marked_range_agrees bits safe input i j (right_agrees out input h));
-  marked_sides = λ bits safe out input i j in_out h.
-      All-append Agrees (map_range (marked bits) out i (length out)) (map_range (marked bits) input 0 j) (marked_range_agrees bits safe out i (length out) (left_agrees out input h))
-      (marked_range_agrees bits safe input 0 j (right_agrees out input h));
+  doubled = λ out input h.
+      All-append Agrees (out ++ take 1 input) input
+      (All-append Agrees out (take 1 input) (left_agrees out input h) (All-take Agrees 1 input (right_agrees out input h)))
+      (right_agrees out input h);
+  after_replacement = replaced_keeps_flags;
+  after_deletion = deletion_keeps_flags;
+  after_merge = λ any_order l p q floor _ in_l h. merge_or_mark_keeps_flags any_order l p q floor h;
+  after_scan = λ any_order bits k safe l p q up h.
+      new_part_keeps_flags l (two_part_scan any_order bits k (part l p q)) p q h (two_part_scan_agrees bits safe any_order k (part l p q) (part_agrees l p q h));
+  after_mark = λ bits safe l p q up h.
+      new_part_keeps_flags l (map (with_glyph_flags bits) (part l p q)) p q h (marked_keep_flags bits safe (part l p q) (part_agrees l p q h));
 }

@@ -5,3 +5,4 @@ pub mod ReadingSteps
 pub mod RunLaws
 pub mod Rows
 pub mod Refusals
+pub mod RenderLemmas

@@ -1,17 +1,18 @@
--- What readings and joins keep, each step keeps.
+-- What readings and merges keep, each step keeps.
 use Rattle.std.proofs.Common.{◌≡◌, ℕ, suc, ◌+◌, ◌-◌, ◌<◌, ◌≤◌, inl, inr, Bool, List, [], ◌∷◌, ◌++◌, length, map, take, drop, min, cond, refl, sym, ap, ◌∙◌, subst, arith, eqb, length-append, length-drop, append_assoc}
 use Rattle.std.proofs.lemmas.Bool.{cond_both, cases_lt, eqb-true}
 use Rattle.std.proofs.lemmas.List.{append-nil, map-append, length-map, take-append-drop, get_or_append_left, get_or-append_right, get_or-append-add, get_or-map, get_or-drop}
 use Rattle.rb_glyph.specs.declared.info.hb_glyph_info_t.{hb_glyph_info_t}
-use Rattle.shaping_buffer.specs.Parts.{part, map_range}
-use Rattle.shaping_buffer.specs.Clusters.{run_join, zero_glyph}
-use Rattle.shaping_buffer.specs.Marks.{marked}
-use Rattle.shaping_buffer.specs.Masks.{masks_reset, with_mask}
-use Rattle.shaping_buffer.specs.Scans.{scanned, scanned_part}
+use Rattle.glyph_lists.specs.Parts.{part, map_range}
+use Rattle.glyph_lists.specs.Clusters.{run_merge, zero_glyph}
+use Rattle.glyph_lists.specs.Marks.{with_glyph_flags}
+use Rattle.glyph_lists.specs.Masks.{reset_masks, with_mask}
+use Rattle.glyph_lists.specs.Scans.{scan_least, part_scan, two_part_scan}
 use Rattle.shaping_buffer.specs.Step.{with_id}
-use Rattle.shaping_buffer.proofs.ReadingsLemmas.{at, Reading, reading_alike, reading_dropped, reading_copied, reading_but_masks}
-use Rattle.shaping_buffer.proofs.MarksLemmas.{masks_reset-mark, masks_reset-mark_others, masks_reset-mark_part, masks_reset-end_mark, masks_reset-map_marked, masks_reset-new_part}
-use Rattle.shaping_buffer.proofs.DeletionLemmas.{merged_keeps, deleted_keeps}
+use Rattle.glyph_laws.proofs.ReadingsLemmas.{at, Reading, reading_alike, reading_dropped, reading_copied, reading_but_masks}
+use Rattle.glyph_laws.proofs.MarksLemmas.{reset_masks-mark, reset_masks-mark_others, reset_masks-mark_part, reset_masks-end_mark, reset_masks-map_marked, reset_masks-new_part}
+use Rattle.glyph_laws.proofs.DeletionLemmas.{merge_or_mark_keeps, deletion_keeps}
+use Rattle.glyph_laws.proofs.ReplacementLemmas.{replaced_keeps}
 use Rattle.shaping_runs.proofs.Steps.{StepsKeep}
 
 -- ---- readings
@@ -64,27 +65,32 @@ module _ (id : ℕ) (out : List hb_glyph_info_t) (some : 0 < length out) where
 
 -- ---- masks
 
-module _ (bits : ℕ) where
-  masks_reset-scanned : (reads_all : Bool) (r : List hb_glyph_info_t) → masks_reset 0 (scanned reads_all bits r) ≡ masks_reset 0 r
-  masks_reset-scanned reads_all r = cond_both reads_all _ _ (λ l. masks_reset 0 l ≡ masks_reset 0 r) (λ _. masks_reset-mark bits r) (λ _. masks_reset-end_mark bits r)
-
-  masks_reset-scanned_part : (reads_all : Bool) (m : ℕ) (r : List hb_glyph_info_t) → masks_reset 0 (scanned_part reads_all bits m r) ≡ masks_reset 0 r
-  masks_reset-scanned_part reads_all m r = cond_both reads_all _ _ (λ l. masks_reset 0 l ≡ masks_reset 0 r) (λ _. masks_reset-mark_others bits m r) (λ _. masks_reset-mark_part bits m r)
-
 -- two lists, one after the other
-masks_reset-two : (out out2 input input2 : List hb_glyph_info_t) → masks_reset 0 out2 ≡ masks_reset 0 out → masks_reset 0 input2 ≡ masks_reset 0 input → masks_reset 0 (out2 ++ input2) ≡ masks_reset 0 (out ++ input)
-unfolding masks_reset
-masks_reset-two out out2 input input2 e e2 =
+reset_masks-two : (out out2 input input2 : List hb_glyph_info_t) → reset_masks 0 out2 ≡ reset_masks 0 out → reset_masks 0 input2 ≡ reset_masks 0 input → reset_masks 0 (out2 ++ input2) ≡ reset_masks 0 (out ++ input)
+unfolding reset_masks
+reset_masks-two out out2 input input2 e e2 =
     map-append (with_mask 0) out2 input2 ∙ ap (λ l. l ++ map (with_mask 0) input2) e ∙ ap (λ l. map (with_mask 0) out ++ l) e2 ∙ sym (map-append (with_mask 0) out input)
+
+module _ (any_order : Bool) (bits : ℕ) where
+  reset_masks-part_scan : (m : ℕ) (r : List hb_glyph_info_t) → reset_masks 0 (part_scan any_order bits m r) ≡ reset_masks 0 r
+  reset_masks-part_scan m r = cond_both any_order _ _ (λ l. reset_masks 0 l ≡ reset_masks 0 r) (λ _. reset_masks-mark_others bits m r) (λ _. reset_masks-mark_part bits m r)
+
+  reset_masks-two_part_scan : (k : ℕ) (r : List hb_glyph_info_t) → reset_masks 0 (two_part_scan any_order bits k r) ≡ reset_masks 0 r
+  unfolding two_part_scan
+  reset_masks-two_part_scan k r =
+      let m = scan_least any_order (take k r) (drop k r) in
+      reset_masks-two (take k r) (part_scan any_order bits m (take k r)) (drop k r) (part_scan any_order bits m (drop k r))
+      (reset_masks-part_scan m (take k r)) (reset_masks-part_scan m (drop k r))
+      ∙ ap (reset_masks 0) (take-append-drop k r)
 
 -- ---- the steps
 
 module _ (P : List hb_glyph_info_t → Type 0) (Floor : ℕ → Type 0) (low : Floor 0)
     (reads : (xs ys : List hb_glyph_info_t) → Reading xs ys → P xs → P ys)
-    (joins : (floor : ℕ) → Floor floor → (l : List hb_glyph_info_t) (p q : ℕ) → q ≤ length l → P l → P (run_join l p q floor)) where
-  -- other masks
-  masks_keep : (out out2 input input2 : List hb_glyph_info_t) → masks_reset 0 out2 ≡ masks_reset 0 out → masks_reset 0 input2 ≡ masks_reset 0 input → P (out ++ input) → P (out2 ++ input2)
-  masks_keep out out2 input input2 e e2 = reads (out ++ input) (out2 ++ input2) (reading_but_masks (out ++ input) (out2 ++ input2) (sym (masks_reset-two out out2 input input2 e e2)))
+    (merges : (floor : ℕ) → Floor floor → (l : List hb_glyph_info_t) (p q : ℕ) → q ≤ length l → P l → P (run_merge l p q floor)) where
+  -- a part gives way to one that is the same but for its masks
+  new_part_keeps : (l new : List hb_glyph_info_t) (p q : ℕ) → p ≤ q → reset_masks 0 new ≡ reset_masks 0 (part l p q) → P l → P (take p l ++ new ++ drop q l)
+  new_part_keeps l new p q up same = reads l (take p l ++ new ++ drop q l) (reading_but_masks l (take p l ++ new ++ drop q l) (sym (reset_masks-new_part l new p q up same)))
 
   -- a copy of the head is put out, and then the head may go
   copied_head : (id : ℕ) (out : List hb_glyph_info_t) (x : hb_glyph_info_t) (rest : List hb_glyph_info_t) → P (out ++ x ∷ rest) → P ((out ++ with_id id x ∷ []) ++ x ∷ rest)
@@ -93,6 +99,10 @@ module _ (P : List hb_glyph_info_t → Type 0) (Floor : ℕ → Type 0) (low : F
   renamed_keeps : (id : ℕ) (out input : List hb_glyph_info_t) → P (out ++ input) → P ((out ++ map (with_id id) (take 1 input)) ++ drop 1 input)
   renamed_keeps id out [] h = subst P (sym (append-nil (out ++ []))) h
   renamed_keeps id out (x ∷ rest) h = reads ((out ++ with_id id x ∷ []) ++ x ∷ rest) ((out ++ with_id id x ∷ []) ++ rest) (reading_dropped (out ++ with_id id x ∷ []) x rest) (copied_head id out x rest h)
+
+  doubled_keeps : (out input : List hb_glyph_info_t) → P (out ++ input) → P ((out ++ take 1 input) ++ input)
+  doubled_keeps out [] h = subst P (sym (append-nil (out ++ []))) h
+  doubled_keeps out (x ∷ rest) h = subst P (sym (append_assoc out (x ∷ []) (x ∷ rest))) (reads (out ++ x ∷ rest) (out ++ x ∷ x ∷ rest) (reading_copied out x x rest refl refl) h)
 
   -- or of the last that was put out
   copied_last : (id : ℕ) (out : List hb_glyph_info_t) → P out → P (out ++ map (with_id id) (drop (length out - 1) out))
@@ -112,19 +122,11 @@ module _ (P : List hb_glyph_info_t → Type 0) (Floor : ℕ → Type 0) (low : F
     dropped = λ out input. reads (out ++ input) (out ++ drop 1 input) (reading_headless out input);
     renamed = renamed_keeps;
     copied = copied_keeps;
-    removed = deleted_keeps P reads (joins 0 low);
-    joined = λ marks l p q floor allowed. merged_keeps P floor reads (joins floor allowed) marks l p q;
-    scanned_range = λ reads_all bits safe out input i j up.
-        masks_keep out out input (take i input ++ scanned reads_all bits (part input i j) ++ drop j input) refl
-        (masks_reset-new_part input (scanned reads_all bits (part input i j)) i j up (masks_reset-scanned bits reads_all (part input i j)));
-    scanned_sides = λ reads_all bits m safe out input i j.
-        masks_keep out (take i out ++ scanned_part reads_all bits m (drop i out)) input (scanned_part reads_all bits m (take j input) ++ drop j input)
-        (masks_reset-two (take i out) (take i out) (drop i out) (scanned_part reads_all bits m (drop i out)) refl (masks_reset-scanned_part bits reads_all m (drop i out)) ∙ ap (masks_reset 0) (take-append-drop i out))
-        (masks_reset-two (take j input) (scanned_part reads_all bits m (take j input)) (drop j input) (drop j input) (masks_reset-scanned_part bits reads_all m (take j input)) refl ∙ ap (masks_reset 0) (take-append-drop j input));
-    marked_range = λ bits safe out input i j up.
-        masks_keep out out input (map_range (marked bits) input i j) refl (masks_reset-new_part input (map (marked bits) (part input i j)) i j up (masks_reset-map_marked bits (part input i j)));
-    marked_sides = λ bits safe out input i j in_out.
-        masks_keep out (map_range (marked bits) out i (length out)) input (map_range (marked bits) input 0 j)
-        (masks_reset-new_part out (map (marked bits) (part out i (length out))) i (length out) in_out (masks_reset-map_marked bits (part out i (length out))))
-        (masks_reset-new_part input (map (marked bits) (part input 0 j)) 0 j (omega arith) (masks_reset-map_marked bits (part input 0 j)));
+    doubled = doubled_keeps;
+    after_replacement = λ any_order l p q ids up in_l here. replaced_keeps any_order l p q ids up in_l here P reads (merges 0 low);
+    after_deletion = deletion_keeps P reads (merges 0 low);
+    after_merge = λ any_order l p q floor allowed. merge_or_mark_keeps P floor reads (merges floor allowed) any_order l p q;
+    after_scan = λ any_order bits k safe l p q up.
+        new_part_keeps l (two_part_scan any_order bits k (part l p q)) p q up (reset_masks-two_part_scan any_order bits k (part l p q));
+    after_mark = λ bits safe l p q up. new_part_keeps l (map (with_glyph_flags bits) (part l p q)) p q up (reset_masks-map_marked bits (part l p q));
   }

@@ -1,52 +1,67 @@
 -- What each step keeps of both sides, every list of calls keeps.
 use Rattle.std.proofs.Common.{◌≡◌, ℕ, ◌+◌, ◌-◌, ◌<◌, ◌≤◌, inl, inr, Bool, true, false, not, ◌&&◌, cond, List, [], ◌∷◌, ◌++◌, length, length-append, map, take, drop, refl, sym, ap, ◌∙◌, subst, arith, eqb, ltb, leb, append_assoc}
-use Rattle.std.proofs.lemmas.Bool.{cond_both, cond-true, cond-false, cases_Bool, and_parts, ltb-true, ltb-false, leb-true}
+use Rattle.std.proofs.lemmas.Bool.{cond_both, cond-true, cond-false, cases_Bool, false≢true, and_parts, ltb-true, ltb-false, leb-true}
 use Rattle.std.proofs.lemmas.List.{take-append-drop}
 use Rattle.std.specs.Prelude.{slice_index_or}
 use Rattle.rb_glyph.specs.declared.info.hb_glyph_info_t.{hb_glyph_info_t}
-use Rattle.shaping_buffer.specs.Parts.{part, map_range}
-use Rattle.shaping_buffer.specs.Clusters.{zero_glyph, run_join}
-use Rattle.shaping_buffer.specs.Marks.{marked}
-use Rattle.shaping_buffer.specs.Scans.{scanned, scanned_part}
-use Rattle.shaping_buffer.specs.Deletion.{merged, deleted}
-use Rattle.shaping_buffer.specs.GlyphFlags.{BreakImpliesConcat}
-use Rattle.shaping_buffer.specs.State.{State, len_of}
-use Rattle.shaping_buffer.specs.Step.{Outcome, limited, put, with_id, appended, passed}
-use Rattle.shaping_buffer.specs.ClusterStep.{both, both_place, input_place, floor_of, marks_merges, merge, merge_out, scan, plain_scan, scan_sides, flag_all, flag_sides, sides_least, asks, is_input_range, is_sides_range, range_start, range_end}
-use Rattle.shaping_buffer.proofs.GlyphFlagsLemmas.{two_agrees, three_agrees, four_agrees}
+use Rattle.glyph_lists.specs.Parts.{part, on_part, map_range}
+use Rattle.glyph_lists.specs.Clusters.{zero_glyph, run_merge}
+use Rattle.glyph_lists.specs.Marks.{with_glyph_flags}
+use Rattle.glyph_lists.specs.Scans.{scan_of, two_part_scan}
+use Rattle.glyph_lists.specs.Deletion.{merge_or_mark, deletion}
+use Rattle.glyph_lists.specs.Replacement.{replacement}
+use Rattle.glyph_lists.specs.GlyphFlags.{BreakImpliesConcat}
+use Rattle.shaping_buffer.specs.State.{State, len, lookahead_len}
+use Rattle.shaping_buffer.specs.Step.{Outcome, limited, put_out, skip_glyphs, next_glyphs, replace_glyphs, move_to, split_at, with_id}
+use Rattle.shaping_buffer.proofs.ReplacementLemmas.{front_replaced, replaced_sides, replaced_both}
+use Rattle.shaping_buffer.specs.ClusterStep.{both, with_both, both_place, floor_of, any_order, merge_clusters, merge_out_clusters, scan, plain_scan, scan_sides, flag_all, asks, is_input_range, is_sides_range, range_start, range_end}
+use Rattle.glyph_lists.specs.declared.glyph_flags.TheConstants.{BREAK_BITS}
+use Rattle.rb_glyph.specs.declared.glyph_flag.TheConstants.{UNSAFE_TO_CONCAT, SAFE_TO_INSERT_TATWEEL}
+use Rattle.rb_glyph.specs.declared.flag_sets.TheConstants.BufferFlags.{PRODUCE_UNSAFE_TO_CONCAT, PRODUCE_SAFE_TO_INSERT_TATWEEL}
+use Rattle.glyph_lists.proofs.ScansLemmas.{two_part_scan-none}
+use Rattle.glyph_laws.proofs.GlyphFlagsLemmas.{two_agrees, three_agrees, four_agrees}
 use Rattle.shaping_runs.specs.declared.call.Call.{Call}
-use Rattle.shaping_runs.specs.declared.call.Call.TheVariants.{ClearOutput, NextGlyph, SkipGlyph, ReplaceGlyph, OutputGlyph, Sync, DeleteGlyph, MergeClusters, MergeOutClusters, UnsafeToBreak, UnsafeToBreakFromOutbuffer, SafeToInsertTatweel, UnsafeToConcat, UnsafeToConcatFromOutbuffer}
+use Rattle.shaping_runs.specs.declared.call.Call.TheVariants.{ClearOutput, NextGlyph, NextGlyphs, SkipGlyph, ReplaceGlyph, ReplaceGlyphs, OutputGlyph, OutputInfo, CopyGlyph, MoveTo, Sync, DeleteGlyph, MergeClusters, MergeOutClusters, UnsafeToBreak, UnsafeToBreakFromOutbuffer, SafeToInsertTatweel, UnsafeToConcat, UnsafeToConcatFromOutbuffer}
 use Rattle.shaping_runs.specs.Replay.{Turn, turn, after, may_be_made, outcome_of, has_glyph}
-use Rattle.shaping_runs.specs.HeldMerges.{is_held_merge}
+use Rattle.shaping_runs.specs.Exceptions.{is_merge_stopped_at_cursor, brings_glyph, NoGlyphIsBrought}
 
 -- ---- conditions in words of numbers
 
 input_order : (start end : ℕ) (s : State) → is_input_range start end s ≡ true → start ≤ end
 input_order start end s e = leb-true start end (and_parts (leb start end) _ e).0
 
-input_within : (start end : ℕ) (s : State) → is_input_range start end s ≡ true → end ≤ len_of s
-input_within start end s e = leb-true end (len_of s) (and_parts (leb end (len_of s)) _ (and_parts (leb start end) _ e).1).0
+input_within : (start end : ℕ) (s : State) → is_input_range start end s ≡ true → end ≤ len s
+input_within start end s e = leb-true end (len s) (and_parts (leb end (len s)) _ (and_parts (leb start end) _ e).1).0
 
-place_within : (is_open : Bool) (idx n end : ℕ) → end ≤ cond is_open (idx + n) n → cond is_open (end - idx) end ≤ n
+place_within : (have_output : Bool) (idx n end : ℕ) → end ≤ cond have_output (idx + n) n → end - cond have_output idx 0 ≤ n
 place_within true idx n end h = omega arith
-place_within false idx n end h = h
+place_within false idx n end h = omega arith
 
-place_up : (is_open : Bool) (idx start end : ℕ) → start ≤ end → cond is_open (start - idx) start ≤ cond is_open (end - idx) end
-place_up true idx start end h = omega arith
-place_up false idx start end h = h
+front_left : (have_output : Bool) (idx n a : ℕ) → have_output ≡ true → a ≤ cond have_output (idx + n) n - idx → a ≤ n
+front_left true idx n a e h = omega arith
+front_left false idx n a e h = cc
 
-glyph_left : (is_open : Bool) (idx n : ℕ) → is_open ≡ true → ltb idx (cond is_open (idx + n) n) ≡ true → 0 < n
+glyph_left : (have_output : Bool) (idx n : ℕ) → have_output ≡ true → ltb idx (cond have_output (idx + n) n) ≡ true → 0 < n
 glyph_left true idx n e h = omega (arith, ltb-true idx (idx + n) h)
 glyph_left false idx n e h = cc
 
-floor_zero : (within is_open : Bool) (idx : ℕ) → within ≡ true → (within && (not is_open && ltb 0 idx)) ≡ false → cond is_open 0 idx ≡ 0
+floor_zero : (within have_output : Bool) (idx : ℕ) → within ≡ true → (within && (not have_output && ltb 0 idx)) ≡ false → cond have_output 0 idx ≡ 0
 floor_zero true true idx e h = refl
 floor_zero true false idx e h = omega (arith, ltb-false 0 idx h)
-floor_zero false is_open idx e h = cc
+floor_zero false have_output idx e h = cc
+
+-- the range of a call on both sides, by places in both, while an output is open and while none is
+sides_order : (start end : ℕ) (s : State) → is_sides_range start end s ≡ true → start ≤ both_place s end
+sides_order start end s e = elim (cases_Bool s.have_output) [
+  | inl open_now ↦
+      omega (arith, leb-true start (length s.out) (and_parts (leb start (length s.out)) _ (sym (cond-true s.have_output _ _ open_now) ∙ e)).0)
+  | inr closed_now ↦
+      omega (arith, leb-true start end (sym (cond-false s.have_output _ _ closed_now) ∙ e), cond-false s.have_output s.idx 0 closed_now)
+]
 
 -- ---- what steps keep
 
--- P holds of both sides after each kind of step, where it held before. Joins are held back only by floors that this allows.
+-- P holds of both sides after each kind of step, where it held before. Merges are held back only by floors that this allows.
 pub record StepsKeep (P : List hb_glyph_info_t → Type 0) (Floor : ℕ → Type 0) : Type 0 where
   pub lowest : Floor 0
   pub cleared : (out input : List hb_glyph_info_t) → P (out ++ input) → P input
@@ -54,111 +69,138 @@ pub record StepsKeep (P : List hb_glyph_info_t → Type 0) (Floor : ℕ → Type
   pub renamed : (id : ℕ) (out input : List hb_glyph_info_t) → P (out ++ input) → P ((out ++ map (with_id id) (take 1 input)) ++ drop 1 input)
   pub copied : (id : ℕ) (out input : List hb_glyph_info_t) → P (out ++ input)
       → P ((out ++ map (with_id id) (cond (eqb (length input) 0) (drop (length out - 1) out) (take 1 input))) ++ input)
-  pub removed : (marks : Bool) (out : List hb_glyph_info_t) (x : hb_glyph_info_t) (rest : List hb_glyph_info_t) → P (out ++ x ∷ rest)
-      → P ((deleted marks out x rest).out ++ (deleted marks out x rest).rest)
-  pub joined : (marks : Bool) (l : List hb_glyph_info_t) (p q floor : ℕ) → Floor floor → q ≤ length l → P l → P (merged marks l p q floor)
-  pub scanned_range : (reads_all : Bool) (bits : ℕ) → BreakImpliesConcat bits → (out input : List hb_glyph_info_t) (i j : ℕ) → i ≤ j → P (out ++ input)
-      → P (out ++ (take i input ++ scanned reads_all bits (part input i j) ++ drop j input))
-  pub scanned_sides : (reads_all : Bool) (bits m : ℕ) → BreakImpliesConcat bits → (out input : List hb_glyph_info_t) (i j : ℕ) → P (out ++ input)
-      → P ((take i out ++ scanned_part reads_all bits m (drop i out)) ++ (scanned_part reads_all bits m (take j input) ++ drop j input))
-  pub marked_range : (bits : ℕ) → BreakImpliesConcat bits → (out input : List hb_glyph_info_t) (i j : ℕ) → i ≤ j → P (out ++ input)
-      → P (out ++ (take i input ++ map (marked bits) (part input i j) ++ drop j input))
-  pub marked_sides : (bits : ℕ) → BreakImpliesConcat bits → (out input : List hb_glyph_info_t) (i j : ℕ) → i ≤ length out → P (out ++ input)
-      → P (map_range (marked bits) out i (length out) ++ map_range (marked bits) input 0 j)
+  pub doubled : (out input : List hb_glyph_info_t) → P (out ++ input) → P ((out ++ take 1 input) ++ input)
+  pub after_replacement : (any_order : Bool) (l : List hb_glyph_info_t) (p q : ℕ) (ids : List ℕ) → p ≤ q → q ≤ length l → p < length l → P l → P (replacement any_order l p q ids)
+  pub after_deletion : (any_order : Bool) (out : List hb_glyph_info_t) (x : hb_glyph_info_t) (rest : List hb_glyph_info_t)
+      → P (out ++ x ∷ rest) → P ((deletion any_order out x rest).out ++ (deletion any_order out x rest).rest)
+  pub after_merge : (any_order : Bool) (l : List hb_glyph_info_t) (p q floor : ℕ) → Floor floor → q ≤ length l
+      → P l → P (merge_or_mark any_order l p q floor)
+  pub after_scan : (any_order : Bool) (bits k : ℕ) → BreakImpliesConcat bits → (l : List hb_glyph_info_t) (p q : ℕ) → p ≤ q
+      → P l → P (on_part (two_part_scan any_order bits k) l p q)
+  pub after_mark : (bits : ℕ) → BreakImpliesConcat bits → (l : List hb_glyph_info_t) (p q : ℕ) → p ≤ q
+      → P l → P (map_range (with_glyph_flags bits) l p q)
 
 -- ---- one call
 
 module _ (P : List hb_glyph_info_t → Type 0) (Floor : ℕ → Type 0) (steps : StepsKeep P Floor) where
-  limited_keeps : (held : List hb_glyph_info_t) (before new : State) → P (both before) → P (both new) → P (both (limited held before new).state)
-  limited_keeps held before new h h2 = cond_both (leb (length held) before.limit) _ _ (λ (o : Outcome). P (both o.state)) (λ _. h2) (λ _. h)
+  limited_keeps : (held : ℕ) (before new : State) → P (both before) → P (both new) → P (both (limited held before new).state)
+  limited_keeps held before new h h2 = cond_both (leb held before.max_len) _ _ (λ (o : Outcome). P (both o.state)) (λ _. h2) (λ _. h)
 
-  put_keeps : (xs : List hb_glyph_info_t) (s : State) → s.is_open ≡ true → P (both s) → P ((s.out ++ xs) ++ drop 1 s.input) → P (both (put xs 1 s).state)
-  put_keeps xs s e h h2 = limited_keeps (s.out ++ xs) s (passed 1 (appended xs s)) h (subst (λ l. P ((s.out ++ xs) ++ l)) (sym (cond-true s.is_open (drop 1 s.input) s.input e)) h2)
+  -- glyphs are put out in the stead of the first n
+  put_for_keeps : (n : ℕ) (xs : List hb_glyph_info_t) (s : State) → s.have_output ≡ true → P (both s) → P ((s.out ++ xs) ++ drop n s.input)
+      → P (both (put_out xs s (skip_glyphs n s)).state)
+  put_for_keeps n xs s e h h2 =
+      limited_keeps (length (s.out ++ xs)) s _ h (subst (λ l. P ((s.out ++ xs) ++ l)) (sym (cond-true s.have_output (drop n s.input) s.input e)) h2)
 
-  delete_keeps : (marks : Bool) (out input : List hb_glyph_info_t) → 0 < length input → P (out ++ input)
-      → P ((deleted marks out (slice_index_or input 0 zero_glyph) (drop 1 input)).out ++ (deleted marks out (slice_index_or input 0 zero_glyph) (drop 1 input)).rest)
-  delete_keeps marks out [] some h = absurd (omega arith)
-  delete_keeps marks out (x ∷ rest) some h = steps.removed marks out x rest h
+  next_keeps : (n : ℕ) (s : State) → P (both s) → P (both (next_glyphs n s).state)
+  next_keeps n s h =
+      cond_both s.have_output _ _ (λ (o : Outcome). P (both o.state))
+      (λ open_now. put_for_keeps n (take n s.input) s open_now h (subst P (sym (append_assoc s.out (take n s.input) (drop n s.input) ∙ ap (λ l. s.out ++ l) (take-append-drop n s.input))) h))
+      (λ closed_now. subst (λ l. P (s.out ++ l)) (sym (cond-false s.have_output (drop n s.input) s.input closed_now)) h)
 
-  merge_keeps : (start end : ℕ) (s : State) → end ≤ len_of s → Floor (floor_of s) → P (both s) → P (both (merge start end s))
+  replace_keeps : (n : ℕ) (ids : List ℕ) (s : State) → s.have_output ≡ true → 0 < length s.input → n ≤ length s.input → P (both s) → P (both (replace_glyphs n ids s).state)
+  replace_keeps n ids s e some within h =
+      let size = length-append s.out s.input in
+      subst (λ (o : Outcome). P (both o.state)) (sym (replaced_sides n ids s e))
+      (limited_keeps (length s.out + length ids) s (front_replaced n ids s) h
+      (subst P (sym (replaced_both n ids s)) (steps.after_replacement (any_order s) (both s) (length s.out) (length s.out + n) ids (omega arith) (omega arith) (omega arith) h)))
+
+  move_keeps : (place : ℕ) (s : State) → P (both s) → P (both (move_to place s).state)
+  move_keeps place s h =
+      cond_both s.have_output _ _ (λ (o : Outcome). P (both o.state))
+      (λ _. cond_both s.successful _ _ (λ (o : Outcome). P (both o.state))
+      (λ _. limited_keeps _ s (split_at place s) h (subst P (sym (take-append-drop place (both s))) h)) (λ _. h)) (λ _. h)
+
+  delete_keeps : (any_order : Bool) (out input : List hb_glyph_info_t) → 0 < length input → P (out ++ input)
+      → P ((deletion any_order out (slice_index_or input 0 zero_glyph) (drop 1 input)).out ++ (deletion any_order out (slice_index_or input 0 zero_glyph) (drop 1 input)).rest)
+  delete_keeps any_order out [] some h = absurd (omega arith)
+  delete_keeps any_order out (x ∷ rest) some h = steps.after_deletion any_order out x rest h
+
+  -- another list in the place of both sides
+  with_both_keeps : (l : List hb_glyph_info_t) (s : State) → P l → P (both (with_both l s))
+  with_both_keeps l s h = subst P (sym (take-append-drop (length s.out) l)) h
+
+  merge_keeps : (start end : ℕ) (s : State) → end ≤ len s → Floor (floor_of s) → P (both s) → P (both (merge_clusters start end s))
   merge_keeps start end s in_len floor h =
-      let l = merged (marks_merges s) (both s) (both_place s start) (both_place s end) (floor_of s) in
-      let low = place_within s.is_open s.idx (length s.input) end in_len in
-      subst P (sym (take-append-drop (length s.out) l)) (steps.joined (marks_merges s) (both s) (both_place s start) (both_place s end) (floor_of s) floor (omega (arith, low, length-append s.out s.input)) h)
+      let low = place_within s.have_output s.idx (length s.input) end in_len in
+      with_both_keeps (merge_or_mark (any_order s) (both s) (both_place s start) (both_place s end) (floor_of s)) s
+      (steps.after_merge (any_order s) (both s) (both_place s start) (both_place s end) (floor_of s) floor (omega (arith, low, length-append s.out s.input)) h)
 
-  merge_out_keeps : (start end : ℕ) (s : State) → end ≤ length s.out → P (both s) → P (both (merge_out start end s))
-  unfolding merged
+  merge_out_keeps : (start end : ℕ) (s : State) → end ≤ length s.out → P (both s) → P (both (merge_out_clusters start end s))
+  unfolding merge_or_mark
   merge_out_keeps start end s in_out h =
-      let l = cond (marks_merges s) (both s) (run_join (both s) start end 0) in
-      subst P (sym (take-append-drop (length s.out) l))
-      (cond_both (marks_merges s) _ _ P (λ _. h) (λ _. steps.joined false (both s) start end 0 steps.lowest (omega (arith, length-append s.out s.input)) h))
+      with_both_keeps (cond (any_order s) (both s) (run_merge (both s) start end 0)) s
+      (cond_both (any_order s) _ _ P (λ _. h) (λ _. steps.after_merge false (both s) start end 0 steps.lowest (omega (arith, length-append s.out s.input)) h))
 
   module _ (bits : ℕ) (safe : BreakImpliesConcat bits) (s : State) (h : P (both s)) where
-    scan_keeps : (start end : ℕ) → start ≤ end → P (both (scan bits start end s))
-    scan_keeps start end up = steps.scanned_range (marks_merges s) bits safe s.out s.input (input_place s start) (input_place s end) (place_up s.is_open s.idx start end up) h
+    scan_keeps : (p q : ℕ) → p ≤ q → P (both (scan bits p q s))
+    scan_keeps p q up =
+        with_both_keeps (on_part (scan_of (any_order s) bits) (both s) p q) s
+        (subst (λ xs. P (take p (both s) ++ xs ++ drop q (both s))) (two_part_scan-none (any_order s) bits (part (both s) p q))
+        (steps.after_scan (any_order s) bits 0 safe (both s) p q up h))
 
     plain_scan_keeps : (start end : ℕ) → start ≤ end → P (both (plain_scan bits start end s))
-    plain_scan_keeps start end up = cond_both (ltb (end - start) 2) _ _ (λ (t : State). P (both t)) (λ _. h) (λ _. scan_keeps start end up)
+    plain_scan_keeps start end up =
+        cond_both (ltb (end - start) 2) _ _ (λ (t : State). P (both t)) (λ _. h) (λ _. scan_keeps (both_place s start) (both_place s end) (omega arith))
 
-    scan_sides_keeps : (start end : ℕ) → P (both (scan_sides bits start end s))
-    scan_sides_keeps start end = steps.scanned_sides (marks_merges s) bits (sides_least start end s) safe s.out s.input start (end - s.idx) h
+    scan_sides_keeps : (p q : ℕ) → p ≤ q → P (both (scan_sides bits p q s))
+    scan_sides_keeps p q up =
+        with_both_keeps (on_part (two_part_scan (any_order s) bits (length s.out - p)) (both s) p q) s
+        (steps.after_scan (any_order s) bits (length s.out - p) safe (both s) p q up h)
 
-    flag_all_keeps : (start end : ℕ) → start ≤ end → P (both (flag_all bits start end s))
-    flag_all_keeps start end up = steps.marked_range bits safe s.out s.input (input_place s start) (input_place s end) (place_up s.is_open s.idx start end up) h
+    flag_all_keeps : (p q : ℕ) → p ≤ q → P (both (flag_all bits p q s))
+    flag_all_keeps p q up = with_both_keeps (map_range (with_glyph_flags bits) (both s) p q) s (steps.after_mark bits safe (both s) p q up h)
 
-    flag_sides_keeps : (start end : ℕ) → start ≤ length s.out → P (both (flag_sides bits start end s))
-    flag_sides_keeps start end in_out = steps.marked_sides bits safe s.out s.input start (end - s.idx) in_out h
-
-  -- the conditions of calls on both sides, while an output is open and while none is
-  from_out : (start end : ℕ) (s : State) → is_sides_range start end s ≡ true → s.is_open ≡ true → start ≤ length s.out
-  from_out start end s e e2 = leb-true start (length s.out) (and_parts (leb start (length s.out)) _ (sym (cond-true s.is_open _ _ e2) ∙ e)).0
-
-  from_input : (start end : ℕ) (s : State) → is_sides_range start end s ≡ true → s.is_open ≡ false → start ≤ end
-  from_input start end s e e2 = leb-true start end (sym (cond-false s.is_open _ _ e2) ∙ e)
-
-  outcome_keeps : (call : Call) (s : State) → may_be_made call s ≡ true → (is_held_merge call s ≡ true → Floor (floor_of s)) → P (both s) → P (both (outcome_of call s).state)
-  outcome_keeps ClearOutput s e held h = steps.cleared s.out s.input h
-  outcome_keeps NextGlyph s e held h =
-      cond_both s.is_open _ _ (λ (o : Outcome). P (both o.state))
-      (λ open_now. put_keeps (take 1 s.input) s open_now h (subst P (sym (append_assoc s.out (take 1 s.input) (drop 1 s.input) ∙ ap (λ l. s.out ++ l) (take-append-drop 1 s.input))) h))
-      (λ closed_now. subst (λ l. P (s.out ++ l)) (sym (cond-false s.is_open (drop 1 s.input) s.input closed_now)) h)
-  outcome_keeps SkipGlyph s e held h = cond_both s.is_open _ _ (λ (l : List hb_glyph_info_t). P (s.out ++ l)) (λ _. steps.dropped s.out s.input h) (λ _. h)
-  outcome_keeps (ReplaceGlyph id) s e held h = put_keeps (map (with_id id) (take 1 s.input)) s (and_parts s.is_open (has_glyph s) e).0 h (steps.renamed id s.out s.input h)
-  outcome_keeps (OutputGlyph id) s e held h = limited_keeps _ s _ h (steps.copied id s.out s.input h)
-  outcome_keeps Sync s e held h = cond_both s.ok _ _ (λ (o : Outcome). P (both o.state)) (λ _. limited_keeps (s.out ++ s.input) s _ h h) (λ _. h)
-  outcome_keeps DeleteGlyph s e held h =
-      let w = and_parts s.is_open (has_glyph s) e in
-      delete_keeps (marks_merges s) s.out s.input (glyph_left s.is_open s.idx (length s.input) w.0 w.1) h
-  outcome_keeps (MergeClusters start end) s e held h =
+  outcome_keeps : (call : Call) (s : State) → may_be_made call s ≡ true → brings_glyph call s ≡ false → (is_merge_stopped_at_cursor call s ≡ true → Floor (floor_of s)) → P (both s) → P (both (outcome_of call s).state)
+  outcome_keeps ClearOutput s e own held h = steps.cleared s.out s.input h
+  outcome_keeps NextGlyph s e own held h = next_keeps 1 s h
+  outcome_keeps (NextGlyphs n) s e own held h = next_keeps n s h
+  outcome_keeps SkipGlyph s e own held h = cond_both s.have_output _ _ (λ (l : List hb_glyph_info_t). P (s.out ++ l)) (λ _. steps.dropped s.out s.input h) (λ _. h)
+  outcome_keeps (ReplaceGlyph id) s e own held h = put_for_keeps 1 (map (with_id id) (take 1 s.input)) s (and_parts s.have_output (has_glyph s) e).0 h (steps.renamed id s.out s.input h)
+  outcome_keeps (ReplaceGlyphs num_in num_out ids) s e own held h =
+      let w = and_parts s.have_output _ e in
+      let v = and_parts (has_glyph s) _ w.1 in
+      let some = glyph_left s.have_output s.idx (length s.input) w.0 v.0 in
+      let within = front_left s.have_output s.idx (length s.input) num_in w.0 (leb-true num_in (lookahead_len s) (and_parts (leb num_in (lookahead_len s)) _ v.1).0) in
+      replace_keeps num_in (take num_out ids.now) s w.0 some within h
+  outcome_keeps (OutputGlyph id) s e own held h = limited_keeps _ s _ h (steps.copied id s.out s.input h)
+  outcome_keeps (OutputInfo g) s e own held h = absurd (false≢true (sym own ∙ e))
+  outcome_keeps CopyGlyph s e own held h = limited_keeps _ s _ h (steps.doubled s.out s.input h)
+  outcome_keeps (MoveTo place) s e own held h = move_keeps place s h
+  outcome_keeps Sync s e own held h = cond_both s.successful _ _ (λ (o : Outcome). P (both o.state)) (λ _. limited_keeps (length (s.out ++ s.input)) s _ h h) (λ _. h)
+  outcome_keeps DeleteGlyph s e own held h =
+      let w = and_parts s.have_output (has_glyph s) e in
+      delete_keeps (any_order s) s.out s.input (glyph_left s.have_output s.idx (length s.input) w.0 w.1) h
+  outcome_keeps (MergeClusters start end) s e own held h =
       merge_keeps start end s (input_within start end s e)
-      (elim (cases_Bool (is_held_merge (MergeClusters start end) s)) [
+      (elim (cases_Bool (is_merge_stopped_at_cursor (MergeClusters start end) s)) [
         | inl on ↦ held on
-        | inr off ↦ subst Floor (sym (floor_zero (is_input_range start end s) s.is_open s.idx e off)) steps.lowest
+        | inr off ↦ subst Floor (sym (floor_zero (is_input_range start end s) s.have_output s.idx e off)) steps.lowest
       ]) h
-  outcome_keeps (MergeOutClusters start end) s e held h =
-      let w = and_parts s.is_open _ e in
+  outcome_keeps (MergeOutClusters start end) s e own held h =
+      let w = and_parts s.have_output _ e in
       merge_out_keeps start end s (leb-true end (length s.out) (and_parts (leb start end) _ w.1).1) h
-  outcome_keeps (UnsafeToBreak start end) s e held h = plain_scan_keeps 3 three_agrees s h (range_start start) (range_end end s) (input_order (range_start start) (range_end end s) s e)
-  outcome_keeps (UnsafeToBreakFromOutbuffer start end) s e held h =
-      cond_both s.is_open _ _ (λ (t : State). P (both t)) (λ _. scan_sides_keeps 3 three_agrees s h (range_start start) (range_end end s))
-      (λ closed_now. scan_keeps 3 three_agrees s h (range_start start) (range_end end s) (from_input (range_start start) (range_end end s) s e closed_now))
-  outcome_keeps (SafeToInsertTatweel start end) s e held h =
-      plain_scan_keeps (cond (asks 128 s) 4 3) (cond_both (asks 128 s) 4 3 BreakImpliesConcat (λ _. four_agrees) (λ _. three_agrees)) s h (range_start start) (range_end end s)
+  outcome_keeps (UnsafeToBreak start end) s e own held h =
+      plain_scan_keeps BREAK_BITS three_agrees s h (range_start start) (range_end end s) (input_order (range_start start) (range_end end s) s e)
+  outcome_keeps (UnsafeToBreakFromOutbuffer start end) s e own held h =
+      scan_sides_keeps BREAK_BITS three_agrees s h (range_start start) (both_place s (range_end end s)) (sides_order (range_start start) (range_end end s) s e)
+  outcome_keeps (SafeToInsertTatweel start end) s e own held h =
+      let wanted = asks PRODUCE_SAFE_TO_INSERT_TATWEEL s in
+      plain_scan_keeps (cond wanted SAFE_TO_INSERT_TATWEEL BREAK_BITS) (cond_both wanted _ _ BreakImpliesConcat (λ _. four_agrees) (λ _. three_agrees)) s h (range_start start) (range_end end s)
       (input_order (range_start start) (range_end end s) s e)
-  outcome_keeps (UnsafeToConcat start end) s e held h =
-      cond_both (asks 64 s) _ _ (λ (t : State). P (both t)) (λ _. flag_all_keeps 2 two_agrees s h (range_start start) (range_end end s) (input_order (range_start start) (range_end end s) s e)) (λ _. h)
-  outcome_keeps (UnsafeToConcatFromOutbuffer start end) s e held h =
-      cond_both (asks 64 s) _ _ (λ (t : State). P (both t))
-      (λ _. cond_both s.is_open _ _ (λ (t : State). P (both t))
-      (λ open_now. flag_sides_keeps 2 two_agrees s h (range_start start) (range_end end s) (from_out (range_start start) (range_end end s) s e open_now))
-      (λ closed_now. flag_all_keeps 2 two_agrees s h (range_start start) (range_end end s) (from_input (range_start start) (range_end end s) s e closed_now)))
-      (λ _. h)
+  outcome_keeps (UnsafeToConcat start end) s e own held h =
+      let up = input_order (range_start start) (range_end end s) s e in
+      cond_both (asks PRODUCE_UNSAFE_TO_CONCAT s) _ _ (λ (t : State). P (both t))
+      (λ _. flag_all_keeps UNSAFE_TO_CONCAT two_agrees s h (both_place s (range_start start)) (both_place s (range_end end s)) (omega arith)) (λ _. h)
+  outcome_keeps (UnsafeToConcatFromOutbuffer start end) s e own held h =
+      cond_both (asks PRODUCE_UNSAFE_TO_CONCAT s) _ _ (λ (t : State). P (both t))
+      (λ _. flag_all_keeps UNSAFE_TO_CONCAT two_agrees s h (range_start start) (both_place s (range_end end s)) (sides_order (range_start start) (range_end end s) s e)) (λ _. h)
 
   -- in its condition or outside
-  pub turn_keeps : (call : Call) (s : State) → (is_held_merge call s ≡ true → Floor (floor_of s)) → P (both s) → P (both (turn call s).state)
-  turn_keeps call s held h = cond_both (may_be_made call s) _ _ (λ (t : Turn). P (both t.state)) (λ e. outcome_keeps call s e held h) (λ _. h)
+  pub turn_keeps : (call : Call) (s : State) → brings_glyph call s ≡ false → (is_merge_stopped_at_cursor call s ≡ true → Floor (floor_of s)) → P (both s) → P (both (turn call s).state)
+  turn_keeps call s own held h = cond_both (may_be_made call s) _ _ (λ (t : Turn). P (both t.state)) (λ e. outcome_keeps call s e own held h) (λ _. h)
 
-  -- every list of calls, where every floor is allowed
-  pub after_keeps : ((floor : ℕ) → Floor floor) → (calls : List Call) (s : State) → P (both s) → P (both (after calls s))
-  after_keeps all [] s h = h
-  after_keeps all (call ∷ calls) s h = after_keeps all calls (turn call s).state (turn_keeps call s (λ _. all (floor_of s)) h)
+  -- every list of calls that brings no glyph, where every floor is allowed
+  pub after_keeps : ((floor : ℕ) → Floor floor) → (calls : List Call) (s : State) → NoGlyphIsBrought calls s → P (both s) → P (both (after calls s))
+  after_keeps all [] s none h = h
+  after_keeps all (call ∷ calls) s none h = after_keeps all calls (turn call s).state none.1 (turn_keeps call s none.0 (λ _. all (floor_of s)) h)

@@ -1,3 +1,3 @@
 pub mod Replay
-pub mod HeldMerges
-pub mod Callers
+pub mod Exceptions
+pub mod Render

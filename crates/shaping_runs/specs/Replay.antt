@@ -1,19 +1,19 @@
 -- Replay: what a list of calls answers and leaves, as a fold of the calls' steps over the two lists.
-use Rattle.std.specs.Prelude.{◌≡◌, ℕ, Option, ◌<◌, Bool, true, false, ◌&&◌, not, List, [], ◌∷◌, ◌++◌, length, take, drop, nat_lt, slice_get, IfSome, Result, Ok, Err, if◌then◌else◌}
+use Rattle.std.specs.Prelude.{◌≡◌, ℕ, Option, ◌<◌, Bool, true, false, ◌&&◌, not, List, [], ◌∷◌, ◌++◌, length, take, drop, nat_lt, nat_le, slice_get, IfSome, Result, Ok, Err, if◌then◌else◌}
 use Rattle.std.specs.declared.alloc.AllocError.{AllocError}
 use Rattle.shaping_runs.specs.declared.call.Call.{Call}
-use Rattle.shaping_runs.specs.declared.call.Call.TheVariants.{ClearOutput, NextGlyph, SkipGlyph, ReplaceGlyph, OutputGlyph, Sync, DeleteGlyph, MergeClusters, MergeOutClusters, UnsafeToBreak, UnsafeToBreakFromOutbuffer, SafeToInsertTatweel, UnsafeToConcat, UnsafeToConcatFromOutbuffer}
+use Rattle.shaping_runs.specs.declared.call.Call.TheVariants.{ClearOutput, NextGlyph, NextGlyphs, SkipGlyph, ReplaceGlyph, ReplaceGlyphs, OutputGlyph, OutputInfo, CopyGlyph, MoveTo, Sync, DeleteGlyph, MergeClusters, MergeOutClusters, UnsafeToBreak, UnsafeToBreakFromOutbuffer, SafeToInsertTatweel, UnsafeToConcat, UnsafeToConcatFromOutbuffer}
 use Rattle.shaping_runs.specs.declared.call.Answer.{Answer}
 use Rattle.shaping_runs.specs.declared.call.Answer.TheVariants.{Done, Refused, Outside}
-use Rattle.shaping_buffer.specs.State.{State, len_of}
+use Rattle.shaping_buffer.specs.State.{State, len, lookahead_len}
 use Rattle.shaping_buffer.specs.Step as step
-use Rattle.shaping_buffer.specs.Step.{Outcome}
+use Rattle.shaping_buffer.specs.Step.{Outcome, Grows}
 use Rattle.shaping_buffer.specs.ClusterStep as cluster_step
 use Rattle.shaping_buffer.specs.ClusterStep.{is_input_range, is_out_range, is_sides_range, range_start, range_end}
 
 -- whether there is a glyph at the cursor
 abbrev pub has_glyph : State → Bool
-has_glyph s = nat_lt s.idx (len_of s)
+has_glyph s = nat_lt s.idx (len s)
 
 -- whether the range of a flag call is one of the input, or of both sides
 abbrev pub flags_input : Option ℕ → Option ℕ → State → Bool
@@ -24,13 +24,19 @@ flags_sides start end s = is_sides_range (range_start start) (range_end end s) s
 
 -- whether the condition of a call holds
 abbrev pub may_be_made : Call → State → Bool
-may_be_made ClearOutput s = not s.is_open
+may_be_made ClearOutput s = not s.have_output
 may_be_made NextGlyph s = has_glyph s
 may_be_made SkipGlyph s = has_glyph s
-may_be_made (ReplaceGlyph g) s = s.is_open && has_glyph s
-may_be_made (OutputGlyph g) s = s.is_open
-may_be_made Sync s = s.is_open
-may_be_made DeleteGlyph s = s.is_open && has_glyph s
+may_be_made (NextGlyphs n) s = nat_le n (lookahead_len s)
+may_be_made (ReplaceGlyph g) s = s.have_output && has_glyph s
+may_be_made (ReplaceGlyphs num_in num_out ids) s =
+    s.have_output && (has_glyph s && (nat_le num_in (lookahead_len s) && nat_le num_out (length ids.now)))
+may_be_made (OutputGlyph g) s = s.have_output
+may_be_made (OutputInfo g) s = s.have_output
+may_be_made CopyGlyph s = s.have_output && has_glyph s
+may_be_made (MoveTo place) s = nat_le place (step.last_place s)
+may_be_made Sync s = s.have_output
+may_be_made DeleteGlyph s = s.have_output && has_glyph s
 may_be_made (MergeClusters start end) s = is_input_range start end s
 may_be_made (MergeOutClusters start end) s = is_out_range start end s
 may_be_made (UnsafeToBreak start end) s = flags_input start end s
@@ -41,20 +47,25 @@ may_be_made (UnsafeToConcatFromOutbuffer start end) s = flags_sides start end s
 
 -- what it then gives
 abbrev pub outcome_of : Call → State → Outcome
-outcome_of ClearOutput s = step.unlimited (step.opened s)
-outcome_of NextGlyph s = step.next s
-outcome_of SkipGlyph s = step.unlimited (step.skipped s)
-outcome_of (ReplaceGlyph g) s = step.replace g s
-outcome_of (OutputGlyph g) s = step.output g s
+outcome_of ClearOutput s = step.unlimited (step.clear_output s)
+outcome_of NextGlyph s = step.next_glyph s
+outcome_of SkipGlyph s = step.unlimited (step.skip_glyph s)
+outcome_of (NextGlyphs n) s = step.next_glyphs n s
+outcome_of (ReplaceGlyph g) s = step.replace_glyph g s
+outcome_of (ReplaceGlyphs num_in num_out ids) s = step.replace_glyphs num_in (take num_out ids.now) s
+outcome_of (OutputGlyph g) s = step.output_glyph g s
+outcome_of (OutputInfo g) s = step.output_info g s
+outcome_of CopyGlyph s = step.copy_glyph s
+outcome_of (MoveTo place) s = step.move_to place s
 outcome_of Sync s = step.sync s
-outcome_of DeleteGlyph s = step.unlimited (cluster_step.delete s)
-outcome_of (MergeClusters start end) s = step.unlimited (cluster_step.merge start end s)
-outcome_of (MergeOutClusters start end) s = step.unlimited (cluster_step.merge_out start end s)
-outcome_of (UnsafeToBreak start end) s = step.unlimited (cluster_step.break_unsafe start end s)
-outcome_of (UnsafeToBreakFromOutbuffer start end) s = step.unlimited (cluster_step.break_unsafe_sides start end s)
-outcome_of (SafeToInsertTatweel start end) s = step.unlimited (cluster_step.tatweel_safe start end s)
-outcome_of (UnsafeToConcat start end) s = step.unlimited (cluster_step.concat_unsafe start end s)
-outcome_of (UnsafeToConcatFromOutbuffer start end) s = step.unlimited (cluster_step.concat_unsafe_sides start end s)
+outcome_of DeleteGlyph s = step.unlimited (cluster_step.delete_glyph s)
+outcome_of (MergeClusters start end) s = step.unlimited (cluster_step.merge_clusters start end s)
+outcome_of (MergeOutClusters start end) s = step.unlimited (cluster_step.merge_out_clusters start end s)
+outcome_of (UnsafeToBreak start end) s = step.unlimited (cluster_step.unsafe_to_break start end s)
+outcome_of (UnsafeToBreakFromOutbuffer start end) s = step.unlimited (cluster_step.unsafe_to_break_from_outbuffer start end s)
+outcome_of (SafeToInsertTatweel start end) s = step.unlimited (cluster_step.safe_to_insert_tatweel start end s)
+outcome_of (UnsafeToConcat start end) s = step.unlimited (cluster_step.unsafe_to_concat start end s)
+outcome_of (UnsafeToConcatFromOutbuffer start end) s = step.unlimited (cluster_step.unsafe_to_concat_from_outbuffer start end s)
 
 -- how it is answered that a call was done, or refused
 abbrev pub answer_of : Bool → Answer
@@ -81,17 +92,9 @@ abbrev pub answers_of : List Call → State → List Answer
 answers_of [] s = []
 answers_of (call ∷ calls) s = (turn call s).answer ∷ answers_of calls (turn call s).state
 
--- whether a call may find no memory: with an output open, those that put a glyph out, and `sync`
-abbrev pub may_want_memory : Call → State → Bool
-may_want_memory NextGlyph s = s.is_open
-may_want_memory (ReplaceGlyph g) s = s.is_open
-may_want_memory (OutputGlyph g) s = s.is_open
-may_want_memory Sync s = s.is_open
-may_want_memory _ s = false
-
--- where a call finds no memory: it may want some, and else it would be done
+-- where a call finds no memory: an output is open, a side would become longer, and else the call would be done
 abbrev pub MayStop : Call → State → Type 0
-MayStop call s = (may_want_memory call s ≡ true) × ((turn call s).answer ≡ Done)
+MayStop call s = (s.have_output ≡ true) × Grows s (outcome_of call s).state × ((turn call s).answer ≡ Done)
 
 -- What came of one call: its turn, or want of memory. Then nothing changed.
 abbrev pub GivesTurn : Call → State → Result Answer AllocError → State → Type 0

@@ -1,19 +1,33 @@
 //! The calls of a buffer as values, and what comes of one.
 
+use shaping_buffer::hb_glyph_info_t;
+
 /// A call of a buffer, by the name of the method that it makes, with the same arguments.
 #[derive(Clone, Copy, Debug)]
-pub enum Call {
+pub enum Call<'a> {
     /// Opens an output. Asks that none is open.
     ClearOutput,
     /// Puts the glyph at the cursor out; with no output open only the cursor moves. Asks a glyph there.
     NextGlyph,
+    /// Puts so many glyphs at the cursor out; with no output open only the cursor moves. Asks as many glyphs there.
+    NextGlyphs(usize),
     /// Drops the glyph at the cursor; with no output open only the cursor moves. Asks a glyph there.
     SkipGlyph,
     /// Puts the glyph at the cursor out under this id. Asks an output and a glyph at the cursor.
     ReplaceGlyph(u32),
+    /// Merges so many glyphs at the cursor, and puts out copies of the first as it then stands in their stead, under so
+    /// many of these ids. Asks an output, a glyph at the cursor, as many glyphs there and as many ids.
+    ReplaceGlyphs(usize, usize, &'a [u32]),
     /// Puts a copy of the glyph at the cursor out, under this id, or of the last that was put out where none is left to
     /// read; nothing where both sides are empty. Asks an output.
     OutputGlyph(u32),
+    /// Puts this glyph out. Asks an output.
+    OutputInfo(hb_glyph_info_t),
+    /// Puts a copy of the glyph at the cursor out. Asks an output and a glyph at the cursor.
+    CopyGlyph,
+    /// Moves the cursor to a place of both sides as one list: the glyphs before it are then put out, and the others left
+    /// to read. With no output open only the cursor moves. Asks that there are as many glyphs.
+    MoveTo(usize),
     /// Makes what was put out and what is left to read the list. Asks an output.
     Sync,
     /// Drops the glyph at the cursor and keeps its cluster where it is lower than its neighbour's. Asks an output and a
@@ -25,7 +39,7 @@ pub enum Call {
     /// Merges the clusters of the out side from a start to an end. Asks an output and `start <= end <= out_len`.
     MergeOutClusters(usize, usize),
     /// Marks the input's glyphs from a start (the origin) to an end (the length, to which it is cut) that a scan finds
-    /// outside the least cluster as unsafe to break and to join. Asks `start <= end`, and with an output open that the
+    /// outside the least cluster as unsafe to break and to concatenate. Asks `start <= end`, and with an output open that the
     /// start is not before the cursor.
     UnsafeToBreak(Option<usize>, Option<usize>),
     /// The same of the out side from a start and the input up to an end. With an output open it asks
@@ -34,7 +48,7 @@ pub enum Call {
     /// Marks the glyphs that `UnsafeToBreak` would mark as safe for a tatweel, where the buffer's flags ask for that,
     /// and else as `UnsafeToBreak` does. Asks what `UnsafeToBreak` asks.
     SafeToInsertTatweel(Option<usize>, Option<usize>),
-    /// Marks all of the input from a start to an end as unsafe to join, where the buffer's flags ask for that. Asks
+    /// Marks all of the input from a start to an end as unsafe to concatenate, where the buffer's flags ask for that. Asks
     /// what `UnsafeToBreak` asks.
     UnsafeToConcat(Option<usize>, Option<usize>),
     /// The same of the out side from a start and the input up to an end. Asks what `UnsafeToBreakFromOutbuffer`
@@ -51,36 +65,4 @@ pub enum Answer {
     Refused,
     /// What the call asks does not hold: nothing changed.
     Outside,
-}
-
-#[cfg(test)]
-mod tests {
-    use super::*;
-    use crate::Stopped;
-    use std::test::Fail;
-
-    #[test]
-    fn calls_are_printed_by_name_with_their_arguments(rt: HostRuntime) -> Result<(), Fail> {
-        let calls = [
-            Call::ClearOutput,
-            Call::ReplaceGlyph(7),
-            Call::MergeClusters(0, 2),
-            Call::UnsafeToBreak(Some(1), None),
-        ];
-        let text = format!(in rt.alloc(); "{calls:?}")?;
-        assert_eq!(rt;
-            text.as_str(),
-            "[ClearOutput, ReplaceGlyph(7), MergeClusters(0, 2), UnsafeToBreak(Some(1), None)]"
-        );
-        Ok(())
-    }
-
-    #[test]
-    fn outcomes_are_printed_by_name(rt: HostRuntime) -> Result<(), Fail> {
-        let answer = format!(in rt.alloc(); "{:?}", Answer::Outside)?;
-        assert_eq!(rt; answer.as_str(), "Outside");
-        let stop = format!(in rt.alloc(); "{:?}", Stopped { at: 3 })?;
-        assert_eq!(rt; stop.as_str(), "Stopped { at: 3 }");
-        Ok(())
-    }
 }

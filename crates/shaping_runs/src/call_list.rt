@@ -1,9 +1,9 @@
 //! Lists of calls, made in order.
 
-ghost use Rattle.std.specs.Prelude.{◌≡◌, true, length, OnOk, IfErr};
-ghost use Rattle.shaping_buffer.specs.Step.{Meets};
+ghost use Rattle.std.specs.Prelude.{◌≡◌, true, length, nat_le, OnOk, IfErr};
+ghost use Rattle.shaping_buffer.specs.Step.{Meets, last_place};
 ghost use Rattle.shaping_buffer.specs.ClusterStep as cluster_step;
-ghost use Rattle.shaping_runs.specs.Replay.{GivesTurn, outcome_of, may_want_memory, answers_of, after, StopsAt};
+ghost use Rattle.shaping_runs.specs.Replay.{GivesTurn, outcome_of, answers_of, after, StopsAt};
 
 use crate::call::{Answer, Call};
 use shaping_buffer::hb_buffer_t;
@@ -24,7 +24,7 @@ pub struct Stopped {
 /// changed nothing itself, and the answers from there on are as they were.
 pub fn replay(
     buffer: &mut hb_buffer_t,
-    calls: &[Call],
+    calls: &[Call<'_>],
     answers: &mut [Answer],
 ) -> Result<(), Stopped>
     requires { length answers.old ≡ length calls.now }
@@ -34,7 +34,7 @@ pub fn replay(
         StopsAt stop.at calls.now buffer.old answers.old buffer.new answers.new) }
 {
     for (i, call) in calls.iter().enumerate() {
-        match make(buffer, *call) {
+        match make(buffer, call) {
             Ok(answer) => answers[i] = answer,
             Err(_) => return Err(Stopped { at: i }),
         }
@@ -43,8 +43,8 @@ pub fn replay(
 }
 
 /// Makes one call, where its condition holds.
-fn make(buffer: &mut hb_buffer_t, call: Call) -> Result<Answer, AllocError>
-    ensures { GivesTurn call buffer.old result buffer.new }
+pub(crate) fn make(buffer: &mut hb_buffer_t, call: &Call<'_>) -> Result<Answer, AllocError>
+    ensures { GivesTurn call.now buffer.old result buffer.new }
 {
     if !may_be_made(buffer, call) {
         return Ok(Answer::Outside);
@@ -53,16 +53,21 @@ fn make(buffer: &mut hb_buffer_t, call: Call) -> Result<Answer, AllocError>
 }
 
 /// Whether the condition of a call holds.
-fn may_be_made(buffer: &hb_buffer_t, call: Call) -> bool
-    ensures { result ≡ Rattle.shaping_runs.specs.Replay.may_be_made call buffer.now }
+fn may_be_made(buffer: &hb_buffer_t, call: &Call<'_>) -> bool
+    ensures { result ≡ Rattle.shaping_runs.specs.Replay.may_be_made call.now buffer.now }
 {
     let open = buffer.have_output();
     let glyph = buffer.idx() < buffer.len();
-    match call {
+    match *call {
         Call::ClearOutput => !open,
         Call::NextGlyph | Call::SkipGlyph => glyph,
-        Call::ReplaceGlyph(_) | Call::DeleteGlyph => open && glyph,
-        Call::OutputGlyph(_) | Call::Sync => open,
+        Call::NextGlyphs(n) => n <= buffer.lookahead_len(),
+        Call::ReplaceGlyph(_) | Call::CopyGlyph | Call::DeleteGlyph => open && glyph,
+        Call::ReplaceGlyphs(num_in, num_out, ids) => {
+            open && glyph && num_in <= buffer.lookahead_len() && num_out <= ids.len()
+        }
+        Call::OutputGlyph(_) | Call::OutputInfo(_) | Call::Sync => open,
+        Call::MoveTo(place) => is_place(buffer, place),
         Call::MergeClusters(start, end) => is_input_range(buffer, start, end),
         Call::MergeOutClusters(start, end) => open && start <= end && end <= buffer.out_len(),
         Call::UnsafeToBreak(start, end)
@@ -76,6 +81,18 @@ fn may_be_made(buffer: &hb_buffer_t, call: Call) -> bool
         | Call::UnsafeToConcatFromOutbuffer(start, end) => {
             is_sides_range(buffer, start.unwrap_or(0), range_end(buffer, end))
         }
+    }
+}
+
+/// Whether `move_to` may go to this place.
+fn is_place(buffer: &hb_buffer_t, place: usize) -> bool
+    ensures { result ≡ nat_le place (last_place buffer.now) }
+{
+    if buffer.have_output() {
+        let out_len = buffer.out_len();
+        place <= out_len || place - out_len <= buffer.lookahead_len()
+    } else {
+        place <= buffer.len()
     }
 }
 
@@ -105,17 +122,23 @@ fn range_end(buffer: &hb_buffer_t, end: Option<usize>) -> usize
 }
 
 /// Makes a call whose condition holds. `Ok(false)` where it was refused.
-fn perform(buffer: &mut hb_buffer_t, call: Call) -> Result<bool, AllocError>
-    requires { Rattle.shaping_runs.specs.Replay.may_be_made call buffer.old ≡ true }
-    ensures outcome { Meets (outcome_of call buffer.old) buffer.old result buffer.new }
-    ensures memory { IfErr result (λ _. may_want_memory call buffer.old ≡ true) }
+fn perform(buffer: &mut hb_buffer_t, call: &Call<'_>) -> Result<bool, AllocError>
+    requires { Rattle.shaping_runs.specs.Replay.may_be_made call.now buffer.old ≡ true }
+    ensures { Meets (outcome_of call.now buffer.old) buffer.old result buffer.new }
 {
-    match call {
+    match *call {
         Call::ClearOutput => buffer.clear_output(),
         Call::NextGlyph => return buffer.next_glyph(),
+        Call::NextGlyphs(n) => return buffer.next_glyphs(n),
         Call::SkipGlyph => buffer.skip_glyph(),
         Call::ReplaceGlyph(id) => return buffer.replace_glyph(id),
+        Call::ReplaceGlyphs(num_in, num_out, ids) => {
+            return buffer.replace_glyphs(num_in, num_out, ids);
+        }
         Call::OutputGlyph(id) => return buffer.output_glyph(id),
+        Call::OutputInfo(info) => return buffer.output_info(info),
+        Call::CopyGlyph => return buffer.copy_glyph(),
+        Call::MoveTo(place) => return buffer.move_to(place),
         Call::Sync => return buffer.sync(),
         Call::DeleteGlyph => buffer.delete_glyph(),
         Call::MergeClusters(start, end) => buffer.merge_clusters(start, end),

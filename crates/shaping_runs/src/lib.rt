@@ -3,10 +3,10 @@
 
 pub use call::{Answer, Call};
 pub use call_list::{Stopped, replay};
+pub use rendering::{MAX_FEATURES, RenderFault, render};
 pub use shaping_buffer;
 
 pub mod call;
 mod call_list;
-#[cfg(test)]
-mod callers;
 pub mod laws;
+mod rendering;

@@ -8,7 +8,9 @@ struct OneGlyph;
 impl GlyphNames for OneGlyph {
     ghost name_of = { λ _ glyph. if glyph == 5 then Some (codes "five") else None };
 
-    ghost extents_of = { λ _ glyph. if glyph == 5 then Some (record { x_bearing = pos 1; y_bearing = negsuc 1; width = pos 3; height = negsuc 3 }) else None };
+    ghost extents_of = { λ _ glyph. if glyph == 5
+        then Some (record { x_bearing = pos 1; y_bearing = negsuc 1; width = pos 3; height = negsuc 3 })
+        else None };
 
     fn glyph_name(&self, glyph: GlyphId) -> Option<&str> {
         if glyph.0 == 5 { Some("five") } else { None }
@@ -27,32 +29,16 @@ impl GlyphNames for OneGlyph {
     }
 }
 
-fn width_of<F: GlyphNames>(font: &F, glyph: GlyphId) -> i32 {
-    match font.glyph_extents(glyph) {
-        Some(extents) => extents.width,
-        None => GlyphExtents::default().width,
-    }
-}
-
-fn has_name<F: GlyphNames>(font: &F, glyph: GlyphId) -> bool {
-    font.glyph_name(glyph).is_some()
+/// The length of a glyph's name and the width of the glyph, 0 where they are not known.
+fn measures_of<F: GlyphNames>(font: &F, glyph: GlyphId) -> (usize, i32) {
+    let name = font.glyph_name(glyph).unwrap_or_default();
+    let extents = font.glyph_extents(glyph).unwrap_or_default();
+    (name.len(), extents.width)
 }
 
 #[test]
 fn a_font_answers_through_its_bound(rt: HostRuntime) {
-    assert_eq!(rt; width_of(&OneGlyph, GlyphId(5)), 3);
-    assert_eq!(rt; width_of(&OneGlyph, GlyphId(6)), 0);
-    assert!(rt; has_name(&OneGlyph, GlyphId(5)));
-    assert!(rt; !has_name(&OneGlyph, GlyphId(6)));
-}
-
-#[test]
-fn a_font_answers_with_its_names(rt: HostRuntime) {
-    assert_eq!(rt; OneGlyph.glyph_name(GlyphId(5)), Some("five"));
-    assert!(rt; OneGlyph.glyph_name(GlyphId(6)).is_none());
-    let extents = OneGlyph.glyph_extents(GlyphId(5)).unwrap_or_default();
-    assert_eq!(rt; extents.x_bearing, 1);
-    assert_eq!(rt; extents.y_bearing, -2);
-    assert_eq!(rt; extents.width, 3);
-    assert_eq!(rt; extents.height, -4);
+    assert_eq!(rt; measures_of(&OneGlyph, GlyphId(5)), (4, 3));
+    assert_eq!(rt; measures_of(&OneGlyph, GlyphId(6)), (0, 0));
+    assert_eq!(rt; measures_of(&NoGlyphNames, GlyphId(5)), (0, 0));
 }

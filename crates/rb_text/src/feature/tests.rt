@@ -1,211 +1,135 @@
 //! Tests of texts that are features and of texts that are none, and of new features.
 use super::*;
-use std::process::Abort;
+use std::test::Fail;
 
-const M: u32 = u32::MAX;
+/// Each line has a text, and the tag, value, start and end that it reads as.
+const READ: &str = "\
+kern|kern|1|0|4294967295\n\
++kern|kern|1|0|4294967295\n\
+-kern|kern|0|0|4294967295\n\
+kern=1|kern|1|0|4294967295\n\
+kern=0|kern|0|0|4294967295\n\
+kern=2|kern|2|0|4294967295\n\
+kern=on|kern|1|0|4294967295\n\
+kern=oN|kern|1|0|4294967295\n\
+kern=off|kern|0|0|4294967295\n\
+kern=oFf|kern|0|0|4294967295\n\
+kern=+off|kern|0|0|4294967295\n\
+kern[]|kern|1|0|4294967295\n\
+kern[:]|kern|1|0|4294967295\n\
+kern[:-1]|kern|1|0|4294967295\n\
+kern[5:]|kern|1|5|4294967295\n\
+kern[5;]|kern|1|5|4294967295\n\
+kern[:5]|kern|1|0|5\n\
+kern[3:5]|kern|1|3|5\n\
+kern[3]|kern|1|3|4\n\
+kern [3]|kern|1|3|4\n\
+kern[3:5]=2|kern|2|3|5\n\
+kern[3;5]=2|kern|2|3|5\n\
+kern=-1|kern|4294967295|0|4294967295\n\
+kern[-1]|kern|1|4294967295|4294967295\n\
+kern[-2147483648]|kern|1|2147483648|2147483649\n\
+kern=2147483647|kern|2147483647|0|4294967295\n\
+kern[2147483648]|kern|1|0|4294967295\n\
+kern[+]|kern|1|0|4294967295\n\
+kern[2147483648:2147483648]|kern|1|0|4294967295\n\
+kern 2147483648|kern|1|0|4294967295\n\
+\x20kern |kern|1|0|4294967295\n\
+kern 5|kern|5|0|4294967295\n\
+kern =5|kern|5|0|4294967295\n\
+kern=2 |kern|2|0|4294967295\n\
+kern off|kern|0|0|4294967295\n\
+kern=\t off|kern|0|0|4294967295\n\
+-kern on|kern|1|0|4294967295\n\
+-kern= \ton|kern|1|0|4294967295\n\
+kern[1] off|kern|0|1|2\n\
+kern xyz|kern|1|0|4294967295\n\
+-kern xyz|kern|0|0|4294967295\n\
+'kern'|kern|1|0|4294967295\n\
+-\"kern\"[3]|kern|0|3|4\n\
+aalt=2|aalt|2|0|4294967295\n\
+aalt[3:5]=2|aalt|2|3|5\n\
+-||0|0|4294967295\n\
+--1||4294967295|0|4294967295\n\
+''||1|0|4294967295\n\
+-5|5|0|0|4294967295\n\
+k|k|1|0|4294967295\n\
+ke|ke|1|0|4294967295\n\
+ker|ker|1|0|4294967295\n\
+\x20-kern||1|0|4294967295";
 
-fn reads_as(rt: &impl Abort, text: &str, tag: &str, value: u32, start: u32, end: u32) {
-    let tag = Tag::from_bytes_lossy(tag.as_bytes());
-    let feature = Feature {
-        tag,
-        value,
-        start,
-        end,
-    };
-    assert_eq!(rt; text.parse::<Feature>(), Ok(feature), "{text}");
-}
+/// Each line is refused.
+const REFUSED: &str = "\
+kern[ 3]\n\
+kern[3 ]\n\
+kern=2147483648\n\
+kern= 5\n\
+kern[1] =5\n\
+kern[1] 5\n\
+kern=onx\n\
+kern=on1\n\
+kern= on1\n\
+kern\u{b}\n\
+'kern\"\n\
+'kern\n\
+kern'\n\
+kerne\n\
+kern\u{e9}\n\
+kern[\n\
+kern[3\n\
+kern[3:\n\
+kern[3:5\n\
+kern[3:5]=\n\
+kern=";
 
-/// Each text is `kern` with the value, the start and the end beside it.
-fn read_as_kern(rt: &impl Abort, rows: &[(&str, u32, u32, u32)]) {
-    for (text, value, start, end) in rows.iter() {
-        reads_as(rt, text, "kern", *value, *start, *end);
+#[test]
+fn texts_are_read_by_the_grammar(rt: HostRuntime) -> Result<(), Fail> {
+    for line in READ.lines() {
+        let mut cells = line.split('|');
+        let text = cells.next().ok_or("no text")?;
+        let feature = Feature {
+            tag: Tag::from_bytes_lossy(cells.next().ok_or("no tag")?.as_bytes()),
+            value: cells.next().ok_or("no value")?.parse()?,
+            start: cells.next().ok_or("no start")?.parse()?,
+            end: cells.next().ok_or("no end")?.parse()?,
+        };
+        assert_eq!(rt; text.parse::<Feature>(), Ok(feature), "{text}");
     }
-}
-
-fn are_refused(rt: &impl Abort, texts: &[&str]) {
-    for text in texts.iter() {
+    for text in REFUSED.lines() {
         assert_eq!(rt; text.parse::<Feature>(), Err("invalid feature"), "{text}");
     }
-}
-
-#[test]
-fn values_of_the_whole_text(rt: HostRuntime) {
-    read_as_kern(
-        &rt,
-        &[
-            ("kern", 1, 0, M),
-            ("+kern", 1, 0, M),
-            ("-kern", 0, 0, M),
-            ("kern=1", 1, 0, M),
-            ("kern=0", 0, 0, M),
-            ("kern=2", 2, 0, M),
-            ("kern=on", 1, 0, M),
-            ("kern=oN", 1, 0, M),
-            ("kern=off", 0, 0, M),
-            ("kern=oFf", 0, 0, M),
-            ("kern=+off", 0, 0, M),
-        ],
-    );
-    reads_as(&rt, "aalt=2", "aalt", 2, 0, M);
-}
-
-#[test]
-fn ranges_in_brackets(rt: HostRuntime) {
-    read_as_kern(
-        &rt,
-        &[
-            ("kern[]", 1, 0, M),
-            ("kern[:]", 1, 0, M),
-            ("kern[:-1]", 1, 0, M),
-            ("kern[5:]", 1, 5, M),
-            ("kern[5;]", 1, 5, M),
-            ("kern[:5]", 1, 0, 5),
-            ("kern[3:5]", 1, 3, 5),
-            ("kern[3]", 1, 3, 4),
-            ("kern [3]", 1, 3, 4),
-            ("kern[3:5]=2", 2, 3, 5),
-            ("kern[3;5]=2", 2, 3, 5),
-        ],
-    );
-    reads_as(&rt, "aalt[3:5]=2", "aalt", 2, 3, 5);
-    are_refused(&rt, &["kern[ 3]", "kern[3 ]"]);
-}
-
-#[test]
-fn numbers_count_modulo_two_to_the_32(rt: HostRuntime) {
-    read_as_kern(
-        &rt,
-        &[
-            ("kern=-1", M, 0, M),
-            ("kern[-1]", 1, M, M),
-            ("kern[-2147483648]", 1, 0x80000000, 0x80000001),
-            ("kern=2147483647", 0x7fffffff, 0, M),
-        ],
-    );
-}
-
-#[test]
-fn numbers_without_a_value(rt: HostRuntime) {
-    read_as_kern(
-        &rt,
-        &[
-            ("kern[2147483648]", 1, 0, M),
-            ("kern[+]", 1, 0, M),
-            ("kern[2147483648:2147483648]", 1, 0, M),
-            ("kern 2147483648", 1, 0, M),
-        ],
-    );
-    are_refused(&rt, &["kern=2147483648"]);
-}
-
-#[test]
-fn spaces_and_letters(rt: HostRuntime) {
-    read_as_kern(
-        &rt,
-        &[
-            (" kern ", 1, 0, M),
-            ("kern 5", 5, 0, M),
-            ("kern =5", 5, 0, M),
-            ("kern=2 ", 2, 0, M),
-            ("kern off", 0, 0, M),
-            ("kern=\t off", 0, 0, M),
-            ("-kern on", 1, 0, M),
-            ("-kern= \ton", 1, 0, M),
-            ("kern[1] off", 0, 1, 2),
-            ("kern xyz", 1, 0, M),
-            ("-kern xyz", 0, 0, M),
-        ],
-    );
-    are_refused(
-        &rt,
-        &[
-            "kern= 5",
-            "kern[1] =5",
-            "kern[1] 5",
-            "kern=onx",
-            "kern=on1",
-            "kern= on1",
-            "kern\u{b}",
-        ],
-    );
-}
-
-#[test]
-fn quotes(rt: HostRuntime) {
-    read_as_kern(&rt, &[("'kern'", 1, 0, M), ("-\"kern\"[3]", 0, 3, 4)]);
-    are_refused(&rt, &["'kern\"", "'kern", "kern'"]);
-}
-
-#[test]
-fn tags_of_fewer_bytes(rt: HostRuntime) {
-    reads_as(&rt, "-", "", 0, 0, M);
-    reads_as(&rt, "--1", "", M, 0, M);
-    reads_as(&rt, "''", "", 1, 0, M);
-    reads_as(&rt, "-5", "5", 0, 0, M);
-    are_refused(&rt, &["kerne", "kern\u{e9}"]);
-}
-
-#[test]
-fn every_beginning_of_a_text(rt: HostRuntime) {
-    reads_as(&rt, "k", "k", 1, 0, M);
-    reads_as(&rt, "ke", "ke", 1, 0, M);
-    reads_as(&rt, "ker", "ker", 1, 0, M);
-    reads_as(&rt, "kern", "kern", 1, 0, M);
-    reads_as(&rt, "kern[3:5]", "kern", 1, 3, 5);
-    reads_as(&rt, "kern[3:5]=2", "kern", 2, 3, 5);
-    are_refused(
-        &rt,
-        &[
-            "",
-            "kern[",
-            "kern[3",
-            "kern[3:",
-            "kern[3:5",
-            "kern[3:5]=",
-            "kern=",
-        ],
-    );
-}
-
-#[test]
-fn spaces_before_the_prefix_leave_the_tag_empty(rt: HostRuntime) {
-    // A space, no tag, a sign with no digit and letters: it reads so and in no other way.
+    assert_eq!(rt; "".parse::<Feature>(), Err("invalid feature"));
     feature_texts_read_one_way();
-    reads_as(&rt, " -kern", "", 1, 0, M);
+    Ok(())
 }
 
 #[test]
-fn bounds_of_a_new_feature(rt: HostRuntime) {
-    let kern = Tag::from_bytes(b"kern");
-    let max = M as usize;
+fn a_new_feature_has_its_bounds(rt: HostRuntime) {
+    let tag = Tag::from_bytes(b"kern");
+    let max = u32::MAX as usize;
     let rows = [
-        (Bound::Unbounded, Bound::Unbounded, 0, M),
+        (Bound::Unbounded, Bound::Unbounded, 0, u32::MAX),
         (Bound::Included(3), Bound::Included(5), 3, 5),
         (Bound::Excluded(3), Bound::Excluded(5), 4, 4),
-        (Bound::Excluded(max), Bound::Excluded(0), M, 0),
-        (Bound::Included(max + 1), Bound::Excluded(max + 2), M, M),
+        (Bound::Excluded(max), Bound::Excluded(0), u32::MAX, 0),
         (
-            Bound::Excluded(usize::MAX),
-            Bound::Included(usize::MAX),
-            M,
-            M,
+            Bound::Included(max + 1),
+            Bound::Excluded(max + 2),
+            u32::MAX,
+            u32::MAX,
         ),
     ];
     for (from, to, start, end) in rows {
-        let feature = Feature {
-            tag: kern,
-            value: 7,
-            start,
-            end,
-        };
-        assert_eq!(rt; Feature::new(kern, 7, from, to), feature);
+        let feature = Feature::new(tag, 7, from, to);
+        assert_eq!(rt;
+            feature,
+            Feature {
+                tag,
+                value: 7,
+                start,
+                end
+            }
+        );
+        assert_eq!(rt; feature.is_global(), start == 0 && end == u32::MAX);
     }
-}
-
-#[test]
-fn only_the_whole_range_is_global(rt: HostRuntime) {
-    let tag = Tag::from_bytes(b"kern");
-    assert!(rt; Feature::new(tag, 1, Bound::Unbounded, Bound::Unbounded).is_global());
-    assert!(rt; !Feature::new(tag, 1, Bound::Included(1), Bound::Unbounded).is_global());
-    assert!(rt; !Feature::new(tag, 1, Bound::Unbounded, Bound::Included(5)).is_global());
 }

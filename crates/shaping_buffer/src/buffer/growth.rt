@@ -2,22 +2,24 @@
 //! `hb_buffer_add`.
 
 ghost use Rattle.std.specs.Prelude.{◌≡◌, ◌+◌, ◌≤◌, ◌++◌, false, None, length, vec_len, vec_capacity, chars};
-ghost use Rattle.shaping_buffer.specs.Guess.{AreCharacters};
+ghost use Rattle.glyph_lists.specs.Guess.{AreCharacters};
 ghost use Rattle.shaping_buffer.specs.Pushed.{glyphs_at, pushed, added};
-ghost use Rattle.shaping_buffer.specs.Step.{MeetsOnList};
+ghost use Rattle.shaping_buffer.specs.Step as step;
+ghost use Rattle.shaping_buffer.specs.Step.{GrowthMeets, RoomMeets};
 
 use super::hb_buffer_t;
 use rb_glyph::hb_glyph_info_t;
 use std::alloc::AllocError;
 
 impl hb_buffer_t {
-    /// Pushes the characters of a text, all or none, each with the place of its first byte as cluster. `Ok(false)` where the list would
-    /// grow too long: then only `successful` changes. `Err(AllocError)` where memory ran out: then nothing changed.
+    /// Pushes the characters of a text, all or none, each with the place of its first byte as cluster. `Ok(false)`
+    /// where the list would grow too long: then only `successful` changes. `Err(AllocError)` where memory ran out, which
+    /// an empty text never asks for: then nothing changed.
     #[tactic(auto, using(crate::proofs::PushedLemmas::length_pushed, crate::proofs::CharactersLemmas::characters_pushed))]
     pub(crate) fn push_str(&mut self, text: &str) -> Result<bool, AllocError>
-        requires closed { self.old.is_open ≡ false }
+        requires closed { self.old.have_output ≡ false }
         requires plain { self.old.positions ≡ None }
-        ensures grown { MeetsOnList (pushed text.now self.old) self.old result self.new }
+        ensures grown { GrowthMeets (pushed text.now self.old) self.old result self.new }
         ensures characters { AreCharacters self.old.input → AreCharacters self.new.input }
     {
         let more = count_characters(text);
@@ -31,13 +33,29 @@ impl hb_buffer_t {
         Ok(true)
     }
 
+    /// Makes room for `size` glyphs, and as many positions. `Ok(false)` where these are more than `max_len`: then only
+    /// `successful` changes. `Err(AllocError)` where memory ran out: then nothing changed.
+    pub fn ensure(&mut self, size: usize) -> Result<bool, AllocError>
+        ensures { RoomMeets size (step.ensure size self.old) self.old result self.new }
+    {
+        if size > self.max_len {
+            self.successful = false;
+            return Ok(false);
+        }
+        if size > self.info.len() {
+            self.info.reserve(size - self.info.len())?;
+            self.pos.reserve(size - self.pos.len())?;
+        }
+        Ok(true)
+    }
+
     /// Adds one character with a cluster, and forgets the text after it. `Ok(false)` and `Err(AllocError)` come and
     /// leave the buffer as those of `push_str`.
     #[tactic(auto, using(crate::proofs::CharactersLemmas::characters_added))]
     pub(crate) fn add(&mut self, codepoint: char, cluster: u32) -> Result<bool, AllocError>
-        requires closed { self.old.is_open ≡ false }
+        requires closed { self.old.have_output ≡ false }
         requires plain { self.old.positions ≡ None }
-        ensures grown { MeetsOnList (added codepoint cluster self.old) self.old result self.new }
+        ensures grown { GrowthMeets (added codepoint cluster self.old) self.old result self.new }
         ensures characters { AreCharacters self.old.input → AreCharacters self.new.input }
     {
         if self.info.len() >= self.max_len {

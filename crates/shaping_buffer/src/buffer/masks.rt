@@ -4,24 +4,24 @@ ghost use Rattle.std.specs.Prelude.{◌≡◌, false};
 ghost use Rattle.shaping_buffer.specs.ClusterStep as step;
 
 use super::hb_buffer_t;
-use crate::masking;
+use glyph_lists::masks;
 
 impl hb_buffer_t {
-    /// Gives each glyph this mask. It asks that no output is open.
+    /// Gives each glyph this mask. Requires that no output is open.
     pub fn reset_masks(&mut self, mask: u32)
-        requires { self.old.is_open ≡ false }
+        requires { self.old.have_output ≡ false }
         ensures { self.new ≡ step.reset_masks mask self.old }
     {
-        masking::reset_masks(&mut self.info, mask);
+        masks::reset_masks(&mut self.info, mask);
     }
 
     /// Gives the bits of `mask` those of `value`, in each glyph whose cluster is at least `cluster_start` and below
-    /// `cluster_end`. The range from 0 to `u32::MAX` is all clusters, and the mask 0 changes nothing. It asks that no
+    /// `cluster_end`. The range from 0 to `u32::MAX` is all clusters, and the mask 0 changes nothing. Requires that no
     /// output is open.
     pub fn set_masks(&mut self, value: u32, mask: u32, cluster_start: u32, cluster_end: u32)
-        requires { self.old.is_open ≡ false }
+        requires { self.old.have_output ≡ false }
         ensures { self.new ≡ step.set_masks value mask cluster_start cluster_end self.old }
     {
-        masking::set_masks(&mut self.info, value, mask, cluster_start, cluster_end);
+        masks::set_masks(&mut self.info, value, mask, cluster_start, cluster_end);
     }
 }

@@ -1,17 +1,16 @@
 //! Merges of clusters, as HarfBuzz's `hb_buffer_t` makes them; its manual has a chapter on clusters and their levels.
 //!
 //! The places of a range are counted from the start of the input, glyphs that were read among them
-//! (`merge_clusters`), or of the out side (`merge_out_clusters`), and the glyph at `end` is not part of it. A glyph whose
-//! cluster changes loses its glyph flags, and the others keep theirs. Of fewer than two glyphs nothing happens.
+//! (`merge_clusters`), or of the out side (`merge_out_clusters`), and the glyph at `end` is not part of it. A glyph
+//! whose cluster changes loses its glyph flags, and the others keep theirs.
 
 ghost use Rattle.std.specs.Prelude.{◌≡◌, ◌≤◌, true, false, length};
-ghost use Rattle.shaping_buffer.specs.State.{len_of};
-ghost use Rattle.shaping_buffer.specs.Clusters.{with_cluster};
+ghost use Rattle.shaping_buffer.specs.State.{len};
+ghost use Rattle.glyph_lists.specs.Clusters.{with_cluster};
 ghost use Rattle.shaping_buffer.specs.ClusterStep as step;
 
 use super::hb_buffer_t;
-use crate::cluster_level::HB_BUFFER_CLUSTER_LEVEL_CHARACTERS;
-use crate::joining;
+use glyph_lists::{clusters, merging};
 use rb_glyph::hb_glyph_info_t;
 
 impl hb_buffer_t {
@@ -20,64 +19,53 @@ impl hb_buffer_t {
     pub fn set_cluster(info: &mut hb_glyph_info_t, cluster: u32, mask: u32)
         ensures { info.new ≡ with_cluster cluster mask info.old }
     {
-        joining::set_cluster(info, cluster, mask);
+        clusters::set_cluster(info, cluster, mask);
     }
 
-    /// Merges the clusters of the input's glyphs from `start` to `end`, and of the runs at its ends, into the least
-    /// of them; a glyph that changes its cluster loses its glyph flags. At level 2 its glyphs outside the least
-    /// cluster are marked as unsafe to break and to join instead, and the scratch flag
-    /// `HB_BUFFER_SCRATCH_FLAG_HAS_GLYPH_FLAGS` is set. Of fewer than two glyphs nothing happens. With no output open the start is not widened past the cursor. It asks `start <= end <= len`,
-    /// and with an output open that `start` is not before the cursor.
+    /// Merges the clusters of the input's glyphs from `start` to `end`, and of the runs at its ends, into the least of
+    /// them; a glyph that changes its cluster loses its glyph flags. With no output open the start is not widened past
+    /// the cursor. At level 2 the glyphs outside the least cluster are marked as unsafe to break and to concatenate
+    /// instead, and the scratch flag `HB_BUFFER_SCRATCH_FLAG_HAS_GLYPH_FLAGS` is set. Fewer than two glyphs stay as
+    /// they are. Requires `start <= end <= len`, and with an output open that `start` is not before the cursor.
+    #[tactic(auto, using(crate::proofs::Views::sides))]
     pub fn merge_clusters(&mut self, start: usize, end: usize)
         requires order { start ≤ end }
-        requires within { end ≤ len_of self.old }
-        requires past_cursor { self.old.is_open ≡ true → self.old.idx ≤ start }
-        ensures { self.new ≡ step.merge start end self.old }
+        requires within { end ≤ len self.old }
+        requires past_cursor { self.old.have_output ≡ true → self.old.idx ≤ start }
+        ensures { self.new ≡ step.merge_clusters start end self.old }
     {
-        let marks = self.marks_merges();
-        if marks && end - start >= 2 {
-            self.tell_glyph_flags();
+        let any_order = self.any_order();
+        if any_order && end - start >= 2 {
+            self.set_has_glyph_flags();
         }
-        if self.have_output {
-            let out_len = self.out_info.len();
-            let from = out_len + (start - self.cursor);
-            let to = out_len + (end - self.cursor);
-            joining::merge_or_mark(
-                &mut self.out_info,
-                &mut self.info,
-                self.cursor,
-                from,
-                to,
-                0,
-                marks,
-            );
-        } else {
-            let floor = self.cursor;
-            joining::merge_or_mark(
-                &mut self.out_info,
-                &mut self.info,
-                0,
-                start,
-                end,
-                floor,
-                marks,
-            );
-        }
+        let floor = if self.have_output { 0 } else { self.cursor };
+        let from = self.both_place(start);
+        let to = self.both_place(end);
+        let at = self.input_start();
+        merging::merge_or_mark(
+            &mut self.out_info,
+            &mut self.info,
+            at,
+            from,
+            to,
+            floor,
+            any_order,
+        );
     }
 
-    /// Merges the clusters of the out side's glyphs from `start` to `end`, and of the runs at its ends, also into
-    /// the input, into the least of them; a glyph that changes its cluster loses its glyph flags. At level 2, and of
-    /// fewer than two glyphs, nothing happens. It asks an output and `start <= end <= out_len`.
+    /// Merges the clusters of the out side's glyphs from `start` to `end`, and of the runs at its ends, also into the
+    /// input, into the least of them; a glyph that changes its cluster loses its glyph flags. At level 2 nothing
+    /// changes, and fewer than two glyphs stay as they are. Requires an output, and `start <= end <= out_len`.
     pub fn merge_out_clusters(&mut self, start: usize, end: usize)
-        requires opened { self.old.is_open ≡ true }
+        requires opened { self.old.have_output ≡ true }
         requires order { start ≤ end }
         requires within { end ≤ length self.old.out }
-        ensures { self.new ≡ step.merge_out start end self.old }
+        ensures { self.new ≡ step.merge_out_clusters start end self.old }
     {
-        if self.marks_merges() {
+        if self.any_order() {
             return;
         }
-        joining::merge_parts(
+        merging::run_merge(
             &mut self.out_info,
             &mut self.info,
             self.cursor,
@@ -85,12 +73,5 @@ impl hb_buffer_t {
             end,
             0,
         );
-    }
-
-    /// Whether merges mark in place of joining.
-    pub(super) fn marks_merges(&self) -> bool
-        ensures { result ≡ step.marks_merges self.now }
-    {
-        self.cluster_level == HB_BUFFER_CLUSTER_LEVEL_CHARACTERS
     }
 }

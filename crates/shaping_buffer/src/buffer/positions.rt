@@ -1,25 +1,25 @@
 //! Positions: where each glyph is drawn.
 
 ghost use Rattle.std.specs.Prelude.{◌≡◌, false, Some, length, IsSome};
-ghost use Rattle.shaping_buffer.specs.State.{len_of};
+ghost use Rattle.shaping_buffer.specs.State.{len};
 ghost use Rattle.shaping_buffer.specs.Positions.{with_zero_positions};
 
 use super::hb_buffer_t;
 use rb_glyph::GlyphPosition;
 
 impl hb_buffer_t {
-    /// The position of each glyph. It asks that positions are on.
+    /// The position of each glyph. Requires that positions are on.
     pub fn pos(&self) -> &[GlyphPosition]
         requires { IsSome self.now.positions }
         ensures positions { Some result.now ≡ self.now.positions }
-        ensures as_many { length result.now ≡ len_of self.now }
+        ensures as_many { length result.now ≡ len self.now }
     {
         &self.pos
     }
 
-    /// Turns positions on, all 0, one for each glyph. It asks that no output is open, and takes no memory.
+    /// Turns positions on, all 0, one for each glyph. It takes no memory. Requires that no output is open.
     pub fn clear_positions(&mut self)
-        requires { self.old.is_open ≡ false }
+        requires { self.old.have_output ≡ false }
         ensures { self.new ≡ with_zero_positions self.old }
     {
         let zero = GlyphPosition {
@@ -30,6 +30,7 @@ impl hb_buffer_t {
             var: 0,
         };
         self.pos.clear();
+        // This takes no memory: each call that grows the list, and `sync`, reserved room for as many positions.
         self.pos.resize(self.info.len(), zero).unwrap();
         self.have_positions = true;
     }

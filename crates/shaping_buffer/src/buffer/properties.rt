@@ -1,11 +1,11 @@
 //! What is said of a text: its contexts, its script and direction, and the numbers of its clusters.
 
 ghost use Rattle.std.specs.Prelude.{◌≡◌, false};
-ghost use Rattle.shaping_buffer.specs.Guess.{AreCharacters};
+ghost use Rattle.glyph_lists.specs.Guess.{AreCharacters};
 ghost use Rattle.shaping_buffer.specs.Properties.{with_pre_context, with_post_context, guessed, with_clusters_reset};
 
 use super::hb_buffer_t;
-use crate::{cluster_numbers, context, guess};
+use glyph_lists::{cluster_numbers, context, guess};
 use rb_text::Direction;
 
 impl hb_buffer_t {
@@ -23,19 +23,19 @@ impl hb_buffer_t {
         context::keep_after(&mut self.post_context, text);
     }
 
-    /// Gives each glyph its place as cluster, modulo 2^32. It asks that no output is open.
+    /// Gives each glyph its place as cluster, modulo 2^32. Requires that no output is open.
     pub fn reset_clusters(&mut self)
-        requires { self.old.is_open ≡ false }
+        requires { self.old.have_output ≡ false }
         ensures { self.new ≡ with_clusters_reset self.old }
     {
         cluster_numbers::reset_clusters(&mut self.info);
     }
 
     /// Fills in what was not said: the script, as that of the first character which is not common, inherited or
-    /// unknown, and the direction, as that of the script, or else from left to right. The language stays. It asks
+    /// unknown, and the direction, as that of the script, or else from left to right. The language stays. Requires
     /// that no output is open and the ids are characters.
     pub fn guess_segment_properties(&mut self)
-        requires closed { self.old.is_open ≡ false }
+        requires closed { self.old.have_output ≡ false }
         requires characters { AreCharacters self.old.input }
         ensures { self.new ≡ guessed self.old }
     {

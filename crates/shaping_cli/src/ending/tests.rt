@@ -1,5 +1,4 @@
 use super::*;
-use std::alloc::Global;
 use std::cell::Cell;
 use std::fmt::Display;
 use std::io::{self, ErrorKind};
@@ -42,6 +41,34 @@ impl Eprint for Listener {
     }
 }
 
+/// Fails at once.
+#[derive(Drop)]
+struct BrokenReader;
+
+impl Read for BrokenReader {
+    fn read(&mut self, _buf: &mut [u8]) -> io::Result<usize> {
+        Err(io::Error::from(ErrorKind::Other))
+    }
+}
+
+#[test]
+fn the_status_is_that_of_the_run_which_says_nothing(rt: HostRuntime) -> Result<(), Fail> {
+    let rows: [(&[u8], u8, &[u8]); 2] = [
+        (b"push a\n", 0, b"true\n"),
+        (b"push a\nnothing\npush b\n", 2, b"true\nunknown command\n"),
+    ];
+    for (lines, status, answers) in rows {
+        let mut reader = lines;
+        let mut written = Vec::new(rt.alloc());
+        let error = Listener::new(rt.alloc(), false);
+        let end = run_to_end(rt.alloc(), &mut reader, &mut written, &error);
+        assert_eq!(rt; end, ExitCode::from(status));
+        assert_eq!(rt; written.as_slice(), answers);
+        assert!(rt; error.heard.into_inner().is_empty());
+    }
+    Ok(())
+}
+
 #[test]
 fn a_fault_is_told_and_ends_with_3(rt: HostRuntime) -> Result<(), Fail> {
     let rows = [
@@ -54,21 +81,10 @@ fn a_fault_is_told_and_ends_with_3(rt: HostRuntime) -> Result<(), Fail> {
         assert_eq!(rt; conclude(&error, Err(fault)), ExitCode::from(3));
         assert_eq!(rt; error.heard.into_inner().as_str(), line);
     }
-    Ok(())
-}
-
-#[test]
-fn a_run_ends_with_its_own_status_and_says_nothing(rt: HostRuntime) -> Result<(), Fail> {
-    for status in [0, 2] {
-        let error = Listener::new(rt.alloc(), false);
-        assert_eq!(rt; conclude(&error, Ok(status)), ExitCode::from(status));
-        assert!(rt; error.heard.into_inner().is_empty());
-    }
-    Ok(())
-}
-
-#[test]
-fn a_fault_that_cannot_be_told_ends_with_3(rt: HostRuntime) {
+    // Also where standard error fails.
     let error = Listener::new(rt.alloc(), true);
-    assert_eq!(rt; conclude(&error, Err(RunFault::Write)), ExitCode::from(3));
+    let mut written = Vec::new(rt.alloc());
+    let end = run_to_end(rt.alloc(), &mut BrokenReader, &mut written, &error);
+    assert_eq!(rt; end, ExitCode::from(3));
+    Ok(())
 }

@@ -10,25 +10,60 @@ use std::test::Fail;
 /// A glyph as it is seen here: its id, its cluster and its glyph flags.
 type Seen = (u32, u32, u32);
 
-/// A text of the letters from a on, in these clusters.
-fn text(alloc: Global, clusters: &[u32]) -> Result<UnicodeBuffer, Fail> {
-    let letters = ['a', 'b', 'c', 'd'];
-    let mut text = UnicodeBuffer::new(alloc);
-    for (letter, cluster) in letters.iter().zip(clusters) {
-        text.add(*letter, *cluster)?;
-    }
-    Ok(text)
+const DONE: Answer = Answer::Done;
+
+const REFUSED: Answer = Answer::Refused;
+
+const OUTSIDE: Answer = Answer::Outside;
+
+/// A text of the letters from a on, in these clusters; calls on it, and what they answer and leave.
+#[derive(Clone, Copy)]
+struct Run<'a> {
+    clusters: &'a [u32],
+    level: BufferClusterLevel,
+    flags: Option<BufferFlags>,
+    max_len: usize,
+    calls: &'a [Call<'a>],
+    answers: &'a [Answer],
+    open: bool,
+    idx: usize,
+    successful: bool,
+    out: &'a [Seen],
+    input: &'a [Seen],
+    scratch_flags: u32,
 }
 
-/// The answers to the calls, which all find memory.
-fn answers<const N: usize>(
-    rt: &impl Abort,
-    buffer: &mut hb_buffer_t,
-    calls: [Call; N],
-) -> [Answer; N] {
-    let mut answers = [Answer::Refused; N];
-    assert_eq!(rt; replay(buffer, &calls, &mut answers), Ok(()));
-    answers
+/// What is not said of a run.
+const PLAIN: Run<'static> = Run {
+    clusters: &[],
+    level: BufferClusterLevel::MonotoneGraphemes,
+    flags: None,
+    max_len: 99,
+    calls: &[],
+    answers: &[],
+    open: true,
+    idx: 0,
+    successful: true,
+    out: &[],
+    input: &[],
+    scratch_flags: 0,
+};
+
+fn buffer_of(rt: &impl Abort, alloc: Global, run: &Run<'_>) -> Result<hb_buffer_t, Fail> {
+    let letters = ['a', 'b', 'c', 'd'];
+    let mut text = UnicodeBuffer::new(alloc);
+    for (letter, cluster) in letters.iter().zip(run.clusters) {
+        text.add(*letter, *cluster)?;
+    }
+    text.set_cluster_level(run.level);
+    if let Some(flags) = run.flags {
+        text.set_flags(flags);
+    }
+    let mut buffer = text.into_buffer();
+    assert!(rt; buffer.len() <= run.max_len);
+    assert!(rt; buffer.out_len() <= run.max_len);
+    buffer.set_max_len(run.max_len);
+    Ok(buffer)
 }
 
 fn assert_glyphs(rt: &impl Abort, glyphs: &[hb_glyph_info_t], want: &[Seen]) {
@@ -38,277 +73,444 @@ fn assert_glyphs(rt: &impl Abort, glyphs: &[hb_glyph_info_t], want: &[Seen]) {
     }
 }
 
-fn assert_open(rt: &impl Abort, buffer: &hb_buffer_t, idx: usize, out: &[Seen], input: &[Seen]) {
-    assert!(rt; buffer.have_output());
-    assert!(rt; buffer.successful());
-    assert_eq!(rt; buffer.idx(), idx);
-    assert_glyphs(rt, buffer.out_info(), out);
-    assert_glyphs(rt, buffer.info(), input);
-}
-
-fn assert_closed(rt: &impl Abort, buffer: &hb_buffer_t, input: &[Seen]) {
-    assert!(rt; !buffer.have_output());
-    assert!(rt; buffer.successful());
-    assert_eq!(rt; buffer.idx(), 0);
-    assert_glyphs(rt, buffer.out_info(), &[]);
-    assert_glyphs(rt, buffer.info(), input);
-}
-
-#[test]
-fn a_merge_of_the_input_goes_down_into_the_out_side(rt: HostRuntime) -> Result<(), Fail> {
-    let mut buffer = text(rt.alloc(), &[3, 2, 2, 1])?.into_buffer();
-    let calls = [
-        Call::ClearOutput,
-        Call::NextGlyph,
-        Call::NextGlyph,
-        Call::MergeClusters(2, 4),
-    ];
-    assert_eq!(rt; answers(&rt, &mut buffer, calls), [Answer::Done; 4]);
-    assert_open(
-        &rt,
-        &buffer,
-        2,
-        &[(97, 3, 0), (98, 1, 0)],
-        &[(99, 1, 0), (100, 1, 0)],
-    );
-    Ok(())
-}
-
-#[test]
-fn a_merge_of_the_out_side_goes_on_into_the_input(rt: HostRuntime) -> Result<(), Fail> {
-    let mut buffer = text(rt.alloc(), &[0, 1, 1, 2])?.into_buffer();
-    let calls = [
-        Call::ClearOutput,
-        Call::NextGlyph,
-        Call::NextGlyph,
-        Call::MergeOutClusters(0, 2),
-    ];
-    assert_eq!(rt; answers(&rt, &mut buffer, calls), [Answer::Done; 4]);
-    assert_open(
-        &rt,
-        &buffer,
-        2,
-        &[(97, 0, 0), (98, 0, 0)],
-        &[(99, 0, 0), (100, 2, 0)],
-    );
-    Ok(())
-}
-
-#[test]
-fn a_deleted_glyph_gives_its_lower_cluster_to_the_run_before(rt: HostRuntime) -> Result<(), Fail> {
-    let mut buffer = text(rt.alloc(), &[3, 3, 2, 1])?.into_buffer();
-    let calls = [
-        Call::ClearOutput,
-        Call::NextGlyph,
-        Call::NextGlyph,
-        Call::DeleteGlyph,
-    ];
-    assert_eq!(rt; answers(&rt, &mut buffer, calls), [Answer::Done; 4]);
-    assert_open(&rt, &buffer, 3, &[(97, 2, 0), (98, 2, 0)], &[(100, 1, 0)]);
-    Ok(())
-}
-
-#[test]
-fn unsafe_to_concat_marks_only_where_the_flags_ask_for_it(rt: HostRuntime) -> Result<(), Fail> {
-    let mut plain = text(rt.alloc(), &[0, 1, 2])?.into_buffer();
-    let calls = [Call::UnsafeToConcat(Some(0), Some(3))];
-    assert_eq!(rt; answers(&rt, &mut plain, calls), [Answer::Done]);
-    assert_closed(&rt, &plain, &[(97, 0, 0), (98, 1, 0), (99, 2, 0)]);
-    let mut asked = text(rt.alloc(), &[0, 1, 2])?;
-    asked.set_flags(BufferFlags::PRODUCE_UNSAFE_TO_CONCAT);
-    let mut asked = asked.into_buffer();
-    assert_eq!(rt; answers(&rt, &mut asked, calls), [Answer::Done]);
-    assert_closed(&rt, &asked, &[(97, 0, 2), (98, 1, 2), (99, 2, 2)]);
-    Ok(())
-}
-
-#[test]
-fn unsafe_to_concat_marks_both_sides(rt: HostRuntime) -> Result<(), Fail> {
-    let mut asked = text(rt.alloc(), &[0, 1, 1, 2])?;
-    asked.set_flags(BufferFlags::PRODUCE_UNSAFE_TO_CONCAT);
-    let mut buffer = asked.into_buffer();
-    let calls = [
-        Call::ClearOutput,
-        Call::NextGlyph,
-        Call::NextGlyph,
-        Call::UnsafeToConcatFromOutbuffer(Some(1), Some(3)),
-    ];
-    assert_eq!(rt; answers(&rt, &mut buffer, calls), [Answer::Done; 4]);
-    assert_open(
-        &rt,
-        &buffer,
-        2,
-        &[(97, 0, 0), (98, 1, 2)],
-        &[(99, 1, 2), (100, 2, 0)],
-    );
-    Ok(())
-}
-
-#[test]
-fn a_merge_clears_the_flags_only_where_the_cluster_changes(rt: HostRuntime) -> Result<(), Fail> {
-    let mut buffer = text(rt.alloc(), &[0, 1, 2])?.into_buffer();
-    let calls = [
-        Call::UnsafeToBreak(Some(0), Some(3)),
-        Call::ClearOutput,
-        Call::MergeClusters(1, 3),
-    ];
-    assert_eq!(rt; answers(&rt, &mut buffer, calls), [Answer::Done; 3]);
-    assert_open(&rt, &buffer, 0, &[], &[(97, 0, 0), (98, 1, 3), (99, 1, 0)]);
-    Ok(())
-}
-
-#[test]
-fn unsafe_to_break_marks_both_sides(rt: HostRuntime) -> Result<(), Fail> {
-    let mut buffer = text(rt.alloc(), &[0, 1, 1, 2])?.into_buffer();
-    let calls = [
-        Call::ClearOutput,
-        Call::NextGlyph,
-        Call::NextGlyph,
-        Call::UnsafeToBreakFromOutbuffer(Some(0), Some(4)),
-    ];
-    assert_eq!(rt; answers(&rt, &mut buffer, calls), [Answer::Done; 4]);
-    assert_open(
-        &rt,
-        &buffer,
-        2,
-        &[(97, 0, 0), (98, 1, 3)],
-        &[(99, 1, 3), (100, 2, 3)],
-    );
-    Ok(())
-}
-
-#[test]
-fn with_no_output_a_call_on_both_sides_works_on_the_input(rt: HostRuntime) -> Result<(), Fail> {
-    let mut plain = text(rt.alloc(), &[0, 1, 2])?.into_buffer();
-    let concat = [Call::UnsafeToConcatFromOutbuffer(Some(1), Some(3))];
-    assert_eq!(rt; answers(&rt, &mut plain, concat), [Answer::Done]);
-    assert_eq!(rt; plain.scratch_flags, 0);
-    let scan = [Call::UnsafeToBreakFromOutbuffer(Some(1), Some(2))];
-    assert_eq!(rt; answers(&rt, &mut plain, scan), [Answer::Done]);
-    assert_closed(&rt, &plain, &[(97, 0, 0), (98, 1, 0), (99, 2, 0)]);
-    assert_eq!(rt; plain.scratch_flags, 0x20);
-    let mut asked = text(rt.alloc(), &[0, 1, 2])?;
-    asked.set_flags(BufferFlags::PRODUCE_UNSAFE_TO_CONCAT);
-    let mut asked = asked.into_buffer();
-    assert_eq!(rt; answers(&rt, &mut asked, concat), [Answer::Done]);
-    assert_closed(&rt, &asked, &[(97, 0, 0), (98, 1, 2), (99, 2, 2)]);
-    assert_eq!(rt; asked.scratch_flags, 0x20);
-    Ok(())
-}
-
-#[test]
-fn a_tatweel_has_a_flag_of_its_own_where_the_flags_ask_for_it(rt: HostRuntime) -> Result<(), Fail> {
-    let mut plain = text(rt.alloc(), &[0, 1, 2])?.into_buffer();
-    let calls = [Call::SafeToInsertTatweel(Some(0), Some(3))];
-    assert_eq!(rt; answers(&rt, &mut plain, calls), [Answer::Done]);
-    assert_closed(&rt, &plain, &[(97, 0, 0), (98, 1, 3), (99, 2, 3)]);
-    let mut asked = text(rt.alloc(), &[0, 1, 2])?;
-    asked.set_flags(BufferFlags::PRODUCE_SAFE_TO_INSERT_TATWEEL);
-    let mut asked = asked.into_buffer();
-    assert_eq!(rt; answers(&rt, &mut asked, calls), [Answer::Done]);
-    assert_closed(&rt, &asked, &[(97, 0, 0), (98, 1, 4), (99, 2, 4)]);
-    Ok(())
-}
-
-#[test]
-fn at_the_level_of_characters_a_merge_marks(rt: HostRuntime) -> Result<(), Fail> {
-    let mut text = text(rt.alloc(), &[0, 1, 2])?;
-    text.set_cluster_level(BufferClusterLevel::Characters);
-    let mut buffer = text.into_buffer();
-    let calls = [Call::ClearOutput, Call::MergeClusters(0, 2)];
-    assert_eq!(rt; answers(&rt, &mut buffer, calls), [Answer::Done; 2]);
-    assert_open(&rt, &buffer, 0, &[], &[(97, 0, 0), (98, 1, 3), (99, 2, 0)]);
-    Ok(())
-}
-
-#[test]
-fn a_call_outside_its_condition_changes_nothing(rt: HostRuntime) -> Result<(), Fail> {
-    let mut buffer = text(rt.alloc(), &[0, 1, 2])?.into_buffer();
-    let closed = [
-        Call::DeleteGlyph,
-        Call::MergeClusters(2, 1),
-        Call::MergeClusters(0, 4),
-        Call::MergeOutClusters(0, 0),
-        Call::UnsafeToBreak(Some(4), None),
-        Call::UnsafeToBreakFromOutbuffer(Some(2), Some(1)),
-        Call::Sync,
-    ];
-    assert_eq!(rt; answers(&rt, &mut buffer, closed), [Answer::Outside; 7]);
-    assert_closed(&rt, &buffer, &[(97, 0, 0), (98, 1, 0), (99, 2, 0)]);
+fn assert_run(rt: &impl Abort, alloc: Global, run: &Run<'_>) -> Result<(), Fail> {
+    let mut buffer = buffer_of(rt, alloc, run)?;
+    let mut answers = [REFUSED; 12];
+    let count = run.calls.len();
+    assert!(rt; count <= 12);
     assert_eq!(rt;
-        answers(&rt, &mut buffer, [Call::ClearOutput, Call::NextGlyph]),
-        [Answer::Done; 2]
+        replay(&mut buffer, run.calls, &mut answers[..count]),
+        Ok(())
     );
-    let open = [
-        Call::ClearOutput,
-        Call::MergeClusters(0, 2),
-        Call::MergeOutClusters(0, 2),
-        Call::UnsafeToBreak(None, None),
-        Call::SafeToInsertTatweel(Some(0), Some(2)),
-        Call::UnsafeToConcat(Some(0), Some(1)),
-        Call::UnsafeToBreakFromOutbuffer(Some(2), None),
-        Call::UnsafeToConcatFromOutbuffer(None, Some(0)),
-    ];
-    assert_eq!(rt; answers(&rt, &mut buffer, open), [Answer::Outside; 8]);
-    assert_open(&rt, &buffer, 1, &[(97, 0, 0)], &[(98, 1, 0), (99, 2, 0)]);
+    assert_eq!(rt; &answers[..count], run.answers);
+    assert_eq!(rt; buffer.have_output(), run.open);
+    assert_eq!(rt; buffer.idx(), run.idx);
+    assert_eq!(rt; buffer.successful(), run.successful);
+    assert_glyphs(rt, buffer.out_info(), run.out);
+    assert_glyphs(rt, buffer.info(), run.input);
+    assert_eq!(rt; buffer.scratch_flags, run.scratch_flags);
     Ok(())
 }
 
 #[test]
-fn the_calls_after_one_outside_its_condition_are_made(rt: HostRuntime) -> Result<(), Fail> {
-    let mut buffer = text(rt.alloc(), &[0, 1])?.into_buffer();
+fn cursor_calls_answer_and_leave_what_is_written(rt: HostRuntime) -> Result<(), Fail> {
+    let runs = [
+        // a full out side
+        Run {
+            clusters: &[0, 1, 2],
+            max_len: 3,
+            calls: &[
+                Call::ClearOutput,
+                Call::CopyGlyph,
+                Call::CopyGlyph,
+                Call::CopyGlyph,
+                Call::CopyGlyph,
+                Call::NextGlyph,
+                Call::SkipGlyph,
+                Call::MoveTo(0),
+            ],
+            answers: &[DONE, DONE, DONE, DONE, REFUSED, REFUSED, DONE, REFUSED],
+            idx: 1,
+            successful: false,
+            out: &[(97, 0, 0), (97, 0, 0), (97, 0, 0)],
+            input: &[(98, 1, 0), (99, 2, 0)],
+            ..PLAIN
+        },
+        // a refused replacement has not merged
+        Run {
+            clusters: &[0, 1],
+            max_len: 2,
+            calls: &[
+                Call::ClearOutput,
+                Call::CopyGlyph,
+                Call::ReplaceGlyphs(2, 2, &[7, 8]),
+                Call::MoveTo(2),
+            ],
+            answers: &[DONE, DONE, REFUSED, REFUSED],
+            successful: false,
+            out: &[(97, 0, 0)],
+            input: &[(97, 0, 0), (98, 1, 0)],
+            ..PLAIN
+        },
+        // a replacement by nothing
+        Run {
+            clusters: &[0, 1],
+            calls: &[Call::ClearOutput, Call::ReplaceGlyphs(2, 0, &[])],
+            answers: &[DONE, DONE],
+            idx: 2,
+            ..PLAIN
+        },
+        // the copy is taken after the merge, with its cluster and its cleared flags
+        Run {
+            clusters: &[1, 0],
+            calls: &[
+                Call::UnsafeToBreak(None, None),
+                Call::ClearOutput,
+                Call::ReplaceGlyphs(2, 1, &[9]),
+            ],
+            answers: &[DONE, DONE, DONE],
+            idx: 2,
+            out: &[(9, 0, 0)],
+            scratch_flags: 0x20,
+            ..PLAIN
+        },
+        // and at level 2 with its mark
+        Run {
+            clusters: &[1, 0],
+            level: BufferClusterLevel::Characters,
+            calls: &[Call::ClearOutput, Call::ReplaceGlyphs(2, 1, &[9])],
+            answers: &[DONE, DONE],
+            idx: 2,
+            out: &[(9, 1, 3)],
+            scratch_flags: 0x20,
+            ..PLAIN
+        },
+        // copies in front of the head, with too few glyphs or ids, and with more ids than are taken
+        Run {
+            clusters: &[0, 1],
+            calls: &[
+                Call::ClearOutput,
+                Call::ReplaceGlyphs(0, 2, &[7, 8]),
+                Call::ReplaceGlyphs(3, 1, &[9]),
+                Call::ReplaceGlyphs(1, 2, &[9]),
+                Call::ReplaceGlyphs(1, 1, &[5, 6]),
+            ],
+            answers: &[DONE, DONE, OUTSIDE, OUTSIDE, DONE],
+            idx: 1,
+            out: &[(7, 0, 0), (8, 0, 0), (5, 0, 0)],
+            input: &[(98, 1, 0)],
+            ..PLAIN
+        },
+        // to the very end, to where the cursor stands, and past the end
+        Run {
+            clusters: &[0, 1, 2],
+            calls: &[
+                Call::ClearOutput,
+                Call::MoveTo(3),
+                Call::MoveTo(3),
+                Call::MoveTo(4),
+                Call::MoveTo(1),
+                Call::MoveTo(1),
+            ],
+            answers: &[DONE, DONE, DONE, OUTSIDE, DONE, DONE],
+            idx: 1,
+            out: &[(97, 0, 0)],
+            input: &[(98, 1, 0), (99, 2, 0)],
+            ..PLAIN
+        },
+        // more glyphs are taken back than were read
+        Run {
+            clusters: &[0, 1],
+            calls: &[
+                Call::ClearOutput,
+                Call::ReplaceGlyphs(1, 3, &[1, 2, 3]),
+                Call::MoveTo(0),
+                Call::DeleteGlyph,
+                Call::NextGlyph,
+                Call::MoveTo(3),
+            ],
+            answers: &[DONE; 6],
+            idx: 4,
+            out: &[(2, 0, 0), (3, 0, 0), (98, 1, 0)],
+            ..PLAIN
+        },
+        // a ligature of all, and glyphs after it
+        Run {
+            clusters: &[0, 1],
+            calls: &[
+                Call::ClearOutput,
+                Call::ReplaceGlyphs(2, 1, &[9]),
+                Call::OutputGlyph(7),
+                Call::OutputGlyph(8),
+                Call::Sync,
+            ],
+            answers: &[DONE; 5],
+            open: false,
+            input: &[(9, 0, 0), (7, 0, 0), (8, 0, 0)],
+            ..PLAIN
+        },
+        // a glyph of the caller's
+        Run {
+            clusters: &[0],
+            calls: &[
+                Call::ClearOutput,
+                Call::OutputInfo(hb_glyph_info_t {
+                    glyph_id: 5,
+                    mask: 9,
+                    cluster: 6,
+                    var1: 0,
+                    var2: 0,
+                }),
+                Call::NextGlyphs(2),
+                Call::NextGlyphs(1),
+            ],
+            answers: &[DONE, DONE, OUTSIDE, DONE],
+            idx: 1,
+            out: &[(5, 6, 1), (97, 0, 0)],
+            ..PLAIN
+        },
+        // with no output only the cursor moves
+        Run {
+            clusters: &[0, 1, 2],
+            calls: &[
+                Call::NextGlyphs(3),
+                Call::NextGlyphs(1),
+                Call::MoveTo(4),
+                Call::MoveTo(1),
+                Call::CopyGlyph,
+                Call::ReplaceGlyphs(1, 0, &[]),
+            ],
+            answers: &[DONE, OUTSIDE, OUTSIDE, DONE, OUTSIDE, OUTSIDE],
+            open: false,
+            idx: 1,
+            input: &[(97, 0, 0), (98, 1, 0), (99, 2, 0)],
+            ..PLAIN
+        },
+        // the calls after one outside its condition are made
+        Run {
+            clusters: &[0, 1],
+            calls: &[
+                Call::Sync,
+                Call::ClearOutput,
+                Call::ReplaceGlyph(7),
+                Call::OutputGlyph(8),
+                Call::SkipGlyph,
+                Call::NextGlyph,
+                Call::UnsafeToBreakFromOutbuffer(None, None),
+                Call::Sync,
+            ],
+            answers: &[OUTSIDE, DONE, DONE, DONE, DONE, OUTSIDE, DONE, DONE],
+            open: false,
+            input: &[(7, 0, 0), (8, 1, 3)],
+            scratch_flags: 0x20,
+            ..PLAIN
+        },
+    ];
+    for run in &runs {
+        assert_run(&rt, rt.alloc(), run)?;
+    }
+    Ok(())
+}
+
+#[test]
+fn cluster_calls_answer_and_leave_what_is_written(rt: HostRuntime) -> Result<(), Fail> {
+    let concat = Some(BufferFlags::PRODUCE_UNSAFE_TO_CONCAT);
+    let tatweel = Some(BufferFlags::PRODUCE_SAFE_TO_INSERT_TATWEEL);
+    let plain: &[Seen] = &[(97, 0, 0), (98, 1, 0), (99, 2, 0)];
+    let runs = [
+        // a merge of the input goes down into the out side
+        Run {
+            clusters: &[3, 2, 2, 1],
+            calls: &[
+                Call::ClearOutput,
+                Call::NextGlyphs(2),
+                Call::MergeClusters(2, 4),
+            ],
+            answers: &[DONE; 3],
+            idx: 2,
+            out: &[(97, 3, 0), (98, 1, 0)],
+            input: &[(99, 1, 0), (100, 1, 0)],
+            ..PLAIN
+        },
+        // one of the out side goes on into the input
+        Run {
+            clusters: &[0, 1, 1, 2],
+            calls: &[
+                Call::ClearOutput,
+                Call::NextGlyphs(2),
+                Call::MergeOutClusters(0, 2),
+            ],
+            answers: &[DONE; 3],
+            idx: 2,
+            out: &[(97, 0, 0), (98, 0, 0)],
+            input: &[(99, 0, 0), (100, 2, 0)],
+            ..PLAIN
+        },
+        // a deleted glyph gives its lower cluster to the run before
+        Run {
+            clusters: &[3, 3, 2, 1],
+            calls: &[Call::ClearOutput, Call::NextGlyphs(2), Call::DeleteGlyph],
+            answers: &[DONE; 3],
+            idx: 3,
+            out: &[(97, 2, 0), (98, 2, 0)],
+            input: &[(100, 1, 0)],
+            ..PLAIN
+        },
+        // a merge clears the flags only where the cluster changes
+        Run {
+            clusters: &[0, 1, 2],
+            calls: &[
+                Call::UnsafeToBreak(Some(0), Some(3)),
+                Call::ClearOutput,
+                Call::MergeClusters(1, 3),
+            ],
+            answers: &[DONE; 3],
+            input: &[(97, 0, 0), (98, 1, 3), (99, 1, 0)],
+            scratch_flags: 0x20,
+            ..PLAIN
+        },
+        // a merge and a deletion at level 2 mark
+        Run {
+            clusters: &[0, 1, 2],
+            level: BufferClusterLevel::Characters,
+            calls: &[Call::ClearOutput, Call::MergeClusters(0, 2)],
+            answers: &[DONE; 2],
+            input: &[(97, 0, 0), (98, 1, 3), (99, 2, 0)],
+            scratch_flags: 0x20,
+            ..PLAIN
+        },
+        Run {
+            clusters: &[0, 1, 2],
+            level: BufferClusterLevel::Characters,
+            calls: &[Call::ClearOutput, Call::DeleteGlyph],
+            answers: &[DONE; 2],
+            idx: 1,
+            input: &[(98, 1, 3), (99, 2, 0)],
+            scratch_flags: 0x20,
+            ..PLAIN
+        },
+        // a scan of both sides
+        Run {
+            clusters: &[0, 1, 1, 2],
+            calls: &[
+                Call::ClearOutput,
+                Call::NextGlyphs(2),
+                Call::UnsafeToBreakFromOutbuffer(Some(0), Some(4)),
+            ],
+            answers: &[DONE; 3],
+            idx: 2,
+            out: &[(97, 0, 0), (98, 1, 3)],
+            input: &[(99, 1, 3), (100, 2, 3)],
+            scratch_flags: 0x20,
+            ..PLAIN
+        },
+        // with no output a call on both sides works on the input
+        Run {
+            clusters: &[0, 1, 2],
+            calls: &[Call::UnsafeToBreakFromOutbuffer(Some(1), Some(2))],
+            answers: &[DONE],
+            open: false,
+            input: plain,
+            scratch_flags: 0x20,
+            ..PLAIN
+        },
+        // unsafe to concatenate only where the flags ask for it
+        Run {
+            clusters: &[0, 1, 2],
+            calls: &[
+                Call::UnsafeToConcat(Some(0), Some(3)),
+                Call::UnsafeToConcatFromOutbuffer(Some(1), Some(3)),
+            ],
+            answers: &[DONE; 2],
+            open: false,
+            input: plain,
+            ..PLAIN
+        },
+        Run {
+            clusters: &[0, 1, 2],
+            flags: concat,
+            calls: &[Call::UnsafeToConcat(Some(0), Some(3))],
+            answers: &[DONE],
+            open: false,
+            input: &[(97, 0, 2), (98, 1, 2), (99, 2, 2)],
+            scratch_flags: 0x20,
+            ..PLAIN
+        },
+        Run {
+            clusters: &[0, 1, 1, 2],
+            flags: concat,
+            calls: &[
+                Call::ClearOutput,
+                Call::NextGlyphs(2),
+                Call::UnsafeToConcatFromOutbuffer(Some(1), Some(3)),
+            ],
+            answers: &[DONE; 3],
+            idx: 2,
+            out: &[(97, 0, 0), (98, 1, 2)],
+            input: &[(99, 1, 2), (100, 2, 0)],
+            scratch_flags: 0x20,
+            ..PLAIN
+        },
+        // a tatweel has a flag of its own where the flags ask for it
+        Run {
+            clusters: &[0, 1, 2],
+            calls: &[Call::SafeToInsertTatweel(Some(0), Some(3))],
+            answers: &[DONE],
+            open: false,
+            input: &[(97, 0, 0), (98, 1, 3), (99, 2, 3)],
+            scratch_flags: 0x20,
+            ..PLAIN
+        },
+        Run {
+            clusters: &[0, 1, 2],
+            flags: tatweel,
+            calls: &[Call::SafeToInsertTatweel(Some(0), Some(3))],
+            answers: &[DONE],
+            open: false,
+            input: &[(97, 0, 0), (98, 1, 4), (99, 2, 4)],
+            scratch_flags: 0x20,
+            ..PLAIN
+        },
+        // outside their conditions calls change nothing
+        Run {
+            clusters: &[0, 1, 2],
+            calls: &[
+                Call::DeleteGlyph,
+                Call::MergeClusters(2, 1),
+                Call::MergeClusters(0, 4),
+                Call::MergeOutClusters(0, 0),
+                Call::UnsafeToBreak(Some(4), None),
+                Call::UnsafeToBreakFromOutbuffer(Some(2), Some(1)),
+                Call::Sync,
+            ],
+            answers: &[OUTSIDE; 7],
+            open: false,
+            input: plain,
+            ..PLAIN
+        },
+        Run {
+            clusters: &[0, 1, 2],
+            calls: &[
+                Call::ClearOutput,
+                Call::NextGlyph,
+                Call::ClearOutput,
+                Call::MergeClusters(0, 2),
+                Call::MergeOutClusters(0, 2),
+                Call::UnsafeToBreak(None, None),
+                Call::SafeToInsertTatweel(Some(0), Some(2)),
+                Call::UnsafeToConcat(Some(0), Some(1)),
+                Call::UnsafeToBreakFromOutbuffer(Some(2), None),
+                Call::UnsafeToConcatFromOutbuffer(None, Some(0)),
+            ],
+            answers: &[
+                DONE, DONE, OUTSIDE, OUTSIDE, OUTSIDE, OUTSIDE, OUTSIDE, OUTSIDE, OUTSIDE, OUTSIDE,
+            ],
+            idx: 1,
+            out: &[(97, 0, 0)],
+            input: &[(98, 1, 0), (99, 2, 0)],
+            ..PLAIN
+        },
+    ];
+    for run in &runs {
+        assert_run(&rt, rt.alloc(), run)?;
+    }
+    Ok(())
+}
+
+#[test]
+fn calls_and_answers_are_printed_by_name(rt: HostRuntime) -> Result<(), Fail> {
     let calls = [
-        Call::Sync,
         Call::ClearOutput,
         Call::ReplaceGlyph(7),
-        Call::OutputGlyph(8),
-        Call::SkipGlyph,
-        Call::NextGlyph,
-        Call::UnsafeToBreakFromOutbuffer(None, None),
-        Call::Sync,
+        Call::ReplaceGlyphs(2, 1, &[9]),
+        Call::UnsafeToBreak(Some(1), None),
     ];
-    let want = [
-        Answer::Outside,
-        Answer::Done,
-        Answer::Done,
-        Answer::Done,
-        Answer::Done,
-        Answer::Outside,
-        Answer::Done,
-        Answer::Done,
-    ];
-    assert_eq!(rt; answers(&rt, &mut buffer, calls), want);
-    assert_closed(&rt, &buffer, &[(7, 0, 0), (8, 1, 3)]);
-    Ok(())
-}
-
-#[test]
-fn a_deletion_at_level_2_says_that_there_are_flags(rt: HostRuntime) -> Result<(), Fail> {
-    let mut text = text(rt.alloc(), &[0, 1, 2])?;
-    text.set_cluster_level(BufferClusterLevel::Characters);
-    let mut buffer = text.into_buffer();
-    let calls = [Call::ClearOutput, Call::DeleteGlyph];
+    let printed = format!(in rt.alloc(); "{calls:?}")?;
     assert_eq!(rt;
-        answers(&rt, &mut buffer, calls),
-        [Answer::Done, Answer::Done]
+        printed.as_str(),
+        "[ClearOutput, ReplaceGlyph(7), ReplaceGlyphs(2, 1, [9]), UnsafeToBreak(Some(1), None)]"
     );
-    assert_open(&rt, &buffer, 1, &[], &[(98, 1, 3), (99, 2, 0)]);
-    assert_eq!(rt; buffer.scratch_flags, 0x20);
-    Ok(())
-}
-
-#[test]
-fn answers_are_printed_by_name(rt: HostRuntime) -> Result<(), Fail> {
-    let printed = format!(in rt.alloc(); "{:?} {:?}", Answer::Outside, Stopped { at: 3 })?;
+    let printed = format!(in rt.alloc(); "{OUTSIDE:?} {:?}", Stopped { at: 3 })?;
     assert_eq!(rt; printed.as_str(), "Outside Stopped { at: 3 }");
-    Ok(())
-}
-
-#[test]
-fn no_calls_are_made_of_an_empty_list(rt: HostRuntime) -> Result<(), Fail> {
-    let mut buffer = text(rt.alloc(), &[0])?.into_buffer();
-    let made: Result<(), Stopped> = replay(&mut buffer, &[], &mut []);
-    assert_eq!(rt; made, Ok(()));
-    assert_closed(&rt, &buffer, &[(97, 0, 0)]);
     Ok(())
 }

@@ -8,4 +8,5 @@ returns-in-Some c = by_leading c.args.a c.args.b c.in-Some.s c.in-Some.ensures
 pub returns : goal.returns
 returns c =
     let none : c.compose_leading.result ≡ None = c.in_default.is in
-    by_trailing c.args.a c.args.b c.compose_leading.result c.compose_trailing.result none c.compose_leading.ensures c.compose_trailing.ensures
+    by_trailing c.args.a c.args.b c.compose_leading.result c.compose_trailing.result none
+    c.compose_leading.ensures c.compose_trailing.ensures

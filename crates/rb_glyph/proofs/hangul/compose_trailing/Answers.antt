@@ -10,5 +10,7 @@ returns c =
     let t = c.in_ok-t.t in
     let is : c.from_u32.result ≡ Some (a + t) = search rules in
     let composes : TrailingComposes (a + t) a b =
-    of_trailing (a + t) a b c.in_ok-index.index t (omega arith) (omega arith) (omega arith) (omega arith) (omega arith) (omega arith) (omega arith) in
-    exactly (λ s. TrailingComposes s a b) c.from_u32.result (a + t) is composes (λ s h. one_syllable s (a + t) a b (inr h) (inr composes))
+    of_trailing (a + t) a b c.in_ok-index.index t (omega arith) (omega arith) (omega arith) (omega arith)
+    (omega arith) (omega arith) (omega arith) in
+    exactly (λ s. TrailingComposes s a b) c.from_u32.result (a + t) is composes
+    (λ s h. one_syllable s (a + t) a b (inr h) (inr composes))

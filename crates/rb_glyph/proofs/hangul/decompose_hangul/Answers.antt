@@ -13,6 +13,7 @@ returns-then-t-ne0 c =
     let a_is : a ≡ s - t = c.in_ok-from_u32.ensures.value.1 in
     let b_is : b ≡ 0x11A7 + t = c.in_ok-from_u32-2.ensures.value.1 in
     let trailing : TrailingComposes s a b =
-    of_trailing s a b (index - t) t (omega arith) b_is (omega arith) (omega arith) (omega arith) (omega arith) (omega arith) in
+    of_trailing s a b (index - t) t (omega arith) b_is (omega arith) (omega arith) (omega arith) (omega arith)
+    (omega arith) in
     let composes : HangulComposes s a b = inr trailing in
     exactly_pair (HangulComposes s) a b composes (λ x y h. one_pair s x y a b h composes)

@@ -13,5 +13,6 @@ is_some_copied (Some row) = refl
 pub returns : goal.returns
 returns c =
     let ranges = c.args.ranges.now in
-    let found = c.row_at.ensures (place_of c.args.c) (always_returns_same _ _ _ (λ a r q called. search rules)) (ranges_searchable c.args.c ranges c.requires) in
+    let found = c.row_at.ensures (place_of c.args.c) (always_returns_same _ _ _ (λ a r q called. search rules))
+    (ranges_searchable c.args.c ranges c.requires) in
     c.is_some.ensures ∙ is_some_copied c.row_at.result ∙ ap is_some found ∙ range_found c.args.c ranges

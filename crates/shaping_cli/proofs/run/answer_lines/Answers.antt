@@ -1,32 +1,29 @@
-use Rattle.std.proofs.Common.{rules, ◌<◌, ◌++◌, [], ◌∷◌, length, codes, refl, arith, inr}
-use Rattle.shaping_cli.proofs.LineLemmas.{counts_one_more}
-use Rattle.shaping_cli.proofs.TranscriptLemmas.{appends_answer}
+use Rattle.std.proofs.Common.{rules, ◌<◌, ◌≡◌, length, refl, inl, inr}
+use Rattle.shaping_cli.specs.Commands.{request_of}
+use Rattle.shaping_cli.proofs.TranscriptLemmas.{answers_none, answers_line, answers_unknown, answers_all, line_answered}
 use Rattle.shaping_cli.proofs.run.answer_lines.Goals as goal
+
+pub loop-rest-init : goal.loop-rest-init
+loop-rest-init g c = answers_none _ _ _ c.new-session.ensures
 
 pub returns-in_default : goal.returns-in_default
 returns-in_default g c =
     let some : 0 < length c.loop-rest.rest.now = search rules in
-    let answers = c.loop-rest.invariant.0 in
-    let counted = counts_one_more answers (codes "unknown command") _ _ _ some c.cut_line.ensures.rest c.loop-rest.invariant.2 in (
-      answers ++ codes "unknown command" ∷ [],
-      appends_answer _ _ _ answers _ c.loop-rest.invariant.1 c.in_ok-put_line.ensures.ok,
-      inr (refl, omega (arith, counted), (answers, refl)),
-    )
+    inr (refl, answers_unknown _ _ _ _ _ _ _ _ c.loop-rest.invariant some c.cut_line.ensures.line c.cut_line.ensures.rest c.in_default.ensures c.in_ok-put_line.ensures.ok)
 
 pub loop-rest-preserved-in_ok-put_line-2 : goal.loop-rest-preserved-in_ok-put_line-2
 loop-rest-preserved-in_ok-put_line-2 g c =
     let some : 0 < length c.loop-rest.rest.now = search rules in
-    let answers = c.loop-rest.invariant.0 in (
-      answers ++ c.as_str.result.now ∷ [],
-      appends_answer _ _ _ answers _ c.loop-rest.invariant.1 c.in_ok-put_line-2.ensures.ok,
-      counts_one_more answers _ _ _ _ some c.cut_line.ensures.rest c.loop-rest.invariant.2,
-    )
+    let line = line_answered (request_of c.in-Some.command) _ _ _ _ _ c.in-Some.ensures c.in-Ok.ensures c.as_str.ensures in
+    answers_line _ _ _ _ _ _ _ _ _ _ c.loop-rest.invariant some c.cut_line.ensures.line c.cut_line.ensures.rest line c.in_ok-put_line-2.ensures.ok
 
 pub loop-rest-preserved : goal.loop-rest-preserved
 loop-rest-preserved g c =
     let some : 0 < length c.loop-rest.rest.now = search rules in
-    let answers = c.loop-rest.invariant.0 in (
-      answers ++ c.as_str.result.now ∷ [],
-      appends_answer _ _ _ answers _ c.loop-rest.invariant.1 c.in_ok-put_line-2.ensures.ok,
-      counts_one_more answers _ _ _ _ some c.cut_line.ensures.rest c.loop-rest.invariant.2,
-    )
+    let line = line_answered (request_of c.in-Some.command) _ _ _ _ _ c.in-Some.ensures c.in-Ok.ensures c.as_str.ensures in
+    answers_line _ _ _ _ _ _ _ _ _ _ c.loop-rest.invariant some c.cut_line.ensures.line c.cut_line.ensures.rest line c.in_ok-put_line-2.ensures.ok
+
+pub returns : goal.returns
+returns g c =
+    let none : length c.loop-rest.rest.now ≡ 0 = search rules in
+    inl (refl, answers_all _ _ _ _ _ c.loop-rest.invariant none)

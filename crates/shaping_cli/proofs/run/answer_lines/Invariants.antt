@@ -1,14 +1,13 @@
-use Rattle.std.proofs.Common.{length, ℕ, List, ◌+◌, ◌≡◌}
-use Rattle.std.specs.Io.KnownBytes.{Appends}
-use Rattle.shaping_cli.specs.Transcript.{with_held, transcript, line_count}
+use Rattle.std.proofs.Common.{length}
+use Rattle.shaping_cli.specs.Transcript.{with_held}
+use Rattle.shaping_cli.proofs.TranscriptLemmas.{AnswersBefore}
 use Rattle.shaping_cli.proofs.run.answer_lines.Given as goal
 
 -- each line so far has its answer
 abbrev pub invariant-loop-rest : goal.invariant-loop-rest
 invariant-loop-rest g l =
-    (answers : List (List ℕ)) × Appends (with_held (g.W.Write.contents l.initial.writer) l.initial.held.items)
-    (with_held (g.W.Write.contents l.writer) l.held.items) (transcript answers)
-    × (length answers + line_count l.rest ≡ line_count l.input)
+    AnswersBefore l.input l.rest l.session (with_held (g.W.Write.contents l.initial.writer) l.initial.held.items)
+    (with_held (g.W.Write.contents l.writer) l.held.items)
 
 abbrev pub decreases-loop-rest : goal.decreases-loop-rest
 decreases-loop-rest g l = length l.rest

@@ -6,7 +6,8 @@ use Rattle.rb_text.proofs.text_parser.TextParser.consume_bytes.Given as goal
 abbrev pub invariant-loop-n : goal.invariant-loop-n
 invariant-loop-n g l = record {
   within : l.n ≤ length l.rest;
-  passed : (test : ℕ → Bool) → Computes (goal.F-post g l.f) test → prefix_len test l.rest ≡ l.n + prefix_len test (drop l.n l.rest);
+  passed : (test : ℕ → Bool) → Computes (goal.F-post g l.f) test
+      → prefix_len test l.rest ≡ l.n + prefix_len test (drop l.n l.rest);
 }
 
 abbrev pub decreases-loop-n : goal.decreases-loop-n

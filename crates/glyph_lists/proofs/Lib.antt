@@ -1,0 +1,17 @@
+pub mod PartsLemmas
+pub mod ClustersLemmas
+pub mod RunsLemmas
+pub mod MergesLemmas
+pub mod MapLemmas
+pub mod MergeRangeLemmas
+pub mod SidesLemmas
+pub mod ScanEndsLemmas
+pub mod ScansLemmas
+pub mod DeletionCases
+pub mod MasksLemmas
+pub mod ContextLemmas
+pub mod ClusterNumberLemmas
+pub mod LengthsLemmas
+pub mod GroupsLemmas
+pub mod DeletingWalkLemmas
+pub mod Rows

@@ -1,0 +1,13 @@
+pub mod Parts
+pub mod Clusters
+pub mod Marks
+pub mod Scans
+pub mod Deletion
+pub mod Masks
+pub mod GlyphFlags
+pub mod Replacement
+pub mod Context
+pub mod Guess
+pub mod ClusterNumbers
+pub mod Groups
+pub mod DeletingWalk

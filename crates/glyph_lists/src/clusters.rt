@@ -1,0 +1,100 @@
+//! Glyphs that are put into a cluster, and the least cluster of a range.
+
+ghost use Rattle.std.specs.Prelude.{◌≡◌, ℕ, ◌+◌, ◌-◌, ◌<◌, ◌≤◌, ◌++◌, List, length, take, drop, map, slice_index};
+ghost use Rattle.glyph_lists.specs.Parts.{map_range};
+ghost use Rattle.glyph_lists.specs.Clusters.{clusters, range_least, with_cluster};
+
+use rb_glyph::{glyph_flag, hb_glyph_info_t};
+
+#[cfg(test)]
+mod tests;
+
+/// Puts the glyph into a cluster. Where that changes its cluster, its glyph flags become those of `mask`.
+pub fn set_cluster(info: &mut hb_glyph_info_t, cluster: u32, mask: u32)
+    ensures { info.new ≡ with_cluster cluster mask info.old }
+{
+    if info.cluster != cluster {
+        info.mask = (info.mask & !glyph_flag::DEFINED) | (mask & glyph_flag::DEFINED);
+        info.cluster = cluster;
+    }
+}
+
+/// Puts each glyph into a cluster, with the glyph flags of `mask` where that changes its cluster.
+#[tactic(auto, using(crate::proofs::MapLemmas::walks))]
+fn set_clusters(info: &mut [hb_glyph_info_t], cluster: u32, mask: u32)
+    ensures { info.new ≡ map (with_cluster cluster mask) info.old }
+{
+    for glyph in info.iter_mut() {
+        set_cluster(glyph, cluster, mask);
+    }
+}
+
+/// Puts the glyphs of a range into a cluster, with the glyph flags of `mask` where that changes theirs.
+pub fn set_range(info: &mut [hb_glyph_info_t], start: usize, end: usize, cluster: u32, mask: u32)
+    requires order { start ≤ end }
+    requires within { end ≤ length info.old }
+    ensures { info.new ≡ map_range (with_cluster cluster mask) info.old start end }
+{
+    set_clusters(&mut info[start..end], cluster, mask);
+}
+
+/// Puts the glyphs from `start` to `end` of the two sides as one list into a cluster: `out`, and `info` from the cursor
+/// on. A glyph that changes its cluster loses its glyph flags.
+#[tactic(auto, using(crate::proofs::SidesLemmas::sides))]
+pub fn set_sides(
+    out: &mut [hb_glyph_info_t],
+    info: &mut [hb_glyph_info_t],
+    cursor: usize,
+    start: usize,
+    end: usize,
+    cluster: u32,
+)
+    requires cursor_within { cursor ≤ length info.old }
+    requires order { start ≤ end }
+    requires within { end ≤ length out.old + (length info.old - cursor) }
+    ensures out { out.new ≡ take (length out.old)
+        (map_range (with_cluster cluster 0) (out.old ++ drop cursor info.old) start end) }
+    ensures info { info.new ≡ take cursor info.old ++ drop (length out.old)
+        (map_range (with_cluster cluster 0) (out.old ++ drop cursor info.old) start end) }
+{
+    let len = out.len();
+    if start < len {
+        set_range(out, start, end.min(len), cluster, 0);
+    }
+    if end > len {
+        let from = cursor + start.saturating_sub(len);
+        let to = cursor + (end - len);
+        set_range(info, from, to, cluster, 0);
+    }
+}
+
+/// The cluster of glyph `i` of the two lists as one.
+pub fn cluster_at(out: &[hb_glyph_info_t], input: &[hb_glyph_info_t], i: usize) -> u32
+    requires { i < length out.now + length input.now }
+    ensures { result ≡ slice_index (clusters (out.now ++ input.now)) i }
+{
+    if i < out.len() {
+        out[i].cluster
+    } else {
+        input[i - out.len()].cluster
+    }
+}
+
+/// The least cluster of a range of the two lists as one.
+#[tactic(auto, using(crate::proofs::MergeRangeLemmas::walks))]
+pub fn least_cluster(
+    out: &[hb_glyph_info_t],
+    input: &[hb_glyph_info_t],
+    start: usize,
+    end: usize,
+) -> u32
+    requires some { start < end }
+    requires within { end ≤ length out.now + length input.now }
+    ensures { result ≡ range_least (clusters (out.now ++ input.now)) start end }
+{
+    let mut least = cluster_at(out, input, start);
+    for i in start + 1..end {
+        least = least.min(cluster_at(out, input, i));
+    }
+    least
+}

@@ -1,0 +1,35 @@
+//! The characters that a buffer keeps of the text before and after its own.
+
+ghost use Rattle.std.specs.Prelude.{◌≡◌};
+ghost use Rattle.glyph_lists.specs.Context.{before_text, after_text};
+
+use arrayvec::ArrayVec;
+
+#[cfg(test)]
+mod tests;
+
+/// How many characters are kept on each side.
+pub const CONTEXT_LENGTH: usize = 5;
+
+/// The characters on one side, nearest to the buffer's text first.
+pub type Context = ArrayVec<char, CONTEXT_LENGTH>;
+
+/// Keeps the last characters of the text that stands before the buffer's own, from its end outward.
+pub fn keep_before(context: &mut Context, text: &str)
+    ensures { context.new.items ≡ before_text text.now }
+{
+    context.clear();
+    for c in text.chars().rev().take(CONTEXT_LENGTH) {
+        context.push(c);
+    }
+}
+
+/// Keeps the first characters of the text that stands after the buffer's own.
+pub fn keep_after(context: &mut Context, text: &str)
+    ensures { context.new.items ≡ after_text text.now }
+{
+    context.clear();
+    for c in text.chars().take(CONTEXT_LENGTH) {
+        context.push(c);
+    }
+}

@@ -1,0 +1,21 @@
+use super::merge_range;
+use crate::test_lists::glyphs;
+
+#[test]
+fn a_range_is_widened_through_the_runs_at_its_ends(rt: HostRuntime) {
+    let rows = [
+        (0, [4, 3, 3, 1], 0, 2, 0, (3, 0, 2)),
+        (0, [4, 3, 3, 1], 1, 4, 0, (1, 1, 4)),
+        (2, [3, 2, 2, 1], 2, 4, 0, (1, 1, 4)),
+        (2, [3, 2, 2, 1], 2, 4, 2, (1, 2, 4)),
+        (2, [0, 1, 1, 2], 0, 2, 0, (0, 0, 3)),
+    ];
+    for (cut, clusters, start, end, floor, want) in rows {
+        let list = glyphs(clusters);
+        assert!(rt; cut <= 4 && start + 2 <= end && end <= 4);
+        assert_eq!(rt;
+            merge_range(&list[..cut], &list[cut..], start, end, floor),
+            want
+        );
+    }
+}

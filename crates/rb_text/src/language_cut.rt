@@ -1,0 +1,93 @@
+//! How the text of a language is cut: what is for private use, the prefix before it, and the subtag of the
+//! prefix that a table is asked for.
+ghost use Rattle.std.specs.Prelude.{◌≡◌, ◌<◌, ◌≤◌, length, option_map, take, IfSome};
+ghost use Rattle.std.specs.List.{before_first, position_or_len};
+ghost use Rattle.std.specs.Str.{IsCharBoundary};
+ghost use Rattle.rb_text.specs.LanguageCut.{before_singleton, from_first, is_hyphen, key_of, prefix_of, private_use_of};
+
+/// How long a prefix is at the least where its second subtag can be an extended language.
+pub(crate) const EXTENDED_PREFIX_MIN: usize = 6;
+
+/// A text from the first place on where the mark stands.
+pub(crate) fn from_first<'a>(mark: &[u8], text: &'a [u8]) -> Option<&'a [u8]>
+    ensures value { option_map (λ rest. rest.now) result ≡ from_first mark.now text.now }
+    ensures some_byte { IfSome result (λ rest. 0 < length rest.now) }
+    ensures with_mark { IfSome result (λ rest. length mark.now ≤ length rest.now) }
+{
+    let mut rest = text;
+    while let [_, tail @ ..] = rest {
+        if rest.starts_with(mark) {
+            return Some(rest);
+        }
+        rest = tail;
+    }
+    None
+}
+
+/// What of a language is for private use.
+pub(crate) fn private_use(language: &[u8]) -> Option<&[u8]>
+    ensures { option_map (λ rest. rest.now) result ≡ private_use_of language.now }
+{
+    if language.starts_with(b"x-") {
+        return Some(language);
+    }
+    let rest = from_first(b"-x-", language)?;
+    Some(&rest[1..])
+}
+
+/// The prefix of a language.
+pub(crate) fn prefix(language: &str) -> &str
+    ensures { result.now ≡ prefix_of language.now }
+{
+    let bytes = language.as_bytes();
+    if bytes.starts_with(b"x-") {
+        return "";
+    }
+    if bytes.starts_with(b"-x-") {
+        return "-";
+    }
+    &language[..before_singleton(bytes)]
+}
+
+/// How many bytes stand before the `-` of the first singleton that leaves a byte.
+fn before_singleton(text: &[u8]) -> usize
+    ensures cut { take result text.now ≡ before_singleton text.now }
+    ensures boundary { IsCharBoundary text.now result }
+{
+    for i in 1..text.len().saturating_sub(2) {
+        if text[i] == b'-' && text[i + 2] == b'-' {
+            return i;
+        }
+    }
+    text.len()
+}
+
+/// The subtag of a prefix that a table is asked for.
+pub(crate) fn key(prefix: &[u8]) -> &[u8]
+    ensures { result.now ≡ key_of prefix.now }
+{
+    let first = first_subtag(prefix);
+    if prefix.len() >= EXTENDED_PREFIX_MIN && first.len() < prefix.len() {
+        let second = first_subtag(&prefix[first.len() + 1..]);
+        if let [a, _, _] = *second
+            && a.is_ascii_alphabetic()
+        {
+            return second;
+        }
+    }
+    first
+}
+
+/// What stands before the first `-`, or all.
+fn first_subtag(prefix: &[u8]) -> &[u8]
+    ensures { result.now ≡ before_first is_hyphen prefix.now }
+{
+    &prefix[..first_subtag_len(prefix)]
+}
+
+/// How many bytes stand before the first `-`, or how many there are.
+fn first_subtag_len(prefix: &[u8]) -> usize
+    ensures { result ≡ position_or_len is_hyphen prefix.now }
+{
+    prefix.iter().take_while(|b| **b != b'-').count()
+}

@@ -1,0 +1,141 @@
+//! Tables of the OpenType tags of languages, which a caller hands in.
+ghost use Rattle.std.specs.Prelude.{◌≡◌, ◌||◌, ◌-◌, ◌++◌, Bool, Some, None, if◌then◌else◌, map, option_map, take};
+ghost use Rattle.std.specs.List.{list_all};
+ghost use Rattle.std.specs.Str.{bytes_eq};
+ghost use Rattle.arrayvec.specs.ArrayVec.{array_vec_len};
+ghost use Rattle.std.specs.Char.{is_ascii_digit, is_ascii_lowercase};
+ghost use Rattle.rb_text.specs.LanguageTable.{front_tags, is_below, is_followed_by, is_key, is_table, rows_of};
+ghost use Rattle.rb_text.specs.LanguageTable.{rows_with, tags_of_key};
+
+use crate::tag::Tag;
+use crate::tags::{MAX_TAGS, ThreeTags};
+use std::marker::Model;
+
+/// The OpenType tags of languages: rows of a key and a tag, borrowed as they stand.
+///
+/// A key is the first subtag of languages of BCP 47 (`en`), or an extended language (`yue`). A key may
+/// have many rows, and each names a tag of the language system tags of OpenType's registry, the best
+/// first; the null tag says that there are no more. That the rows are OpenType's is not checked. A
+/// look-up is a bisection. A contract sees a table as its rows.
+#[derive(Debug, Drop)]
+pub struct LanguageTable<'a> {
+    rows: &'a [(&'a str, Tag)],
+}
+
+impl<'a> Model for LanguageTable<'a> {
+    ghost use Rattle.std.specs.Prelude.{ℕ, List, IsTrue};
+    ghost use Rattle.rb_text.specs.LanguageTable.{is_table, rows_of};
+
+    ghost Value = { List (List ℕ × ℕ) };
+
+    ghost view = { λ t. rows_of t.rows.now };
+
+    ghost invariant = { λ t. IsTrue (is_table (rows_of t.rows.now)) };
+}
+
+impl<'a> LanguageTable<'a> {
+    /// A table of the rows; `None` unless each key is some small ASCII letters and digits, and no key is
+    /// below the one before it in the order of their bytes.
+    pub fn new(rows: &'a [(&'a str, Tag)]) -> Option<Self>
+        ensures { result ≡ (if is_table (rows_of rows.now) then Some (rows_of rows.now) else None) }
+    {
+        if is_table(rows) {
+            Some(LanguageTable { rows })
+        } else {
+            None
+        }
+    }
+
+    /// The tags of the rows with the key, up to a null tag and three at the most; `None` where there is
+    /// no such row.
+    pub(crate) fn tags(&self, key: &[u8]) -> Option<ThreeTags>
+        ensures { option_map (λ tags. map (λ t. t.0) tags.items) result
+            ≡ tags_of_key key.now self.now }
+    {
+        let rows = rows_from(self.rows, key);
+        let [(first, _), ..] = rows else {
+            return None;
+        };
+        if !is_same(first, key) {
+            return None;
+        }
+        let mut tags = ThreeTags::new();
+        push_front_tags(rows, key, &mut tags);
+        Some(tags)
+    }
+}
+
+/// The rows from the first on whose key is not below this one.
+fn rows_from<'a, 'b>(rows: &'b [(&'a str, Tag)], key: &[u8]) -> &'b [(&'a str, Tag)]
+    requires { is_table (rows_of rows.now) ≡ Bool.true }
+    ensures same { rows_with key.now (rows_of result.now) ≡ rows_with key.now (rows_of rows.now) }
+    ensures table { is_table (rows_of result.now) ≡ Bool.true }
+    ensures from { is_followed_by key.now (rows_of result.now) ≡ Bool.true }
+{
+    let start = rows.partition_point(|row| is_below(row.0, key));
+    let (_, rest) = rows.split_at(start);
+    rest
+}
+
+/// Whether a text is below a key in the order of their bytes.
+fn is_below(text: &str, key: &[u8]) -> bool
+    ensures { result ≡ is_below text.now key.now }
+{
+    text.as_bytes().cmp(key).is_lt()
+}
+
+/// Whether a text is the key.
+fn is_same(text: &str, key: &[u8]) -> bool
+    ensures { result ≡ bytes_eq text.now key.now }
+{
+    text.as_bytes() == key
+}
+
+/// Adds the tags of the front rows, as long as their key is this one, up to a null tag and while there is room.
+fn push_front_tags(rows: &[(&str, Tag)], key: &[u8], tags: &mut ThreeTags)
+    ensures { map (λ t. t.0) tags.new.items ≡ map (λ t. t.0) tags.old.items
+        ++ take (MAX_TAGS - array_vec_len tags.old) (front_tags key.now (rows_of rows.now)) }
+{
+    let [(name, tag), rest @ ..] = rows else {
+        return;
+    };
+    if !is_same(name, key) || tag.is_null() || tags.is_full() {
+        return;
+    }
+    tags.push(*tag);
+    push_front_tags(rest, key, tags);
+}
+
+/// Whether a text is a key.
+fn is_key(key: &str) -> bool
+    ensures { result ≡ is_key key.now }
+{
+    !key.is_empty() && has_key_bytes(key.as_bytes())
+}
+
+/// Whether all bytes are small ASCII letters and digits.
+fn has_key_bytes(key: &[u8]) -> bool
+    ensures { result ≡ list_all (λ b. is_ascii_lowercase b || is_ascii_digit b) key.now }
+{
+    key.iter()
+        .all(|b| b.is_ascii_lowercase() || b.is_ascii_digit())
+}
+
+/// Whether rows are a table.
+fn is_table(rows: &[(&str, Tag)]) -> bool
+    ensures { result ≡ is_table (rows_of rows.now) }
+{
+    let mut rest = rows;
+    while let [(key, _), tail @ ..] = rest {
+        if !is_key(key) {
+            return false;
+        }
+        if let [(next, _), ..] = tail
+            && next < key
+        {
+            return false;
+        }
+        rest = tail;
+    }
+    true
+}

@@ -1,0 +1,63 @@
+-- The deleting walk by calls is the walk over the list.
+use Rattle.std.proofs.Common.{◌≡◌, ℕ, zero, suc, ◌+◌, ◌≤◌, Bool, true, false, List, [], ◌++◌, length, take, drop, leb, if◌then◌else◌, refl, sym, ap, subst, ◌∙◌, arith, length-append, length-take, length-drop}
+use Rattle.std.proofs.lemmas.Bool.{cond-true, cond-false, le-leb}
+use Rattle.rb_glyph.specs.declared.info.hb_glyph_info_t.{hb_glyph_info_t}
+use Rattle.glyph_lists.specs.Deletion.{Sides}
+use Rattle.glyph_lists.specs.DeletingWalk.{after_next, after_deletion, after_turn, after_walk}
+use Rattle.glyph_lists.proofs.LengthsLemmas.{length-deletion}
+use Rattle.shaping_buffer.specs.State.{State}
+use Rattle.shaping_buffer.specs.Step.{Outcome, next_glyph, sync}
+use Rattle.shaping_buffer.specs.ClusterStep.{any_order, head_of, delete_glyph}
+use Rattle.shaping_buffer.specs.GroupStep.{call_of_walk, walk_by_calls}
+
+-- an output is open, no refusal stands, and both sides fit together
+abbrev pub IsUnderWay : State → Type 0
+IsUnderWay s = (s.have_output ≡ true) × (s.successful ≡ true) × (length s.out + length s.input ≤ s.max_len)
+
+abbrev sides_of : State → Sides
+sides_of s = record { out = s.out; rest = s.input }
+
+-- the state after a done `next_glyph`
+abbrev moved : State → State
+moved s = record s { out = s.out ++ take 1 s.input; input = drop 1 s.input; idx = s.idx + 1 }
+
+next_is_done : (s : State) → IsUnderWay s → (next_glyph s).state ≡ moved s
+next_is_done s h =
+    let fits : length (s.out ++ take 1 s.input) ≤ s.max_len = simp (length-append, length-take) (omega (arith, h.2)) in
+    ap (λ (o : Outcome). o.state) (cond-true s.have_output _ _ h.0)
+    ∙ ap (λ (o : Outcome). o.state) (cond-true (leb (length (s.out ++ take 1 s.input)) s.max_len) _ _ (le-leb _ _ fits))
+    ∙ ap (λ xs. record s { out = s.out ++ take 1 s.input; input = xs; idx = s.idx + 1 }) (cond-true s.have_output (drop 1 s.input) s.input h.0)
+
+module _ (test : hb_glyph_info_t → Bool) (level_is : Bool) where
+  -- a walk by calls that has begun leads where the walk over both sides leads, and nothing is refused
+  abbrev Agrees : ℕ → State → Sides → Type 0
+  Agrees calls s start = (sides_of (walk_by_calls test calls s) ≡ after_walk level_is test calls start) × IsUnderWay (walk_by_calls test calls s)
+
+  one_turn : (calls : ℕ) (s : State) → any_order s ≡ level_is → IsUnderWay s
+      → ((t : State) → any_order t ≡ level_is → IsUnderWay t → Agrees calls t (sides_of t))
+      → (is : Bool) → test (head_of s) ≡ is → Agrees (suc calls) s (sides_of s)
+  one_turn calls s level h later true e =
+      let d = length-deletion (any_order s) s.out (head_of s) (drop 1 s.input) in
+      let n = d.0 in
+      let m = d.1 in
+      let fits : length (delete_glyph s).out + length (delete_glyph s).input ≤ s.max_len = omega (arith, h.2, n, m, length-drop 1 s.input) in
+      let made : sides_of (delete_glyph s) ≡ after_turn level_is test (sides_of s) = ap (λ a. after_deletion a (sides_of s)) level ∙ sym (cond-true _ _ _ e) in
+      subst (λ t. Agrees calls t (after_turn level_is test (sides_of s))) (sym (cond-true _ _ _ e))
+      (subst (λ u. Agrees calls (delete_glyph s) u) made (later (delete_glyph s) level (h.0, h.1, fits)))
+  one_turn calls s level h later false e =
+      let fits : length (moved s).out + length (moved s).input ≤ s.max_len = simp (length-append, length-take, length-drop) (omega (arith, h.2)) in
+      let made : sides_of (moved s) ≡ after_turn level_is test (sides_of s) = sym (cond-false _ _ _ e) in
+      subst (λ t. Agrees calls t (after_turn level_is test (sides_of s))) (sym (cond-false _ _ _ e ∙ next_is_done s h))
+      (subst (λ u. Agrees calls (moved s) u) made (later (moved s) level (h.0, h.1, fits)))
+
+  pub walks_agree : (calls : ℕ) (s : State) → any_order s ≡ level_is → IsUnderWay s → Agrees calls s (sides_of s)
+  walks_agree zero s level h = (refl, h)
+  walks_agree (suc calls) s level h = one_turn calls s level h (λ t. walks_agree calls t) (test (head_of s)) refl
+
+-- the output of such a walk is closed
+pub sync_is_done : (s : State) → IsUnderWay s → ((sync s).done ≡ true) × ((sync s).state.input ≡ s.out ++ s.input)
+sync_is_done s h =
+    let fits : length (s.out ++ s.input) ≤ s.max_len = simp length-append h.2 in
+    let is : sync s ≡ record { done = true; state = record s { have_output = false; out = []; input = s.out ++ s.input; idx = 0 } } =
+    cond-true s.successful _ _ h.1 ∙ cond-true (leb (length (s.out ++ s.input)) s.max_len) _ _ (le-leb _ _ fits) in
+    (ap (λ (o : Outcome). o.done) is, ap (λ (o : Outcome). o.state.input) is)

@@ -1,8 +1,0 @@
--- Clusters that are numbered anew.
-use Rattle.std.specs.Prelude.{ℕ, ◌+◌, ◌%◌, List, [], ◌∷◌}
-use Rattle.rb_glyph.specs.declared.info.hb_glyph_info_t.{hb_glyph_info_t}
-
--- each glyph is a cluster of its own, numbered by its place modulo 2^32, the first by this number; all else stays
-abbrev pub clusters_reset : ℕ → List hb_glyph_info_t → List hb_glyph_info_t
-clusters_reset first [] = []
-clusters_reset first (g ∷ gs) = record g { cluster = first % 4294967296 } ∷ clusters_reset (first + 1) gs

@@ -1,0 +1,63 @@
+//! Moves of the cursor over both sides, as HarfBuzz's `hb_buffer_t` makes them: glyphs are put out as they are, or taken
+//! back to be read again.
+
+ghost use Rattle.std.specs.Prelude.{◌≡◌, ◌<◌, ◌≤◌, true, length};
+ghost use Rattle.shaping_buffer.specs.Step as step;
+ghost use Rattle.shaping_buffer.specs.Step.{Meets};
+
+use super::hb_buffer_t;
+use crate::moves::{open_gap, put_back};
+use std::alloc::AllocError;
+
+impl hb_buffer_t {
+    /// Moves the cursor to a place of both sides as one list: the glyphs before it are then put out, and the others are
+    /// left to read. With no output open only the cursor moves. It asks `i <= out_len + lookahead_len`, or with no
+    /// output `i <= len`.
+    /// `Ok(false)` after an earlier refusal, with nothing changed, and where the side that becomes longer would be too
+    /// long: then only `successful` changes. `Err(AllocError)` where memory ran out: then nothing changed.
+    #[tactic(auto, using(crate::proofs::MoveLemmas::forward_is_next))]
+    pub fn move_to(&mut self, i: usize) -> Result<bool, AllocError>
+        requires { i ≤ step.last_place self.old }
+        ensures { Meets (step.move_to i self.old) self.old result self.new }
+    {
+        if !self.have_output {
+            self.cursor = i;
+            return Ok(true);
+        }
+        if !self.successful {
+            return Ok(false);
+        }
+        let out_len = self.out_info.len();
+        if out_len <= i {
+            return self.next_glyphs(i - out_len);
+        }
+        self.move_back(i)
+    }
+
+    /// Glyphs that were put out are left to read again. They go into the places before the cursor, where glyphs were
+    /// read; where these are too few, the input first moves up.
+    fn move_back(&mut self, i: usize) -> Result<bool, AllocError>
+        requires opened { self.old.have_output ≡ true }
+        requires good { self.old.successful ≡ true }
+        requires behind { i < length self.old.out }
+        ensures { Meets (step.move_to i self.old) self.old result self.new }
+    {
+        let count = self.out_info.len() - i;
+        let left = self.info.len() - self.cursor;
+        if left > self.max_len - count {
+            self.successful = false;
+            return Ok(false);
+        }
+        if count > self.cursor {
+            let more = count - self.cursor;
+            self.info.reserve(more)?;
+            self.pos.reserve(count + left)?;
+            open_gap(&mut self.info, self.cursor, more);
+            self.cursor = count;
+        }
+        put_back(&mut self.info, self.cursor, &self.out_info[i..]);
+        self.cursor -= count;
+        self.out_info.truncate(i);
+        Ok(true)
+    }
+}

@@ -1,0 +1,81 @@
+use super::*;
+use crate::unicode_buffer::UnicodeBuffer;
+use std::process::Abort;
+use std::test::Fail;
+
+/// `len`, `out_len`, `idx`, `backtrack_len` and `lookahead_len`.
+fn assert_counts(rt: &impl Abort, buffer: &hb_buffer_t, want: [usize; 5]) {
+    assert_eq!(rt; buffer.len(), want[0]);
+    assert_eq!(rt; buffer.out_len(), want[1]);
+    assert_eq!(rt; buffer.idx(), want[2]);
+    assert_eq!(rt; buffer.backtrack_len(), want[3]);
+    assert_eq!(rt; buffer.lookahead_len(), want[4]);
+}
+
+/// `is_empty`, `have_output`, `have_positions` and `successful`.
+fn assert_states(rt: &impl Abort, buffer: &hb_buffer_t, want: [bool; 4]) {
+    assert_eq!(rt; buffer.is_empty(), want[0]);
+    assert_eq!(rt; buffer.have_output(), want[1]);
+    assert_eq!(rt; buffer.have_positions(), want[2]);
+    assert_eq!(rt; buffer.successful(), want[3]);
+}
+
+fn assert_ids(rt: &impl Abort, glyphs: &[hb_glyph_info_t], want: &[u32]) {
+    assert_eq!(rt; glyphs.len(), want.len());
+    for (glyph, id) in glyphs.iter().zip(want.iter()) {
+        assert_eq!(rt; glyph.glyph_id, *id);
+    }
+}
+
+#[test]
+fn readers_and_references_show_what_stands(rt: HostRuntime) -> Result<(), Fail> {
+    let buffer = hb_buffer_t::new(rt.alloc());
+    assert_counts(&rt, &buffer, [0, 0, 0, 0, 0]);
+    assert_states(&rt, &buffer, [true, false, false, true]);
+    assert_eq!(rt; buffer.max_len(), 0x3FFF_FFFF);
+    assert_eq!(rt; buffer.max_ops, 0x1FFF_FFFF);
+    let mut text = UnicodeBuffer::new(rt.alloc());
+    assert_eq!(rt; text.push_str("abc"), Ok(true));
+    let mut buffer = text.into_buffer();
+    for glyph in buffer.info_slice_mut() {
+        glyph.glyph_id = glyph.glyph_id.wrapping_sub(32);
+    }
+    buffer.clear_positions();
+    assert_counts(&rt, &buffer, [3, 0, 0, 0, 3]);
+    assert_states(&rt, &buffer, [false, false, true, true]);
+    assert!(rt; buffer.have_positions() && buffer.lookahead_len() > 0);
+    buffer.cur_pos_mut().x_advance = 3;
+    assert!(rt; buffer.have_positions());
+    for position in buffer.pos_mut() {
+        position.y_advance = 4;
+    }
+    assert!(rt; buffer.have_positions());
+    for (position, x) in buffer.pos().iter().zip(&[3, 0, 0]) {
+        assert_eq!(rt; (position.x_advance, position.y_advance), (*x, 4));
+    }
+    assert!(rt; !buffer.have_output());
+    buffer.clear_output();
+    assert!(rt; buffer.lookahead_len() > 0);
+    assert_eq!(rt; buffer.next_glyph(), Ok(true));
+    assert_counts(&rt, &buffer, [3, 1, 1, 1, 2]);
+    assert_states(&rt, &buffer, [false, true, false, true]);
+    assert!(rt; buffer.lookahead_len() > 1 && buffer.out_len() > 0);
+    assert_eq!(rt; buffer.cur(1).glyph_id, 67);
+    assert_eq!(rt; buffer.prev().glyph_id, 65);
+    buffer.prev_mut().glyph_id = 5;
+    for glyph in buffer.out_info_mut() {
+        glyph.mask = 9;
+    }
+    assert!(rt; buffer.out_len() > 0);
+    assert_eq!(rt; buffer.prev().mask, 9);
+    assert!(rt; buffer.lookahead_len() > 1);
+    buffer.cur_mut(1).glyph_id = 6;
+    assert_ids(&rt, buffer.out_info(), &[5]);
+    assert_ids(&rt, buffer.info(), &[66, 6]);
+    buffer.cluster_level = 2;
+    buffer.clear();
+    assert_counts(&rt, &buffer, [0, 0, 0, 0, 0]);
+    assert_states(&rt, &buffer, [true, false, false, true]);
+    assert_eq!(rt; buffer.cluster_level, 0);
+    Ok(())
+}

@@ -1,0 +1,2 @@
+pub mod VisibleLemmas
+pub mod RunsLemmas

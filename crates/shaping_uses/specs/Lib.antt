@@ -1,0 +1,5 @@
+pub mod References
+pub mod Printing
+pub mod Kerning
+pub mod LineBreak
+pub mod Visible

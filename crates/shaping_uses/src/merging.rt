@@ -1,0 +1,31 @@
+//! Two characters are merged, and the cluster numbers read.
+
+ghost use Rattle.std.specs.Prelude.{◌≡◌, IfOk, IfSome};
+ghost use Rattle.glyph_lists.specs.Clusters.{clusters};
+ghost use Rattle.shaping_buffer.specs.ClusterStep.{merge_clusters};
+ghost use Rattle.shaping_uses.specs.Printing.{text_buffer};
+
+use shaping_buffer::{UnicodeBuffer, hb_glyph_info_t};
+use std::alloc::{AllocError, Global};
+
+/// The cluster numbers of a text after its first two characters became one cluster. `Ok(None)` where the text has
+/// fewer than two characters, or more than a buffer may hold.
+pub fn clusters_of_merged(alloc: Global, text: &str) -> Result<Option<Vec<u32>>, AllocError>
+    ensures { IfOk result (λ numbers. IfSome numbers (λ each.
+        each.items ≡ clusters (merge_clusters 0 2 (text_buffer text.now)).input)) }
+{
+    let mut characters = UnicodeBuffer::new(alloc);
+    if !characters.push_str(text)? || characters.len() < 2 {
+        return Ok(None);
+    }
+    let mut buffer = characters.into_buffer();
+    buffer.merge_clusters(0, 2);
+    Ok(Some(cluster_numbers(alloc, buffer.info())?))
+}
+
+/// The cluster number of each glyph.
+pub fn cluster_numbers(alloc: Global, glyphs: &[hb_glyph_info_t]) -> Result<Vec<u32>, AllocError>
+    ensures { IfOk result (λ each. each.items ≡ clusters glyphs.now) }
+{
+    glyphs.iter().map(|glyph| glyph.cluster).collect(alloc)
+}

@@ -1,0 +1,25 @@
+//! A text is pushed, and printed as HarfBuzz prints glyphs.
+
+ghost use Rattle.std.specs.Prelude.{◌≡◌, ◌<◌, length, string_bytes, chars, IfOk, IfSome, IfNone};
+ghost use Rattle.shaping_uses.specs.Printing.{printed_characters};
+
+use rb_glyph::NoGlyphNames;
+use shaping_buffer::{Flags, GlyphBuffer, SerializeFlags, UnicodeBuffer};
+use std::alloc::{AllocError, Global};
+
+/// The characters of a text with their clusters, before any font gave them glyphs. `Ok(None)` where a buffer may not
+/// hold so many.
+pub fn print_characters(alloc: Global, text: &str) -> Result<Option<String>, AllocError>
+    ensures { IfOk result (λ printed. IfSome printed (λ line.
+        string_bytes line ≡ printed_characters text.now)) }
+{
+    let mut characters = UnicodeBuffer::new(alloc);
+    if !characters.push_str(text)? {
+        return Ok(None);
+    }
+    let mut buffer = characters.into_buffer();
+    buffer.clear_positions();
+    let glyphs = GlyphBuffer::from_buffer(buffer);
+    let line = glyphs.serialize(alloc, &NoGlyphNames, SerializeFlags::NO_GLYPH_NAMES)?;
+    Ok(Some(line))
+}
