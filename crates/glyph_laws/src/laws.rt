@@ -3,10 +3,12 @@
 //! Each function here is empty. Its contract is a fact of definitions, those that the contracts of a
 //! buffer's calls name among them, and holds for every list of glyphs.
 
-ghost use Rattle.std.specs.Prelude.{◌≡◌, ◌⊎◌, ◌↔◌, ℕ, ◌+◌, ◌<◌, ◌≤◌, ◌++◌, Bool, true, false, List, [], ◌∷◌, length, map, take, drop, slice_index, slice_index_or};
+ghost use Rattle.std.specs.Prelude.{◌≡◌, ◌⊎◌, ◌↔◌, ℕ, ◌+◌, ◌<◌, ◌≤◌, ◌++◌, Bool, true, false, List, [], ◌∷◌, length};
+ghost use Rattle.std.specs.Prelude.{map, take, drop, slice_index, slice_index_or};
 ghost use Rattle.rb_glyph.specs.declared.info.hb_glyph_info_t.{hb_glyph_info_t};
 ghost use Rattle.glyph_lists.specs.Parts.{part};
-ghost use Rattle.glyph_lists.specs.Clusters.{clusters, least, occurs, zero_glyph, cluster_merge, run_merge, IsMonotone, IsCoarse};
+ghost use Rattle.glyph_lists.specs.Clusters.{clusters, least, occurs, zero_glyph, cluster_merge, run_merge, IsMonotone};
+ghost use Rattle.glyph_lists.specs.Clusters.{IsCoarse};
 ghost use Rattle.glyph_lists.specs.Marks.{with_glyph_flags, mark, mark_others, mark_part, end_mark, ends_least};
 ghost use Rattle.glyph_lists.specs.Deletion.{deletion, merge_or_mark};
 ghost use Rattle.glyph_lists.specs.Masks.{reset_masks};

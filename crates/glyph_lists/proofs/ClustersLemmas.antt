@@ -1,6 +1,6 @@
 -- Cluster numbers: where they stand, where a number occurs, the least of a list, and monotone lists.
 use Rattle.std.proofs.Common.{◌≡◌, ℕ, zero, suc, ◌+◌, ◌-◌, ◌<◌, ◌≤◌, inl, inr, List, [], ◌∷◌, ◌++◌, length, get_or, take, drop, min, refl, sym, ap, ◌∙◌, arith, length-append, eqb, true}
-use Rattle.std.proofs.lemmas.List.{get_or-map, get_or_default, length-map, take-map, drop-map, map-append}
+use Rattle.std.proofs.lemmas.List.{get_or-map, get_or_default, length-map, take-map, drop-map, map-append, take_all}
 use Rattle.std.proofs.lemmas.List.Folds.{Any-from_list_any, list_any_at}
 use Rattle.std.proofs.lemmas.Bool.{cases_lt, eqb-true, eq-eqb}
 use Rattle.rb_glyph.specs.declared.info.hb_glyph_info_t.{hb_glyph_info_t}
@@ -102,12 +102,29 @@ range_least_more cs p i some in_cs =
     ap least (part_more cs p i 0 (omega arith) in_cs)
     ∙ least_push (part cs p i) (get_or cs i 0) (omega (arith, length-part cs p i (omega arith)))
 
+-- the same, with the last place named
+pub range_least_last : (cs : List ℕ) (p q : ℕ) → p + 2 ≤ q → q ≤ length cs → range_least cs p q ≡ min (range_least cs p (q - 1)) (get_or cs (q - 1) 0)
+range_least_last cs p q some in_cs =
+    let e : q - 1 + 1 ≡ q = omega arith in
+    ap (range_least cs p) (sym e) ∙ range_least_more cs p (q - 1) (omega arith) (omega arith)
+
 -- the least of a range of one place
 pub range_least_one : (cs : List ℕ) (p : ℕ) → p < length cs → range_least cs p (p + 1) ≡ get_or cs p 0
 unfolding range_least least
 range_least_one cs p in_cs =
     let n : p - p ≡ 0 = omega arith in
     ap least (part_more cs p p 0 (omega arith) in_cs ∙ ap (λ k. take k (drop p cs) ++ get_or cs p 0 ∷ []) n)
+
+-- there is none
+pub least_nothing : (l : List hb_glyph_info_t) → length l ≡ 0 → least (clusters l) ≡ 0
+unfolding least
+least_nothing [] h = refl
+least_nothing (g ∷ l) h = absurd (omega arith)
+
+-- the least of all places
+pub least_whole : (cs : List ℕ) (n : ℕ) → length cs ≤ n → range_least cs 0 n ≡ least cs
+unfolding range_least
+least_whole cs n h = ap least (take_all (n - 0) cs (omega arith))
 
 -- the least of a range is not above a number of the range, and is one of them
 module _ (cs : List ℕ) (p q : ℕ) (in_cs : q ≤ length cs) where

@@ -1,7 +1,7 @@
 -- Deletion, case by case.
-use Rattle.std.proofs.Common.{◌≡◌, ℕ, ◌+◌, ◌-◌, ◌<◌, List, [], ◌∷◌, ◌++◌, length, get_or, take, drop, refl, sym, ap, ◌∙◌, arith, eqb, true, false, Bool, cond}
-use Rattle.std.specs.Prelude.{not, ◌&&◌, ◌||◌, ◌==◌, nat_lt, if◌then◌else◌}
-use Rattle.std.proofs.lemmas.List.{append-nil, drop_more, length-take-le}
+use Rattle.std.proofs.Common.{◌≡◌, ℕ, ◌+◌, ◌-◌, ◌<◌, List, [], ◌∷◌, ◌++◌, length, get_or, take, drop, refl, sym, ap, ◌∙◌, arith, eqb, true, false, Bool}
+use Rattle.std.specs.Prelude.{not, nat_lt}
+use Rattle.std.proofs.lemmas.List.{drop_more, length-take-le}
 use Rattle.std.proofs.Math.Seq.{drop-append-add}
 use Rattle.std.proofs.lemmas.Bool.{cond-true, cond-false, and_parts}
 use Rattle.rb_glyph.specs.declared.info.hb_glyph_info_t.{hb_glyph_info_t}
@@ -54,11 +54,11 @@ pub ruleset neighbours = (begins_none, begins_some, not_empty_none, not_empty_so
 
 -- ---- the trailing run
 
-pub retold_from : (c w last a : ℕ) (l : List hb_glyph_info_t) → last ≡ last_cluster l → a ≡ run_start (clusters (l ++ [])) last 0 (length l) → map_range (with_cluster c w) l a (length l) ≡ with_trailing_run c w l
+pub retold_from : (c w last a : ℕ) (l : List hb_glyph_info_t) → last ≡ last_cluster l → a ≡ run_start (clusters l) last 0 (length l) → map_range (with_cluster c w) l a (length l) ≡ with_trailing_run c w l
 unfolding with_trailing_run
 retold_from c w last a l e h =
     ap (λ k. map_range (with_cluster c w) l k (length l))
-    (h ∙ ap (λ xs. run_start (clusters xs) last 0 (length l)) (append-nil l) ∙ ap (λ k. run_start (clusters l) k 0 (length l)) e)
+    (h ∙ ap (λ k. run_start (clusters l) k 0 (length l)) e)
 
 -- ---- the first two glyphs of the input, nothing being put out
 

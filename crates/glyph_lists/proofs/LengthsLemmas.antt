@@ -1,5 +1,5 @@
 -- Merges and deletion keep lengths.
-use Rattle.std.proofs.Common.{◌≡◌, ℕ, ◌-◌, ◌≤◌, List, [], ◌∷◌, ◌++◌, length, take, drop, refl, arith, eqb, ltb, Bool, true, false, ◌&&◌, ◌||◌, if◌then◌else◌, length-drop}
+use Rattle.std.proofs.Common.{◌≡◌, ℕ, ◌-◌, ◌≤◌, List, ◌∷◌, ◌++◌, length, take, drop, refl, arith, eqb, ltb, Bool, true, false, if◌then◌else◌, length-drop}
 use Rattle.std.proofs.lemmas.Bool.{cond_both, ltb-false}
 use Rattle.rb_glyph.specs.declared.info.hb_glyph_info_t.{hb_glyph_info_t}
 use Rattle.glyph_lists.specs.Parts.{part}

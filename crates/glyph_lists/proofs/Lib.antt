@@ -5,6 +5,7 @@ pub mod MergesLemmas
 pub mod MapLemmas
 pub mod MergeRangeLemmas
 pub mod SidesLemmas
+pub mod SeamLemmas
 pub mod ScanEndsLemmas
 pub mod ScansLemmas
 pub mod DeletionCases

@@ -1,4 +1,4 @@
 -- The least cluster of a range, from a walk along it.
-use Rattle.glyph_lists.proofs.ClustersLemmas.{length_clusters-append, range_least_more, range_least_one}
+use Rattle.glyph_lists.proofs.ClustersLemmas.{length-clusters, length_clusters-append, get_or-clusters, range_least_more, range_least_one, range_least_last, least_whole, least_nothing}
 
-pub ruleset walks = (length_clusters-append, range_least_more, range_least_one)
+pub ruleset walks = (length-clusters, length_clusters-append, get_or-clusters, range_least_more, range_least_one, range_least_last, least_whole, least_nothing)

@@ -1,5 +1,5 @@
 -- Ranges of a list: what stands in one, and a list of which one range is mapped.
-use Rattle.std.proofs.Common.{All, ◌⊎◌, inl, inr, ◌≡◌, ℕ, ◌+◌, ◌-◌, ◌<◌, ◌≤◌, List, [], ◌∷◌, ◌++◌, length, get_or, map, take, drop, set, min, refl, sym, ap, ◌∙◌, arith, length-append, length-drop, length-take}
+use Rattle.std.proofs.Common.{All, suc, ◌⊎◌, inl, inr, ◌≡◌, ℕ, ◌+◌, ◌-◌, ◌<◌, ◌≤◌, List, [], ◌∷◌, ◌++◌, length, get_or, map, take, drop, set, min, refl, sym, ap, ◌∙◌, arith, length-append, length-drop, length-take}
 use Rattle.std.proofs.lemmas.Bool.{cases_lt}
 use Rattle.std.proofs.lemmas.List.{take_at, drop_at, length-take-le, same_lists, take_more, drop_more, set_at, map_push, append-nil, take-append-drop, get_or_append_left, get_or-append_right, get_or-take, get_or-drop, get_or-map, length-map, map-append, map-id, append_assoc}
 use Rattle.std.proofs.lemmas.List.Elements.{All-append, All-take, All-drop, All-map, All-weaker}
@@ -72,6 +72,27 @@ map_range_more f l a i y d from_a in_l e =
     ∙ sym (append_assoc p (f (get_or l i d) ∷ []) (drop (i + 1) l))
     ∙ ap (λ q. q ++ drop (i + 1) l) (append_assoc (take a l) (map f (part l a i)) (f (get_or l i d) ∷ []))
     ∙ ap (λ q. take a l ++ q ++ drop (i + 1) l) (sym (ap (map f) (part_more l a i d from_a in_l) ∙ map_push f (part l a i) (get_or l i d)))
+
+-- one place more at the front of a range
+pub map_range_front : {X : Type 0} (f : X → X) (l : List X) (s b : ℕ) (y d : X) → s < b → s < length l → y ≡ f (get_or l s d) → set (map_range f l (s + 1) b) s y ≡ map_range f l s b
+map_range_front f l s b y d some in_l e =
+    let x = get_or l s d in
+    let m = map f (part l (s + 1) b) in
+    let n : length (take s l) ≡ s = simp length-take (omega arith) in
+    let k : b - s ≡ suc (b - (s + 1)) = omega arith in
+    let front : map_range f l (s + 1) b ≡ take s l ++ x ∷ (m ++ drop b l) =
+    ap (λ xs. xs ++ m ++ drop b l) (take_more l s d in_l) ∙ ap (λ xs. xs ++ drop b l) (append_assoc (take s l) (x ∷ []) m) ∙ append_assoc (take s l) (x ∷ m) (drop b l) in
+    let range : part l s b ≡ x ∷ part l (s + 1) b = ap (λ j. take j (drop s l)) k ∙ ap (take (suc (b - (s + 1)))) (drop_more l s d in_l) in
+    ap (λ xs. set xs s y) front ∙ set_at (take s l) x (m ++ drop b l) y s n ∙ ap (λ z. take s l ++ z ∷ (m ++ drop b l)) e
+    ∙ sym (append_assoc (take s l) (f x ∷ m) (drop b l))
+    ∙ sym (ap (λ xs. take s l ++ map f xs ++ drop b l) range)
+
+-- the next place after a mapped range, and the one before it, are as they were
+pub map_range_next : {X : Type 0} (f : X → X) (l : List X) (a b : ℕ) (d : X) → a ≤ b → b < length l → get_or (map_range f l a b) b d ≡ get_or l b d
+map_range_next f l a b d up in_l = map_range-after f l a b up b d (omega arith) in_l
+
+pub map_range_last : {X : Type 0} (f : X → X) (l : List X) (a b : ℕ) (d : X) → 0 < a → a ≤ b → a ≤ length l → get_or (map_range f l a b) (a - 1) d ≡ get_or l (a - 1) d
+map_range_last f l a b d some up in_l = map_range-before f l a b up (a - 1) d (omega arith) (omega arith)
 
 -- an empty range
 pub map_range_none : {X : Type 0} (f : X → X) (l : List X) (a : ℕ) → map_range f l a a ≡ l

@@ -7,7 +7,7 @@ use Rattle.std.specs.List.{suffix_len}
 use Rattle.glyph_lists.specs.Parts.{part}
 use Rattle.glyph_lists.specs.Clusters.{run_start, run_end, range_least, widened_start, widened_end}
 use Rattle.glyph_lists.proofs.PartsLemmas.{length-part, get_or-part}
-use Rattle.glyph_lists.proofs.ClustersLemmas.{length_clusters-append}
+use Rattle.glyph_lists.proofs.ClustersLemmas.{length-clusters, get_or-clusters, length_clusters-append}
 
 -- ---- where a run ends
 
@@ -158,6 +158,11 @@ unfolding widened_end
 widened_end-ge cs p q =
     cond_both (eqb (get_or cs (q - 1) 0) (range_least cs p q)) q (run_end cs (get_or cs (q - 1) 0) q) (λ x. q ≤ x) (λ _. omega arith) (λ _. run_end-ge cs (get_or cs (q - 1) 0) q)
 
+pub widened_end-le : (cs : List ℕ) (p q : ℕ) → q ≤ length cs → widened_end cs p q ≤ length cs
+unfolding widened_end
+widened_end-le cs p q in_cs =
+    cond_both (eqb (get_or cs (q - 1) 0) (range_least cs p q)) q (run_end cs (get_or cs (q - 1) 0) q) (λ x. x ≤ length cs) (λ _. in_cs) (λ _. run_end-le cs (get_or cs (q - 1) 0) q in_cs)
+
 -- ---- the widened range, for a body that has read the least number and the ends
 
 -- at the start, with m the least number and c the first
@@ -179,3 +184,6 @@ widened_end_from cs p q m c em ec = (
 )
 
 pub ruleset walks = (length_clusters-append, run_start_more, run_start_here, run_start_none, run_end_more, run_end_here, run_end_none)
+
+-- the same along one list of glyphs
+pub ruleset list_walks = (length-clusters, get_or-clusters, run_start_more, run_start_here, run_start_none)

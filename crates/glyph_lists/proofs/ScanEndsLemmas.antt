@@ -6,10 +6,10 @@ use Rattle.std.proofs.lemmas.List.Sums.{prefix_len-drop_yes, prefix_len-drop_no,
 use Rattle.std.proofs.lemmas.Bool.{eq-eqb, ne_eqb, cond-true, cond-false, cases_Bool}
 use Rattle.rb_glyph.specs.declared.info.hb_glyph_info_t.{hb_glyph_info_t}
 use Rattle.glyph_lists.specs.Parts.{map_range}
-use Rattle.glyph_lists.specs.Clusters.{clusters, least, range_least}
+use Rattle.glyph_lists.specs.Clusters.{clusters, least}
 use Rattle.glyph_lists.specs.Marks.{with_glyph_flags, mark_others, mark_part, ends, ends_least}
-use Rattle.glyph_lists.proofs.PartsLemmas.{map_range_past}
-use Rattle.glyph_lists.proofs.ClustersLemmas.{length-clusters, get_or-clusters, length_clusters-append}
+use Rattle.glyph_lists.proofs.PartsLemmas.{length-map_range, map_range_none, map_range_more, map_range_front, map_range_next, map_range_last, map_range_past}
+use Rattle.glyph_lists.proofs.ClustersLemmas.{length-clusters, get_or-clusters, clusters-append}
 
 -- where the first c stands from place q on
 unfoldable pub first_from : ℕ → List ℕ → ℕ → ℕ
@@ -51,7 +51,9 @@ pub last_is : (c : ℕ) (cs : List ℕ) (q : ℕ) → length cs ≤ q → last_b
 unfolding last_before
 last_is c cs q h = ap (λ xs. q - suffix_len (λ d. not (eqb d c)) xs) (take_all q cs h)
 
-pub ruleset walks = (length-clusters, get_or-clusters, first_more, first_here, first_none, first_is, last_more, last_here, last_none, last_is)
+pub ruleset walks_up = (length-clusters, get_or-clusters, length-map_range, map_range_none, map_range_more, map_range_next, first_more, first_here, first_none, first_is)
+
+pub ruleset walks_down = (length-clusters, get_or-clusters, length-map_range, map_range_none, map_range_front, map_range_last, last_more, last_here, last_none, last_is)
 
 -- ---- one part
 
@@ -125,14 +127,23 @@ pub ruleset ends_of = (least_ends, no_ends, ends_left, ends_right, ends_both)
 
 -- ---- the least of all
 
-pub least_all : (r s : List hb_glyph_info_t) → range_least (clusters (r ++ s)) 0 (length r + length s) ≡ least (clusters (r ++ s))
-unfolding range_least
-least_all r s = let n = length_clusters-append r s in ap least (take_all (length r + length s - 0) (clusters (r ++ s)) (omega arith))
-
-pub least_none : (r s : List hb_glyph_info_t) → length r + length s ≡ 0 → least (clusters (r ++ s)) ≡ 0
+least_append : (cs ds : List ℕ) → 0 < length cs → 0 < length ds → least (cs ++ ds) ≡ min (least cs) (least ds)
 unfolding least
-least_none [] [] h = refl
-least_none [] (g ∷ s) h = absurd (omega arith)
-least_none (g ∷ r) s h = absurd (omega arith)
+least_append [] ds h h2 = absurd (omega arith)
+least_append (c ∷ []) [] h h2 = absurd (omega arith)
+least_append (c ∷ []) (d ∷ ds) h h2 = refl
+least_append (c ∷ b ∷ cs) ds h h2 = omega (arith, least_append (b ∷ cs) ds (omega arith) h2)
 
-pub ruleset leasts = (least_all, least_none)
+pub least_left : (r s : List hb_glyph_info_t) → length r ≡ 0 → least (clusters (r ++ s)) ≡ least (clusters s)
+least_left [] s h = refl
+least_left (g ∷ r) s h = absurd (omega arith)
+
+pub least_right : (r s : List hb_glyph_info_t) → length s ≡ 0 → least (clusters (r ++ s)) ≡ least (clusters r)
+least_right r [] h = ap (λ xs. least (clusters xs)) (append-nil r)
+least_right r (g ∷ s) h = absurd (omega arith)
+
+pub least_both : (r s : List hb_glyph_info_t) → 0 < length r → 0 < length s → least (clusters (r ++ s)) ≡ min (least (clusters r)) (least (clusters s))
+least_both r s h h2 =
+    ap least (clusters-append r s) ∙ least_append (clusters r) (clusters s) (omega (arith, length-clusters r)) (omega (arith, length-clusters s))
+
+pub ruleset leasts = (least_left, least_right, least_both)

@@ -8,7 +8,7 @@ use Rattle.std.specs.Prelude.{slice_index}
 use Rattle.rb_glyph.specs.declared.info.hb_glyph_info_t.{hb_glyph_info_t}
 use Rattle.glyph_lists.specs.Parts.{part, on_part}
 use Rattle.glyph_lists.specs.Clusters.{clusters, least}
-use Rattle.glyph_lists.specs.Marks.{with_glyph_flags, mark, mark_others, mark_part, end_mark, ends, ends_least}
+use Rattle.glyph_lists.specs.Marks.{with_glyph_flags, mark, mark_part, end_mark, ends, ends_least}
 use Rattle.glyph_lists.specs.Scans.{scan_of, scan_least, part_scan, two_part_scan}
 use Rattle.glyph_lists.proofs.PartsLemmas.{length-map_range}
 use Rattle.glyph_lists.proofs.ScanEndsLemmas.{part_nothing}

@@ -1,5 +1,5 @@
 -- Two lists, one after the other, of which the second begins at a cursor of a longer one.
-use Rattle.std.proofs.Common.{◌≡◌, ℕ, ◌+◌, ◌-◌, ◌<◌, ◌≤◌, List, ◌++◌, length, take, drop, min, refl, sym, ap, ◌∙◌, arith, append_assoc, Bool, true, false}
+use Rattle.std.proofs.Common.{◌≡◌, ℕ, ◌+◌, ◌-◌, ◌≤◌, List, ◌++◌, length, take, drop, min, refl, sym, ap, ◌∙◌, arith, append_assoc, Bool, true, false}
 use Rattle.std.proofs.lemmas.List.{take-append-drop, drop-drop}
 use Rattle.std.proofs.lemmas.Bool.{cond-true, cond-false, lt-ltb, le-ltb}
 use Rattle.std.proofs.Math.Seq.{take-append_seam, drop-append_seam, take-append-add, drop-append-add, take-add}
@@ -9,8 +9,11 @@ use Rattle.glyph_lists.specs.Clusters.{run_merge}
 use Rattle.glyph_lists.specs.Marks.{mark}
 use Rattle.glyph_lists.specs.Deletion.{merge_or_mark}
 use Rattle.glyph_lists.specs.declared.glyph_flags.TheConstants.{BREAK_BITS}
-use Rattle.glyph_lists.proofs.MergesLemmas.{run_merge_short}
 use Rattle.glyph_lists.proofs.PartsLemmas.{map_range-append, map_range_none, map_range_past, map_range_cut, sides_high, length-map_range}
+
+-- what is left after one more glyph
+pub next_left : {X : Type 0} (n : ℕ) (xs : List X) → drop (n + 1) xs ≡ drop 1 (drop n xs)
+next_left n xs = sym (drop-drop 1 n xs)
 
 -- a range that ends past the list, or at its end
 pub range_cut : {X : Type 0} (f : X → X) (xs : List X) (a b n : ℕ) → length xs ≡ n → a ≤ b → a ≤ n → map_range f xs a (min b n) ≡ map_range f xs a b
@@ -71,6 +74,12 @@ pub merge_or_mark_marks : (any_order : Bool) (l : List hb_glyph_info_t) (p q flo
 unfolding merge_or_mark
 merge_or_mark_marks true l p q floor e h = cond-false _ _ _ (le-ltb (q - p) 2 (omega arith))
 merge_or_mark_marks false l p q floor e h = cc
+
+pub merge_or_mark_any : (any_order : Bool) (l : List hb_glyph_info_t) (p q floor : ℕ) → any_order ≡ true
+    → merge_or_mark any_order l p q floor ≡ merge_or_mark true l p q 0
+unfolding merge_or_mark
+merge_or_mark_any true l p q floor e = refl
+merge_or_mark_any false l p q floor e = cc
 
 -- ---- a part of both
 

@@ -1,5 +1,5 @@
 -- Clusters: runs of equal numbers, and which glyphs a merge changes.
-use Rattle.std.specs.Prelude.{ℕ, ◌+◌, ◌-◌, ◌*◌, ◌/◌, ◌%◌, ◌<◌, ◌≤◌, ◌==◌, ◌⊎◌, Bool, List, [], ◌∷◌, length, map, drop, min, nat_le, slice_index, slice_index_or, if◌then◌else◌}
+use Rattle.std.specs.Prelude.{◌≢◌, ℕ, ◌+◌, ◌-◌, ◌*◌, ◌/◌, ◌%◌, ◌<◌, ◌≤◌, ◌==◌, ◌⊎◌, Bool, List, [], ◌∷◌, length, map, drop, min, nat_le, slice_index, slice_index_or, if◌then◌else◌}
 use Rattle.std.specs.List.{list_any, prefix_len, suffix_len}
 use Rattle.rb_glyph.specs.declared.glyph_flag.TheConstants.{DEFINED}
 use Rattle.rb_glyph.specs.declared.info.hb_glyph_info_t.{hb_glyph_info_t}
@@ -45,6 +45,10 @@ pub record IsCoarse (l : List hb_glyph_info_t) : Type 0 where
   pub alike : (i j : ℕ) → i < length l → j < length l
       → (slice_index_or l i zero_glyph).var2 ≤ (slice_index_or l j zero_glyph).var2
       → (slice_index_or l i zero_glyph).cluster ≤ (slice_index_or l j zero_glyph).cluster
+
+-- no run goes on from the first list into the second
+abbrev pub NoRunCrosses : List ℕ → List ℕ → Type 0
+NoRunCrosses cs ds = 0 < length cs → 0 < length ds → slice_index cs (length cs - 1) ≢ slice_index ds 0
 
 -- ---- merges
 

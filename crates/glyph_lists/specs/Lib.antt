@@ -11,3 +11,4 @@ pub mod Guess
 pub mod ClusterNumbers
 pub mod Groups
 pub mod DeletingWalk
+pub mod ClusterReads

@@ -10,6 +10,7 @@ use rb_glyph::{glyph_flag, hb_glyph_info_t};
 mod tests;
 
 /// Puts the glyph into a cluster. Where that changes its cluster, its glyph flags become those of `mask`.
+#[inline]
 pub fn set_cluster(info: &mut hb_glyph_info_t, cluster: u32, mask: u32)
     ensures { info.new ≡ with_cluster cluster mask info.old }
 {
@@ -20,6 +21,7 @@ pub fn set_cluster(info: &mut hb_glyph_info_t, cluster: u32, mask: u32)
 }
 
 /// Puts each glyph into a cluster, with the glyph flags of `mask` where that changes its cluster.
+#[inline]
 #[tactic(auto, using(crate::proofs::MapLemmas::walks))]
 fn set_clusters(info: &mut [hb_glyph_info_t], cluster: u32, mask: u32)
     ensures { info.new ≡ map (with_cluster cluster mask) info.old }
@@ -30,6 +32,7 @@ fn set_clusters(info: &mut [hb_glyph_info_t], cluster: u32, mask: u32)
 }
 
 /// Puts the glyphs of a range into a cluster, with the glyph flags of `mask` where that changes theirs.
+#[inline]
 pub fn set_range(info: &mut [hb_glyph_info_t], start: usize, end: usize, cluster: u32, mask: u32)
     requires order { start ≤ end }
     requires within { end ≤ length info.old }
@@ -40,6 +43,7 @@ pub fn set_range(info: &mut [hb_glyph_info_t], start: usize, end: usize, cluster
 
 /// Puts the glyphs from `start` to `end` of the two sides as one list into a cluster: `out`, and `info` from the cursor
 /// on. A glyph that changes its cluster loses its glyph flags.
+#[inline]
 #[tactic(auto, using(crate::proofs::SidesLemmas::sides))]
 pub fn set_sides(
     out: &mut [hb_glyph_info_t],
@@ -66,35 +70,4 @@ pub fn set_sides(
         let to = cursor + (end - len);
         set_range(info, from, to, cluster, 0);
     }
-}
-
-/// The cluster of glyph `i` of the two lists as one.
-pub fn cluster_at(out: &[hb_glyph_info_t], input: &[hb_glyph_info_t], i: usize) -> u32
-    requires { i < length out.now + length input.now }
-    ensures { result ≡ slice_index (clusters (out.now ++ input.now)) i }
-{
-    if i < out.len() {
-        out[i].cluster
-    } else {
-        input[i - out.len()].cluster
-    }
-}
-
-/// The least cluster of a range of the two lists as one.
-#[tactic(auto, using(crate::proofs::MergeRangeLemmas::walks))]
-pub fn least_cluster(
-    out: &[hb_glyph_info_t],
-    input: &[hb_glyph_info_t],
-    start: usize,
-    end: usize,
-) -> u32
-    requires some { start < end }
-    requires within { end ≤ length out.now + length input.now }
-    ensures { result ≡ range_least (clusters (out.now ++ input.now)) start end }
-{
-    let mut least = cluster_at(out, input, start);
-    for i in start + 1..end {
-        least = least.min(cluster_at(out, input, i));
-    }
-    least
 }

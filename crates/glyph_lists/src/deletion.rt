@@ -1,11 +1,12 @@
 //! A glyph that leaves the input, and its cluster, which is kept where it is lower than its neighbour's.
 
-ghost use Rattle.std.specs.Prelude.{not, ◌≡◌, ℕ, ◌+◌, ◌-◌, ◌<◌, ◌≤◌, ◌==◌, ◌&&◌, ◌||◌, ◌++◌, List, length, take, drop, nat_lt, slice_index_or};
-ghost use Rattle.glyph_lists.specs.Clusters.{zero_glyph};
-ghost use Rattle.glyph_lists.specs.Deletion.{begins_with, is_not_empty, last_cluster, has_neighbour_in, lowers_run, merges_next, with_trailing_run, deletion};
+ghost use Rattle.std.specs.Prelude.{not, ◌≡◌, ℕ, ◌+◌, ◌-◌, ◌<◌, ◌≤◌, ◌==◌, ◌&&◌, ◌||◌, ◌++◌, List, length, take, drop};
+ghost use Rattle.std.specs.Prelude.{nat_lt, slice_index_or};
+ghost use Rattle.glyph_lists.specs.Clusters.{clusters, run_start, zero_glyph};
+ghost use Rattle.glyph_lists.specs.Deletion.{begins_with, is_not_empty, last_cluster, has_neighbour_in, lowers_run};
+ghost use Rattle.glyph_lists.specs.Deletion.{merges_next, with_trailing_run, deletion};
 
 use crate::clusters::set_range;
-use crate::merge_range::run_start_before;
 use crate::merging::merge_or_mark;
 use rb_glyph::hb_glyph_info_t;
 
@@ -13,6 +14,7 @@ use rb_glyph::hb_glyph_info_t;
 mod tests;
 
 /// Whether there is a glyph.
+#[inline]
 #[tactic(auto, using(crate::proofs::DeletionCases::neighbours))]
 fn is_not_empty(info: &[hb_glyph_info_t]) -> bool
     ensures { result ≡ is_not_empty info.now }
@@ -21,6 +23,7 @@ fn is_not_empty(info: &[hb_glyph_info_t]) -> bool
 }
 
 /// Whether the first glyph is in the cluster.
+#[inline]
 #[tactic(auto, using(crate::proofs::DeletionCases::neighbours))]
 fn first_is_in(info: &[hb_glyph_info_t], cluster: u32) -> bool
     ensures { result ≡ begins_with cluster info.now }
@@ -29,6 +32,7 @@ fn first_is_in(info: &[hb_glyph_info_t], cluster: u32) -> bool
 }
 
 /// Whether the last glyph is in the cluster.
+#[inline]
 #[tactic(auto, using(crate::proofs::DeletionCases::neighbours))]
 fn last_is_in(info: &[hb_glyph_info_t], cluster: u32) -> bool
     ensures { result ≡ (is_not_empty info.now && (last_cluster info.now == cluster)) }
@@ -37,6 +41,7 @@ fn last_is_in(info: &[hb_glyph_info_t], cluster: u32) -> bool
 }
 
 /// Whether a neighbour on either side has the cluster of the glyph at the cursor.
+#[inline]
 fn has_neighbour_in_cluster(
     out: &[hb_glyph_info_t],
     info: &[hb_glyph_info_t],
@@ -51,6 +56,7 @@ fn has_neighbour_in_cluster(
 }
 
 /// Whether the trailing run of `out` takes the cluster of the glyph at the cursor before that goes.
+#[inline]
 #[tactic(auto, using(crate::proofs::DeletionCases::neighbours), unfolding(crate::specs::Deletion::lowers_run))]
 fn lowers_run(out: &[hb_glyph_info_t], info: &[hb_glyph_info_t], cursor: usize) -> bool
     requires { cursor < length info.now }
@@ -63,6 +69,7 @@ fn lowers_run(out: &[hb_glyph_info_t], info: &[hb_glyph_info_t], cursor: usize) 
 }
 
 /// Whether the glyph at the cursor is merged with the next one before it goes.
+#[inline]
 #[tactic(auto, using(crate::proofs::DeletionCases::neighbours), unfolding(crate::specs::Deletion::merges_next))]
 pub fn merges_next(out: &[hb_glyph_info_t], info: &[hb_glyph_info_t], cursor: usize) -> bool
     requires { cursor < length info.now }
@@ -74,19 +81,35 @@ pub fn merges_next(out: &[hb_glyph_info_t], info: &[hb_glyph_info_t], cursor: us
         && !has_neighbour_in_cluster(out, info, cursor)
 }
 
+/// Where the run of `cluster` begins that ends the list.
+#[inline]
+#[tactic(auto, using(crate::proofs::RunsLemmas::list_walks))]
+fn trailing_run_start(info: &[hb_glyph_info_t], cluster: u32) -> usize
+    ensures is { result ≡ run_start (clusters info.now) cluster 0 (length info.now) }
+    ensures within { result ≤ length info.now }
+{
+    let mut start = info.len();
+    while start > 0 && info[start - 1].cluster == cluster {
+        start -= 1;
+    }
+    start
+}
+
 /// Puts the trailing run into a cluster, with the glyph flags of `mask` where that changes theirs.
+#[inline]
 pub fn set_trailing_run(out: &mut [hb_glyph_info_t], cluster: u32, mask: u32)
     requires { 0 < length out.old }
     ensures { out.new ≡ with_trailing_run cluster mask out.old }
 {
     let len = out.len();
     let last = out[len - 1].cluster;
-    let start = run_start_before(out, &[], last, 0, len);
+    let start = trailing_run_start(out, last);
     set_range(out, start, len, cluster, mask);
 }
 
 /// Keeps the cluster of the glyph at the cursor, which then leaves the input: what stands at the cursor afterwards is
 /// left open.
+#[inline]
 pub fn delete_at_cursor(
     out: &mut [hb_glyph_info_t],
     info: &mut [hb_glyph_info_t],

@@ -2,7 +2,8 @@
 
 ghost use Rattle.std.specs.Prelude.{◌≡◌, ℕ, ◌+◌, ◌++◌, ◌≤◌, ◌<◌, ◌&&◌, Bool, [], length, take, drop};
 ghost use Rattle.rb_glyph.specs.declared.info.hb_glyph_info_t.{hb_glyph_info_t};
-ghost use Rattle.glyph_lists.specs.DeletingWalk.{sides_at, deletion_merges, after_deletion, left_by_walk, kept_beside, walk_merges};
+ghost use Rattle.glyph_lists.specs.DeletingWalk.{sides_at, deletion_merges, after_deletion, left_by_walk, kept_beside};
+ghost use Rattle.glyph_lists.specs.DeletingWalk.{walk_merges};
 
 use crate::deletion::{delete_at_cursor, merges_next};
 use rb_glyph::{GlyphPosition, hb_glyph_info_t};
@@ -47,6 +48,7 @@ pub fn delete_in_place<F: Fn(&hb_glyph_info_t) -> bool>(
 
 /// Deletes the glyph at `at` of a walk that kept the first `kept` glyphs. Returns whether it was merged with the next
 /// one, where merges mark.
+#[inline]
 fn delete_at(info: &mut [hb_glyph_info_t], kept: usize, at: usize, any_order: bool) -> bool
     requires order { kept ≤ at }
     requires within { at < length info.old }
@@ -62,9 +64,11 @@ fn delete_at(info: &mut [hb_glyph_info_t], kept: usize, at: usize, any_order: bo
 }
 
 /// Keeps the item at `at` of a walk that kept the first `kept` items, where there is one.
+#[inline]
 fn keep_at<T: Copy>(items: &mut [T], kept: usize, at: usize)
     requires { kept ≤ at }
-    ensures front { at < length items.old → take (kept + 1) items.new ≡ take kept items.old ++ take 1 (drop at items.old) }
+    ensures front { at < length items.old
+        → take (kept + 1) items.new ≡ take kept items.old ++ take 1 (drop at items.old) }
     ensures rest { drop (at + 1) items.new ≡ drop 1 (drop at items.old) }
     ensures len { length items.new ≡ length items.old }
 {

@@ -4,14 +4,14 @@
 //! clusters it reads every cluster. Else it goes by the clusters at the ends, and stops at the first glyph of the
 //! least of these.
 
-ghost use Rattle.std.specs.Prelude.{◌≡◌, ℕ, ◌+◌, ◌-◌, ◌<◌, ◌≤◌, ◌==◌, ◌++◌, not, List, length, take, drop, map, if◌then◌else◌};
+ghost use Rattle.std.specs.Prelude.{◌≡◌, ℕ, ◌+◌, ◌-◌, ◌<◌, ◌≤◌, ◌==◌, ◌++◌, not, List, length, take, drop, map};
+ghost use Rattle.std.specs.Prelude.{if◌then◌else◌};
 ghost use Rattle.std.specs.List.{prefix_len, suffix_len};
 ghost use Rattle.glyph_lists.specs.Parts.{part, on_part, map_range};
 ghost use Rattle.glyph_lists.specs.Clusters.{clusters, least};
 ghost use Rattle.glyph_lists.specs.Marks.{with_glyph_flags, mark_others, mark_part, ends, ends_least};
 ghost use Rattle.glyph_lists.specs.Scans.{scan_of, part_scan, scan_least, two_part_scan};
 
-use crate::clusters::least_cluster;
 use rb_glyph::{glyph_flag, hb_glyph_info_t};
 
 #[cfg(test)]
@@ -21,6 +21,7 @@ mod tests;
 pub const BREAK_BITS: u32 = glyph_flag::UNSAFE_TO_BREAK | glyph_flag::UNSAFE_TO_CONCAT;
 
 /// Adds the bits to the glyph's mask.
+#[inline]
 #[tactic(auto, unfolding(crate::specs::Marks::with_glyph_flags))]
 fn mark(glyph: &mut hb_glyph_info_t, bits: u32)
     ensures { glyph.new ≡ with_glyph_flags bits glyph.old }
@@ -29,6 +30,7 @@ fn mark(glyph: &mut hb_glyph_info_t, bits: u32)
 }
 
 /// Adds the bits to the glyph's mask, unless it is in the cluster.
+#[inline]
 fn mark_unless_in(glyph: &mut hb_glyph_info_t, bits: u32, cluster: u32)
     ensures { glyph.new ≡ (if glyph.old.cluster == cluster then glyph.old
         else with_glyph_flags bits glyph.old) }
@@ -39,6 +41,7 @@ fn mark_unless_in(glyph: &mut hb_glyph_info_t, bits: u32, cluster: u32)
 }
 
 /// Adds the bits to the mask of each glyph.
+#[inline]
 #[tactic(auto, using(crate::proofs::MapLemmas::walks))]
 fn mark_all(info: &mut [hb_glyph_info_t], bits: u32)
     ensures { info.new ≡ map (with_glyph_flags bits) info.old }
@@ -49,6 +52,7 @@ fn mark_all(info: &mut [hb_glyph_info_t], bits: u32)
 }
 
 /// Adds the bits to the mask of each glyph from `start` to `end`.
+#[inline]
 fn mark_slice(info: &mut [hb_glyph_info_t], start: usize, end: usize, bits: u32)
     requires order { start ≤ end }
     requires within { end ≤ length info.old }
@@ -59,6 +63,7 @@ fn mark_slice(info: &mut [hb_glyph_info_t], start: usize, end: usize, bits: u32)
 
 /// Adds the bits to the mask of each glyph from `start` to `end` of the two sides as one list: `out`, and `info` from
 /// the cursor on.
+#[inline]
 #[tactic(auto, using(crate::proofs::SidesLemmas::sides))]
 pub fn mark_range(
     out: &mut [hb_glyph_info_t],
@@ -88,6 +93,7 @@ pub fn mark_range(
 }
 
 /// Adds the bits to the mask of each glyph that is not in the cluster.
+#[inline]
 #[tactic(auto, using(crate::proofs::MapLemmas::walks))]
 fn mark_others(info: &mut [hb_glyph_info_t], bits: u32, cluster: u32)
     ensures { info.new ≡ mark_others bits cluster info.old }
@@ -97,33 +103,39 @@ fn mark_others(info: &mut [hb_glyph_info_t], bits: u32, cluster: u32)
     }
 }
 
-/// Where the first glyph of the cluster stands, or the length where there is none.
-#[tactic(auto, using(crate::proofs::ScanEndsLemmas::walks))]
-fn first_of(info: &[hb_glyph_info_t], cluster: u32) -> usize
-    ensures is { result ≡ prefix_len (λ c. not (c == cluster)) (clusters info.now) }
-    ensures within { result ≤ length info.now }
+/// Adds the bits to the glyphs before the first one of the cluster, from the start on.
+#[inline]
+#[tactic(auto, using(crate::proofs::ScanEndsLemmas::walks_up))]
+fn mark_before_first(info: &mut [hb_glyph_info_t], bits: u32, cluster: u32)
+    ensures { info.new ≡ map_range (with_glyph_flags bits) info.old
+        0 (prefix_len (λ c. not (c == cluster)) (clusters info.old)) }
 {
-    let mut first = 0;
-    while first < info.len() && info[first].cluster != cluster {
-        first += 1;
+    let len = info.len();
+    let mut end = 0;
+    while end < len && info[end].cluster != cluster {
+        mark(&mut info[end], bits);
+        end += 1;
     }
-    first
 }
 
-/// Where the glyphs begin that stand after the last one of the cluster.
-#[tactic(auto, using(crate::proofs::ScanEndsLemmas::walks))]
-fn after_last_of(info: &[hb_glyph_info_t], cluster: u32) -> usize
-    ensures is { result ≡ length info.now - suffix_len (λ c. not (c == cluster)) (clusters info.now) }
-    ensures within { result ≤ length info.now }
+/// Adds the bits to the glyphs after the last one of the cluster, from the end down.
+#[inline]
+#[tactic(auto, using(crate::proofs::ScanEndsLemmas::walks_down))]
+fn mark_after_last(info: &mut [hb_glyph_info_t], bits: u32, cluster: u32)
+    ensures { info.new ≡ map_range (with_glyph_flags bits) info.old
+        (length info.old - suffix_len (λ c. not (c == cluster)) (clusters info.old))
+        (length info.old) }
 {
     let mut start = info.len();
     while start > 0 && info[start - 1].cluster != cluster {
         start -= 1;
+        mark(&mut info[start], bits);
     }
-    start
 }
 
-/// Scans one part by its ends, `least` being the least cluster of all ends.
+/// Scans one part by its ends, `least` being the least cluster of all ends: from the end that is not of the least
+/// cluster up to the first glyph of it.
+#[inline]
 #[tactic(auto, using(crate::proofs::ScanEndsLemmas::parts))]
 fn mark_part(info: &mut [hb_glyph_info_t], bits: u32, least: u32)
     ensures { info.new ≡ mark_part bits least info.old }
@@ -133,17 +145,16 @@ fn mark_part(info: &mut [hb_glyph_info_t], bits: u32, least: u32)
         return;
     }
     if info[0].cluster == least {
-        let start = after_last_of(info, least);
-        mark_slice(info, start, len, bits);
+        mark_after_last(info, bits, least);
     } else if info[len - 1].cluster == least {
-        let end = first_of(info, least);
-        mark_slice(info, 0, end, bits);
+        mark_before_first(info, bits, least);
     } else {
         mark_others(info, bits, least);
     }
 }
 
 /// The lesser of the first cluster and the last, 0 where there is no glyph.
+#[inline]
 #[tactic(auto, using(crate::proofs::ScanEndsLemmas::ends_of))]
 fn least_end(info: &[hb_glyph_info_t]) -> u32
     ensures { result ≡ least (ends (clusters info.now)) }
@@ -156,6 +167,7 @@ fn least_end(info: &[hb_glyph_info_t]) -> u32
 }
 
 /// The least of the first and last clusters of two parts, 0 where both are empty.
+#[inline]
 #[tactic(auto, using(crate::proofs::ScanEndsLemmas::ends_of))]
 fn least_of_ends(out: &[hb_glyph_info_t], input: &[hb_glyph_info_t]) -> u32
     ensures { result ≡ ends_least out.now input.now }
@@ -169,19 +181,93 @@ fn least_of_ends(out: &[hb_glyph_info_t], input: &[hb_glyph_info_t]) -> u32
     least_end(out).min(least_end(input))
 }
 
-/// The least cluster of two parts, 0 where both are empty.
-#[tactic(auto, using(crate::proofs::ScanEndsLemmas::leasts))]
-fn least_of_all(out: &[hb_glyph_info_t], input: &[hb_glyph_info_t]) -> u32
-    ensures { result ≡ least (clusters (out.now ++ input.now)) }
+/// The least cluster, 0 where there is no glyph.
+#[tactic(auto, using(crate::proofs::MergeRangeLemmas::walks))]
+fn least_of(info: &[hb_glyph_info_t]) -> u32
+    ensures { result ≡ least (clusters info.now) }
 {
-    let len = out.len() + input.len();
-    if len == 0 {
+    if info.is_empty() {
         return 0;
     }
-    least_cluster(out, input, 0, len)
+    let mut least = info[0].cluster;
+    for i in 1..info.len() {
+        least = least.min(info[i].cluster);
+    }
+    least
+}
+
+/// The least cluster of two parts, 0 where both are empty.
+#[tactic(auto, using(crate::proofs::ScanEndsLemmas::leasts))]
+fn least_of_both(out: &[hb_glyph_info_t], input: &[hb_glyph_info_t]) -> u32
+    ensures { result ≡ least (clusters (out.now ++ input.now)) }
+{
+    if out.is_empty() {
+        return least_of(input);
+    }
+    if input.is_empty() {
+        return least_of(out);
+    }
+    least_of(out).min(least_of(input))
+}
+
+/// Scans one list.
+#[inline]
+#[tactic(auto, unfolding(crate::specs::Scans::scan_of, crate::specs::Marks::mark, crate::specs::Marks::end_mark))]
+fn scan_list(info: &mut [hb_glyph_info_t], bits: u32, any_order: bool)
+    ensures { info.new ≡ scan_of any_order bits info.old }
+{
+    if any_order {
+        let least = least_of(info);
+        mark_others(info, bits, least);
+    } else {
+        let least = least_end(info);
+        mark_part(info, bits, least);
+    }
+}
+
+/// Scans the glyphs from `start` to `end` of one list.
+#[inline]
+fn scan_slice(info: &mut [hb_glyph_info_t], start: usize, end: usize, bits: u32, any_order: bool)
+    requires order { start ≤ end }
+    requires within { end ≤ length info.old }
+    ensures { info.new ≡ on_part (scan_of any_order bits) info.old start end }
+{
+    scan_list(&mut info[start..end], bits, any_order);
+}
+
+/// Scans the glyphs from `start` to `end` of the two sides as one list, where `start` is not in `out`: `out`, and
+/// `info` from the cursor on.
+#[inline]
+pub fn scan_range(
+    out: &mut [hb_glyph_info_t],
+    info: &mut [hb_glyph_info_t],
+    cursor: usize,
+    start: usize,
+    end: usize,
+    bits: u32,
+    any_order: bool,
+)
+    requires cursor_within { cursor ≤ length info.old }
+    requires past_out { length out.old ≤ start }
+    requires order { start ≤ end }
+    requires within { end ≤ length out.old + (length info.old - cursor) }
+    ensures out { out.new ≡ take (length out.old)
+        (on_part (scan_of any_order bits) (out.old ++ drop cursor info.old) start end) }
+    ensures info { info.new ≡ take cursor info.old ++ drop (length out.old)
+        (on_part (scan_of any_order bits) (out.old ++ drop cursor info.old) start end) }
+{
+    let len = out.len();
+    scan_slice(
+        info,
+        cursor + (start - len),
+        cursor + (end - len),
+        bits,
+        any_order,
+    );
 }
 
 /// Scans one part, by the least cluster of all parts.
+#[inline]
 fn scan_part(info: &mut [hb_glyph_info_t], bits: u32, least: u32, any_order: bool)
     ensures { info.new ≡ part_scan any_order bits least info.old }
 {
@@ -193,7 +279,8 @@ fn scan_part(info: &mut [hb_glyph_info_t], bits: u32, least: u32, any_order: boo
 }
 
 /// Scans the part from `start` to `end`, by the least cluster of all parts.
-fn scan_slice(
+#[inline]
+fn scan_part_slice(
     info: &mut [hb_glyph_info_t],
     start: usize,
     end: usize,
@@ -209,11 +296,12 @@ fn scan_slice(
 }
 
 /// The least cluster that a scan of two parts goes by.
+#[inline]
 fn least_for_scan(out: &[hb_glyph_info_t], input: &[hb_glyph_info_t], any_order: bool) -> u32
     ensures { result ≡ scan_least any_order out.now input.now }
 {
     if any_order {
-        least_of_all(out, input)
+        least_of_both(out, input)
     } else {
         least_of_ends(out, input)
     }
@@ -246,29 +334,6 @@ pub fn scan_two_parts(
     let from = cursor + start.saturating_sub(len);
     let to = cursor + (end - len);
     let least = least_for_scan(&out[seam..], &info[from..to], any_order);
-    scan_slice(out, seam, len, bits, least, any_order);
-    scan_slice(info, from, to, bits, least, any_order);
-}
-
-/// Scans the glyphs from `start` to `end` of the two sides as one list, where `start` is not in `out`: `out`, and
-/// `info` from the cursor on.
-pub fn scan_range(
-    out: &mut [hb_glyph_info_t],
-    info: &mut [hb_glyph_info_t],
-    cursor: usize,
-    start: usize,
-    end: usize,
-    bits: u32,
-    any_order: bool,
-)
-    requires cursor_within { cursor ≤ length info.old }
-    requires past_out { length out.old ≤ start }
-    requires order { start ≤ end }
-    requires within { end ≤ length out.old + (length info.old - cursor) }
-    ensures out { out.new ≡ take (length out.old)
-        (on_part (scan_of any_order bits) (out.old ++ drop cursor info.old) start end) }
-    ensures info { info.new ≡ take cursor info.old ++ drop (length out.old)
-        (on_part (scan_of any_order bits) (out.old ++ drop cursor info.old) start end) }
-{
-    scan_two_parts(out, info, cursor, start, end, bits, any_order);
+    scan_part_slice(out, seam, len, bits, least, any_order);
+    scan_part_slice(info, from, to, bits, least, any_order);
 }

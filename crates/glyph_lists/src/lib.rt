@@ -5,6 +5,7 @@
 #![tactic(auto)]
 
 pub mod cluster_numbers;
+pub mod cluster_reads;
 pub mod clusters;
 pub mod context;
 pub mod deletion;
@@ -15,5 +16,6 @@ pub mod guess;
 pub mod masks;
 pub mod merge_range;
 pub mod merging;
+pub mod one_slice;
 #[cfg(test)]
 mod test_lists;

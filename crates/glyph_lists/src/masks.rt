@@ -6,6 +6,7 @@ ghost use Rattle.glyph_lists.specs.Masks.{with_mask, reset_masks, in_clusters, w
 use rb_glyph::hb_glyph_info_t;
 
 /// Gives the glyph a mask.
+#[inline]
 #[tactic(auto, unfolding(crate::specs::Masks::with_mask))]
 fn set_mask(glyph: &mut hb_glyph_info_t, mask: u32)
     ensures { glyph.new ≡ with_mask mask glyph.old }
@@ -24,6 +25,7 @@ pub fn reset_masks(info: &mut [hb_glyph_info_t], mask: u32)
 }
 
 /// Whether the range of clusters from `start` up to `end` holds the cluster; 0 to the largest number holds all.
+#[inline]
 fn is_in_clusters(cluster: u32, start: u32, end: u32) -> bool
     ensures { result ≡ in_clusters start end cluster }
 {
@@ -31,6 +33,7 @@ fn is_in_clusters(cluster: u32, start: u32, end: u32) -> bool
 }
 
 /// Gives the bits of `mask` those of `value`.
+#[inline]
 #[tactic(auto, unfolding(crate::specs::Masks::with_bits))]
 fn set_bits(glyph: &mut hb_glyph_info_t, value: u32, mask: u32)
     ensures { glyph.new ≡ with_bits value mask glyph.old }
@@ -39,6 +42,7 @@ fn set_bits(glyph: &mut hb_glyph_info_t, value: u32, mask: u32)
 }
 
 /// Gives the bits of `mask` those of `value`, if the range of clusters holds the glyph's.
+#[inline]
 fn set_bits_in(glyph: &mut hb_glyph_info_t, value: u32, mask: u32, start: u32, end: u32)
     ensures { glyph.new ≡ (if in_clusters start end glyph.old.cluster
         then with_bits value mask glyph.old else glyph.old) }

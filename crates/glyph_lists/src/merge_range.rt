@@ -1,86 +1,107 @@
-//! The range of glyphs that a merge changes.
+//! The range of glyphs that a merge changes, found by reading little more than that range.
 
-ghost use Rattle.std.specs.Prelude.{◌≡◌, ℕ, ◌+◌, ◌-◌, ◌<◌, ◌≤◌, ◌++◌, List, length};
-ghost use Rattle.glyph_lists.specs.Clusters.{clusters, range_least, run_start, run_end, widened_start, widened_end};
+ghost use Rattle.std.specs.Prelude.{◌≡◌, ℕ, ◌+◌, ◌-◌, ◌*◌, ◌^◌, ◌<◌, ◌≤◌, List, length, slice_index};
+ghost use Rattle.glyph_lists.specs.ClusterReads.{both_clusters, SameLists};
+ghost use Rattle.glyph_lists.specs.Clusters.{range_least, run_start, run_end, widened_start, widened_end};
 
-use crate::clusters::{cluster_at, least_cluster};
-use rb_glyph::hb_glyph_info_t;
+use crate::cluster_reads::ClusterReads;
 
 #[cfg(test)]
 mod tests;
 
+/// The least cluster of a range of two glyphs or more, of which the first and the last were read.
+#[inline(always)]
+#[tactic(auto, using(crate::proofs::MergeRangeLemmas::walks))]
+fn least_cluster(reads: &mut ClusterReads, start: usize, end: usize, first: u32, last: u32) -> u32
+    requires some { start + 2 ≤ end }
+    requires within { end ≤ length (both_clusters reads.old) }
+    requires first { first ≡ slice_index (both_clusters reads.old) start }
+    requires last { last ≡ slice_index (both_clusters reads.old) (end - 1) }
+    requires room { reads.old.reads < 2 ^ 99 }
+    ensures is { result ≡ range_least (both_clusters reads.old) start end }
+    ensures same { SameLists reads.old reads.new }
+    ensures cost { reads.new.reads ≡ reads.old.reads + (end - 2 - start) }
+{
+    let mut least = first;
+    for i in start + 1..end - 1 {
+        least = least.min(reads.cluster(i));
+    }
+    least.min(last)
+}
+
 /// Where the run of `cluster` begins that ends before `end`, not below `floor`.
+#[inline(always)]
 #[tactic(auto, using(crate::proofs::RunsLemmas::walks))]
-pub fn run_start_before(
-    out: &[hb_glyph_info_t],
-    input: &[hb_glyph_info_t],
-    cluster: u32,
-    floor: usize,
-    end: usize,
-) -> usize
-    requires { end ≤ length out.now + length input.now }
-    ensures is { result ≡ run_start (clusters (out.now ++ input.now)) cluster floor end }
+fn run_start_before(reads: &mut ClusterReads, cluster: u32, floor: usize, end: usize) -> usize
+    requires within { end ≤ length (both_clusters reads.old) }
+    requires room { reads.old.reads < 2 ^ 100 }
+    ensures is { result ≡ run_start (both_clusters reads.old) cluster floor end }
     ensures below { result ≤ end }
+    ensures same { SameLists reads.old reads.new }
+    ensures cost { reads.new.reads ≤ reads.old.reads + (end - result) + 1 }
 {
     let mut start = end;
-    while start > floor && cluster_at(out, input, start - 1) == cluster {
+    while start > floor && reads.cluster(start - 1) == cluster {
         start -= 1;
     }
     start
 }
 
 /// Where the run of `cluster` ends that begins at `start`.
+#[inline(always)]
 #[tactic(auto, using(crate::proofs::RunsLemmas::walks))]
-fn run_end_after(
-    out: &[hb_glyph_info_t],
-    input: &[hb_glyph_info_t],
-    cluster: u32,
-    start: usize,
-) -> usize
-    requires { start ≤ length out.now + length input.now }
-    ensures is { result ≡ run_end (clusters (out.now ++ input.now)) cluster start }
+fn run_end_after(reads: &mut ClusterReads, cluster: u32, start: usize) -> usize
+    requires within { start ≤ length (both_clusters reads.old) }
+    requires room { reads.old.reads < 2 ^ 101 }
+    ensures is { result ≡ run_end (both_clusters reads.old) cluster start }
     ensures above { start ≤ result }
-    ensures within { result ≤ length out.now + length input.now }
+    ensures range_within { result ≤ length (both_clusters reads.old) }
+    ensures same { SameLists reads.old reads.new }
+    ensures cost { reads.new.reads ≤ reads.old.reads + (result - start) + 1 }
 {
-    let len = out.len() + input.len();
+    let len = reads.len();
     let mut end = start;
-    while end < len && cluster_at(out, input, end) == cluster {
+    while end < len && reads.cluster(end) == cluster {
         end += 1;
     }
     end
 }
 
-/// The least cluster of a range of the two lists as one, and the range widened through the runs at its ends:
-/// its start, not below `floor`, and its end, which is not in it.
+/// The least cluster of the range from `start` to `end` of two lists as one, and the range widened through the runs at
+/// its ends: its start, not below `floor`, and its end, which is not in it. It reads no more than twice as many
+/// clusters as the widened range has, and four.
+#[inline(always)]
 #[tactic(auto, using(crate::proofs::RunsLemmas::widenings))]
 pub fn merge_range(
-    out: &[hb_glyph_info_t],
-    input: &[hb_glyph_info_t],
+    reads: &mut ClusterReads,
     start: usize,
     end: usize,
     floor: usize,
 ) -> (u32, usize, usize)
+    requires fresh { reads.old.reads ≡ 0 }
     requires some { start + 2 ≤ end }
-    requires within { end ≤ length out.now + length input.now }
-    ensures least { result.0 ≡ range_least (clusters (out.now ++ input.now)) start end }
-    ensures from { result.1 ≡ widened_start (clusters (out.now ++ input.now)) start end floor }
-    ensures to { result.2 ≡ widened_end (clusters (out.now ++ input.now)) start end }
+    requires within { end ≤ length reads.old.out + length reads.old.input }
+    ensures least { result.0 ≡ range_least (both_clusters reads.old) start end }
+    ensures from { result.1 ≡ widened_start (both_clusters reads.old) start end floor }
+    ensures to { result.2 ≡ widened_end (both_clusters reads.old) start end }
     ensures below { result.1 ≤ start }
     ensures above { end ≤ result.2 }
-    ensures range_within { result.2 ≤ length out.now + length input.now }
+    ensures range_within { result.2 ≤ length reads.old.out + length reads.old.input }
+    ensures same { SameLists reads.old reads.new }
+    ensures cost { reads.new.reads ≤ 2 * (result.2 - result.1) + 4 }
 {
-    let least = least_cluster(out, input, start, end);
-    let first = cluster_at(out, input, start);
-    let last = cluster_at(out, input, end - 1);
+    let first = reads.cluster(start);
+    let last = reads.cluster(end - 1);
+    let least = least_cluster(reads, start, end, first, last);
     let from = if first == least {
         start
     } else {
-        run_start_before(out, input, first, floor, start)
+        run_start_before(reads, first, floor, start)
     };
     let to = if last == least {
         end
     } else {
-        run_end_after(out, input, last, end)
+        run_end_after(reads, last, end)
     };
     (least, from, to)
 }

@@ -1,5 +1,7 @@
 //! A parser of short texts, such as those of font features.
 ghost use Rattle.std.specs.Prelude.{◌≡◌, ◌==◌, ◌≤◌, ◌↔◌, ℕ, IsTrue, Bool, [], length, drop, option_map, is_some};
+ghost use Rattle.std.specs.Prelude.{IfSome, IfNone, ◌^◌};
+ghost use Rattle.std.specs.Str.Parse.{digits_value};
 ghost use Rattle.std.specs.Char.{is_ascii_whitespace, is_ascii_alphabetic, is_ascii_digit};
 ghost use Rattle.std.specs.List.{take_while, AllPass};
 ghost use Rattle.rb_text.specs.TextParser.{first_if, after_if, skip_while, is_quote, is_word, short_tag};
@@ -175,13 +177,27 @@ fn number(is_negative: bool, digits: &[u8]) -> Option<i32>
     requires { AllPass is_ascii_digit digits.now }
     ensures { result ≡ signed_number is_negative digits.now }
 {
-    match str::from_utf8(digits).unwrap().parse::<u32>() {
-        Ok(size) => {
-            let size = i64::from(size);
-            i32::try_from(if is_negative { -size } else { size }).ok()
-        }
-        Err(_) => None,
+    if digits.is_empty() {
+        return None;
     }
+    let size = i64::from(value_of(digits)?);
+    i32::try_from(if is_negative { -size } else { size }).ok()
+}
+
+/// The number that decimal digits write, where it fits.
+fn value_of(digits: &[u8]) -> Option<u32>
+    requires { AllPass is_ascii_digit digits.now }
+    ensures value { IfSome result (λ n. n ≡ digits_value 10 digits.now) }
+    ensures none { IfNone result (2 ^ 32 ≤ digits_value 10 digits.now) }
+{
+    let mut value: u64 = 0;
+    for digit in digits {
+        value = value * 10 + u64::from(*digit - b'0');
+        if value > u64::from(u32::MAX) {
+            return None;
+        }
+    }
+    Some(value as u32)
 }
 
 #[cfg(test)]

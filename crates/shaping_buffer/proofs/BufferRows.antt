@@ -1,21 +1,21 @@
 -- Worked examples of a buffer: its text, and what flag calls make of it, the scratch flags among it.
 use Rattle.std.proofs.Common.{◌≡◌, ℕ, [], ◌∷◌, refl, pos}
-use Rattle.std.specs.Prelude.{Some, None, false, codes, encode_utf8_all, negsuc, ℤ, List, ◌==◌, if◌then◌else◌}
+use Rattle.std.specs.Prelude.{Some, None, false, codes, encode_utf8_all, List}
 use Rattle.std.specs.Char.{encode_utf8}
 use Rattle.std.specs.Str.{chars}
 use Rattle.std.specs.Fmt.{digits}
 use Rattle.std.specs.List.{sum}
 use Rattle.rb_glyph.specs.declared.flag_sets.SerializeFlags.{SerializeFlags}
-use Rattle.rb_glyph.specs.declared.flag_sets.TheConstants.SerializeFlags.{NO_GLYPH_NAMES, NO_POSITIONS, NO_ADVANCES, GLYPH_FLAGS, GLYPH_EXTENTS, DEFINED}
-use Rattle.rb_glyph.specs.declared.position.GlyphPosition.{GlyphPosition}
+use Rattle.rb_glyph.specs.declared.flag_sets.TheConstants.SerializeFlags.{NO_GLYPH_NAMES, NO_POSITIONS, NO_ADVANCES, GLYPH_EXTENTS, DEFINED}
 use Rattle.rb_glyph.specs.declared.info.hb_glyph_info_t.{hb_glyph_info_t}
 use Rattle.glyph_lists.specs.Clusters.{zero_glyph, least}
 use Rattle.glyph_lists.specs.Marks.{with_glyph_flags, mark_part, end_mark, ends}
 use Rattle.glyph_lists.specs.Scans.{scan_of}
 use Rattle.shaping_buffer.specs.State.{State, empty_state}
 use Rattle.shaping_buffer.specs.Pushed.{pushed}
-use Rattle.shaping_buffer.specs.Positions.{zero_position, with_zero_positions}
-use Rattle.shaping_buffer.specs.Text.{Font, glyphs_text, text_of}
+use Rattle.shaping_buffer.specs.Positions.{with_zero_positions}
+use Rattle.glyph_text.specs.Text.{nothing_known}
+use Rattle.shaping_buffer.specs.Text.{text_of}
 use Rattle.shaping_buffer.specs.ClusterStep.{unsafe_to_concat, unsafe_to_break}
 
 -- a glyph of this cluster with this mask
@@ -31,17 +31,6 @@ three = record (empty_state 9 (pos 0)) { input = glyph 0 0 ∷ glyph 1 0 ∷ gly
 -- these flags together
 abbrev flags_of : List ℕ → SerializeFlags
 flags_of bits = record { 0 = sum bits }
-
--- a font of which nothing is known
-abbrev nothing_known : Font
-nothing_known = record { name = λ _. None; extents = λ _. None }
-
--- a font that knows the name and the extents of glyph 5
-abbrev five_known : Font
-five_known = record {
-  name = λ id. if id == 5 then Some (codes "five") else None;
-  extents = λ id. if id == 5 then Some (record { x_bearing = pos 1; y_bearing = negsuc 1; width = pos 3; height = negsuc 3 }) else None;
-}
 
 -- the text of a character pushed into a new buffer
 abbrev text_of_a : List ℕ → List ℕ
@@ -76,24 +65,6 @@ all_flags = refl
 text_is_too_long : pushed (codes "ab") (empty_state 1 (pos 0)) ≡ record { done = false; state = record (empty_state 1 (pos 0)) { successful = false } }
 unfolding chars encode_utf8
 text_is_too_long = refl
-
-names_flags_and_extents :
-    glyphs_text five_known (flags_of (GLYPH_FLAGS.0 ∷ GLYPH_EXTENTS.0 ∷ []))
-    ((record zero_glyph { glyph_id = 5; mask = 3 }, record zero_position { x_advance = pos 10; y_advance = negsuc 0; x_offset = pos 2 })
-    ∷ (record zero_glyph { glyph_id = 6 }, zero_position) ∷ [])
-    ≡ codes "five=0@2,0+10,-1#3<1,-2,3,-4>|gid6=0+0<0,0,0,0>"
-unfolding digits
-names_flags_and_extents = refl
-
--- a glyph with the largest advance
-abbrev wide : ℕ → ℕ → ℤ → hb_glyph_info_t × GlyphPosition
-wide id cluster x = (record zero_glyph { glyph_id = id; cluster = cluster }, record zero_position { x_advance = pos 2147483647; x_offset = x })
-
-advances_are_summed_as_whole_numbers :
-    glyphs_text nothing_known (flags_of (NO_GLYPH_NAMES.0 ∷ NO_ADVANCES.0 ∷ [])) (wide 1 0 (pos 0) ∷ wide 2 1 (pos 0) ∷ wide 3 2 (pos 1) ∷ [])
-    ≡ codes "1=0|2=1@2147483647,0|3=2@4294967295,0"
-unfolding digits
-advances_are_summed_as_whole_numbers = refl
 
 -- ---- flags
 

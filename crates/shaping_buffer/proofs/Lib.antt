@@ -1,11 +1,12 @@
 pub mod Views
 pub mod MoveLemmas
+pub mod FrontLemmas
+pub mod Relends
 pub mod ReplacementLemmas
+pub mod CopyLemmas
 pub mod PushedLemmas
-pub mod TextLemmas
 pub mod CharactersLemmas
 pub mod GroupStepLemmas
 pub mod WalkLemmas
 pub mod BufferRows
-pub mod ReadingLemmas
-pub mod GlyphReadingLemmas
+pub mod GroupRows

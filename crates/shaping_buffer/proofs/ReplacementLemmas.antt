@@ -1,6 +1,7 @@
 -- A replacement, in the words of the two sides.
 use Rattle.std.proofs.Common.{◌≡◌, inl, inr, ℕ, ◌+◌, ◌-◌, ◌<◌, ◌≤◌, ◌&&◌, not, Bool, true, false, List, [], ◌∷◌, ◌++◌, length, take, drop, map, cond, refl, sym, ap, ◌∙◌, arith, length-append, get_or, add-one, leb, ltb}
 use Rattle.std.proofs.lemmas.Bool.{cond_both, cond-true, cond-false, cases_lt, false≢true, le-leb, lt-leb}
+use Rattle.std.proofs.lemmas.Grind.{common_steps}
 use Rattle.std.proofs.lemmas.List.{length-map, length-take-le, take_more, map-append, get_or-drop, drop-drop}
 use Rattle.std.specs.Prelude.{slice_index_or}
 use Rattle.rb_glyph.specs.declared.info.hb_glyph_info_t.{hb_glyph_info_t}
@@ -13,7 +14,7 @@ use Rattle.glyph_lists.specs.Replacement.{copies, replacement}
 use Rattle.glyph_lists.proofs.MergesLemmas.{length-run_merge}
 use Rattle.shaping_buffer.specs.State.{State}
 use Rattle.shaping_buffer.specs.ClusterStep.{both, any_order, flagged_if}
-use Rattle.shaping_buffer.specs.Step.{Outcome, limited, replace_glyphs, with_id}
+use Rattle.shaping_buffer.specs.Step.{Outcome, MayWant, limited, settled, replace_front, replace_glyphs, with_id}
 
 pub copied : (g : hb_glyph_info_t) (ids : List ℕ) (i d : ℕ) → i < length ids → copies g (take (i + 1) ids) ≡ copies g (take i ids) ++ with_id (get_or ids i d) g ∷ []
 copied g ids i d h = ap (copies g) (take_more ids i d h) ∙ map-append (λ id. with_id id g) (take i ids) (get_or ids i d ∷ [])
@@ -22,29 +23,22 @@ pub length_copies : (g : hb_glyph_info_t) (ids : List ℕ) → length (copies g 
 length_copies g ids = length-map ids (λ id. with_id id g)
 
 -- both sides, the first n glyphs of the input merged
-abbrev pub front_merged : ℕ → State → List hb_glyph_info_t
-front_merged n s = merge_or_mark (any_order s) (both s) (length s.out) (length s.out + n) 0
+abbrev pub front_merged : Bool → ℕ → State → List hb_glyph_info_t
+front_merged level n s = merge_or_mark level (both s) (length s.out) (length s.out + n) 0
 
 abbrev pub front_replaced : ℕ → List ℕ → State → State
-front_replaced n ids s =
-    let l = front_merged n s in
-    record s {
-      out = take (length s.out) l ++ copies (slice_index_or (drop (length s.out) l) 0 zero_glyph) ids;
-      input = drop n (drop (length s.out) l);
-      idx = s.idx + n;
-      scratch_flags = flagged_if (any_order s && not (ltb n 2)) s;
-    }
+front_replaced n ids s = record (replace_front (any_order s) n ids s) { scratch_flags = flagged_if (any_order s && not (ltb n 2)) s }
 
 pub replaced_sides : (n : ℕ) (ids : List ℕ) (s : State) → s.have_output ≡ true → replace_glyphs n ids s ≡ limited (length s.out + length ids) s (front_replaced n ids s)
 replaced_sides n ids s opened =
     let start : length s.out + (s.idx - s.idx) ≡ length s.out = omega arith in
     let end : length s.out + (s.idx + n - s.idx) ≡ length s.out + n = omega arith in
     let count : s.idx + n - s.idx ≡ n = omega arith in
-    let head = slice_index_or (drop (length s.out) (front_merged n s)) 0 zero_glyph in
+    let head = slice_index_or (drop (length s.out) (front_merged (any_order s) n s)) 0 zero_glyph in
     rw (opened, start, end, count, length-append s.out, length_copies head ids)
 
 -- it is done where the copies fit
-pub replaced_done : (n : ℕ) (ids : List ℕ) (s : State) → s.have_output ≡ true → length s.out + length ids ≤ s.max_len → replace_glyphs n ids s ≡ record { done = true; state = front_replaced n ids s }
+pub replaced_done : (n : ℕ) (ids : List ℕ) (s : State) → s.have_output ≡ true → length s.out + length ids ≤ s.max_len → replace_glyphs n ids s ≡ record { done = true; state = settled (front_replaced n ids s) }
 replaced_done n ids s opened fits = replaced_sides n ids s opened ∙ cond-true (leb (length s.out + length ids) s.max_len) _ _ (le-leb (length s.out + length ids) s.max_len fits)
 
 pub replaced_refused : (n : ℕ) (ids : List ℕ) (s : State) → s.have_output ≡ true → s.max_len < length s.out + length ids → replace_glyphs n ids s ≡ record { done = false; state = record s { successful = false } }
@@ -59,20 +53,41 @@ front_stays true l p q h =
 front_stays false l p q h = omega (arith, length-run_merge l p q 0)
 
 -- the out side becomes longer by the copies
-pub length_replaced : (n : ℕ) (ids : List ℕ) (s : State) → length (front_replaced n ids s).out ≡ length s.out + length ids
-length_replaced n ids s =
-    let l = front_merged n s in
+pub length_replaced : (level : Bool) (n : ℕ) (ids : List ℕ) (s : State) → length (replace_front level n ids s).out ≡ length s.out + length ids
+length_replaced level n ids s =
+    let l = front_merged level n s in
     let head = slice_index_or (drop (length s.out) l) 0 zero_glyph in
     let whole = length-append s.out s.input in
-    let stays = front_stays (any_order s) (both s) (length s.out) (length s.out + n) (omega arith) in
+    let stays = front_stays level (both s) (length s.out) (length s.out + n) (omega arith) in
     omega (arith, length-append (take (length s.out) l) (copies head ids), length_copies head ids, length-take-le (length s.out) l stays)
+
+-- where more is put out than was read, it leaves the storage of the input, and may want memory
+pub replaced_away : (level : Bool) (n : ℕ) (ids : List ℕ) (s : State) → s.idx + n < length s.out + length ids
+    → settled (replace_front level n ids s) ≡ record (replace_front level n ids s) { have_separate_output = true }
+replaced_away level n ids s h = let e = length_replaced level n ids s in grind (arith, common_steps, e)
+
+pub away_wants : (level : Bool) (n : ℕ) (ids : List ℕ) (s : State) → s.have_output ≡ true → length s.out ≤ s.idx → n ≤ length s.input → s.idx + n < length s.out + length ids
+    → MayWant s (settled (replace_front level n ids s))
+away_wants level n ids s opened near within h = let e = length_replaced level n ids s in grind (arith, common_steps, e, opened)
+
+pub replaced_apart : (level : Bool) (n : ℕ) (ids : List ℕ) (s : State) → s.have_separate_output ≡ true
+    → settled (replace_front level n ids s) ≡ replace_front level n ids s
+replaced_apart level n ids s h = grind (arith, common_steps)
+
+pub apart_wants : (level : Bool) (n : ℕ) (ids : List ℕ) (s : State) → s.have_output ≡ true → s.have_separate_output ≡ true → 0 < length ids
+    → MayWant s (settled (replace_front level n ids s))
+apart_wants level n ids s opened apart h = let e = length_replaced level n ids s in grind (arith, common_steps, e, opened)
+
+pub replaced_in_place : (level : Bool) (n : ℕ) (ids : List ℕ) (s : State) → s.have_separate_output ≡ false → length s.out + length ids ≤ s.idx + n
+    → settled (replace_front level n ids s) ≡ replace_front level n ids s
+replaced_in_place level n ids s near h = let e = length_replaced level n ids s in grind (arith, common_steps, e)
 
 -- of both sides as one list it is a replacement
 pub replaced_both : (n : ℕ) (ids : List ℕ) (s : State) → both (front_replaced n ids s) ≡ replacement (any_order s) (both s) (length s.out) (length s.out + n) ids
 unfolding replacement
 replaced_both n ids s =
     let p = length s.out in
-    let l = front_merged n s in
+    let l = front_merged (any_order s) n s in
     let start : p + 0 ≡ p = omega arith in
     ap (λ g. (take p l ++ copies g ids) ++ drop n (drop p l)) (get_or-drop p l 0 zero_glyph ∙ ap (λ k. get_or l k zero_glyph) start)
     ∙ ap (λ r. (take p l ++ copies (get_or l p zero_glyph) ids) ++ r) (drop-drop n p l)

@@ -9,6 +9,10 @@ pub left_after : {X : Type 0} (is : Bool) (n : ℕ) (xs : List X) → (if is the
 left_after true n xs = sym (drop-drop 1 n xs)
 left_after false n xs = refl
 
+-- what is left after one more glyph
+pub next_left : {X : Type 0} (n : ℕ) (xs : List X) → drop (n + 1) xs ≡ drop 1 (drop n xs)
+next_left n xs = sym (drop-drop 1 n xs)
+
 -- a write after the cursor, seen from the vector and from what is left
 pub set_left : {X : Type 0} (is : Bool) (n k : ℕ) (xs : List X) (x : X) → (if is then drop n (set xs (n + k) x) else set xs (n + k) x) ≡ set (if is then drop n xs else xs) (if is then k else n + k) x
 set_left true n k xs x = drop-set-add n xs k x

@@ -6,7 +6,7 @@ use Rattle.glyph_lists.specs.Deletion.{Sides}
 use Rattle.glyph_lists.specs.DeletingWalk.{after_next, after_deletion, after_turn, after_walk}
 use Rattle.glyph_lists.proofs.LengthsLemmas.{length-deletion}
 use Rattle.shaping_buffer.specs.State.{State}
-use Rattle.shaping_buffer.specs.Step.{Outcome, next_glyph, sync}
+use Rattle.shaping_buffer.specs.Step.{Outcome, settled, next_glyph, sync}
 use Rattle.shaping_buffer.specs.ClusterStep.{any_order, head_of, delete_glyph}
 use Rattle.shaping_buffer.specs.GroupStep.{call_of_walk, walk_by_calls}
 
@@ -19,14 +19,14 @@ sides_of s = record { out = s.out; rest = s.input }
 
 -- the state after a done `next_glyph`
 abbrev moved : State → State
-moved s = record s { out = s.out ++ take 1 s.input; input = drop 1 s.input; idx = s.idx + 1 }
+moved s = settled (record s { out = s.out ++ take 1 s.input; input = drop 1 s.input; idx = s.idx + 1 })
 
 next_is_done : (s : State) → IsUnderWay s → (next_glyph s).state ≡ moved s
 next_is_done s h =
     let fits : length (s.out ++ take 1 s.input) ≤ s.max_len = simp (length-append, length-take) (omega (arith, h.2)) in
     ap (λ (o : Outcome). o.state) (cond-true s.have_output _ _ h.0)
     ∙ ap (λ (o : Outcome). o.state) (cond-true (leb (length (s.out ++ take 1 s.input)) s.max_len) _ _ (le-leb _ _ fits))
-    ∙ ap (λ xs. record s { out = s.out ++ take 1 s.input; input = xs; idx = s.idx + 1 }) (cond-true s.have_output (drop 1 s.input) s.input h.0)
+    ∙ ap (λ xs. settled (record s { out = s.out ++ take 1 s.input; input = xs; idx = s.idx + 1 })) (cond-true s.have_output (drop 1 s.input) s.input h.0)
 
 module _ (test : hb_glyph_info_t → Bool) (level_is : Bool) where
   -- a walk by calls that has begun leads where the walk over both sides leads, and nothing is refused
@@ -58,6 +58,6 @@ module _ (test : hb_glyph_info_t → Bool) (level_is : Bool) where
 pub sync_is_done : (s : State) → IsUnderWay s → ((sync s).done ≡ true) × ((sync s).state.input ≡ s.out ++ s.input)
 sync_is_done s h =
     let fits : length (s.out ++ s.input) ≤ s.max_len = simp length-append h.2 in
-    let is : sync s ≡ record { done = true; state = record s { have_output = false; out = []; input = s.out ++ s.input; idx = 0 } } =
+    let is : sync s ≡ record { done = true; state = record s { have_output = false; have_separate_output = false; out = []; input = s.out ++ s.input; idx = 0 } } =
     cond-true s.successful _ _ h.1 ∙ cond-true (leb (length (s.out ++ s.input)) s.max_len) _ _ (le-leb _ _ fits) in
     (ap (λ (o : Outcome). o.done) is, ap (λ (o : Outcome). o.state.input) is)

@@ -55,11 +55,15 @@ flagged s = record s { scratch_flags = bit_or s.scratch_flags HB_BUFFER_SCRATCH_
 
 -- ---- merges
 
--- `merge_clusters`: the run merge, or in any order of clusters the mark of the range, unless it is short
+-- the run merge of a range of both sides, or in any order of clusters its mark
+abbrev pub merge_sides : Bool → ℕ → ℕ → State → State
+merge_sides any_order from to s = with_both (merge_or_mark any_order (both s) from to (floor_of s)) s
+
+-- `merge_clusters`: the merge of a range of the input, which may mark, unless it is short
 abbrev pub merge_clusters : ℕ → ℕ → State → State
 merge_clusters start end s =
-    let l = merge_or_mark (any_order s) (both s) (both_place s start) (both_place s end) (floor_of s) in
-    record (with_both l s) { scratch_flags = flagged_if (any_order s && not (is_short start end)) s }
+    record (merge_sides (any_order s) (both_place s start) (both_place s end) s)
+    { scratch_flags = flagged_if (any_order s && not (is_short start end)) s }
 
 -- `merge_out_clusters`: the run merge of a range of the out side, which may go on into the input, or in any order
 -- nothing
@@ -72,12 +76,17 @@ merge_out_clusters start end s = with_both (if any_order s then both s else run_
 abbrev pub head_of : State → hb_glyph_info_t
 head_of s = slice_index_or s.input 0 zero_glyph
 
--- `delete_glyph`: the head goes by the rule of deletion, and the cursor goes on; a merge may mark
+-- the head goes by the rule of deletion, and the cursor goes on
+abbrev pub delete_head : Bool → State → State
+delete_head any_order s =
+    let d = deletion any_order s.out (head_of s) (drop 1 s.input) in
+    record s { out = d.out; input = d.rest; idx = s.idx + 1 }
+
+-- `delete_glyph`: so goes the head; a merge may mark
 abbrev pub delete_glyph : State → State
 delete_glyph s =
-    let d = deletion (any_order s) s.out (head_of s) (drop 1 s.input) in
     let marks = any_order s && merges_next s.out (head_of s) (drop 1 s.input) in
-    record s { out = d.out; input = d.rest; idx = s.idx + 1; scratch_flags = flagged_if marks s }
+    record (delete_head (any_order s) s) { scratch_flags = flagged_if marks s }
 
 -- ---- glyph flags
 

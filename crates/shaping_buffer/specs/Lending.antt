@@ -1,7 +1,6 @@
 -- References that a buffer hands out: what stands in it once they are given back.
 use Rattle.std.specs.Prelude.{ℕ, ◌-◌, List, length, slice_set}
 use Rattle.std.specs.Option.{option_map}
-use Rattle.std.specs.List.{refill}
 use Rattle.std.specs.Borrow.{Lends, MutBor, Fml, Array}
 use Rattle.rb_glyph.specs.declared.info.hb_glyph_info_t.{hb_glyph_info_t}
 use Rattle.rb_glyph.specs.declared.position.GlyphPosition.{GlyphPosition}
@@ -9,10 +8,7 @@ use Rattle.rb_glyph.specs.contracts.info.hb_glyph_info_t as glyph
 use Rattle.rb_glyph.specs.contracts.position.GlyphPosition as position
 use Rattle.shaping_buffer.specs.contracts.buffer.hb_buffer_t.{the_row}
 use Rattle.shaping_buffer.specs.State.{State, place_of}
-
--- the second list in place of the first, cut to the length of the first, and filled up from it
-abbrev pub refilled : {X : Type 0} → List X → List X → List X
-refilled xs ws = refill (length xs) xs ws
+use Rattle.shaping_buffer.specs.LendingLists.{refilled}
 
 -- another glyph k places after the cursor
 abbrev pub with_cur : State → ℕ → hb_glyph_info_t → State

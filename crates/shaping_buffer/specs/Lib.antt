@@ -5,8 +5,7 @@ pub mod Step
 pub mod Positions
 pub mod Pushed
 pub mod Text
-pub mod Point
-pub mod TextReading
+pub mod LendingLists
 pub mod Lending
 pub mod Properties
 pub mod ClusterLevel

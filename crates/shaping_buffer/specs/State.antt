@@ -12,6 +12,8 @@ use Rattle.glyph_lists.specs.Guess.{AreCharacters}
 -- With no output open `out` is empty, and `input` is the whole list, with the cursor in it.
 pub record State : Type 0 where
   pub have_output : Bool
+  -- whether what was put out has left the storage of the input
+  pub have_separate_output : Bool
   pub out : List hb_glyph_info_t
   pub input : List hb_glyph_info_t
   pub idx : ℕ
@@ -57,6 +59,7 @@ no_flags = record { 0 = 0 }
 abbrev pub empty_state : ℕ → ℤ → State
 empty_state max_len max_ops = record {
   have_output = false;
+  have_separate_output = false;
   out = [];
   input = [];
   idx = 0;

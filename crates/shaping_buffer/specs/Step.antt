@@ -1,10 +1,12 @@
 -- A cursor call's step: what it makes of the two lists, and when it is refused for length.
-use Rattle.std.specs.Prelude.{◌≡◌, ℕ, ◌+◌, ◌-◌, ◌<◌, ◌==◌, ◌⊎◌, Bool, true, false, List, [], ◌∷◌, ◌++◌, length, take, drop, map, None, Result, Ok, Err, nat_le, if◌then◌else◌}
+use Rattle.std.specs.Prelude.{◌≡◌, ℕ, ◌+◌, ◌-◌, ◌<◌, ◌==◌, ◌||◌, ◌⊎◌, Bool, true, false, List, [], ◌∷◌, ◌++◌, length, take, drop, map, None, Result, Ok, Err, nat_le, nat_lt, slice_index_or, if◌then◌else◌}
 use Rattle.std.specs.declared.alloc.AllocError.{AllocError}
 use Rattle.rb_glyph.specs.declared.info.hb_glyph_info_t.{hb_glyph_info_t}
+use Rattle.glyph_lists.specs.Clusters.{zero_glyph}
+use Rattle.glyph_lists.specs.Deletion.{merge_or_mark}
 use Rattle.glyph_lists.specs.Replacement.{copies}
 use Rattle.shaping_buffer.specs.State.{State, len}
-use Rattle.shaping_buffer.specs.ClusterStep.{merge_clusters, head_of}
+use Rattle.shaping_buffer.specs.ClusterStep.{both, merge_clusters, head_of}
 
 -- ---- the answer of a call
 
@@ -13,11 +15,15 @@ pub record Outcome : Type 0 where
   pub done : Bool
   pub state : State
 
+-- what was put out leaves the storage of the input where it has more glyphs than were read, and then stays away
+abbrev pub settled : State → State
+settled s = record s { have_separate_output = s.have_separate_output || nat_lt s.idx (length s.out) }
+
 -- The length rule: a call that holds so many glyphs in the end is refused exactly where they are more than max_len. Then
 -- it only clears successful.
 abbrev pub limited : ℕ → State → State → Outcome
 limited held before after =
-    if nat_le held before.max_len then record { done = true; state = after }
+    if nat_le held before.max_len then record { done = true; state = settled after }
     else record { done = false; state = record before { successful = false } }
 
 -- a call that holds nothing is never refused
@@ -38,9 +44,14 @@ abbrev pub MeetsOrWants : Type 0 → Outcome → State → Result Bool AllocErro
 MeetsOrWants may_want outcome old (Ok done) new = (done ≡ outcome.done) × (new ≡ outcome.state)
 MeetsOrWants may_want outcome old (Err e) new = may_want × (outcome.done ≡ true) × (new ≡ old)
 
--- of a cursor call: it may want memory where an output is open and a side becomes longer
+-- a cursor call may want memory where an output is open, which is separate before the call or after it, and a side becomes longer
+abbrev pub MayWant : State → State → Type 0
+MayWant before after =
+    (before.have_output ≡ true) × (before.have_separate_output || after.have_separate_output ≡ true) × Grows before after
+
+-- of a cursor call
 abbrev pub Meets : Outcome → State → Result Bool AllocError → State → Type 0
-Meets outcome old result new = MeetsOrWants ((old.have_output ≡ true) × Grows old outcome.state) outcome old result new
+Meets outcome old result new = MeetsOrWants (MayWant old outcome.state) outcome old result new
 
 -- of a call that grows the list: it may want memory where the list becomes longer
 abbrev pub GrowthMeets : Outcome → State → Result Bool AllocError → State → Type 0
@@ -60,9 +71,9 @@ with_id id g = record g { glyph_id = id }
 abbrev pub put_out : List hb_glyph_info_t → State → State → Outcome
 put_out xs s after = limited (length (s.out ++ xs)) s (record after { out = after.out ++ xs })
 
--- `clear_output`: an output is open with nothing in it, the cursor is at the start, and positions are off
+-- `clear_output`: an output is open with nothing in it, in the storage of the input, the cursor is at the start, and positions are off
 abbrev pub clear_output : State → State
-clear_output s = record s { have_output = true; out = []; idx = 0; positions = None }
+clear_output s = record s { have_output = true; have_separate_output = false; out = []; idx = 0; positions = None }
 
 -- n glyphs at the cursor are dropped; with no output only the cursor moves
 abbrev pub skip_glyphs : ℕ → State → State
@@ -90,6 +101,16 @@ abbrev pub replace_glyphs : ℕ → List ℕ → State → Outcome
 replace_glyphs n ids s =
     let m = merge_clusters s.idx (s.idx + n) s in
     put_out (copies (head_of m) ids) s (skip_glyphs n m)
+
+-- the first n glyphs of the input are merged, or marked, and copies of the head as it then stands put out in their stead
+abbrev pub replace_front : Bool → ℕ → List ℕ → State → State
+replace_front any_order n ids s =
+    let l = merge_or_mark any_order (both s) (length s.out) (length s.out + n) 0 in
+    record s {
+      out = take (length s.out) l ++ copies (slice_index_or (drop (length s.out) l) 0 zero_glyph) ids;
+      input = drop n (drop (length s.out) l);
+      idx = s.idx + n;
+    }
 
 -- the glyph that a new one is a copy of: the head of the input, or the last that was put out where nothing is left
 abbrev pub glyph_to_copy : State → List hb_glyph_info_t
@@ -135,9 +156,19 @@ move_to i s =
 abbrev pub sync : State → Outcome
 sync s =
     let l = s.out ++ s.input in
-    if s.successful then limited (length l) s (record s { have_output = false; out = []; input = l; idx = 0 })
+    let after = record s { have_output = false; have_separate_output = false; out = []; input = l; idx = 0 } in
+    if s.successful then limited (length l) s after
     else refused s
 
 -- `ensure`: room alone is made
 abbrev pub ensure : ℕ → State → Outcome
 ensure n s = limited n s s
+
+-- ---- the storage
+
+-- Both sides in one list: with no output open it is the input; else what was put out stands at its start, and what is left
+-- to read from the cursor on. What stands between is left open.
+pub record IsStorage (s : State) (l : List hb_glyph_info_t) : Type 0 where
+  pub len : length l ≡ len s
+  pub out : take (length s.out) l ≡ s.out
+  pub input : (if s.have_output then drop s.idx l else l) ≡ s.input

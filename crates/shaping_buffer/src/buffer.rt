@@ -3,6 +3,7 @@
 ghost use Rattle.std.specs.Prelude.{◌≡◌, ◌<◌, ◌≤◌, ◌==◌, ◌↔◌, [], true, false, if◌then◌else◌};
 ghost use Rattle.std.specs.Prelude.{None, IsSome, IsTrue, length, pos};
 ghost use Rattle.shaping_buffer.specs.State.{len, lookahead_len, empty_state, cleared};
+ghost use Rattle.shaping_buffer.specs.Step.{IsStorage};
 ghost use Rattle.shaping_buffer.specs.ClusterStep as cluster_step;
 
 use crate::cluster_level::{
@@ -62,10 +63,19 @@ pub struct hb_buffer_t {
     pub scratch_flags: hb_buffer_scratch_flags_t,
     /// How many more operations a shaper may make.
     pub max_ops: i32,
-    /// The whole input; what lies before the cursor was read.
+    /// The input from place `front` on; what lies before the cursor was read. While the output is in place, its first
+    /// glyphs are those that were put out.
     info: Vec<hb_glyph_info_t>,
+    /// What was put out, once it has left the storage of the input.
     out_info: Vec<hb_glyph_info_t>,
+    /// How many glyphs were put out in place.
+    placed: usize,
+    have_separate_output: bool,
+    /// How many places in front of the input stand free, for glyphs that are taken back past its start. There are none
+    /// while the output is in place.
+    front: usize,
     pos: Vec<GlyphPosition>,
+    /// The place of the cursor in `info`.
     cursor: usize,
     have_output: bool,
     have_positions: bool,
@@ -76,7 +86,7 @@ pub struct hb_buffer_t {
 }
 
 impl Model for hb_buffer_t {
-    ghost use Rattle.std.specs.Prelude.{if◌then◌else◌, drop, Some, None};
+    ghost use Rattle.std.specs.Prelude.{if◌then◌else◌, ◌-◌, take, drop, Some, None};
     ghost use Rattle.shaping_buffer.specs.State.{State};
 
     ghost Value = { State };
@@ -85,9 +95,10 @@ impl Model for hb_buffer_t {
 
     ghost view = { λ b. record {
       have_output = b.have_output;
-      out = b.out_info.items;
+      have_separate_output = b.have_separate_output;
+      out = if b.have_separate_output then b.out_info.items else take b.placed b.info.items;
       input = if b.have_output then drop b.cursor b.info.items else b.info.items;
-      idx = b.cursor;
+      idx = b.cursor - b.front;
       successful = b.successful;
       max_len = b.max_len;
       positions = if b.have_positions then Some b.pos.items else None;
@@ -136,6 +147,9 @@ impl hb_buffer_t {
             max_ops: Self::MAX_OPS_DEFAULT,
             info: Vec::new(alloc),
             out_info: Vec::new(alloc),
+            placed: 0,
+            have_separate_output: false,
+            front: 0,
             pos: Vec::new(alloc),
             cursor: 0,
             have_output: false,
@@ -153,7 +167,7 @@ impl hb_buffer_t {
         ensures within { len self.now ≤ self.now.max_len }
         ensures cursor { self.now.idx ≤ len self.now }
     {
-        self.info.len()
+        self.info.len() - self.front
     }
 
     /// How many glyphs were put out: none while no output is open.
@@ -162,14 +176,18 @@ impl hb_buffer_t {
         ensures within { length self.now.out ≤ self.now.max_len }
         ensures closed { self.now.have_output ≡ false → self.now.out ≡ [] }
     {
-        self.out_info.len()
+        if self.have_separate_output {
+            self.out_info.len()
+        } else {
+            self.placed
+        }
     }
 
     /// The cursor: how many glyphs of the input were read.
     pub fn idx(&self) -> usize
         ensures { result ≡ self.now.idx }
     {
-        self.cursor
+        self.cursor - self.front
     }
 
     /// How many glyphs each side may hold at the most.
@@ -193,6 +211,25 @@ impl hb_buffer_t {
         self.have_output
     }
 
+    /// Whether what was put out has left the storage of the input, as it does once it has more glyphs than were read.
+    /// It comes back by `sync` and `clear`.
+    pub fn have_separate_output(&self) -> bool
+        ensures is { result ≡ self.now.have_separate_output }
+        ensures closed { self.now.have_output ≡ false → result ≡ false }
+        ensures near { result ≡ false → length self.now.out ≤ self.now.idx }
+    {
+        self.have_separate_output
+    }
+
+    /// Both sides in one slice: with no output open the list; else what was put out at its start, and what is left to
+    /// read from the cursor on. Requires that the output is not separate.
+    pub fn storage(&self) -> &[hb_glyph_info_t]
+        requires { self.now.have_separate_output ≡ false }
+        ensures { IsStorage self.now result.now }
+    {
+        self.info.as_slice()
+    }
+
     /// Whether the glyphs have positions. While an output is open they have none.
     pub fn have_positions(&self) -> bool
         ensures on { IsTrue result ↔ IsSome self.now.positions }
@@ -205,7 +242,7 @@ impl hb_buffer_t {
     pub fn is_empty(&self) -> bool
         ensures { IsTrue result ↔ (len self.now ≡ 0) }
     {
-        self.info.is_empty()
+        self.info.len() == self.front
     }
 
     /// The glyphs that are left to read; with no output open the whole list.
@@ -223,7 +260,11 @@ impl hb_buffer_t {
     pub fn out_info(&self) -> &[hb_glyph_info_t]
         ensures { result.now ≡ self.now.out }
     {
-        &self.out_info
+        if self.have_separate_output {
+            &self.out_info
+        } else {
+            &self.info[..self.placed]
+        }
     }
 
     /// How many glyphs stand before the cursor: those that were put out, or with no output open those before it.
@@ -231,7 +272,7 @@ impl hb_buffer_t {
         ensures { result ≡ (if self.now.have_output then length self.now.out else self.now.idx) }
     {
         if self.have_output {
-            self.out_info.len()
+            self.out_len()
         } else {
             self.cursor
         }
@@ -266,6 +307,9 @@ impl hb_buffer_t {
     {
         self.info.clear();
         self.out_info.clear();
+        self.placed = 0;
+        self.have_separate_output = false;
+        self.front = 0;
         self.pos.clear();
         self.cursor = 0;
         self.have_output = false;

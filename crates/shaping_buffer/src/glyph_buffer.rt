@@ -2,11 +2,12 @@
 
 ghost use Rattle.std.specs.Prelude.{◌≡◌, true, false, length, IsTrue, ◌↔◌, Some, IsSome, IfOk, string_bytes};
 ghost use Rattle.shaping_buffer.specs.State.{cleared, HasPositions};
-ghost use Rattle.shaping_buffer.specs.Text.{text_of, asks_font, AreGlyphs};
+ghost use Rattle.glyph_text.specs.Text.{asks_font, AreGlyphs};
+ghost use Rattle.shaping_buffer.specs.Text.{text_of};
 
 use crate::buffer::hb_buffer_t;
-use crate::serialize::glyphs_text;
 use crate::unicode_buffer::UnicodeBuffer;
+use glyph_text::serialize::glyphs_text;
 use rb_glyph::{GlyphNames, GlyphPosition, SerializeFlags, hb_glyph_info_t};
 use std::alloc::{AllocError, Global};
 use std::marker::Model;
@@ -31,7 +32,7 @@ impl Model for GlyphBuffer {
 }
 
 impl GlyphBuffer {
-    /// The glyphs of a buffer. It asks that no output is open and positions are on.
+    /// The glyphs of a buffer. Requires that no output is open and positions are on.
     pub fn from_buffer(buffer: hb_buffer_t) -> Self
         requires closed { buffer.have_output ≡ false }
         requires placed { IsSome buffer.positions }
@@ -80,16 +81,16 @@ impl GlyphBuffer {
         UnicodeBuffer::of_cleared(buffer)
     }
 
-    /// The glyphs as a text, in rustybuzz's form of the format of HarfBuzz's `hb_buffer_serialize_glyphs`: one text for
-    /// each glyph, joined by `|`, with no brackets around. A glyph's text is its name, or `gid` and its number where the
-    /// font has no name for it; `=` and the cluster; `@x,y`, the offsets, unless both are 0; `+x`, the advance, and then
-    /// `,y` unless that is 0; under `GLYPH_FLAGS` `#` and the glyph flags as a digit, unless they are 0; under
-    /// `GLYPH_EXTENTS` `<x_bearing,y_bearing,width,height>`, zeros where the font has none. `NO_GLYPH_NAMES` writes the
-    /// number alone, `NO_CLUSTERS` leaves the cluster out, `NO_POSITIONS` offsets and advances, and `NO_ADVANCES` the
-    /// advances: then the sums of all earlier advances are added to the offsets.
+    /// The glyphs as a text, in rustybuzz's form of the format of HarfBuzz's `hb_buffer_serialize_glyphs`: one text
+    /// for each glyph, joined by `|`, with no brackets around. A glyph's text is its name, or `gid` and its number
+    /// where the font has no name for it; `=` and the cluster; `@x,y`, the offsets, unless both are 0; `+x`, the
+    /// advance, and then `,y` unless that is 0; under `GLYPH_FLAGS` `#` and the glyph flags as a digit, unless they
+    /// are 0; under `GLYPH_EXTENTS` `<x_bearing,y_bearing,width,height>`, zeros where the font has none.
+    /// `NO_GLYPH_NAMES` writes the number alone, `NO_CLUSTERS` leaves the cluster out, `NO_POSITIONS` offsets and
+    /// advances, and `NO_ADVANCES` the advances: then the sums of all earlier advances are added to the offsets.
     ///
-    /// Requires numbers of at most 65535 where names or extents are written. `Err(AllocError)` where memory ran out: then
-    /// there is no text.
+    /// Requires numbers of at most 65535 where names or extents are written. `Err(AllocError)` where memory ran out:
+    /// then there is no text.
     pub fn serialize<F: GlyphNames>(
         &self,
         alloc: Global,

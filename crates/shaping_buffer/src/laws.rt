@@ -2,18 +2,16 @@
 //!
 //! Each function here is empty. Its contract is a fact of definitions, and holds for every state.
 
-ghost use Rattle.std.specs.Prelude.{◌≡◌, ◌≤◌, ◌+◌, ◌++◌, ℕ, pos, Bool, true, false, List, [], length, map};
-ghost use Rattle.std.specs.List.{All};
+ghost use Rattle.std.specs.Prelude.{◌≡◌, ◌≤◌, ◌+◌, ◌++◌, ℕ, pos, Bool, true, false, List, [], length};
 ghost use Rattle.glyph_lists.specs.Replacement.{replacement};
-ghost use Rattle.shaping_buffer.specs.declared.buffer.TheConstants.hb_buffer_t.{MAX_LEN_DEFAULT, MAX_LEN_FACTOR, MAX_LEN_MIN, MAX_OPS_DEFAULT, MAX_OPS_FACTOR, MAX_OPS_MIN};
+ghost use Rattle.shaping_buffer.specs.declared.buffer.TheConstants.hb_buffer_t.{MAX_LEN_DEFAULT, MAX_LEN_FACTOR};
+ghost use Rattle.shaping_buffer.specs.declared.buffer.TheConstants.hb_buffer_t.{MAX_LEN_MIN, MAX_OPS_DEFAULT};
+ghost use Rattle.shaping_buffer.specs.declared.buffer.TheConstants.hb_buffer_t.{MAX_OPS_FACTOR, MAX_OPS_MIN};
 ghost use Rattle.shaping_buffer.specs.ClusterStep.{both, any_order};
 ghost use Rattle.rb_glyph.specs.declared.info.hb_glyph_info_t.{hb_glyph_info_t};
-ghost use Rattle.rb_glyph.specs.declared.position.GlyphPosition.{GlyphPosition};
 ghost use Rattle.shaping_buffer.specs.State.{State};
 ghost use Rattle.shaping_buffer.specs.Step as step;
 ghost use Rattle.shaping_buffer.specs.GroupStep.{reverse, delete_glyphs_inplace, walk_by_calls};
-ghost use Rattle.shaping_buffer.specs.Text.{Font, glyphs_text};
-ghost use Rattle.shaping_buffer.specs.TextReading.{numbers_and_flags, told_of, FitsItsFields};
 
 /// Where `sync` is done, the list is what was put out, and then what was left to read.
 pub fn done_sync_gives_the_list()
@@ -57,15 +55,6 @@ pub fn deletion_in_place_is_deletion_by_calls()
         (closed.done ≡ true) × (closed.state.input ≡ (delete_glyphs_inplace test s).input) }
 {}
 
-/// Under `NO_GLYPH_NAMES` and `GLYPH_FLAGS` alone a text tells its glyphs apart: where two texts are equal, whatever the
-/// fonts are, there are as many glyphs, with equal numbers, clusters, offsets, advances and glyph flags.
-pub fn equal_texts_tell_of_equal_glyphs()
-    ensures { (font other : Font) (xs ys : List (hb_glyph_info_t × GlyphPosition))
-        → All FitsItsFields xs → All FitsItsFields ys
-        → glyphs_text font numbers_and_flags xs ≡ glyphs_text other numbers_and_flags ys
-        → map told_of xs ≡ map told_of ys }
-{}
-
 #[cfg(test)]
 mod tests {
     use super::*;
@@ -78,6 +67,5 @@ mod tests {
         limits_have_their_numbers();
         two_reversals_are_none();
         deletion_in_place_is_deletion_by_calls();
-        equal_texts_tell_of_equal_glyphs();
     }
 }

@@ -7,6 +7,8 @@
 pub use buffer::hb_buffer_t;
 pub use cluster_level::BufferClusterLevel;
 pub use glyph_buffer::GlyphBuffer;
+pub use glyph_lists::cluster_reads::ClusterReads;
+pub use glyph_lists::merge_range::merge_range;
 pub use rb_glyph;
 pub use rb_glyph::{
     BufferFlags, CharExt, CombiningClasses, Compositions, Decompositions, Flags,
@@ -25,9 +27,9 @@ mod buffer;
 pub mod cluster_level;
 mod glyph_buffer;
 pub mod laws;
+mod lend;
 mod moves;
 mod replacement;
-mod serialize;
 #[cfg(test)]
 mod test_lists;
 mod unicode_buffer;

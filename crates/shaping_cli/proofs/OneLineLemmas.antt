@@ -1,5 +1,6 @@
 -- No answer has a line feed in it.
-use Rattle.std.proofs.Common.{ℕ, ℤ, pos, negsuc, zero, suc, ◌≡◌, ◌==◌, ◌/◌, ◌%◌, ◌-◌, List, [], ◌∷◌, ◌++◌, map, length, replicate, codes, bit_and, ◌&&◌, ◌||◌, not, ◌+ℤ◌, None, Bool, true, false, if◌then◌else◌, refl, sym, subst, arith}
+use Rattle.std.proofs.Common.{ℕ, ℤ, pos, negsuc, zero, suc, ◌≡◌, ◌==◌, ◌/◌, ◌%◌, ◌-◌, List, [], ◌∷◌, ◌++◌, map, length, replicate, codes, option_map, bit_and, ◌&&◌, ◌||◌, not, ◌+ℤ◌, None, Bool, true, false, if◌then◌else◌, refl, sym, subst, arith}
+use Rattle.std.specs.Char.{to_ascii_lowercase}
 use Rattle.std.specs.Fmt.{decimal, signed_decimal, digits, digits_onto, digit_glyph}
 use Rattle.std.specs.Int.{from_bool}
 use Rattle.std.specs.List.{join_with_byte}
@@ -13,20 +14,22 @@ use Rattle.rb_glyph.specs.declared.glyph_flag.TheConstants.{DEFINED}
 use Rattle.rb_glyph.specs.declared.info.hb_glyph_info_t.{hb_glyph_info_t}
 use Rattle.rb_glyph.specs.declared.position.GlyphPosition.{GlyphPosition}
 use Rattle.rb_text.specs.declared.feature.Feature.{Feature}
+use Rattle.rb_text.specs.Tags.{scripts_of, languages_of}
 use Rattle.shaping_buffer.specs.Positions.{with_zero_positions}
 use Rattle.shaping_buffer.specs.Pushed.{pushed, added}
 use Rattle.shaping_buffer.specs.State.{State}
 use Rattle.shaping_buffer.specs.Step.{Outcome}
-use Rattle.shaping_buffer.specs.Text.{has, name_text, cluster_text, offset_text, advance_text, position_text, flags_text}
-use Rattle.shaping_buffer.specs.Text.{zero_extents, box_text, extents_text, x_advances, y_advances, glyph_text}
-use Rattle.shaping_buffer.specs.Text.{glyph_texts, glyphs_of, text_of}
+use Rattle.glyph_text.specs.Text.{nothing_known, has, name_text, cluster_text, offset_text, advance_text, position_text, flags_text}
+use Rattle.glyph_text.specs.Text.{zero_extents, box_text, extents_text, x_advances, y_advances, glyph_text}
+use Rattle.glyph_text.specs.Text.{glyph_texts}
+use Rattle.shaping_buffer.specs.Text.{glyphs_of, text_of}
 use Rattle.shaping_runs.specs.Replay.{turn}
 use Rattle.shaping_runs.specs.declared.call.Answer.{Answer}
 use Rattle.shaping_runs.specs.declared.call.Answer.TheVariants.{Done, Refused, Outside}
-use Rattle.shaping_cli.specs.Commands.{Request, push, add, level, flags, limit, call, state, serialize, new, feature, compose, decompose}
-use Rattle.shaping_cli.specs.Queries.{hexadecimal, eight_digits, feature_text}
+use Rattle.shaping_cli.specs.Commands.{Request, push, add, level, flags, limit, call, replace_glyphs, state, serialize, new, feature, tags, compose, decompose}
+use Rattle.shaping_cli.specs.Queries.{hexadecimal, eight_digits, feature_text, language_rows, spaced_tags, tag_lists_text}
 use Rattle.shaping_cli.specs.Replies.{is_line_feed, IsOneLine, answer_text, truth_text}
-use Rattle.shaping_cli.specs.Session.{Follows, FollowsSerialize, Grows, held_by, is_within, may_be_printed, nothing_known}
+use Rattle.shaping_cli.specs.Session.{Follows, FollowsSerialize, Grows, held_by, is_within, may_be_printed, replacement_turn}
 use Rattle.shaping_cli.specs.StateText.{state_text, head_text, digit_of, items_text, item_text}
 use Rattle.shaping_cli.specs.declared.session.Session.{Session}
 use Rattle.shaping_cli.specs.declared.session.Session.TheVariants.{Text, Turned}
@@ -87,6 +90,19 @@ one_line-feature f =
     let value = parted (eight_digits f.tag.0) 32 (decimal f.value) refl (one_line-eight_digits f.tag.0) (one_line-decimal f.value) in
     let start = parted (eight_digits f.tag.0 ++ 32 ∷ decimal f.value) 32 (decimal f.start) refl value (one_line-decimal f.start) in
     parted (eight_digits f.tag.0 ++ 32 ∷ decimal f.value ++ 32 ∷ decimal f.start) 32 (decimal f.end) refl start (one_line-decimal f.end)
+
+one_line-spaced : (ts : List ℕ) → IsOneLine (spaced_tags ts)
+one_line-spaced [] = refl
+one_line-spaced (t ∷ ts) =
+    one_line-append (32 ∷ eight_digits t) (spaced_tags ts)
+    (one_line-cons 32 (eight_digits t) refl (one_line-eight_digits t)) (one_line-spaced ts)
+
+one_line-tags : (scripts languages : List ℕ) → IsOneLine (tag_lists_text scripts languages)
+one_line-tags scripts languages =
+    let a = one_line-append (codes "scripts") (spaced_tags scripts) refl (one_line-spaced scripts) in
+    let b = one_line-append (codes "scripts" ++ spaced_tags scripts) (codes " languages") a refl in
+    one_line-append (codes "scripts" ++ spaced_tags scripts ++ codes " languages") (spaced_tags languages) b
+    (one_line-spaced languages)
 
 pub one_line-pair : (a b : ℕ) → IsOneLine (hexadecimal a ++ 32 ∷ hexadecimal b)
 one_line-pair a b = parted (hexadecimal a) 32 (hexadecimal b) refl (one_line-hexadecimal a) (one_line-hexadecimal b)
@@ -214,9 +230,15 @@ one_line-followed (flags n) before after answer h = subst IsOneLine (sym h.1) re
 one_line-followed (limit n) before after answer h =
     subst IsOneLine (sym h.1) (one_line-if (is_within n (held_by before)) (codes "ok") (codes "outside") refl refl)
 one_line-followed (call c) before after answer h = subst IsOneLine (sym h.1) (one_line-answer (turn c (held_by before)).answer)
+one_line-followed (replace_glyphs num_in ids) before after answer h =
+    subst IsOneLine (sym h.1) (one_line-answer (replacement_turn num_in ids (held_by before)).answer)
 one_line-followed state before after answer h = subst IsOneLine (sym h.1) (one_line-state (held_by before))
 one_line-followed (serialize n) before after answer h = one_line-serialized (record { 0 = n }) before after answer h
 one_line-followed new before after answer h = subst IsOneLine (sym h.1) refl
 one_line-followed (feature text) before after answer h = h.1.2
+one_line-followed (tags script text) before after answer h =
+    let language = option_map (λ t. map to_ascii_lowercase t) text in
+    subst IsOneLine (sym h.1)
+    (one_line-tags (scripts_of script language) (languages_of (λ prefix. None) language_rows language))
 one_line-followed (compose a b) before after answer h = h.1.2
 one_line-followed (decompose c) before after answer h = h.1.2

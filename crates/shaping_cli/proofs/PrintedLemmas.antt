@@ -4,7 +4,7 @@ use Rattle.std.specs.List.{list_all}
 use Rattle.std.proofs.lemmas.Bool.Decides.{nat_tests}
 use Rattle.std.proofs.lemmas.List.Elements.{All-nil, All-cons}
 use Rattle.rb_glyph.specs.declared.info.hb_glyph_info_t.{hb_glyph_info_t}
-use Rattle.shaping_buffer.specs.Text.{AreGlyphs}
+use Rattle.glyph_text.specs.Text.{AreGlyphs}
 use Rattle.shaping_cli.specs.Session.{is_glyph}
 
 abbrev IsNumbered : hb_glyph_info_t → Type 0

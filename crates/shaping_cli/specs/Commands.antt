@@ -1,5 +1,6 @@
 -- Which line is which command: its name, and then what belongs to it, word by word, up to the end of the line.
-use Rattle.std.specs.Prelude.{ℕ, List, Option, Some, None, codes, nat_le, if◌then◌else◌}
+use Rattle.std.specs.Prelude.{ℕ, zero, suc, List, [], ◌∷◌, Option, Some, None, codes, nat_le, if◌then◌else◌}
+use Rattle.std.specs.Option.{option_copied}
 use Rattle.std.specs.Str.{bytes_eq, is_utf8}
 use Rattle.shaping_buffer.specs.ClusterLevel.{level_of}
 use Rattle.shaping_buffer.specs.declared.cluster_level.TheConstants.{HB_BUFFER_CLUSTER_LEVEL_CHARACTERS}
@@ -9,10 +10,10 @@ use Rattle.shaping_runs.specs.declared.call.Call.TheVariants.{ReplaceGlyph, Outp
 use Rattle.shaping_runs.specs.declared.call.Call.TheVariants.{MergeClusters, MergeOutClusters, UnsafeToBreak}
 use Rattle.shaping_runs.specs.declared.call.Call.TheVariants.{UnsafeToBreakFromOutbuffer, SafeToInsertTatweel}
 use Rattle.shaping_runs.specs.declared.call.Call.TheVariants.{UnsafeToConcat, UnsafeToConcatFromOutbuffer}
-use Rattle.shaping_cli.specs.Words.{Left, next_character, next_place, next_u32, past_space, past_first_word, first_word}
+use Rattle.shaping_cli.specs.Words.{Left, next_character, next_language, next_place, next_script, next_u32, past_space, past_first_word, first_word}
 use Rattle.shaping_cli.specs.declared.command.TheConstants.{ALL_BUFFER_FLAGS, ALL_SERIALIZE_FLAGS}
 use Rattle.shaping_cli.specs.declared.command.Command.{Command}
-use Rattle.shaping_cli.specs.declared.command.Command.TheVariants.{Push, Add, Level, Flags, Limit, Make, State, Serialize, New, Feature, Compose, Decompose}
+use Rattle.shaping_cli.specs.declared.command.Command.TheVariants.{Push, Add, Level, Flags, Limit, Make, ReplaceGlyphs, State, Serialize, New, Feature, Tags, Compose, Decompose}
 
 -- What a line asks for: a command with its texts and its numbers.
 pub data Request : Type 0 where
@@ -22,10 +23,12 @@ pub data Request : Type 0 where
   flags : (number : ℕ) → Request
   limit : (number : ℕ) → Request
   call : (call : Call) → Request
+  replace_glyphs : (num_in : ℕ) (ids : List ℕ) → Request
   state : Request
   serialize : (flags : ℕ) → Request
   new : Request
   feature : (text : List ℕ) → Request
+  tags : (script : Option ℕ) (language : Option (List ℕ)) → Request
   compose : (first second : ℕ) → Request
   decompose : (character : ℕ) → Request
 
@@ -37,10 +40,12 @@ request_of (Level l) = level (level_of l)
 request_of (Flags number) = flags number
 request_of (Limit number) = limit number
 request_of (Make c) = call c
+request_of (ReplaceGlyphs num_in ids) = replace_glyphs num_in ids.items
 request_of State = state
 request_of (Serialize number) = serialize number
 request_of New = new
 request_of (Feature text) = feature text.now
+request_of (Tags script language) = tags script (option_copied language)
 request_of (Compose a b) = compose a b
 request_of (Decompose c) = decompose c
 
@@ -99,6 +104,15 @@ with_character_and_number make left = with_words (next_character left) (next_u32
 abbrev pub with_characters : (ℕ → ℕ → Request) → Left → Taken Request
 with_characters make left = with_words (next_character left) (next_character (past_first_word left)) make left
 
+-- a script and a language belong to it
+abbrev pub with_names : Option (Option ℕ) → Option (Option (List ℕ)) → Left → Taken Request
+with_names None language left = None
+with_names (Some script) None left = None
+with_names (Some script) (Some language) left = Some (tags script language, past_first_word (past_first_word left))
+
+abbrev pub with_script_and_language : Left → Taken Request
+with_script_and_language left = with_names (next_script left) (next_language (past_first_word left)) left
+
 -- a range of a flag call, of which both ends are given
 abbrev pub with_flag_range : (Option ℕ → Option ℕ → Call) → Left → Taken Call
 with_flag_range make left = with_range (λ start end. make (Some start) (Some end)) left
@@ -141,15 +155,21 @@ abbrev pub call_request : Taken Call → Taken Request
 call_request None = None
 call_request (Some (c, left)) = Some (call c, left)
 
--- what is asked, by the name of the question, and else a call
+-- what is asked of no text, by the name of the question, and else a call
+unfoldable pub query_in : List ℕ → Left → Taken Request
+query_in name left =
+    if bytes_eq name (codes "feature") then with_text feature left
+    else if bytes_eq name (codes "tags") then with_script_and_language left
+    else if bytes_eq name (codes "compose") then with_characters compose left
+    else if bytes_eq name (codes "decompose") then with_character decompose left
+    else call_request (call_in name left)
+
+-- those that print a text
 unfoldable pub question_in : List ℕ → Left → Taken Request
 question_in name left =
     if bytes_eq name (codes "state") then alone state left
     else if bytes_eq name (codes "serialize") then with_number_to ALL_SERIALIZE_FLAGS serialize left
-    else if bytes_eq name (codes "feature") then with_text feature left
-    else if bytes_eq name (codes "compose") then with_characters compose left
-    else if bytes_eq name (codes "decompose") then with_character decompose left
-    else call_request (call_in name left)
+    else query_in name left
 
 -- those that say how the text is treated
 unfoldable pub treatment_in : List ℕ → Left → Taken Request
@@ -167,6 +187,37 @@ command_in name left =
     else if bytes_eq name (codes "new") then alone new left
     else treatment_in name left
 
+-- an id before others
+abbrev pub id_before : Option ℕ → Taken (List ℕ) → Taken (List ℕ)
+id_before None taken = None
+id_before (Some id) None = None
+id_before (Some id) (Some (ids, left)) = Some (id ∷ ids, left)
+
+-- so many ids belong to it
+abbrev pub ids_in : ℕ → Left → Taken (List ℕ)
+ids_in zero left = Some ([], left)
+ids_in (suc count) left = id_before (next_u32 left) (ids_in count (past_first_word left))
+
+-- how many glyphs are replaced, and the ids of those that come in their stead
+abbrev pub replacement_by : ℕ → Taken (List ℕ) → Taken Request
+replacement_by num_in None = None
+replacement_by num_in (Some (ids, left)) = Some (replace_glyphs num_in ids, left)
+
+-- the same, with the number of ids before them
+abbrev pub with_ids : Option ℕ → Option ℕ → Left → Taken Request
+with_ids None num_out left = None
+with_ids (Some num_in) None left = None
+with_ids (Some num_in) (Some num_out) left = replacement_by num_in (ids_in num_out left)
+
+abbrev pub replacement_in : Left → Taken Request
+replacement_in left =
+    with_ids (next_place left) (next_place (past_first_word left)) (past_first_word (past_first_word left))
+
+-- the request of a name: a replacement, whose line may be long, or one of the others
+unfoldable pub request_named : List ℕ → Left → Taken Request
+request_named name left =
+    if bytes_eq name (codes "replace_glyphs") then replacement_in left else command_in name left
+
 -- nothing may be left of the line
 abbrev pub whole : Taken Request → Option Request
 whole None = None
@@ -176,7 +227,7 @@ whole (Some (request, Some text)) = None
 -- what the name and the rest of a line ask for
 abbrev pub request_behind : Option (List ℕ) → Left → Option Request
 request_behind None left = None
-request_behind (Some name) left = whole (command_in name left)
+request_behind (Some name) left = whole (request_named name left)
 
 -- what a line asks for: nothing where it is no command
 abbrev pub request_in : List ℕ → Option Request

@@ -6,16 +6,18 @@ use Rattle.rb_glyph.specs.declared.flag_sets.SerializeFlags.{SerializeFlags}
 use Rattle.shaping_buffer.specs.Limits.{set_max_len}
 use Rattle.shaping_buffer.specs.Positions.{with_zero_positions}
 use Rattle.shaping_buffer.specs.Pushed.{pushed, added}
-use Rattle.shaping_buffer.specs.State.{State, len, empty_state, cleared}
+use Rattle.shaping_buffer.specs.State.{State, len, lookahead_len, empty_state, cleared}
+use Rattle.shaping_buffer.specs.Step as step
 use Rattle.shaping_buffer.specs.Step.{Outcome}
-use Rattle.shaping_buffer.specs.Text.{Font, asks_font, text_of}
+use Rattle.glyph_text.specs.Text.{asks_font, nothing_known}
+use Rattle.shaping_buffer.specs.Text.{text_of}
 use Rattle.shaping_buffer.specs.declared.buffer.TheConstants.hb_buffer_t.{MAX_LEN_DEFAULT, MAX_OPS_DEFAULT}
-use Rattle.shaping_runs.specs.Replay.{turn}
-use Rattle.shaping_runs.specs.declared.call.Call.{Call}
-use Rattle.shaping_cli.specs.Queries.{AnswersFeature, AnswersCompose, AnswersDecompose}
+use Rattle.shaping_runs.specs.Replay.{Turn, turn, has_glyph, answer_of}
+use Rattle.shaping_runs.specs.declared.call.Answer.TheVariants.{Outside}
+use Rattle.shaping_cli.specs.Queries.{AnswersFeature, AnswersCompose, AnswersDecompose, tags_text}
 use Rattle.shaping_cli.specs.Replies.{answer_text, truth_text}
 use Rattle.shaping_cli.specs.StateText.{state_text}
-use Rattle.shaping_cli.specs.Commands.{Request, push, add, level, flags, limit, call, state, serialize, new, feature, compose, decompose}
+use Rattle.shaping_cli.specs.Commands.{Request, push, add, level, flags, limit, call, replace_glyphs, state, serialize, new, feature, tags, compose, decompose}
 use Rattle.shaping_cli.specs.declared.session.TheConstants.{LAST_GLYPH}
 use Rattle.shaping_cli.specs.declared.session.Session.{Session}
 use Rattle.shaping_cli.specs.declared.session.Session.TheVariants.{Text, Turned}
@@ -56,18 +58,25 @@ FollowsLimit number before after answer =
     (after ≡ Turned (if is_within number held then set_max_len number held else held))
     × (answer ≡ (if is_within number held then codes "ok" else codes "outside"))
 
--- a call works on a buffer
-abbrev pub FollowsCall : Call → Session → Session → List ℕ → Type 0
-FollowsCall c before after answer =
-    (after ≡ Turned (turn c (held_by before)).state) × (answer ≡ answer_text (turn c (held_by before)).answer)
+-- a turn is one of a buffer
+abbrev pub FollowsTurn : (State → Turn) → Session → Session → List ℕ → Type 0
+FollowsTurn turn_of before after answer =
+    (after ≡ Turned (turn_of (held_by before)).state) × (answer ≡ answer_text (turn_of (held_by before)).answer)
 
--- and so does the printing of the two lists
+-- whether so many glyphs at the cursor may be replaced
+abbrev pub may_be_replaced : ℕ → State → Bool
+may_be_replaced num_in s = s.have_output && (has_glyph s && nat_le num_in (lookahead_len s))
+
+-- a replacement by glyphs of these ids, in or outside its condition
+abbrev pub replacement_turn : ℕ → List ℕ → State → Turn
+replacement_turn num_in ids s =
+    let outcome = step.replace_glyphs num_in ids s in
+    if may_be_replaced num_in s then record { answer = answer_of outcome.done; state = outcome.state }
+    else record { answer = Outside; state = s }
+
+-- the two lists of a buffer are printed
 abbrev pub FollowsState : Session → Session → List ℕ → Type 0
 FollowsState before after answer = (after ≡ Turned (held_by before)) × (answer ≡ state_text (held_by before))
-
--- a font of which nothing is known
-abbrev pub nothing_known : Font
-nothing_known = record { name = λ _. None; extents = λ _. None }
 
 -- the number of a glyph has 16 bits
 abbrev pub is_glyph : hb_glyph_info_t → Bool
@@ -92,10 +101,12 @@ Follows (add character cluster) before after answer = Grows (added character clu
 Follows (level number) before after answer = (after ≡ with_level number before) × (answer ≡ codes "ok")
 Follows (flags number) before after answer = (after ≡ with_flags number before) × (answer ≡ codes "ok")
 Follows (limit number) before after answer = FollowsLimit number before after answer
-Follows (call c) before after answer = FollowsCall c before after answer
+Follows (call c) before after answer = FollowsTurn (turn c) before after answer
+Follows (replace_glyphs num_in ids) before after answer = FollowsTurn (replacement_turn num_in ids) before after answer
 Follows state before after answer = FollowsState before after answer
 Follows (serialize number) before after answer = FollowsSerialize (record { 0 = number }) before after answer
 Follows new before after answer = (after ≡ fresh) × (answer ≡ codes "ok")
 Follows (feature text) before after answer = (after ≡ before) × AnswersFeature text answer
+Follows (tags script language) before after answer = (after ≡ before) × (answer ≡ tags_text script language)
 Follows (compose a b) before after answer = (after ≡ before) × AnswersCompose a b answer
 Follows (decompose c) before after answer = (after ≡ before) × AnswersDecompose c answer

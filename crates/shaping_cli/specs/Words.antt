@@ -1,9 +1,12 @@
 -- The words of a line.
-use Rattle.std.specs.Prelude.{ℕ, ◌<◌, ◌^◌, ◌&&◌, ◌==◌, ◌≡◌, List, length, Option, Some, None, Bool, true, if◌then◌else◌, nat_lt, option_and_then}
+use Rattle.std.specs.Prelude.{ℕ, ◌<◌, ◌^◌, ◌&&◌, ◌==◌, ◌≡◌, List, length, Option, Some, None, Bool, true, if◌then◌else◌, nat_lt, option_and_then, option_map, codes}
 use lib.Utf8.{scalar}
 use Rattle.std.specs.Char.{is_ascii_digit, is_ascii_hexdigit}
 use Rattle.std.specs.List.{before_first, after_first, position_or_len, list_all}
+use Rattle.std.specs.Str.{bytes_eq}
 use Rattle.std.specs.Str.Parse.{digits_value}
+use Rattle.rb_text.specs.Script.{script_of}
+use Rattle.rb_text.specs.Tag.{lossy_tag_of}
 
 -- what parts two words
 abbrev pub is_space : ℕ → Bool
@@ -67,3 +70,19 @@ next_place left = option_and_then (number_below (2 ^ 64)) (first_word left)
 
 abbrev pub next_character : Left → Option ℕ
 next_character left = option_and_then character_of (first_word left)
+
+-- the script that a word names, where it names one; `-` names none
+abbrev pub script_in : List ℕ → Option (Option ℕ)
+script_in word =
+    if bytes_eq word (codes "-") then Some None else option_map (λ script. Some script) (script_of (lossy_tag_of word))
+
+-- the text of a language; `-` names none
+abbrev pub language_in : List ℕ → Option (List ℕ)
+language_in word = if bytes_eq word (codes "-") then None else Some word
+
+-- the next word as the name of a script, and as that of a language
+abbrev pub next_script : Left → Option (Option ℕ)
+next_script left = option_and_then script_in (first_word left)
+
+abbrev pub next_language : Left → Option (Option (List ℕ))
+next_language left = option_map language_in (first_word left)

@@ -1,13 +1,17 @@
 //! The commands, and how a line writes them.
 
-ghost use Rattle.std.specs.Prelude.{◌≡◌, ◌<◌, ◌≤◌, Some, None, MatchOption};
+ghost use Rattle.std.specs.Prelude.{◌≡◌, ◌<◌, ◌≤◌, Some, None, MatchOption, IfOk};
 ghost use Rattle.shaping_buffer.specs.ClusterLevel as cluster_level;
-ghost use Rattle.shaping_cli.specs.Commands.{request_in_bytes, request_in, command_in, treatment_in, question_in, call_in, edit_call_in, flag_call_in, call_request, request_of, at_most};
+ghost use Rattle.shaping_cli.specs.Commands.{request_in_bytes, request_in, request_named, replacement_in, ids_in};
+ghost use Rattle.shaping_cli.specs.Commands.{command_in, treatment_in, question_in, query_in, call_in, edit_call_in};
+ghost use Rattle.shaping_cli.specs.Commands.{flag_call_in, call_request, request_of, at_most};
 
 use crate::words::Words;
+use rb_text::Script;
 use shaping_buffer::BufferClusterLevel;
 use shaping_buffer::cluster_level::HB_BUFFER_CLUSTER_LEVEL_CHARACTERS;
 use shaping_runs::Call;
+use std::alloc::{AllocError, Global};
 use std::str;
 
 /// What a line asks for.
@@ -16,7 +20,10 @@ pub enum Command<'a> {
     /// `push T`: put the characters of a text at the end.
     Push(&'a str),
     /// `add H N`: put one character at the end, in this cluster.
-    Add { character: char, cluster: u32 },
+    Add {
+        character: char,
+        cluster: u32,
+    },
     /// `level N`: say how far clusters are merged.
     Level(BufferClusterLevel),
     /// `flags N`: say how the text is treated, by the number of a set of flags.
@@ -25,6 +32,11 @@ pub enum Command<'a> {
     Limit(usize),
     /// A call's name and its numbers: make the call.
     Make(Call<'static>),
+    /// `replace_glyphs A B ids..`: replace A glyphs by B, of these ids.
+    ReplaceGlyphs {
+        num_in: usize,
+        ids: Vec<u32>,
+    },
     /// `state`: print the two lists.
     State,
     /// `serialize N`: print the glyphs under the flags of a number, and begin anew.
@@ -33,6 +45,11 @@ pub enum Command<'a> {
     New,
     /// `feature T`: print the feature that a text reads as.
     Feature(&'a str),
+    /// `tags S L`: print the OpenType tags of a script and of a language, of which `-` is none.
+    Tags {
+        script: Option<Script>,
+        language: Option<&'a str>,
+    },
     /// `compose H H`: print what two characters compose to.
     Compose(char, char),
     /// `decompose H`: print what a character decomposes to.
@@ -46,25 +63,77 @@ const ALL_BUFFER_FLAGS: u32 = 255;
 const ALL_SERIALIZE_FLAGS: u8 = 63;
 
 /// The command that the bytes of a line write, if they write one.
-pub fn parse_bytes(line: &[u8]) -> Option<Command<'_>>
-    ensures { MatchOption result (request_in_bytes line.now ≡ None)
-        (λ command. request_in_bytes line.now ≡ Some (request_of command)) }
+pub fn parse_bytes(alloc: Global, line: &[u8]) -> Result<Option<Command<'_>>, AllocError>
+    ensures { IfOk result (λ found. MatchOption found (request_in_bytes line.now ≡ None)
+        (λ command. request_in_bytes line.now ≡ Some (request_of command))) }
 {
     match str::from_utf8(line) {
-        Ok(text) => parse(text),
-        Err(_) => None,
+        Ok(text) => parse(alloc, text),
+        Err(_) => Ok(None),
     }
 }
 
 /// The command that a line writes, if it writes one.
-fn parse(line: &str) -> Option<Command<'_>>
-    ensures { MatchOption result (request_in line.now ≡ None)
-        (λ command. request_in line.now ≡ Some (request_of command)) }
+fn parse(alloc: Global, line: &str) -> Result<Option<Command<'_>>, AllocError>
+    ensures { IfOk result (λ found. MatchOption found (request_in line.now ≡ None)
+        (λ command. request_in line.now ≡ Some (request_of command))) }
 {
     let mut words = Words::of(line);
-    let name = words.word()?;
-    let command = command_of(name, &mut words)?;
-    if words.at_end() { Some(command) } else { None }
+    let Some(name) = words.word() else {
+        return Ok(None);
+    };
+    let Some(command) = command_named(alloc, name, &mut words)? else {
+        return Ok(None);
+    };
+    Ok(if words.at_end() { Some(command) } else { None })
+}
+
+/// The command of a name. Only one that replaces glyphs takes memory, for the ids.
+#[tactic(auto, unfolding(crate::specs::Commands::request_named))]
+fn command_named<'a>(
+    alloc: Global,
+    name: &str,
+    words: &mut Words<'a>,
+) -> Result<Option<Command<'a>>, AllocError>
+    ensures { IfOk result (λ found. MatchOption found (request_named name.now words.old ≡ None)
+        (λ command. request_named name.now words.old ≡ Some (request_of command, words.new))) }
+{
+    match name {
+        "replace_glyphs" => replacement(alloc, words),
+        _ => Ok(command_of(name, words)),
+    }
+}
+
+/// The command that replaces glyphs: how many, by how many, and their ids.
+fn replacement(alloc: Global, words: &mut Words<'_>) -> Result<Option<Command<'static>>, AllocError>
+    ensures { IfOk result (λ found. MatchOption found (replacement_in words.old ≡ None)
+        (λ command. replacement_in words.old ≡ Some (request_of command, words.new))) }
+{
+    let Some(num_in) = words.place() else {
+        return Ok(None);
+    };
+    let Some(num_out) = words.place() else {
+        return Ok(None);
+    };
+    let Some(ids) = ids(alloc, num_out, words)? else {
+        return Ok(None);
+    };
+    Ok(Some(Command::ReplaceGlyphs { num_in, ids }))
+}
+
+/// So many ids, of which each is a word.
+fn ids(alloc: Global, count: usize, words: &mut Words<'_>) -> Result<Option<Vec<u32>>, AllocError>
+    ensures { IfOk result (λ found. MatchOption found (ids_in count words.old ≡ None)
+        (λ ids. ids_in count words.old ≡ Some (ids.items, words.new))) }
+{
+    let mut ids = Vec::new(alloc);
+    for i in 0..count {
+        let Some(id) = words.number() else {
+            return Ok(None);
+        };
+        ids.push(id)?;
+    }
+    Ok(Some(ids))
 }
 
 /// The command of a name, which takes what belongs to it from the words that follow.
@@ -107,7 +176,22 @@ fn question_of<'a>(name: &str, words: &mut Words<'a>) -> Option<Command<'a>>
     match name {
         "state" => Some(Command::State),
         "serialize" => Some(Command::Serialize(serialize_flags_of(words.number()?)?)),
+        _ => query_of(name, words),
+    }
+}
+
+/// The commands that ask nothing of the text.
+#[tactic(auto, unfolding(crate::specs::Commands::query_in))]
+fn query_of<'a>(name: &str, words: &mut Words<'a>) -> Option<Command<'a>>
+    ensures { MatchOption result (query_in name.now words.old ≡ None)
+        (λ command. query_in name.now words.old ≡ Some (request_of command, words.new)) }
+{
+    match name {
         "feature" => Some(Command::Feature(words.text()?)),
+        "tags" => Some(Command::Tags {
+            script: words.script()?,
+            language: words.language()?,
+        }),
         "compose" => Some(Command::Compose(words.character()?, words.character()?)),
         "decompose" => Some(Command::Decompose(words.character()?)),
         _ => make_of(name, words),

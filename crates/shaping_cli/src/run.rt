@@ -1,6 +1,7 @@
 //! Commands from a reader, and their answers to a writer.
 
-ghost use Rattle.std.specs.Prelude.{◌≡◌, ◌+◌, ◌<◌, ◌≤◌, ◌++◌, ◌⊎◌, true, [], ◌∷◌, length, vec_len, vec_capacity, position, IfOk, OnOk, IfErr, Err};
+ghost use Rattle.std.specs.Prelude.{◌≡◌, ◌+◌, ◌<◌, ◌≤◌, ◌++◌, ◌⊎◌, true, [], ◌∷◌, length, vec_len, vec_capacity};
+ghost use Rattle.std.specs.Prelude.{position, IfOk, OnOk, IfErr, Err};
 ghost use Rattle.std.specs.List.{before_first, after_first};
 ghost use Rattle.std.specs.Io.KnownBytes.{Appends, Consumes, IsAtEnd};
 ghost use Rattle.shaping_cli.specs.Replies.{is_line_feed};
@@ -158,7 +159,10 @@ fn answer_lines<W: Write>(
     while !rest.is_empty() {
         let (line, others) = cut_line(rest);
         rest = others;
-        let Some(command) = parse_bytes(line) else {
+        let Ok(found) = parse_bytes(alloc, line) else {
+            return Err(RunFault::Memory);
+        };
+        let Some(command) = found else {
             put_line(writer, held, "unknown command")?;
             return Ok(2);
         };

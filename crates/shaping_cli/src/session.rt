@@ -3,14 +3,17 @@
 ghost use Rattle.std.specs.Prelude.{◌≡◌, IfOk, true, false, codes, string_bytes};
 ghost use Rattle.std.specs.List.{list_all};
 ghost use Rattle.shaping_buffer.specs.Text as texts;
-ghost use Rattle.shaping_buffer.specs.Text.{AreGlyphs};
+ghost use Rattle.glyph_text.specs.Text as of_glyphs;
+ghost use Rattle.glyph_text.specs.Text.{AreGlyphs, nothing_known};
 ghost use Rattle.shaping_cli.specs.Session as session;
 ghost use Rattle.shaping_buffer.specs.ClusterLevel.{level_of};
 ghost use Rattle.shaping_buffer.specs.Pushed.{pushed, added};
 ghost use Rattle.shaping_cli.specs.Commands.{request_of};
 ghost use Rattle.shaping_cli.specs.Replies.{reply_text};
-ghost use Rattle.shaping_cli.specs.Session.{fresh, held_by, with_level, with_flags, Follows, Grows, FollowsCall, FollowsLimit, FollowsSerialize, FollowsState};
-ghost use Rattle.shaping_cli.specs.Session.{is_glyph, nothing_known};
+ghost use Rattle.shaping_cli.specs.Session.{fresh, held_by, with_level, with_flags, Follows, Grows, FollowsTurn};
+ghost use Rattle.shaping_cli.specs.Session.{FollowsLimit, FollowsSerialize, FollowsState};
+ghost use Rattle.shaping_cli.specs.Session.{is_glyph, replacement_turn};
+ghost use Rattle.shaping_runs.specs.Replay.{turn};
 ghost use Rattle.shaping_buffer.specs.State.{cleared};
 ghost use Rattle.shaping_buffer.specs.Positions.{with_zero_positions};
 
@@ -52,10 +55,14 @@ impl Session {
             Command::Flags(flags) => Ok(self.set_flags(flags)),
             Command::Limit(number) => Ok(self.limit(number)),
             Command::Make(call) => self.make(call),
+            Command::ReplaceGlyphs { num_in, ids } => self.replace_glyphs(num_in, ids.as_slice()),
             Command::State => self.state(alloc),
             Command::Serialize(flags) => self.serialize(alloc, flags),
             Command::New => Ok((Session::new(alloc), Reply::ok())),
             Command::Feature(text) => Ok((self, query::feature(alloc, text)?)),
+            Command::Tags { script, language } => {
+                Ok((self, query::tags(alloc, script, language)?))
+            }
             Command::Compose(a, b) => Ok((self, query::compose(alloc, a, b)?)),
             Command::Decompose(c) => Ok((self, query::decompose(alloc, c)?)),
         }
@@ -131,7 +138,7 @@ impl Session {
         (session, Reply::ok())
     }
 
-    /// Says how many glyphs each side may hold. It asks that none holds more.
+    /// Says how many glyphs each side may hold. Requires that none holds more.
     fn limit(self, number: usize) -> (Session, Reply)
         ensures { FollowsLimit number self result.0 (reply_text result.1) }
     {
@@ -152,8 +159,8 @@ impl Session {
         Ok((Session::Turned(buffer), Reply::Text(text)))
     }
 
-    fn make(self, call: Call<'static>) -> Result<(Session, Reply), AllocError>
-        ensures { IfOk result (λ next. FollowsCall call.entry self next.0 (reply_text next.1)) }
+    fn make(self, call: Call<'_>) -> Result<(Session, Reply), AllocError>
+        ensures { IfOk result (λ next. FollowsTurn (turn call.entry) self next.0 (reply_text next.1)) }
     {
         let mut buffer = self.into_buffer();
         let mut answers = [Answer::Outside];
@@ -164,8 +171,16 @@ impl Session {
         Ok((Session::Turned(buffer), reply))
     }
 
-    /// Prints the glyphs, with their positions all 0. It asks that no output is open, and ids of 16 bits where names or
-    /// extents are printed.
+    /// Replaces so many glyphs at the cursor by as many as there are ids.
+    fn replace_glyphs(self, num_in: usize, ids: &[u32]) -> Result<(Session, Reply), AllocError>
+        ensures { IfOk result (λ next.
+            FollowsTurn (replacement_turn num_in ids.now) self next.0 (reply_text next.1)) }
+    {
+        self.make(Call::ReplaceGlyphs(num_in, ids.len(), ids))
+    }
+
+    /// Prints the glyphs, with their positions all 0. Requires that no output is open, and ids of 16 bits where names
+    /// or extents are printed.
     fn serialize(self, alloc: Global, flags: u8) -> Result<(Session, Reply), AllocError>
         ensures { IfOk result (λ next.
             FollowsSerialize (record { 0 = flags }) self next.0 (reply_text next.1)) }
@@ -194,7 +209,7 @@ fn print_glyphs(
     buffer: hb_buffer_t,
 ) -> Result<(UnicodeBuffer, String), AllocError>
     requires closed { buffer.have_output ≡ false }
-    requires glyphs { texts.asks_font flags ≡ true → AreGlyphs buffer.input }
+    requires glyphs { of_glyphs.asks_font flags ≡ true → AreGlyphs buffer.input }
     ensures next { IfOk result (λ printed. printed.0 ≡ cleared buffer) }
     ensures text { IfOk result (λ printed. string_bytes printed.1
         ≡ texts.text_of nothing_known flags (with_zero_positions buffer)) }
@@ -214,14 +229,14 @@ const LAST_GLYPH: u32 = 65535;
 fn may_be_printed(flags: SerializeFlags, buffer: &hb_buffer_t) -> bool
     ensures is { result ≡ session.may_be_printed flags buffer.now }
     ensures closed { result ≡ true → buffer.now.have_output ≡ false }
-    ensures glyphs { result ≡ true → texts.asks_font flags ≡ true → AreGlyphs buffer.now.input }
+    ensures glyphs { result ≡ true → of_glyphs.asks_font flags ≡ true → AreGlyphs buffer.now.input }
 {
     !buffer.have_output() && (!asks_font(flags) || are_glyphs(buffer.info()))
 }
 
 /// Whether names or extents are printed under these flags.
 fn asks_font(flags: SerializeFlags) -> bool
-    ensures { result ≡ texts.asks_font flags }
+    ensures { result ≡ of_glyphs.asks_font flags }
 {
     !flags.contains(SerializeFlags::NO_GLYPH_NAMES) || flags.contains(SerializeFlags::GLYPH_EXTENTS)
 }

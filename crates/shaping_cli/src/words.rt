@@ -1,10 +1,13 @@
 //! The words of a line.
 
-ghost use Rattle.std.specs.Prelude.{◌≡◌, ◌^◌, ◌<◌, ◌↔◌, Some, None, IsTrue, SomeIff, option_copied};
+ghost use Rattle.std.specs.Prelude.{◌≡◌, ◌^◌, ◌<◌, ◌↔◌, Some, None, IsTrue, SomeIff, option_copied, option_map};
 ghost use Rattle.std.specs.Char.{is_ascii_digit, is_ascii_hexdigit};
 ghost use Rattle.std.specs.List.{before_first, list_all};
-ghost use Rattle.shaping_cli.specs.Words.{is_space, first_word, past_space, past_first_word, IsDecimal, decimal_value, next_u32, next_place, IsHexadecimal, hexadecimal_value, next_character};
+ghost use Rattle.shaping_cli.specs.Words.{is_space, first_word, past_space, past_first_word, IsDecimal, decimal_value};
+ghost use Rattle.shaping_cli.specs.Words.{next_u32, next_place, IsHexadecimal, hexadecimal_value, next_character};
+ghost use Rattle.shaping_cli.specs.Words.{next_script, next_language};
 
+use rb_text::Script;
 use std::marker::Model;
 
 /// A line that is taken word by word from its front. Words are not empty, and one space parts them.
@@ -66,6 +69,28 @@ impl<'a> Words<'a> {
     {
         let code = hexadecimal(self.word()?)?;
         char::from_u32(code)
+    }
+
+    /// Takes the next word as the name of a script, where it names one; `-` names none.
+    pub fn script(&mut self) -> Option<Option<Script>>
+        ensures script { result ≡ next_script self.old }
+        ensures rest { self.new ≡ past_first_word self.old }
+    {
+        match self.word()? {
+            "-" => Some(None),
+            word => Some(Some(word.parse::<Script>().ok()?)),
+        }
+    }
+
+    /// Takes the next word as the text of a language; `-` names none.
+    pub fn language(&mut self) -> Option<Option<&'a str>>
+        ensures language { option_map (λ text. option_copied text) result ≡ next_language self.old }
+        ensures rest { self.new ≡ past_first_word self.old }
+    {
+        match self.word()? {
+            "-" => Some(None),
+            word => Some(Some(word)),
+        }
     }
 
     /// Takes all that is left after the last space, which may be an empty text.

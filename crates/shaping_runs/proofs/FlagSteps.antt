@@ -5,12 +5,12 @@ use Rattle.std.proofs.lemmas.Bool.{cond_both}
 use Rattle.std.proofs.lemmas.List.{take_at, drop_at}
 use Rattle.std.proofs.lemmas.List.Elements.{All-append, All-take, All-drop, All-map, All-weaker}
 use Rattle.rb_glyph.specs.declared.info.hb_glyph_info_t.{hb_glyph_info_t}
-use Rattle.glyph_lists.specs.Parts.{part, map_range}
+use Rattle.glyph_lists.specs.Parts.{part}
 use Rattle.glyph_lists.specs.Marks.{with_glyph_flags}
 use Rattle.glyph_lists.specs.Scans.{scan_least, part_scan, two_part_scan}
 use Rattle.glyph_lists.specs.GlyphFlags.{BreakImpliesConcat, FlagsAgree}
 use Rattle.shaping_buffer.specs.Step.{with_id}
-use Rattle.glyph_laws.proofs.GlyphFlagsLemmas.{deletion_keeps_flags, merge_or_mark_keeps_flags, mark_keeps_flags, end_mark_keeps_flags, mark_others_keeps_flags, mark_part_keeps_flags, marked_keep_flags, new_part_keeps_flags}
+use Rattle.glyph_laws.proofs.GlyphFlagsLemmas.{deletion_keeps_flags, merge_or_mark_keeps_flags, mark_others_keeps_flags, mark_part_keeps_flags, marked_keep_flags, new_part_keeps_flags}
 use Rattle.glyph_laws.proofs.ReplacementLemmas.{replaced_keeps_flags}
 use Rattle.shaping_runs.proofs.Steps.{StepsKeep}
 

@@ -6,3 +6,6 @@ pub mod RunLaws
 pub mod Rows
 pub mod Refusals
 pub mod RenderLemmas
+pub mod SeparateSteps
+pub mod HeldLemmas
+pub mod HeadlineLemmas

@@ -3,14 +3,14 @@ use Rattle.std.proofs.Common.{◌≡◌, ℕ, suc, ◌+◌, ◌-◌, ◌<◌, �
 use Rattle.std.proofs.lemmas.Bool.{cond_both, cases_lt, eqb-true}
 use Rattle.std.proofs.lemmas.List.{append-nil, map-append, length-map, take-append-drop, get_or_append_left, get_or-append_right, get_or-append-add, get_or-map, get_or-drop}
 use Rattle.rb_glyph.specs.declared.info.hb_glyph_info_t.{hb_glyph_info_t}
-use Rattle.glyph_lists.specs.Parts.{part, map_range}
+use Rattle.glyph_lists.specs.Parts.{part}
 use Rattle.glyph_lists.specs.Clusters.{run_merge, zero_glyph}
 use Rattle.glyph_lists.specs.Marks.{with_glyph_flags}
 use Rattle.glyph_lists.specs.Masks.{reset_masks, with_mask}
 use Rattle.glyph_lists.specs.Scans.{scan_least, part_scan, two_part_scan}
 use Rattle.shaping_buffer.specs.Step.{with_id}
 use Rattle.glyph_laws.proofs.ReadingsLemmas.{at, Reading, reading_alike, reading_dropped, reading_copied, reading_but_masks}
-use Rattle.glyph_laws.proofs.MarksLemmas.{reset_masks-mark, reset_masks-mark_others, reset_masks-mark_part, reset_masks-end_mark, reset_masks-map_marked, reset_masks-new_part}
+use Rattle.glyph_laws.proofs.MarksLemmas.{reset_masks-mark_others, reset_masks-mark_part, reset_masks-map_marked, reset_masks-new_part}
 use Rattle.glyph_laws.proofs.DeletionLemmas.{merge_or_mark_keeps, deletion_keeps}
 use Rattle.glyph_laws.proofs.ReplacementLemmas.{replaced_keeps}
 use Rattle.shaping_runs.proofs.Steps.{StepsKeep}

@@ -4,7 +4,7 @@ use Rattle.std.proofs.lemmas.Bool.{cond_both, cond-true, cond-false, le-leb}
 use Rattle.rb_glyph.specs.declared.flag_sets.TheConstants.BufferFlags.{PRODUCE_UNSAFE_TO_CONCAT}
 use Rattle.rb_glyph.specs.declared.info.hb_glyph_info_t.{hb_glyph_info_t}
 use Rattle.shaping_buffer.specs.State.{State}
-use Rattle.shaping_buffer.specs.Step.{Outcome, limited, put_out, skip_glyph, skip_glyphs, next_glyphs, split_at, refused, last_place, with_id}
+use Rattle.shaping_buffer.specs.Step.{Outcome, limited, put_out, skip_glyph, skip_glyphs, next_glyphs, glyph_to_copy, split_at, refused, last_place, with_id}
 use Rattle.glyph_lists.specs.Replacement.{copies}
 use Rattle.shaping_buffer.specs.ClusterStep.{merge_clusters, head_of, plain_scan, asks}
 use Rattle.shaping_runs.specs.declared.call.Call.{Call}
@@ -37,8 +37,8 @@ outcome_stays CopyGlyph s h = put_out_stays (take 1 s.input) s s h
 outcome_stays (MoveTo place) s h =
     cond_both s.have_output _ _ (λ (o : Outcome). o.state.successful ≡ false)
     (λ _. cond_both s.successful _ _ (λ (o : Outcome). o.state.successful ≡ false) (λ _. limited_stays _ s (split_at place s) h) (λ _. h)) (λ _. h)
-outcome_stays (OutputGlyph id) s h = limited_stays _ s _ h
-outcome_stays Sync s h = cond_both s.successful _ _ (λ (o : Outcome). o.state.successful ≡ false) (λ _. limited_stays (length (s.out ++ s.input)) s _ h) (λ _. h)
+outcome_stays (OutputGlyph id) s h = put_out_stays (map (with_id id) (glyph_to_copy s)) s s h
+outcome_stays Sync s h = cond_both s.successful _ _ (λ (o : Outcome). o.state.successful ≡ false) (λ _. limited_stays (length (s.out ++ s.input)) s (record s { have_output = false; have_separate_output = false; out = []; input = s.out ++ s.input; idx = 0 }) h) (λ _. h)
 outcome_stays DeleteGlyph s h = h
 outcome_stays (MergeClusters start end) s h = h
 outcome_stays (MergeOutClusters start end) s h = h

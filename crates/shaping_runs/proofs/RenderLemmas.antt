@@ -1,23 +1,17 @@
 -- Features set one after another, and calls made one by one until one is refused.
-use Rattle.std.proofs.Common.{◌≡◌, ℕ, ◌+◌, ◌<◌, ◌≤◌, Bool, true, false, List, [], ◌∷◌, ◌++◌, length, take, drop, get_or, Option, Some, None, refl, ap, sym, subst, ◌∙◌, arith, length-take}
-use Rattle.std.specs.Prelude.{◌≢◌, IfSome, slice_get}
-use Rattle.std.specs.List.{All}
+use Rattle.std.proofs.Common.{◌≡◌, ℕ, ◌+◌, ◌<◌, false, List, [], ◌∷◌, ◌++◌, length, take, get_or, refl, ap, sym, subst, ◌∙◌, arith, length-take}
+use Rattle.std.specs.Prelude.{◌≢◌}
 use Rattle.std.proofs.Math.ListN.{set}
 use Rattle.std.proofs.lemmas.List.{take_more}
 use Rattle.std.proofs.lemmas.List.Elements.{All-same, All-push}
-use Rattle.std.proofs.lemmas.List.{take_all, drop_all, append-nil}
 use Rattle.std.proofs.lemmas.Option.{slice_get-get_or}
 use Rattle.rb_text.specs.declared.feature.Feature.{Feature}
-use Rattle.shaping_buffer.specs.Positions.{with_zero_positions}
 use Rattle.shaping_buffer.specs.State.{State}
 use Rattle.shaping_runs.specs.declared.call.Call.{Call}
 use Rattle.shaping_runs.specs.declared.call.Answer.{Answer}
 use Rattle.shaping_runs.specs.declared.call.Answer.TheVariants as answer
-use Rattle.shaping_runs.specs.declared.rendering.RenderFault.{RenderFault}
-use Rattle.shaping_runs.specs.declared.rendering.RenderFault.TheVariants.{Length, Refused, Memory, TooManyFeatures, OutputLeftOpen}
-use Rattle.shaping_runs.specs.declared.rendering.TheConstants.{MAX_FEATURES}
-use Rattle.shaping_runs.specs.Replay.{turn, after, answers_of, MayStop, StopsAt}
-use Rattle.shaping_runs.specs.Render.{pushed_text, with_feature, with_features, text_with_features, NoneRefused, AnswersAll, RefusedAt, WantsMemoryAt, StopsWith, FailsOnText, ComesToCalls, RendersTo, Fails}
+use Rattle.shaping_runs.specs.Replay.{turn, after, answers_of, MayStop}
+use Rattle.shaping_runs.specs.Render.{with_feature, with_features, NoneRefused, RefusedAt, WantsMemoryAt}
 use Rattle.shaping_runs.proofs.ReplayLemmas.{Told, told_more, answers_of-push}
 
 -- ---- features

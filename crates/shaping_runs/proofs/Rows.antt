@@ -1,9 +1,11 @@
 -- Worked rows: lists of calls, what they answer and what they leave.
-use Rattle.std.proofs.Common.{◌≡◌, ℕ, List, [], ◌∷◌, refl, true, false, pos}
+use Rattle.std.proofs.Common.{◌≡◌, ℕ, List, [], ◌∷◌, refl, true, false, pos, map}
 use Rattle.rb_glyph.specs.declared.info.hb_glyph_info_t.{hb_glyph_info_t}
-use Rattle.glyph_lists.specs.Clusters.{zero_glyph, run_merge, range_least, widened_start, widened_end, run_start, run_end, least, with_cluster}
+use Rattle.glyph_lists.specs.Clusters.{zero_glyph, run_merge, range_least, widened_start, widened_end, run_start, run_end, least, with_cluster, cluster_merge}
 use Rattle.glyph_lists.specs.Deletion.{merge_or_mark}
-use Rattle.std.specs.Prelude.{None}
+use Rattle.glyph_lists.specs.Marks.{mark_part, end_mark, with_glyph_flags, ends}
+use Rattle.glyph_lists.specs.Scans.{scan_of}
+use Rattle.std.specs.Prelude.{None, Some}
 use Rattle.shaping_buffer.specs.State.{State, empty_state}
 use Rattle.shaping_buffer.specs.Step.{with_id}
 use Rattle.shaping_buffer.specs.Step as step
@@ -17,9 +19,11 @@ use Rattle.std.specs.Char.{encode_utf8}
 use Rattle.std.specs.Str.{chars}
 use Rattle.std.specs.Fmt.{digits}
 use Rattle.shaping_runs.specs.declared.call.Call.{Call}
-use Rattle.shaping_runs.specs.declared.call.Call.TheVariants.{ClearOutput, NextGlyph, NextGlyphs, SkipGlyph, OutputGlyph, OutputInfo, CopyGlyph, MoveTo, Sync, MergeClusters}
+use Rattle.shaping_runs.specs.declared.call.Call.TheVariants.{ClearOutput, NextGlyph, NextGlyphs, SkipGlyph, OutputGlyph, OutputInfo, CopyGlyph, MoveTo, Sync, MergeClusters, UnsafeToBreak}
 use Rattle.shaping_runs.specs.declared.call.Answer.TheVariants.{Done, Refused, Outside}
-use Rattle.shaping_runs.specs.Replay.{answers_of, after}
+use Rattle.shaping_buffer.specs.ClusterStep.{both}
+use Rattle.shaping_runs.specs.Replay.{answers_of, after, turn}
+use Rattle.shaping_runs.specs.Headline.{held, range_of}
 
 -- one glyph, and room for one on each side
 one : State
@@ -33,13 +37,13 @@ told : answers_of calls one ≡ Done ∷ Done ∷ Refused ∷ Outside ∷ Refuse
 unfolding one calls
 told = refl
 
-left : after calls one ≡ record (empty_state 1 (pos 0)) { have_output = true; out = with_id 7 zero_glyph ∷ []; idx = 1; successful = false }
+left : after calls one ≡ record (empty_state 1 (pos 0)) { have_output = true; have_separate_output = true; out = with_id 7 zero_glyph ∷ []; idx = 1; successful = false }
 unfolding one calls
 left = refl
 
 -- both sides together are too long
 sync_is_too_long : after (ClearOutput ∷ OutputGlyph 7 ∷ Sync ∷ []) one
-    ≡ record (empty_state 1 (pos 0)) { have_output = true; out = with_id 7 zero_glyph ∷ []; input = zero_glyph ∷ []; successful = false }
+    ≡ record (empty_state 1 (pos 0)) { have_output = true; have_separate_output = true; out = with_id 7 zero_glyph ∷ []; input = zero_glyph ∷ []; successful = false }
 unfolding one
 sync_is_too_long = refl
 
@@ -79,10 +83,10 @@ unfolding merge_or_mark run_merge range_least widened_start widened_end run_star
 four_are_too_many = refl
 
 another_is_put_out : step.output_info (glyph 5 9) opened
-    ≡ record { done = true; state = record opened { out = glyph 97 0 ∷ glyph 5 9 ∷ [] } }
+    ≡ record { done = true; state = record opened { have_separate_output = true; out = glyph 97 0 ∷ glyph 5 9 ∷ [] } }
 another_is_put_out = refl
 
-the_head_is_copied : step.copy_glyph opened ≡ record { done = true; state = record opened { out = glyph 97 0 ∷ glyph 98 2 ∷ [] } }
+the_head_is_copied : step.copy_glyph opened ≡ record { done = true; state = record opened { have_separate_output = true; out = glyph 97 0 ∷ glyph 98 2 ∷ [] } }
 the_head_is_copied = refl
 
 moved_forward : step.move_to 2 opened
@@ -120,6 +124,35 @@ no_room_for_five = refl
 ran : answers_of (ClearOutput ∷ NextGlyphs 2 ∷ CopyGlyph ∷ OutputInfo (glyph 5 0) ∷ MoveTo 0 ∷ NextGlyphs 9 ∷ MoveTo 3 ∷ []) (record (empty_state 3 (pos 0)) { input = glyph 97 0 ∷ glyph 98 1 ∷ glyph 99 2 ∷ [] })
     ≡ Done ∷ Done ∷ Done ∷ Refused ∷ Refused ∷ Outside ∷ Refused ∷ []
 ran = refl
+
+-- ---- falling clusters, with an output open
+
+-- four glyphs, and an output in which nothing stands
+abbrev falling : State
+falling = record (empty_state 9 (pos 0)) { have_output = true; input = glyph 97 4 ∷ glyph 98 3 ∷ glyph 99 3 ∷ glyph 100 1 ∷ [] }
+
+-- the glyph before the merged ones takes their cluster
+first_two_are_merged : both (turn (MergeClusters 0 2) falling).state ≡ glyph 97 3 ∷ glyph 98 3 ∷ glyph 99 3 ∷ glyph 100 1 ∷ []
+unfolding merge_or_mark run_merge range_least widened_start widened_end run_start run_end least with_cluster
+first_two_are_merged = refl
+
+last_three_are_merged : both (turn (MergeClusters 1 4) falling).state ≡ glyph 97 4 ∷ glyph 98 1 ∷ glyph 99 1 ∷ glyph 100 1 ∷ []
+unfolding merge_or_mark run_merge range_least widened_start widened_end run_start run_end least with_cluster
+last_three_are_merged = refl
+
+-- it is the cluster merge of the range, here across the cursor
+merged_across_the_cursor : both (after (NextGlyphs 2 ∷ MergeClusters 2 4 ∷ []) falling) ≡ cluster_merge (both falling) (range_of (MergeClusters 2 4) falling)
+unfolding merge_or_mark run_merge cluster_merge range_least widened_start widened_end run_start run_end least with_cluster
+merged_across_the_cursor = refl
+
+-- all but the least cluster are marked
+break_before_the_least : map (λ g. g.mask) (both (turn (UnsafeToBreak (Some 0) (Some 4)) falling).state) ≡ 3 ∷ 3 ∷ 3 ∷ 0 ∷ []
+unfolding scan_of end_mark mark_part with_glyph_flags ends least
+break_before_the_least = refl
+
+-- what is held is one too many
+held_is_too_long : held (NextGlyphs 4) falling ∷ held (MoveTo 3) falling ∷ held Sync falling ∷ held SkipGlyph falling ∷ [] ≡ 4 ∷ 3 ∷ 4 ∷ 0 ∷ []
+held_is_too_long = refl
 
 -- ---- limits and the numbers of ligatures
 

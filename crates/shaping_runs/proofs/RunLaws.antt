@@ -1,5 +1,5 @@
 -- What every list of calls keeps: glyph flags, the order of clusters, cluster numbers and coarse lists.
-use Rattle.std.proofs.Common.{◌≡◌, ℕ, List, [], ◌∷◌, refl, sym, ◌∙◌, subst, true}
+use Rattle.std.proofs.Common.{◌≡◌, ℕ, List, [], ◌∷◌, refl, sym, ◌∙◌, subst, true, false}
 use Rattle.std.specs.Prelude.{⊤}
 use Rattle.std.proofs.lemmas.Bool.{false≢true}
 use Rattle.rb_glyph.specs.declared.info.hb_glyph_info_t.{hb_glyph_info_t}
@@ -12,7 +12,7 @@ use Rattle.glyph_laws.proofs.ReadingsLemmas.{monotone_reading, coarse_reading}
 use Rattle.glyph_laws.proofs.NumbersLemmas.{Stands, Stands-from_occurs, occurs-from_stands, Stands-from_reading, run_merge_stands}
 use Rattle.shaping_runs.specs.declared.call.Call.{Call}
 use Rattle.shaping_runs.specs.Replay.{turn, after}
-use Rattle.shaping_runs.specs.Exceptions.{NoMergeStopsAtCursor, NoGlyphIsBrought}
+use Rattle.shaping_runs.specs.Exceptions.{brings_glyph, NoMergeStopsAtCursor, NoGlyphIsBrought}
 use Rattle.shaping_runs.proofs.Steps.{StepsKeep, turn_keeps, after_keeps}
 use Rattle.shaping_runs.proofs.FlagSteps.{flags_steps}
 use Rattle.shaping_runs.proofs.ReadingSteps.{reading_steps}
@@ -22,6 +22,9 @@ flags_after = after_keeps FlagsAgree (λ _. ⊤) flags_steps (λ floor. tt)
 
 pub order_after : (calls : List Call) (s : State) → NoGlyphIsBrought calls s → IsMonotone (both s) → IsMonotone (both (after calls s))
 order_after = after_keeps IsMonotone (λ _. ⊤) (reading_steps IsMonotone (λ _. ⊤) tt monotone_reading (λ floor _ l p q. run_merge_keeps_order l p q floor)) (λ floor. tt)
+
+pub order_by : (call : Call) (s : State) → brings_glyph call s ≡ false → IsMonotone (both s) → IsMonotone (both (turn call s).state)
+order_by call s own = turn_keeps IsMonotone (λ _. ⊤) (reading_steps IsMonotone (λ _. ⊤) tt monotone_reading (λ floor _ l p q. run_merge_keeps_order l p q floor)) call s own (λ on. tt)
 
 -- c stands only where it stood in l
 abbrev StoodIn : List hb_glyph_info_t → ℕ → List hb_glyph_info_t → Type 0
@@ -33,6 +36,10 @@ stood_steps l c = reading_steps (StoodIn l c) (λ _. ⊤) tt (λ xs ys r h w. h 
 pub numbers_after : (calls : List Call) (s : State) → NoGlyphIsBrought calls s → (c : ℕ) → occurs c (clusters (both (after calls s))) ≡ true → occurs c (clusters (both s)) ≡ true
 numbers_after calls s none c on =
     occurs-from_stands c (both s) (after_keeps (StoodIn (both s) c) (λ _. ⊤) (stood_steps (both s) c) (λ floor. tt) calls s none (λ w. w) (Stands-from_occurs c (both (after calls s)) on))
+
+pub numbers_by : (call : Call) (s : State) → brings_glyph call s ≡ false → (c : ℕ) → occurs c (clusters (both (turn call s).state)) ≡ true → occurs c (clusters (both s)) ≡ true
+numbers_by call s own c on =
+    occurs-from_stands c (both s) (turn_keeps (StoodIn (both s) c) (λ _. ⊤) (stood_steps (both s) c) call s own (λ on2. tt) (λ w. w) (Stands-from_occurs c (both (turn call s).state) on))
 
 -- merges down to the start alone
 coarse_steps : StepsKeep IsCoarse (λ floor. floor ≡ 0)

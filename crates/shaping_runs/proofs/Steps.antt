@@ -12,7 +12,7 @@ use Rattle.glyph_lists.specs.Deletion.{merge_or_mark, deletion}
 use Rattle.glyph_lists.specs.Replacement.{replacement}
 use Rattle.glyph_lists.specs.GlyphFlags.{BreakImpliesConcat}
 use Rattle.shaping_buffer.specs.State.{State, len, lookahead_len}
-use Rattle.shaping_buffer.specs.Step.{Outcome, limited, put_out, skip_glyphs, next_glyphs, replace_glyphs, move_to, split_at, with_id}
+use Rattle.shaping_buffer.specs.Step.{Outcome, limited, put_out, skip_glyphs, next_glyphs, glyph_to_copy, replace_glyphs, move_to, split_at, with_id}
 use Rattle.shaping_buffer.proofs.ReplacementLemmas.{front_replaced, replaced_sides, replaced_both}
 use Rattle.shaping_buffer.specs.ClusterStep.{both, with_both, both_place, floor_of, any_order, merge_clusters, merge_out_clusters, scan, plain_scan, scan_sides, flag_all, asks, is_input_range, is_sides_range, range_start, range_end}
 use Rattle.glyph_lists.specs.declared.glyph_flags.TheConstants.{BREAK_BITS}
@@ -27,21 +27,21 @@ use Rattle.shaping_runs.specs.Exceptions.{is_merge_stopped_at_cursor, brings_gly
 
 -- ---- conditions in words of numbers
 
-input_order : (start end : ℕ) (s : State) → is_input_range start end s ≡ true → start ≤ end
+pub input_order : (start end : ℕ) (s : State) → is_input_range start end s ≡ true → start ≤ end
 input_order start end s e = leb-true start end (and_parts (leb start end) _ e).0
 
-input_within : (start end : ℕ) (s : State) → is_input_range start end s ≡ true → end ≤ len s
+pub input_within : (start end : ℕ) (s : State) → is_input_range start end s ≡ true → end ≤ len s
 input_within start end s e = leb-true end (len s) (and_parts (leb end (len s)) _ (and_parts (leb start end) _ e).1).0
 
-place_within : (have_output : Bool) (idx n end : ℕ) → end ≤ cond have_output (idx + n) n → end - cond have_output idx 0 ≤ n
+pub place_within : (have_output : Bool) (idx n end : ℕ) → end ≤ cond have_output (idx + n) n → end - cond have_output idx 0 ≤ n
 place_within true idx n end h = omega arith
 place_within false idx n end h = omega arith
 
-front_left : (have_output : Bool) (idx n a : ℕ) → have_output ≡ true → a ≤ cond have_output (idx + n) n - idx → a ≤ n
+pub front_left : (have_output : Bool) (idx n a : ℕ) → have_output ≡ true → a ≤ cond have_output (idx + n) n - idx → a ≤ n
 front_left true idx n a e h = omega arith
 front_left false idx n a e h = cc
 
-glyph_left : (have_output : Bool) (idx n : ℕ) → have_output ≡ true → ltb idx (cond have_output (idx + n) n) ≡ true → 0 < n
+pub glyph_left : (have_output : Bool) (idx n : ℕ) → have_output ≡ true → ltb idx (cond have_output (idx + n) n) ≡ true → 0 < n
 glyph_left true idx n e h = omega (arith, ltb-true idx (idx + n) h)
 glyph_left false idx n e h = cc
 
@@ -51,7 +51,7 @@ floor_zero true false idx e h = omega (arith, ltb-false 0 idx h)
 floor_zero false have_output idx e h = cc
 
 -- the range of a call on both sides, by places in both, while an output is open and while none is
-sides_order : (start end : ℕ) (s : State) → is_sides_range start end s ≡ true → start ≤ both_place s end
+pub sides_order : (start end : ℕ) (s : State) → is_sides_range start end s ≡ true → start ≤ both_place s end
 sides_order start end s e = elim (cases_Bool s.have_output) [
   | inl open_now ↦
       omega (arith, leb-true start (length s.out) (and_parts (leb start (length s.out)) _ (sym (cond-true s.have_output _ _ open_now) ∙ e)).0)
@@ -86,11 +86,14 @@ module _ (P : List hb_glyph_info_t → Type 0) (Floor : ℕ → Type 0) (steps :
   limited_keeps : (held : ℕ) (before new : State) → P (both before) → P (both new) → P (both (limited held before new).state)
   limited_keeps held before new h h2 = cond_both (leb held before.max_len) _ _ (λ (o : Outcome). P (both o.state)) (λ _. h2) (λ _. h)
 
+  put_out_keeps : (xs : List hb_glyph_info_t) (s after : State) → P (both s) → P ((after.out ++ xs) ++ after.input) → P (both (put_out xs s after).state)
+  put_out_keeps xs s after h h2 = limited_keeps (length (s.out ++ xs)) s (record after { out = after.out ++ xs }) h h2
+
   -- glyphs are put out in the stead of the first n
   put_for_keeps : (n : ℕ) (xs : List hb_glyph_info_t) (s : State) → s.have_output ≡ true → P (both s) → P ((s.out ++ xs) ++ drop n s.input)
       → P (both (put_out xs s (skip_glyphs n s)).state)
   put_for_keeps n xs s e h h2 =
-      limited_keeps (length (s.out ++ xs)) s _ h (subst (λ l. P ((s.out ++ xs) ++ l)) (sym (cond-true s.have_output (drop n s.input) s.input e)) h2)
+      put_out_keeps xs s (skip_glyphs n s) h (subst (λ l. P ((s.out ++ xs) ++ l)) (sym (cond-true s.have_output (drop n s.input) s.input e)) h2)
 
   next_keeps : (n : ℕ) (s : State) → P (both s) → P (both (next_glyphs n s).state)
   next_keeps n s h =
@@ -163,11 +166,11 @@ module _ (P : List hb_glyph_info_t → Type 0) (Floor : ℕ → Type 0) (steps :
       let some = glyph_left s.have_output s.idx (length s.input) w.0 v.0 in
       let within = front_left s.have_output s.idx (length s.input) num_in w.0 (leb-true num_in (lookahead_len s) (and_parts (leb num_in (lookahead_len s)) _ v.1).0) in
       replace_keeps num_in (take num_out ids.now) s w.0 some within h
-  outcome_keeps (OutputGlyph id) s e own held h = limited_keeps _ s _ h (steps.copied id s.out s.input h)
+  outcome_keeps (OutputGlyph id) s e own held h = put_out_keeps (map (with_id id) (glyph_to_copy s)) s s h (steps.copied id s.out s.input h)
   outcome_keeps (OutputInfo g) s e own held h = absurd (false≢true (sym own ∙ e))
-  outcome_keeps CopyGlyph s e own held h = limited_keeps _ s _ h (steps.doubled s.out s.input h)
+  outcome_keeps CopyGlyph s e own held h = put_out_keeps (take 1 s.input) s s h (steps.doubled s.out s.input h)
   outcome_keeps (MoveTo place) s e own held h = move_keeps place s h
-  outcome_keeps Sync s e own held h = cond_both s.successful _ _ (λ (o : Outcome). P (both o.state)) (λ _. limited_keeps (length (s.out ++ s.input)) s _ h h) (λ _. h)
+  outcome_keeps Sync s e own held h = cond_both s.successful _ _ (λ (o : Outcome). P (both o.state)) (λ _. limited_keeps (length (s.out ++ s.input)) s (record s { have_output = false; have_separate_output = false; out = []; input = s.out ++ s.input; idx = 0 }) h h) (λ _. h)
   outcome_keeps DeleteGlyph s e own held h =
       let w = and_parts s.have_output (has_glyph s) e in
       delete_keeps (any_order s) s.out s.input (glyph_left s.have_output s.idx (length s.input) w.0 w.1) h

@@ -1,3 +1,5 @@
 pub mod Replay
 pub mod Exceptions
 pub mod Render
+pub mod Separation
+pub mod Headline

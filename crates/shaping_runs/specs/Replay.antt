@@ -7,7 +7,7 @@ use Rattle.shaping_runs.specs.declared.call.Answer.{Answer}
 use Rattle.shaping_runs.specs.declared.call.Answer.TheVariants.{Done, Refused, Outside}
 use Rattle.shaping_buffer.specs.State.{State, len, lookahead_len}
 use Rattle.shaping_buffer.specs.Step as step
-use Rattle.shaping_buffer.specs.Step.{Outcome, Grows}
+use Rattle.shaping_buffer.specs.Step.{Outcome, MayWant}
 use Rattle.shaping_buffer.specs.ClusterStep as cluster_step
 use Rattle.shaping_buffer.specs.ClusterStep.{is_input_range, is_out_range, is_sides_range, range_start, range_end}
 
@@ -92,9 +92,10 @@ abbrev pub answers_of : List Call → State → List Answer
 answers_of [] s = []
 answers_of (call ∷ calls) s = (turn call s).answer ∷ answers_of calls (turn call s).state
 
--- where a call finds no memory: an output is open, a side would become longer, and else the call would be done
+-- where a call finds no memory: an output is open, which is separate before the call or would be after it, a side would
+-- become longer, and else the call would be done
 abbrev pub MayStop : Call → State → Type 0
-MayStop call s = (s.have_output ≡ true) × Grows s (outcome_of call s).state × ((turn call s).answer ≡ Done)
+MayStop call s = MayWant s (outcome_of call s).state × ((turn call s).answer ≡ Done)
 
 -- What came of one call: its turn, or want of memory. Then nothing changed.
 abbrev pub GivesTurn : Call → State → Result Answer AllocError → State → Type 0

@@ -19,7 +19,7 @@ pub struct Stopped {
     pub at: usize,
 }
 
-/// Makes the calls in order, and tells what came of each. It asks as many answers as calls. A call whose condition
+/// Makes the calls in order, and tells what came of each. Requires as many answers as calls. A call whose condition
 /// fails is answered `Outside`. `Err(Stopped { at })` where a call found no memory: the calls before it stand, it
 /// changed nothing itself, and the answers from there on are as they were.
 pub fn replay(

@@ -8,5 +8,6 @@ pub use shaping_buffer;
 
 pub mod call;
 mod call_list;
+pub mod headline;
 pub mod laws;
 mod rendering;

@@ -1,10 +1,12 @@
 //! A text with features and calls, from end to end.
 
-ghost use Rattle.std.specs.Prelude.{◌≡◌, ◌≢◌, ◌<◌, ◌≤◌, ◌==◌, if◌then◌else◌, false, length, OnOk, IfErr, MatchResult, true};
+ghost use Rattle.std.specs.Prelude.{◌≡◌, ◌≢◌, ◌<◌, ◌≤◌, ◌==◌, if◌then◌else◌, false, length, OnOk, IfErr, MatchResult};
+ghost use Rattle.std.specs.Prelude.{true};
 ghost use Rattle.shaping_runs.specs.declared.call.Answer.{Answer};
 ghost use Rattle.shaping_runs.specs.declared.rendering.TheConstants.{MAX_FEATURES};
 ghost use Rattle.shaping_runs.specs.Replay.{after};
-ghost use Rattle.shaping_runs.specs.Render.{pushed_text, with_feature, with_features, AnswersAll, StopsWith, FailsOnText, RendersTo, Fails};
+ghost use Rattle.shaping_runs.specs.Render.{pushed_text, with_feature, with_features, AnswersAll, StopsWith};
+ghost use Rattle.shaping_runs.specs.Render.{FailsOnText, RendersTo, Fails};
 
 use crate::call::{Answer, Call};
 use crate::call_list::make;
@@ -42,9 +44,9 @@ pub enum RenderFault {
     OutputLeftOpen,
 }
 
-/// Renders a text: pushes its characters, gives each feature the mask bit of its place, 8 for the first, in the clusters
-/// from its start to its end where its value is not 0, makes the calls in order up to the first that is refused, and puts
-/// each glyph at position 0. Requires as many answers as calls.
+/// Renders a text: pushes its characters, gives each feature the mask bit of its place, 8 for the first, in the
+/// clusters from its start to its end where its value is not 0, makes the calls in order up to the first that is
+/// refused, and puts each glyph at position 0. Requires as many answers as calls.
 ///
 /// `Err` with `TooManyFeatures`, `Length` or `Memory { at: None }`: no call was made, and the answers are as they were.
 /// With `Refused { at }`: the answers up to that of the refused call are given. With `Memory { at: Some(at) }`: those

@@ -3,3 +3,4 @@ pub mod Printing
 pub mod Kerning
 pub mod LineBreak
 pub mod Visible
+pub mod Rendering

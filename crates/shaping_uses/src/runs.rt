@@ -6,7 +6,7 @@ ghost use Rattle.shaping_buffer.specs.ClusterStep.{both};
 ghost use Rattle.shaping_runs.specs.Replay.{after};
 
 use shaping_buffer::{UnicodeBuffer, hb_buffer_t};
-use shaping_runs::{Answer, Call, Stopped, laws, replay};
+use shaping_runs::{Answer, Call, Stopped, headline, replay};
 use std::alloc::{AllocError, Global};
 
 /// Puts the first two characters of a text into one cluster. `Ok(false)` where there are no two.
@@ -39,6 +39,6 @@ pub fn ligate_first_two(buffer: &mut hb_buffer_t, ligature: u32) -> Result<(), S
     ];
     let mut answers = [Answer::Outside; 5];
     replay(buffer, &calls, &mut answers)?;
-    laws::no_cluster_is_new();
+    headline::no_cluster_is_new();
     Ok(())
 }

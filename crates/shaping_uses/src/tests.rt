@@ -1,16 +1,20 @@
 ghost use Rattle.std.specs.Prelude.{◌≡◌, false};
 
+use crate::in_place::*;
 use crate::kerning::kern_pair;
 use crate::line_break::cut_of_line;
 use crate::merging::clusters_of_merged;
 use crate::printing::print_characters;
 use crate::readers::*;
 use crate::references::*;
+use crate::rendering::render_with_ligature;
 use crate::runs::{first_two_as_one, ligate_first_two};
 use crate::visible::hide_ignorables;
-use shaping_buffer::{UnicodeBuffer, hb_buffer_t, hb_glyph_info_t};
+use rb_glyph::NoGlyphNames;
+use shaping_buffer::{Feature, Flags, SerializeFlags, UnicodeBuffer, hb_buffer_t, hb_glyph_info_t};
 use std::alloc::Global;
 use std::process::Abort;
+use std::str::FromStr;
 use std::test::Fail;
 
 /// A buffer over a text, with no output open.
@@ -35,6 +39,20 @@ fn uses_run(rt: HostRuntime) -> Result<(), Fail> {
     glyphs_are_edited(&rt, rt.alloc());
     writes_land_at_their_places(&rt, rt.alloc());
     readers_tell_what_stands(&rt, rt.alloc());
+    calls_in_place_are_done(&rt, rt.alloc());
+    a_text_is_rendered(&rt, rt.alloc())
+}
+
+fn a_text_is_rendered(rt: &impl Abort, alloc: Global) -> Result<(), Fail> {
+    let kern = Feature::from_str("kern[2:]").map_err(|_| "no feature")?;
+    match render_with_ligature(alloc, "fib", kern, 9) {
+        Ok(glyphs) => {
+            let line = glyphs.serialize(alloc, &NoGlyphNames, SerializeFlags::NO_GLYPH_NAMES)?;
+            assert_eq!(rt; line.as_str(), "9=0+0|98=2+0");
+            assert_masks(rt, glyphs.glyph_infos(), &[0, 256]);
+        }
+        Err(_) => panic!(rt; "not rendered"),
+    }
     Ok(())
 }
 
@@ -124,4 +142,26 @@ fn readers_tell_what_stands(rt: &impl Abort, alloc: Global) {
     buffer.clear_output();
     assert!(rt; buffer.have_output());
     assert!(rt; !have_positions_while_open(&buffer));
+}
+
+/// One is dropped, four are put out, two of them taken back, and the output is closed.
+fn calls_in_place_are_done(rt: &impl Abort, alloc: Global) {
+    let mut buffer = buffer_of(rt, alloc, "abcde");
+    buffer.clear_output();
+    assert!(rt; buffer.lookahead_len() > 0);
+    buffer.skip_glyph();
+    assert!(rt; buffer.lookahead_len() > 0 && !buffer.have_separate_output());
+    assert_eq!(rt; next_in_place(&mut buffer), Ok(true));
+    assert!(rt;
+        buffer.have_output() && buffer.lookahead_len() > 0 && !buffer.have_separate_output()
+    );
+    assert_eq!(rt; replace_in_place(&mut buffer, 7), Ok(true));
+    assert!(rt; buffer.lookahead_len() >= 2 && !buffer.have_separate_output());
+    assert_eq!(rt; next_glyphs_in_place(&mut buffer, 2), Ok(true));
+    assert!(rt; buffer.have_output() && buffer.out_len() >= 2);
+    assert!(rt; buffer.successful() && !buffer.have_separate_output());
+    assert_eq!(rt; move_in_place(&mut buffer, 2), Ok(true));
+    assert!(rt; buffer.have_output() && buffer.successful() && !buffer.have_separate_output());
+    assert_eq!(rt; sync_in_place(&mut buffer), Ok(true));
+    assert_eq!(rt; buffer.info().len(), 4);
 }

@@ -1,4 +1,4 @@
-use super::{least_cluster, set_cluster, set_sides};
+use super::{set_cluster, set_sides};
 use crate::test_lists::{assert_clusters, assert_glyphs, glyph, glyphs};
 
 #[test]
@@ -14,7 +14,6 @@ fn a_change_of_cluster_takes_the_flags(rt: HostRuntime) {
 fn a_range_lies_on_both_sides(rt: HostRuntime) {
     let mut out = glyphs([3, 2]);
     let mut info = glyphs([3, 2, 4, 5]);
-    assert_eq!(rt; least_cluster(&out, &info[2..], 0, 3), 2);
     set_sides(&mut out, &mut info, 2, 1, 3, 1);
     assert_clusters(&rt, &out, &[3, 1]);
     assert_clusters(&rt, &info, &[3, 2, 1, 5]);

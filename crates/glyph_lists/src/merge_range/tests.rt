@@ -1,4 +1,5 @@
 use super::merge_range;
+use crate::cluster_reads::ClusterReads;
 use crate::test_lists::glyphs;
 
 #[test]
@@ -13,9 +14,7 @@ fn a_range_is_widened_through_the_runs_at_its_ends(rt: HostRuntime) {
     for (cut, clusters, start, end, floor, want) in rows {
         let list = glyphs(clusters);
         assert!(rt; cut <= 4 && start + 2 <= end && end <= 4);
-        assert_eq!(rt;
-            merge_range(&list[..cut], &list[cut..], start, end, floor),
-            want
-        );
+        let mut reads = ClusterReads::new(&list[..cut], &list[cut..]);
+        assert_eq!(rt; merge_range(&mut reads, start, end, floor), want);
     }
 }

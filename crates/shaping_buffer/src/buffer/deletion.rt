@@ -1,28 +1,42 @@
 //! Deletion of glyphs, as HarfBuzz's `hb_buffer_t` makes it; its manual has a chapter on clusters.
 
-ghost use Rattle.std.specs.Prelude.{◌≡◌, ◌<◌, true};
+ghost use Rattle.std.specs.Prelude.{◌≡◌, ◌<◌, true, length};
 ghost use Rattle.shaping_buffer.specs.State.{lookahead_len};
 ghost use Rattle.shaping_buffer.specs.ClusterStep as step;
 
 use super::hb_buffer_t;
-use glyph_lists::deletion;
+use glyph_lists::{deletion, one_slice};
 
 impl hb_buffer_t {
-    /// Drops the glyph at the cursor, and keeps its cluster where it is lower than its neighbour's. Where no neighbour
-    /// shares it, the run of glyphs put out last takes it, if it is lower, and its glyph flags in place of their own;
-    /// or with nothing put out, the next glyph is merged with it, as by `merge_clusters`, which at level 2 marks
-    /// instead and sets the scratch flag `HB_BUFFER_SCRATCH_FLAG_HAS_GLYPH_FLAGS`. Requires an output, and a glyph at
-    /// the cursor.
+    /// Drops the glyph at the cursor, and keeps its cluster where it is lower than its neighbour's. Where no
+    /// neighbour shares it, the run of glyphs put out last takes it, if it is lower, and its glyph flags in place of
+    /// their own; or with nothing put out, the next glyph is merged with it, as by `merge_clusters`, which at level 2
+    /// marks instead and sets the scratch flag `HB_BUFFER_SCRATCH_FLAG_HAS_GLYPH_FLAGS`. Requires an open output, and
+    /// a glyph at the cursor.
     pub fn delete_glyph(&mut self)
         requires opened { self.old.have_output ≡ true }
         requires glyph { 0 < lookahead_len self.old }
         ensures { self.new ≡ step.delete_glyph self.old }
     {
         let any_order = self.any_order();
-        if any_order && deletion::merges_next(&self.out_info, &self.info, self.cursor) {
+        if any_order && deletion::merges_next(self.out_info(), &self.info, self.cursor) {
             self.set_has_glyph_flags();
         }
-        deletion::delete_at_cursor(&mut self.out_info, &mut self.info, self.cursor, any_order);
+        self.delete_head(any_order);
+    }
+
+    /// Drops the glyph at the cursor by the rule of deletion.
+    fn delete_head(&mut self, any_order: bool)
+        requires opened { self.old.have_output ≡ true }
+        requires glyph { 0 < length self.old.input }
+        ensures { self.new ≡ step.delete_head any_order self.old }
+    {
+        if self.have_separate_output {
+            deletion::delete_at_cursor(&mut self.out_info, &mut self.info, self.cursor, any_order);
+            self.cursor += 1;
+            return;
+        }
+        one_slice::delete_at_cursor(&mut self.info, self.placed, self.cursor, any_order);
         self.cursor += 1;
     }
 }

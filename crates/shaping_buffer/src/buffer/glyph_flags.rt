@@ -14,6 +14,7 @@ ghost use Rattle.shaping_buffer.specs.ClusterStep.{range_start, range_end};
 
 use super::hb_buffer_t;
 use glyph_lists::glyph_flags::{self, BREAK_BITS};
+use glyph_lists::one_slice;
 use rb_glyph::{BufferFlags, Flags, glyph_flag};
 
 impl hb_buffer_t {
@@ -117,7 +118,8 @@ impl hb_buffer_t {
         ensures is { result ≡ range_end end self.now }
         ensures within { result ≤ len self.now }
     {
-        end.unwrap_or(self.info.len()).min(self.info.len())
+        let len = self.info.len() - self.front;
+        end.unwrap_or(len).min(len)
     }
 
     /// A scan of both sides from `from`, which is not in the out side, to `to`.
@@ -129,17 +131,21 @@ impl hb_buffer_t {
         ensures { self.new ≡ step.scan bits from to self.old }
     {
         let any_order = self.any_order();
-        let at = self.input_start();
         self.set_has_glyph_flags();
-        glyph_flags::scan_range(
-            &mut self.out_info,
-            &mut self.info,
-            at,
-            from,
-            to,
-            bits,
-            any_order,
-        );
+        let at = if self.have_output { self.cursor } else { 0 };
+        if self.have_separate_output {
+            glyph_flags::scan_range(
+                &mut self.out_info,
+                &mut self.info,
+                at,
+                from,
+                to,
+                bits,
+                any_order,
+            );
+            return;
+        }
+        one_slice::scan_range(&mut self.info, self.placed, at, from, to, bits, any_order);
     }
 
     /// A scan of both sides from `from` to `to`, which is not in the out side, in two parts.
@@ -151,17 +157,21 @@ impl hb_buffer_t {
         ensures { self.new ≡ step.scan_sides bits from to self.old }
     {
         let any_order = self.any_order();
-        let at = self.input_start();
         self.set_has_glyph_flags();
-        glyph_flags::scan_two_parts(
-            &mut self.out_info,
-            &mut self.info,
-            at,
-            from,
-            to,
-            bits,
-            any_order,
-        );
+        let at = if self.have_output { self.cursor } else { 0 };
+        if self.have_separate_output {
+            glyph_flags::scan_two_parts(
+                &mut self.out_info,
+                &mut self.info,
+                at,
+                from,
+                to,
+                bits,
+                any_order,
+            );
+            return;
+        }
+        one_slice::scan_two_parts(&mut self.info, self.placed, at, from, to, bits, any_order);
     }
 
     /// Adds the bits to all glyphs of both sides from `from` to `to`.
@@ -172,7 +182,11 @@ impl hb_buffer_t {
         ensures { self.new ≡ step.flag_all bits from to self.old }
     {
         self.set_has_glyph_flags();
-        let at = self.input_start();
-        glyph_flags::mark_range(&mut self.out_info, &mut self.info, at, from, to, bits);
+        let at = if self.have_output { self.cursor } else { 0 };
+        if self.have_separate_output {
+            glyph_flags::mark_range(&mut self.out_info, &mut self.info, at, from, to, bits);
+            return;
+        }
+        one_slice::mark_range(&mut self.info, self.placed, at, from, to, bits);
     }
 }

@@ -15,7 +15,7 @@ use rb_glyph::hb_glyph_info_t;
 mod tests;
 
 impl hb_buffer_t {
-    /// Puts the list into reverse order, and its positions with it, where there are any. It asks that no output is
+    /// Puts the list into reverse order, and its positions with it, where there are any. Requires that no output is
     /// open.
     pub fn reverse(&mut self)
         requires { self.old.have_output ≡ false }
@@ -26,7 +26,7 @@ impl hb_buffer_t {
     }
 
     /// Puts the glyphs from `start` to `end` into reverse order, and their positions with them, where there are any.
-    /// It asks that no output is open, and `start <= end <= len`.
+    /// Requires that no output is open, and `start <= end <= len`.
     pub fn reverse_range(&mut self, start: usize, end: usize)
         requires closed { self.old.have_output ≡ false }
         requires order { start ≤ end }
@@ -40,7 +40,7 @@ impl hb_buffer_t {
     }
 
     /// The end of the group that begins at `start`: `group` says of two neighbours whether they are in one group.
-    /// It asks that no output is open, and a glyph at `start`.
+    /// Requires that no output is open, and a glyph at `start`.
     pub fn group_end<F: Fn(&hb_glyph_info_t, &hb_glyph_info_t) -> bool>(
         &self,
         start: usize,
@@ -59,7 +59,7 @@ impl hb_buffer_t {
     }
 
     /// The end of the syllable that `start` is in: of the glyphs from there on that have the syllable number of the
-    /// glyph at `start`. Past the end of the list it is `start` itself. It asks that no output is open.
+    /// glyph at `start`. Past the end of the list it is `start` itself. Requires that no output is open.
     pub fn next_syllable(&self, start: usize) -> usize
         requires { self.now.have_output ≡ false }
         ensures { result ≡ groups_of.group_end groups_of.share_syllable start self.now.input }
@@ -72,7 +72,7 @@ impl hb_buffer_t {
 
     /// Puts the groups into reverse order, each in its own order, and the positions with their glyphs, where there are
     /// any: `group` says of two neighbours whether they are in one group. Where it is to merge clusters, each group is
-    /// merged as by `merge_clusters` before the next one is looked for. It asks that no output is open.
+    /// merged as by `merge_clusters` before the next one is looked for. Requires that no output is open.
     pub fn reverse_groups<F: Fn(&hb_glyph_info_t, &hb_glyph_info_t) -> bool>(
         &mut self,
         group: F,
@@ -97,6 +97,7 @@ impl hb_buffer_t {
     }
 
     /// Puts one group into reverse order in its place, merged before where it is to be.
+    #[tactic(auto, using(crate::proofs::GroupStepLemmas::still_within))]
     fn reverse_group(&mut self, start: usize, end: usize, merge_clusters: bool)
         requires closed { self.old.have_output ≡ false }
         requires order { start ≤ end }
@@ -111,7 +112,7 @@ impl hb_buffer_t {
 
     /// Deletes the glyphs for which `filter` holds, as a walk over the list does by `delete_glyph` and `next_glyph`:
     /// `filter` sees each glyph as it stands when the walk comes to it. The positions of the glyphs that are kept stay
-    /// theirs, and the cursor is at the start. It asks that no output is open.
+    /// theirs, and the cursor is at the start. Requires that no output is open.
     pub fn delete_glyphs_inplace<F: Fn(&hb_glyph_info_t) -> bool>(&mut self, filter: F)
         requires closed { self.old.have_output ≡ false }
         requires callable { F.IsAlwaysCallable filter }

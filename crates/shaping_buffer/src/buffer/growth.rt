@@ -13,8 +13,8 @@ use std::alloc::AllocError;
 
 impl hb_buffer_t {
     /// Pushes the characters of a text, all or none, each with the place of its first byte as cluster. `Ok(false)`
-    /// where the list would grow too long: then only `successful` changes. `Err(AllocError)` where memory ran out, which
-    /// an empty text never asks for: then nothing changed.
+    /// where the list would grow too long: then only `successful` changes. `Err(AllocError)` where memory ran out,
+    /// which an empty text never asks for: then nothing changed.
     #[tactic(auto, using(crate::proofs::PushedLemmas::length_pushed, crate::proofs::CharactersLemmas::characters_pushed))]
     pub(crate) fn push_str(&mut self, text: &str) -> Result<bool, AllocError>
         requires closed { self.old.have_output ≡ false }
@@ -42,8 +42,9 @@ impl hb_buffer_t {
             self.successful = false;
             return Ok(false);
         }
-        if size > self.info.len() {
-            self.info.reserve(size - self.info.len())?;
+        let len = self.info.len() - self.front;
+        if size > len {
+            self.info.reserve(size - len)?;
             self.pos.reserve(size - self.pos.len())?;
         }
         Ok(true)

@@ -24,7 +24,7 @@ impl hb_buffer_t {
     /// A shaper may make no fewer operations than these.
     pub const MAX_OPS_MIN: i32 = 16384;
 
-    /// Says how many glyphs each side may hold at the most. It asks that no side holds more.
+    /// Says how many glyphs each side may hold at the most. Requires that no side holds more.
     pub fn set_max_len(&mut self, max_len: usize)
         requires input { len self.old ≤ max_len }
         requires out { length self.old.out ≤ max_len }
@@ -34,7 +34,7 @@ impl hb_buffer_t {
     }
 
     /// Begins to shape a text: its limits follow its length, and no ligature has a number, shaping has not failed, and
-    /// nothing was seen of the text. A limit that would be too large a number stays. It asks that no output is open.
+    /// nothing was seen of the text. A limit that would be too large a number stays. Requires that no output is open.
     pub fn enter(&mut self)
         requires { self.old.have_output ≡ false }
         ensures { self.new ≡ step.enter self.old }
@@ -51,7 +51,7 @@ impl hb_buffer_t {
     }
 
     /// Ends the shaping of a text: its limits are those of a new buffer, or its length where that is more, and no
-    /// ligature has a number. It asks that no output is open.
+    /// ligature has a number. Requires that no output is open.
     pub fn leave(&mut self)
         requires { self.old.have_output ≡ false }
         ensures { self.new ≡ step.leave self.old }

@@ -10,7 +10,7 @@ ghost use Rattle.glyph_lists.specs.Clusters.{with_cluster};
 ghost use Rattle.shaping_buffer.specs.ClusterStep as step;
 
 use super::hb_buffer_t;
-use glyph_lists::{clusters, merging};
+use glyph_lists::{clusters, merging, one_slice};
 use rb_glyph::hb_glyph_info_t;
 
 impl hb_buffer_t {
@@ -27,7 +27,6 @@ impl hb_buffer_t {
     /// the cursor. At level 2 the glyphs outside the least cluster are marked as unsafe to break and to concatenate
     /// instead, and the scratch flag `HB_BUFFER_SCRATCH_FLAG_HAS_GLYPH_FLAGS` is set. Fewer than two glyphs stay as
     /// they are. Requires `start <= end <= len`, and with an output open that `start` is not before the cursor.
-    #[tactic(auto, using(crate::proofs::Views::sides))]
     pub fn merge_clusters(&mut self, start: usize, end: usize)
         requires order { start ≤ end }
         requires within { end ≤ len self.old }
@@ -38,24 +37,37 @@ impl hb_buffer_t {
         if any_order && end - start >= 2 {
             self.set_has_glyph_flags();
         }
+        self.merge_sides(self.both_place(start), self.both_place(end), any_order);
+    }
+
+    /// Merges the glyphs of both sides from place `from`, which is not in the out side, to `to`, or marks them.
+    #[tactic(auto, using(crate::proofs::Views::sides))]
+    fn merge_sides(&mut self, from: usize, to: usize, any_order: bool)
+        requires past_out { length self.old.out ≤ from }
+        requires order { from ≤ to }
+        requires within { to ≤ length (step.both self.old) }
+        ensures { self.new ≡ step.merge_sides any_order from to self.old }
+    {
         let floor = if self.have_output { 0 } else { self.cursor };
-        let from = self.both_place(start);
-        let to = self.both_place(end);
-        let at = self.input_start();
-        merging::merge_or_mark(
-            &mut self.out_info,
-            &mut self.info,
-            at,
-            from,
-            to,
-            floor,
-            any_order,
-        );
+        let at = if self.have_output { self.cursor } else { 0 };
+        if self.have_separate_output {
+            merging::merge_or_mark(
+                &mut self.out_info,
+                &mut self.info,
+                at,
+                from,
+                to,
+                floor,
+                any_order,
+            );
+            return;
+        }
+        one_slice::merge_or_mark(&mut self.info, self.placed, at, from, to, floor, any_order);
     }
 
     /// Merges the clusters of the out side's glyphs from `start` to `end`, and of the runs at its ends, also into the
     /// input, into the least of them; a glyph that changes its cluster loses its glyph flags. At level 2 nothing
-    /// changes, and fewer than two glyphs stay as they are. Requires an output, and `start <= end <= out_len`.
+    /// changes, and fewer than two glyphs stay as they are. Requires an open output, and `start <= end <= out_len`.
     pub fn merge_out_clusters(&mut self, start: usize, end: usize)
         requires opened { self.old.have_output ≡ true }
         requires order { start ≤ end }
@@ -65,13 +77,17 @@ impl hb_buffer_t {
         if self.any_order() {
             return;
         }
-        merging::run_merge(
-            &mut self.out_info,
-            &mut self.info,
-            self.cursor,
-            start,
-            end,
-            0,
-        );
+        if self.have_separate_output {
+            merging::run_merge(
+                &mut self.out_info,
+                &mut self.info,
+                self.cursor,
+                start,
+                end,
+                0,
+            );
+            return;
+        }
+        one_slice::run_merge(&mut self.info, self.placed, self.cursor, start, end, 0);
     }
 }

@@ -4,6 +4,7 @@ ghost use Rattle.std.specs.Prelude.{◌≡◌, ◌<◌, ◌-◌, false, Some, le
 ghost use Rattle.shaping_buffer.specs.State.{lookahead_len, len, place_of};
 
 use super::hb_buffer_t;
+use crate::lend::front_mut;
 use rb_glyph::{GlyphPosition, hb_glyph_info_t};
 
 impl hb_buffer_t {
@@ -34,7 +35,11 @@ impl hb_buffer_t {
         requires { 0 < length self.now.out }
         ensures { result.now ≡ slice_index_or self.now.out (length self.now.out - 1) result.now }
     {
-        &self.out_info[self.out_info.len() - 1]
+        if self.have_separate_output {
+            &self.out_info[self.out_info.len() - 1]
+        } else {
+            &self.info[self.placed - 1]
+        }
     }
 
     /// The last glyph that was put out, to be written: that glyph alone changes. Requires that there is one.
@@ -44,8 +49,12 @@ impl hb_buffer_t {
         ensures value { result.now
             ≡ slice_index_or self.old.out (length self.old.out - 1) result.now }
     {
-        let last = self.out_info.len() - 1;
-        &mut self.out_info[last]
+        if self.have_separate_output {
+            let last = self.out_info.len() - 1;
+            return &mut self.out_info[last];
+        }
+        let last = self.placed - 1;
+        &mut self.info[last]
     }
 
     /// The glyphs that were put out, to be written: nothing but them changes.
@@ -53,7 +62,10 @@ impl hb_buffer_t {
         ensures* writes_back { sem 𝓛 (LendsOut self.entry result) }
         ensures value { result.now ≡ self.old.out }
     {
-        &mut self.out_info
+        if self.have_separate_output {
+            return &mut self.out_info;
+        }
+        front_mut(&mut self.info, self.placed)
     }
 
     /// The list, to be written: nothing but its glyphs changes. Requires that no output is open.
@@ -73,7 +85,7 @@ impl hb_buffer_t {
         ensures value { result.now
             ≡ slice_index_or (unwrap_or self.old.positions []) self.old.idx result.now }
     {
-        &mut self.pos[self.cursor]
+        &mut self.pos[self.cursor - self.front]
     }
 
     /// The position of each glyph, to be written: nothing but positions changes. Requires positions.

@@ -12,7 +12,11 @@ impl hb_buffer_t {
         ensures is { result ≡ step.input_start self.now }
         ensures within { result ≤ len self.now }
     {
-        if self.have_output { self.cursor } else { 0 }
+        if self.have_output {
+            self.cursor - self.front
+        } else {
+            0
+        }
     }
 
     /// Where glyph `k` of the input stands in the one list.
@@ -21,6 +25,10 @@ impl hb_buffer_t {
         requires within { k ≤ len self.now }
         ensures { result ≡ step.both_place self.now k }
     {
-        self.out_info.len() + (k - self.input_start())
+        let after = k - self.input_start();
+        if self.have_separate_output {
+            return self.out_info.len() + after;
+        }
+        self.placed + after
     }
 }

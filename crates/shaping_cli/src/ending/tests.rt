@@ -41,16 +41,6 @@ impl Eprint for Listener {
     }
 }
 
-/// Fails at once.
-#[derive(Drop)]
-struct BrokenReader;
-
-impl Read for BrokenReader {
-    fn read(&mut self, _buf: &mut [u8]) -> io::Result<usize> {
-        Err(io::Error::from(ErrorKind::Other))
-    }
-}
-
 #[test]
 fn the_status_is_that_of_the_run_which_says_nothing(rt: HostRuntime) -> Result<(), Fail> {
     let rows: [(&[u8], u8, &[u8]); 2] = [
@@ -83,8 +73,9 @@ fn a_fault_is_told_and_ends_with_3(rt: HostRuntime) -> Result<(), Fail> {
     }
     // Also where standard error fails.
     let error = Listener::new(rt.alloc(), true);
-    let mut written = Vec::new(rt.alloc());
-    let end = run_to_end(rt.alloc(), &mut BrokenReader, &mut written, &error);
+    let mut lines: &[u8] = b"push a\n";
+    let mut no_room: &mut [u8] = &mut [];
+    let end = run_to_end(rt.alloc(), &mut lines, &mut no_room, &error);
     assert_eq!(rt; end, ExitCode::from(3));
     Ok(())
 }

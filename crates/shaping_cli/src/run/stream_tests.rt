@@ -1,28 +1,34 @@
 //! Readers and writers that are slow, fail or do not end.
 use super::*;
 use std::io;
+use std::ops::Range;
 use std::test::Fail;
 
 const LINES: &[u8] = b"push ab\nclear_output\nnext_glyph\nsync\nserialize 4\n";
 
 const ANSWERS: &[u8] = b"true\ndone\ndone\ndone\n97=0+0|98=1+0\n";
 
-/// Gives one byte a read, but an error at each of the reads that are picked out.
+/// Gives one byte a read, but an error at a read that is picked out, and is interrupted at others. Behind its bytes
+/// it may give line feeds for ever.
 #[derive(Drop)]
 struct SlowReader<'a> {
     bytes: &'a [u8],
-    reads: usize,
+    is_endless: bool,
     fails_at: usize,
-    is_interrupted_at: usize,
+    interrupted: Range<usize>,
+    reads: usize,
+    largest: usize,
 }
 
 impl<'a> SlowReader<'a> {
     fn new(bytes: &'a [u8]) -> Self {
         SlowReader {
             bytes,
-            reads: 0,
+            is_endless: false,
             fails_at: usize::MAX,
-            is_interrupted_at: usize::MAX,
+            interrupted: 0..0,
+            reads: 0,
+            largest: 0,
         }
     }
 }
@@ -31,10 +37,11 @@ impl Read for SlowReader<'_> {
     fn read(&mut self, buf: &mut [u8]) -> io::Result<usize> {
         let read = self.reads;
         self.reads = read.wrapping_add(1);
+        self.largest = self.largest.max(buf.len());
         if read == self.fails_at {
             return Err(io::Error::from(ErrorKind::Other));
         }
-        if read == self.is_interrupted_at {
+        if self.interrupted.contains(&read) {
             return Err(io::Error::from(ErrorKind::Interrupted));
         }
         match self.bytes.split_first() {
@@ -43,31 +50,12 @@ impl Read for SlowReader<'_> {
                 self.bytes = others;
                 Ok(1)
             }
+            None if self.is_endless && !buf.is_empty() => {
+                buf[0] = b'\n';
+                Ok(1)
+            }
             _ => Ok(0),
         }
-    }
-}
-
-/// Gives one byte a read for ever, or is interrupted for ever.
-#[derive(Drop)]
-struct Endless {
-    is_interrupted: bool,
-    reads: usize,
-    largest: usize,
-}
-
-impl Read for Endless {
-    fn read(&mut self, buf: &mut [u8]) -> io::Result<usize> {
-        self.reads = self.reads.wrapping_add(1);
-        self.largest = self.largest.max(buf.len());
-        if self.is_interrupted {
-            return Err(io::Error::from(ErrorKind::Interrupted));
-        }
-        if buf.is_empty() {
-            return Ok(0);
-        }
-        buf[0] = b'\n';
-        Ok(1)
     }
 }
 
@@ -120,7 +108,7 @@ fn each_read_may_be_short_or_interrupted_or_fail(rt: HostRuntime) {
     for read in 0..=LINES.len() {
         let mut written = Vec::new(rt.alloc());
         let mut reader = SlowReader::new(LINES);
-        reader.is_interrupted_at = read;
+        reader.interrupted = read..read + 1;
         let outcome = run(rt.alloc(), reader, &mut written);
         assert_eq!(rt; outcome, Ok(0), "at {read}");
         assert_eq!(rt; written.as_slice(), ANSWERS, "at {read}");
@@ -135,13 +123,11 @@ fn each_read_may_be_short_or_interrupted_or_fail(rt: HostRuntime) {
 
 #[test]
 fn no_more_than_65536_reads_are_made(rt: HostRuntime) -> Result<(), Fail> {
-    for is_interrupted in [false, true] {
+    for interrupted_to in [0, usize::MAX] {
         let mut written = Vec::new(rt.alloc());
-        let mut reader = Endless {
-            is_interrupted,
-            reads: 0,
-            largest: 0,
-        };
+        let mut reader = SlowReader::new(b"");
+        reader.is_endless = true;
+        reader.interrupted = 0..interrupted_to;
         let outcome = run(rt.alloc(), &mut reader, &mut written);
         assert_eq!(rt; outcome, Err(RunFault::Read));
         assert_eq!(rt; written.len(), 0);

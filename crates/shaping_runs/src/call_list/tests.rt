@@ -26,6 +26,7 @@ struct Run<'a> {
     calls: &'a [Call<'a>],
     answers: &'a [Answer],
     open: bool,
+    separate: bool,
     idx: usize,
     successful: bool,
     out: &'a [Seen],
@@ -42,6 +43,7 @@ const PLAIN: Run<'static> = Run {
     calls: &[],
     answers: &[],
     open: true,
+    separate: false,
     idx: 0,
     successful: true,
     out: &[],
@@ -84,6 +86,7 @@ fn assert_run(rt: &impl Abort, alloc: Global, run: &Run<'_>) -> Result<(), Fail>
     );
     assert_eq!(rt; &answers[..count], run.answers);
     assert_eq!(rt; buffer.have_output(), run.open);
+    assert_eq!(rt; buffer.have_separate_output(), run.separate);
     assert_eq!(rt; buffer.idx(), run.idx);
     assert_eq!(rt; buffer.successful(), run.successful);
     assert_glyphs(rt, buffer.out_info(), run.out);
@@ -110,6 +113,7 @@ fn cursor_calls_answer_and_leave_what_is_written(rt: HostRuntime) -> Result<(), 
                 Call::MoveTo(0),
             ],
             answers: &[DONE, DONE, DONE, DONE, REFUSED, REFUSED, DONE, REFUSED],
+            separate: true,
             idx: 1,
             successful: false,
             out: &[(97, 0, 0), (97, 0, 0), (97, 0, 0)],
@@ -127,6 +131,7 @@ fn cursor_calls_answer_and_leave_what_is_written(rt: HostRuntime) -> Result<(), 
                 Call::MoveTo(2),
             ],
             answers: &[DONE, DONE, REFUSED, REFUSED],
+            separate: true,
             successful: false,
             out: &[(97, 0, 0)],
             input: &[(97, 0, 0), (98, 1, 0)],
@@ -176,6 +181,7 @@ fn cursor_calls_answer_and_leave_what_is_written(rt: HostRuntime) -> Result<(), 
                 Call::ReplaceGlyphs(1, 1, &[5, 6]),
             ],
             answers: &[DONE, DONE, OUTSIDE, OUTSIDE, DONE],
+            separate: true,
             idx: 1,
             out: &[(7, 0, 0), (8, 0, 0), (5, 0, 0)],
             input: &[(98, 1, 0)],
@@ -210,6 +216,7 @@ fn cursor_calls_answer_and_leave_what_is_written(rt: HostRuntime) -> Result<(), 
                 Call::MoveTo(3),
             ],
             answers: &[DONE; 6],
+            separate: true,
             idx: 4,
             out: &[(2, 0, 0), (3, 0, 0), (98, 1, 0)],
             ..PLAIN
@@ -245,6 +252,7 @@ fn cursor_calls_answer_and_leave_what_is_written(rt: HostRuntime) -> Result<(), 
                 Call::NextGlyphs(1),
             ],
             answers: &[DONE, DONE, OUTSIDE, DONE],
+            separate: true,
             idx: 1,
             out: &[(5, 6, 1), (97, 0, 0)],
             ..PLAIN
@@ -288,6 +296,170 @@ fn cursor_calls_answer_and_leave_what_is_written(rt: HostRuntime) -> Result<(), 
     ];
     for run in &runs {
         assert_run(&rt, rt.alloc(), run)?;
+    }
+    Ok(())
+}
+
+/// A text, calls on it, and what they leave: in one vector to its end, or not.
+#[derive(Clone, Copy)]
+struct Stored<'a> {
+    text: &'a str,
+    calls: &'a [Call<'a>],
+    separate: bool,
+    idx: usize,
+    out: &'a [Seen],
+    input: &'a [Seen],
+}
+
+fn assert_stored(rt: &impl Abort, alloc: Global, run: &Stored<'_>) -> Result<(), Fail> {
+    let mut text = UnicodeBuffer::new(alloc);
+    assert_eq!(rt; text.push_str(run.text), Ok(true));
+    let mut buffer = text.into_buffer();
+    let mut answers = [OUTSIDE; 12];
+    let count = run.calls.len();
+    assert!(rt; count <= 12);
+    assert_eq!(rt;
+        replay(&mut buffer, run.calls, &mut answers[..count]),
+        Ok(())
+    );
+    assert!(rt; answers[..count].iter().all(|answer| *answer == DONE));
+    assert_eq!(rt; buffer.have_separate_output(), run.separate);
+    assert_eq!(rt; buffer.idx(), run.idx);
+    assert_glyphs(rt, buffer.out_info(), run.out);
+    assert_glyphs(rt, buffer.info(), run.input);
+    if !buffer.have_separate_output() {
+        let storage = buffer.storage();
+        let (out_len, left) = (run.out.len(), run.input.len());
+        assert!(rt; out_len <= storage.len() && left <= storage.len());
+        assert_glyphs(rt, &storage[..out_len], run.out);
+        assert_glyphs(rt, &storage[storage.len() - left..], run.input);
+    }
+    Ok(())
+}
+
+#[test]
+fn both_sides_stand_in_one_vector(rt: HostRuntime) -> Result<(), Fail> {
+    let runs = [
+        // a rewind over glyphs that overlap
+        Stored {
+            text: "ZYABCDE",
+            calls: &[
+                Call::ClearOutput,
+                Call::SkipGlyph,
+                Call::SkipGlyph,
+                Call::NextGlyph,
+                Call::NextGlyph,
+                Call::NextGlyph,
+                Call::NextGlyph,
+                Call::NextGlyph,
+                Call::MoveTo(2),
+            ],
+            separate: false,
+            idx: 4,
+            out: &[(65, 2, 0), (66, 3, 0)],
+            input: &[(67, 4, 0), (68, 5, 0), (69, 6, 0)],
+        },
+        // one dropped at the start, three put out, and all taken back
+        Stored {
+            text: "ZABCD",
+            calls: &[
+                Call::ClearOutput,
+                Call::SkipGlyph,
+                Call::NextGlyph,
+                Call::NextGlyph,
+                Call::NextGlyph,
+                Call::MoveTo(0),
+            ],
+            separate: false,
+            idx: 1,
+            out: &[],
+            input: &[(65, 1, 0), (66, 2, 0), (67, 3, 0), (68, 4, 0)],
+        },
+        // an output that came to be separate, and all of it taken back, past the start
+        Stored {
+            text: "AB",
+            calls: &[
+                Call::ClearOutput,
+                Call::ReplaceGlyphs(1, 3, &[1, 2, 3]),
+                Call::MoveTo(0),
+                Call::DeleteGlyph,
+                Call::NextGlyph,
+                Call::MoveTo(3),
+            ],
+            separate: true,
+            idx: 4,
+            out: &[(2, 0, 0), (3, 0, 0), (66, 1, 0)],
+            input: &[],
+        },
+        // glyphs in place go with one that leaves the vector
+        Stored {
+            text: "ABC",
+            calls: &[
+                Call::ClearOutput,
+                Call::ReplaceGlyphs(2, 1, &[9]),
+                Call::OutputGlyph(7),
+                Call::OutputGlyph(8),
+            ],
+            separate: true,
+            idx: 2,
+            out: &[(9, 0, 0), (7, 2, 0), (8, 2, 0)],
+            input: &[(67, 2, 0)],
+        },
+        Stored {
+            text: "AB",
+            calls: &[
+                Call::ClearOutput,
+                Call::ReplaceGlyphs(2, 1, &[9]),
+                Call::OutputGlyph(7),
+                Call::OutputGlyph(8),
+                Call::Sync,
+            ],
+            separate: false,
+            idx: 0,
+            out: &[],
+            input: &[(9, 0, 0), (7, 0, 0), (8, 0, 0)],
+        },
+    ];
+    for run in &runs {
+        assert_stored(&rt, rt.alloc(), run)?;
+    }
+    Ok(())
+}
+
+#[test]
+fn an_output_is_separate_once_it_is_the_longer(rt: HostRuntime) -> Result<(), Fail> {
+    let runs: [(&[(Call<'_>, bool)], usize); 2] = [
+        (
+            &[
+                (Call::ClearOutput, false),
+                (Call::ReplaceGlyphs(2, 1, &[9]), false),
+                (Call::OutputGlyph(7), false),
+                (Call::OutputGlyph(8), true),
+                (Call::Sync, false),
+            ],
+            3,
+        ),
+        (
+            &[
+                (Call::ClearOutput, false),
+                (Call::NextGlyph, false),
+                (Call::CopyGlyph, true),
+                (Call::SkipGlyph, true),
+            ],
+            2,
+        ),
+    ];
+    for (calls, len) in &runs {
+        let mut text = UnicodeBuffer::new(rt.alloc());
+        assert_eq!(rt; text.push_str("AB"), Ok(true));
+        let mut buffer = text.into_buffer();
+        for (call, separate) in *calls {
+            let mut answers = [OUTSIDE];
+            assert_eq!(rt; replay(&mut buffer, &[*call], &mut answers), Ok(()));
+            assert_eq!(rt; answers, [DONE]);
+            assert_eq!(rt; buffer.have_separate_output(), *separate);
+        }
+        assert_eq!(rt; buffer.len(), *len);
     }
     Ok(())
 }

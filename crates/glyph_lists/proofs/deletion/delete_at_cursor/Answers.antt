@@ -1,7 +1,6 @@
-use Rattle.std.proofs.Common.{◌≡◌, ◌+◌, ◌-◌, ◌<◌, ◌∙◌, length, get_or, drop, sym, ap, arith, length-drop, Bool, true, false}
-use Rattle.rb_glyph.specs.declared.info.hb_glyph_info_t.{hb_glyph_info_t}
+use Rattle.std.proofs.Common.{◌≡◌, ◌+◌, ◌∙◌, get_or, drop, sym, ap, arith, length-drop, true}
 use Rattle.glyph_lists.specs.Clusters.{zero_glyph}
-use Rattle.glyph_lists.specs.Deletion.{Sides, lowers_run, merges_next}
+use Rattle.glyph_lists.specs.Deletion.{Sides, merges_next}
 use Rattle.glyph_lists.proofs.DeletionCases.{deletion_lowers, deletion_merges, deletion_drops, lowers_some, merges_none, merges_some, nothing_taken, rest_merged}
 use Rattle.glyph_lists.proofs.deletion.delete_at_cursor.Goals as goal
 

@@ -1,4 +1,4 @@
-use Rattle.std.proofs.Common.{◌≡◌, ◌+◌, ◌-◌, ◌<◌, ◌≤◌, ◌∙◌, ◌||◌, true, false, suc, refl, sym, ap, subst, length, get_or, arith}
+use Rattle.std.proofs.Common.{◌≡◌, ◌+◌, ◌-◌, ◌<◌, ◌∙◌, ◌||◌, true, false, suc, refl, sym, ap, length, get_or, arith}
 use Rattle.glyph_lists.specs.Clusters.{zero_glyph}
 use Rattle.glyph_lists.proofs.DeletingWalkLemmas.{leads_first, leads_same, leads_deletion, leads_next, walk_ends, merges_told, positions_kept}
 use Rattle.glyph_lists.proofs.deletion_in_place.delete_in_place.Goals as goal

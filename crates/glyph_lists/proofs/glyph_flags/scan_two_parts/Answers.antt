@@ -1,4 +1,4 @@
-use Rattle.std.proofs.Common.{◌≡◌, ℕ, ◌+◌, ◌-◌, ◌++◌, ◌∙◌, ap, length, take, drop, min, arith}
+use Rattle.std.proofs.Common.{◌≡◌, ◌+◌, ◌-◌, ◌++◌, ◌∙◌, ap, length, take, drop, min, arith}
 use Rattle.glyph_lists.specs.Parts.{part, on_part}
 use Rattle.glyph_lists.specs.Scans.{part_scan, scan_least}
 use Rattle.glyph_lists.proofs.ScansLemmas.{scanned_out, scanned_input, slice_end, on_slice_end}
@@ -19,7 +19,7 @@ returns-clause-out c =
     ∙ ap (λ k. scan_least a.any_order (part a.out.now k n) (part a.info.now (a.cursor + (a.start - n)) (a.cursor + (a.end - n)))) seam
     ∙ ap (λ xs. scan_least a.any_order xs (part a.info.now (a.cursor + (a.start - n)) (a.cursor + (a.end - n)))) (slice_end a.out.now a.start)
     ∙ ap (scan_least a.any_order (drop a.start a.out.now)) (part-at a.info.now a.cursor (a.start - n) (a.end - n)) in
-    c.scan_slice.ensures
+    c.scan_part_slice.ensures
     ∙ ap (λ k. on_part (part_scan a.any_order a.bits r.result) a.out.now k n) seam
     ∙ on_slice_end a.out.now a.start (part_scan a.any_order a.bits r.result)
     ∙ ap (λ m. take a.start a.out.now ++ part_scan a.any_order a.bits m (drop a.start a.out.now)) least
@@ -39,7 +39,7 @@ returns-clause-info c =
     ∙ ap (λ k. scan_least a.any_order (part a.out.now k n) (part a.info.now (a.cursor + (a.start - n)) (a.cursor + (a.end - n)))) seam
     ∙ ap (λ xs. scan_least a.any_order xs (part a.info.now (a.cursor + (a.start - n)) (a.cursor + (a.end - n)))) (slice_end a.out.now a.start)
     ∙ ap (scan_least a.any_order (drop a.start a.out.now)) (part-at a.info.now a.cursor (a.start - n) (a.end - n)) in
-    c.scan_slice-2.ensures
+    c.scan_part_slice-2.ensures
     ∙ ap (λ k. on_part (part_scan a.any_order a.bits r.result) a.info.now (a.cursor + k) (a.cursor + (a.end - n))) from
     ∙ on_part-at (part_scan a.any_order a.bits r.result) a.info.now a.cursor (a.start - n) (a.end - n) (omega (arith, c.requires.order))
     ∙ ap (λ m. take a.cursor a.info.now ++ on_part (part_scan a.any_order a.bits m) rest (a.start - n) (a.end - n)) least

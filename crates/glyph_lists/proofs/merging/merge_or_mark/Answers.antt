@@ -1,40 +1,27 @@
-use Rattle.std.proofs.Common.{◌++◌, ◌∙◌, ap, sym, length, take, drop, arith}
-use Rattle.glyph_lists.proofs.SidesLemmas.{merge_or_mark_merges, merge_or_mark_short, merge_or_mark_marks, same_out, same_info}
-use Rattle.glyph_lists.specs.Scans.{scan_of}
+use Rattle.std.proofs.Common.{◌++◌, ◌∙◌, ap, sym, length, take, drop}
+use Rattle.glyph_lists.proofs.SidesLemmas.{merge_or_mark_merges, merge_or_mark_any}
 use Rattle.glyph_lists.proofs.merging.merge_or_mark.Goals as goal
 
-pub returns-then-not-any_order-clause-out : goal.returns-then-not-any_order-clause-out
-returns-then-not-any_order-clause-out c =
+pub returns-then-any_order-clause-out : goal.returns-then-any_order-clause-out
+returns-then-any_order-clause-out c =
     let a = c.args in
     let l = a.out.now ++ drop a.cursor a.info.now in
-    c.run_merge.ensures.out ∙ ap (take (length a.out.now)) (sym (merge_or_mark_merges a.any_order l a.start a.end a.floor c.if-not-any_order.true))
+    c.mark_instead.ensures.out ∙ ap (take (length a.out.now)) (sym (merge_or_mark_any a.any_order l a.start a.end a.floor c.if-any_order.true))
 
-pub returns-then-not-any_order-clause-info : goal.returns-then-not-any_order-clause-info
-returns-then-not-any_order-clause-info c =
+pub returns-then-any_order-clause-info : goal.returns-then-any_order-clause-info
+returns-then-any_order-clause-info c =
     let a = c.args in
     let l = a.out.now ++ drop a.cursor a.info.now in
-    c.run_merge.ensures.info ∙ ap (λ xs. take a.cursor a.info.now ++ drop (length a.out.now) xs) (sym (merge_or_mark_merges a.any_order l a.start a.end a.floor c.if-not-any_order.true))
+    c.mark_instead.ensures.info ∙ ap (λ xs. take a.cursor a.info.now ++ drop (length a.out.now) xs) (sym (merge_or_mark_any a.any_order l a.start a.end a.floor c.if-any_order.true))
 
-pub returns-then-end-start-lt2-clause-out : goal.returns-then-end-start-lt2-clause-out
-returns-then-end-start-lt2-clause-out c =
-    let a = c.args in
-    same_out a.out.now (drop a.cursor a.info.now) _ (merge_or_mark_short a.any_order (a.out.now ++ drop a.cursor a.info.now) a.start a.end a.floor c.if-not-any_order.false (omega arith))
-
-pub returns-then-end-start-lt2-clause-info : goal.returns-then-end-start-lt2-clause-info
-returns-then-end-start-lt2-clause-info c =
-    let a = c.args in
-    same_info a.out.now a.info.now _ a.cursor (merge_or_mark_short a.any_order (a.out.now ++ drop a.cursor a.info.now) a.start a.end a.floor c.if-not-any_order.false (omega arith))
-
-pub returns-clause-out : goal.returns-clause-out
-unfolding scan_of
-returns-clause-out c =
+pub returns-else-any_order-clause-out : goal.returns-else-any_order-clause-out
+returns-else-any_order-clause-out c =
     let a = c.args in
     let l = a.out.now ++ drop a.cursor a.info.now in
-    c.scan_range.ensures.out ∙ ap (take (length a.out.now)) (sym (merge_or_mark_marks a.any_order l a.start a.end a.floor c.if-not-any_order.false (omega arith)))
+    c.run_merge.ensures.out ∙ ap (take (length a.out.now)) (sym (merge_or_mark_merges a.any_order l a.start a.end a.floor c.if-any_order.false))
 
-pub returns-clause-info : goal.returns-clause-info
-unfolding scan_of
-returns-clause-info c =
+pub returns-else-any_order-clause-info : goal.returns-else-any_order-clause-info
+returns-else-any_order-clause-info c =
     let a = c.args in
     let l = a.out.now ++ drop a.cursor a.info.now in
-    c.scan_range.ensures.info ∙ ap (λ xs. take a.cursor a.info.now ++ drop (length a.out.now) xs) (sym (merge_or_mark_marks a.any_order l a.start a.end a.floor c.if-not-any_order.false (omega arith)))
+    c.run_merge.ensures.info ∙ ap (λ xs. take a.cursor a.info.now ++ drop (length a.out.now) xs) (sym (merge_or_mark_merges a.any_order l a.start a.end a.floor c.if-any_order.false))

@@ -1,9 +1,9 @@
-use Rattle.std.proofs.Common.{◌≡◌, ◌≤◌, ◌-◌, ◌++◌, ◌∙◌, ap, length, take, drop, arith, length-append, length-drop}
+use Rattle.std.proofs.Common.{◌≤◌, ◌-◌, ◌++◌, ◌∙◌, refl, ap, subst, length, take, drop, arith, length-append, length-drop}
 use Rattle.std.proofs.lemmas.List.{take_rest}
-use Rattle.glyph_lists.specs.Parts.{map_range}
-use Rattle.glyph_lists.specs.Clusters.{clusters, range_least, widened_start, widened_end, with_cluster, run_merge}
-use Rattle.glyph_lists.proofs.MergesLemmas.{run_merge_short, run_merge_from}
-use Rattle.glyph_lists.proofs.SidesLemmas.{same_out, same_info}
+use Rattle.glyph_lists.specs.Clusters.{clusters, run_merge, NoRunCrosses}
+use Rattle.glyph_lists.proofs.MergesLemmas.{run_merge_short}
+use Rattle.glyph_lists.proofs.SeamLemmas.{run_merge_right}
+use Rattle.glyph_lists.proofs.SidesLemmas.{same_out, same_info, cut_out, cut_input}
 use Rattle.glyph_lists.proofs.merging.run_merge.Goals as goal
 
 pub returns-then-end-start-lt2-clause-out : goal.returns-then-end-start-lt2-clause-out
@@ -20,26 +20,20 @@ returns-then-end-start-lt2-clause-info c =
     let n : a.end ≤ length l = simp (length-append, length-drop) (omega arith) in
     same_info a.out.now a.info.now _ a.cursor (run_merge_short l a.start a.end a.floor (omega arith) n)
 
-pub returns-clause-out : goal.returns-clause-out
-returns-clause-out c =
+-- a range of the input
+pub returns-then-not-run_crosses-clause-out : goal.returns-then-not-run_crosses-clause-out
+returns-then-not-run_crosses-clause-out c =
     let a = c.args in
-    let l = a.out.now ++ drop a.cursor a.info.now in
-    let r = c.merge_range-cluster in
-    let is : clusters (a.out.now ++ take (length a.info.now - a.cursor) (drop a.cursor a.info.now)) ≡ clusters l = ap (λ xs. clusters (a.out.now ++ xs)) (take_rest a.info.now a.cursor) in
-    c.set_sides.ensures.out
-    ∙ ap (take (length a.out.now)) (run_merge_from l a.start a.end a.floor r.result.0 r.result.1 r.result.2 (omega arith)
-    (r.ensures.least ∙ ap (λ cs. range_least cs a.start a.end) is)
-    (r.ensures.from ∙ ap (λ cs. widened_start cs a.start a.end a.floor) is)
-    (r.ensures.to ∙ ap (λ cs. widened_end cs a.start a.end) is))
+    let rest = drop a.cursor a.info.now in
+    let apart : NoRunCrosses (clusters a.out.now) (clusters rest) = subst (λ xs. NoRunCrosses (clusters a.out.now) (clusters xs)) (take_rest a.info.now a.cursor) (c.run_crosses.ensures c.if-not-run_crosses.true) in
+    cut_out a.out.now a.out.now _ _ refl (run_merge_right a.out.now rest apart a.start a.end a.floor (omega arith) (omega arith) (omega (arith, length-drop a.cursor a.info.now)))
 
-pub returns-clause-info : goal.returns-clause-info
-returns-clause-info c =
+pub returns-then-not-run_crosses-clause-info : goal.returns-then-not-run_crosses-clause-info
+returns-then-not-run_crosses-clause-info c =
     let a = c.args in
-    let l = a.out.now ++ drop a.cursor a.info.now in
-    let r = c.merge_range-cluster in
-    let is : clusters (a.out.now ++ take (length a.info.now - a.cursor) (drop a.cursor a.info.now)) ≡ clusters l = ap (λ xs. clusters (a.out.now ++ xs)) (take_rest a.info.now a.cursor) in
-    c.set_sides.ensures.info
-    ∙ ap (λ xs. take a.cursor a.info.now ++ drop (length a.out.now) xs) (run_merge_from l a.start a.end a.floor r.result.0 r.result.1 r.result.2 (omega arith)
-    (r.ensures.least ∙ ap (λ cs. range_least cs a.start a.end) is)
-    (r.ensures.from ∙ ap (λ cs. widened_start cs a.start a.end a.floor) is)
-    (r.ensures.to ∙ ap (λ cs. widened_end cs a.start a.end) is))
+    let n = length a.out.now in
+    let rest = drop a.cursor a.info.now in
+    let apart : NoRunCrosses (clusters a.out.now) (clusters rest) = subst (λ xs. NoRunCrosses (clusters a.out.now) (clusters xs)) (take_rest a.info.now a.cursor) (c.run_crosses.ensures c.if-not-run_crosses.true) in
+    c.merge_from.ensures
+    ∙ ap (λ k. take a.cursor a.info.now ++ run_merge rest (a.start - n) (a.end - n) k) c.saturating_sub.ensures
+    ∙ ap (λ xs. take a.cursor a.info.now ++ xs) (cut_input a.out.now a.out.now _ _ refl (run_merge_right a.out.now rest apart a.start a.end a.floor (omega arith) (omega arith) (omega (arith, length-drop a.cursor a.info.now))))

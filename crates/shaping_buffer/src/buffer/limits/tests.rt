@@ -1,13 +1,29 @@
 use crate::buffer::hb_buffer_t;
 use crate::buffer::tests::buffer_of;
-use crate::unicode_buffer::UnicodeBuffer;
-use std::test::Fail;
+use std::alloc::Global;
+use std::process::Abort;
+
+fn set_max_len(rt: &impl Abort, buffer: &mut hb_buffer_t, len: usize) {
+    assert!(rt; buffer.len() <= len && buffer.out_len() <= len);
+    buffer.set_max_len(len);
+}
+
+fn push(rt: &impl Abort, buffer: &mut hb_buffer_t, text: &str, done: bool) {
+    assert!(rt; !buffer.have_output() && !buffer.have_positions());
+    assert_eq!(rt; buffer.push_str(text), Ok(done));
+}
+
+fn read_one(rt: &impl Abort, buffer: &mut hb_buffer_t) {
+    assert!(rt; !buffer.have_output());
+    buffer.clear_output();
+    assert!(rt; buffer.lookahead_len() > 0);
+    assert_eq!(rt; buffer.next_glyph(), Ok(true));
+}
 
 #[test]
 fn room_is_made_up_to_the_limit(rt: HostRuntime) {
     let mut buffer = hb_buffer_t::new(rt.alloc());
-    assert!(rt; buffer.len() <= 8 && buffer.out_len() <= 8);
-    buffer.set_max_len(8);
+    set_max_len(&rt, &mut buffer, 8);
     assert_eq!(rt; buffer.ensure(8), Ok(true));
     assert_eq!(rt; buffer.ensure(9), Ok(false));
     assert!(rt; !buffer.successful());
@@ -17,45 +33,39 @@ fn room_is_made_up_to_the_limit(rt: HostRuntime) {
 }
 
 #[test]
-fn a_text_and_an_output_keep_to_the_limit(rt: HostRuntime) -> Result<(), Fail> {
+fn a_text_and_an_output_keep_to_the_limit(rt: HostRuntime) {
     let mut buffer = hb_buffer_t::new(rt.alloc());
-    assert!(rt; buffer.len() <= 1 && buffer.out_len() <= 1 && !buffer.have_output());
-    buffer.set_max_len(1);
-    assert!(rt; !buffer.have_output() && !buffer.have_positions());
-    assert_eq!(rt; buffer.push_str("ab"), Ok(false));
-    assert!(rt; !buffer.have_output() && !buffer.have_positions());
-    assert_eq!(rt; buffer.push_str("a"), Ok(true));
-    assert!(rt; !buffer.have_output());
-    buffer.clear_output();
-    assert!(rt; buffer.lookahead_len() > 0);
-    assert_eq!(rt; buffer.next_glyph(), Ok(true));
+    set_max_len(&rt, &mut buffer, 1);
+    push(&rt, &mut buffer, "ab", false);
+    push(&rt, &mut buffer, "a", true);
+    read_one(&rt, &mut buffer);
     assert!(rt; buffer.have_output());
     assert_eq!(rt; buffer.sync(), Ok(false));
-    Ok(())
+}
+
+/// The limits after `enter` over a text, and that `leave` puts them back.
+fn assert_limits(rt: &impl Abort, alloc: Global, text: &str, max_len: usize, max_ops: i32) {
+    let mut buffer = buffer_of(rt, alloc, text);
+    buffer.enter();
+    assert_eq!(rt; (buffer.max_len(), buffer.max_ops), (max_len, max_ops));
+    assert!(rt; !buffer.have_output());
+    buffer.leave();
+    assert_eq!(rt;
+        (buffer.max_len(), buffer.max_ops),
+        (1_073_741_823, 536_870_911)
+    );
 }
 
 #[test]
-fn limits_follow_the_length(rt: HostRuntime) -> Result<(), Fail> {
-    let tens = "abcdefghijabcdefghijabcdefghijabcdefghijabcdefghij";
-    for (pushes, text, max_len, max_ops) in [
-        (1u32, "abc", 16_384usize, 16_384i32),
-        (6, tens, 19_200, 307_200),
-    ] {
-        let mut characters = UnicodeBuffer::new(rt.alloc());
-        for _ in 0..pushes {
-            assert_eq!(rt; characters.push_str(text), Ok(true));
-        }
-        let mut buffer = characters.into_buffer();
-        buffer.enter();
-        assert_eq!(rt; (buffer.max_len(), buffer.max_ops), (max_len, max_ops));
-        assert!(rt; !buffer.have_output());
-        buffer.leave();
-        assert_eq!(rt;
-            (buffer.max_len(), buffer.max_ops),
-            (1_073_741_823, 536_870_911)
-        );
-    }
-    Ok(())
+fn limits_follow_the_length(rt: HostRuntime) {
+    assert_limits(&rt, rt.alloc(), "abc", 16_384, 16_384);
+    let long = "abcdefghijabcdefghijabcdefghijabcdefghijabcdefghij\
+        abcdefghijabcdefghijabcdefghijabcdefghijabcdefghij\
+        abcdefghijabcdefghijabcdefghijabcdefghijabcdefghij\
+        abcdefghijabcdefghijabcdefghijabcdefghijabcdefghij\
+        abcdefghijabcdefghijabcdefghijabcdefghijabcdefghij\
+        abcdefghijabcdefghijabcdefghijabcdefghijabcdefghij";
+    assert_limits(&rt, rt.alloc(), long, 19_200, 307_200);
 }
 
 #[test]

@@ -1,4 +1,4 @@
-use Rattle.std.proofs.Common.{ap, ◌∙◌, arith}
+use Rattle.std.proofs.Common.{ap, ◌∙◌}
 use Rattle.std.proofs.lemmas.List.{take_all}
 use Rattle.shaping_runs.specs.Render.{with_features}
 use Rattle.shaping_runs.proofs.RenderLemmas.{set_more}

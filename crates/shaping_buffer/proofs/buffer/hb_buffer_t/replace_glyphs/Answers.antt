@@ -1,17 +1,18 @@
-use Rattle.std.proofs.Common.{rules, take, arith, length, ◌≤◌, ◌<◌, ◌+◌, refl, inl}
+use Rattle.std.proofs.Common.{rules, take, arith, length, Bool, ◌≤◌, ◌<◌, ◌+◌, refl, subst}
 use Rattle.std.proofs.lemmas.Grind.{common_steps}
 use Rattle.std.proofs.lemmas.List.{length-take-le}
-use Rattle.shaping_buffer.proofs.ReplacementLemmas.{replaced_done, length_replaced}
+use Rattle.shaping_buffer.specs.Step.{MayWant, settled, replace_front}
+use Rattle.shaping_buffer.proofs.ReplacementLemmas.{replaced_done}
 use Rattle.shaping_buffer.proofs.buffer.hb_buffer_t.replace_glyphs.Goals as goal
 
-pub returns-in_err-reserve : goal.returns-in_err-reserve
-returns-in_err-reserve c =
+pub returns-in_err-replace_front : goal.returns-in_err-replace_front
+returns-in_err-replace_front c =
     let a = c.args in
     let n = length-take-le a.num_out a.glyph_data.now c.requires.ids in
     let e = replaced_done a.num_in (take a.num_out a.glyph_data.now) a.self.now c.requires.opened (grind (arith, common_steps, n)) in
-    let m = length_replaced a.num_in (take a.num_out a.glyph_data.now) a.self.now in
-    let opened = c.requires.opened in
-    rw e (first_of (search (rules, opened, m, n), grind (arith, common_steps, opened, m, n)))
+    let wants = subst (λ (l : Bool). MayWant a.self.now (settled (replace_front l a.num_in (take a.num_out a.glyph_data.now) a.self.now))) c.any_order-any_order.ensures c.in_err-replace_front.ensures.wants in
+    let same = c.in_err-replace_front.ensures.same in
+    rw e (first_of (search (rules, wants, same), grind (arith, common_steps, wants, same)))
 
 pub returns-then-num_in-ge2 : goal.returns-then-num_in-ge2
 returns-then-num_in-ge2 c =
@@ -20,8 +21,8 @@ returns-then-num_in-ge2 c =
     let e = replaced_done a.num_in (take a.num_out a.glyph_data.now) a.self.now c.requires.opened (grind (arith, common_steps, n)) in
     rw e (refl, grind (arith, common_steps))
 
-pub returns-else-marks : goal.returns-else-marks
-returns-else-marks c =
+pub returns-else-any_order : goal.returns-else-any_order
+returns-else-any_order c =
     let a = c.args in
     let n = length-take-le a.num_out a.glyph_data.now c.requires.ids in
     let e = replaced_done a.num_in (take a.num_out a.glyph_data.now) a.self.now c.requires.opened (grind (arith, common_steps, n)) in

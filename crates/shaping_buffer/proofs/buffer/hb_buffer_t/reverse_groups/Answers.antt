@@ -1,4 +1,4 @@
-use Rattle.std.proofs.Common.{◌≡◌, ◌+◌, ◌-◌, ◌<◌, ◌≤◌, ◌∙◌, suc, false, [], refl, sym, ap, subst, length, arith}
+use Rattle.std.proofs.Common.{◌≡◌, ◌+◌, ◌-◌, ◌<◌, ◌≤◌, ◌∙◌, suc, false, [], refl, sym, ap, subst, length, take, arith}
 use Rattle.std.proofs.lemmas.Bool.{cond-false}
 use Rattle.glyph_lists.specs.Groups as groups_of
 use Rattle.shaping_buffer.specs.State.{State}
@@ -32,7 +32,8 @@ loop-start-preserved g c =
     let b = c.self-in-loop-start.inside in
     let view = c.self-in-loop-start.view_is in
     let shut : b.have_output ≡ false = ap (λ (t : State). t.have_output) view ∙ ap (λ (t : State). t.have_output) inv.4 ∙ c.requires.closed in
-    let none : s.out ≡ [] = sym (ap (λ (t : State). t.out) view) ∙ c.self-in-loop-start.invariant.out_empty shut in
+    let within = c.self-in-loop-start.invariant.shut shut in
+    let none : s.out ≡ [] = sym (ap (λ (t : State). t.out) view) ∙ cond-false _ _ _ within.0 ∙ ap (λ k. take k b.info.items) within.1 in
     let list : c.deref.result.now ≡ s.input = c.deref.ensures.value ∙ sym (cond-false _ _ _ shut) ∙ ap (λ (t : State). t.input) view in
     let up : start ≤ end = omega (arith, c.group_end-end.ensures.after) in
     let new = c.reverse_group.ensures in

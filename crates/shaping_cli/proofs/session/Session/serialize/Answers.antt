@@ -1,8 +1,9 @@
 use Rattle.std.proofs.Common.{rules, ap, ◌≡◌, true, string_bytes}
 use Rattle.shaping_buffer.specs.Positions.{with_zero_positions}
 use Rattle.shaping_buffer.specs.State.{cleared}
+use Rattle.glyph_text.specs.Text.{nothing_known}
 use Rattle.shaping_buffer.specs.Text.{text_of}
-use Rattle.shaping_cli.specs.Session.{held_by, may_be_printed, nothing_known}
+use Rattle.shaping_cli.specs.Session.{held_by, may_be_printed}
 use Rattle.shaping_cli.specs.declared.session.Session.TheVariants.{Text}
 use Rattle.shaping_cli.proofs.session.Session.serialize.Goals as goal
 

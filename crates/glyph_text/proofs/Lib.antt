@@ -1,0 +1,4 @@
+pub mod TextLemmas
+pub mod ReadingLemmas
+pub mod GlyphReadingLemmas
+pub mod Rows

@@ -1,0 +1,265 @@
+//! Glyphs as a text.
+
+ghost use Rattle.std.specs.Prelude.{◌≡◌, ◌++◌, ◌∷◌, true, false, length, IfOk, OnOk, string_bytes, ◌+ℤ◌, ◌+◌, ◌<◌, ◌≤◌};
+ghost use Rattle.std.specs.Prelude.{nat_abs};
+ghost use Rattle.std.specs.Fmt.{signed_decimal};
+ghost use Rattle.std.specs.List.{zip};
+ghost use Rattle.glyph_text.specs.Text as texts;
+ghost use Rattle.glyph_text.specs.Text.{has, asks_font, AreGlyphs, bar_before, name_text, cluster_text, offset_text};
+ghost use Rattle.glyph_text.specs.Text.{advance_text, position_text, flags_text, extents_text, box_text};
+ghost use Rattle.glyph_text.specs.Point.{IsNear};
+ghost use Rattle.rb_glyph.specs.declared.flag_sets.TheConstants.SerializeFlags.{NO_GLYPH_NAMES, GLYPH_EXTENTS};
+
+use bitflags::Flags;
+use itoa::{Buffer, Integer};
+use rb_glyph::{
+    GlyphExtents, GlyphNames, GlyphPosition, SerializeFlags, glyph_flag, hb_glyph_info_t,
+};
+use std::alloc::{AllocError, Global};
+
+#[cfg(test)]
+mod tests;
+
+/// A place relative to the start of the line.
+#[derive(Clone, Copy)]
+struct Point {
+    x: i128,
+    y: i128,
+}
+
+impl Point {
+    fn of_offset(position: &GlyphPosition) -> Point
+        ensures x { result.x ≡ position.now.x_offset }
+        ensures y { result.y ≡ position.now.y_offset }
+    {
+        Point {
+            x: i128::from(position.x_offset),
+            y: i128::from(position.y_offset),
+        }
+    }
+
+    fn plus_offset(self, position: &GlyphPosition) -> Point
+        requires { IsNear self }
+        ensures x { result.x ≡ self.x +ℤ position.now.x_offset }
+        ensures y { result.y ≡ self.y +ℤ position.now.y_offset }
+    {
+        Point {
+            x: self.x + i128::from(position.x_offset),
+            y: self.y + i128::from(position.y_offset),
+        }
+    }
+
+    fn plus_advance(self, position: &GlyphPosition) -> Point
+        requires { IsNear self }
+        ensures x { result.x ≡ self.x +ℤ position.now.x_advance }
+        ensures y { result.y ≡ self.y +ℤ position.now.y_advance }
+        ensures near_x { nat_abs result.x ≤ nat_abs self.x + 2147483648 }
+        ensures near_y { nat_abs result.y ≤ nat_abs self.y + 2147483648 }
+    {
+        Point {
+            x: self.x + i128::from(position.x_advance),
+            y: self.y + i128::from(position.y_advance),
+        }
+    }
+}
+
+/// The room that is made for each glyph's text at first. Where the texts are longer, they make more.
+const LIKELY_LENGTH: usize = 16;
+
+/// The texts of the glyphs, joined by `|`. A glyph's text is its name, or `gid` and its number where the font has no
+/// name for it; `=` and the cluster; `@x,y`, the offsets, unless both are 0; `+x`, the advance, and then `,y` unless
+/// that is 0; under `GLYPH_FLAGS` `#` and the glyph flags as a digit, unless they are 0; under `GLYPH_EXTENTS`
+/// `<x_bearing,y_bearing,width,height>`, zeros where the font has none. `NO_GLYPH_NAMES` writes the number alone,
+/// `NO_CLUSTERS` leaves the cluster out, `NO_POSITIONS` offsets and advances, and `NO_ADVANCES` the advances: then
+/// the sums of all earlier advances are added to the offsets.
+///
+/// Requires as many positions as glyphs, and numbers of at most 65535 where names or extents are written.
+/// `Err(AllocError)` where memory ran out: then there is no text.
+pub fn glyphs_text<F: GlyphNames>(
+    alloc: Global,
+    font: &F,
+    flags: SerializeFlags,
+    infos: &[hb_glyph_info_t],
+    positions: &[GlyphPosition],
+) -> Result<String, AllocError>
+    requires as_many { length positions.now ≡ length infos.now }
+    requires glyphs { asks_font flags ≡ true → AreGlyphs infos.now }
+    ensures { IfOk result (λ text. string_bytes text ≡ texts.glyphs_text
+        (record { name = F.name_of font.now; extents = F.extents_of font.now }) flags
+        (zip infos.now positions.now)) }
+{
+    let mut text = String::with_capacity(alloc, infos.len().saturating_mul(LIKELY_LENGTH))?;
+    let mut pen = Point { x: 0, y: 0 };
+    for (i, info) in infos.iter().enumerate() {
+        let position = &positions[i];
+        write_bar(&mut text, i)?;
+        write_name(&mut text, font, flags, info)?;
+        write_cluster(&mut text, flags, info)?;
+        write_position(&mut text, flags, pen, position)?;
+        write_flags(&mut text, flags, info)?;
+        write_extents(&mut text, font, flags, info)?;
+        pen = pen.plus_advance(position);
+    }
+    Ok(text)
+}
+
+/// What stands before the piece at a place.
+fn write_bar(text: &mut String, i: usize) -> Result<(), AllocError>
+    ensures { OnOk result (string_bytes text.new ≡ string_bytes text.old ++ bar_before i) }
+{
+    if i > 0 {
+        text.push('|')?;
+    }
+    Ok(())
+}
+
+/// A number, behind one character.
+#[inline]
+fn write_behind<I: Integer>(text: &mut String, before: char, number: I) -> Result<(), AllocError>
+    requires { before < 128 }
+    ensures { OnOk result (string_bytes text.new
+        ≡ string_bytes text.old ++ before ∷ I.text number) }
+{
+    text.push(before)?;
+    write_number(text, number)
+}
+
+#[inline]
+fn write_number<I: Integer>(text: &mut String, number: I) -> Result<(), AllocError>
+    ensures { OnOk result (string_bytes text.new ≡ string_bytes text.old ++ I.text number) }
+{
+    let mut digits = Buffer::new();
+    text.push_str(digits.format(number))
+}
+
+fn write_name<F: GlyphNames>(
+    text: &mut String,
+    font: &F,
+    flags: SerializeFlags,
+    info: &hb_glyph_info_t,
+) -> Result<(), AllocError>
+    requires { has flags NO_GLYPH_NAMES ≡ false → info.now.glyph_id ≤ 65535 }
+    ensures { OnOk result (string_bytes text.new ≡ string_bytes text.old
+        ++ name_text flags (F.name_of font.now info.now.glyph_id) info.now.glyph_id) }
+{
+    if flags.contains(SerializeFlags::NO_GLYPH_NAMES) {
+        return write_number(text, info.glyph_id);
+    }
+    match font.glyph_name(info.as_glyph()) {
+        Some(name) => text.push_str(name),
+        None => {
+            text.push_str("gid")?;
+            write_number(text, info.glyph_id)
+        }
+    }
+}
+
+fn write_cluster(
+    text: &mut String,
+    flags: SerializeFlags,
+    info: &hb_glyph_info_t,
+) -> Result<(), AllocError>
+    ensures { OnOk result (string_bytes text.new
+        ≡ string_bytes text.old ++ cluster_text flags info.now.cluster) }
+{
+    if flags.contains(SerializeFlags::NO_CLUSTERS) {
+        return Ok(());
+    }
+    write_behind(text, '=', info.cluster)
+}
+
+fn write_position(
+    text: &mut String,
+    flags: SerializeFlags,
+    pen: Point,
+    position: &GlyphPosition,
+) -> Result<(), AllocError>
+    requires { IsNear pen }
+    ensures { OnOk result (string_bytes text.new
+        ≡ string_bytes text.old ++ position_text flags pen.x pen.y position.now) }
+{
+    if flags.contains(SerializeFlags::NO_POSITIONS) {
+        return Ok(());
+    }
+    if flags.contains(SerializeFlags::NO_ADVANCES) {
+        return write_offset(text, pen.plus_offset(position));
+    }
+    write_offset(text, Point::of_offset(position))?;
+    write_advance(text, position)
+}
+
+fn write_offset(text: &mut String, offset: Point) -> Result<(), AllocError>
+    ensures { OnOk result (string_bytes text.new
+        ≡ string_bytes text.old ++ offset_text offset.x offset.y) }
+{
+    if offset.x == 0 && offset.y == 0 {
+        return Ok(());
+    }
+    write_behind(text, '@', offset.x)?;
+    write_behind(text, ',', offset.y)
+}
+
+fn write_advance(text: &mut String, position: &GlyphPosition) -> Result<(), AllocError>
+    ensures { OnOk result (string_bytes text.new
+        ≡ string_bytes text.old ++ advance_text position.now.x_advance position.now.y_advance) }
+{
+    write_behind(text, '+', position.x_advance)?;
+    if position.y_advance == 0 {
+        return Ok(());
+    }
+    write_behind(text, ',', position.y_advance)
+}
+
+fn write_flags(
+    text: &mut String,
+    flags: SerializeFlags,
+    info: &hb_glyph_info_t,
+) -> Result<(), AllocError>
+    ensures { OnOk result (string_bytes text.new
+        ≡ string_bytes text.old ++ flags_text flags info.now.mask) }
+{
+    let defined = info.mask & glyph_flag::DEFINED;
+    if !flags.contains(SerializeFlags::GLYPH_FLAGS) || defined == 0 {
+        return Ok(());
+    }
+    write_behind(text, '#', defined)
+}
+
+fn write_extents<F: GlyphNames>(
+    text: &mut String,
+    font: &F,
+    flags: SerializeFlags,
+    info: &hb_glyph_info_t,
+) -> Result<(), AllocError>
+    requires { has flags GLYPH_EXTENTS ≡ true → info.now.glyph_id ≤ 65535 }
+    ensures { OnOk result (string_bytes text.new
+        ≡ string_bytes text.old ++ extents_text flags (F.extents_of font.now info.now.glyph_id)) }
+{
+    if !flags.contains(SerializeFlags::GLYPH_EXTENTS) {
+        return Ok(());
+    }
+    let extents = font.glyph_extents(info.as_glyph()).unwrap_or(GlyphExtents {
+        x_bearing: 0,
+        y_bearing: 0,
+        width: 0,
+        height: 0,
+    });
+    write_box(text, extents)
+}
+
+fn write_box(text: &mut String, extents: GlyphExtents) -> Result<(), AllocError>
+    ensures { OnOk result (string_bytes text.new ≡ string_bytes text.old ++ box_text extents) }
+{
+    write_pair(text, '<', extents.x_bearing, extents.y_bearing)?;
+    write_pair(text, ',', extents.width, extents.height)?;
+    text.push('>')
+}
+
+fn write_pair(text: &mut String, before: char, first: i32, second: i32) -> Result<(), AllocError>
+    requires { before < 128 }
+    ensures { OnOk result (string_bytes text.new ≡ string_bytes text.old ++ before
+        ∷ signed_decimal first ++ 44 ∷ signed_decimal second) }
+{
+    write_behind(text, before, first)?;
+    write_behind(text, ',', second)
+}

@@ -1,0 +1,49 @@
+//! Calls that go over a whole list with no output open, which each function asks.
+
+ghost use Rattle.std.specs.Prelude.{◌≡◌, false};
+
+use shaping_buffer::hb_buffer_t;
+
+/// Deletes each glyph whose number is a multiple of three.
+pub fn delete_third_inplace(buffer: &mut hb_buffer_t)
+    requires { buffer.old.have_output ≡ false }
+{
+    buffer.delete_glyphs_inplace(|info| info.glyph_id % 3 == 0);
+}
+
+/// Puts the clusters into reverse order.
+pub fn reverse_groups(buffer: &mut hb_buffer_t)
+    requires { buffer.old.have_output ≡ false }
+{
+    buffer.reverse_groups(|a, b| hb_buffer_t::_cluster_group_func(a, b), false);
+}
+
+/// Requires for the end of each cluster. It gives their sum.
+pub fn group_ends(buffer: &hb_buffer_t) -> usize
+    requires { buffer.now.have_output ≡ false }
+{
+    let len = buffer.len();
+    let mut start = 0;
+    let mut sum = 0usize;
+    while start < len {
+        start = buffer.group_end(start, |a, b| hb_buffer_t::_cluster_group_func(a, b));
+        sum = sum.wrapping_add(start);
+    }
+    sum
+}
+
+/// Sets ten masks, each other one over all clusters, and the others over half of them.
+pub fn ten_masks(buffer: &mut hb_buffer_t)
+    requires { buffer.old.have_output ≡ false }
+{
+    let len = u32::try_from(buffer.len()).unwrap_or(u32::MAX);
+    for i in 0..10u32 {
+        let bit = 1u32 << (8 + i);
+        if i % 2 == 0 {
+            buffer.set_masks(bit, bit, 0, u32::MAX);
+        } else {
+            let start = len / 20 * i;
+            buffer.set_masks(bit, bit, start, start + len / 2);
+        }
+    }
+}

@@ -1,0 +1,50 @@
+//! Merges and break flags over ranges of a list with no output open, which each function asks.
+
+ghost use Rattle.std.specs.Prelude.{◌≡◌, false};
+
+use shaping_buffer::hb_buffer_t;
+
+/// Merges each glyph with the next.
+#[tactic(auto, using(shaping_buffer::proofs::GroupStepLemmas::length_merged))]
+pub fn merge_sliding(buffer: &mut hb_buffer_t)
+    requires { buffer.old.have_output ≡ false }
+{
+    for i in 0..buffer.len().saturating_sub(1) {
+        buffer.merge_clusters(i, i + 2);
+    }
+}
+
+/// Merges two glyphs, and then the next two.
+#[tactic(auto, using(shaping_buffer::proofs::GroupStepLemmas::length_merged))]
+pub fn merge_pairs(buffer: &mut hb_buffer_t)
+    requires { buffer.old.have_output ≡ false }
+{
+    for pair in 0..buffer.len() / 2 {
+        buffer.merge_clusters(2 * pair, 2 * pair + 2);
+    }
+}
+
+/// Marks four glyphs from each on.
+pub fn unsafe_sliding(buffer: &mut hb_buffer_t)
+    requires { buffer.old.have_output ≡ false }
+{
+    for i in 0..buffer.len().saturating_sub(3) {
+        if i >= buffer.len() {
+            break;
+        }
+        buffer.unsafe_to_break(Some(i), Some(i + 4));
+    }
+}
+
+/// Marks four glyphs, and then the next four.
+pub fn unsafe_windows(buffer: &mut hb_buffer_t)
+    requires { buffer.old.have_output ≡ false }
+{
+    for window in 0..buffer.len() / 4 {
+        let start = 4 * window;
+        if start >= buffer.len() {
+            break;
+        }
+        buffer.unsafe_to_break(Some(start), Some(start + 4));
+    }
+}

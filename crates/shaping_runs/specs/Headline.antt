@@ -1,0 +1,82 @@
+-- What the headline says of a call: the length that it holds, the range that it merges or marks, and when it reaches both sides.
+use Rattle.std.specs.Prelude.{◌≡◌, ℕ, ◌+◌, ◌-◌, ◌⊎◌, ◌&&◌, Bool, true, false, not, List, length, min, nat_le, if◌then◌else◌}
+use Rattle.rb_glyph.specs.declared.info.hb_glyph_info_t.{hb_glyph_info_t}
+use Rattle.glyph_lists.specs.Parts.{part}
+use Rattle.glyph_lists.specs.Clusters.{IsMonotone}
+use Rattle.shaping_buffer.specs.State.{State}
+use Rattle.shaping_buffer.specs.ClusterStep.{both, both_place, any_order, range_start, range_end}
+use Rattle.shaping_runs.specs.declared.call.Call.{Call}
+use Rattle.shaping_runs.specs.declared.call.Call.TheVariants.{NextGlyph, NextGlyphs, ReplaceGlyph, ReplaceGlyphs, OutputGlyph, OutputInfo, CopyGlyph, MoveTo, Sync, MergeClusters, MergeOutClusters, UnsafeToBreak, UnsafeToBreakFromOutbuffer}
+
+-- ---- length
+
+-- With an output open a call holds one side: what it puts out and what was put out before, or what a move back leaves to
+-- read, or both sides as the list. Other calls hold nothing.
+abbrev pub held_open : Call → State → ℕ
+held_open NextGlyph s = length s.out + 1
+held_open (NextGlyphs n) s = length s.out + n
+held_open (ReplaceGlyph id) s = length s.out + 1
+held_open (ReplaceGlyphs num_in num_out ids) s = length s.out + num_out
+held_open (OutputGlyph id) s = length s.out + min 1 (length (both s))
+held_open (OutputInfo g) s = length s.out + 1
+held_open CopyGlyph s = length s.out + 1
+held_open (MoveTo place) s = if nat_le (length s.out) place then place else length (both s) - place
+held_open Sync s = length (both s)
+held_open call s = 0
+
+-- how many glyphs the side has that the call holds; with no output open it holds nothing
+abbrev pub held : Call → State → ℕ
+held call s = if s.have_output then held_open call s else 0
+
+-- the calls that go on only after `clear` once a call was refused for length
+abbrev pub moves_or_syncs : Call → Bool
+moves_or_syncs (MoveTo place) = true
+moves_or_syncs Sync = true
+moves_or_syncs call = false
+
+-- the call is such a one, with an output open and after a refusal
+abbrev pub awaits_clear : Call → State → Bool
+awaits_clear call s = moves_or_syncs call && (s.have_output && not s.successful)
+
+-- ---- merges and marks
+
+-- merges change clusters, and those of both sides are monotone
+pub record HasMonotoneClusters (s : State) : Type 0 where
+  pub level : any_order s ≡ false
+  pub order : IsMonotone (both s)
+
+-- a merge may go on through both sides: an output is open, or the cursor is at the start
+abbrev pub ReachesBothSides : State → Type 0
+ReachesBothSides s = (s.have_output ≡ true) ⊎ (s.idx ≡ 0)
+
+-- the calls that merge clusters
+abbrev pub is_merge : Call → Bool
+is_merge (MergeClusters start end) = true
+is_merge (MergeOutClusters start end) = true
+is_merge call = false
+
+-- the calls that mark as unsafe to break
+abbrev pub is_break : Call → Bool
+is_break (UnsafeToBreak start end) = true
+is_break (UnsafeToBreakFromOutbuffer start end) = true
+is_break call = false
+
+-- where the range of such a call begins, by places in both sides
+abbrev pub from_place : Call → State → ℕ
+from_place (MergeClusters start end) s = both_place s start
+from_place (MergeOutClusters start end) s = start
+from_place (UnsafeToBreak start end) s = both_place s (range_start start)
+from_place (UnsafeToBreakFromOutbuffer start end) s = range_start start
+from_place call s = 0
+
+-- where it ends
+abbrev pub to_place : Call → State → ℕ
+to_place (MergeClusters start end) s = both_place s end
+to_place (MergeOutClusters start end) s = end
+to_place (UnsafeToBreak start end) s = both_place s (range_end end s)
+to_place (UnsafeToBreakFromOutbuffer start end) s = both_place s (range_end end s)
+to_place call s = 0
+
+-- the glyphs of the range
+abbrev pub range_of : Call → State → List hb_glyph_info_t
+range_of call s = part (both s) (from_place call s) (to_place call s)

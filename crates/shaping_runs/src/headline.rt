@@ -1,0 +1,120 @@
+//! The headline: what is promised of every list of calls, said of the calls.
+//!
+//! For every list of calls the two sides, the cursor, the refusals and the scratch flags are those of two plain lists
+//! on which each call takes its step in turn: that is the contract of [`replay`](crate::replay) (`state` and
+//! `answers`), which names `after` and `answers_of`, the folds of `turn`. Each function here is empty. Its contract
+//! is a fact of `turn` and `after`, and holds for every call, every list of calls and every state. `both` is what was
+//! put out, and then what is left to read.
+
+ghost use Rattle.std.specs.Prelude.{◌≡◌, ◌⊎◌, ◌↔◌, ◌<◌, ℕ, true, false, List, length, slice_index, slice_index_or};
+ghost use Rattle.glyph_lists.specs.Parts.{on_part};
+ghost use Rattle.glyph_lists.specs.Clusters.{clusters, least, occurs, zero_glyph, cluster_merge, IsMonotone, IsCoarse};
+ghost use Rattle.glyph_lists.specs.Marks.{mark};
+ghost use Rattle.glyph_lists.specs.declared.glyph_flags.TheConstants.{BREAK_BITS};
+ghost use Rattle.shaping_buffer.specs.State.{State};
+ghost use Rattle.shaping_buffer.specs.ClusterStep.{both, any_order};
+ghost use Rattle.shaping_runs.specs.declared.call.Answer.{Answer};
+ghost use Rattle.shaping_runs.specs.declared.call.Call.{Call};
+ghost use Rattle.shaping_runs.specs.Exceptions.{brings_glyph, NoMergeStopsAtCursor, NoGlyphIsBrought};
+ghost use Rattle.shaping_runs.specs.Replay.{after, may_be_made, turn};
+ghost use Rattle.shaping_runs.specs.Headline.{held, moves_or_syncs, awaits_clear, HasMonotoneClusters};
+ghost use Rattle.shaping_runs.specs.Headline.{ReachesBothSides, is_merge, is_break, from_place, to_place, range_of};
+
+/// A call within its condition is refused for length exactly where the side that it holds would pass `max_len`, unless
+/// it waits for `clear`, and a refusal changes nothing but `successful`. Then `move_to` and `sync` with an output open
+/// are refused along every list of calls, and change nothing.
+pub fn length_refuses()
+    ensures exactly { (call : Call) (s : State) → may_be_made call s ≡ true
+        → awaits_clear call s ≡ false
+        → ((turn call s).answer ≡ Answer.Refused) ↔ (s.max_len < held call s) }
+    ensures changes { (call : Call) (s : State) → (turn call s).answer ≡ Answer.Refused
+        → (turn call s).state ≡ record s { successful = false } }
+    ensures for_good { (calls : List Call) (call : Call) (s : State) → s.successful ≡ false
+        → moves_or_syncs call ≡ true → (after calls s).have_output ≡ true
+        → may_be_made call (after calls s) ≡ true
+        → turn call (after calls s) ≡ record { answer = Answer.Refused; state = after calls s } }
+{}
+
+/// At the monotone levels, on monotone clusters, with an output open or the cursor at the start, `merge_clusters` and
+/// `merge_out_clusters` give the cluster merge of both sides, which is the least coarsening: two glyphs share a
+/// cluster afterwards exactly if they did before or both their clusters occur in the range. A glyph that keeps its
+/// cluster stays as it is.
+pub fn merges_are_least_coarsenings()
+    ensures merge { (call : Call) (s : State) → is_merge call ≡ true → may_be_made call s ≡ true
+        → HasMonotoneClusters s → ReachesBothSides s
+        → both (turn call s).state ≡ cluster_merge (both s) (range_of call s) }
+    ensures shares { (call : Call) (s : State) → is_merge call ≡ true → may_be_made call s ≡ true
+        → HasMonotoneClusters s → ReachesBothSides s
+        → let old = clusters (both s) in let new = clusters (both (turn call s).state) in
+        (i j : ℕ) → i < length (both s) → j < length (both s)
+        → (slice_index new i ≡ slice_index new j) ↔ ((slice_index old i ≡ slice_index old j)
+        ⊎ ((occurs (slice_index old i) (clusters (range_of call s)) ≡ true)
+        × (occurs (slice_index old j) (clusters (range_of call s)) ≡ true))) }
+    ensures keeps { (call : Call) (s : State) → is_merge call ≡ true → may_be_made call s ≡ true
+        → HasMonotoneClusters s → ReachesBothSides s → (i : ℕ) → i < length (both s)
+        → slice_index (clusters (both (turn call s).state)) i ≡ slice_index (clusters (both s)) i
+        → slice_index_or (both (turn call s).state) i zero_glyph
+        ≡ slice_index_or (both s) i zero_glyph }
+{}
+
+/// At the monotone levels, on monotone clusters, `unsafe_to_break` and its `_from_outbuffer` form mark exactly the
+/// glyphs of the range that are not in its least cluster, also across the cursor.
+pub fn breaks_are_marks()
+    ensures { (call : Call) (s : State) → is_break call ≡ true → may_be_made call s ≡ true
+        → HasMonotoneClusters s
+        → both (turn call s).state
+        ≡ on_part (mark BREAK_BITS) (both s) (from_place call s) (to_place call s) }
+{}
+
+/// Monotone clusters stay monotone after every call but `output_info`, and so along every list of such calls.
+pub fn order_stays()
+    ensures call { (call : Call) (s : State) → brings_glyph call s ≡ false
+        → IsMonotone (both s) → IsMonotone (both (turn call s).state) }
+    ensures calls { (calls : List Call) (s : State) → NoGlyphIsBrought calls s
+        → IsMonotone (both s) → IsMonotone (both (after calls s)) }
+{}
+
+/// At the monotone levels the least cluster is still there after `delete_glyph`, and after `replace_glyphs` with a
+/// glyph put in, while a glyph remains, in any order of clusters.
+pub fn least_cluster_stays()
+    ensures delete_glyph { (s : State) → any_order s ≡ false → may_be_made Call.DeleteGlyph s ≡ true
+        → 0 < length (both (turn Call.DeleteGlyph s).state)
+        → least (clusters (both (turn Call.DeleteGlyph s).state)) ≡ least (clusters (both s)) }
+    ensures replace_glyphs { (num_in num_out : ℕ) (s : State) → any_order s ≡ false → 0 < num_out
+        → (ids : _) → may_be_made (Call.ReplaceGlyphs num_in num_out ids) s ≡ true
+        → least (clusters (both (turn (Call.ReplaceGlyphs num_in num_out ids) s).state))
+        ≡ least (clusters (both s)) }
+{}
+
+/// No call but `output_info` brings in a cluster number that was not there, and so no list of such calls does.
+pub fn no_cluster_is_new()
+    ensures call { (call : Call) (s : State) → brings_glyph call s ≡ false → (c : ℕ)
+        → occurs c (clusters (both (turn call s).state)) ≡ true
+        → occurs c (clusters (both s)) ≡ true }
+    ensures calls { (calls : List Call) (s : State) → NoGlyphIsBrought calls s → (c : ℕ)
+        → occurs c (clusters (both (after calls s))) ≡ true → occurs c (clusters (both s)) ≡ true }
+{}
+
+/// Clusters only merge: coarse lists stay coarse along every list of calls, but for `output_info`, and for a merge that
+/// is made while no output is open and the cursor is past the start.
+pub fn clusters_only_merge()
+    ensures { (calls : List Call) (s : State) → NoGlyphIsBrought calls s
+        → NoMergeStopsAtCursor calls s
+        → IsCoarse (both s) → IsCoarse (both (after calls s)) }
+{}
+
+#[cfg(test)]
+mod tests {
+    use super::*;
+
+    #[test]
+    fn the_headline_stands(_rt: HostRuntime) {
+        length_refuses();
+        merges_are_least_coarsenings();
+        breaks_are_marks();
+        order_stays();
+        least_cluster_stays();
+        no_cluster_is_new();
+        clusters_only_merge();
+    }
+}
