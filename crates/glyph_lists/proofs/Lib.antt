@@ -1,4 +1,5 @@
 pub mod PartsLemmas
+pub mod ReversalLemmas
 pub mod ClustersLemmas
 pub mod RunsLemmas
 pub mod MergesLemmas
@@ -6,6 +7,7 @@ pub mod MapLemmas
 pub mod MergeRangeLemmas
 pub mod SidesLemmas
 pub mod SeamLemmas
+pub mod MergedHeadLemmas
 pub mod ScanEndsLemmas
 pub mod ScansLemmas
 pub mod DeletionCases

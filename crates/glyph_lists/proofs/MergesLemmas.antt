@@ -1,12 +1,12 @@
 -- Merges: on monotone clusters the run merge of a range is the merge of its numbers, wherever they stand.
-use Rattle.std.proofs.Common.{◌⊎◌, ◌↔◌, ◌∷◌, ◌≡◌, ℕ, ◌+◌, ◌-◌, ◌<◌, ◌≤◌, inl, inr, List, [], length, get_or, set, map, take, drop, refl, sym, ap, ◌∙◌, arith, eqb, true, cond, subst}
+use Rattle.std.proofs.Common.{◌⊎◌, ◌↔◌, ◌∷◌, ◌≡◌, ℕ, ◌+◌, ◌-◌, ◌<◌, ◌≤◌, inl, inr, List, [], length, get_or, set, map, take, drop, min, refl, sym, ap, ◌∙◌, arith, eqb, true, cond, subst}
 use Rattle.std.proofs.lemmas.List.{get_or-map, length-map, map-id, same_lists, set-get_or}
 use Rattle.std.proofs.lemmas.Bool.{cond_both, false≢true, eqb-false, eqb-true, eq-eqb, cond-true, cond-false, cases_Bool, cases_lt, lt-leb, le-leb}
 use Rattle.rb_glyph.specs.declared.info.hb_glyph_info_t.{hb_glyph_info_t}
 use Rattle.glyph_lists.specs.Parts.{part, map_range}
 use Rattle.glyph_lists.specs.Clusters.{clusters, occurs, with_cluster, cluster_merge, run_merge, run_start, run_end, range_least, widened_start, widened_end, zero_glyph, least}
-use Rattle.glyph_lists.proofs.PartsLemmas.{length-map_range, map_range-before, map_range-within, map_range-after, map_range_more, map_range_none}
-use Rattle.glyph_lists.proofs.ClustersLemmas.{occurs_at, least-stands, length-clusters, get_or-clusters, clusters-part, occurs_part_at, occurs_part_place, range_least_one, IsContiguous}
+use Rattle.glyph_lists.proofs.PartsLemmas.{length-map_range, map_range-before, map_range-within, map_range-after, map_range_more, map_range_none, map_range_after_first, map_range_to_last}
+use Rattle.glyph_lists.proofs.ClustersLemmas.{occurs_at, least-stands, length-clusters, get_or-clusters, clusters-part, occurs_part_at, occurs_part_place, range_least_one, range_least_more, IsContiguous}
 use Rattle.glyph_lists.proofs.RunsLemmas.{run_end-ge, run_end-all, run_end-stops, run_start-le, run_start-all, run_start-stops, widened_start-le, widened_end-ge, widened_start_plain, widened_start_run, widened_end_plain, widened_end_run}
 
 -- ---- one glyph of a cluster merge
@@ -205,6 +205,33 @@ run_merge_from l p q floor m a b some em ea eb =
     ∙ ap (λ x. map_range (with_cluster (range_least (clusters l) p q) 0) l x b) ea
     ∙ ap (λ x. map_range (with_cluster (range_least (clusters l) p q) 0) l (widened_start (clusters l) p q floor) x) eb
     ∙ sym (cond-false _ _ _ (lt-leb q p some))
+
+-- the same of two glyphs, of which one is in the least cluster already: the first, or else the second
+pub run_merge_after_first : (l : List hb_glyph_info_t) (p floor m b : ℕ) → p + 2 ≤ length l → m ≡ range_least (clusters l) p (p + 2)
+    → b ≡ widened_end (clusters l) p (p + 2) → (get_or l p zero_glyph).cluster ≡ m → map_range (with_cluster m 0) l (p + 1) b ≡ run_merge l p (p + 2) floor
+run_merge_after_first l p floor m b in_l em eb is =
+    let cs = clusters l in
+    let past : p < b = omega (arith, widened_end-ge cs p (p + 2)) in
+    let first : get_or cs p 0 ≡ range_least cs p (p + 2) = get_or-clusters l p zero_glyph (omega arith) ∙ is ∙ em in
+    map_range_after_first (with_cluster m 0) l p b zero_glyph past (omega arith) (with_cluster-same m 0 (get_or l p zero_glyph) is)
+    ∙ run_merge_from l p (p + 2) floor m p b (omega arith) em (sym (widened_start_plain cs p (p + 2) floor first)) eb
+
+pub run_merge_to_last : (l : List hb_glyph_info_t) (p floor m a : ℕ) → p + 2 ≤ length l → m ≡ range_least (clusters l) p (p + 2)
+    → a ≡ widened_start (clusters l) p (p + 2) floor → ((get_or l p zero_glyph).cluster ≡ m → ⊥) → map_range (with_cluster m 0) l a (p + 1) ≡ run_merge l p (p + 2) floor
+run_merge_to_last l p floor m a in_l em ea off =
+    let cs = clusters l in
+    let n = length-clusters l in
+    let first = get_or-clusters l p zero_glyph (omega arith) in
+    let second = get_or-clusters l (p + 1) zero_glyph (omega arith) in
+    let e : p + 2 ≡ p + 1 + 1 = omega arith in
+    let both : range_least cs p (p + 2) ≡ min (get_or cs p 0) (get_or cs (p + 1) 0) =
+    ap (range_least cs p) e ∙ range_least_more cs p (p + 1) (omega arith) (omega arith) ∙ ap (λ k. min k (get_or cs (p + 1) 0)) (range_least_one cs p (omega arith)) in
+    let last : get_or cs (p + 1) 0 ≡ m = omega (arith, off, both, em, first) in
+    let place : p + 2 - 1 ≡ p + 1 = omega arith in
+    map_range_to_last (with_cluster m 0) l a (p + 1) zero_glyph (omega (arith, ea, widened_start-le cs p (p + 2) floor)) (omega arith)
+    (with_cluster-same m 0 (get_or l (p + 1) zero_glyph) (sym second ∙ last))
+    ∙ ap (map_range (with_cluster m 0) l a) (sym e)
+    ∙ run_merge_from l p (p + 2) floor m a (p + 2) (omega arith) em ea (sym (widened_end_plain cs p (p + 2) (ap (λ k. get_or cs k 0) place ∙ last ∙ em)))
 
 -- ---- a glyph after a cluster merge
 

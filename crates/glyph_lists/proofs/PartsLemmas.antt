@@ -1,7 +1,7 @@
 -- Ranges of a list: what stands in one, and a list of which one range is mapped.
 use Rattle.std.proofs.Common.{All, suc, ◌⊎◌, inl, inr, ◌≡◌, ℕ, ◌+◌, ◌-◌, ◌<◌, ◌≤◌, List, [], ◌∷◌, ◌++◌, length, get_or, map, take, drop, set, min, refl, sym, ap, ◌∙◌, arith, length-append, length-drop, length-take}
 use Rattle.std.proofs.lemmas.Bool.{cases_lt}
-use Rattle.std.proofs.lemmas.List.{take_at, drop_at, length-take-le, same_lists, take_more, drop_more, set_at, map_push, append-nil, take-append-drop, get_or_append_left, get_or-append_right, get_or-take, get_or-drop, get_or-map, length-map, map-append, map-id, append_assoc}
+use Rattle.std.proofs.lemmas.List.{set-get_or, take_at, drop_at, length-take-le, same_lists, take_more, drop_more, set_at, map_push, append-nil, take-append-drop, get_or_append_left, get_or-append_right, get_or-take, get_or-drop, get_or-map, length-map, map-append, map-id, append_assoc}
 use Rattle.std.proofs.lemmas.List.Elements.{All-append, All-take, All-drop, All-map, All-weaker}
 use Rattle.glyph_lists.specs.Parts.{part, map_range}
 
@@ -93,6 +93,23 @@ map_range_next f l a b d up in_l = map_range-after f l a b up b d (omega arith) 
 
 pub map_range_last : {X : Type 0} (f : X → X) (l : List X) (a b : ℕ) (d : X) → 0 < a → a ≤ b → a ≤ length l → get_or (map_range f l a b) (a - 1) d ≡ get_or l (a - 1) d
 map_range_last f l a b d some up in_l = map_range-before f l a b up (a - 1) d (omega arith) (omega arith)
+
+-- an end of the range that f leaves as it is
+pub map_range_after_first : {X : Type 0} (f : X → X) (l : List X) (s b : ℕ) (d : X) → s < b → s < length l → f (get_or l s d) ≡ get_or l s d
+    → map_range f l (s + 1) b ≡ map_range f l s b
+map_range_after_first f l s b d some in_l same =
+    let m = map_range f l (s + 1) b in
+    sym (set-get_or m s d)
+    ∙ ap (set m s) (map_range-before f l (s + 1) b (omega arith) s d (omega arith) in_l)
+    ∙ map_range_front f l s b (get_or l s d) d some in_l (sym same)
+
+pub map_range_to_last : {X : Type 0} (f : X → X) (l : List X) (a i : ℕ) (d : X) → a ≤ i → i < length l → f (get_or l i d) ≡ get_or l i d
+    → map_range f l a i ≡ map_range f l a (i + 1)
+map_range_to_last f l a i d up in_l same =
+    let m = map_range f l a i in
+    sym (set-get_or m i d)
+    ∙ ap (set m i) (map_range_next f l a i d up in_l)
+    ∙ map_range_more f l a i (get_or l i d) d up in_l (sym same)
 
 -- an empty range
 pub map_range_none : {X : Type 0} (f : X → X) (l : List X) (a : ℕ) → map_range f l a a ≡ l

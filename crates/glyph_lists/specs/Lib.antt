@@ -6,6 +6,7 @@ pub mod Deletion
 pub mod Masks
 pub mod GlyphFlags
 pub mod Replacement
+pub mod MergedHead
 pub mod Context
 pub mod Guess
 pub mod ClusterNumbers

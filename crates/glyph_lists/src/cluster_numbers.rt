@@ -5,9 +5,6 @@ ghost use Rattle.glyph_lists.specs.ClusterNumbers.{reset_clusters};
 
 use rb_glyph::hb_glyph_info_t;
 
-#[cfg(test)]
-mod tests;
-
 /// Makes each glyph a cluster of its own, numbered by its place modulo 2³².
 pub fn reset_clusters(info: &mut [hb_glyph_info_t])
     ensures { info.new ≡ reset_clusters 0 info.old }

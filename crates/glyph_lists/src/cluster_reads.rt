@@ -6,9 +6,6 @@ ghost use Rattle.glyph_lists.specs.ClusterReads.{Reads, both_clusters};
 use rb_glyph::hb_glyph_info_t;
 use std::marker::Model;
 
-#[cfg(test)]
-mod tests;
-
 /// Two lists of glyphs as one, whose clusters are read one at a time and counted. A walk that is given this and not the
 /// lists shows by its contract how much of them it reads.
 #[derive(Drop)]

@@ -6,9 +6,6 @@ ghost use Rattle.glyph_lists.specs.Clusters.{clusters, range_least, with_cluster
 
 use rb_glyph::{glyph_flag, hb_glyph_info_t};
 
-#[cfg(test)]
-mod tests;
-
 /// Puts the glyph into a cluster. Where that changes its cluster, its glyph flags become those of `mask`.
 #[inline]
 pub fn set_cluster(info: &mut hb_glyph_info_t, cluster: u32, mask: u32)

@@ -5,9 +5,6 @@ ghost use Rattle.glyph_lists.specs.Context.{before_text, after_text};
 
 use arrayvec::ArrayVec;
 
-#[cfg(test)]
-mod tests;
-
 /// How many characters are kept on each side.
 pub const CONTEXT_LENGTH: usize = 5;
 

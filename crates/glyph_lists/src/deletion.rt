@@ -10,9 +10,6 @@ use crate::clusters::set_range;
 use crate::merging::merge_or_mark;
 use rb_glyph::hb_glyph_info_t;
 
-#[cfg(test)]
-mod tests;
-
 /// Whether there is a glyph.
 #[inline]
 #[tactic(auto, using(crate::proofs::DeletionCases::neighbours))]

@@ -14,9 +14,6 @@ ghost use Rattle.glyph_lists.specs.Scans.{scan_of, part_scan, scan_least, two_pa
 
 use rb_glyph::{glyph_flag, hb_glyph_info_t};
 
-#[cfg(test)]
-mod tests;
-
 /// What `unsafe_to_break` adds, and a merge in any order of clusters: what is unsafe to break is unsafe to concatenate.
 pub const BREAK_BITS: u32 = glyph_flag::UNSAFE_TO_BREAK | glyph_flag::UNSAFE_TO_CONCAT;
 

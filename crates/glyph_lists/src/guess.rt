@@ -6,9 +6,6 @@ ghost use Rattle.glyph_lists.specs.Guess.{AreCharacters, is_neutral, guessed_scr
 use rb_glyph::{CharExt, hb_glyph_info_t};
 use rb_text::{Direction, Script, script};
 
-#[cfg(test)]
-mod tests;
-
 /// Whether the script says nothing of the text: punctuation and digits are common to many, marks
 /// inherit the script of what they stand on, and some characters have none.
 fn is_neutral(script: Script) -> bool

@@ -15,7 +15,7 @@ pub mod groups;
 pub mod guess;
 pub mod masks;
 pub mod merge_range;
+pub mod merged_head;
 pub mod merging;
 pub mod one_slice;
-#[cfg(test)]
-mod test_lists;
+pub mod reversal;

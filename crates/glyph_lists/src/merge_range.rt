@@ -6,9 +6,6 @@ ghost use Rattle.glyph_lists.specs.Clusters.{range_least, run_start, run_end, wi
 
 use crate::cluster_reads::ClusterReads;
 
-#[cfg(test)]
-mod tests;
-
 /// The least cluster of a range of two glyphs or more, of which the first and the last were read.
 #[inline(always)]
 #[tactic(auto, using(crate::proofs::MergeRangeLemmas::walks))]
@@ -93,15 +90,20 @@ pub fn merge_range(
     let first = reads.cluster(start);
     let last = reads.cluster(end - 1);
     let least = least_cluster(reads, start, end, first, last);
+    // Of two glyphs one is the least, so that a merge of two walks one run in either branch.
+    if last == least {
+        let from = if first == least {
+            start
+        } else {
+            run_start_before(reads, first, floor, start)
+        };
+        return (least, from, end);
+    }
+    let to = run_end_after(reads, last, end);
     let from = if first == least {
         start
     } else {
         run_start_before(reads, first, floor, start)
-    };
-    let to = if last == least {
-        end
-    } else {
-        run_end_after(reads, last, end)
     };
     (least, from, to)
 }

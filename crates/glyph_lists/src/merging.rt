@@ -10,12 +10,9 @@ use crate::glyph_flags::{BREAK_BITS, scan_range};
 use crate::merge_range::merge_range;
 use rb_glyph::hb_glyph_info_t;
 
-#[cfg(test)]
-mod tests;
-
-/// Merges the glyphs from `start` to `end` of one list. It is inlined where two are merged, and where more are.
-#[inline(always)]
-fn merge_in(info: &mut [hb_glyph_info_t], start: usize, end: usize, floor: usize)
+/// Merges the glyphs from `start` to `end` of one list, out of the way of two glyphs.
+#[inline(never)]
+fn merge_many(info: &mut [hb_glyph_info_t], start: usize, end: usize, floor: usize)
     requires some { start + 2 ≤ end }
     requires within { end ≤ length info.old }
     ensures { info.new ≡ run_merge info.old start end floor }
@@ -26,28 +23,48 @@ fn merge_in(info: &mut [hb_glyph_info_t], start: usize, end: usize, floor: usize
     set_range(info, from, to, cluster, 0);
 }
 
-/// Merges the same, out of the way of two glyphs.
-#[inline(never)]
-fn merge_many(info: &mut [hb_glyph_info_t], start: usize, end: usize, floor: usize)
-    requires some { start + 2 ≤ end }
-    requires within { end ≤ length info.old }
-    ensures { info.new ≡ run_merge info.old start end floor }
+/// Merges the two glyphs from `start` on. The one that is in their least cluster stays, and so do those next to it.
+#[inline(always)]
+fn merge_two(info: &mut [hb_glyph_info_t], start: usize, floor: usize)
+    requires within { start + 2 ≤ length info.old }
+    ensures { info.new ≡ run_merge info.old start (start + 2) floor }
 {
-    merge_in(info, start, end, floor);
+    let whole = &info[..];
+    let mut reads = ClusterReads::new(&[], whole);
+    let (cluster, from, to) = merge_range(&mut reads, start, start + 2, floor);
+    if info[start].cluster == cluster {
+        set_range(info, start + 1, to, cluster, 0);
+    } else {
+        set_range(info, from, start + 1, cluster, 0);
+    }
 }
 
-/// Merges the glyphs from `start` to `end` of one list, mostly two.
-#[inline(never)]
-fn merge_list(info: &mut [hb_glyph_info_t], start: usize, end: usize, floor: usize)
-    requires some { start + 2 ≤ end }
+/// Merges the glyphs from `start` to `end` of one list, mostly two. The range is widened through the runs at its ends,
+/// its start not below `floor`.
+#[inline(always)]
+pub fn merge_slice(info: &mut [hb_glyph_info_t], start: usize, end: usize, floor: usize)
+    requires order { start ≤ end }
     requires within { end ≤ length info.old }
     ensures { info.new ≡ run_merge info.old start end floor }
 {
+    if end - start < 2 {
+        return;
+    }
     if end - start == 2 {
-        merge_in(info, start, start + 2, floor);
+        merge_two(info, start, floor);
     } else {
         merge_many(info, start, end, floor);
     }
+}
+
+/// Merges the same, out of line.
+#[inline(never)]
+fn merge_list(info: &mut [hb_glyph_info_t], start: usize, end: usize, floor: usize)
+    requires order { start ≤ end }
+    requires within { end ≤ length info.old }
+    ensures { info.new ≡ run_merge info.old start end floor }
+{
+    merge_slice(info, start, end, floor);
 }
 
 /// Merges the glyphs from `start` to `end` of those from the cursor on.

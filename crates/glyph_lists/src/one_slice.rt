@@ -11,9 +11,6 @@ ghost use Rattle.glyph_lists.specs.Scans.{scan_of, two_part_scan};
 use crate::{deletion, glyph_flags, merging};
 use rb_glyph::hb_glyph_info_t;
 
-#[cfg(test)]
-mod tests;
-
 /// Merges the glyphs from `start` to `end` of the two sides as one list, as `merging::run_merge` does.
 pub fn run_merge(
     info: &mut [hb_glyph_info_t],

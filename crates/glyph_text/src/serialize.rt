@@ -17,9 +17,6 @@ use rb_glyph::{
 };
 use std::alloc::{AllocError, Global};
 
-#[cfg(test)]
-mod tests;
-
 /// A place relative to the start of the line.
 #[derive(Clone, Copy)]
 struct Point {

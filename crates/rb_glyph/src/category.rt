@@ -205,6 +205,3 @@ pub fn category_numbers_law()
     ensures back { (category : _) → category_of (number_of category) ≡ category }
     ensures forth { (n : ℕ) → n < 30 → number_of (category_of n) ≡ n }
 {}
-
-#[cfg(test)]
-mod tests;

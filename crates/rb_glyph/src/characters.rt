@@ -15,9 +15,6 @@ use crate::{categories, lookup, ranges, scripts};
 use rb_text::Script;
 use unicode::properties::{GeneralCategory, Script as UnicodeScript};
 
-#[cfg(test)]
-mod tests;
-
 /// The properties of characters that shaping goes by.
 pub trait CharExt: Sized {
     // The code point.

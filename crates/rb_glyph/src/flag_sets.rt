@@ -390,6 +390,3 @@ pub fn glyph_props_flags_law()
         → ⟦<GlyphPropsFlags as Flags>⟧.set_of flags ≡ glyph_props_bits flags }
     ensures all { known_bits ⟦<GlyphPropsFlags as Flags>⟧.table ≡ 0x7E }
 {}
-
-#[cfg(test)]
-mod tests;

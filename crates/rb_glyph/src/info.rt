@@ -133,6 +133,3 @@ impl hb_glyph_info_t {
         self.var1 = n;
     }
 }
-
-#[cfg(test)]
-mod tests;

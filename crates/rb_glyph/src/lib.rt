@@ -23,8 +23,6 @@ pub mod scratch;
 mod scripts;
 pub mod tables;
 mod unicode_props;
-#[cfg(test)]
-mod wording;
 
 pub use algs::{rb_flag, rb_flag_range, rb_flag_unsafe, rb_flag64, rb_flag64_unsafe};
 pub use bitflags::Flags;

@@ -57,6 +57,3 @@ impl GlyphNames for NoGlyphNames {
         None
     }
 }
-
-#[cfg(test)]
-mod tests;

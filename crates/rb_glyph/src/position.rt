@@ -52,19 +52,3 @@ impl GlyphPosition {
         write_field(&mut self.var, 16, 8, n as u32);
     }
 }
-
-#[cfg(test)]
-mod tests {
-    use super::*;
-
-    #[test]
-    fn chain_and_type_share_a_word(rt: HostRuntime) {
-        let mut position = GlyphPosition::default();
-        position.set_attach_chain(-1);
-        position.set_attach_type(2);
-        assert_eq!(rt; position.var, 0x0002_FFFF);
-        assert_eq!(rt; position.attach_chain(), -1);
-        assert_eq!(rt; position.attach_type(), 2);
-        assert_eq!(rt; position.x_advance, 0);
-    }
-}

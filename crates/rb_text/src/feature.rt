@@ -11,9 +11,6 @@ use crate::text_parser::TextParser;
 use std::ops::Bound;
 use std::str::FromStr;
 
-#[cfg(test)]
-mod tests;
-
 /// The `start` of a feature that reaches the whole text, as in HarfBuzz's `hb_feature_t`.
 pub const HB_FEATURE_GLOBAL_START: u32 = 0;
 

@@ -1,8 +1,6 @@
 //! Tags, scripts, directions, languages and font features: the words that a text shaper is told in.
 #![tactic(auto)]
 
-#[cfg(test)]
-mod comparing;
 pub mod direction;
 pub mod feature;
 pub mod glyph_id;
@@ -13,8 +11,6 @@ pub mod script;
 pub mod tag;
 pub mod tags;
 pub mod text_parser;
-#[cfg(test)]
-mod wording;
 
 pub use direction::Direction;
 pub use feature::{Feature, HB_FEATURE_GLOBAL_END, HB_FEATURE_GLOBAL_START};

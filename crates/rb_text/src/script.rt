@@ -8,8 +8,6 @@ use std::marker::Model;
 use std::str::FromStr;
 
 mod tags;
-#[cfg(test)]
-mod tests;
 
 pub use tags::constant_tags;
 

@@ -96,29 +96,3 @@ impl TagExt for Tag {
         ])
     }
 }
-
-#[cfg(test)]
-mod tests {
-    use super::*;
-
-    #[test]
-    fn tags_are_four_bytes(rt: HostRuntime) {
-        let rows = [
-            ("", Tag(0), Tag(0)),
-            ("k", Tag(0x6b202020), Tag(0x4b202020)),
-            ("ke", Tag(0x6b652020), Tag(0x4b452020)),
-            ("abc", Tag(0x61626320), Tag(0x41424320)),
-            ("abcd", Tag(0x61626364), Tag(0x41424344)),
-            ("ABCDE", Tag(0x41424344), Tag(0x41424344)),
-            ("DFLT", Tag::default_script(), Tag::default_script()),
-            ("dflt", Tag::default_language(), Tag::default_script()),
-        ];
-        for (text, tag, capital) in rows {
-            let read = Tag::from_bytes_lossy(text.as_bytes());
-            assert_eq!(rt; read, tag, "{text}");
-            assert_eq!(rt; Tag::from_bytes(&read.to_bytes()).as_u32(), tag.0, "{text}");
-            assert_eq!(rt; read.to_uppercase(), capital, "{text}");
-            assert_eq!(rt; read.is_null(), text.is_empty(), "{text}");
-        }
-    }
-}

@@ -16,9 +16,6 @@ use crate::script::{self, Script};
 use crate::tag::{TAG_LEN, Tag, TagExt};
 use arrayvec::ArrayVec;
 
-#[cfg(test)]
-mod tests;
-
 /// The most tags that a script or a language has here.
 pub const MAX_TAGS: usize = 3;
 

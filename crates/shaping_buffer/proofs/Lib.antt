@@ -6,6 +6,7 @@ pub mod ReplacementLemmas
 pub mod CopyLemmas
 pub mod PushedLemmas
 pub mod CharactersLemmas
+pub mod MergingLemmas
 pub mod GroupStepLemmas
 pub mod WalkLemmas
 pub mod BufferRows

@@ -1,5 +1,5 @@
 -- A replacement, in the words of the two sides.
-use Rattle.std.proofs.Common.{◌≡◌, inl, inr, ℕ, ◌+◌, ◌-◌, ◌<◌, ◌≤◌, ◌&&◌, not, Bool, true, false, List, [], ◌∷◌, ◌++◌, length, take, drop, map, cond, refl, sym, ap, ◌∙◌, arith, length-append, get_or, add-one, leb, ltb}
+use Rattle.std.proofs.Common.{◌≡◌, inl, inr, ℕ, ◌+◌, ◌-◌, ◌<◌, ◌≤◌, ◌&&◌, not, Bool, true, false, List, [], ◌∷◌, ◌++◌, length, take, drop, sym, ap, ◌∙◌, arith, length-append, get_or, leb, ltb}
 use Rattle.std.proofs.lemmas.Bool.{cond_both, cond-true, cond-false, cases_lt, false≢true, le-leb, lt-leb}
 use Rattle.std.proofs.lemmas.Grind.{common_steps}
 use Rattle.std.proofs.lemmas.List.{length-map, length-take-le, take_more, map-append, get_or-drop, drop-drop}
@@ -14,7 +14,7 @@ use Rattle.glyph_lists.specs.Replacement.{copies, replacement}
 use Rattle.glyph_lists.proofs.MergesLemmas.{length-run_merge}
 use Rattle.shaping_buffer.specs.State.{State}
 use Rattle.shaping_buffer.specs.ClusterStep.{both, any_order, flagged_if}
-use Rattle.shaping_buffer.specs.Step.{Outcome, MayWant, limited, settled, replace_front, replace_glyphs, with_id}
+use Rattle.shaping_buffer.specs.Step.{Outcome, MayWant, limited, settled, put_out, skip_glyphs, replace_front, replace_glyphs, with_id}
 
 pub copied : (g : hb_glyph_info_t) (ids : List ℕ) (i d : ℕ) → i < length ids → copies g (take (i + 1) ids) ≡ copies g (take i ids) ++ with_id (get_or ids i d) g ∷ []
 copied g ids i d h = ap (copies g) (take_more ids i d h) ∙ map-append (λ id. with_id id g) (take i ids) (get_or ids i d ∷ [])
@@ -99,3 +99,11 @@ done_replacement n ids s opened done =
       | inl long ↦ absurd (false≢true (sym (ap (λ (o : Outcome). o.done) (replaced_refused n ids s opened long)) ∙ done))
       | inr fits ↦ ap (λ (o : Outcome). both o.state) (replaced_done n ids s opened fits) ∙ replaced_both n ids s
     ]
+
+-- ---- copies that are put out in place, where they have room
+pub copies_put : (g : hb_glyph_info_t) (ids : List ℕ) (n : ℕ) (s : State) → s.have_output ≡ true → s.have_separate_output ≡ false → length s.out + length ids ≤ s.idx + n → length s.out + length ids ≤ s.max_len
+    → put_out (copies g ids) s (skip_glyphs n s) ≡ record { done = true; state = record s { out = s.out ++ copies g ids; input = drop n s.input; idx = s.idx + n } }
+copies_put g ids n s opened near room fits =
+    let e = length_copies g ids in
+    let long = length-append s.out (copies g ids) in
+    grind (arith, common_steps, e, long)

@@ -29,13 +29,9 @@ mod merging;
 mod moving;
 mod positions;
 mod properties;
-#[cfg(test)]
-mod reader_tests;
 mod references;
 mod replacement;
 mod sides;
-#[cfg(test)]
-mod tests;
 
 /// A text on its way through shaping: glyphs in reading order with a cursor, and while an output is open a second
 /// list, the out side, that calls put glyphs into while they read the first.

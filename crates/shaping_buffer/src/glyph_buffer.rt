@@ -12,9 +12,6 @@ use rb_glyph::{GlyphNames, GlyphPosition, SerializeFlags, hb_glyph_info_t};
 use std::alloc::{AllocError, Global};
 use std::marker::Model;
 
-#[cfg(test)]
-mod tests;
-
 /// Glyphs with their positions: what shaping gives.
 #[derive(Drop)]
 pub struct GlyphBuffer {

@@ -54,18 +54,3 @@ pub fn deletion_in_place_is_deletion_by_calls()
         → let closed = step.sync (walk_by_calls test (length s.input) (step.clear_output s)) in
         (closed.done ≡ true) × (closed.state.input ≡ (delete_glyphs_inplace test s).input) }
 {}
-
-#[cfg(test)]
-mod tests {
-    use super::*;
-
-    #[test]
-    fn laws_stand(_rt: HostRuntime) {
-        done_sync_gives_the_list();
-        move_keeps_the_list();
-        done_replacement_is_of_the_list();
-        limits_have_their_numbers();
-        two_reversals_are_none();
-        deletion_in_place_is_deletion_by_calls();
-    }
-}

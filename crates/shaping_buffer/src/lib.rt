@@ -30,6 +30,4 @@ pub mod laws;
 mod lend;
 mod moves;
 mod replacement;
-#[cfg(test)]
-mod test_lists;
 mod unicode_buffer;

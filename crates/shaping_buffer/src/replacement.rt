@@ -116,7 +116,7 @@ fn merge_front(
 
 /// Appends a copy of a glyph under each id, where there is room.
 #[tactic(auto, using(crate::proofs::ReplacementLemmas::copied))]
-fn append_copies(out: &mut Vec<hb_glyph_info_t>, glyph: hb_glyph_info_t, ids: &[u32])
+pub(crate) fn append_copies(out: &mut Vec<hb_glyph_info_t>, glyph: hb_glyph_info_t, ids: &[u32])
     requires { length out.old.items + length ids.now ≤ vec_capacity out.old }
     ensures { out.new.items ≡ out.old.items ++ copies glyph ids.now }
 {
@@ -130,7 +130,12 @@ fn append_copies(out: &mut Vec<hb_glyph_info_t>, glyph: hb_glyph_info_t, ids: &[
 
 /// Writes a copy of a glyph under each id, from a place on.
 #[tactic(auto, using(crate::proofs::CopyLemmas::copied_over))]
-fn write_copies(info: &mut Vec<hb_glyph_info_t>, at: usize, glyph: hb_glyph_info_t, ids: &[u32])
+pub(crate) fn write_copies(
+    info: &mut Vec<hb_glyph_info_t>,
+    at: usize,
+    glyph: hb_glyph_info_t,
+    ids: &[u32],
+)
     requires { at + length ids.now ≤ vec_len info.old }
     ensures len { vec_len info.new ≡ vec_len info.old }
     ensures put { take (at + length ids.now) info.new.items ≡ take at info.old.items ++ copies glyph ids.now }

@@ -16,9 +16,6 @@ use rb_text::{Direction, Language, Script, script};
 use std::alloc::{AllocError, Global};
 use std::marker::Model;
 
-#[cfg(test)]
-mod tests;
-
 /// Characters in reading order, each with a cluster number, before they are shaped.
 #[derive(Drop)]
 pub struct UnicodeBuffer {

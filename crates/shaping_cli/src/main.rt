@@ -1,17 +1,8 @@
 //! A program that edits a shaping buffer: one command a line, one answer a line.
 #![tactic(auto)]
 
-use ending::run_to_end;
+use shaping_lines::ending::run_to_end;
 use std::process::ExitCode;
-
-mod command;
-mod ending;
-mod query;
-mod reply;
-mod run;
-mod session;
-mod state_text;
-mod words;
 
 fn main(rt: HostRuntime) -> ExitCode {
     let mut reader = rt.reader();

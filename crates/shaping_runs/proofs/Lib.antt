@@ -7,5 +7,7 @@ pub mod Rows
 pub mod Refusals
 pub mod RenderLemmas
 pub mod SeparateSteps
+pub mod InPlaceSteps
+pub mod InPlaceLaws
 pub mod HeldLemmas
 pub mod HeadlineLemmas

@@ -1,10 +1,10 @@
 -- Calls that a law along lists leaves out: merges whose start is not widened past the cursor, those made with no output
--- open and glyphs before it; and glyphs of the caller's that are put out.
-use Rattle.std.specs.Prelude.{⊤, ◌≡◌, ◌&&◌, Bool, false, not, List, [], ◌∷◌, nat_lt}
+-- open and glyphs before it; glyphs of the caller's that are put out; and calls that put out more than they read.
+use Rattle.std.specs.Prelude.{⊤, ◌≡◌, ◌&&◌, Bool, true, false, not, List, [], ◌∷◌, nat_lt}
 use Rattle.shaping_buffer.specs.State.{State}
 use Rattle.shaping_buffer.specs.ClusterStep.{is_input_range}
 use Rattle.shaping_runs.specs.declared.call.Call.{Call}
-use Rattle.shaping_runs.specs.declared.call.Call.TheVariants.{MergeClusters, OutputInfo}
+use Rattle.shaping_runs.specs.declared.call.Call.TheVariants.{ReplaceGlyphs, OutputGlyph, OutputInfo, CopyGlyph, MergeClusters}
 use Rattle.shaping_runs.specs.Replay.{turn}
 
 -- the call is such a merge, within its condition
@@ -17,6 +17,14 @@ abbrev pub brings_glyph : Call → State → Bool
 brings_glyph (OutputInfo g) s = s.have_output
 brings_glyph call s = false
 
+-- the call may put out more glyphs than it reads
+abbrev pub adds_glyphs : Call → State → Bool
+adds_glyphs (ReplaceGlyphs num_in num_out ids) s = nat_lt num_in num_out
+adds_glyphs (OutputGlyph id) s = true
+adds_glyphs (OutputInfo g) s = true
+adds_glyphs CopyGlyph s = true
+adds_glyphs call s = false
+
 -- none of the calls is such a one, when its turn comes
 abbrev pub NoneIs : (Call → State → Bool) → List Call → State → Type 0
 NoneIs test [] s = ⊤
@@ -27,3 +35,6 @@ NoMergeStopsAtCursor calls s = NoneIs is_merge_stopped_at_cursor calls s
 
 abbrev pub NoGlyphIsBrought : List Call → State → Type 0
 NoGlyphIsBrought calls s = NoneIs brings_glyph calls s
+
+abbrev pub NoGlyphIsAdded : List Call → State → Type 0
+NoGlyphIsAdded calls s = NoneIs adds_glyphs calls s

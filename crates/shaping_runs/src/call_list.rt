@@ -9,9 +9,6 @@ use crate::call::{Answer, Call};
 use shaping_buffer::hb_buffer_t;
 use std::alloc::AllocError;
 
-#[cfg(test)]
-mod tests;
-
 /// The call at this place found no memory.
 #[derive(Clone, Copy, PartialEq, Eq, Debug)]
 pub struct Stopped {

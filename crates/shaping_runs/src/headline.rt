@@ -102,19 +102,3 @@ pub fn clusters_only_merge()
         → NoMergeStopsAtCursor calls s
         → IsCoarse (both s) → IsCoarse (both (after calls s)) }
 {}
-
-#[cfg(test)]
-mod tests {
-    use super::*;
-
-    #[test]
-    fn the_headline_stands(_rt: HostRuntime) {
-        length_refuses();
-        merges_are_least_coarsenings();
-        breaks_are_marks();
-        order_stays();
-        least_cluster_stays();
-        no_cluster_is_new();
-        clusters_only_merge();
-    }
-}

@@ -3,14 +3,15 @@
 //! Each function here is empty. Its contract is a fact of the definitions that the contract of
 //! [`replay`](crate::replay) names, and holds for every list of calls and every state.
 
-ghost use Rattle.std.specs.Prelude.{◌≡◌, true, List};
+ghost use Rattle.std.specs.Prelude.{◌≡◌, ℕ, true, List};
 ghost use Rattle.glyph_lists.specs.GlyphFlags.{FlagsAgree};
 ghost use Rattle.shaping_buffer.specs.State.{State};
 ghost use Rattle.shaping_buffer.specs.ClusterStep.{both};
+ghost use Rattle.shaping_runs.specs.declared.call.Answer.{Answer};
 ghost use Rattle.shaping_runs.specs.declared.call.Call.{Call};
-ghost use Rattle.shaping_runs.specs.Exceptions.{NoGlyphIsBrought};
-ghost use Rattle.shaping_runs.specs.Replay.{after, turn};
-ghost use Rattle.shaping_runs.specs.Separation.{IsNear, Follows};
+ghost use Rattle.shaping_runs.specs.Exceptions.{NoGlyphIsBrought, NoGlyphIsAdded};
+ghost use Rattle.shaping_runs.specs.Replay.{after, turn, StopsAt};
+ghost use Rattle.shaping_runs.specs.Separation.{IsNear, Follows, IsInPlace, StaysInPlace};
 
 /// Where each glyph that is unsafe to break is unsafe to concatenate too, that stays so along
 /// every list of calls that puts out no glyph of the caller's.
@@ -26,13 +27,17 @@ pub fn separate_output_follows_its_rule()
         → (turn call s).state.have_output ≡ true → Follows s (turn call s).state }
 {}
 
-#[cfg(test)]
-mod tests {
-    use super::*;
+/// What was put out in place stays in place along every list of calls in which none puts out more glyphs than it reads.
+/// Those that may are `output_glyph`, `output_info`, `copy_glyph`, and `replace_glyphs` by more glyphs than it takes.
+pub fn what_is_put_out_stays_in_place()
+    ensures { (calls : List Call) (s : State) → NoGlyphIsAdded calls s
+        → IsInPlace s → StaysInPlace calls s }
+{}
 
-    #[test]
-    fn laws_stand(_rt: HostRuntime) {
-        flags_still_agree();
-        separate_output_follows_its_rule();
-    }
-}
+/// Where no output is separate before a list of calls, between them and after them, `replay` stops at none of them: no
+/// memory is asked for, so they are made whatever memory there is.
+pub fn lists_in_place_never_stop()
+    ensures { (calls : List Call) (s : State) → StaysInPlace calls s
+        → (at : ℕ) (before : List Answer) (new : State) (answers : List Answer)
+        → StopsAt at calls s before new answers → ⊥ }
+{}

@@ -14,9 +14,6 @@ use rb_glyph::algs::rb_flag;
 use shaping_buffer::{Feature, GlyphBuffer, UnicodeBuffer, hb_buffer_t};
 use std::alloc::Global;
 
-#[cfg(test)]
-mod tests;
-
 /// How many features [`render`] takes: the bits that a mask has for them.
 pub const MAX_FEATURES: usize = 24;
 

@@ -1,5 +1,5 @@
 -- Deletion keeps every glyph but the head, clusters and masks aside.
-use Rattle.std.proofs.Common.{◌≡◌, ℕ, ◌+◌, ◌≤◌, ◌<◌, ◌-◌, Bool, true, false, ◌&&◌, ◌||◌, List, [], ◌∷◌, ◌++◌}
+use Rattle.std.proofs.Common.{◌≡◌, ℕ, ◌+◌, ◌≤◌, ◌<◌, ◌-◌, Bool, true, false, List, [], ◌∷◌, ◌++◌}
 use Rattle.std.proofs.Common.{length, take, drop, refl, sym, ap, ◌∙◌, arith, cond, ltb, leb, eqb, length-drop}
 use Rattle.std.proofs.lemmas.Bool.{cond_both, cond-false}
 use Rattle.std.proofs.lemmas.List.{length-map}

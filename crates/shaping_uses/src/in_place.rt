@@ -1,11 +1,13 @@
 //! Calls while the output is in place, in the storage of the input. They take no memory, so they are done where there
-//! is none: no user of them has a want of memory to tell.
+//! is none: no user of them has a want of memory to tell. It is so of single calls, and of a list of them.
 
-ghost use Rattle.std.specs.Prelude.{◌≡◌, ◌<◌, ◌≤◌, true, false, Ok};
-ghost use Rattle.shaping_buffer.specs.State.{lookahead_len};
+ghost use Rattle.std.specs.Prelude.{◌≡◌, ◌<◌, ◌≤◌, true, false, None, Ok, drop, replicate};
+ghost use Rattle.shaping_buffer.specs.State.{len, lookahead_len};
 ghost use Rattle.shaping_buffer.specs.Step.{last_place};
+ghost use Rattle.shaping_runs.specs.declared.call.Answer.TheVariants as answer;
 
 use shaping_buffer::hb_buffer_t;
+use shaping_runs::{Answer, Call, laws, replay};
 use std::alloc::AllocError;
 
 /// Puts the glyph at the cursor out.
@@ -59,4 +61,38 @@ pub fn sync_in_place(buffer: &mut hb_buffer_t) -> Result<bool, AllocError>
 {
     let _ = (buffer.have_separate_output(), buffer.len());
     buffer.sync()
+}
+
+/// Drops the first glyph, puts three out, takes them back, and closes, in the storage of the input. With memory gone
+/// after the text was pushed, these calls are done all the same: none puts out more glyphs than it reads, so `replay`
+/// stops at none of them.
+pub fn rewind_in_place(buffer: &mut hb_buffer_t) -> [Answer; 7]
+    requires closed { buffer.old.have_output ≡ false }
+    requires successful { buffer.old.successful ≡ true }
+    requires glyphs { 4 ≤ len buffer.old }
+    ensures answers { result ≡ replicate 7 answer.Done }
+    ensures left { buffer.new
+        ≡ record buffer.old { input = drop 1 buffer.old.input; idx = 0; positions = None } }
+{
+    let _ = (
+        buffer.have_separate_output(),
+        buffer.out_len(),
+        buffer.len(),
+    );
+    let calls = [
+        Call::ClearOutput,
+        Call::SkipGlyph,
+        Call::NextGlyph,
+        Call::NextGlyph,
+        Call::NextGlyph,
+        Call::MoveTo(0),
+        Call::Sync,
+    ];
+    let mut answers = [Answer::Outside; 7];
+    laws::what_is_put_out_stays_in_place();
+    laws::lists_in_place_never_stop();
+    match replay(buffer, &calls, &mut answers) {
+        Ok(()) => answers,
+        Err(_) => unreachable!(),
+    }
 }

@@ -10,6 +10,4 @@ pub mod readers;
 pub mod references;
 pub mod rendering;
 pub mod runs;
-#[cfg(test)]
-mod tests;
 pub mod visible;

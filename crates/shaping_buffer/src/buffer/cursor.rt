@@ -14,9 +14,6 @@ use rb_glyph::hb_glyph_info_t;
 use std::alloc::AllocError;
 use std::mem;
 
-#[cfg(test)]
-mod tests;
-
 impl hb_buffer_t {
     /// Opens an output, with nothing in it, puts the cursor at the start and turns positions off.
     /// Requires that no output is open.
@@ -40,21 +37,24 @@ impl hb_buffer_t {
             self.cursor += 1;
             return Ok(true);
         }
-        let glyph = self.info[self.cursor];
+        let from = self.cursor;
+        let glyph = self.info[from];
         if self.have_separate_output {
             return self.put_apart(glyph, 1);
         }
-        if self.placed < self.cursor {
-            self.info[self.placed] = glyph;
+        let to = self.placed;
+        if to < from {
+            self.info[to] = glyph;
         }
-        self.placed += 1;
-        self.cursor += 1;
+        self.placed = to + 1;
+        self.cursor = from + 1;
         Ok(true)
     }
 
     /// Moves `n` glyphs at the cursor to the end of the out side, all or none; with no output open only the cursor
     /// moves. Requires as many glyphs there. `Ok(false)` where the out side would grow too long: then only `successful`
     /// changes.
+    #[inline]
     pub fn next_glyphs(&mut self, n: usize) -> Result<bool, AllocError>
         requires { n ≤ lookahead_len self.old }
         ensures { Meets (step.next_glyphs n self.old) self.old result self.new }
@@ -136,6 +136,8 @@ impl hb_buffer_t {
     /// start. Requires an open output.
     /// `Ok(false)` after an earlier refusal, with nothing changed, and where both sides together are too long:
     /// then only `successful` changes.
+    #[inline]
+    #[tactic(auto, using(crate::proofs::MoveLemmas::closed_already))]
     pub fn sync(&mut self) -> Result<bool, AllocError>
         requires { self.old.have_output ≡ true }
         ensures { Meets (step.sync self.old) self.old result self.new }
@@ -146,6 +148,23 @@ impl hb_buffer_t {
         if self.have_separate_output {
             return self.sync_apart();
         }
+        if self.placed < self.cursor {
+            return self.sync_over_gap();
+        }
+        self.placed = 0;
+        self.cursor = 0;
+        self.have_output = false;
+        Ok(true)
+    }
+
+    /// Closes an output that is in place, where glyphs were dropped: what is left to read moves down.
+    #[inline(never)]
+    fn sync_over_gap(&mut self) -> Result<bool, AllocError>
+        requires opened { self.old.have_output ≡ true }
+        requires good { self.old.successful ≡ true }
+        requires near { self.old.have_separate_output ≡ false }
+        ensures { Meets (step.sync self.old) self.old result self.new }
+    {
         close_gap(&mut self.info, self.placed, self.cursor);
         self.placed = 0;
         self.cursor = 0;
@@ -154,6 +173,7 @@ impl hb_buffer_t {
     }
 
     /// Closes a separate output, which then is the list: what is left to read is put behind it.
+    #[inline(never)]
     fn sync_apart(&mut self) -> Result<bool, AllocError>
         requires opened { self.old.have_output ≡ true }
         requires good { self.old.successful ≡ true }
@@ -182,7 +202,24 @@ impl hb_buffer_t {
     }
 
     /// Puts `n` glyphs out in place, where they stay if they stand there already.
+    #[inline(always)]
     fn next_in_place(&mut self, n: usize) -> Result<bool, AllocError>
+        requires opened { self.old.have_output ≡ true }
+        requires near { self.old.have_separate_output ≡ false }
+        requires within { n ≤ length self.old.input }
+        ensures { Meets (step.next_glyphs n self.old) self.old result self.new }
+    {
+        if self.placed < self.cursor {
+            return self.next_over_gap(n);
+        }
+        self.cursor += n;
+        self.placed = self.cursor;
+        Ok(true)
+    }
+
+    /// Puts `n` glyphs out in place, over those that were dropped.
+    #[inline(never)]
+    fn next_over_gap(&mut self, n: usize) -> Result<bool, AllocError>
         requires opened { self.old.have_output ≡ true }
         requires near { self.old.have_separate_output ≡ false }
         requires within { n ≤ length self.old.input }
@@ -195,6 +232,7 @@ impl hb_buffer_t {
     }
 
     /// Puts `n` glyphs out behind a separate output.
+    #[inline(never)]
     fn next_apart(&mut self, n: usize) -> Result<bool, AllocError>
         requires opened { self.old.have_output ≡ true }
         requires apart { self.old.have_separate_output ≡ true }

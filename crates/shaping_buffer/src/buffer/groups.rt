@@ -8,11 +8,8 @@ ghost use Rattle.shaping_buffer.specs.GroupStep as step;
 
 use super::hb_buffer_t;
 use glyph_lists::deletion_in_place::delete_in_place;
-use glyph_lists::groups;
+use glyph_lists::{groups, reversal};
 use rb_glyph::hb_glyph_info_t;
-
-#[cfg(test)]
-mod tests;
 
 impl hb_buffer_t {
     /// Puts the list into reverse order, and its positions with it, where there are any. Requires that no output is
@@ -21,8 +18,8 @@ impl hb_buffer_t {
         requires { self.old.have_output ≡ false }
         ensures { self.new ≡ step.reverse self.old }
     {
-        self.info.reverse();
-        self.pos.reverse();
+        reversal::reverse(&mut self.info);
+        reversal::reverse(&mut self.pos);
     }
 
     /// Puts the glyphs from `start` to `end` into reverse order, and their positions with them, where there are any.

@@ -8,9 +8,6 @@ ghost use Rattle.shaping_buffer.specs.Limits as step;
 use super::hb_buffer_t;
 use rb_glyph::HB_BUFFER_SCRATCH_FLAG_DEFAULT;
 
-#[cfg(test)]
-mod tests;
-
 impl hb_buffer_t {
     /// While a text is shaped, each side may hold so many times its length.
     pub const MAX_LEN_FACTOR: usize = 64;

@@ -6,7 +6,7 @@
 
 ghost use Rattle.std.specs.Prelude.{◌≡◌, ◌≤◌, true, false, length};
 ghost use Rattle.shaping_buffer.specs.State.{len};
-ghost use Rattle.glyph_lists.specs.Clusters.{with_cluster};
+ghost use Rattle.glyph_lists.specs.Clusters.{with_cluster, run_merge};
 ghost use Rattle.shaping_buffer.specs.ClusterStep as step;
 
 use super::hb_buffer_t;
@@ -28,6 +28,34 @@ impl hb_buffer_t {
     /// instead, and the scratch flag `HB_BUFFER_SCRATCH_FLAG_HAS_GLYPH_FLAGS` is set. Fewer than two glyphs stay as
     /// they are. Requires `start <= end <= len`, and with an output open that `start` is not before the cursor.
     pub fn merge_clusters(&mut self, start: usize, end: usize)
+        requires order { start ≤ end }
+        requires within { end ≤ len self.old }
+        requires past_cursor { self.old.have_output ≡ true → self.old.idx ≤ start }
+        ensures { self.new ≡ step.merge_clusters start end self.old }
+    {
+        if self.have_output || self.any_order() {
+            self.merge_input(start, end);
+            return;
+        }
+        self.merge_closed(start, end);
+    }
+
+    /// Merges the glyphs from `start` to `end` where no output is open.
+    #[inline(always)]
+    fn merge_closed(&mut self, start: usize, end: usize)
+        requires closed { self.old.have_output ≡ false }
+        requires order { start ≤ end }
+        requires within { end ≤ len self.old }
+        ensures { self.new ≡ record self.old {
+          input = run_merge self.old.input start end self.old.idx;
+        } }
+    {
+        merging::merge_slice(&mut self.info, start, end, self.cursor);
+    }
+
+    /// Merges the same, or marks it at level 2, with an output open or none.
+    #[inline(never)]
+    fn merge_input(&mut self, start: usize, end: usize)
         requires order { start ≤ end }
         requires within { end ≤ len self.old }
         requires past_cursor { self.old.have_output ≡ true → self.old.idx ≤ start }

@@ -1,0 +1,46 @@
+use crate::lists::{assert_glyphs, buffer_of, glyph};
+use shaping_buffer::{UnicodeBuffer, hb_buffer_t};
+use std::test::Fail;
+
+#[test]
+fn the_largest_cluster_is_in_the_range_of_all(rt: HostRuntime) -> Result<(), Fail> {
+    let mut text = UnicodeBuffer::new(rt.alloc());
+    assert_eq!(rt; text.add('a', u32::MAX), Ok(true));
+    let mut buffer = text.into_buffer();
+    buffer.reset_masks(5);
+    assert_glyphs(&rt, buffer.info(), &[(u32::MAX, 5)]);
+    buffer.reset_masks(0);
+    buffer.set_masks(8, 8, 1, u32::MAX);
+    assert_glyphs(&rt, buffer.info(), &[(u32::MAX, 0)]);
+    buffer.set_masks(8, 8, 0, u32::MAX);
+    assert_glyphs(&rt, buffer.info(), &[(u32::MAX, 8)]);
+    Ok(())
+}
+
+#[test]
+fn merges_and_flags_with_no_output(rt: HostRuntime) -> Result<(), Fail> {
+    let mut buffer = buffer_of(&rt, rt.alloc(), "abcd");
+    assert_eq!(rt; buffer.len(), 4);
+    assert!(rt; !buffer.have_output());
+    buffer.merge_clusters(1, 3);
+    assert_glyphs(&rt, buffer.info(), &[(0, 0), (1, 0), (1, 0), (3, 0)]);
+    assert_eq!(rt; buffer.len(), 4);
+    assert!(rt; !buffer.have_output());
+    buffer.unsafe_to_break(None, Some(9));
+    assert_glyphs(&rt, buffer.info(), &[(0, 0), (1, 3), (1, 3), (3, 3)]);
+    assert_eq!(rt; buffer.scratch_flags, 0x20);
+    let mut info = glyph(3, 31);
+    hb_buffer_t::set_cluster(&mut info, 1, 10);
+    assert_glyphs(&rt, &[info], &[(1, 26)]);
+    Ok(())
+}
+
+#[test]
+fn a_deleted_glyph_leaves_its_cluster(rt: HostRuntime) {
+    let mut buffer = buffer_of(&rt, rt.alloc(), "abc");
+    buffer.clear_output();
+    assert!(rt; buffer.lookahead_len() > 0);
+    assert!(rt; buffer.have_output());
+    buffer.delete_glyph();
+    assert_glyphs(&rt, buffer.info(), &[(0, 0), (2, 0)]);
+}

@@ -1,0 +1,69 @@
+use crate::lists::{assert_ids, buffer_of};
+use rb_glyph::hb_glyph_info_t;
+use std::process::Abort;
+use std::test::Fail;
+
+/// Asserts that these are glyphs of the letters from a to j, over and over.
+fn assert_letters(rt: &impl Abort, glyphs: &[hb_glyph_info_t], first: u32) {
+    for (i, glyph) in (0u32..99).zip(glyphs) {
+        assert_eq!(rt; glyph.glyph_id, 97 + first.wrapping_add(i) % 10);
+    }
+}
+
+#[test]
+fn glyphs_are_read_and_put_out(rt: HostRuntime) -> Result<(), Fail> {
+    let mut buffer = buffer_of(&rt, rt.alloc(), "abc");
+    buffer.clear_output();
+    assert!(rt; buffer.lookahead_len() > 0 && buffer.have_output());
+    assert_eq!(rt; buffer.copy_glyph(), Ok(true));
+    assert!(rt; buffer.lookahead_len() > 0 && buffer.have_output());
+    assert_eq!(rt; buffer.replace_glyph(7), Ok(true));
+    assert!(rt; buffer.have_output());
+    assert_eq!(rt; buffer.output_info(hb_glyph_info_t::default()), Ok(true));
+    assert_ids(&rt, buffer.out_info(), &[97, 7, 0]);
+    assert!(rt; buffer.lookahead_len() > 0);
+    assert_eq!(rt; buffer.next_glyph(), Ok(true));
+    assert!(rt; buffer.have_output());
+    assert_eq!(rt; buffer.output_glyph(8), Ok(true));
+    assert_eq!(rt; buffer.backtrack_len(), 5);
+    assert!(rt; buffer.have_output());
+    assert_eq!(rt; buffer.sync(), Ok(true));
+    assert_ids(&rt, buffer.info(), &[97, 7, 0, 98, 8, 99]);
+    assert!(rt; buffer.lookahead_len() > 0);
+    buffer.skip_glyph();
+    assert_eq!(rt; buffer.backtrack_len(), 1);
+    Ok(())
+}
+
+#[test]
+fn many_glyphs_are_taken_back(rt: HostRuntime) -> Result<(), Fail> {
+    let tens = "abcdefghijabcdefghijabcdefghijabcdefghijabcdefghijabcdefghijabcdefghijabcdefghij";
+    let mut buffer = buffer_of(&rt, rt.alloc(), tens);
+    buffer.clear_output();
+    assert!(rt; buffer.lookahead_len() >= 75);
+    assert_eq!(rt; buffer.next_glyphs(75), Ok(true));
+    assert!(rt; buffer.have_output() && buffer.out_len() >= 5);
+    assert_eq!(rt; buffer.move_to(5), Ok(true));
+    assert_eq!(rt;
+        (buffer.idx(), buffer.out_len(), buffer.info().len()),
+        (5, 5, 75)
+    );
+    assert_letters(&rt, buffer.info(), 5);
+    assert!(rt; buffer.have_output() && buffer.lookahead_len() > 0);
+    assert_eq!(rt; buffer.replace_glyphs(1, 70, &[9; 70]), Ok(true));
+    assert_eq!(rt;
+        (buffer.idx(), buffer.out_len(), buffer.info().len()),
+        (6, 75, 74)
+    );
+    assert!(rt; buffer.have_output() && buffer.out_len() >= 5);
+    assert_eq!(rt; buffer.move_to(5), Ok(true));
+    assert_eq!(rt;
+        (buffer.idx(), buffer.out_len(), buffer.info().len()),
+        (0, 5, 144)
+    );
+    assert!(rt; buffer.lookahead_len() >= 70);
+    assert_eq!(rt; buffer.cur(0).glyph_id, 9);
+    assert_eq!(rt; buffer.next_glyphs(70), Ok(true));
+    assert_letters(&rt, buffer.info(), 6);
+    Ok(())
+}

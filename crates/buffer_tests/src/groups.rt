@@ -1,0 +1,228 @@
+use shaping_buffer::{UnicodeBuffer, hb_buffer_t, hb_glyph_info_t};
+use std::alloc::Global;
+use std::process::Abort;
+
+/// A text from `a` on, of these clusters and masks, with advances of 10, 20 and so on.
+fn buffer_of(rt: &impl Abort, alloc: Global, glyphs: &[(u32, u32)]) -> hb_buffer_t {
+    let mut characters = UnicodeBuffer::new(alloc);
+    for (character, (cluster, _)) in "abcde".chars().zip(glyphs) {
+        assert_eq!(rt; characters.add(character, *cluster), Ok(true));
+    }
+    let mut buffer = characters.into_buffer();
+    for (glyph, (_, mask)) in buffer.info_slice_mut().iter_mut().zip(glyphs) {
+        glyph.mask = *mask;
+    }
+    place(rt, &mut buffer);
+    buffer
+}
+
+fn place(rt: &impl Abort, buffer: &mut hb_buffer_t) {
+    assert!(rt; !buffer.have_output());
+    buffer.clear_positions();
+    for (pos, advance) in buffer.pos_mut().iter_mut().zip([10, 20, 30, 40, 50]) {
+        pos.x_advance = advance;
+    }
+}
+
+/// Asserts the id, the cluster, the mask and the advance of each glyph, and where the cursor is.
+fn assert_list(rt: &impl Abort, buffer: &hb_buffer_t, want: &[(u32, u32, u32, i32)]) {
+    assert_eq!(rt; buffer.idx(), 0);
+    assert!(rt; buffer.have_positions());
+    assert_eq!(rt; buffer.len(), want.len());
+    for ((glyph, pos), (id, cluster, mask, advance)) in buffer
+        .info()
+        .iter()
+        .zip(buffer.pos())
+        .zip(want)
+    {
+        assert_eq!(rt; glyph.glyph_id, *id);
+        assert_eq!(rt; glyph.cluster, *cluster);
+        assert_eq!(rt; glyph.mask, *mask);
+        assert_eq!(rt; pos.x_advance, *advance);
+    }
+}
+
+fn reverse_range(rt: &impl Abort, buffer: &mut hb_buffer_t, start: usize, end: usize) {
+    assert!(rt; !buffer.have_output() && start <= end && end <= buffer.len());
+    buffer.reverse_range(start, end);
+}
+
+fn reverse_clusters(rt: &impl Abort, buffer: &mut hb_buffer_t) {
+    assert!(rt; !buffer.have_output());
+    buffer.reverse_groups(hb_buffer_t::_cluster_group_func, false);
+}
+
+/// Reverses groups that go on at the glyph `id`, and nowhere else, merged.
+fn reverse_merged(rt: &impl Abort, buffer: &mut hb_buffer_t, id: u32) {
+    assert!(rt; !buffer.have_output());
+    buffer.reverse_groups(|_, next| next.glyph_id == id, true);
+}
+
+/// Deletes the glyphs with these ids.
+fn delete(rt: &impl Abort, buffer: &mut hb_buffer_t, ids: &[u32]) {
+    assert!(rt; !buffer.have_output());
+    buffer.delete_glyphs_inplace(|glyph| ids.contains(&glyph.glyph_id));
+}
+
+fn reverse(rt: &impl Abort, buffer: &mut hb_buffer_t) {
+    assert!(rt; !buffer.have_output());
+    buffer.reverse();
+}
+
+fn skip(rt: &impl Abort, buffer: &mut hb_buffer_t) {
+    assert!(rt; buffer.lookahead_len() > 0);
+    buffer.skip_glyph();
+}
+
+/// The text at a cluster level.
+fn buffer_at(rt: &impl Abort, alloc: Global, level: u32, glyphs: &[(u32, u32)]) -> hb_buffer_t {
+    let mut buffer = buffer_of(rt, alloc, glyphs);
+    buffer.cluster_level = level;
+    buffer
+}
+
+/// Asserts whether it was told that there are glyph flags.
+fn assert_told(rt: &impl Abort, buffer: &hb_buffer_t, told: bool) {
+    assert_eq!(rt; buffer.scratch_flags, if told { 32 } else { 0 });
+}
+
+#[test]
+fn positions_follow_reversals(rt: HostRuntime) {
+    let mut buffer = buffer_of(&rt, rt.alloc(), &[(0, 1), (1, 2), (2, 3)]);
+    reverse(&rt, &mut buffer);
+    assert_list(
+        &rt,
+        &buffer,
+        &[(99, 2, 3, 30), (98, 1, 2, 20), (97, 0, 1, 10)],
+    );
+    reverse_range(&rt, &mut buffer, 1, 3);
+    assert_list(
+        &rt,
+        &buffer,
+        &[(99, 2, 3, 30), (97, 0, 1, 10), (98, 1, 2, 20)],
+    );
+}
+
+#[test]
+fn an_empty_list_stays_empty(rt: HostRuntime) {
+    let mut plain = hb_buffer_t::new(rt.alloc());
+    reverse(&rt, &mut plain);
+    reverse_range(&rt, &mut plain, 0, 0);
+    reverse_clusters(&rt, &mut plain);
+    delete(&rt, &mut plain, &[97]);
+    assert!(rt; !plain.have_positions());
+    assert_eq!(rt; plain.len(), 0);
+}
+
+#[test]
+fn groups_change_places(rt: HostRuntime) {
+    let mut buffer = buffer_of(&rt, rt.alloc(), &[(0, 0), (0, 0), (1, 0), (2, 0), (2, 0)]);
+    reverse_clusters(&rt, &mut buffer);
+    let reversed = [
+        (100, 2, 0, 40),
+        (101, 2, 0, 50),
+        (99, 1, 0, 30),
+        (97, 0, 0, 10),
+        (98, 0, 0, 20),
+    ];
+    assert_list(&rt, &buffer, &reversed);
+    reverse_merged(&rt, &mut buffer, 0);
+    let as_before = [
+        (98, 0, 0, 20),
+        (97, 0, 0, 10),
+        (99, 1, 0, 30),
+        (101, 2, 0, 50),
+        (100, 2, 0, 40),
+    ];
+    assert_list(&rt, &buffer, &as_before);
+}
+
+/// Groups that go on at `b`, merged.
+fn assert_merged(
+    rt: &impl Abort,
+    alloc: Global,
+    level: u32,
+    glyphs: &[(u32, u32)],
+    want: &[(u32, u32, u32, i32)],
+) {
+    let mut buffer = buffer_at(rt, alloc, level, glyphs);
+    reverse_merged(rt, &mut buffer, 98);
+    assert_list(rt, &buffer, want);
+    assert_told(rt, &buffer, level == 2);
+}
+
+#[test]
+fn groups_are_merged(rt: HostRuntime) {
+    let apart = [(0, 0), (1, 0), (2, 0)];
+    let merged = [(99, 2, 0, 30), (97, 0, 0, 10), (98, 0, 0, 20)];
+    assert_merged(&rt, rt.alloc(), 0, &apart, &merged);
+    let widened = [(99, 0, 0, 30), (97, 0, 0, 10), (98, 0, 0, 20)];
+    assert_merged(&rt, rt.alloc(), 0, &[(0, 0), (1, 0), (1, 0)], &widened);
+    let marked = [(99, 2, 0, 30), (97, 0, 0, 10), (98, 1, 3, 20)];
+    assert_merged(&rt, rt.alloc(), 2, &apart, &marked);
+}
+
+/// What deletion of one glyph leaves, after the cursor was moved; then none is deleted, and then all.
+fn assert_deleted(
+    rt: &impl Abort,
+    alloc: Global,
+    level: u32,
+    id: u32,
+    glyphs: &[(u32, u32)],
+    want: &[(u32, u32, u32, i32)],
+) {
+    let mut buffer = buffer_at(rt, alloc, level, glyphs);
+    skip(rt, &mut buffer);
+    delete(rt, &mut buffer, &[id]);
+    assert_list(rt, &buffer, want);
+    assert_told(rt, &buffer, level == 2);
+    delete(rt, &mut buffer, &[]);
+    assert_list(rt, &buffer, want);
+    delete(rt, &mut buffer, &[97, 98, 99]);
+    assert_list(rt, &buffer, &[]);
+}
+
+#[test]
+fn glyphs_are_deleted_in_place(rt: HostRuntime) {
+    let rising = [(0, 0), (1, 0), (2, 0)];
+    let rest = [(98, 0, 0, 20), (99, 2, 0, 30)];
+    assert_deleted(&rt, rt.alloc(), 0, 97, &rising, &rest);
+    let lowered = [(97, 1, 0, 10), (99, 0, 0, 30)];
+    assert_deleted(&rt, rt.alloc(), 0, 98, &[(2, 0), (1, 0), (0, 0)], &lowered);
+    let handed_down = [(97, 1, 11, 10), (99, 0, 0, 30)];
+    assert_deleted(
+        &rt,
+        rt.alloc(),
+        0,
+        98,
+        &[(2, 8), (1, 3), (0, 0)],
+        &handed_down,
+    );
+    let marked = [(98, 1, 3, 20), (99, 2, 0, 30)];
+    assert_deleted(&rt, rt.alloc(), 2, 97, &rising, &marked);
+}
+
+/// Where the group and the syllable of a glyph end.
+fn assert_ends(rt: &impl Abort, buffer: &hb_buffer_t, start: usize, group: usize, syllable: usize) {
+    assert!(rt; !buffer.have_output() && start < buffer.len());
+    let end = buffer.group_end(start, hb_buffer_t::_cluster_group_func);
+    assert_eq!(rt; (end, buffer.next_syllable(start)), (group, syllable));
+}
+
+fn set_syllables(rt: &impl Abort, buffer: &mut hb_buffer_t, syllables: &[u8]) {
+    assert!(rt; !buffer.have_output());
+    for (glyph, syllable) in buffer.info_slice_mut().iter_mut().zip(syllables) {
+        glyph.set_syllable(*syllable);
+    }
+}
+
+#[test]
+fn groups_and_syllables_end(rt: HostRuntime) {
+    let mut buffer = buffer_of(&rt, rt.alloc(), &[(0, 0), (0, 0), (1, 0)]);
+    set_syllables(&rt, &mut buffer, &[1, 2, 2]);
+    assert_ends(&rt, &buffer, 0, 2, 1);
+    assert_ends(&rt, &buffer, 1, 2, 3);
+    assert_ends(&rt, &buffer, 2, 3, 3);
+    assert!(rt; !buffer.have_output());
+    assert_eq!(rt; buffer.next_syllable(5), 5);
+}

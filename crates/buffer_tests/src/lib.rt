@@ -1,0 +1,32 @@
+//! Tests of `shaping_buffer`, `shaping_runs` and `shaping_uses`, over what they make public, as in the `tests/` folder
+//! of a Rust crate.
+#![tactic(auto)]
+
+#[cfg(test)]
+mod buffer;
+#[cfg(test)]
+mod call_list;
+#[cfg(test)]
+mod cursor;
+#[cfg(test)]
+mod glyph_buffer;
+#[cfg(test)]
+mod groups;
+#[cfg(test)]
+mod headline;
+#[cfg(test)]
+mod laws;
+#[cfg(test)]
+mod laws_of_lists;
+#[cfg(test)]
+mod limits;
+#[cfg(test)]
+mod lists;
+#[cfg(test)]
+mod readers;
+#[cfg(test)]
+mod rendering;
+#[cfg(test)]
+mod unicode_buffer;
+#[cfg(test)]
+mod uses;

@@ -1,0 +1,65 @@
+use crate::lists::{buffer_of, read_one};
+use shaping_buffer::hb_buffer_t;
+use std::alloc::Global;
+use std::process::Abort;
+
+fn set_max_len(rt: &impl Abort, buffer: &mut hb_buffer_t, len: usize) {
+    assert!(rt; buffer.len() <= len && buffer.out_len() <= len);
+    buffer.set_max_len(len);
+}
+
+#[test]
+fn room_is_made_up_to_the_limit(rt: HostRuntime) {
+    let mut buffer = hb_buffer_t::new(rt.alloc());
+    set_max_len(&rt, &mut buffer, 8);
+    assert_eq!(rt; buffer.ensure(8), Ok(true));
+    assert_eq!(rt; buffer.ensure(9), Ok(false));
+    assert!(rt; !buffer.successful());
+    let mut buffer = buffer_of(&rt, rt.alloc(), "abc");
+    assert_eq!(rt; (buffer.ensure(2), buffer.ensure(5)), (Ok(true), Ok(true)));
+    assert_eq!(rt; buffer.len(), 3);
+}
+
+#[test]
+fn an_output_keeps_to_the_limit(rt: HostRuntime) {
+    let mut buffer = buffer_of(&rt, rt.alloc(), "a");
+    set_max_len(&rt, &mut buffer, 1);
+    read_one(&rt, &mut buffer);
+    assert!(rt; buffer.have_output());
+    assert_eq!(rt; buffer.output_glyph(5), Ok(false));
+    assert!(rt; buffer.have_output() && !buffer.successful());
+    assert_eq!(rt; buffer.sync(), Ok(false));
+}
+
+/// The limits after `enter` over a text, and that `leave` puts them back.
+fn assert_limits(rt: &impl Abort, alloc: Global, text: &str, max_len: usize, max_ops: i32) {
+    let mut buffer = buffer_of(rt, alloc, text);
+    buffer.enter();
+    assert_eq!(rt; (buffer.max_len(), buffer.max_ops), (max_len, max_ops));
+    assert!(rt; !buffer.have_output());
+    buffer.leave();
+    assert_eq!(rt;
+        (buffer.max_len(), buffer.max_ops),
+        (1_073_741_823, 536_870_911)
+    );
+}
+
+#[test]
+fn limits_follow_the_length(rt: HostRuntime) {
+    assert_limits(&rt, rt.alloc(), "abc", 16_384, 16_384);
+    let long = "abcdefghijabcdefghijabcdefghijabcdefghijabcdefghij\
+        abcdefghijabcdefghijabcdefghijabcdefghijabcdefghij\
+        abcdefghijabcdefghijabcdefghijabcdefghijabcdefghij\
+        abcdefghijabcdefghijabcdefghijabcdefghijabcdefghij\
+        abcdefghijabcdefghijabcdefghijabcdefghijabcdefghij\
+        abcdefghijabcdefghijabcdefghijabcdefghijabcdefghij";
+    assert_limits(&rt, rt.alloc(), long, 19_200, 307_200);
+}
+
+#[test]
+fn ligatures_have_numbers_from_one_to_seven(rt: HostRuntime) {
+    let mut buffer = hb_buffer_t::new(rt.alloc());
+    buffer.serial = 254;
+    assert_eq!(rt; (buffer.allocate_lig_id(), buffer.serial), (7, 255));
+    assert_eq!(rt; (buffer.allocate_lig_id(), buffer.serial), (1, 1));
+}

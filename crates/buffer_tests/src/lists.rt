@@ -1,0 +1,57 @@
+//! Buffers and lists of glyphs for tests.
+
+ghost use Rattle.std.specs.Prelude.{◌≡◌, false};
+
+use shaping_buffer::{UnicodeBuffer, hb_buffer_t, hb_glyph_info_t};
+use std::alloc::Global;
+use std::process::Abort;
+
+/// A glyph in the cluster, with the mask.
+pub(crate) fn glyph(cluster: u32, mask: u32) -> hb_glyph_info_t {
+    hb_glyph_info_t {
+        glyph_id: 97,
+        mask,
+        cluster,
+        var1: 0,
+        var2: 0,
+    }
+}
+
+/// Glyphs in the clusters, with masks of 0.
+pub(crate) fn glyphs<const N: usize>(clusters: [u32; N]) -> [hb_glyph_info_t; N] {
+    clusters.map(|cluster| glyph(cluster, 0))
+}
+
+/// Asserts the clusters and the masks of the glyphs.
+pub(crate) fn assert_glyphs(rt: &impl Abort, glyphs: &[hb_glyph_info_t], want: &[(u32, u32)]) {
+    assert_eq!(rt; glyphs.len(), want.len());
+    for (glyph, (cluster, mask)) in glyphs.iter().zip(want) {
+        assert_eq!(rt; glyph.cluster, *cluster);
+        assert_eq!(rt; glyph.mask, *mask);
+    }
+}
+
+/// A buffer over a text, with no output open.
+pub(crate) fn buffer_of(rt: &impl Abort, alloc: Global, text: &str) -> hb_buffer_t
+    ensures { result.have_output ≡ false }
+{
+    let mut characters = UnicodeBuffer::new(alloc);
+    assert_eq!(rt; characters.push_str(text), Ok(true));
+    characters.into_buffer()
+}
+
+/// Asserts the ids of the glyphs.
+pub(crate) fn assert_ids(rt: &impl Abort, glyphs: &[hb_glyph_info_t], want: &[u32]) {
+    assert_eq!(rt; glyphs.len(), want.len());
+    for (glyph, id) in glyphs.iter().zip(want.iter()) {
+        assert_eq!(rt; glyph.glyph_id, *id);
+    }
+}
+
+/// Opens an output, and reads a glyph.
+pub(crate) fn read_one(rt: &impl Abort, buffer: &mut hb_buffer_t) {
+    assert!(rt; !buffer.have_output());
+    buffer.clear_output();
+    assert!(rt; buffer.lookahead_len() > 0);
+    assert_eq!(rt; buffer.next_glyph(), Ok(true));
+}

@@ -1,0 +1,103 @@
+use crate::lists::{assert_ids, read_one};
+use shaping_buffer::{UnicodeBuffer, hb_buffer_t};
+use std::alloc::Global;
+use std::process::Abort;
+
+/// `len`, `out_len`, `idx`, `backtrack_len` and `lookahead_len`.
+fn assert_counts(rt: &impl Abort, buffer: &hb_buffer_t, want: [usize; 5]) {
+    assert_eq!(rt; buffer.len(), want[0]);
+    assert_eq!(rt; buffer.out_len(), want[1]);
+    assert_eq!(rt; buffer.idx(), want[2]);
+    assert_eq!(rt; buffer.backtrack_len(), want[3]);
+    assert_eq!(rt; buffer.lookahead_len(), want[4]);
+}
+
+/// `is_empty`, `have_output`, `have_positions` and `successful`.
+fn assert_states(rt: &impl Abort, buffer: &hb_buffer_t, want: [bool; 4]) {
+    assert_eq!(rt; buffer.is_empty(), want[0]);
+    assert_eq!(rt; buffer.have_output(), want[1]);
+    assert_eq!(rt; buffer.have_positions(), want[2]);
+    assert_eq!(rt; buffer.successful(), want[3]);
+}
+
+/// The text "abc" in capitals, with an advance along the line at the cursor and one down at each glyph.
+fn capitals(rt: &impl Abort, alloc: Global) -> hb_buffer_t {
+    let mut text = UnicodeBuffer::new(alloc);
+    assert_eq!(rt; text.push_str("abc"), Ok(true));
+    let mut buffer = text.into_buffer();
+    for glyph in buffer.info_slice_mut() {
+        glyph.glyph_id = glyph.glyph_id.wrapping_sub(32);
+    }
+    buffer.clear_positions();
+    buffer
+}
+
+fn set_advances(rt: &impl Abort, buffer: &mut hb_buffer_t) {
+    assert!(rt; buffer.have_positions() && buffer.lookahead_len() > 0);
+    buffer.cur_pos_mut().x_advance = 3;
+    assert!(rt; buffer.have_positions());
+    for position in buffer.pos_mut() {
+        position.y_advance = 4;
+    }
+}
+
+fn assert_advances(rt: &impl Abort, buffer: &hb_buffer_t) {
+    assert!(rt; buffer.have_positions());
+    for (position, x) in buffer.pos().iter().zip(&[3, 0, 0]) {
+        assert_eq!(rt; (position.x_advance, position.y_advance), (*x, 4));
+    }
+}
+
+/// Writes a mask into each glyph that was put out, an id into the last of them, and one into the glyph after the next.
+fn write_each(rt: &impl Abort, buffer: &mut hb_buffer_t) {
+    for glyph in buffer.out_info_mut() {
+        glyph.mask = 9;
+    }
+    assert!(rt; buffer.out_len() > 0);
+    buffer.prev_mut().glyph_id = 5;
+    assert!(rt; buffer.lookahead_len() > 1);
+    buffer.cur_mut(1).glyph_id = 6;
+}
+
+fn assert_single(rt: &impl Abort, buffer: &hb_buffer_t, prev: (u32, u32), next: u32) {
+    assert!(rt; buffer.lookahead_len() > 1 && buffer.out_len() > 0);
+    assert_eq!(rt; (buffer.prev().glyph_id, buffer.prev().mask), prev);
+    assert_eq!(rt; buffer.cur(1).glyph_id, next);
+}
+
+#[test]
+fn a_new_buffer_is_empty(rt: HostRuntime) {
+    let buffer = hb_buffer_t::new(rt.alloc());
+    assert_counts(&rt, &buffer, [0, 0, 0, 0, 0]);
+    assert_states(&rt, &buffer, [true, false, false, true]);
+    assert_eq!(rt; buffer.max_len(), 0x3FFF_FFFF);
+    assert_eq!(rt; buffer.max_ops, 0x1FFF_FFFF);
+}
+
+#[test]
+fn readers_and_references_show_what_stands(rt: HostRuntime) {
+    let mut buffer = capitals(&rt, rt.alloc());
+    assert_counts(&rt, &buffer, [3, 0, 0, 0, 3]);
+    assert_states(&rt, &buffer, [false, false, true, true]);
+    set_advances(&rt, &mut buffer);
+    assert_advances(&rt, &buffer);
+    read_one(&rt, &mut buffer);
+    assert_counts(&rt, &buffer, [3, 1, 1, 1, 2]);
+    assert_states(&rt, &buffer, [false, true, false, true]);
+    assert_single(&rt, &buffer, (65, 0), 67);
+    write_each(&rt, &mut buffer);
+    assert_single(&rt, &buffer, (5, 9), 6);
+    assert_ids(&rt, buffer.out_info(), &[5]);
+    assert_ids(&rt, buffer.info(), &[66, 6]);
+}
+
+#[test]
+fn clear_forgets_the_text(rt: HostRuntime) {
+    let mut buffer = capitals(&rt, rt.alloc());
+    read_one(&rt, &mut buffer);
+    buffer.cluster_level = 2;
+    buffer.clear();
+    assert_counts(&rt, &buffer, [0, 0, 0, 0, 0]);
+    assert_states(&rt, &buffer, [true, false, false, true]);
+    assert_eq!(rt; buffer.cluster_level, 0);
+}

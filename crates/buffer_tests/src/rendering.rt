@@ -1,0 +1,67 @@
+use shaping_buffer::{Feature, GlyphBuffer, Tag};
+use shaping_runs::{Answer, Call, RenderFault, render};
+use std::process::Abort;
+use std::test::Fail;
+
+fn kern(value: u32, start: u32, end: u32) -> Feature {
+    Feature {
+        tag: Tag(0x6B65_726E),
+        value,
+        start,
+        end,
+    }
+}
+
+fn assert_masks(rt: &impl Abort, glyphs: &GlyphBuffer, want: &[u32]) {
+    assert_eq!(rt; glyphs.len(), want.len());
+    for (glyph, want) in glyphs.glyph_infos().iter().zip(want) {
+        assert_eq!(rt; glyph.mask, *want);
+    }
+    assert_eq!(rt; glyphs.glyph_positions().len(), want.len());
+    for position in glyphs.glyph_positions() {
+        assert_eq!(rt; (position.x_advance, position.y_advance), (0, 0));
+        assert_eq!(rt; (position.x_offset, position.y_offset), (0, 0));
+    }
+}
+
+#[test]
+fn features_set_the_bits_of_their_places(rt: HostRuntime) -> Result<(), Fail> {
+    let all = u32::MAX;
+    let off_then_on = [kern(0, 0, all), kern(5, 0, 1)];
+    let on_and_off = [kern(1, 0, all), kern(0, 0, all), kern(7, 1, 9)];
+    let rows: [(&[Feature], [u32; 2]); 5] = [
+        (&[kern(1, 1, 2)], [0, 256]),
+        (&[kern(0, 0, all)], [0, 0]),
+        (&off_then_on, [512, 0]),
+        (&on_and_off, [256, 1280]),
+        (&[kern(1, 0, all); 24], [0xFFFF_FF00, 0xFFFF_FF00]),
+    ];
+    for (features, masks) in &rows {
+        let mut answers = [Answer::Outside; 3];
+        let calls = [Call::ClearOutput, Call::NextGlyph, Call::Sync];
+        match render(rt.alloc(), "ab", features, &calls, &mut answers) {
+            Ok(glyphs) => assert_masks(&rt, &glyphs, masks),
+            Err(_) => panic!(rt; "not rendered"),
+        }
+        assert_eq!(rt; answers, [Answer::Done; 3]);
+    }
+    Ok(())
+}
+
+#[test]
+fn faults_say_where(rt: HostRuntime) -> Result<(), Fail> {
+    let mut answers = [Answer::Outside];
+    match render(rt.alloc(), "ab", &[], &[Call::ClearOutput], &mut answers) {
+        Ok(_) => panic!(rt; "rendered"),
+        Err(fault) => assert_eq!(rt; fault, RenderFault::OutputLeftOpen),
+    }
+    assert_eq!(rt; answers, [Answer::Done]);
+    let mut answers = [Answer::Outside];
+    let many = [kern(1, 0, 1); 25];
+    match render(rt.alloc(), "ab", &many, &[Call::ClearOutput], &mut answers) {
+        Ok(_) => panic!(rt; "rendered"),
+        Err(fault) => assert_eq!(rt; fault, RenderFault::TooManyFeatures),
+    }
+    assert_eq!(rt; answers, [Answer::Outside]);
+    Ok(())
+}

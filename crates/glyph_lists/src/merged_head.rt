@@ -1,0 +1,61 @@
+//! The head of the input after a merge that changes no glyph behind it: mostly there is no need to write the others.
+
+ghost use Rattle.std.specs.Prelude.{◌≡◌, ◌≤◌, true, false, List, length, slice_index_or, IfSome};
+ghost use Rattle.glyph_lists.specs.Clusters.{zero_glyph};
+ghost use Rattle.glyph_lists.specs.MergedHead.{LeavesHead};
+
+use crate::clusters::set_cluster;
+use rb_glyph::hb_glyph_info_t;
+
+/// Whether the merge of the first two glyphs of the input leaves the first as it is, and all others that stay: its
+/// cluster is not the higher one, and that of the second, where it is, goes on in no run behind it.
+#[inline(always)]
+fn pair_keeps_head(input: &[hb_glyph_info_t]) -> bool
+    requires { 2 ≤ length input.now }
+    ensures { result ≡ true → (out : List hb_glyph_info_t)
+        → LeavesHead false 2 out input.now (slice_index_or input.now 0 zero_glyph) }
+{
+    let head = input[0].cluster;
+    let next = input[1].cluster;
+    if head < next {
+        return input.len() == 2 || input[2].cluster != next;
+    }
+    head == next
+}
+
+/// Whether the merge of the first `count` glyphs of the input leaves the first as it is, and all others that stay, and
+/// marks nothing. It says so of two glyphs at the most.
+#[inline(always)]
+pub fn keeps_head(input: &[hb_glyph_info_t], count: usize, any_order: bool) -> bool
+    requires { count ≤ length input.now }
+    ensures { result ≡ true → (out : List hb_glyph_info_t)
+        → LeavesHead any_order count out input.now (slice_index_or input.now 0 zero_glyph) }
+{
+    if count < 2 {
+        return true;
+    }
+    count == 2 && !any_order && pair_keeps_head(input)
+}
+
+/// The head of the input as the merge of its first two glyphs lowers it. `None` where it does not, where the run of the
+/// first goes on into `out`, where it marks, and of other counts.
+#[inline(always)]
+pub fn lowered_head(
+    out: &[hb_glyph_info_t],
+    input: &[hb_glyph_info_t],
+    count: usize,
+    any_order: bool,
+) -> Option<hb_glyph_info_t>
+    requires { count ≤ length input.now }
+    ensures { IfSome result (LeavesHead any_order count out.now input.now) }
+{
+    if count != 2 || any_order || input[0].cluster <= input[1].cluster {
+        return None;
+    }
+    let mut head = input[0];
+    if !out.is_empty() && out[out.len() - 1].cluster == head.cluster {
+        return None;
+    }
+    set_cluster(&mut head, input[1].cluster, 0);
+    Some(head)
+}

@@ -1,0 +1,52 @@
+//! Lists that are put into reverse order.
+
+ghost use Rattle.std.specs.Prelude.{◌≡◌, reverse};
+
+use rb_glyph::{GlyphPosition, hb_glyph_info_t};
+
+/// An item that can be copied word by word. The words of such a copy stay in registers, where a copy of the whole goes
+/// through memory.
+pub trait Words: Copy {
+    /// The same item, made of its words.
+    fn by_words(&self) -> Self
+        ensures { result ≡ self.now };
+}
+
+impl Words for hb_glyph_info_t {
+    #[inline(always)]
+    fn by_words(&self) -> Self {
+        hb_glyph_info_t {
+            glyph_id: self.glyph_id,
+            mask: self.mask,
+            cluster: self.cluster,
+            var1: self.var1,
+            var2: self.var2,
+        }
+    }
+}
+
+impl Words for GlyphPosition {
+    #[inline(always)]
+    fn by_words(&self) -> Self {
+        GlyphPosition {
+            x_advance: self.x_advance,
+            y_advance: self.y_advance,
+            x_offset: self.x_offset,
+            y_offset: self.y_offset,
+            var: self.var,
+        }
+    }
+}
+
+/// Puts the items into reverse order.
+pub fn reverse<T: Words>(items: &mut [T])
+    ensures { items.new ≡ reverse items.old }
+{
+    let len = items.len();
+    for i in 0..len / 2 {
+        let first = items[i].by_words();
+        let last = items[len - 1 - i].by_words();
+        items[i] = last;
+        items[len - 1 - i] = first;
+    }
+}

@@ -1,0 +1,28 @@
+use glyph_lists::cluster_numbers::reset_clusters;
+use rb_glyph::hb_glyph_info_t;
+use std::test::Fail;
+
+fn glyph(glyph_id: u32, cluster: u32) -> hb_glyph_info_t {
+    hb_glyph_info_t {
+        glyph_id,
+        mask: 3,
+        cluster,
+        var1: 5,
+        var2: 7,
+    }
+}
+
+#[test]
+fn clusters_are_numbered_by_their_places(rt: HostRuntime) -> Result<(), Fail> {
+    let mut info = [glyph(10, 9), glyph(20, 9), glyph(30, 4)];
+    reset_clusters(&mut info);
+    for (i, g) in info.iter().enumerate() {
+        assert_eq!(rt; g.cluster as usize, i);
+        assert_eq!(rt; (g.mask, g.var1, g.var2), (3, 5, 7));
+    }
+    assert_eq!(rt;
+        (info[0].glyph_id, info[1].glyph_id, info[2].glyph_id),
+        (10, 20, 30)
+    );
+    Ok(())
+}

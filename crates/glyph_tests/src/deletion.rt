@@ -1,0 +1,38 @@
+use crate::lists::{assert_clusters, assert_glyphs, glyph, glyphs};
+use glyph_lists::deletion::{delete_at_cursor, merges_next, set_trailing_run};
+
+/// What was put out, if anything, and the head with the two glyphs after it.
+#[test]
+fn a_lower_cluster_is_kept(rt: HostRuntime) {
+    let rows = [
+        (0, [0, 0], [0, 0, 1], false, [0, 0], [(0, 0), (1, 0)]),
+        (2, [3, 2], [2, 1, 0], false, [3, 2], [(1, 0), (0, 0)]),
+        (2, [3, 3], [2, 1, 0], false, [2, 2], [(1, 0), (0, 0)]),
+        (2, [0, 0], [5, 1, 1], false, [0, 0], [(1, 0), (1, 0)]),
+        (0, [0, 0], [0, 1, 2], false, [0, 0], [(0, 0), (2, 0)]),
+        (0, [0, 0], [0, 1, 2], true, [0, 0], [(1, 3), (2, 0)]),
+    ];
+    for (out_len, before, input, any_order, after, rest) in rows {
+        let mut out = glyphs(before);
+        let mut info = glyphs(input);
+        assert!(rt; out_len <= 2);
+        delete_at_cursor(&mut out[..out_len], &mut info, 0, any_order);
+        assert_clusters(&rt, &out, &after);
+        assert_glyphs(&rt, &info[1..], &rest);
+    }
+}
+
+#[test]
+fn the_trailing_run_takes_the_flags_too(rt: HostRuntime) {
+    let mut out = [glyph(7, 2), glyph(4, 15), glyph(4, 0)];
+    set_trailing_run(&mut out, 1, 6);
+    assert_glyphs(&rt, &out, &[(7, 2), (1, 14), (1, 6)]);
+}
+
+#[test]
+fn the_last_glyph_is_merged_with_none(rt: HostRuntime) {
+    let info = glyphs([0, 1]);
+    assert!(rt; merges_next(&[], &info, 0));
+    assert!(rt; !merges_next(&[], &info, 1));
+    assert!(rt; !merges_next(&glyphs([3]), &info, 0));
+}

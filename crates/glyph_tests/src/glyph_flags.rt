@@ -1,0 +1,54 @@
+use crate::lists::{assert_masks, glyph, glyphs};
+use glyph_lists::glyph_flags::{mark_range, scan_range, scan_two_parts};
+
+#[test]
+fn a_scan_of_one_part_marks_all_but_the_least(rt: HostRuntime) {
+    let rows = [
+        ([1, 1, 2, 3], 0, 4, false, [0, 0, 3, 3]),
+        ([1, 3, 1, 2], 0, 4, false, [0, 0, 0, 3]),
+        ([4, 3, 3, 1], 0, 4, false, [3, 3, 3, 0]),
+        ([2, 1, 3, 1], 0, 4, true, [3, 0, 3, 0]),
+        ([1, 3, 1, 2], 1, 2, true, [0, 0, 0, 0]),
+        ([1, 3, 1, 2], 4, 4, false, [0, 0, 0, 0]),
+    ];
+    for (clusters, start, end, any_order, masks) in rows {
+        let mut info = glyphs(clusters);
+        assert!(rt; start <= end && end <= 4);
+        scan_range(&mut [], &mut info, 0, start, end, 3, any_order);
+        assert_masks(&rt, &info, &masks);
+    }
+    let mut info = [glyph(0, 8), glyph(1, 8), glyph(2, 1)];
+    scan_range(&mut [], &mut info, 0, 0, 2, 4, false);
+    assert_masks(&rt, &info, &[8, 12, 1]);
+}
+
+/// The out side holds the first glyphs, as many as were read.
+#[test]
+fn a_scan_of_two_parts_goes_by_the_least_of_both(rt: HostRuntime) {
+    let rows = [
+        (2, [0, 1, 1, 2], 0, 4, false, [0, 3, 3, 3]),
+        (3, [3, 1, 3, 1], 0, 4, false, [3, 0, 3, 0]),
+        (2, [3, 1, 1, 2], 0, 4, false, [3, 0, 0, 3]),
+        (3, [0, 2, 1, 3], 1, 4, true, [0, 3, 0, 3]),
+        (2, [0, 1, 2, 3], 2, 4, false, [0, 0, 0, 3]),
+        (2, [0, 1, 2, 3], 0, 2, false, [0, 3, 0, 0]),
+        (1, [0, 1, 2, 1], 1, 3, false, [0, 0, 3, 0]),
+    ];
+    for (cut, clusters, start, end, any_order, masks) in rows {
+        let mut out = glyphs(clusters);
+        let mut info = glyphs(clusters);
+        assert!(rt; cut <= end && start <= end && end <= 4);
+        scan_two_parts(&mut out[..cut], &mut info, cut, start, end, 3, any_order);
+        assert_masks(&rt, &out[..cut], &masks[..cut]);
+        assert_masks(&rt, &info[cut..], &masks[cut..]);
+    }
+}
+
+#[test]
+fn a_range_is_marked_on_both_sides(rt: HostRuntime) {
+    let mut out = glyphs([0, 1]);
+    let mut info = [glyph(0, 0), glyph(1, 0), glyph(2, 1), glyph(3, 0)];
+    mark_range(&mut out, &mut info, 2, 1, 3, 2);
+    assert_masks(&rt, &out, &[0, 2]);
+    assert_masks(&rt, &info, &[0, 0, 3, 0]);
+}

@@ -1,0 +1,47 @@
+use crate::lists::{glyph, glyphs};
+use glyph_lists::merged_head::{keeps_head, lowered_head};
+
+/// The input, how many of its glyphs are merged, and whether the head and what stands behind them stay.
+#[test]
+fn a_head_is_kept_where_no_glyph_that_stays_changes(rt: HostRuntime) {
+    let rows = [
+        ([0, 1, 2], 2, true),
+        ([0, 0, 0], 2, true),
+        ([0, 1, 1], 2, false),
+        ([1, 0, 2], 2, false),
+        ([5, 1, 1], 1, true),
+        ([5, 1, 1], 0, true),
+        ([0, 1, 2], 3, false),
+    ];
+    for (input, count, kept) in rows {
+        assert_eq!(rt; keeps_head(&glyphs(input), count, false), kept);
+    }
+    assert!(rt; keeps_head(&glyphs([0, 1]), 2, false));
+    assert!(rt; !keeps_head(&glyphs([0, 1]), 2, true));
+    assert!(rt; keeps_head(&glyphs([0, 1]), 1, true));
+}
+
+/// What was put out, the input, how many of its glyphs are merged, and the cluster of the head if it is lowered alone.
+#[test]
+fn a_head_is_lowered_where_its_run_begins_there(rt: HostRuntime) {
+    let rows = [
+        ([9, 9], [2, 1, 1], 2, Some(1)),
+        ([2, 9], [2, 1, 0], 2, Some(1)),
+        ([9, 2], [2, 1, 0], 2, None),
+        ([9, 9], [1, 1, 0], 2, None),
+        ([9, 9], [2, 1, 0], 3, None),
+        ([9, 9], [2, 1, 0], 1, None),
+    ];
+    for (out, input, count, cluster) in rows {
+        let head = lowered_head(&glyphs(out), &glyphs(input), count, false);
+        assert_eq!(rt; head.map(|head| head.cluster), cluster);
+    }
+}
+
+#[test]
+fn a_lowered_head_loses_its_flags(rt: HostRuntime) {
+    let input = [glyph(2, 15), glyph(1, 15)];
+    let head = lowered_head(&[], &input, 2, false);
+    assert_eq!(rt; head.map(|head| head.mask), Some(8));
+    assert!(rt; lowered_head(&[], &input, 2, true).is_none());
+}

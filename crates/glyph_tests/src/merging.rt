@@ -1,0 +1,73 @@
+use crate::lists::{assert_clusters, assert_glyphs, glyph, glyphs};
+use glyph_lists::merging::{merge_or_mark, merge_slice, run_merge};
+
+/// The out side holds the first glyphs, as many as were read.
+#[test]
+fn a_merge_takes_in_the_runs_at_its_ends(rt: HostRuntime) {
+    let rows = [
+        (0, [3, 3, 2, 1], 1, 3, 0, [2, 2, 2, 1]),
+        (0, [4, 3, 3, 1], 0, 2, 0, [3, 3, 3, 1]),
+        (0, [4, 3, 3, 1], 1, 4, 0, [4, 1, 1, 1]),
+        (0, [1, 2, 2, 2], 0, 2, 0, [1, 1, 1, 1]),
+        (0, [1, 0, 1, 1], 0, 2, 0, [0, 0, 1, 1]),
+        (0, [3, 3, 3, 1], 2, 4, 1, [3, 1, 1, 1]),
+        (0, [3, 3, 3, 1], 2, 4, 3, [3, 3, 1, 1]),
+        (2, [3, 2, 2, 1], 2, 4, 0, [3, 1, 1, 1]),
+        (2, [0, 1, 1, 2], 0, 2, 0, [0, 0, 0, 2]),
+        (2, [4, 3, 2, 1], 2, 4, 0, [4, 3, 1, 1]),
+        (2, [0, 1, 2, 3], 0, 2, 0, [0, 0, 2, 3]),
+        (2, [0, 1, 2, 2], 1, 3, 0, [0, 1, 1, 1]),
+        (1, [1, 0, 2, 2], 0, 1, 0, [1, 0, 2, 2]),
+    ];
+    for (cut, before, start, end, floor, after) in rows {
+        let mut out = glyphs(before);
+        let mut info = glyphs(before);
+        assert!(rt; cut <= 4 && start <= end && end <= 4);
+        run_merge(&mut out[..cut], &mut info, cut, start, end, floor);
+        assert_clusters(&rt, &out[..cut], &after[..cut]);
+        assert_clusters(&rt, &info[..cut], &before[..cut]);
+        assert_clusters(&rt, &info[cut..], &after[cut..]);
+    }
+}
+
+#[test]
+fn a_merge_of_one_list_takes_in_the_runs_at_its_ends(rt: HostRuntime) {
+    let rows = [
+        ([3, 3, 2, 1], 1, 3, 0, [2, 2, 2, 1]),
+        ([3, 3, 2, 1], 1, 3, 1, [3, 2, 2, 1]),
+        ([0, 1, 1, 2], 0, 2, 0, [0, 0, 0, 2]),
+        ([2, 2, 1, 1], 0, 2, 0, [2, 2, 1, 1]),
+        ([0, 1, 2, 2], 0, 3, 0, [0, 0, 0, 0]),
+        ([1, 0, 2, 2], 0, 1, 0, [1, 0, 2, 2]),
+    ];
+    for (before, start, end, floor, after) in rows {
+        let mut info = glyphs(before);
+        assert!(rt; start <= end && end <= 4);
+        merge_slice(&mut info, start, end, floor);
+        assert_clusters(&rt, &info, &after);
+    }
+}
+
+#[test]
+fn flags_go_where_the_cluster_changes(rt: HostRuntime) {
+    let mut info = [glyph(0, 0), glyph(1, 3), glyph(2, 3)];
+    merge_or_mark(&mut [], &mut info, 0, 1, 3, 0, false);
+    assert_glyphs(&rt, &info, &[(0, 0), (1, 3), (1, 0)]);
+}
+
+#[test]
+fn a_merge_in_any_order_marks(rt: HostRuntime) {
+    let rows = [
+        (0, [0, 1, 2, 3], 0, 2, [(0, 0), (1, 3), (2, 0), (3, 0)]),
+        (1, [2, 0, 1, 2], 2, 4, [(2, 0), (0, 0), (1, 0), (2, 3)]),
+        (0, [1, 0, 2, 2], 0, 1, [(1, 0), (0, 0), (2, 0), (2, 0)]),
+    ];
+    for (cut, before, start, end, after) in rows {
+        let mut out = glyphs(before);
+        let mut info = glyphs(before);
+        assert!(rt; cut <= start && start <= end && end <= 4);
+        merge_or_mark(&mut out[..cut], &mut info, cut, start, end, 0, true);
+        assert_glyphs(&rt, &out[..cut], &after[..cut]);
+        assert_glyphs(&rt, &info[cut..], &after[cut..]);
+    }
+}

@@ -1,0 +1,20 @@
+use rb_glyph::{CombiningClasses, Compositions, Decompositions, Mirrors};
+
+#[test]
+fn a_table_has_rising_rows(rt: HostRuntime) {
+    let (grave, acute) = ('\u{300}', '\u{301}');
+    let made = [
+        CombiningClasses::new(&[(grave, 230), (acute, 230)]).is_some(),
+        Mirrors::new(&[('(', ')'), (')', '(')]).is_some(),
+        Compositions::new(&[(('a', grave), 'à'), (('a', acute), 'á')]).is_some(),
+        Decompositions::new(&[('Å', 'A', Some('\u{30a}')), ('\u{212b}', 'Å', None)]).is_some(),
+    ];
+    assert_eq!(rt; made, [true, true, true, true]);
+    let refused = [
+        CombiningClasses::new(&[(acute, 230), (grave, 230)]).is_none(),
+        Mirrors::new(&[('(', ')'), ('(', ')')]).is_none(),
+        Compositions::new(&[(('a', acute), 'á'), (('a', grave), 'à')]).is_none(),
+        Decompositions::new(&[('\u{212b}', 'Å', None), ('Å', 'A', Some('\u{30a}'))]).is_none(),
+    ];
+    assert_eq!(rt; refused, [true, true, true, true]);
+}
