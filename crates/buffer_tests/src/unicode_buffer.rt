@@ -61,29 +61,39 @@ fn assert_guess(rt: &impl Abort, mut text: UnicodeBuffer, c: char, want: (Script
 }
 
 #[test]
-fn what_is_said_of_a_text_is_told_again(rt: HostRuntime) -> Result<(), Fail> {
+fn scripts_and_directions_are_guessed(rt: HostRuntime) -> Result<(), Fail> {
     let hebrew = (script::HEBREW, Direction::RightToLeft);
     assert_guess(&rt, UnicodeBuffer::new(rt.alloc()), '\u{5D0}', hebrew);
     let unknown = (script::UNKNOWN, Direction::LeftToRight);
     assert_guess(&rt, UnicodeBuffer::new(rt.alloc()), '1', unknown);
+    Ok(())
+}
+
+#[test]
+fn what_is_said_of_a_text_is_told_again(rt: HostRuntime) -> Result<(), Fail> {
+    let mut text = UnicodeBuffer::new(rt.alloc());
+    text.set_direction(Direction::BottomToTop);
+    text.set_script(script::ARABIC);
+    text.set_flags(BufferFlags::VERIFY);
+    assert_eq!(rt; text.direction(), Direction::BottomToTop);
+    assert_eq!(rt; text.script(), script::ARABIC);
+    text.clear();
+    assert_eq!(rt; text.script(), script::UNKNOWN);
+    assert_eq!(rt; text.flags().bits(), 0x20);
+    text.set_not_found_variation_selector_glyph(9);
+    assert_eq!(rt; text.into_buffer().not_found_variation_selector, Some(9));
+    Ok(())
+}
+
+#[test]
+fn languages_and_levels_are_told_again(rt: HostRuntime) -> Result<(), Fail> {
     let mut text = UnicodeBuffer::new(rt.alloc());
     assert!(rt; text.language().is_none());
     text.set_language(Language::from_str(rt.alloc(), "En")?);
     assert_eq!(rt; text.language().ok_or("no language")?.as_str(), "en");
-    text.set_direction(Direction::BottomToTop);
-    text.set_script(script::ARABIC);
-    text.set_flags(BufferFlags::VERIFY);
     text.set_cluster_level(BufferClusterLevel::Characters);
-    assert_eq!(rt; text.direction(), Direction::BottomToTop);
-    assert_eq!(rt; text.script(), script::ARABIC);
-    assert_eq!(rt; text.flags().bits(), 0x20);
     assert_eq!(rt; text.cluster_level(), BufferClusterLevel::Characters);
     let printed = format!(in rt.alloc(); "{:?}", BufferClusterLevel::default())?;
     assert_eq!(rt; printed.as_str(), "MonotoneGraphemes");
-    text.clear();
-    assert_eq!(rt; text.flags().bits(), 0x20);
-    assert_eq!(rt; text.script(), script::UNKNOWN);
-    text.set_not_found_variation_selector_glyph(9);
-    assert_eq!(rt; text.into_buffer().not_found_variation_selector, Some(9));
     Ok(())
 }

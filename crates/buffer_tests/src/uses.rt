@@ -27,7 +27,8 @@ fn assert_masks(rt: &impl Abort, glyphs: &[hb_glyph_info_t], want: &[u32]) {
 #[test]
 fn uses_run(rt: HostRuntime) -> Result<(), Fail> {
     texts_are_printed_and_merged(&rt, rt.alloc())?;
-    glyphs_are_edited(&rt, rt.alloc());
+    glyphs_are_dropped(&rt, rt.alloc());
+    a_pair_is_kerned(&rt, rt.alloc());
     writes_land_at_their_places(&rt, rt.alloc());
     readers_tell_what_stands(&rt, rt.alloc());
     calls_in_place_are_done(&rt, rt.alloc());
@@ -59,7 +60,7 @@ fn texts_are_printed_and_merged(rt: &impl Abort, alloc: Global) -> Result<(), Fa
     Ok(())
 }
 
-fn glyphs_are_edited(rt: &impl Abort, alloc: Global) {
+fn glyphs_are_dropped(rt: &impl Abort, alloc: Global) {
     let mut buffer = buffer_of(rt, alloc, "abc");
     assert!(rt; ligate_first_two(&mut buffer, 7).is_ok());
     assert_eq!(rt; buffer.info().len(), 2);
@@ -70,6 +71,10 @@ fn glyphs_are_edited(rt: &impl Abort, alloc: Global) {
     assert!(rt; !buffer.have_output());
     assert_eq!(rt; hide_ignorables(&mut buffer), Ok(true));
     assert_eq!(rt; buffer.info().len(), 2);
+}
+
+/// A line is cut where the pair is not.
+fn a_pair_is_kerned(rt: &impl Abort, alloc: Global) {
     let mut buffer = buffer_of(rt, alloc, "abcd");
     buffer.clear_positions();
     assert!(rt; buffer.have_positions());

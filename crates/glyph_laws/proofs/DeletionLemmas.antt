@@ -1,5 +1,5 @@
 -- Deletion reads a merge: what readings and merges keep, it keeps.
-use Rattle.std.proofs.Common.{◌≡◌, ℕ, suc, ◌+◌, ◌-◌, ◌<◌, ◌≤◌, inl, inr, List, [], ◌∷◌, ◌++◌, length, get_or, drop, min, refl, sym, ap, ◌∙◌, arith, eqb, ltb, Bool, true, false, ◌&&◌, ◌||◌, subst, length-append, length-drop}
+use Rattle.std.proofs.Common.{◌≡◌, ℕ, suc, ◌+◌, ◌-◌, ◌<◌, ◌≤◌, inl, inr, List, [], ◌∷◌, ◌++◌, length, get_or, drop, min, sym, ap, ◌∙◌, arith, ltb, Bool, true, false, subst, length-append}
 use Rattle.std.proofs.lemmas.List.{get_or_append_left, get_or-append_right, map-append, drop_more}
 use Rattle.std.proofs.lemmas.Bool.{cond_both, cases_lt, ltb-true, ltb-false}
 use Rattle.rb_glyph.specs.declared.info.hb_glyph_info_t.{hb_glyph_info_t}
@@ -11,11 +11,11 @@ use Rattle.glyph_lists.specs.Deletion.{Sides, deletion, merge_or_mark, with_trai
 use Rattle.glyph_lists.proofs.PartsLemmas.{length-map_range, map_range-before, map_range-within, map_range-append, map_range_cut}
 use Rattle.glyph_lists.proofs.ClustersLemmas.{length-clusters, range_least_more, range_least_one}
 use Rattle.glyph_lists.proofs.RunsLemmas.{run_start-le, run_start_more, run_start-append, widened_start_run, widened_end_plain}
-use Rattle.glyph_lists.proofs.MergesLemmas.{cluster-with_cluster, with_cluster_others, run_merge_from, length-run_merge}
-use Rattle.glyph_lists.proofs.LengthsLemmas.{length-merge_or_mark, length-deletion}
+use Rattle.glyph_lists.proofs.MergesLemmas.{cluster-with_cluster, with_cluster_others, run_merge_from}
+use Rattle.glyph_lists.proofs.LengthsLemmas.{length-merge_or_mark}
 use Rattle.glyph_laws.proofs.OrderLemmas.{run_merge_keeps_order, run_merge_keeps_coarse}
 use Rattle.glyph_laws.proofs.ReadingsLemmas.{Reading, at, reading_dropped, reading_alike, monotone_reading, coarse_reading}
-use Rattle.glyph_laws.proofs.MarksLemmas.{length-marked_part, reading_marked_part}
+use Rattle.glyph_laws.proofs.MarksLemmas.{reading_marked_part}
 
 -- two maps that differ in flags alone
 retold_alike : (c v w : ℕ) (l r : List hb_glyph_info_t) (a : ℕ) → a ≤ length l → Reading (map_range (with_cluster c v) l a (length l) ++ r) (map_range (with_cluster c w) l a (length l) ++ r)

@@ -1,5 +1,5 @@
 -- Glyph flags: merges, marks and deletion keep every break flag beside its concat flag.
-use Rattle.std.proofs.Common.{inl, inr, refl, subst, get_or, cond, ◌≡◌, ℕ, ◌+◌, ◌-◌, ◌*◌, ◌/◌, ◌%◌, bit_or, sym, ◌∙◌, arith, List, ◌∷◌, ◌++◌, length, map, take, drop, Bool, true, false, not, eqb, ltb, leb, ◌&&◌, ◌||◌}
+use Rattle.std.proofs.Common.{inl, inr, refl, subst, get_or, cond, ◌≡◌, ℕ, ◌+◌, ◌-◌, ◌*◌, ◌/◌, ◌%◌, bit_or, sym, ◌∙◌, arith, List, ◌∷◌, ◌++◌, length, map, take, drop, Bool, true, false, not, eqb, ltb, leb}
 use Rattle.std.specs.List.{prefix_len, suffix_len}
 use Rattle.std.specs.Int.{bit_at}
 use Rattle.std.proofs.lemmas.Bool.{cond_both, cases_lt}

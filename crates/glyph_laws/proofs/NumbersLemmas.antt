@@ -1,5 +1,5 @@
 -- Which cluster numbers stand after a merge or a deletion, in any order of clusters: none is new, and the least stays.
-use Rattle.std.proofs.Common.{◌≡◌, ℕ, zero, suc, ◌+◌, ◌-◌, ◌<◌, ◌≤◌, ◌⊎◌, inl, inr, List, [], ◌∷◌, ◌++◌, length, get_or, drop, refl, sym, ap, ◌∙◌, subst, arith, eqb, ltb, Bool, true, false, not, ◌&&◌, ◌||◌, length-append, length-drop}
+use Rattle.std.proofs.Common.{◌≡◌, ℕ, zero, suc, ◌+◌, ◌-◌, ◌<◌, ◌≤◌, ◌⊎◌, inl, inr, List, [], ◌∷◌, ◌++◌, length, get_or, drop, refl, sym, ap, ◌∙◌, subst, arith, eqb, Bool, true, false, not, ◌&&◌, ◌||◌, length-append, length-drop}
 use Rattle.std.proofs.lemmas.List.{get_or_append_left, get_or-append-add, get_or-append_right, get_or-drop}
 use Rattle.std.proofs.lemmas.Bool.{cases_lt, cond_both, cond-true, le-leb, eqb-true, eqb-false, ltb-true, ltb-false, cases_Bool, or_cases, and_parts}
 use Rattle.rb_glyph.specs.declared.info.hb_glyph_info_t.{hb_glyph_info_t}

@@ -58,7 +58,10 @@ fn measure_sizes<R: Clock + Print>(
             break;
         }
         let measured = measure_workload(rt, alloc, workload, size)?;
-        picos = picos_of(measured.nanos, size.saturating_mul(batch(size)));
+        let glyphs = size
+            .saturating_mul(batch(size))
+            .saturating_mul(workload.times());
+        picos = picos_of(measured.nanos, glyphs);
         println!(rt; "{name} {size} {picos}")?;
         seen = seen.wrapping_add(measured.seen);
     }

@@ -69,6 +69,14 @@ impl Pass {
         matches!(self, Pass::DeleteThirdInplace | Pass::ReverseWithPositions)
     }
 
+    /// How often a run goes over the list.
+    pub fn times(self) -> usize {
+        match self {
+            Pass::NextGlyphsSync => walks::BULK_PASSES,
+            _ => 1,
+        }
+    }
+
     /// Makes the calls, and gives a number that they decide. `Ok(None)` where one was refused. Requires that no output
     /// is open.
     pub fn run(self, buffer: &mut hb_buffer_t) -> Result<Option<usize>, AllocError>

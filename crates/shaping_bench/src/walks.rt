@@ -13,6 +13,9 @@ const PUT_OUT: usize = 8;
 
 const TAKEN_BACK: usize = 4;
 
+/// How often all glyphs are put out at once: once takes less time than the clock takes to be read.
+pub const BULK_PASSES: usize = 100;
+
 /// Puts out one glyph after another.
 pub fn next_glyph_sync(buffer: &mut hb_buffer_t) -> Result<bool, AllocError>
     requires { buffer.old.have_output ≡ false }
@@ -21,8 +24,21 @@ pub fn next_glyph_sync(buffer: &mut hb_buffer_t) -> Result<bool, AllocError>
     put_rest_out(buffer)
 }
 
-/// Puts all glyphs out at once.
+/// Puts all glyphs out at once, again and again.
 pub fn next_glyphs_sync(buffer: &mut hb_buffer_t) -> Result<bool, AllocError>
+    requires { buffer.old.have_output ≡ false }
+{
+    for _ in 0..BULK_PASSES {
+        if buffer.have_output() || !put_all_out(buffer)? {
+            return Ok(false);
+        }
+    }
+    Ok(true)
+}
+
+// Not inlined, so that no pass is left out for the next one, which does the same.
+#[inline(never)]
+fn put_all_out(buffer: &mut hb_buffer_t) -> Result<bool, AllocError>
     requires { buffer.old.have_output ≡ false }
 {
     buffer.clear_output();

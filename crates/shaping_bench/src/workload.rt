@@ -19,6 +19,16 @@ pub enum Workload {
     Tags { is_long: bool },
 }
 
+impl Workload {
+    /// How often a run goes over its glyphs, texts or pairs.
+    pub fn times(self) -> usize {
+        match self {
+            Workload::Calls(pass) => pass.times(),
+            _ => 1,
+        }
+    }
+}
+
 /// Every workload with its name.
 pub const WORKLOADS: [(&str, Workload); 27] = [
     ("push_str_new", Workload::NewText),

@@ -1,10 +1,9 @@
 -- The first glyphs of a list, written over.
-use Rattle.std.proofs.Common.{◌≡◌, ℕ, ◌+◌, ◌-◌, ◌≤◌, ◌<◌, Bool, true, false, List, [], ◌∷◌, ◌++◌, length, take, drop, refl, sym, ap, ◌∙◌, arith, length-append, length-drop, length-take, if◌then◌else◌}
+use Rattle.std.proofs.Common.{◌≡◌, ℕ, ◌+◌, ◌-◌, ◌≤◌, ◌<◌, Bool, true, false, List, ◌++◌, length, take, drop, refl, sym, ap, ◌∙◌, arith, length-append, length-drop, length-take, if◌then◌else◌}
 use Rattle.std.proofs.Math.Seq.{take-append_seam, take-set-lt}
 use Rattle.shaping_buffer.proofs.MoveLemmas.{drop_past}
 use Rattle.std.proofs.Math.ListN.{set}
-use Rattle.std.proofs.lemmas.List.{take_all, take-set-le, drop-set-lt, drop-set-lt, drop-drop, length-take-le}
-use Rattle.std.proofs.lemmas.Grind.{common_steps}
+use Rattle.std.proofs.lemmas.List.{take-set-le, drop-set-lt, drop-set-lt, drop-drop, length-take-le}
 use Rattle.std.specs.List.{length_refill}
 use Rattle.std.specs.Global.{Vec}
 use Rattle.rb_glyph.specs.declared.info.hb_glyph_info_t.{hb_glyph_info_t}

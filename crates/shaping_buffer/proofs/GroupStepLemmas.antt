@@ -1,5 +1,5 @@
 -- Groups that are reversed one after the other.
-use Rattle.std.proofs.Common.{◌≡◌, ℕ, zero, suc, ◌+◌, ◌<◌, ◌≤◌, inl, inr, Bool, true, false, List, [], ◌∷◌, length, take, drop, if◌then◌else◌, refl, sym, ap, ◌∙◌, arith, drop-drop}
+use Rattle.std.proofs.Common.{◌≡◌, ℕ, zero, suc, ◌+◌, ◌<◌, ◌≤◌, inl, inr, Bool, true, false, List, [], length, take, drop, if◌then◌else◌, refl, sym, ap, ◌∙◌, arith, drop-drop}
 use Rattle.std.proofs.Common.{reverse as reverse_list, length-drop, length-append}
 use Rattle.std.specs.Prelude.{nat_lt, Option, None, Some, unwrap_or}
 use Rattle.std.specs.Option.{option_map}

@@ -1,14 +1,14 @@
 -- The deleting walk by calls is the walk over the list.
-use Rattle.std.proofs.Common.{◌≡◌, ℕ, zero, suc, ◌+◌, ◌≤◌, Bool, true, false, List, [], ◌++◌, length, take, drop, leb, if◌then◌else◌, refl, sym, ap, subst, ◌∙◌, arith, length-append, length-take, length-drop}
+use Rattle.std.proofs.Common.{◌≡◌, ℕ, zero, suc, ◌+◌, ◌≤◌, Bool, true, false, [], ◌++◌, length, take, drop, leb, refl, sym, ap, subst, ◌∙◌, arith, length-append, length-take, length-drop}
 use Rattle.std.proofs.lemmas.Bool.{cond-true, cond-false, le-leb}
 use Rattle.rb_glyph.specs.declared.info.hb_glyph_info_t.{hb_glyph_info_t}
 use Rattle.glyph_lists.specs.Deletion.{Sides}
-use Rattle.glyph_lists.specs.DeletingWalk.{after_next, after_deletion, after_turn, after_walk}
+use Rattle.glyph_lists.specs.DeletingWalk.{after_deletion, after_turn, after_walk}
 use Rattle.glyph_lists.proofs.LengthsLemmas.{length-deletion}
 use Rattle.shaping_buffer.specs.State.{State}
 use Rattle.shaping_buffer.specs.Step.{Outcome, settled, next_glyph, sync}
 use Rattle.shaping_buffer.specs.ClusterStep.{any_order, head_of, delete_glyph}
-use Rattle.shaping_buffer.specs.GroupStep.{call_of_walk, walk_by_calls}
+use Rattle.shaping_buffer.specs.GroupStep.{walk_by_calls}
 
 -- an output is open, no refusal stands, and both sides fit together
 abbrev pub IsUnderWay : State → Type 0

@@ -15,7 +15,6 @@ impl hb_buffer_t {
     /// output `i <= len`.
     /// `Ok(false)` after an earlier refusal, with nothing changed, and where the side that becomes longer would be too
     /// long: then only `successful` changes. `Err(AllocError)` where memory ran out: then nothing changed.
-    #[tactic(auto, using(crate::proofs::MoveLemmas::forward_is_next))]
     pub fn move_to(&mut self, i: usize) -> Result<bool, AllocError>
         requires { i ≤ step.last_place self.old }
         ensures { Meets (step.move_to i self.old) self.old result self.new }

@@ -1,11 +1,11 @@
 -- `front_mut` calls `start_mut`, and lends its slice on under a name that keeps the length. The borrow checker follows one call, so this proof is by hand.
-use Rattle.std.proofs.Common.{◌≡◌, ◌≤◌, length, take, List, [], ◌∷◌, refl, ap, w64, MutBor}
+use Rattle.std.proofs.Common.{◌≡◌, length, take, List, [], ◌∷◌, refl, ap, w64, MutBor}
 use Rattle.std.proofs.raw_atomic.Walks.{proved}
 use Rattle.std.specs.Vec.{with_items_from}
 use mir.Syntax.{named}
 use mir.Val.{Val}
 use base.Logic.{id⊢}
-use base.Fml.{ftrue, flft, GName}
+use base.Fml.{ftrue, flft}
 use contract.Monad.{fact}
 use contract.Running.{tables}
 use types.Kit.{‵, raw, ◌⊛◌, some, later, ◌$◌, ◌∵◌, !, qed, done, move, keep, drop, use1, use2, split, split3, join, fjoin, pick, await, rewrite, suffices, frame}

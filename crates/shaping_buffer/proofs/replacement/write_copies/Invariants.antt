@@ -1,4 +1,4 @@
-use Rattle.std.proofs.Common.{◌≡◌, ◌++◌, ◌+◌, take, drop, vec_len}
+use Rattle.std.proofs.Common.{◌≡◌, ◌++◌, ◌+◌, take, drop}
 use Rattle.glyph_lists.specs.Replacement.{copies}
 use Rattle.shaping_buffer.proofs.replacement.write_copies.Given as goal
 

@@ -1,0 +1,9 @@
+use Rattle.std.proofs.Common.{arith, rules}
+use Rattle.std.proofs.lemmas.Grind.{common_steps}
+use Rattle.shaping_buffer.proofs.buffer.hb_buffer_t.sync_apart.Goals as goal
+
+pub invariant_of-self : goal.invariant_of-self
+invariant_of-self c = search rules
+
+pub returns-then-len-self : goal.returns-then-len-self
+returns-then-len-self c = grind (arith, common_steps)
