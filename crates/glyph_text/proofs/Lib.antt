@@ -1,3 +1,4 @@
+pub mod NumberTextLemmas
 pub mod TextLemmas
 pub mod ReadingLemmas
 pub mod GlyphReadingLemmas

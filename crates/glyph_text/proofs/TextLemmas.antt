@@ -1,16 +1,16 @@
 -- One more glyph, at the end of the written text.
-use Rattle.std.proofs.Common.{◌≡◌, ℕ, zero, suc, ◌+◌, ◌*◌, ◌^◌, ◌<◌, ◌≤◌, List, [], ◌∷◌, ◌++◌, length, take, map, get_or, refl, ap, sym, ◌∙◌, arith, append_assoc}
+use Rattle.std.proofs.Common.{◌≡◌, ℕ, zero, suc, ◌+◌, ◌*◌, ◌^◌, ◌<◌, ◌≤◌, cond, List, [], ◌∷◌, ◌++◌, length, take, map, get_or, refl, ap, sym, ◌∙◌, arith, append_assoc}
 use Rattle.std.proofs.lemmas.List.{take_more, length-take-le, take_all, append-nil}
 use Rattle.std.proofs.lemmas.Slice.Zip.{get_or-zip, length-zip}
-use Rattle.std.specs.Prelude.{pos, nat_abs, Bool, true, false, not, ◌||◌}
+use Rattle.std.specs.Prelude.{ℤ, pos, ◌+ℤ◌, nat_abs, Bool, true, false, not, ◌||◌}
 use Rattle.std.specs.List.{zip, join_with_byte}
 use Rattle.rb_glyph.specs.declared.flag_sets.SerializeFlags.{SerializeFlags}
-use Rattle.rb_glyph.specs.declared.flag_sets.TheConstants.SerializeFlags.{NO_GLYPH_NAMES, GLYPH_EXTENTS}
+use Rattle.rb_glyph.specs.declared.flag_sets.TheConstants.SerializeFlags.{NO_POSITIONS, NO_GLYPH_NAMES, GLYPH_EXTENTS, NO_ADVANCES}
 use Rattle.rb_glyph.specs.declared.info.hb_glyph_info_t.{hb_glyph_info_t}
 use Rattle.rb_glyph.specs.declared.position.GlyphPosition.{GlyphPosition}
 use Rattle.glyph_text.specs.declared.serialize.Point.{Point}
 use Rattle.glyph_text.specs.Point.{IsNear}
-use Rattle.glyph_text.specs.Text.{Font, has, asks_font, glyph_text, glyph_texts, glyphs_text, x_advances, y_advances, bar_before}
+use Rattle.glyph_text.specs.Text.{Font, has, asks_font, glyph_text, glyph_texts, glyphs_text, x_advances, y_advances, bar_before, offset_text, advance_text, position_text}
 
 -- what stands for a glyph and for a position where there is none
 abbrev pub no_glyph : hb_glyph_info_t
@@ -19,11 +19,11 @@ no_glyph = record { glyph_id = 0; mask = 0; cluster = 0; var1 = 0; var2 = 0 }
 abbrev pub no_position : GlyphPosition
 no_position = record { x_advance = pos 0; y_advance = pos 0; x_offset = pos 0; y_offset = pos 0; var = 0 }
 
--- the glyphs before i are written, and their advances summed
+-- the glyphs before i are written, and their advances summed where places are told
 pub record Written (font : Font) (flags : SerializeFlags) (infos : List hb_glyph_info_t) (positions : List GlyphPosition) (i : ℕ) (text : List ℕ) (pen : Point) : Type 0 where
   pub told : text ≡ glyphs_text font flags (take i (zip infos positions))
-  pub x : pen.x ≡ x_advances (take i positions)
-  pub y : pen.y ≡ y_advances (take i positions)
+  pub x : has flags NO_ADVANCES ≡ true → pen.x ≡ x_advances (take i positions)
+  pub y : has flags NO_ADVANCES ≡ true → pen.y ≡ y_advances (take i positions)
   pub x_near : nat_abs pen.x ≤ i * 2147483648
   pub y_near : nat_abs pen.y ≤ i * 2147483648
 
@@ -42,16 +42,27 @@ pub asks_for_extents : (flags : SerializeFlags) → has flags GLYPH_EXTENTS ≡ 
 asks_for_extents flags e = or_right (not (has flags NO_GLYPH_NAMES)) (has flags GLYPH_EXTENTS) e
 
 -- a bar and the five pieces of a glyph, one after another
-pub pieces_more : (old with_bar named clustered placed flagged now bar name cluster position flags extents : List ℕ)
-    → with_bar ≡ old ++ bar → named ≡ with_bar ++ name → clustered ≡ named ++ cluster → placed ≡ clustered ++ position → flagged ≡ placed ++ flags → now ≡ flagged ++ extents
+pub pieces_more : (old headed placed flagged now bar name cluster position flags extents : List ℕ)
+    → headed ≡ old ++ bar ++ name ++ cluster → placed ≡ headed ++ position → flagged ≡ placed ++ flags → now ≡ flagged ++ extents
     → now ≡ (old ++ bar) ++ (name ++ cluster ++ position ++ flags ++ extents)
-pieces_more old with_bar named clustered placed flagged now bar name cluster position flags extents b n c p f e =
+pieces_more old headed placed flagged now bar name cluster position flags extents h p f e =
     let a = old ++ bar in
-    e ∙ ap (λ l. l ++ extents) (f ∙ ap (λ l. l ++ flags) (p ∙ ap (λ l. l ++ position) (c ∙ ap (λ l. l ++ cluster) (n ∙ ap (λ l. l ++ name) b))))
+    e ∙ ap (λ l. l ++ extents) (f ∙ ap (λ l. l ++ flags) (p ∙ ap (λ l. l ++ position) h))
     ∙ ap (λ l. ((l ++ position) ++ flags) ++ extents) (append_assoc a name cluster)
     ∙ ap (λ l. (l ++ flags) ++ extents) (append_assoc a (name ++ cluster) position)
     ∙ ap (λ l. l ++ extents) (append_assoc a (name ++ cluster ++ position) flags)
     ∙ append_assoc a (name ++ cluster ++ position ++ flags) extents
+
+chosen : (b : Bool) (f : ℤ → ℤ → List ℕ) (other : List ℕ) (x y u v : ℤ) → (b ≡ true → x ≡ u) → (b ≡ true → y ≡ v) → cond b (f x y) other ≡ cond b (f u v) other
+chosen true f other x y u v e g = ap (λ x. f x y) (e refl) ∙ ap (λ y. f u y) (g refl)
+chosen false f other x y u v e g = refl
+
+-- a place is told only under `NO_ADVANCES`
+pub position_told : (flags : SerializeFlags) (x y u v : ℤ) (p : GlyphPosition) → (has flags NO_ADVANCES ≡ true → x ≡ u) → (has flags NO_ADVANCES ≡ true → y ≡ v)
+    → position_text flags x y p ≡ position_text flags u v p
+position_told flags x y u v p e g =
+    ap (λ told. cond (has flags NO_POSITIONS) [] told)
+    (chosen (has flags NO_ADVANCES) (λ x y. offset_text (x +ℤ p.x_offset) (y +ℤ p.y_offset)) (offset_text p.x_offset p.y_offset ++ advance_text p.x_advance p.y_advance) x y u v e g)
 
 join_more : (x : List ℕ) (xs : List (List ℕ)) (piece : List ℕ) → join_with_byte 124 ((x ∷ xs) ++ piece ∷ []) ≡ (join_with_byte 124 (x ∷ xs) ++ 124 ∷ []) ++ piece
 join_more x [] piece = sym (append_assoc x (124 ∷ []) piece)

@@ -5,4 +5,5 @@
 #![tactic(auto)]
 
 pub mod laws;
+mod number_text;
 pub mod serialize;

@@ -1,15 +1,17 @@
 //! Glyphs as a text.
 
-ghost use Rattle.std.specs.Prelude.{◌≡◌, ◌++◌, ◌∷◌, true, false, length, IfOk, OnOk, string_bytes, ◌+ℤ◌, ◌+◌, ◌<◌, ◌≤◌};
-ghost use Rattle.std.specs.Prelude.{nat_abs};
-ghost use Rattle.std.specs.Fmt.{signed_decimal};
+ghost use Rattle.std.specs.Prelude.{◌≡◌, ◌++◌, ◌∷◌, [], true, false, length, IfOk, OnOk, ◌+ℤ◌, ◌+◌, ◌<◌, ◌≤◌};
+ghost use Rattle.std.specs.Prelude.{codes, nat_abs, string_bytes, unwrap_or};
+ghost use Rattle.std.specs.Fmt.{decimal, signed_decimal};
 ghost use Rattle.std.specs.List.{zip};
 ghost use Rattle.glyph_text.specs.Text as texts;
 ghost use Rattle.glyph_text.specs.Text.{has, asks_font, AreGlyphs, bar_before, name_text, cluster_text, offset_text};
 ghost use Rattle.glyph_text.specs.Text.{advance_text, position_text, flags_text, extents_text, box_text};
 ghost use Rattle.glyph_text.specs.Point.{IsNear};
-ghost use Rattle.rb_glyph.specs.declared.flag_sets.TheConstants.SerializeFlags.{NO_GLYPH_NAMES, GLYPH_EXTENTS};
+ghost use Rattle.rb_glyph.specs.declared.flag_sets.TheConstants.SerializeFlags.{NO_ADVANCES, NO_GLYPH_NAMES};
+ghost use Rattle.rb_glyph.specs.declared.flag_sets.TheConstants.SerializeFlags.{GLYPH_EXTENTS};
 
+use crate::number_text::NumberText;
 use bitflags::Flags;
 use itoa::{Buffer, Integer};
 use rb_glyph::{
@@ -46,13 +48,18 @@ impl Point {
         }
     }
 
-    fn plus_advance(self, position: &GlyphPosition) -> Point
+    /// The place behind a glyph. Only under `NO_ADVANCES` places are told, and positions read for them.
+    #[inline(always)]
+    fn place_behind(self, flags: SerializeFlags, position: &GlyphPosition) -> Point
         requires { IsNear self }
-        ensures x { result.x ≡ self.x +ℤ position.now.x_advance }
-        ensures y { result.y ≡ self.y +ℤ position.now.y_advance }
+        ensures x { has flags NO_ADVANCES ≡ true → result.x ≡ self.x +ℤ position.now.x_advance }
+        ensures y { has flags NO_ADVANCES ≡ true → result.y ≡ self.y +ℤ position.now.y_advance }
         ensures near_x { nat_abs result.x ≤ nat_abs self.x + 2147483648 }
         ensures near_y { nat_abs result.y ≤ nat_abs self.y + 2147483648 }
     {
+        if !flags.contains(SerializeFlags::NO_ADVANCES) {
+            return self;
+        }
         Point {
             x: self.x + i128::from(position.x_advance),
             y: self.y + i128::from(position.y_advance),
@@ -86,18 +93,79 @@ pub fn glyphs_text<F: GlyphNames>(
         (zip infos.now positions.now)) }
 {
     let mut text = String::with_capacity(alloc, infos.len().saturating_mul(LIKELY_LENGTH))?;
+    write_glyphs(&mut text, font, flags, infos, positions)?;
+    Ok(text)
+}
+
+/// Each glyph's text, with bars between them.
+#[tactic(auto, using(crate::proofs::TextLemmas::text_all))]
+fn write_glyphs<F: GlyphNames>(
+    text: &mut String,
+    font: &F,
+    flags: SerializeFlags,
+    infos: &[hb_glyph_info_t],
+    positions: &[GlyphPosition],
+) -> Result<(), AllocError>
+    requires as_many { length positions.now ≡ length infos.now }
+    requires glyphs { asks_font flags ≡ true → AreGlyphs infos.now }
+    requires empty { string_bytes text.old ≡ [] }
+    ensures { OnOk result (string_bytes text.new ≡ texts.glyphs_text
+        (record { name = F.name_of font.now; extents = F.extents_of font.now }) flags
+        (zip infos.now positions.now)) }
+{
     let mut pen = Point { x: 0, y: 0 };
     for (i, info) in infos.iter().enumerate() {
         let position = &positions[i];
-        write_bar(&mut text, i)?;
-        write_name(&mut text, font, flags, info)?;
-        write_cluster(&mut text, flags, info)?;
-        write_position(&mut text, flags, pen, position)?;
-        write_flags(&mut text, flags, info)?;
-        write_extents(&mut text, font, flags, info)?;
-        pen = pen.plus_advance(position);
+        write_head(text, font, flags, i, info)?;
+        write_position(text, flags, pen, position)?;
+        write_flags(text, flags, info)?;
+        write_extents(text, font, flags, info)?;
+        pen = pen.place_behind(flags, position);
     }
-    Ok(text)
+    Ok(())
+}
+
+/// The name of a glyph and its cluster, and what stands before them.
+fn write_head<F: GlyphNames>(
+    text: &mut String,
+    font: &F,
+    flags: SerializeFlags,
+    i: usize,
+    info: &hb_glyph_info_t,
+) -> Result<(), AllocError>
+    requires { has flags NO_GLYPH_NAMES ≡ false → info.now.glyph_id ≤ 65535 }
+    ensures { OnOk result (string_bytes text.new ≡ string_bytes text.old ++ bar_before i
+        ++ name_text flags (F.name_of font.now info.now.glyph_id) info.now.glyph_id
+        ++ cluster_text flags info.now.cluster) }
+{
+    if flags.contains(SerializeFlags::NO_GLYPH_NAMES) {
+        return write_numbers(text, flags, i, info);
+    }
+    write_bar(text, i)?;
+    write_name(text, font, info)?;
+    write_cluster(text, flags, info)
+}
+
+/// The number of a glyph and its cluster, and what stands before them, by one copy.
+fn write_numbers(
+    text: &mut String,
+    flags: SerializeFlags,
+    i: usize,
+    info: &hb_glyph_info_t,
+) -> Result<(), AllocError>
+    ensures { OnOk result (string_bytes text.new ≡ string_bytes text.old ++ bar_before i
+        ++ decimal info.now.glyph_id ++ cluster_text flags info.now.cluster) }
+{
+    let mut numbers = NumberText::new();
+    if !flags.contains(SerializeFlags::NO_CLUSTERS) {
+        numbers.put_number(info.cluster);
+        numbers.put_sign(b'=');
+    }
+    numbers.put_number(info.glyph_id);
+    if i > 0 {
+        numbers.put_sign(b'|');
+    }
+    text.push_str(numbers.as_str())
 }
 
 /// What stands before the piece at a place.
@@ -129,19 +197,16 @@ fn write_number<I: Integer>(text: &mut String, number: I) -> Result<(), AllocErr
     text.push_str(digits.format(number))
 }
 
+/// The name of a glyph, or its number where the font has none.
 fn write_name<F: GlyphNames>(
     text: &mut String,
     font: &F,
-    flags: SerializeFlags,
     info: &hb_glyph_info_t,
 ) -> Result<(), AllocError>
-    requires { has flags NO_GLYPH_NAMES ≡ false → info.now.glyph_id ≤ 65535 }
+    requires { info.now.glyph_id ≤ 65535 }
     ensures { OnOk result (string_bytes text.new ≡ string_bytes text.old
-        ++ name_text flags (F.name_of font.now info.now.glyph_id) info.now.glyph_id) }
+        ++ unwrap_or (F.name_of font.now info.now.glyph_id) (codes "gid" ++ decimal info.now.glyph_id)) }
 {
-    if flags.contains(SerializeFlags::NO_GLYPH_NAMES) {
-        return write_number(text, info.glyph_id);
-    }
     match font.glyph_name(info.as_glyph()) {
         Some(name) => text.push_str(name),
         None => {

@@ -40,7 +40,7 @@ impl hb_buffer_t {
         let from = self.cursor;
         let glyph = self.info[from];
         if self.have_separate_output {
-            return self.put_apart(glyph, 1);
+            return self.next_glyph_apart();
         }
         let to = self.placed;
         if to < from {
@@ -228,6 +228,24 @@ impl hb_buffer_t {
         put_down(&mut self.info, self.placed, self.cursor, n);
         self.placed += n;
         self.cursor += n;
+        Ok(true)
+    }
+
+    /// Puts the glyph at the cursor out behind a separate output. The room is made first, so that the glyph is copied
+    /// once.
+    fn next_glyph_apart(&mut self) -> Result<bool, AllocError>
+        requires opened { self.old.have_output ≡ true }
+        requires apart { self.old.have_separate_output ≡ true }
+        requires glyph { 0 < length self.old.input }
+        ensures { Meets (step.next_glyph self.old) self.old result self.new }
+    {
+        if self.out_info.len() >= self.max_len {
+            self.successful = false;
+            return Ok(false);
+        }
+        self.out_info.reserve(1)?;
+        self.out_info.push_reserved(self.info[self.cursor]);
+        self.cursor += 1;
         Ok(true)
     }
 

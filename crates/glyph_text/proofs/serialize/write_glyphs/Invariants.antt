@@ -1,6 +1,6 @@
 use Rattle.std.proofs.Common.{string_bytes}
 use Rattle.glyph_text.proofs.TextLemmas.{Written}
-use Rattle.glyph_text.proofs.serialize.glyphs_text.Given as goal
+use Rattle.glyph_text.proofs.serialize.write_glyphs.Given as goal
 
 -- the glyphs so far are written, and their advances summed
 abbrev pub invariant-loop-i : goal.invariant-loop-i
