@@ -1,4 +1,4 @@
-//! Tests of `shaping_lines`, over what it makes public, as in the `tests/` folder of a Rust crate. What each line is
+//! Tests of `shaping_lines` and `line_words`, over what they make public, as in the `tests/` folder of a Rust crate. What each line is
 //! answered with stands in the stored run of `shaping_cli`.
 #![tactic(auto)]
 
@@ -8,3 +8,5 @@ mod ending;
 mod streams;
 #[cfg(test)]
 mod unknown;
+#[cfg(test)]
+mod words;

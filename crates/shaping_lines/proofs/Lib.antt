@@ -7,4 +7,3 @@ pub mod ReplacementLemmas
 mod Rows
 pub mod StateTextLemmas
 pub mod TranscriptLemmas
-pub mod WordLemmas

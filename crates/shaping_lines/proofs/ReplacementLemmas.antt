@@ -8,7 +8,7 @@ use Rattle.shaping_runs.specs.Replay.{turn}
 use Rattle.shaping_runs.specs.declared.call.Call.TheVariants.{ReplaceGlyphs}
 use Rattle.shaping_lines.specs.Commands.{Taken, id_before, ids_in}
 use Rattle.shaping_lines.specs.Session.{replacement_turn}
-use Rattle.shaping_lines.specs.Words.{Left, next_u32, past_first_word}
+use Rattle.line_words.specs.Words.{Left, next_u32, past_first_word}
 
 and-true : (b : Bool) → (b && true) ≡ b
 and-true true = refl

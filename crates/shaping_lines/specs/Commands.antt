@@ -10,7 +10,7 @@ use Rattle.shaping_runs.specs.declared.call.Call.TheVariants.{ReplaceGlyph, Outp
 use Rattle.shaping_runs.specs.declared.call.Call.TheVariants.{MergeClusters, MergeOutClusters, UnsafeToBreak}
 use Rattle.shaping_runs.specs.declared.call.Call.TheVariants.{UnsafeToBreakFromOutbuffer, SafeToInsertTatweel}
 use Rattle.shaping_runs.specs.declared.call.Call.TheVariants.{UnsafeToConcat, UnsafeToConcatFromOutbuffer}
-use Rattle.shaping_lines.specs.Words.{Left, next_character, next_language, next_place, next_script, next_u32, past_space, past_first_word, first_word}
+use Rattle.line_words.specs.Words.{Left, next_character, next_language, next_place, next_script, next_u32, past_space, past_first_word, first_word}
 use Rattle.shaping_lines.specs.declared.command.TheConstants.{ALL_BUFFER_FLAGS, ALL_SERIALIZE_FLAGS}
 use Rattle.shaping_lines.specs.declared.command.Command.{Command}
 use Rattle.shaping_lines.specs.declared.command.Command.TheVariants.{Push, Add, Level, Flags, Limit, Make, ReplaceGlyphs, State, Serialize, New, Feature, Tags, Compose, Decompose}

@@ -4,4 +4,3 @@ pub mod Replies
 pub mod Session
 pub mod StateText
 pub mod Transcript
-pub mod Words

@@ -6,7 +6,7 @@ ghost use Rattle.shaping_lines.specs.Commands.{request_in_bytes, request_in, req
 ghost use Rattle.shaping_lines.specs.Commands.{command_in, treatment_in, question_in, query_in, call_in, edit_call_in};
 ghost use Rattle.shaping_lines.specs.Commands.{flag_call_in, call_request, request_of, at_most};
 
-use crate::words::Words;
+use line_words::words::Words;
 use rb_text::Script;
 use shaping_buffer::BufferClusterLevel;
 use shaping_buffer::cluster_level::HB_BUFFER_CLUSTER_LEVEL_CHARACTERS;

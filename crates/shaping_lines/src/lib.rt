@@ -8,4 +8,3 @@ mod reply;
 pub mod run;
 mod session;
 mod state_text;
-mod words;

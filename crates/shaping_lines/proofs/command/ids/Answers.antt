@@ -1,5 +1,5 @@
 use Rattle.std.proofs.Common.{rules, ap, ◌∙◌, ◌≡◌, ◌++◌, ◌∷◌, [], None, Some}
-use Rattle.shaping_lines.specs.Words.{next_u32, past_first_word}
+use Rattle.line_words.specs.Words.{next_u32, past_first_word}
 use Rattle.shaping_lines.proofs.ReplacementLemmas.{ids_before, ids_in-missing, ids_in-one_more}
 use Rattle.shaping_lines.proofs.command.ids.Goals as goal
 

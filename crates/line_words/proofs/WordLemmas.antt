@@ -6,7 +6,7 @@ use Rattle.std.specs.Result.{OkIff, result_ok}
 use Rattle.std.specs.Str.Parse.{AllDigits, IsNumeral, ParsesUnsigned, digits_value, without_leading_plus}
 use Rattle.std.proofs.lemmas.Bool.Decides.{nat_tests}
 use Rattle.std.proofs.lemmas.Str.Parse.{IsNumeralModel, numerals_by_value, parse_digits}
-use Rattle.shaping_lines.specs.Words.{IsDecimal, decimal_value, IsHexadecimal, hexadecimal_value}
+use Rattle.line_words.specs.Words.{IsDecimal, decimal_value, IsHexadecimal, hexadecimal_value}
 
 -- texts of digits are those that the test passes
 decimals : IsNumeralModel (λ word. list_all is_ascii_digit word ≡ true) decimal_value
