@@ -1,6 +1,9 @@
 -- One list that reads another from left to right: it drops or repeats glyphs, and keeps their order.
-use Rattle.std.proofs.Common.{zero, [], take, drop, subst, length-take, length-drop, refl, ◌≡◌, ℕ, suc, ◌+◌, ◌-◌, ◌<◌, ◌≤◌, inl, inr, List, ◌∷◌, ◌++◌, length, get_or, map, sym, ap, ◌∙◌, arith, ltb, cond, length-append}
-use Rattle.std.proofs.lemmas.List.{take_at, drop_at, append-nil, append_assoc, get_or-take, get_or-drop, get_or-append_right, get_or_append_left, get_or-map, get_or-append-add}
+use Rattle.std.proofs.Common.{zero, [], take, drop, subst, length-take, length-drop, refl, ◌≡◌, ℕ, suc, ◌+◌, ◌-◌, ◌<◌}
+use Rattle.std.proofs.Common.{◌≤◌, inl, inr, List, ◌∷◌, ◌++◌, length, get_or, map, sym, ap, ◌∙◌, arith, ltb, cond}
+use Rattle.std.proofs.Common.{length-append}
+use Rattle.std.proofs.lemmas.List.{take_at, drop_at, append-nil, append_assoc, get_or-take, get_or-drop}
+use Rattle.std.proofs.lemmas.List.{get_or-append_right, get_or_append_left, get_or-map, get_or-append-add}
 use Rattle.std.proofs.lemmas.Bool.{cond-true, cond-false, cases_lt, lt-ltb, le-ltb}
 use Rattle.rb_glyph.specs.declared.info.hb_glyph_info_t.{hb_glyph_info_t}
 use Rattle.glyph_lists.specs.Clusters.{clusters, IsMonotone, IsCoarse, zero_glyph}
@@ -25,17 +28,36 @@ pub monotone_reading : (xs ys : List hb_glyph_info_t) → Reading xs ys → IsMo
 monotone_reading xs ys r mono =
     let n = length-clusters xs in
     let n2 = length-clusters ys in
-    let c : (j : ℕ) → j < length ys → get_or (clusters ys) j 0 ≡ get_or (clusters xs) (r.from j) 0 = λ j h. get_or-clusters ys j zero_glyph h ∙ r.cluster j h ∙ sym (get_or-clusters xs (r.from j) zero_glyph (r.within j h)) in
+    let c : (j : ℕ) → j < length ys → get_or (clusters ys) j 0 ≡ get_or (clusters xs) (r.from j) 0 =
+    λ j h. get_or-clusters ys j zero_glyph h ∙ r.cluster j h
+    ∙ sym (get_or-clusters xs (r.from j) zero_glyph (r.within j h)) in
     elim mono [
-      | inl up ↦ inl (λ i j h h2. omega (arith, c i (omega arith), c j (omega arith), up (r.from i) (r.from j) (r.up i j h) (omega (arith, r.within j (omega arith)))))
-      | inr down ↦ inr (λ i j h h2. omega (arith, c i (omega arith), c j (omega arith), down (r.from i) (r.from j) (r.up i j h) (omega (arith, r.within j (omega arith)))))
+      | inl up ↦ inl (λ i j h h2. omega (
+        arith,
+        c i (omega arith),
+        c j (omega arith),
+        up (r.from i) (r.from j) (r.up i j h) (omega (arith, r.within j (omega arith))),
+      ))
+      | inr down ↦ inr (λ i j h h2. omega (
+        arith,
+        c i (omega arith),
+        c j (omega arith),
+        down (r.from i) (r.from j) (r.up i j h) (omega (arith, r.within j (omega arith))),
+      ))
     ]
 
 pub coarse_reading : (xs ys : List hb_glyph_info_t) → Reading xs ys → IsCoarse xs → IsCoarse ys
 coarse_reading xs ys r co = record {
   ordered = monotone_reading xs ys r co.ordered;
   low = λ i h. omega (arith, r.cluster i h, r.var2 i h, co.low (r.from i) (r.within i h));
-  alike = λ i j h h2 le. omega (arith, r.cluster i h, r.var2 i h, r.cluster j h2, r.var2 j h2, co.alike (r.from i) (r.from j) (r.within i h) (r.within j h2) (omega (arith, r.var2 i h, r.var2 j h2)));
+  alike = λ i j h h2 le. omega (
+    arith,
+    r.cluster i h,
+    r.var2 i h,
+    r.cluster j h2,
+    r.var2 j h2,
+    co.alike (r.from i) (r.from j) (r.within i h) (r.within j h2) (omega (arith, r.var2 i h, r.var2 j h2)),
+  );
 }
 
 -- the places p to q give way to glyphs that are as the one at p, for all that an order reads
@@ -81,7 +103,8 @@ module _ (l copies : List hb_glyph_info_t) (p q : ℕ) (up : p ≤ q) (in_l : q 
 
   source-within : (j : ℕ) → j < length replacement → source j < length l
   source-within j h =
-      let n : length replacement ≡ p + length copies + (length l - q) = simp (length-append, length-take, length-drop) (omega arith) in
+      let n : length replacement ≡ p + length copies + (length l - q) =
+      simp (length-append, length-take, length-drop) (omega arith) in
       elim (cases_lt j p) [
         | inl before ↦ omega (arith, source-before j before)
         | inr from ↦ elim (cases_lt j (p + length copies)) [
@@ -90,17 +113,22 @@ module _ (l copies : List hb_glyph_info_t) (p q : ℕ) (up : p ≤ q) (in_l : q 
         ]
       ]
 
-  source-at : (f : hb_glyph_info_t → ℕ) → ((k : ℕ) → k < length copies → f (at copies k) ≡ f (at l p)) → (j : ℕ) → f (at replacement j) ≡ f (at l (source j))
+  source-at : (f : hb_glyph_info_t → ℕ) → ((k : ℕ) → k < length copies → f (at copies k) ≡ f (at l p)) → (j : ℕ)
+      → f (at replacement j) ≡ f (at l (source j))
   source-at f same j =
       let n : length (take p l) ≡ p = simp length-take (omega arith) in
-      let n2 : length (take p l ++ copies) ≡ p + length copies = length-append (take p l) copies ∙ ap (λ k. k + length copies) n in
+      let n2 : length (take p l ++ copies) ≡ p + length copies =
+      length-append (take p l) copies ∙ ap (λ k. k + length copies) n in
       elim (cases_lt j p) [
-        | inl before ↦ ap f (get_or_append_left (take p l ++ copies) (drop q l) zero_glyph j (omega arith) ∙ get_or_append_left (take p l) copies zero_glyph j (omega arith)
+        | inl before ↦ ap f (get_or_append_left (take p l ++ copies) (drop q l) zero_glyph j (omega arith)
+            ∙ get_or_append_left (take p l) copies zero_glyph j (omega arith)
             ∙ get_or-take p l j zero_glyph before ∙ ap (at l) (sym (source-before j before)))
         | inr from ↦ elim (cases_lt j (p + length copies)) [
-          | inl copy ↦ ap f (get_or_append_left (take p l ++ copies) (drop q l) zero_glyph j (omega arith) ∙ get_or-append_right (take p l) copies p j zero_glyph n from)
+          | inl copy ↦ ap f (get_or_append_left (take p l ++ copies) (drop q l) zero_glyph j (omega arith)
+              ∙ get_or-append_right (take p l) copies p j zero_glyph n from)
               ∙ same (j - p) (omega arith) ∙ ap (λ k. f (at l k)) (sym (source-copy j from copy))
-          | inr after ↦ ap f (get_or-append_right (take p l ++ copies) (drop q l) (p + length copies) j zero_glyph n2 after
+          | inr after ↦ ap f (get_or-append_right (take p l ++ copies) (drop q l) (p + length copies) j zero_glyph n2
+              after
               ∙ get_or-drop q l (j - (p + length copies)) zero_glyph ∙ ap (at l) (sym (source-after j after)))
         ]
       ]
@@ -115,22 +143,28 @@ module _ (l copies : List hb_glyph_info_t) (p q : ℕ) (up : p ≤ q) (in_l : q 
   }
 
 -- one glyph is dropped
-pub reading_dropped : (xs : List hb_glyph_info_t) (x : hb_glyph_info_t) (ys : List hb_glyph_info_t) → Reading (xs ++ x ∷ ys) (xs ++ ys)
+pub reading_dropped : (xs : List hb_glyph_info_t) (x : hb_glyph_info_t) (ys : List hb_glyph_info_t)
+    → Reading (xs ++ x ∷ ys) (xs ++ ys)
 reading_dropped xs x ys =
     let l : List hb_glyph_info_t = xs ++ x ∷ ys in
     let n : length l ≡ length xs + suc (length ys) = length-append xs (x ∷ ys) in
     let n1 : length (xs ++ x ∷ []) ≡ length xs + 1 = length-append xs (x ∷ []) in
-    let front : take (length xs) l ++ [] ≡ xs = append-nil (take (length xs) l) ∙ take_at xs (x ∷ ys) (length xs) refl in
-    let back : drop (length xs + 1) l ≡ ys = ap (drop (length xs + 1)) (sym (append_assoc xs (x ∷ []) ys)) ∙ drop_at (xs ++ x ∷ []) ys (length xs + 1) n1 in
+    let front : take (length xs) l ++ [] ≡ xs =
+    append-nil (take (length xs) l) ∙ take_at xs (x ∷ ys) (length xs) refl in
+    let back : drop (length xs + 1) l ≡ ys =
+    ap (drop (length xs + 1)) (sym (append_assoc xs (x ∷ []) ys)) ∙ drop_at (xs ++ x ∷ []) ys (length xs + 1) n1 in
     subst (Reading l) (ap (λ z. z ++ drop (length xs + 1) l) front ∙ ap (λ z. xs ++ z) back)
-    (reading_replaced l [] (length xs) (length xs + 1) (omega arith) (omega arith) (omega arith) (λ k h. absurd (omega arith)) (λ k h. absurd (omega arith)))
+    (reading_replaced l [] (length xs) (length xs + 1) (omega arith) (omega arith) (omega arith)
+    (λ k h. absurd (omega arith)) (λ k h. absurd (omega arith)))
 
-as_x : (y x z : hb_glyph_info_t) (f : hb_glyph_info_t → ℕ) → f y ≡ f x → z ≡ x → (k : ℕ) → k < 1 → f (at (y ∷ []) k) ≡ f z
+as_x : (y x z : hb_glyph_info_t) (f : hb_glyph_info_t → ℕ) → f y ≡ f x → z ≡ x → (k : ℕ) → k < 1
+    → f (at (y ∷ []) k) ≡ f z
 as_x y x z f same e zero h = same ∙ ap f (sym e)
 as_x y x z f same e (suc k) h = absurd (omega arith)
 
 -- one glyph is repeated, with the repeat before it: y is as x, for all that an order reads
-pub reading_copied : (xs : List hb_glyph_info_t) (y x : hb_glyph_info_t) (ys : List hb_glyph_info_t) → y.cluster ≡ x.cluster → y.var2 ≡ x.var2
+pub reading_copied : (xs : List hb_glyph_info_t) (y x : hb_glyph_info_t) (ys : List hb_glyph_info_t)
+    → y.cluster ≡ x.cluster → y.var2 ≡ x.var2
     → Reading (xs ++ x ∷ ys) (xs ++ y ∷ x ∷ ys)
 reading_copied xs y x ys same_cluster same_var2 =
     let l : List hb_glyph_info_t = xs ++ x ∷ ys in
@@ -138,27 +172,36 @@ reading_copied xs y x ys same_cluster same_var2 =
     let i : length xs + 0 ≡ length xs = omega arith in
     let at_x : at l (length xs) ≡ x = ap (at l) (sym i) ∙ get_or-append-add xs (x ∷ ys) 0 zero_glyph in
     subst (Reading l)
-    (ap (λ z. (z ++ y ∷ []) ++ drop (length xs) l) (take_at xs (x ∷ ys) (length xs) refl) ∙ ap (λ z. (xs ++ y ∷ []) ++ z) (drop_at xs (x ∷ ys) (length xs) refl) ∙ append_assoc xs (y ∷ []) (x ∷ ys))
-    (reading_replaced l (y ∷ []) (length xs) (length xs) (omega arith) (omega arith) (omega arith) (as_x y x (at l (length xs)) (λ g. g.cluster) same_cluster at_x) (as_x y x (at l (length xs)) (λ g. g.var2) same_var2 at_x))
+    (ap (λ z. (z ++ y ∷ []) ++ drop (length xs) l) (take_at xs (x ∷ ys) (length xs) refl)
+    ∙ ap (λ z. (xs ++ y ∷ []) ++ z) (drop_at xs (x ∷ ys) (length xs) refl) ∙ append_assoc xs (y ∷ []) (x ∷ ys))
+    (reading_replaced l (y ∷ []) (length xs) (length xs) (omega arith) (omega arith) (omega arith)
+    (as_x y x (at l (length xs)) (λ g. g.cluster) same_cluster at_x)
+    (as_x y x (at l (length xs)) (λ g. g.var2) same_var2 at_x))
 
 -- lists that agree place by place
 pub reading_alike : (xs ys : List hb_glyph_info_t) → length ys ≡ length xs
-    → ((j : ℕ) → j < length ys → (at ys j).cluster ≡ (at xs j).cluster) → ((j : ℕ) → j < length ys → (at ys j).var2 ≡ (at xs j).var2) → Reading xs ys
-reading_alike xs ys same_length same_clusters same_var2 = record { from = λ j. j; up = λ i j h. h; within = λ j h. omega arith; cluster = same_clusters; var2 = same_var2 }
+    → ((j : ℕ) → j < length ys → (at ys j).cluster ≡ (at xs j).cluster)
+    → ((j : ℕ) → j < length ys → (at ys j).var2 ≡ (at xs j).var2) → Reading xs ys
+reading_alike xs ys same_length same_clusters same_var2 =
+    record { from = λ j. j; up = λ i j h. h; within = λ j h. omega arith; cluster = same_clusters; var2 = same_var2 }
 
 -- lists with the same clusters and the same second words
-reading_by_fields : (xs ys : List hb_glyph_info_t) → clusters ys ≡ clusters xs → map (λ g. g.var2) ys ≡ map (λ g. g.var2) xs → Reading xs ys
+reading_by_fields : (xs ys : List hb_glyph_info_t) → clusters ys ≡ clusters xs
+    → map (λ g. g.var2) ys ≡ map (λ g. g.var2) xs → Reading xs ys
 reading_by_fields xs ys c v =
     let n : length ys ≡ length xs = sym (length-clusters ys) ∙ ap length c ∙ length-clusters xs in
     reading_alike xs ys n
-    (λ j h. sym (get_or-clusters ys j zero_glyph h) ∙ ap (λ cs. get_or cs j 0) c ∙ get_or-clusters xs j zero_glyph (omega arith))
-    (λ j h. sym (get_or-map (λ g. g.var2) ys j zero_glyph 0 h) ∙ ap (λ vs. get_or vs j 0) v ∙ get_or-map (λ g. g.var2) xs j zero_glyph 0 (omega arith))
+    (λ j h. sym (get_or-clusters ys j zero_glyph h) ∙ ap (λ cs. get_or cs j 0) c
+    ∙ get_or-clusters xs j zero_glyph (omega arith))
+    (λ j h. sym (get_or-map (λ g. g.var2) ys j zero_glyph 0 h) ∙ ap (λ vs. get_or vs j 0) v
+    ∙ get_or-map (λ g. g.var2) xs j zero_glyph 0 (omega arith))
 
 -- lists that are the same but for their masks
 module _ (xs ys : List hb_glyph_info_t) (same : reset_masks 0 xs ≡ reset_masks 0 ys) where
   fields-but_masks : (f : hb_glyph_info_t → ℕ) → ((g : hb_glyph_info_t) → f (with_mask 0 g) ≡ f g) → map f xs ≡ map f ys
   unfolding reset_masks
-  fields-but_masks f reads_none = sym (map-map_same f (with_mask 0) reads_none xs) ∙ ap (map f) same ∙ map-map_same f (with_mask 0) reads_none ys
+  fields-but_masks f reads_none =
+      sym (map-map_same f (with_mask 0) reads_none xs) ∙ ap (map f) same ∙ map-map_same f (with_mask 0) reads_none ys
 
   pub clusters-but_masks : clusters xs ≡ clusters ys
   unfolding with_mask
@@ -166,14 +209,16 @@ module _ (xs ys : List hb_glyph_info_t) (same : reset_masks 0 xs ≡ reset_masks
 
   pub reading_but_masks : Reading xs ys
   unfolding with_mask
-  reading_but_masks = reading_by_fields xs ys (sym clusters-but_masks) (sym (fields-but_masks (λ g. g.var2) (λ g. refl)))
+  reading_but_masks =
+      reading_by_fields xs ys (sym clusters-but_masks) (sym (fields-but_masks (λ g. g.var2) (λ g. refl)))
 
 -- a part of a list
 pub reading_part : (l : List hb_glyph_info_t) (p q : ℕ) → q ≤ length l → Reading l (part l p q)
 reading_part l p q in_l =
     let n = length-part l p q in_l in
     let e : (j : ℕ) → j < length (part l p q) → at (part l p q) j ≡ at l (p + j) = λ j lt.
-    let i : p + j - p ≡ j = omega arith in ap (at (part l p q)) (sym i) ∙ get_or-part l p q (p + j) zero_glyph (omega arith) (omega arith) in
+    let i : p + j - p ≡ j = omega arith in ap (at (part l p q)) (sym i)
+    ∙ get_or-part l p q (p + j) zero_glyph (omega arith) (omega arith) in
     record {
       from = λ j. p + j;
       up = λ i j le. omega arith;

@@ -30,7 +30,8 @@ pub fn end_scan_is_mark()
     ensures one { (bits : ℕ) (r : List hb_glyph_info_t) → IsMonotone r
         → end_mark bits r ≡ mark bits r }
     ensures two { (bits : ℕ) (r s : List hb_glyph_info_t) → IsMonotone (r ++ s)
-        → mark_part bits (ends_least r s) r ++ mark_part bits (ends_least r s) s ≡ mark bits (r ++ s) }
+        → mark_part bits (ends_least r s) r ++ mark_part bits (ends_least r s) s
+        ≡ mark bits (r ++ s) }
 {}
 
 // ---- what a merge changes
@@ -39,7 +40,8 @@ pub fn end_scan_is_mark()
 /// clusters occur among the glyphs that are merged.
 pub fn merge_shares_clusters()
     ensures { (l r : List hb_glyph_info_t) (i j : ℕ) → i < length l → j < length l
-        → (slice_index (clusters (cluster_merge l r)) i ≡ slice_index (clusters (cluster_merge l r)) j)
+        → (slice_index (clusters (cluster_merge l r)) i
+        ≡ slice_index (clusters (cluster_merge l r)) j)
         ↔ ((slice_index (clusters l) i ≡ slice_index (clusters l) j)
         ⊎ ((occurs (slice_index (clusters l) i) (clusters r) ≡ true)
         × (occurs (slice_index (clusters l) j) (clusters r) ≡ true))) }
@@ -154,14 +156,18 @@ pub fn no_cluster_is_new()
     ensures run_merge { (l : List hb_glyph_info_t) (p q floor c : ℕ) → q ≤ length l
         → occurs c (clusters (run_merge l p q floor)) ≡ true → occurs c (clusters l) ≡ true }
     ensures merge { (any_order : Bool) (l : List hb_glyph_info_t) (p q floor c : ℕ) → q ≤ length l
-        → occurs c (clusters (merge_or_mark any_order l p q floor)) ≡ true → occurs c (clusters l) ≡ true }
+        → occurs c (clusters (merge_or_mark any_order l p q floor)) ≡ true
+        → occurs c (clusters l) ≡ true }
     ensures deletion { (any_order : Bool) (out : List hb_glyph_info_t) (x : hb_glyph_info_t)
         (rest : List hb_glyph_info_t) (c : ℕ)
-        → occurs c (clusters ((deletion any_order out x rest).out ++ (deletion any_order out x rest).rest)) ≡ true
+        → occurs c (clusters ((deletion any_order out x rest).out
+        ++ (deletion any_order out x rest).rest)) ≡ true
         → occurs c (clusters (out ++ x ∷ rest)) ≡ true }
-    ensures replacement { (any_order : Bool) (l : List hb_glyph_info_t) (p q : ℕ) (ids : List ℕ) (c : ℕ)
+    ensures replacement { (any_order : Bool) (l : List hb_glyph_info_t) (p q : ℕ) (ids : List ℕ)
+        (c : ℕ)
         → p ≤ q → q ≤ length l → p < length l
-        → occurs c (clusters (replacement any_order l p q ids)) ≡ true → occurs c (clusters l) ≡ true }
+        → occurs c (clusters (replacement any_order l p q ids)) ≡ true
+        → occurs c (clusters l) ≡ true }
 {}
 
 /// Where merges change clusters, the least cluster stays, in any order of clusters: after a deletion while a
@@ -169,7 +175,8 @@ pub fn no_cluster_is_new()
 pub fn least_cluster_stays()
     ensures run_merge { (l : List hb_glyph_info_t) (p q floor : ℕ) → q ≤ length l
         → least (clusters (run_merge l p q floor)) ≡ least (clusters l) }
-    ensures deletion { (out : List hb_glyph_info_t) (x : hb_glyph_info_t) (rest : List hb_glyph_info_t)
+    ensures deletion { (out : List hb_glyph_info_t) (x : hb_glyph_info_t)
+        (rest : List hb_glyph_info_t)
         → 0 < length (out ++ rest)
         → least (clusters ((deletion false out x rest).out ++ (deletion false out x rest).rest))
         ≡ least (clusters (out ++ x ∷ rest)) }
@@ -190,7 +197,8 @@ pub fn added_bits_agree()
 
 /// Where each glyph that is unsafe to break is unsafe to concatenate too, that stays so.
 pub fn flags_still_agree()
-    ensures cluster_merge { (l r : List hb_glyph_info_t) → FlagsAgree l → FlagsAgree (cluster_merge l r) }
+    ensures cluster_merge { (l r : List hb_glyph_info_t) → FlagsAgree l
+        → FlagsAgree (cluster_merge l r) }
     ensures run_merge { (l : List hb_glyph_info_t) (p q floor : ℕ)
         → FlagsAgree l → FlagsAgree (run_merge l p q floor) }
     ensures merge { (any_order : Bool) (l : List hb_glyph_info_t) (p q floor : ℕ)

@@ -1,5 +1,6 @@
 -- One more glyph gets its number.
-use Rattle.std.proofs.Common.{◌≡◌, ℕ, zero, suc, ◌+◌, ◌%◌, ◌<◌, List, [], ◌∷◌, ◌++◌, length, take, drop, slice_index_or, slice_set, ap, ◌∙◌, arith}
+use Rattle.std.proofs.Common.{◌≡◌, ℕ, zero, suc, ◌+◌, ◌%◌, ◌<◌, List, [], ◌∷◌, ◌++◌, length, take, drop, slice_index_or}
+use Rattle.std.proofs.Common.{slice_set, ap, ◌∙◌, arith}
 use Rattle.rb_glyph.specs.declared.info.hb_glyph_info_t.{hb_glyph_info_t}
 use Rattle.glyph_lists.specs.ClusterNumbers.{reset_clusters}
 
@@ -11,11 +12,14 @@ abbrev pub reset_below : ℕ → ℕ → List hb_glyph_info_t → List hb_glyph_
 reset_below first i gs = reset_clusters first (take i gs) ++ drop i gs
 
 next : (first i n : ℕ) (gs : List hb_glyph_info_t) (d : hb_glyph_info_t) → i < length gs → n ≡ first + i
-    → slice_set (reset_below first i gs) i (numbered n (slice_index_or (reset_below first i gs) i d)) ≡ reset_below first (suc i) gs
+    → slice_set (reset_below first i gs) i (numbered n (slice_index_or (reset_below first i gs) i d))
+    ≡ reset_below first (suc i) gs
 next first i n [] d h is = absurd (omega arith)
 next first zero n (g ∷ gs) d h is = ap (λ m. numbered m g ∷ gs) (let e : n ≡ first = omega arith in e)
-next first (suc i) n (g ∷ gs) d h is = ap (λ l. numbered first g ∷ l) (next (first + 1) i n gs d (omega arith) (omega arith))
+next first (suc i) n (g ∷ gs) d h is =
+    ap (λ l. numbered first g ∷ l) (next (first + 1) i n gs d (omega arith) (omega arith))
 
 pub reset_next : (i : ℕ) (gs : List hb_glyph_info_t) (d : hb_glyph_info_t) → i < length gs
     → slice_set (reset_below 0 i gs) i (numbered i (slice_index_or (reset_below 0 i gs) i d)) ≡ reset_below 0 (i + 1) gs
-reset_next i gs d h = next 0 i i gs d h (omega arith) ∙ ap (λ k. reset_below 0 k gs) (let e : suc i ≡ i + 1 = omega arith in e)
+reset_next i gs d h =
+    next 0 i i gs d h (omega arith) ∙ ap (λ k. reset_below 0 k gs) (let e : suc i ≡ i + 1 = omega arith in e)

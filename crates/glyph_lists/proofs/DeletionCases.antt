@@ -1,5 +1,6 @@
 -- Deletion, case by case.
-use Rattle.std.proofs.Common.{◌≡◌, ℕ, ◌+◌, ◌-◌, ◌<◌, List, [], ◌∷◌, ◌++◌, length, get_or, take, drop, refl, sym, ap, ◌∙◌, arith, eqb, true, false, Bool}
+use Rattle.std.proofs.Common.{◌≡◌, ℕ, ◌+◌, ◌-◌, ◌<◌, List, [], ◌∷◌, ◌++◌, length, get_or, take, drop, refl, sym, ap}
+use Rattle.std.proofs.Common.{◌∙◌, arith, eqb, true, false, Bool}
 use Rattle.std.specs.Prelude.{not, nat_lt}
 use Rattle.std.proofs.lemmas.List.{drop_more, length-take-le}
 use Rattle.std.proofs.Math.Seq.{drop-append-add}
@@ -7,7 +8,8 @@ use Rattle.std.proofs.lemmas.Bool.{cond-true, cond-false, and_parts}
 use Rattle.rb_glyph.specs.declared.info.hb_glyph_info_t.{hb_glyph_info_t}
 use Rattle.glyph_lists.specs.Parts.{map_range}
 use Rattle.glyph_lists.specs.Clusters.{clusters, with_cluster, run_start, zero_glyph}
-use Rattle.glyph_lists.specs.Deletion.{begins_with, is_not_empty, last_cluster, has_neighbour_in, lowers_run, merges_next, merge_or_mark, with_trailing_run, deletion}
+use Rattle.glyph_lists.specs.Deletion.{begins_with, is_not_empty, last_cluster, has_neighbour_in, lowers_run}
+use Rattle.glyph_lists.specs.Deletion.{merges_next, merge_or_mark, with_trailing_run, deletion}
 use Rattle.glyph_lists.proofs.ClustersLemmas.{get_or-clusters}
 
 -- ---- neighbours
@@ -17,7 +19,8 @@ unfolding begins_with
 begins_none c [] h = refl
 begins_none c (g ∷ l) h = absurd (omega arith)
 
-pub begins_some : (c : ℕ) (l : List hb_glyph_info_t) (d : hb_glyph_info_t) → 0 < length l → begins_with c l ≡ eqb (get_or l 0 d).cluster c
+pub begins_some : (c : ℕ) (l : List hb_glyph_info_t) (d : hb_glyph_info_t) → 0 < length l
+    → begins_with c l ≡ eqb (get_or l 0 d).cluster c
 unfolding begins_with
 begins_some c [] d h = absurd (omega arith)
 begins_some c (g ∷ l) d h = refl
@@ -46,7 +49,8 @@ not_true : (b : Bool) → not b ≡ true → b ≡ false
 not_true true e = sym e
 not_true false e = refl
 
-pub last_at : (l : List hb_glyph_info_t) (d : hb_glyph_info_t) → 0 < length l → last_cluster l ≡ (get_or l (length l - 1) d).cluster
+pub last_at : (l : List hb_glyph_info_t) (d : hb_glyph_info_t) → 0 < length l
+    → last_cluster l ≡ (get_or l (length l - 1) d).cluster
 unfolding last_cluster
 last_at l d h = get_or-clusters l (length l - 1) d (omega arith)
 
@@ -54,7 +58,9 @@ pub ruleset neighbours = (begins_none, begins_some, not_empty_none, not_empty_so
 
 -- ---- the trailing run
 
-pub retold_from : (c w last a : ℕ) (l : List hb_glyph_info_t) → last ≡ last_cluster l → a ≡ run_start (clusters l) last 0 (length l) → map_range (with_cluster c w) l a (length l) ≡ with_trailing_run c w l
+pub retold_from : (c w last a : ℕ) (l : List hb_glyph_info_t) → last ≡ last_cluster l
+    → a ≡ run_start (clusters l) last 0 (length l) → map_range (with_cluster c w) l a (length l)
+    ≡ with_trailing_run c w l
 unfolding with_trailing_run
 retold_from c w last a l e h =
     ap (λ k. map_range (with_cluster c w) l k (length l))
@@ -66,12 +72,14 @@ pub nothing_taken : (out l : List hb_glyph_info_t) → length out ≡ 0 → take
 nothing_taken [] l h = refl
 nothing_taken (g ∷ out) l h = absurd (omega arith)
 
-nothing_before : (any_order : Bool) (out l : List hb_glyph_info_t) → length out ≡ 0 → drop (length out) (merge_or_mark any_order (out ++ l) 0 2 0) ≡ merge_or_mark any_order l 0 2 0
+nothing_before : (any_order : Bool) (out l : List hb_glyph_info_t) → length out ≡ 0
+    → drop (length out) (merge_or_mark any_order (out ++ l) 0 2 0) ≡ merge_or_mark any_order l 0 2 0
 nothing_before any_order [] l h = refl
 nothing_before any_order (g ∷ out) l h = absurd (omega arith)
 
 -- the rest of the input, once its first glyph has left
-pub rest_merged : (any_order : Bool) (out l l2 : List hb_glyph_info_t) (i : ℕ) → i < length l → length out ≡ 0 → l2 ≡ take i l ++ drop (length out) (merge_or_mark any_order (out ++ drop i l) 0 2 0)
+pub rest_merged : (any_order : Bool) (out l l2 : List hb_glyph_info_t) (i : ℕ) → i < length l → length out ≡ 0
+    → l2 ≡ take i l ++ drop (length out) (merge_or_mark any_order (out ++ drop i l) 0 2 0)
     → drop (i + 1) l2 ≡ drop 1 (merge_or_mark any_order (get_or l i zero_glyph ∷ drop (i + 1) l) 0 2 0)
 rest_merged any_order out l l2 i h none e =
     let n : length (take i l) ≡ i = length-take-le i l (omega arith) in
@@ -83,7 +91,8 @@ rest_merged any_order out l l2 i h none e =
 -- ---- the cases
 
 module _ (any_order : Bool) (out : List hb_glyph_info_t) (x : hb_glyph_info_t) (rest : List hb_glyph_info_t) where
-  pub deletion_lowers : lowers_run out x rest ≡ true → deletion any_order out x rest ≡ record { out = with_trailing_run x.cluster x.mask out; rest = rest }
+  pub deletion_lowers : lowers_run out x rest ≡ true
+      → deletion any_order out x rest ≡ record { out = with_trailing_run x.cluster x.mask out; rest = rest }
   unfolding deletion
   deletion_lowers h = cond-true _ _ _ h
 
@@ -92,20 +101,23 @@ module _ (any_order : Bool) (out : List hb_glyph_info_t) (x : hb_glyph_info_t) (
   unfolding deletion
   deletion_merges h h2 = cond-false _ _ _ h ∙ cond-true _ _ _ h2
 
-  pub deletion_drops : lowers_run out x rest ≡ false → merges_next out x rest ≡ false → deletion any_order out x rest ≡ record { out = out; rest = rest }
+  pub deletion_drops : lowers_run out x rest ≡ false → merges_next out x rest ≡ false
+      → deletion any_order out x rest ≡ record { out = out; rest = rest }
   unfolding deletion
   deletion_drops h h2 = cond-false _ _ _ h ∙ cond-false _ _ _ h2
 
 -- what either case says of the lists
 module _ (out : List hb_glyph_info_t) (x : hb_glyph_info_t) (rest : List hb_glyph_info_t) where
-  pub lowers_parts : lowers_run out x rest ≡ true → (is_not_empty out ≡ true) × (nat_lt x.cluster (last_cluster out) ≡ true)
+  pub lowers_parts : lowers_run out x rest ≡ true → (is_not_empty out ≡ true)
+      × (nat_lt x.cluster (last_cluster out) ≡ true)
   unfolding lowers_run
   lowers_parts h = and_parts (is_not_empty out) _ (and_parts (not (has_neighbour_in x.cluster out rest)) _ h).1
 
   pub merges_parts : merges_next out x rest ≡ true → (is_not_empty out ≡ false) × (is_not_empty rest ≡ true)
   unfolding merges_next
   merges_parts h =
-      let w = and_parts (not (is_not_empty out)) (is_not_empty rest) (and_parts (not (has_neighbour_in x.cluster out rest)) _ h).1 in
+      let w = and_parts (not (is_not_empty out)) (is_not_empty rest)
+      (and_parts (not (has_neighbour_in x.cluster out rest)) _ h).1 in
       (not_true (is_not_empty out) w.0, w.1)
 
   pub lowers_some : lowers_run out x rest ≡ true → 0 < length out

@@ -1,6 +1,8 @@
 -- A walk that maps a list in its place.
-use Rattle.std.proofs.Common.{◌≡◌, ℕ, ◌+◌, ◌<◌, ◌≤◌, List, [], ◌∷◌, ◌++◌, length, get_or, map, take, drop, set, sym, ap, ◌∙◌, arith}
-use Rattle.std.proofs.lemmas.List.{length-take-le, take_more, drop_more, set_at, get_or_at, map_push, append-nil, append_assoc, length-map, take_all, drop_all}
+use Rattle.std.proofs.Common.{◌≡◌, ℕ, ◌+◌, ◌<◌, ◌≤◌, List, [], ◌∷◌, ◌++◌, length, get_or, map, take, drop, set, sym, ap}
+use Rattle.std.proofs.Common.{◌∙◌, arith}
+use Rattle.std.proofs.lemmas.List.{length-take-le, take_more, drop_more, set_at, get_or_at, map_push, append-nil}
+use Rattle.std.proofs.lemmas.List.{append_assoc, length-map, take_all, drop_all}
 
 -- the list with f applied to its first n items
 abbrev pub mapped : {X : Type 0} → (X → X) → ℕ → List X → List X
@@ -25,6 +27,7 @@ module _ {X : Type 0} (f : X → X) (l : List X) (n : ℕ) where
       ∙ ap (λ xs. xs ++ drop (n + 1) l) (sym (ap (map f) (take_more l n d h) ∙ map_push f (take n l) (get_or l n d)))
 
   pub mapped_all : length l ≤ n → mapped f n l ≡ map f l
-  mapped_all h = ap (λ xs. map f xs ++ drop n l) (take_all n l h) ∙ ap (λ xs. map f l ++ xs) (drop_all n l h) ∙ append-nil (map f l)
+  mapped_all h = ap (λ xs. map f xs ++ drop n l) (take_all n l h) ∙ ap (λ xs. map f l ++ xs) (drop_all n l h)
+      ∙ append-nil (map f l)
 
 pub ruleset walks = (mapped_at, mapped_more, mapped_all)

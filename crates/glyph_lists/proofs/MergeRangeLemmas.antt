@@ -1,4 +1,15 @@
 -- The least cluster of a range, from a walk along it.
-use Rattle.glyph_lists.proofs.ClustersLemmas.{length-clusters, length_clusters-append, get_or-clusters, range_least_more, range_least_one, range_least_last, least_whole, least_nothing}
+use Rattle.glyph_lists.proofs.ClustersLemmas.{length-clusters, length_clusters-append, get_or-clusters}
+use Rattle.glyph_lists.proofs.ClustersLemmas.{range_least_more, range_least_one, range_least_last, least_whole}
+use Rattle.glyph_lists.proofs.ClustersLemmas.{least_nothing}
 
-pub ruleset walks = (length-clusters, length_clusters-append, get_or-clusters, range_least_more, range_least_one, range_least_last, least_whole, least_nothing)
+pub ruleset walks = (
+  length-clusters,
+  length_clusters-append,
+  get_or-clusters,
+  range_least_more,
+  range_least_one,
+  range_least_last,
+  least_whole,
+  least_nothing,
+)

@@ -1,7 +1,12 @@
 -- Ranges of a list: what stands in one, and a list of which one range is mapped.
-use Rattle.std.proofs.Common.{All, suc, ◌⊎◌, inl, inr, ◌≡◌, ℕ, ◌+◌, ◌-◌, ◌<◌, ◌≤◌, List, [], ◌∷◌, ◌++◌, length, get_or, map, take, drop, set, min, refl, sym, ap, ◌∙◌, arith, length-append, length-drop, length-take}
+use Rattle.std.proofs.Common.{All, suc, ◌⊎◌, inl, inr, ◌≡◌, ℕ, ◌+◌, ◌-◌, ◌<◌, ◌≤◌, List, [], ◌∷◌, ◌++◌, length, get_or}
+use Rattle.std.proofs.Common.{map, take, drop, set, min, refl, sym, ap, ◌∙◌, arith, length-append, length-drop}
+use Rattle.std.proofs.Common.{length-take}
 use Rattle.std.proofs.lemmas.Bool.{cases_lt}
-use Rattle.std.proofs.lemmas.List.{set-get_or, take_at, drop_at, length-take-le, same_lists, take_more, drop_more, set_at, map_push, append-nil, take-append-drop, get_or_append_left, get_or-append_right, get_or-take, get_or-drop, get_or-map, length-map, map-append, map-id, append_assoc}
+use Rattle.std.proofs.lemmas.List.{set-get_or, take_at, drop_at, length-take-le, same_lists, take_more, drop_more}
+use Rattle.std.proofs.lemmas.List.{set_at, map_push, append-nil, take-append-drop, get_or_append_left}
+use Rattle.std.proofs.lemmas.List.{get_or-append_right, get_or-take, get_or-drop, get_or-map, length-map, map-append}
+use Rattle.std.proofs.lemmas.List.{map-id, append_assoc}
 use Rattle.std.proofs.lemmas.List.Elements.{All-append, All-take, All-drop, All-map, All-weaker}
 use Rattle.glyph_lists.specs.Parts.{part, map_range}
 
@@ -12,7 +17,8 @@ pub length-part : {X : Type 0} (xs : List X) (a b : ℕ) → b ≤ length xs →
 length-part xs a b in_xs = simp (length-take, length-drop) (omega arith)
 
 -- the places of a part
-pub get_or-part : {X : Type 0} (xs : List X) (a b k : ℕ) (d : X) → a ≤ k → k < b → get_or (part xs a b) (k - a) d ≡ get_or xs k d
+pub get_or-part : {X : Type 0} (xs : List X) (a b k : ℕ) (d : X) → a ≤ k → k < b
+    → get_or (part xs a b) (k - a) d ≡ get_or xs k d
 get_or-part xs a b k d from_a before_b =
     let place : a + (k - a) ≡ k = omega arith in
     get_or-take (b - a) (drop a xs) (k - a) d (omega arith) ∙ get_or-drop a xs (k - a) d ∙ ap (λ j. get_or xs j d) place
@@ -31,9 +37,11 @@ module _ {X : Type 0} (f : X → X) (l : List X) (a b : ℕ) (up : a ≤ b) wher
       let n2 : k < length (take a l ++ map f (part l a b)) = simp (length-append, length-take) (omega arith) in
       rw (get_or_append_left, get_or_append_left, get_or-take) refl
 
-  pub map_range-within : (k : ℕ) (d : X) → a ≤ k → k < b → k < length l → get_or (map_range f l a b) k d ≡ f (get_or l k d)
+  pub map_range-within : (k : ℕ) (d : X) → a ≤ k → k < b → k < length l
+      → get_or (map_range f l a b) k d ≡ f (get_or l k d)
   map_range-within k d from_a before_b in_l =
-      let n2 : k < length (take a l ++ map f (part l a b)) = simp (length-append, length-map, length-take, length-drop) (omega arith) in
+      let n2 : k < length (take a l ++ map f (part l a b)) =
+      simp (length-append, length-map, length-take, length-drop) (omega arith) in
       let n3 : length (take a l) ≡ a = simp length-take (omega arith) in
       let n4 : k - a < length (part l a b) = simp (length-take, length-drop) (omega arith) in
       let n5 : k - a < b - a = omega arith in
@@ -45,7 +53,8 @@ module _ {X : Type 0} (f : X → X) (l : List X) (a b : ℕ) (up : a ≤ b) wher
 
   pub map_range-after : (k : ℕ) (d : X) → b ≤ k → k < length l → get_or (map_range f l a b) k d ≡ get_or l k d
   map_range-after k d from_b in_l =
-      let n3 : length (take a l ++ map f (part l a b)) ≡ b = simp (length-append, length-map, length-take, length-drop) (omega arith) in
+      let n3 : length (take a l ++ map f (part l a b)) ≡ b =
+      simp (length-append, length-map, length-take, length-drop) (omega arith) in
       let n6 : b + (k - b) ≡ k = omega arith in
       get_or-append_right (take a l ++ map f (part l a b)) (drop b l) b k d n3 from_b
       ∙ get_or-drop b l (k - b) d ∙ ap (λ j. get_or l j d) n6
@@ -53,7 +62,8 @@ module _ {X : Type 0} (f : X → X) (l : List X) (a b : ℕ) (up : a ≤ b) wher
 -- ---- one place more
 
 -- a part that ends one place later
-pub part_more : {X : Type 0} (xs : List X) (a i : ℕ) (d : X) → a ≤ i → i < length xs → part xs a (i + 1) ≡ part xs a i ++ get_or xs i d ∷ []
+pub part_more : {X : Type 0} (xs : List X) (a i : ℕ) (d : X) → a ≤ i → i < length xs
+    → part xs a (i + 1) ≡ part xs a i ++ get_or xs i d ∷ []
 part_more xs a i d from_a in_xs =
     let n : i + 1 - a ≡ i - a + 1 = omega arith in
     let m : a + (i - a) ≡ i = omega arith in
@@ -62,7 +72,8 @@ part_more xs a i d from_a in_xs =
     ∙ ap (λ x. take (i - a) (drop a xs) ++ x ∷ []) (get_or-drop a xs (i - a) d ∙ ap (λ j. get_or xs j d) m)
 
 -- one place more is mapped by a write at that place
-pub map_range_more : {X : Type 0} (f : X → X) (l : List X) (a i : ℕ) (y d : X) → a ≤ i → i < length l → y ≡ f (get_or l i d) → set (map_range f l a i) i y ≡ map_range f l a (i + 1)
+pub map_range_more : {X : Type 0} (f : X → X) (l : List X) (a i : ℕ) (y d : X) → a ≤ i → i < length l
+    → y ≡ f (get_or l i d) → set (map_range f l a i) i y ≡ map_range f l a (i + 1)
 map_range_more f l a i y d from_a in_l e =
     let p = take a l ++ map f (part l a i) in
     let n : length p ≡ i = simp (length-append, length-map, length-take, length-drop) (omega arith) in
@@ -71,31 +82,39 @@ map_range_more f l a i y d from_a in_l e =
     ∙ ap (λ z. p ++ z ∷ drop (i + 1) l) e
     ∙ sym (append_assoc p (f (get_or l i d) ∷ []) (drop (i + 1) l))
     ∙ ap (λ q. q ++ drop (i + 1) l) (append_assoc (take a l) (map f (part l a i)) (f (get_or l i d) ∷ []))
-    ∙ ap (λ q. take a l ++ q ++ drop (i + 1) l) (sym (ap (map f) (part_more l a i d from_a in_l) ∙ map_push f (part l a i) (get_or l i d)))
+    ∙ ap (λ q. take a l ++ q ++ drop (i + 1) l)
+    (sym (ap (map f) (part_more l a i d from_a in_l) ∙ map_push f (part l a i) (get_or l i d)))
 
 -- one place more at the front of a range
-pub map_range_front : {X : Type 0} (f : X → X) (l : List X) (s b : ℕ) (y d : X) → s < b → s < length l → y ≡ f (get_or l s d) → set (map_range f l (s + 1) b) s y ≡ map_range f l s b
+pub map_range_front : {X : Type 0} (f : X → X) (l : List X) (s b : ℕ) (y d : X) → s < b → s < length l
+    → y ≡ f (get_or l s d) → set (map_range f l (s + 1) b) s y ≡ map_range f l s b
 map_range_front f l s b y d some in_l e =
     let x = get_or l s d in
     let m = map f (part l (s + 1) b) in
     let n : length (take s l) ≡ s = simp length-take (omega arith) in
     let k : b - s ≡ suc (b - (s + 1)) = omega arith in
     let front : map_range f l (s + 1) b ≡ take s l ++ x ∷ (m ++ drop b l) =
-    ap (λ xs. xs ++ m ++ drop b l) (take_more l s d in_l) ∙ ap (λ xs. xs ++ drop b l) (append_assoc (take s l) (x ∷ []) m) ∙ append_assoc (take s l) (x ∷ m) (drop b l) in
-    let range : part l s b ≡ x ∷ part l (s + 1) b = ap (λ j. take j (drop s l)) k ∙ ap (take (suc (b - (s + 1)))) (drop_more l s d in_l) in
-    ap (λ xs. set xs s y) front ∙ set_at (take s l) x (m ++ drop b l) y s n ∙ ap (λ z. take s l ++ z ∷ (m ++ drop b l)) e
+    ap (λ xs. xs ++ m ++ drop b l) (take_more l s d in_l)
+    ∙ ap (λ xs. xs ++ drop b l) (append_assoc (take s l) (x ∷ []) m) ∙ append_assoc (take s l) (x ∷ m) (drop b l) in
+    let range : part l s b ≡ x ∷ part l (s + 1) b =
+    ap (λ j. take j (drop s l)) k ∙ ap (take (suc (b - (s + 1)))) (drop_more l s d in_l) in
+    ap (λ xs. set xs s y) front ∙ set_at (take s l) x (m ++ drop b l) y s n
+    ∙ ap (λ z. take s l ++ z ∷ (m ++ drop b l)) e
     ∙ sym (append_assoc (take s l) (f x ∷ m) (drop b l))
     ∙ sym (ap (λ xs. take s l ++ map f xs ++ drop b l) range)
 
 -- the next place after a mapped range, and the one before it, are as they were
-pub map_range_next : {X : Type 0} (f : X → X) (l : List X) (a b : ℕ) (d : X) → a ≤ b → b < length l → get_or (map_range f l a b) b d ≡ get_or l b d
+pub map_range_next : {X : Type 0} (f : X → X) (l : List X) (a b : ℕ) (d : X) → a ≤ b → b < length l
+    → get_or (map_range f l a b) b d ≡ get_or l b d
 map_range_next f l a b d up in_l = map_range-after f l a b up b d (omega arith) in_l
 
-pub map_range_last : {X : Type 0} (f : X → X) (l : List X) (a b : ℕ) (d : X) → 0 < a → a ≤ b → a ≤ length l → get_or (map_range f l a b) (a - 1) d ≡ get_or l (a - 1) d
+pub map_range_last : {X : Type 0} (f : X → X) (l : List X) (a b : ℕ) (d : X) → 0 < a → a ≤ b → a ≤ length l
+    → get_or (map_range f l a b) (a - 1) d ≡ get_or l (a - 1) d
 map_range_last f l a b d some up in_l = map_range-before f l a b up (a - 1) d (omega arith) (omega arith)
 
 -- an end of the range that f leaves as it is
-pub map_range_after_first : {X : Type 0} (f : X → X) (l : List X) (s b : ℕ) (d : X) → s < b → s < length l → f (get_or l s d) ≡ get_or l s d
+pub map_range_after_first : {X : Type 0} (f : X → X) (l : List X) (s b : ℕ) (d : X) → s < b → s < length l
+    → f (get_or l s d) ≡ get_or l s d
     → map_range f l (s + 1) b ≡ map_range f l s b
 map_range_after_first f l s b d some in_l same =
     let m = map_range f l (s + 1) b in
@@ -103,7 +122,8 @@ map_range_after_first f l s b d some in_l same =
     ∙ ap (set m s) (map_range-before f l (s + 1) b (omega arith) s d (omega arith) in_l)
     ∙ map_range_front f l s b (get_or l s d) d some in_l (sym same)
 
-pub map_range_to_last : {X : Type 0} (f : X → X) (l : List X) (a i : ℕ) (d : X) → a ≤ i → i < length l → f (get_or l i d) ≡ get_or l i d
+pub map_range_to_last : {X : Type 0} (f : X → X) (l : List X) (a i : ℕ) (d : X) → a ≤ i → i < length l
+    → f (get_or l i d) ≡ get_or l i d
     → map_range f l a i ≡ map_range f l a (i + 1)
 map_range_to_last f l a i d up in_l same =
     let m = map_range f l a i in
@@ -115,7 +135,8 @@ map_range_to_last f l a i d up in_l same =
 pub map_range_none : {X : Type 0} (f : X → X) (l : List X) (a : ℕ) → map_range f l a a ≡ l
 map_range_none f l a =
     let n : a - a ≡ 0 = omega arith in
-    ap (λ k. take a l ++ map f (take k (drop a l)) ++ drop a l) n ∙ ap (λ x. x ++ drop a l) (append-nil (take a l)) ∙ take-append-drop a l
+    ap (λ k. take a l ++ map f (take k (drop a l)) ++ drop a l) n ∙ ap (λ x. x ++ drop a l) (append-nil (take a l))
+    ∙ take-append-drop a l
 
 -- ---- what a mapped range leaves as it is
 
@@ -136,30 +157,37 @@ map_range_same f same l a b up =
 
 -- a list is what stands before a part, the part, and what stands after it
 pub parts_whole : {X : Type 0} (l : List X) (a b : ℕ) → a ≤ b → take a l ++ part l a b ++ drop b l ≡ l
-parts_whole l a b up = ap (λ xs. take a l ++ xs ++ drop b l) (sym (map-id (part l a b))) ∙ map_range_same (λ x. x) (λ x. refl) l a b up
+parts_whole l a b up =
+    ap (λ xs. take a l ++ xs ++ drop b l) (sym (map-id (part l a b))) ∙ map_range_same (λ x. x) (λ x. refl) l a b up
 
 -- g reads the same of a list with a new part, if it does of the part
-pub map-new_part : {X Y : Type 0} (g : X → Y) (l new : List X) (a b : ℕ) → a ≤ b → map g new ≡ map g (part l a b) → map g (take a l ++ new ++ drop b l) ≡ map g l
+pub map-new_part : {X Y : Type 0} (g : X → Y) (l new : List X) (a b : ℕ) → a ≤ b → map g new ≡ map g (part l a b)
+    → map g (take a l ++ new ++ drop b l) ≡ map g l
 map-new_part g l new a b up same =
     map-append g (take a l ++ new) (drop b l)
-    ∙ ap (λ ys. ys ++ map g (drop b l)) (map-append g (take a l) new ∙ ap (λ ys. map g (take a l) ++ ys) same ∙ sym (map-append g (take a l) (part l a b)))
+    ∙ ap (λ ys. ys ++ map g (drop b l)) (map-append g (take a l) new ∙ ap (λ ys. map g (take a l) ++ ys) same
+    ∙ sym (map-append g (take a l) (part l a b)))
     ∙ sym (map-append g (take a l ++ part l a b) (drop b l)) ∙ ap (map g) (parts_whole l a b up)
 
 -- g reads the same of each element that f changes
-pub map-map_same : {X Y : Type 0} (g : X → Y) (f : X → X) → ((x : X) → g (f x) ≡ g x) → (l : List X) → map g (map f l) ≡ map g l
+pub map-map_same : {X Y : Type 0} (g : X → Y) (f : X → X) → ((x : X) → g (f x) ≡ g x) → (l : List X)
+    → map g (map f l) ≡ map g l
 map-map_same g f same [] = refl
 map-map_same g f same (x ∷ l) = ap (λ y. y ∷ map g (map f l)) (same x) ∙ ap (λ ys. g x ∷ ys) (map-map_same g f same l)
 
 -- and of each element that f changes in a range
-pub map-map_range : {X Y : Type 0} (g : X → Y) (f : X → X) → ((x : X) → g (f x) ≡ g x) → (l : List X) (a b : ℕ) → a ≤ b → map g (map_range f l a b) ≡ map g l
+pub map-map_range : {X Y : Type 0} (g : X → Y) (f : X → X) → ((x : X) → g (f x) ≡ g x) → (l : List X) (a b : ℕ) → a ≤ b
+    → map g (map_range f l a b) ≡ map g l
 map-map_range g f same l a b up = map-new_part g l (map f (part l a b)) a b up (map-map_same g f same (part l a b))
 
 -- what f keeps of an element holds of all
-pub All-map_range : {X : Type 0} (P : X → Type 0) (f : X → X) → ((x : X) → P x → P (f x)) → (l : List X) (a b : ℕ) → All P l → All P (map_range f l a b)
+pub All-map_range : {X : Type 0} (P : X → Type 0) (f : X → X) → ((x : X) → P x → P (f x)) → (l : List X) (a b : ℕ)
+    → All P l → All P (map_range f l a b)
 All-map_range P f keeps l a b all =
     All-append P (take a l ++ map f (part l a b)) (drop b l)
     (All-append P (take a l) (map f (part l a b)) (All-take P a l all)
-    (All-map P f (part l a b) (All-weaker P (λ x. P (f x)) keeps (part l a b) (All-take P (b - a) (drop a l) (All-drop P a l all)))))
+    (All-map P f (part l a b) (All-weaker P (λ x. P (f x)) keeps (part l a b)
+    (All-take P (b - a) (drop a l) (All-drop P a l all)))))
     (All-drop P b l all)
 
 -- ---- a range over two lists, one after the other
@@ -174,7 +202,8 @@ map_range-append f xs ys a b up =
     let n2 = length-map_range f ys (a - length xs) (b - length xs) up2 in
     let zs = map_range f xs a b in
     let ws = map_range f ys (a - length xs) (b - length xs) in
-    same_lists _ _ (n ∙ length-append xs ys ∙ sym (length-append zs ws ∙ ap (λ k. k + length ws) n1 ∙ ap (λ k. length xs + k) n2))
+    same_lists _ _ (n ∙ length-append xs ys
+    ∙ sym (length-append zs ws ∙ ap (λ k. k + length ws) n1 ∙ ap (λ k. length xs + k) n2))
     (λ k d h.
     let in_l : k < length (xs ++ ys) = omega arith in
     let all = length-append xs ys in
@@ -183,10 +212,13 @@ map_range-append f xs ys a b up =
           let old = get_or_append_left xs ys d k lt in
           let new = get_or_append_left zs ws d k (omega arith) in
           elim (cases_lt k a) [
-            | inl l1 ↦ map_range-before f (xs ++ ys) a b up k d l1 in_l ∙ old ∙ sym (new ∙ map_range-before f xs a b up k d l1 lt)
+            | inl l1 ↦ map_range-before f (xs ++ ys) a b up k d l1 in_l ∙ old
+                ∙ sym (new ∙ map_range-before f xs a b up k d l1 lt)
             | inr g1 ↦ elim (cases_lt k b) [
-              | inl l2 ↦ map_range-within f (xs ++ ys) a b up k d g1 l2 in_l ∙ ap f old ∙ sym (new ∙ map_range-within f xs a b up k d g1 l2 lt)
-              | inr g2 ↦ map_range-after f (xs ++ ys) a b up k d g2 in_l ∙ old ∙ sym (new ∙ map_range-after f xs a b up k d g2 lt)
+              | inl l2 ↦ map_range-within f (xs ++ ys) a b up k d g1 l2 in_l ∙ ap f old
+                  ∙ sym (new ∙ map_range-within f xs a b up k d g1 l2 lt)
+              | inr g2 ↦ map_range-after f (xs ++ ys) a b up k d g2 in_l ∙ old
+                  ∙ sym (new ∙ map_range-after f xs a b up k d g2 lt)
             ]
           ]
       | inr ge ↦
@@ -195,39 +227,50 @@ map_range-append f xs ys a b up =
           let old = get_or-append_right xs ys (length xs) k d refl ge in
           let new = get_or-append_right zs ws (length xs) k d n1 ge in
           elim (cases_lt k a) [
-            | inl l1 ↦ map_range-before f (xs ++ ys) a b up k d l1 in_l ∙ old ∙ sym (new ∙ map_range-before f ys (a - length xs) (b - length xs) up2 j d (omega arith) in_ys)
+            | inl l1 ↦ map_range-before f (xs ++ ys) a b up k d l1 in_l ∙ old
+                ∙ sym (new ∙ map_range-before f ys (a - length xs) (b - length xs) up2 j d (omega arith) in_ys)
             | inr g1 ↦ elim (cases_lt k b) [
-              | inl l2 ↦ map_range-within f (xs ++ ys) a b up k d g1 l2 in_l ∙ ap f old ∙ sym (new ∙ map_range-within f ys (a - length xs) (b - length xs) up2 j d (omega arith) (omega arith) in_ys)
-              | inr g2 ↦ map_range-after f (xs ++ ys) a b up k d g2 in_l ∙ old ∙ sym (new ∙ map_range-after f ys (a - length xs) (b - length xs) up2 j d (omega arith) in_ys)
+              | inl l2 ↦ map_range-within f (xs ++ ys) a b up k d g1 l2 in_l ∙ ap f old
+                  ∙ sym (new ∙ map_range-within f ys (a - length xs) (b - length xs) up2 j d (omega arith) (omega arith)
+                  in_ys)
+              | inr g2 ↦ map_range-after f (xs ++ ys) a b up k d g2 in_l ∙ old
+                  ∙ sym (new ∙ map_range-after f ys (a - length xs) (b - length xs) up2 j d (omega arith) in_ys)
             ]
           ]
     ])
 
 -- the end of a range may be cut at the list's
-pub map_range_cut : {X : Type 0} (f : X → X) (xs : List X) (a b : ℕ) → a ≤ min b (length xs) → map_range f xs a (min b (length xs)) ≡ map_range f xs a b
+pub map_range_cut : {X : Type 0} (f : X → X) (xs : List X) (a b : ℕ) → a ≤ min b (length xs)
+    → map_range f xs a (min b (length xs)) ≡ map_range f xs a b
 map_range_cut f xs a b low =
-    let n : length (map_range f xs a (min b (length xs))) ≡ length (map_range f xs a b) = length-map_range f xs a (min b (length xs)) low ∙ sym (length-map_range f xs a b (omega arith)) in
+    let n : length (map_range f xs a (min b (length xs))) ≡ length (map_range f xs a b) =
+    length-map_range f xs a (min b (length xs)) low ∙ sym (length-map_range f xs a b (omega arith)) in
     same_lists _ _ n
     (λ k d in_cut.
     let in_l : k < length xs = omega (arith, length-map_range f xs a (min b (length xs)) low) in
     elim (cases_lt k a) [
-      | inl l1 ↦ map_range-before f xs a (min b (length xs)) low k d l1 in_l ∙ sym (map_range-before f xs a b (omega arith) k d l1 in_l)
+      | inl l1 ↦ map_range-before f xs a (min b (length xs)) low k d l1 in_l
+          ∙ sym (map_range-before f xs a b (omega arith) k d l1 in_l)
       | inr g1 ↦ elim (cases_lt k b) [
-        | inl l2 ↦ map_range-within f xs a (min b (length xs)) low k d g1 (omega arith) in_l ∙ sym (map_range-within f xs a b (omega arith) k d g1 l2 in_l)
-        | inr g2 ↦ map_range-after f xs a (min b (length xs)) low k d (omega arith) in_l ∙ sym (map_range-after f xs a b (omega arith) k d g2 in_l)
+        | inl l2 ↦ map_range-within f xs a (min b (length xs)) low k d g1 (omega arith) in_l
+            ∙ sym (map_range-within f xs a b (omega arith) k d g1 l2 in_l)
+        | inr g2 ↦ map_range-after f xs a (min b (length xs)) low k d (omega arith) in_l
+            ∙ sym (map_range-after f xs a b (omega arith) k d g2 in_l)
       ]
     ])
 
 -- a range past the list
 pub map_range_past : {X : Type 0} (f : X → X) (xs : List X) (a b : ℕ) → a ≤ b → length xs ≤ a → map_range f xs a b ≡ xs
 map_range_past f xs a b up past =
-    same_lists _ _ (length-map_range f xs a b up) (λ k d in_xs. let n = length-map_range f xs a b up in map_range-before f xs a b up k d (omega arith) (omega arith))
+    same_lists _ _ (length-map_range f xs a b up) (λ k d in_xs. let n = length-map_range f xs a b up in
+    map_range-before f xs a b up k d (omega arith) (omega arith))
 
 -- ---- a range of one storage, read as its first o places and those from i on
 
 module _ {X : Type 0} (f : X → X) (l : List X) where
   -- the storage cut at n
-  map_range-cut_at : (n a b : ℕ) → a ≤ b → n ≤ length l → map_range f l a b ≡ map_range f (take n l) a b ++ map_range f (drop n l) (a - n) (b - n)
+  map_range-cut_at : (n a b : ℕ) → a ≤ b → n ≤ length l
+      → map_range f l a b ≡ map_range f (take n l) a b ++ map_range f (drop n l) (a - n) (b - n)
   map_range-cut_at n a b up in_l =
       let e : length (take n l) ≡ n = length-take-le n l in_l in
       ap (λ x. map_range f x a b) (sym (take-append-drop n l)) ∙ map_range-append f (take n l) (drop n l) a b up
@@ -240,34 +283,41 @@ module _ {X : Type 0} (f : X → X) (l : List X) where
       ∙ take_at (map_range f (take n l) a b) _ n (length-map_range f (take n l) a b up ∙ length-take-le n l in_l)
 
   -- the places from n on
-  pub drop-map_range : (n a b : ℕ) → a ≤ b → n ≤ length l → drop n (map_range f l a b) ≡ map_range f (drop n l) (a - n) (b - n)
+  pub drop-map_range : (n a b : ℕ) → a ≤ b → n ≤ length l
+      → drop n (map_range f l a b) ≡ map_range f (drop n l) (a - n) (b - n)
   drop-map_range n a b up in_l =
       ap (drop n) (map_range-cut_at n a b up in_l)
       ∙ drop_at (map_range f (take n l) a b) _ n (length-map_range f (take n l) a b up ∙ length-take-le n l in_l)
 
   -- a range of the first o places
   pub sides_low : (o i a b : ℕ) → o ≤ i → i ≤ length l → a ≤ min b o
-      → take o (map_range f l a (min b o)) ++ drop i (map_range f l a (min b o)) ≡ map_range f (take o l) a b ++ drop i l
+      → take o (map_range f l a (min b o)) ++ drop i (map_range f l a (min b o))
+      ≡ map_range f (take o l) a b ++ drop i l
   sides_low o i a b apart in_l up =
       let e : length (take o l) ≡ o = length-take-le o l (omega arith) in
       let z : a - i ≡ 0 = omega arith in
       let z2 : min b o - i ≡ 0 = omega arith in
       ap (λ x. x ++ drop i (map_range f l a (min b o)))
-      (take-map_range o a (min b o) up (omega arith) ∙ ap (λ k. map_range f (take o l) a (min b k)) (sym e) ∙ map_range_cut f (take o l) a b (omega arith))
+      (take-map_range o a (min b o) up (omega arith) ∙ ap (λ k. map_range f (take o l) a (min b k)) (sym e)
+      ∙ map_range_cut f (take o l) a b (omega arith))
       ∙ ap (λ x. map_range f (take o l) a b ++ x)
-      (drop-map_range i a (min b o) up in_l ∙ ap (λ k. map_range f (drop i l) k (min b o - i)) z ∙ ap (λ k. map_range f (drop i l) 0 k) z2 ∙ map_range_none f (drop i l) 0)
+      (drop-map_range i a (min b o) up in_l ∙ ap (λ k. map_range f (drop i l) k (min b o - i)) z
+      ∙ ap (λ k. map_range f (drop i l) 0 k) z2 ∙ map_range_none f (drop i l) 0)
 
   -- a range of the places from i on
   pub sides_high : (o i c d : ℕ) → o ≤ i → i ≤ length l → c ≤ d
-      → take o (map_range f l (i + c) (i + d)) ++ drop i (map_range f l (i + c) (i + d)) ≡ take o l ++ map_range f (drop i l) c d
+      → take o (map_range f l (i + c) (i + d)) ++ drop i (map_range f l (i + c) (i + d))
+      ≡ take o l ++ map_range f (drop i l) c d
   sides_high o i c d apart in_l up =
       let e : length (take o l) ≡ o = length-take-le o l (omega arith) in
       let z : i + c - i ≡ c = omega arith in
       let z2 : i + d - i ≡ d = omega arith in
       ap (λ x. x ++ drop i (map_range f l (i + c) (i + d)))
-      (take-map_range o (i + c) (i + d) (omega arith) (omega arith) ∙ map_range_past f (take o l) (i + c) (i + d) (omega arith) (omega arith))
+      (take-map_range o (i + c) (i + d) (omega arith) (omega arith)
+      ∙ map_range_past f (take o l) (i + c) (i + d) (omega arith) (omega arith))
       ∙ ap (λ x. take o l ++ x)
-      (drop-map_range i (i + c) (i + d) (omega arith) in_l ∙ ap (λ k. map_range f (drop i l) k (i + d - i)) z ∙ ap (λ k. map_range f (drop i l) c k) z2)
+      (drop-map_range i (i + c) (i + d) (omega arith) in_l ∙ ap (λ k. map_range f (drop i l) k (i + d - i)) z
+      ∙ ap (λ k. map_range f (drop i l) c k) z2)
 
 -- what a body does that writes the two parts one after the other: `l1` after the first, `l2` after both
 pub sides_set : {X : Type 0} (f : X → X) (l l1 l2 : List X) (o i a b : ℕ) → o ≤ i → i ≤ length l → a ≤ b
@@ -276,8 +326,10 @@ pub sides_set : {X : Type 0} (f : X → X) (l l1 l2 : List X) (o i a b : ℕ) �
     → take o l2 ++ drop i l2 ≡ map_range f (take o l ++ drop i l) a b
 sides_set f l l1 l2 o i a b apart in_l up first second =
     let e : length (take o l) ≡ o = length-take-le o l (omega arith) in
-    let rhs : map_range f (take o l ++ drop i l) a b ≡ map_range f (take o l) a b ++ map_range f (drop i l) (a - o) (b - o) =
-    map_range-append f (take o l) (drop i l) a b up ∙ ap (λ k. map_range f (take o l) a b ++ map_range f (drop i l) (a - k) (b - k)) e in
+    let rhs : map_range f (take o l ++ drop i l) a b ≡ map_range f (take o l) a b
+    ++ map_range f (drop i l) (a - o) (b - o) =
+    map_range-append f (take o l) (drop i l) a b up
+    ∙ ap (λ k. map_range f (take o l) a b ++ map_range f (drop i l) (a - k) (b - k)) e in
     let n : length l1 ≡ length l = elim first [
       | inl w ↦ ap length w.1 ∙ length-map_range f l a (min b o) (omega (arith, w.0))
       | inr w ↦ ap length w.1
@@ -291,17 +343,21 @@ sides_set f l l1 l2 o i a b apart in_l up first second =
       | inl w ↦
           let z : a - i ≡ 0 = omega (arith, w.0) in
           let z2 : min b o - i ≡ 0 = omega arith in
-          ap (drop i) w.1 ∙ drop-map_range f l i a (min b o) (omega (arith, w.0)) in_l ∙ ap (λ k. map_range f (drop i l) k (min b o - i)) z ∙ ap (λ k. map_range f (drop i l) 0 k) z2 ∙ map_range_none f (drop i l) 0
+          ap (drop i) w.1 ∙ drop-map_range f l i a (min b o) (omega (arith, w.0)) in_l
+          ∙ ap (λ k. map_range f (drop i l) k (min b o - i)) z ∙ ap (λ k. map_range f (drop i l) 0 k) z2
+          ∙ map_range_none f (drop i l) 0
       | inr w ↦ ap (drop i) w.1
     ] in
     elim second [
       | inl w ↦ ap (λ x. take o x ++ drop i x) w.1
           ∙ sides_high f l1 o i (a - o) (b - o) apart (omega arith) (omega arith)
-          ∙ ap (λ x. x ++ map_range f (drop i l1) (a - o) (b - o)) low ∙ ap (λ x. map_range f (take o l) a b ++ map_range f x (a - o) (b - o)) high ∙ sym rhs
+          ∙ ap (λ x. x ++ map_range f (drop i l1) (a - o) (b - o)) low
+          ∙ ap (λ x. map_range f (take o l) a b ++ map_range f x (a - o) (b - o)) high ∙ sym rhs
       | inr w ↦
           let z : a - o ≡ 0 = omega (arith, w.0) in
           let z2 : b - o ≡ 0 = omega (arith, w.0) in
-          let same : map_range f (drop i l) (a - o) (b - o) ≡ drop i l = ap (λ k. map_range f (drop i l) k (b - o)) z ∙ ap (λ k. map_range f (drop i l) 0 k) z2 ∙ map_range_none f (drop i l) 0 in
+          let same : map_range f (drop i l) (a - o) (b - o) ≡ drop i l = ap (λ k. map_range f (drop i l) k (b - o)) z
+          ∙ ap (λ k. map_range f (drop i l) 0 k) z2 ∙ map_range_none f (drop i l) 0 in
           ap (λ x. take o x ++ drop i x) w.1
           ∙ ap (λ x. x ++ drop i l1) low ∙ ap (λ x. map_range f (take o l) a b ++ x) (high ∙ sym same) ∙ sym rhs
     ]

@@ -1,7 +1,9 @@
 -- Lists that are put into reverse order from both ends on.
-use Rattle.std.proofs.Common.{◌⊎◌, inl, inr, ◌≡◌, ℕ, ◌+◌, ◌-◌, ◌*◌, ◌<◌, ◌≤◌, ◌/◌, List, length, get_or, set, reverse, refl, sym, ap, ◌∙◌, arith}
+use Rattle.std.proofs.Common.{◌⊎◌, inl, inr, ◌≡◌, ℕ, ◌+◌, ◌-◌, ◌*◌, ◌<◌, ◌≤◌, ◌/◌, List, length, get_or, set, reverse}
+use Rattle.std.proofs.Common.{refl, sym, ap, ◌∙◌, arith}
 use Rattle.std.proofs.lemmas.Bool.{cases_lt}
-use Rattle.std.proofs.lemmas.List.{get_or-set_same, get_or-set_other, get_or-reverse, length-set, length-reverse, same_lists}
+use Rattle.std.proofs.lemmas.List.{get_or-set_same, get_or-set_other, get_or-reverse, length-set, length-reverse}
+use Rattle.std.proofs.lemmas.List.{same_lists}
 
 -- ys is xs after the first i items have changed places with the last i
 pub record IsTurned {X : Type 0} (xs ys : List X) (i : ℕ) : Type 0 where
@@ -28,11 +30,13 @@ turned_more xs ys i x y room first last t =
     let zs = set ys i y in
     let long : length zs ≡ n = length-set ys i y ∙ t.long in
     let at_first = λ (k : ℕ) (d : _) (e : k ≡ i).
-    ap (λ p. get_or (set zs j x) p d) e ∙ get_or-set_other zs j i x d (omega arith) ∙ get_or-set_same ys i y d (omega (arith, t.long))
+    ap (λ p. get_or (set zs j x) p d) e ∙ get_or-set_other zs j i x d (omega arith)
+    ∙ get_or-set_same ys i y d (omega (arith, t.long))
     ∙ last d ∙ t.between j d (omega arith) (omega arith) ∙ ap (λ p. get_or xs (n - 1 - p) d) (sym e) in
     let mirrored : (k : ℕ) → k ≡ j → i ≡ n - 1 - k = λ k e. omega arith in
     let at_last = λ (k : ℕ) (d : _) (e : k ≡ j).
-    ap (λ p. get_or (set zs j x) p d) e ∙ get_or-set_same zs j x d (omega (arith, long)) ∙ first d ∙ t.between i d (omega arith) (omega arith)
+    ap (λ p. get_or (set zs j x) p d) e ∙ get_or-set_same zs j x d (omega (arith, long)) ∙ first d
+    ∙ t.between i d (omega arith) (omega arith)
     ∙ ap (λ p. get_or xs p d) (mirrored k e) in
     let other = λ (k : ℕ) (d : _) (low : k < i ⊎ i < k) (high : k < j ⊎ j < k).
     get_or-set_other zs j k x d (omega arith) ∙ get_or-set_other ys i k y d (omega arith) in record {
@@ -45,7 +49,8 @@ turned_more xs ys i x y room first last t =
         | inl lt ↦ other k d (inr (omega arith)) (inr lt) ∙ t.after k d (omega arith) h
         | inr ge ↦ at_last k d (omega arith)
       ];
-      between = λ k d low high. other k d (inr (omega arith)) (inl (omega arith)) ∙ t.between k d (omega arith) (omega arith);
+      between =
+          λ k d low high. other k d (inr (omega arith)) (inl (omega arith)) ∙ t.between k d (omega arith) (omega arith);
     }
 
 -- at the middle all of it is in reverse order

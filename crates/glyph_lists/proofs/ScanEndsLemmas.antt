@@ -1,14 +1,17 @@
 -- The places where a scan by the ends begins and stops, and the least of the ends.
-use Rattle.std.proofs.Common.{◌≡◌, ℕ, suc, ◌+◌, ◌-◌, ◌<◌, ◌≤◌, List, [], ◌∷◌, ◌++◌, length, get_or, take, drop, min, not, inl, inr, refl, ap, ◌∙◌, arith, eqb}
+use Rattle.std.proofs.Common.{◌≡◌, ℕ, suc, ◌+◌, ◌-◌, ◌<◌, ◌≤◌, List, [], ◌∷◌, ◌++◌, length, get_or, take, drop, min}
+use Rattle.std.proofs.Common.{not, inl, inr, refl, ap, ◌∙◌, arith, eqb}
 use Rattle.std.specs.List.{prefix_len, suffix_len}
 use Rattle.std.proofs.lemmas.List.{take_all, append-nil}
-use Rattle.std.proofs.lemmas.List.Sums.{prefix_len-drop_yes, prefix_len-drop_no, prefix_len-drop_all, suffix_len-take_yes, suffix_len-take_no}
+use Rattle.std.proofs.lemmas.List.Sums.{prefix_len-drop_yes, prefix_len-drop_no, prefix_len-drop_all}
+use Rattle.std.proofs.lemmas.List.Sums.{suffix_len-take_yes, suffix_len-take_no}
 use Rattle.std.proofs.lemmas.Bool.{eq-eqb, ne_eqb, cond-true, cond-false, cases_Bool}
 use Rattle.rb_glyph.specs.declared.info.hb_glyph_info_t.{hb_glyph_info_t}
 use Rattle.glyph_lists.specs.Parts.{map_range}
 use Rattle.glyph_lists.specs.Clusters.{clusters, least}
 use Rattle.glyph_lists.specs.Marks.{with_glyph_flags, mark_others, mark_part, ends, ends_least}
-use Rattle.glyph_lists.proofs.PartsLemmas.{length-map_range, map_range_none, map_range_more, map_range_front, map_range_next, map_range_last, map_range_past}
+use Rattle.glyph_lists.proofs.PartsLemmas.{length-map_range, map_range_none, map_range_more, map_range_front}
+use Rattle.glyph_lists.proofs.PartsLemmas.{map_range_next, map_range_last, map_range_past}
 use Rattle.glyph_lists.proofs.ClustersLemmas.{length-clusters, get_or-clusters, clusters-append}
 
 -- where the first c stands from place q on
@@ -19,7 +22,8 @@ first_from c cs q = q + prefix_len (λ d. not (eqb d c)) (drop q cs)
 unfoldable pub last_before : ℕ → List ℕ → ℕ → ℕ
 last_before c cs q = q - suffix_len (λ d. not (eqb d c)) (take q cs)
 
-pub first_more : (c : ℕ) (cs : List ℕ) (q : ℕ) → q < length cs → (get_or cs q 0 ≡ c → ⊥) → first_from c cs (q + 1) ≡ first_from c cs q
+pub first_more : (c : ℕ) (cs : List ℕ) (q : ℕ) → q < length cs → (get_or cs q 0 ≡ c → ⊥)
+    → first_from c cs (q + 1) ≡ first_from c cs q
 unfolding first_from
 first_more c cs q h off = omega (arith, prefix_len-drop_yes (λ d. not (eqb d c)) cs q 0 h (ap not (ne_eqb _ c off)))
 
@@ -35,9 +39,11 @@ pub first_is : (c : ℕ) (cs : List ℕ) → first_from c cs 0 ≡ prefix_len (�
 unfolding first_from
 first_is c cs = omega arith
 
-pub last_more : (c : ℕ) (cs : List ℕ) (q : ℕ) → 0 < q → q ≤ length cs → (get_or cs (q - 1) 0 ≡ c → ⊥) → last_before c cs (q - 1) ≡ last_before c cs q
+pub last_more : (c : ℕ) (cs : List ℕ) (q : ℕ) → 0 < q → q ≤ length cs → (get_or cs (q - 1) 0 ≡ c → ⊥)
+    → last_before c cs (q - 1) ≡ last_before c cs q
 unfolding last_before
-last_more c cs q h h2 off = omega (arith, suffix_len-take_yes (λ d. not (eqb d c)) cs q 0 h h2 (ap not (ne_eqb _ c off)))
+last_more c cs q h h2 off =
+    omega (arith, suffix_len-take_yes (λ d. not (eqb d c)) cs q 0 h h2 (ap not (ne_eqb _ c off)))
 
 pub last_here : (c : ℕ) (cs : List ℕ) (q : ℕ) → 0 < q → q ≤ length cs → get_or cs (q - 1) 0 ≡ c → last_before c cs q ≡ q
 unfolding last_before
@@ -47,13 +53,36 @@ pub last_none : (c : ℕ) (cs : List ℕ) (q : ℕ) → q ≤ 0 → last_before 
 unfolding last_before
 last_none c cs q h = omega arith
 
-pub last_is : (c : ℕ) (cs : List ℕ) (q : ℕ) → length cs ≤ q → last_before c cs q ≡ q - suffix_len (λ d. not (eqb d c)) cs
+pub last_is : (c : ℕ) (cs : List ℕ) (q : ℕ) → length cs ≤ q
+    → last_before c cs q ≡ q - suffix_len (λ d. not (eqb d c)) cs
 unfolding last_before
 last_is c cs q h = ap (λ xs. q - suffix_len (λ d. not (eqb d c)) xs) (take_all q cs h)
 
-pub ruleset walks_up = (length-clusters, get_or-clusters, length-map_range, map_range_none, map_range_more, map_range_next, first_more, first_here, first_none, first_is)
+pub ruleset walks_up = (
+  length-clusters,
+  get_or-clusters,
+  length-map_range,
+  map_range_none,
+  map_range_more,
+  map_range_next,
+  first_more,
+  first_here,
+  first_none,
+  first_is,
+)
 
-pub ruleset walks_down = (length-clusters, get_or-clusters, length-map_range, map_range_none, map_range_front, map_range_last, last_more, last_here, last_none, last_is)
+pub ruleset walks_down = (
+  length-clusters,
+  get_or-clusters,
+  length-map_range,
+  map_range_none,
+  map_range_front,
+  map_range_last,
+  last_more,
+  last_here,
+  last_none,
+  last_is,
+)
 
 -- ---- one part
 
@@ -74,16 +103,19 @@ part_nothing bits m [] h =
 part_nothing bits m (g ∷ r) h = absurd (omega arith)
 
 pub part_first : (bits m : ℕ) (r : List hb_glyph_info_t) → get_or (clusters r) 0 0 ≡ m
-    → mark_part bits m r ≡ map_range (with_glyph_flags bits) r (length r - suffix_len (λ c. not (eqb c m)) (clusters r)) (length r)
+    → mark_part bits m r ≡ map_range (with_glyph_flags bits) r (length r - suffix_len (λ c. not (eqb c m)) (clusters r))
+    (length r)
 unfolding mark_part
 part_first bits m r h = cond-true _ _ _ (eq-eqb _ m h)
 
-pub part_last : (bits m : ℕ) (r : List hb_glyph_info_t) → (get_or (clusters r) 0 0 ≡ m → ⊥) → get_or (clusters r) (length r - 1) 0 ≡ m
+pub part_last : (bits m : ℕ) (r : List hb_glyph_info_t) → (get_or (clusters r) 0 0 ≡ m → ⊥)
+    → get_or (clusters r) (length r - 1) 0 ≡ m
     → mark_part bits m r ≡ map_range (with_glyph_flags bits) r 0 (prefix_len (λ c. not (eqb c m)) (clusters r))
 unfolding mark_part
 part_last bits m r h h2 = cond-false _ _ _ (ne_eqb _ m h) ∙ cond-true _ _ _ (eq-eqb _ m h2)
 
-pub part_else : (bits m : ℕ) (r : List hb_glyph_info_t) → (get_or (clusters r) 0 0 ≡ m → ⊥) → (get_or (clusters r) (length r - 1) 0 ≡ m → ⊥)
+pub part_else : (bits m : ℕ) (r : List hb_glyph_info_t) → (get_or (clusters r) 0 0 ≡ m → ⊥)
+    → (get_or (clusters r) (length r - 1) 0 ≡ m → ⊥)
     → mark_part bits m r ≡ mark_others bits m r
 unfolding mark_part
 part_else bits m r h h2 = cond-false _ _ _ (ne_eqb _ m h) ∙ cond-false _ _ _ (ne_eqb _ m h2)
@@ -92,12 +124,14 @@ pub ruleset parts = (get_or-clusters, part_nothing, part_first, part_last, part_
 
 -- ---- the least of the ends
 
-pub least_ends : (l : List hb_glyph_info_t) (d : hb_glyph_info_t) → 0 < length l → least (ends (clusters l)) ≡ min (get_or l 0 d).cluster (get_or l (length l - 1) d).cluster
+pub least_ends : (l : List hb_glyph_info_t) (d : hb_glyph_info_t) → 0 < length l
+    → least (ends (clusters l)) ≡ min (get_or l 0 d).cluster (get_or l (length l - 1) d).cluster
 unfolding least ends
 least_ends [] d h = absurd (omega arith)
 least_ends (g ∷ l) d h =
     let n : length (clusters l) ≡ suc (length l) - 1 = omega (arith, length-clusters l) in
-    ap (λ k. min g.cluster k) (ap (λ j. get_or (clusters (g ∷ l)) j 0) n ∙ get_or-clusters (g ∷ l) (suc (length l) - 1) d (omega arith))
+    ap (λ k. min g.cluster k) (ap (λ j. get_or (clusters (g ∷ l)) j 0) n
+    ∙ get_or-clusters (g ∷ l) (suc (length l) - 1) d (omega arith))
 
 pub no_ends : (l : List hb_glyph_info_t) → length l ≡ 0 → least (ends (clusters l)) ≡ 0
 unfolding least ends
@@ -117,7 +151,8 @@ ends_right r (g ∷ s) h = absurd (omega arith)
 min_four : (a b c d : ℕ) → min a (min b (min c d)) ≡ min (min a b) (min c d)
 min_four a b c d = omega arith
 
-pub ends_both : (r s : List hb_glyph_info_t) → 0 < length r → 0 < length s → ends_least r s ≡ min (least (ends (clusters r))) (least (ends (clusters s)))
+pub ends_both : (r s : List hb_glyph_info_t) → 0 < length r → 0 < length s
+    → ends_least r s ≡ min (least (ends (clusters r))) (least (ends (clusters s)))
 unfolding ends_least ends least
 ends_both [] s h h2 = absurd (omega arith)
 ends_both (g ∷ r) [] h h2 = absurd (omega arith)
@@ -142,8 +177,10 @@ pub least_right : (r s : List hb_glyph_info_t) → length s ≡ 0 → least (clu
 least_right r [] h = ap (λ xs. least (clusters xs)) (append-nil r)
 least_right r (g ∷ s) h = absurd (omega arith)
 
-pub least_both : (r s : List hb_glyph_info_t) → 0 < length r → 0 < length s → least (clusters (r ++ s)) ≡ min (least (clusters r)) (least (clusters s))
+pub least_both : (r s : List hb_glyph_info_t) → 0 < length r → 0 < length s
+    → least (clusters (r ++ s)) ≡ min (least (clusters r)) (least (clusters s))
 least_both r s h h2 =
-    ap least (clusters-append r s) ∙ least_append (clusters r) (clusters s) (omega (arith, length-clusters r)) (omega (arith, length-clusters s))
+    ap least (clusters-append r s) ∙ least_append (clusters r) (clusters s) (omega (arith, length-clusters r))
+    (omega (arith, length-clusters s))
 
 pub ruleset leasts = (least_left, least_right, least_both)

@@ -1,8 +1,11 @@
 -- A scan of two parts, from what is scanned on either side.
-use Rattle.std.proofs.Common.{◌≡◌, ℕ, ◌+◌, ◌-◌, ◌≤◌, inl, inr, Bool, true, false, List, [], ◌++◌, ap, sym, refl, ◌∙◌, take, drop, length, length-append, length-drop, length-take, min, not, arith, eqb, append_assoc}
+use Rattle.std.proofs.Common.{◌≡◌, ℕ, ◌+◌, ◌-◌, ◌≤◌, inl, inr, Bool, true, false, List, [], ◌++◌, ap, sym, refl, ◌∙◌}
+use Rattle.std.proofs.Common.{take, drop, length, length-append, length-drop, length-take, min, not, arith, eqb}
+use Rattle.std.proofs.Common.{append_assoc}
 use Rattle.std.specs.List.{prefix_len, suffix_len}
 use Rattle.std.proofs.lemmas.Bool.{cond_both, cases_lt}
-use Rattle.std.proofs.lemmas.List.{append-nil, length-map, drop_all, take_all, take_rest, take_at, drop_at, take-append-le, drop-append-le}
+use Rattle.std.proofs.lemmas.List.{append-nil, length-map, drop_all, take_all, take_rest, take_at, drop_at}
+use Rattle.std.proofs.lemmas.List.{take-append-le, drop-append-le}
 use Rattle.std.proofs.Math.Seq.{take-append-add, drop-append-add}
 use Rattle.std.specs.Prelude.{slice_index}
 use Rattle.rb_glyph.specs.declared.info.hb_glyph_info_t.{hb_glyph_info_t}
@@ -27,30 +30,37 @@ length-mark_part bits m r =
     let cs = clusters r in
     let p : ℕ → Bool = λ c. not (eqb c m) in
     let Q : List hb_glyph_info_t → Type 0 = λ x. length x ≡ length r in
-    cond_both (eqb (slice_index cs 0) m) _ _ Q (λ _. length-map_range (with_glyph_flags bits) r (length r - suffix_len p cs) (length r) (omega arith))
-    (λ _. cond_both (eqb (slice_index cs (length r - 1)) m) _ _ Q (λ _. length-map_range (with_glyph_flags bits) r 0 (prefix_len p cs) (omega arith))
+    cond_both (eqb (slice_index cs 0) m) _ _ Q
+    (λ _. length-map_range (with_glyph_flags bits) r (length r - suffix_len p cs) (length r) (omega arith))
+    (λ _. cond_both (eqb (slice_index cs (length r - 1)) m) _ _ Q
+    (λ _. length-map_range (with_glyph_flags bits) r 0 (prefix_len p cs) (omega arith))
     (λ _. length-map r _))
 
-pub length-part_scan : (any_order : Bool) (bits m : ℕ) (r : List hb_glyph_info_t) → length (part_scan any_order bits m r) ≡ length r
+pub length-part_scan : (any_order : Bool) (bits m : ℕ) (r : List hb_glyph_info_t)
+    → length (part_scan any_order bits m r) ≡ length r
 length-part_scan true bits m r = length-map r _
 length-part_scan false bits m r = length-mark_part bits m r
 
 -- where the first part is empty, it is the scan of one
-pub two_part_scan-none : (any_order : Bool) (bits : ℕ) (r : List hb_glyph_info_t) → two_part_scan any_order bits 0 r ≡ scan_of any_order bits r
+pub two_part_scan-none : (any_order : Bool) (bits : ℕ) (r : List hb_glyph_info_t)
+    → two_part_scan any_order bits 0 r ≡ scan_of any_order bits r
 unfolding scan_of two_part_scan mark end_mark ends_least least ends
 two_part_scan-none true bits r = refl
-two_part_scan-none false bits r = ap (λ xs. xs ++ mark_part bits (least (ends (clusters r))) r) (part_nothing bits (least (ends (clusters r))) [] refl)
+two_part_scan-none false bits r = ap (λ xs. xs ++ mark_part bits (least (ends (clusters r))) r)
+    (part_nothing bits (least (ends (clusters r))) [] refl)
 
 -- ---- two parts
 
 module _ (any_order : Bool) (bits : ℕ) where
   -- part by part, by the least cluster of both
   by_parts : (a b : List hb_glyph_info_t) (k : ℕ) → length a ≡ k
-      → two_part_scan any_order bits k (a ++ b) ≡ part_scan any_order bits (scan_least any_order a b) a ++ part_scan any_order bits (scan_least any_order a b) b
+      → two_part_scan any_order bits k (a ++ b) ≡ part_scan any_order bits (scan_least any_order a b) a
+      ++ part_scan any_order bits (scan_least any_order a b) b
   unfolding two_part_scan
   by_parts a b k e =
       let F : List hb_glyph_info_t → List hb_glyph_info_t → List hb_glyph_info_t =
-      λ xs ys. part_scan any_order bits (scan_least any_order xs ys) xs ++ part_scan any_order bits (scan_least any_order xs ys) ys in
+      λ xs ys. part_scan any_order bits (scan_least any_order xs ys) xs
+      ++ part_scan any_order bits (scan_least any_order xs ys) ys in
       ap (λ xs. F xs (drop k (a ++ b))) (take_at a b k e) ∙ ap (F a) (drop_at a b k e)
 
   module _ (out rest : List hb_glyph_info_t) (p q : ℕ) (past : length out ≤ q) (up : p ≤ q) where
@@ -75,15 +85,20 @@ module _ (any_order : Bool) (bits : ℕ) where
         let whole : take (q - length out) rest ≡ in_rest =
         ap (λ k. take k rest) (sym w) ∙ ap (λ k. take (q - length out - (p - length out)) (drop k rest)) (sym z) in
         let is : part (out ++ rest) p q ≡ in_out ++ in_rest =
-        ap (take (q - p)) (drop-append-le p out rest h) ∙ ap (λ k. take k (in_out ++ rest)) (sym e) ∙ take-append-add in_out rest (q - length out) ∙ ap (λ xs. in_out ++ xs) whole in
-        let behind : drop q (out ++ rest) ≡ drop (q - length out) rest = ap (λ k. drop k (out ++ rest)) (sym e2) ∙ drop-append-add out rest (q - length out) in
-        ap (λ xs. xs ++ two_part_scan any_order bits (length out - p) (part (out ++ rest) p q) ++ drop q (out ++ rest)) (take-append-le p out rest h)
+        ap (take (q - p)) (drop-append-le p out rest h) ∙ ap (λ k. take k (in_out ++ rest)) (sym e)
+        ∙ take-append-add in_out rest (q - length out) ∙ ap (λ xs. in_out ++ xs) whole in
+        let behind : drop q (out ++ rest) ≡ drop (q - length out) rest =
+        ap (λ k. drop k (out ++ rest)) (sym e2) ∙ drop-append-add out rest (q - length out) in
+        ap (λ xs. xs ++ two_part_scan any_order bits (length out - p) (part (out ++ rest) p q) ++ drop q (out ++ rest))
+        (take-append-le p out rest h)
         ∙ ap (λ xs. take p out ++ two_part_scan any_order bits (length out - p) xs ++ drop q (out ++ rest)) is
         ∙ ap (λ xs. take p out ++ xs ++ drop q (out ++ rest)) (by_parts in_out in_rest (length out - p) n)
         ∙ ap (λ xs. take p out ++ (scanned_part in_out ++ scanned_part in_rest) ++ xs) behind
-        ∙ ap (λ xs. xs ++ drop (q - length out) rest) (sym (append_assoc (take p out) (scanned_part in_out) (scanned_part in_rest)))
+        ∙ ap (λ xs. xs ++ drop (q - length out) rest)
+        (sym (append_assoc (take p out) (scanned_part in_out) (scanned_part in_rest)))
         ∙ append_assoc (take p out ++ scanned_part in_out) (scanned_part in_rest) (drop (q - length out) rest)
-        ∙ ap (λ xs. (take p out ++ scanned_part in_out) ++ (xs ++ scanned_part in_rest ++ drop (q - length out) rest)) (sym (ap (λ k. take k rest) z))
+        ∙ ap (λ xs. (take p out ++ scanned_part in_out) ++ (xs ++ scanned_part in_rest ++ drop (q - length out) rest))
+        (sym (ap (λ k. take k rest) z))
 
     from_rest : length out ≤ p → on_part (two_part_scan any_order bits (length out - p)) (out ++ rest) p q
         ≡ (take p out ++ scanned_part in_out) ++ on_part scanned_part rest (p - length out) (q - length out)
@@ -91,11 +106,16 @@ module _ (any_order : Bool) (bits : ℕ) where
         let z : length out - p ≡ 0 = omega arith in
         let a = p - length out in
         let b = q - length out in
-        let G : List hb_glyph_info_t → List hb_glyph_info_t → List hb_glyph_info_t = λ xs. part_scan any_order bits (scan_least any_order xs in_rest) in
+        let G : List hb_glyph_info_t → List hb_glyph_info_t → List hb_glyph_info_t =
+        λ xs. part_scan any_order bits (scan_least any_order xs in_rest) in
         on_part-past (two_part_scan any_order bits (length out - p)) out rest p q h up
         ∙ ap (λ k. out ++ on_part (two_part_scan any_order bits k) rest a b) z
-        ∙ ap (λ xs. out ++ (take a rest ++ xs ++ drop b rest)) (by_parts [] in_rest 0 refl ∙ ap (λ xs. xs ++ G [] in_rest) (part_scan-none any_order bits (scan_least any_order [] in_rest)))
-        ∙ ap (λ xs. xs ++ on_part (G []) rest a b) (sym (ap (λ xs. out ++ xs) (part_scan-none any_order bits (scan_least any_order [] in_rest)) ∙ append-nil out))
+        ∙ ap (λ xs. out ++ (take a rest ++ xs ++ drop b rest))
+        (by_parts [] in_rest 0 refl ∙ ap (λ xs. xs ++ G [] in_rest)
+        (part_scan-none any_order bits (scan_least any_order [] in_rest)))
+        ∙ ap (λ xs. xs ++ on_part (G []) rest a b)
+        (sym (ap (λ xs. out ++ xs) (part_scan-none any_order bits (scan_least any_order [] in_rest))
+        ∙ append-nil out))
         ∙ ap (λ xs. (xs ++ G [] []) ++ on_part (G []) rest a b) (sym (take_all p out h))
         ∙ ap (λ xs. (take p out ++ G xs xs) ++ on_part (G xs) rest a b) (sym (drop_all p out h))
 
@@ -111,11 +131,15 @@ module _ (any_order : Bool) (bits : ℕ) where
         let n = length-part_scan any_order bits (scan_least any_order in_out in_rest) in_out in
         omega (arith, length-append (take p out) (scanned_part in_out), length-take p out, length-drop p out)
 
-    pub scanned_out : take p out ++ scanned_part in_out ≡ take (length out) (on_part (two_part_scan any_order bits (length out - p)) (out ++ rest) p q)
-    scanned_out = cut_out out (take p out ++ scanned_part in_out) (on_part scanned_part rest (p - length out) (q - length out)) _ as_long two_sides
+    pub scanned_out : take p out ++ scanned_part in_out
+        ≡ take (length out) (on_part (two_part_scan any_order bits (length out - p)) (out ++ rest) p q)
+    scanned_out = cut_out out (take p out ++ scanned_part in_out)
+        (on_part scanned_part rest (p - length out) (q - length out)) _ as_long two_sides
 
-    pub scanned_input : on_part scanned_part rest (p - length out) (q - length out) ≡ drop (length out) (on_part (two_part_scan any_order bits (length out - p)) (out ++ rest) p q)
-    scanned_input = cut_input out (take p out ++ scanned_part in_out) (on_part scanned_part rest (p - length out) (q - length out)) _ as_long two_sides
+    pub scanned_input : on_part scanned_part rest (p - length out) (q - length out)
+        ≡ drop (length out) (on_part (two_part_scan any_order bits (length out - p)) (out ++ rest) p q)
+    scanned_input = cut_input out (take p out ++ scanned_part in_out)
+        (on_part scanned_part rest (p - length out) (q - length out)) _ as_long two_sides
 
 -- what stands from place p on, in words of a slice that begins at the end where p is past it
 module _ {X : Type 0} (xs : List X) (p : ℕ) where

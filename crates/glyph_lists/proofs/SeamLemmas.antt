@@ -1,15 +1,18 @@
 -- Where no run goes on from one list into another, a merge of a range in one of them stays there.
-use Rattle.std.proofs.Common.{◌≡◌, ℕ, zero, suc, ◌+◌, ◌-◌, ◌<◌, ◌≤◌, inl, inr, List, ◌++◌, length, get_or, take, drop, refl, sym, ap, ◌∙◌, arith, eqb, Bool, true, false, length-append, length-drop, cond}
+use Rattle.std.proofs.Common.{◌≡◌, ℕ, zero, suc, ◌+◌, ◌-◌, ◌<◌, ◌≤◌, inl, inr, List, ◌++◌, length, get_or, take, drop}
+use Rattle.std.proofs.Common.{refl, sym, ap, ◌∙◌, arith, eqb, Bool, true, false, length-append, length-drop, cond}
 use Rattle.std.specs.List.{prefix_len, suffix_len}
 use Rattle.std.proofs.lemmas.Bool.{cases_lt, cases_Bool, cond-false, lt-leb, eqb-true, eqb-false}
 use Rattle.std.proofs.lemmas.List.{take-append-le, drop-append-le, get_or_append_left, get_or-append_right}
 use Rattle.std.proofs.Math.Seq.{drop-append-add}
 use Rattle.rb_glyph.specs.declared.info.hb_glyph_info_t.{hb_glyph_info_t}
 use Rattle.glyph_lists.specs.Parts.{part, map_range}
-use Rattle.glyph_lists.specs.Clusters.{clusters, least, run_start, run_end, range_least, widened_start, widened_end, run_merge, with_cluster, NoRunCrosses}
+use Rattle.glyph_lists.specs.Clusters.{clusters, least, run_start, run_end, range_least, widened_start, widened_end}
+use Rattle.glyph_lists.specs.Clusters.{run_merge, with_cluster, NoRunCrosses}
 use Rattle.glyph_lists.proofs.PartsLemmas.{map_range-append, map_range_past, map_range_none}
 use Rattle.glyph_lists.proofs.ClustersLemmas.{clusters-append, length-clusters}
-use Rattle.glyph_lists.proofs.RunsLemmas.{run_start_more, run_start_here, run_start_none, run_end_more, run_end_here, run_end_none, widened_start-le, widened_end-ge, widened_end-le}
+use Rattle.glyph_lists.proofs.RunsLemmas.{run_start_more, run_start_here, run_start_none, run_end_more, run_end_here}
+use Rattle.glyph_lists.proofs.RunsLemmas.{run_end_none, widened_start-le, widened_end-ge, widened_end-le}
 
 -- ---- two lists of numbers
 
@@ -36,11 +39,13 @@ module _ (cs ds : List ℕ) (apart : NoRunCrosses cs ds) (n : ℕ) (len : length
   -- ---- a range in the second list
 
   -- a run in it begins there
-  start_right : (c floor k : ℕ) → k ≤ length ds → 0 < length ds → (k ≡ 0 → c ≡ get_or ds 0 0) → run_start all c floor (n + k) ≡ n + run_start ds c (floor - n) k
+  start_right : (c floor k : ℕ) → k ≤ length ds → 0 < length ds → (k ≡ 0 → c ≡ get_or ds 0 0)
+      → run_start all c floor (n + k) ≡ n + run_start ds c (floor - n) k
   start_right c floor zero within some is =
       let here : run_start ds c (floor - n) 0 ≡ 0 = run_start_none ds c (floor - n) 0 (omega arith) in
       let e : run_start all c floor n ≡ n = elim (cases_lt floor n) [
-        | inl lt ↦ run_start_here all c floor n lt (omega (arith, length-append cs ds)) (λ x. differs (omega arith) some (sym (at_left (n - 1) (omega arith)) ∙ x ∙ is refl))
+        | inl lt ↦ run_start_here all c floor n lt (omega (arith, length-append cs ds))
+            (λ x. differs (omega arith) some (sym (at_left (n - 1) (omega arith)) ∙ x ∙ is refl))
         | inr ge ↦ run_start_none all c floor n ge
       ] in
       let z : n + 0 ≡ n = omega arith in
@@ -50,18 +55,23 @@ module _ (cs ds : List ℕ) (apart : NoRunCrosses cs ds) (n : ℕ) (len : length
       let e2 : suc k - 1 ≡ k = omega arith in
       let w : n + suc k ≤ length all = omega (arith, length-append cs ds) in
       elim (cases_lt floor (n + suc k)) [
-        | inr ge ↦ run_start_none all c floor (n + suc k) ge ∙ ap (λ x. n + x) (sym (run_start_none ds c (floor - n) (suc k) (omega arith)))
+        | inr ge ↦ run_start_none all c floor (n + suc k) ge
+            ∙ ap (λ x. n + x) (sym (run_start_none ds c (floor - n) (suc k) (omega arith)))
         | inl lt ↦ elim (cases_Bool (eqb (get_or ds k 0) c)) [
           | inl is_c ↦
               let same : get_or ds k 0 ≡ c = eqb-true _ c is_c in
               let l = run_start_more all c floor (n + suc k) lt w (ap (λ i. get_or all i 0) e ∙ at_right k ∙ same) in
-              let r = run_start_more ds c (floor - n) (suc k) (omega arith) within (ap (λ i. get_or ds i 0) e2 ∙ same) in
+              let r =
+              run_start_more ds c (floor - n) (suc k) (omega arith) within (ap (λ i. get_or ds i 0) e2 ∙ same) in
               let down = start_right c floor k (omega arith) some (λ z. sym same ∙ ap (λ i. get_or ds i 0) z) in
-              sym l ∙ ap (run_start all c floor) e ∙ down ∙ ap (λ x. n + x) (sym (ap (run_start ds c (floor - n)) e2) ∙ r)
+              sym l ∙ ap (run_start all c floor) e ∙ down
+              ∙ ap (λ x. n + x) (sym (ap (run_start ds c (floor - n)) e2) ∙ r)
           | inr not_c ↦
               let off : get_or ds k 0 ≡ c → ⊥ = eqb-false _ c not_c in
-              run_start_here all c floor (n + suc k) lt w (λ x. off (sym (at_right k) ∙ sym (ap (λ i. get_or all i 0) e) ∙ x))
-              ∙ ap (λ x. n + x) (sym (run_start_here ds c (floor - n) (suc k) (omega arith) within (λ x. off (sym (ap (λ i. get_or ds i 0) e2) ∙ x))))
+              run_start_here all c floor (n + suc k) lt w
+              (λ x. off (sym (at_right k) ∙ sym (ap (λ i. get_or all i 0) e) ∙ x))
+              ∙ ap (λ x. n + x) (sym (run_start_here ds c (floor - n) (suc k) (omega arith) within
+              (λ x. off (sym (ap (λ i. get_or ds i 0) e2) ∙ x))))
         ]
       ]
 
@@ -78,7 +88,8 @@ module _ (cs ds : List ℕ) (apart : NoRunCrosses cs ds) (n : ℕ) (len : length
   unfolding run_end
   end_right c q = omega (arith, ap (λ xs. prefix_len (λ d. eqb d c) xs) (drop_right q))
 
-  pub widened_start_right : (a b floor : ℕ) → a < b → b ≤ length ds → widened_start all (n + a) (n + b) floor ≡ n + widened_start ds a b (floor - n)
+  pub widened_start_right : (a b floor : ℕ) → a < b → b ≤ length ds
+      → widened_start all (n + a) (n + b) floor ≡ n + widened_start ds a b (floor - n)
   unfolding widened_start
   widened_start_right a b floor some within =
       let F : ℕ → ℕ → ℕ = λ c m. cond (eqb c m) (n + a) (run_start all c floor (n + a)) in
@@ -106,7 +117,8 @@ module _ (cs ds : List ℕ) (apart : NoRunCrosses cs ds) (n : ℕ) (len : length
 
   part_left : (a b : ℕ) → a ≤ n → b ≤ n → part all a b ≡ part cs a b
   part_left a b h h2 =
-      ap (take (b - a)) (drop-append-le a cs ds (omega arith)) ∙ take-append-le (b - a) (drop a cs) ds (omega (arith, length-drop a cs))
+      ap (take (b - a)) (drop-append-le a cs ds (omega arith))
+      ∙ take-append-le (b - a) (drop a cs) ds (omega (arith, length-drop a cs))
 
   start_left : (c floor p : ℕ) → p ≤ n → run_start all c floor p ≡ run_start cs c floor p
   unfolding run_start
@@ -122,7 +134,8 @@ module _ (cs ds : List ℕ) (apart : NoRunCrosses cs ds) (n : ℕ) (len : length
       elim (cases_lt q (length all)) [
         | inl lt ↦
             let at : get_or all q 0 ≡ get_or ds 0 0 = ap (λ i. get_or all i 0) (omega arith) ∙ at_right 0 in
-            run_end_here all c q lt (λ x. differs has (omega (arith, length-append cs ds)) (sym (is (omega arith)) ∙ sym x ∙ at)) ∙ sym here
+            run_end_here all c q lt (λ x. differs has (omega (arith, length-append cs ds))
+            (sym (is (omega arith)) ∙ sym x ∙ at)) ∙ sym here
         | inr ge ↦ run_end_none all c q ge ∙ sym here
       ]
   end_left c (suc k) q e has is =
@@ -133,11 +146,13 @@ module _ (cs ds : List ℕ) (apart : NoRunCrosses cs ds) (n : ℕ) (len : length
             let same : get_or cs q 0 ≡ c = eqb-true _ c is_c in
             let l = run_end_more all c q lt_all (at_left q lt ∙ same) in
             let r = run_end_more cs c q (omega arith) same in
-            let up = end_left c k (q + 1) (omega arith) has (λ z. let j : q ≡ n - 1 = omega arith in sym same ∙ ap (λ i. get_or cs i 0) j) in
+            let up = end_left c k (q + 1) (omega arith) has
+            (λ z. let j : q ≡ n - 1 = omega arith in sym same ∙ ap (λ i. get_or cs i 0) j) in
             sym l ∙ up ∙ r
         | inr not_c ↦
             let off : get_or cs q 0 ≡ c → ⊥ = eqb-false _ c not_c in
-            run_end_here all c q lt_all (λ x. off (sym (at_left q lt) ∙ x)) ∙ sym (run_end_here cs c q (omega arith) off)
+            run_end_here all c q lt_all (λ x. off (sym (at_left q lt) ∙ x))
+            ∙ sym (run_end_here cs c q (omega arith) off)
       ]
 
   pub least_in_left : (a b : ℕ) → a ≤ n → b ≤ n → range_least all a b ≡ range_least cs a b
@@ -157,17 +172,21 @@ module _ (cs ds : List ℕ) (apart : NoRunCrosses cs ds) (n : ℕ) (len : length
   widened_end_left a b some within =
       let F : ℕ → ℕ → ℕ = λ c m. cond (eqb c m) b (run_end all c b) in
       let c = get_or cs (b - 1) 0 in
-      ap (λ x. F x (range_least all a b)) (at_left (b - 1) (omega arith)) ∙ ap (F c) (least_in_left a b (omega arith) within)
-      ∙ ap (cond (eqb c (range_least cs a b)) b) (end_left c (n - b) b (omega arith) (omega arith) (λ z. ap (λ i. get_or cs (i - 1) 0) z))
+      ap (λ x. F x (range_least all a b)) (at_left (b - 1) (omega arith))
+      ∙ ap (F c) (least_in_left a b (omega arith) within)
+      ∙ ap (cond (eqb c (range_least cs a b)) b)
+      (end_left c (n - b) b (omega arith) (omega arith) (λ z. ap (λ i. get_or cs (i - 1) 0) z))
 
 -- ---- two lists of glyphs
 
-module _ (xs ys : List hb_glyph_info_t) (apart : NoRunCrosses (clusters xs) (clusters ys)) (p q floor : ℕ) (some : p < q) where
+module _ (xs ys : List hb_glyph_info_t) (apart : NoRunCrosses (clusters xs) (clusters ys)) (p q floor : ℕ)
+    (some : p < q) where
   abbrev n : ℕ
   n = length xs
 
   -- a range in the second list
-  pub run_merge_right : n ≤ p → q ≤ n + length ys → run_merge (xs ++ ys) p q floor ≡ xs ++ run_merge ys (p - n) (q - n) (floor - n)
+  pub run_merge_right : n ≤ p → q ≤ n + length ys → run_merge (xs ++ ys) p q floor
+      ≡ xs ++ run_merge ys (p - n) (q - n) (floor - n)
   unfolding run_merge
   run_merge_right past within =
       let cs = clusters xs in
@@ -178,7 +197,9 @@ module _ (xs ys : List hb_glyph_info_t) (apart : NoRunCrosses (clusters xs) (clu
       let b = q - n in
       let ea : n + a ≡ p = omega arith in
       let eb : n + b ≡ q = omega arith in
-      let M : List ℕ → ℕ → ℕ → List hb_glyph_info_t = λ zs i j. map_range (with_cluster (range_least zs i j) 0) (xs ++ ys) (widened_start zs i j floor) (widened_end zs i j) in
+      let M : List ℕ → ℕ → ℕ → List hb_glyph_info_t =
+      λ zs i j. map_range (with_cluster (range_least zs i j) 0) (xs ++ ys) (widened_start zs i j floor)
+      (widened_end zs i j) in
       let m = range_least ds a b in
       let A = widened_start ds a b (floor - n) in
       let B = widened_end ds a b in
@@ -189,11 +210,14 @@ module _ (xs ys : List hb_glyph_info_t) (apart : NoRunCrosses (clusters xs) (clu
       cond-false _ _ _ (lt-leb q p some)
       ∙ ap (λ zs. M zs p q) (clusters-append xs ys)
       ∙ ap (λ i. M (cs ++ ds) i q) (sym ea) ∙ ap (M (cs ++ ds) (n + a)) (sym eb)
-      ∙ ap (λ k. map_range (with_cluster k 0) (xs ++ ys) (widened_start (cs ++ ds) (n + a) (n + b) floor) (widened_end (cs ++ ds) (n + a) (n + b))) (least_in_right cs ds apart n len a b)
-      ∙ ap (λ k. map_range f (xs ++ ys) k (widened_end (cs ++ ds) (n + a) (n + b))) (widened_start_right cs ds apart n len a b floor (omega arith) (omega arith))
+      ∙ ap (λ k. map_range (with_cluster k 0) (xs ++ ys) (widened_start (cs ++ ds) (n + a) (n + b) floor)
+      (widened_end (cs ++ ds) (n + a) (n + b))) (least_in_right cs ds apart n len a b)
+      ∙ ap (λ k. map_range f (xs ++ ys) k (widened_end (cs ++ ds) (n + a) (n + b)))
+      (widened_start_right cs ds apart n len a b floor (omega arith) (omega arith))
       ∙ ap (map_range f (xs ++ ys) (n + A)) (widened_end_right cs ds apart n len a b (omega arith) (omega arith))
       ∙ map_range-append f xs ys (n + A) (n + B) (omega arith)
-      ∙ ap (λ zs. zs ++ map_range f ys (n + A - n) (n + B - n)) (map_range_past f xs (n + A) (n + B) (omega arith) (omega arith))
+      ∙ ap (λ zs. zs ++ map_range f ys (n + A - n) (n + B - n))
+      (map_range_past f xs (n + A) (n + B) (omega arith) (omega arith))
       ∙ ap (λ k. xs ++ map_range f ys k (n + B - n)) za ∙ ap (λ k. xs ++ map_range f ys A k) zb
       ∙ ap (λ zs. xs ++ zs) (sym (cond-false _ _ _ (lt-leb b a (omega arith))))
 
@@ -204,7 +228,8 @@ module _ (xs ys : List hb_glyph_info_t) (apart : NoRunCrosses (clusters xs) (clu
       let cs = clusters xs in
       let ds = clusters ys in
       let len : length cs ≡ n = length-clusters xs in
-      let M : List ℕ → List hb_glyph_info_t = λ zs. map_range (with_cluster (range_least zs p q) 0) (xs ++ ys) (widened_start zs p q floor) (widened_end zs p q) in
+      let M : List ℕ → List hb_glyph_info_t = λ zs. map_range (with_cluster (range_least zs p q) 0) (xs ++ ys)
+      (widened_start zs p q floor) (widened_end zs p q) in
       let A = widened_start cs p q floor in
       let B = widened_end cs p q in
       let f = with_cluster (range_least cs p q) 0 in
@@ -214,10 +239,13 @@ module _ (xs ys : List hb_glyph_info_t) (apart : NoRunCrosses (clusters xs) (clu
       let zb : B - n ≡ 0 = omega arith in
       cond-false _ _ _ (lt-leb q p some)
       ∙ ap M (clusters-append xs ys)
-      ∙ ap (λ k. map_range (with_cluster k 0) (xs ++ ys) (widened_start (cs ++ ds) p q floor) (widened_end (cs ++ ds) p q)) (least_in_left cs ds apart n len p q (omega arith) within)
-      ∙ ap (λ k. map_range f (xs ++ ys) k (widened_end (cs ++ ds) p q)) (widened_start_left cs ds apart n len p q floor some within)
+      ∙ ap (λ k. map_range (with_cluster k 0) (xs ++ ys) (widened_start (cs ++ ds) p q floor)
+      (widened_end (cs ++ ds) p q)) (least_in_left cs ds apart n len p q (omega arith) within)
+      ∙ ap (λ k. map_range f (xs ++ ys) k (widened_end (cs ++ ds) p q))
+      (widened_start_left cs ds apart n len p q floor some within)
       ∙ ap (map_range f (xs ++ ys) A) (widened_end_left cs ds apart n len p q some within)
       ∙ map_range-append f xs ys A B up
-      ∙ ap (λ k. map_range f xs A B ++ map_range f ys k (B - n)) za ∙ ap (λ k. map_range f xs A B ++ map_range f ys 0 k) zb
+      ∙ ap (λ k. map_range f xs A B ++ map_range f ys k (B - n)) za
+      ∙ ap (λ k. map_range f xs A B ++ map_range f ys 0 k) zb
       ∙ ap (λ zs. map_range f xs A B ++ zs) (map_range_none f ys 0)
       ∙ ap (λ zs. zs ++ ys) (sym (cond-false _ _ _ (lt-leb q p some)))

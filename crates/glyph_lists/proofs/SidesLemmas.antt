@@ -1,5 +1,6 @@
 -- Two lists, one after the other, of which the second begins at a cursor of a longer one.
-use Rattle.std.proofs.Common.{◌≡◌, ℕ, ◌+◌, ◌-◌, ◌≤◌, List, ◌++◌, length, take, drop, min, refl, sym, ap, ◌∙◌, arith, append_assoc, Bool, true, false}
+use Rattle.std.proofs.Common.{◌≡◌, ℕ, ◌+◌, ◌-◌, ◌≤◌, List, ◌++◌, length, take, drop, min, refl, sym, ap, ◌∙◌, arith}
+use Rattle.std.proofs.Common.{append_assoc, Bool, true, false}
 use Rattle.std.proofs.lemmas.List.{take-append-drop, drop-drop}
 use Rattle.std.proofs.lemmas.Bool.{cond-true, cond-false, lt-ltb, le-ltb}
 use Rattle.std.proofs.Math.Seq.{take-append_seam, drop-append_seam, take-append-add, drop-append-add, take-add}
@@ -9,23 +10,29 @@ use Rattle.glyph_lists.specs.Clusters.{run_merge}
 use Rattle.glyph_lists.specs.Marks.{mark}
 use Rattle.glyph_lists.specs.Deletion.{merge_or_mark}
 use Rattle.glyph_lists.specs.declared.glyph_flags.TheConstants.{BREAK_BITS}
-use Rattle.glyph_lists.proofs.PartsLemmas.{map_range-append, map_range_none, map_range_past, map_range_cut, sides_high, length-map_range}
+use Rattle.glyph_lists.proofs.PartsLemmas.{map_range-append, map_range_none, map_range_past, map_range_cut, sides_high}
+use Rattle.glyph_lists.proofs.PartsLemmas.{length-map_range}
 
 -- what is left after one more glyph
 pub next_left : {X : Type 0} (n : ℕ) (xs : List X) → drop (n + 1) xs ≡ drop 1 (drop n xs)
 next_left n xs = sym (drop-drop 1 n xs)
 
 -- a range that ends past the list, or at its end
-pub range_cut : {X : Type 0} (f : X → X) (xs : List X) (a b n : ℕ) → length xs ≡ n → a ≤ b → a ≤ n → map_range f xs a (min b n) ≡ map_range f xs a b
+pub range_cut : {X : Type 0} (f : X → X) (xs : List X) (a b n : ℕ) → length xs ≡ n → a ≤ b → a ≤ n
+    → map_range f xs a (min b n) ≡ map_range f xs a b
 range_cut f xs a b n h up h2 = ap (λ k. map_range f xs a (min b k)) (sym h) ∙ map_range_cut f xs a b (omega arith)
 
 -- a range from the cursor on
-pub range_at : {X : Type 0} (f : X → X) (xs : List X) (i c d : ℕ) → i ≤ length xs → c ≤ d → map_range f xs (i + c) (i + d) ≡ take i xs ++ map_range f (drop i xs) c d
-range_at f xs i c d h up = sym (take-append-drop i (map_range f xs (i + c) (i + d))) ∙ sides_high f xs i i c d (omega arith) h up
+pub range_at : {X : Type 0} (f : X → X) (xs : List X) (i c d : ℕ) → i ≤ length xs → c ≤ d
+    → map_range f xs (i + c) (i + d) ≡ take i xs ++ map_range f (drop i xs) c d
+range_at f xs i c d h up =
+    sym (take-append-drop i (map_range f xs (i + c) (i + d))) ∙ sides_high f xs i i c d (omega arith) h up
 
 -- a range that is empty
-pub range_nothing : {X : Type 0} (f : X → X) (xs : List X) (i a b : ℕ) → b ≡ a → take i xs ++ map_range f (drop i xs) a b ≡ xs
-range_nothing f xs i a b h = ap (λ k. take i xs ++ map_range f (drop i xs) a k) h ∙ ap (λ ys. take i xs ++ ys) (map_range_none f (drop i xs) a) ∙ take-append-drop i xs
+pub range_nothing : {X : Type 0} (f : X → X) (xs : List X) (i a b : ℕ) → b ≡ a
+    → take i xs ++ map_range f (drop i xs) a b ≡ xs
+range_nothing f xs i a b h = ap (λ k. take i xs ++ map_range f (drop i xs) a k) h
+    ∙ ap (λ ys. take i xs ++ ys) (map_range_none f (drop i xs) a) ∙ take-append-drop i xs
 
 -- ---- a list that is cut where the first of two ends
 
@@ -33,7 +40,8 @@ range_nothing f xs i a b h = ap (λ k. take i xs ++ map_range f (drop i xs) a k)
 pub same_out : {X : Type 0} (out rest l : List X) → l ≡ out ++ rest → out ≡ take (length out) l
 same_out out rest l e = sym (ap (take (length out)) e ∙ take-append_seam out rest)
 
-pub same_info : {X : Type 0} (out info l : List X) (i : ℕ) → l ≡ out ++ drop i info → info ≡ take i info ++ drop (length out) l
+pub same_info : {X : Type 0} (out info l : List X) (i : ℕ) → l ≡ out ++ drop i info
+    → info ≡ take i info ++ drop (length out) l
 same_info out info l i e =
     sym (take-append-drop i info)
     ∙ ap (λ xs. take i info ++ xs) (sym (ap (drop (length out)) e ∙ drop-append_seam out (drop i info)))
@@ -46,14 +54,17 @@ pub cut_input : {X : Type 0} (out xs ys l : List X) → length xs ≡ length out
 cut_input out xs ys l n e = sym (ap (λ k. drop k l) (sym n) ∙ ap (drop (length xs)) e ∙ drop-append_seam xs ys)
 
 -- a range of both, on either side
-pub range_in_out : {X : Type 0} (f : X → X) (xs ys : List X) (a b : ℕ) → a ≤ b → take (length xs) (map_range f (xs ++ ys) a b) ≡ map_range f xs a b
+pub range_in_out : {X : Type 0} (f : X → X) (xs ys : List X) (a b : ℕ) → a ≤ b
+    → take (length xs) (map_range f (xs ++ ys) a b) ≡ map_range f xs a b
 range_in_out f xs ys a b up =
-    sym (cut_out xs (map_range f xs a b) (map_range f ys (a - length xs) (b - length xs)) _ (length-map_range f xs a b up) (map_range-append f xs ys a b up))
+    sym (cut_out xs (map_range f xs a b) (map_range f ys (a - length xs) (b - length xs)) _
+    (length-map_range f xs a b up) (map_range-append f xs ys a b up))
 
 pub range_in_input : {X : Type 0} (f : X → X) (xs ys : List X) (a b : ℕ) → a ≤ b
     → drop (length xs) (map_range f (xs ++ ys) a b) ≡ map_range f ys (a - length xs) (b - length xs)
 range_in_input f xs ys a b up =
-    sym (cut_input xs (map_range f xs a b) (map_range f ys (a - length xs) (b - length xs)) _ (length-map_range f xs a b up) (map_range-append f xs ys a b up))
+    sym (cut_input xs (map_range f xs a b) (map_range f ys (a - length xs) (b - length xs)) _
+    (length-map_range f xs a b up) (map_range-append f xs ys a b up))
 
 -- ---- the merge of both
 
@@ -84,15 +95,19 @@ merge_or_mark_any false l p q floor e = cc
 -- ---- a part of both
 
 -- a part of the second list, seen from both as one
-pub on_part-past : {X : Type 0} (g : List X → List X) (xs ys : List X) (p q : ℕ) → length xs ≤ p → p ≤ q → on_part g (xs ++ ys) p q ≡ xs ++ on_part g ys (p - length xs) (q - length xs)
+pub on_part-past : {X : Type 0} (g : List X → List X) (xs ys : List X) (p q : ℕ) → length xs ≤ p → p ≤ q
+    → on_part g (xs ++ ys) p q ≡ xs ++ on_part g ys (p - length xs) (q - length xs)
 on_part-past g xs ys p q h up =
     let n = length xs in
     let ep : n + (p - n) ≡ p = omega arith in
     let eq : n + (q - n) ≡ q = omega arith in
     let ed : q - p ≡ q - n - (p - n) = omega arith in
-    let t : take p (xs ++ ys) ≡ xs ++ take (p - n) ys = ap (λ k. take k (xs ++ ys)) (sym ep) ∙ take-append-add xs ys (p - n) in
-    let dp : drop p (xs ++ ys) ≡ drop (p - n) ys = ap (λ k. drop k (xs ++ ys)) (sym ep) ∙ drop-append-add xs ys (p - n) in
-    let dq : drop q (xs ++ ys) ≡ drop (q - n) ys = ap (λ k. drop k (xs ++ ys)) (sym eq) ∙ drop-append-add xs ys (q - n) in
+    let t : take p (xs ++ ys) ≡ xs ++ take (p - n) ys =
+    ap (λ k. take k (xs ++ ys)) (sym ep) ∙ take-append-add xs ys (p - n) in
+    let dp : drop p (xs ++ ys) ≡ drop (p - n) ys =
+    ap (λ k. drop k (xs ++ ys)) (sym ep) ∙ drop-append-add xs ys (p - n) in
+    let dq : drop q (xs ++ ys) ≡ drop (q - n) ys =
+    ap (λ k. drop k (xs ++ ys)) (sym eq) ∙ drop-append-add xs ys (q - n) in
     ap (λ zs. zs ++ g (part (xs ++ ys) p q) ++ drop q (xs ++ ys)) t
     ∙ ap (λ zs. (xs ++ take (p - n) ys) ++ g (take (q - p) zs) ++ drop q (xs ++ ys)) dp
     ∙ ap (λ k. (xs ++ take (p - n) ys) ++ g (take k (drop (p - n) ys)) ++ drop q (xs ++ ys)) ed
@@ -106,7 +121,8 @@ part-at l i c d =
     let ed : i + d - (i + c) ≡ d - c = omega arith in
     ap (λ k. take k (drop (i + c) l)) ed ∙ ap (take (d - c)) (sym (drop-drop c i l))
 
-pub on_part-at : {X : Type 0} (g : List X → List X) (l : List X) (i c d : ℕ) → c ≤ d → on_part g l (i + c) (i + d) ≡ take i l ++ on_part g (drop i l) c d
+pub on_part-at : {X : Type 0} (g : List X → List X) (l : List X) (i c d : ℕ) → c ≤ d
+    → on_part g l (i + c) (i + d) ≡ take i l ++ on_part g (drop i l) c d
 on_part-at g l i c d up =
     let ed : i + d - (i + c) ≡ d - c = omega arith in
     ap (λ zs. zs ++ g (part l (i + c) (i + d)) ++ drop (i + d) l) (take-add i c l)

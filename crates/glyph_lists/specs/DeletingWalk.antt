@@ -1,6 +1,8 @@
--- The deleting walk over a list: from its start on, a glyph for which a test holds as it then stands is deleted, and any other is put out.
+-- The deleting walk over a list: from its start on, a glyph for which a test holds as it then stands is deleted, and
+-- any other is put out.
 use Rattle.std.proofs.Common.{zero, suc}
-use Rattle.std.specs.Prelude.{ℕ, ◌&&◌, ◌||◌, ◌++◌, Bool, false, List, [], ◌∷◌, length, take, drop, slice_index_or, if◌then◌else◌}
+use Rattle.std.specs.Prelude.{ℕ, ◌&&◌, ◌||◌, ◌++◌, Bool, false, List, [], ◌∷◌, length, take, drop, slice_index_or}
+use Rattle.std.specs.Prelude.{if◌then◌else◌}
 use Rattle.rb_glyph.specs.declared.info.hb_glyph_info_t.{hb_glyph_info_t}
 use Rattle.glyph_lists.specs.Clusters.{zero_glyph}
 use Rattle.glyph_lists.specs.Deletion.{Sides, deletion, merges_next}

@@ -1,5 +1,6 @@
 -- Deletion: the head of the input goes, and its cluster is kept where it is lower than its neighbour's.
-use Rattle.std.specs.Prelude.{ℕ, ◌-◌, ◌==◌, ◌||◌, ◌&&◌, Bool, not, true, false, List, [], ◌∷◌, length, drop, nat_lt, slice_index, if◌then◌else◌}
+use Rattle.std.specs.Prelude.{ℕ, ◌-◌, ◌==◌, ◌||◌, ◌&&◌, Bool, not, true, false, List, [], ◌∷◌, length, drop, nat_lt}
+use Rattle.std.specs.Prelude.{slice_index, if◌then◌else◌}
 use Rattle.rb_glyph.specs.declared.info.hb_glyph_info_t.{hb_glyph_info_t}
 use Rattle.glyph_lists.specs.Parts.{on_part, map_range, is_short}
 use Rattle.glyph_lists.specs.Clusters.{clusters, with_cluster, run_start, run_merge}

@@ -30,7 +30,8 @@ pub fn delete_in_place<F: Fn(&hb_glyph_info_t) -> bool>(
         → take result.0 pos.new ≡ kept_beside any_order test (sides_at 0 0 info.old) pos.old }
     ensures merges { (test : hb_glyph_info_t → Bool)
         → ((x : _) (r : _) → F.post deletes.now x r → r ≡ test x.now)
-        → result.1 ≡ (any_order && walk_merges any_order test (length info.old) (sides_at 0 0 info.old)) }
+        → result.1 ≡ (any_order && walk_merges any_order test (length info.old)
+        (sides_at 0 0 info.old)) }
 {
     let mut kept = 0;
     let mut merges = false;
@@ -52,7 +53,8 @@ pub fn delete_in_place<F: Fn(&hb_glyph_info_t) -> bool>(
 fn delete_at(info: &mut [hb_glyph_info_t], kept: usize, at: usize, any_order: bool) -> bool
     requires order { kept ≤ at }
     requires within { at < length info.old }
-    ensures sides { sides_at kept (at + 1) info.new ≡ after_deletion any_order (sides_at kept at info.old) }
+    ensures sides { sides_at kept (at + 1) info.new
+        ≡ after_deletion any_order (sides_at kept at info.old) }
     ensures merges { result ≡ (any_order && deletion_merges (sides_at kept at info.old)) }
     ensures len { length info.new ≡ length info.old }
 {

@@ -80,9 +80,11 @@ pub fn mark_range(
     requires order { start ≤ end }
     requires within { end ≤ out_len + (length info.old - cursor) }
     ensures out { take out_len info.new ≡ take out_len
-        (map_range (with_glyph_flags bits) (take out_len info.old ++ drop cursor info.old) start end) }
+        (map_range (with_glyph_flags bits) (take out_len info.old ++ drop cursor info.old)
+        start end) }
     ensures input { drop cursor info.new ≡ drop out_len
-        (map_range (with_glyph_flags bits) (take out_len info.old ++ drop cursor info.old) start end) }
+        (map_range (with_glyph_flags bits) (take out_len info.old ++ drop cursor info.old)
+        start end) }
 {
     let (front, input) = info.split_at_mut(cursor);
     glyph_flags::mark_range(&mut front[..out_len], input, 0, start, end, bits);
@@ -131,9 +133,11 @@ pub fn scan_range(
     requires order { start ≤ end }
     requires within { end ≤ out_len + (length info.old - cursor) }
     ensures out { take out_len info.new ≡ take out_len
-        (on_part (scan_of any_order bits) (take out_len info.old ++ drop cursor info.old) start end) }
+        (on_part (scan_of any_order bits) (take out_len info.old ++ drop cursor info.old)
+        start end) }
     ensures input { drop cursor info.new ≡ drop out_len
-        (on_part (scan_of any_order bits) (take out_len info.old ++ drop cursor info.old) start end) }
+        (on_part (scan_of any_order bits) (take out_len info.old ++ drop cursor info.old)
+        start end) }
 {
     let (front, input) = info.split_at_mut(cursor);
     glyph_flags::scan_range(&mut front[..out_len], input, 0, start, end, bits, any_order);

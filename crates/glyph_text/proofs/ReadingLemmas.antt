@@ -1,6 +1,7 @@
--- A text is read one way: where texts that tell of numbers begin alike, and what follows cannot go on with them, the numbers
--- are equal and what follows is equal.
-use Rattle.std.proofs.Common.{◌≡◌, ℕ, suc, ◌^◌, ◌<◌, ◌≤◌, Bool, true, false, cond, List, [], ◌∷◌, ◌++◌, length, drop, get_or, refl, ap, sym, subst, ◌∙◌, arith}
+-- A text is read one way: where texts that tell of numbers begin alike, and what follows cannot go on with them, the
+-- numbers are equal and what follows is equal.
+use Rattle.std.proofs.Common.{◌≡◌, ℕ, suc, ◌^◌, ◌<◌, ◌≤◌, Bool, true, false, cond, List, [], ◌∷◌, ◌++◌, length, drop}
+use Rattle.std.proofs.Common.{get_or, refl, ap, sym, subst, ◌∙◌, arith}
 use Rattle.std.specs.Prelude.{⊤, ℤ, pos, negsuc, nat_abs, nat_le, ◌+◌, ◌%◌, ◌&&◌, ◌≢◌}
 use Rattle.std.specs.Fmt.{decimal, signed_decimal}
 use Rattle.std.proofs.lemmas.Bool.{false≢true}
@@ -31,7 +32,8 @@ heads : {c d : ℕ} {cs ds : List ℕ} → c ∷ cs ≡ d ∷ ds → c ≡ d
 heads e = ap (λ l. get_or l 0 0) e
 
 -- digits with what stops them are read one way
-pub digits_read : (ds es r s : List ℕ) → AreDigits ds → AreDigits es → Stops r → Stops s → ds ++ r ≡ es ++ s → (ds ≡ es) × (r ≡ s)
+pub digits_read : (ds es r s : List ℕ) → AreDigits ds → AreDigits es → Stops r → Stops s → ds ++ r ≡ es ++ s
+    → (ds ≡ es) × (r ≡ s)
 digits_read [] [] r s p q h k e = (refl, e)
 digits_read [] (c ∷ es) r s p q h k e = differs (is_digit c) q.0 (subst Stops e h)
 digits_read (c ∷ ds) [] r s p q h k e = differs (is_digit c) p.0 (subst Stops (sym e) k)
@@ -52,7 +54,8 @@ AreDigits-decimal n h =
     (λ n ds large p. digits_push ds (48 + n % 10) p (is_digit-last (n % 10) (omega arith))) n h
 
 -- a decimal with what cannot continue it is read one way
-pub decimal_read : (m n : ℕ) (r s : List ℕ) → m < 2 ^ 64 → n < 2 ^ 64 → Stops r → Stops s → decimal m ++ r ≡ decimal n ++ s → (m ≡ n) × (r ≡ s)
+pub decimal_read : (m n : ℕ) (r s : List ℕ) → m < 2 ^ 64 → n < 2 ^ 64 → Stops r → Stops s
+    → decimal m ++ r ≡ decimal n ++ s → (m ≡ n) × (r ≡ s)
 decimal_read m n r s f g h k e =
     let both = digits_read (decimal m) (decimal n) r s (AreDigits-decimal m f) (AreDigits-decimal n g) h k e in
     (decimal_injective m n f g both.0, both.1)
@@ -66,14 +69,17 @@ not_a_sign (d ∷ ds) r s p h e = differs (is_digit d) p.0 (ap is_digit (heads e
 abbrev pub IsWord : ℤ → Type 0
 IsWord z = nat_abs z ≤ 2 ^ 31
 
-pub signed_read : (y z : ℤ) (r s : List ℕ) → IsWord y → IsWord z → Stops r → Stops s → signed_decimal y ++ r ≡ signed_decimal z ++ s → (y ≡ z) × (r ≡ s)
+pub signed_read : (y z : ℤ) (r s : List ℕ) → IsWord y → IsWord z → Stops r → Stops s
+    → signed_decimal y ++ r ≡ signed_decimal z ++ s → (y ≡ z) × (r ≡ s)
 signed_read (pos m) (pos n) r s f g h k e =
     let both = decimal_read m n r s (omega (arith, f)) (omega (arith, g)) h k e in
     (ap pos both.0, both.1)
 signed_read (pos m) (negsuc n) r s f g h k e =
-    not_a_sign (decimal m) r (decimal (suc n) ++ s) (AreDigits-decimal m (omega (arith, f))) (decimal_nonempty m (omega (arith, f))) e
+    not_a_sign (decimal m) r (decimal (suc n) ++ s) (AreDigits-decimal m (omega (arith, f)))
+    (decimal_nonempty m (omega (arith, f))) e
 signed_read (negsuc m) (pos n) r s f g h k e =
-    not_a_sign (decimal n) s (decimal (suc m) ++ r) (AreDigits-decimal n (omega (arith, g))) (decimal_nonempty n (omega (arith, g))) (sym e)
+    not_a_sign (decimal n) s (decimal (suc m) ++ r) (AreDigits-decimal n (omega (arith, g)))
+    (decimal_nonempty n (omega (arith, g))) (sym e)
 signed_read (negsuc m) (negsuc n) r s f g h k e =
     let both = decimal_read (suc m) (suc n) r s (omega (arith, f)) (omega (arith, g)) h k (tails e) in
     (ap negsuc (omega (arith, both.0)), both.1)
@@ -99,4 +105,5 @@ pub optional_read : {X : Type 0} (absent : X → Bool) (text : X → List ℕ) (
     → ((z : X) → absent z ≡ true → z ≡ none) → NotFirst b r → NotFirst b s
     → (text x ++ r ≡ text y ++ s → (x ≡ y) × (r ≡ s))
     → cond (absent x) [] (b ∷ text x) ++ r ≡ cond (absent y) [] (b ∷ text y) ++ s → (x ≡ y) × (r ≡ s)
-optional_read absent text none x y b r s f h k read e = optional_by_cases none x y b (text x) (text y) r s (absent x) (absent y) (f x) (f y) h k read e
+optional_read absent text none x y b r s f h k read e =
+    optional_by_cases none x y b (text x) (text y) r s (absent x) (absent y) (f x) (f y) h k read e

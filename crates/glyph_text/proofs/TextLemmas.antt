@@ -1,16 +1,19 @@
 -- One more glyph, at the end of the written text.
-use Rattle.std.proofs.Common.{◌≡◌, ℕ, zero, suc, ◌+◌, ◌*◌, ◌^◌, ◌<◌, ◌≤◌, cond, List, [], ◌∷◌, ◌++◌, length, take, map, get_or, refl, ap, sym, ◌∙◌, arith, append_assoc}
+use Rattle.std.proofs.Common.{◌≡◌, ℕ, zero, suc, ◌+◌, ◌*◌, ◌^◌, ◌<◌, ◌≤◌, cond, List, [], ◌∷◌, ◌++◌, length, take, map}
+use Rattle.std.proofs.Common.{get_or, refl, ap, sym, ◌∙◌, arith, append_assoc}
 use Rattle.std.proofs.lemmas.List.{take_more, length-take-le, take_all, append-nil}
 use Rattle.std.proofs.lemmas.Slice.Zip.{get_or-zip, length-zip}
 use Rattle.std.specs.Prelude.{ℤ, pos, ◌+ℤ◌, nat_abs, Bool, true, false, not, ◌||◌}
 use Rattle.std.specs.List.{zip, join_with_byte}
 use Rattle.rb_glyph.specs.declared.flag_sets.SerializeFlags.{SerializeFlags}
-use Rattle.rb_glyph.specs.declared.flag_sets.TheConstants.SerializeFlags.{NO_POSITIONS, NO_GLYPH_NAMES, GLYPH_EXTENTS, NO_ADVANCES}
+use Rattle.rb_glyph.specs.declared.flag_sets.TheConstants.SerializeFlags.{NO_POSITIONS, NO_GLYPH_NAMES, GLYPH_EXTENTS}
+use Rattle.rb_glyph.specs.declared.flag_sets.TheConstants.SerializeFlags.{NO_ADVANCES}
 use Rattle.rb_glyph.specs.declared.info.hb_glyph_info_t.{hb_glyph_info_t}
 use Rattle.rb_glyph.specs.declared.position.GlyphPosition.{GlyphPosition}
 use Rattle.glyph_text.specs.declared.serialize.Point.{Point}
 use Rattle.glyph_text.specs.Point.{IsNear}
-use Rattle.glyph_text.specs.Text.{Font, has, asks_font, glyph_text, glyph_texts, glyphs_text, x_advances, y_advances, bar_before, offset_text, advance_text, position_text}
+use Rattle.glyph_text.specs.Text.{Font, has, asks_font, glyph_text, glyph_texts, glyphs_text, x_advances, y_advances}
+use Rattle.glyph_text.specs.Text.{bar_before, offset_text, advance_text, position_text}
 
 -- what stands for a glyph and for a position where there is none
 abbrev pub no_glyph : hb_glyph_info_t
@@ -20,7 +23,8 @@ abbrev pub no_position : GlyphPosition
 no_position = record { x_advance = pos 0; y_advance = pos 0; x_offset = pos 0; y_offset = pos 0; var = 0 }
 
 -- the glyphs before i are written, and their advances summed where places are told
-pub record Written (font : Font) (flags : SerializeFlags) (infos : List hb_glyph_info_t) (positions : List GlyphPosition) (i : ℕ) (text : List ℕ) (pen : Point) : Type 0 where
+pub record Written (font : Font) (flags : SerializeFlags) (infos : List hb_glyph_info_t)
+    (positions : List GlyphPosition) (i : ℕ) (text : List ℕ) (pen : Point) : Type 0 where
   pub told : text ≡ glyphs_text font flags (take i (zip infos positions))
   pub x : has flags NO_ADVANCES ≡ true → pen.x ≡ x_advances (take i positions)
   pub y : has flags NO_ADVANCES ≡ true → pen.y ≡ y_advances (take i positions)
@@ -28,7 +32,8 @@ pub record Written (font : Font) (flags : SerializeFlags) (infos : List hb_glyph
   pub y_near : nat_abs pen.y ≤ i * 2147483648
 
 -- such a place is near, however long the list
-pub near : (p : Point) (i n : ℕ) → i < n → n < 2 ^ 64 → nat_abs p.x ≤ i * 2147483648 → nat_abs p.y ≤ i * 2147483648 → IsNear p
+pub near : (p : Point) (i n : ℕ) → i < n → n < 2 ^ 64 → nat_abs p.x ≤ i * 2147483648 → nat_abs p.y ≤ i * 2147483648
+    → IsNear p
 near p i n h f x y = record { x = omega arith; y = omega arith }
 
 pub asks_for_name : (flags : SerializeFlags) → has flags NO_GLYPH_NAMES ≡ false → asks_font flags ≡ true
@@ -43,7 +48,8 @@ asks_for_extents flags e = or_right (not (has flags NO_GLYPH_NAMES)) (has flags 
 
 -- a bar and the five pieces of a glyph, one after another
 pub pieces_more : (old headed placed flagged now bar name cluster position flags extents : List ℕ)
-    → headed ≡ old ++ bar ++ name ++ cluster → placed ≡ headed ++ position → flagged ≡ placed ++ flags → now ≡ flagged ++ extents
+    → headed ≡ old ++ bar ++ name ++ cluster → placed ≡ headed ++ position → flagged ≡ placed ++ flags
+    → now ≡ flagged ++ extents
     → now ≡ (old ++ bar) ++ (name ++ cluster ++ position ++ flags ++ extents)
 pieces_more old headed placed flagged now bar name cluster position flags extents h p f e =
     let a = old ++ bar in
@@ -53,18 +59,22 @@ pieces_more old headed placed flagged now bar name cluster position flags extent
     ∙ ap (λ l. l ++ extents) (append_assoc a (name ++ cluster ++ position) flags)
     ∙ append_assoc a (name ++ cluster ++ position ++ flags) extents
 
-chosen : (b : Bool) (f : ℤ → ℤ → List ℕ) (other : List ℕ) (x y u v : ℤ) → (b ≡ true → x ≡ u) → (b ≡ true → y ≡ v) → cond b (f x y) other ≡ cond b (f u v) other
+chosen : (b : Bool) (f : ℤ → ℤ → List ℕ) (other : List ℕ) (x y u v : ℤ) → (b ≡ true → x ≡ u) → (b ≡ true → y ≡ v)
+    → cond b (f x y) other ≡ cond b (f u v) other
 chosen true f other x y u v e g = ap (λ x. f x y) (e refl) ∙ ap (λ y. f u y) (g refl)
 chosen false f other x y u v e g = refl
 
 -- a place is told only under `NO_ADVANCES`
-pub position_told : (flags : SerializeFlags) (x y u v : ℤ) (p : GlyphPosition) → (has flags NO_ADVANCES ≡ true → x ≡ u) → (has flags NO_ADVANCES ≡ true → y ≡ v)
+pub position_told : (flags : SerializeFlags) (x y u v : ℤ) (p : GlyphPosition) → (has flags NO_ADVANCES ≡ true → x ≡ u)
+    → (has flags NO_ADVANCES ≡ true → y ≡ v)
     → position_text flags x y p ≡ position_text flags u v p
 position_told flags x y u v p e g =
     ap (λ told. cond (has flags NO_POSITIONS) [] told)
-    (chosen (has flags NO_ADVANCES) (λ x y. offset_text (x +ℤ p.x_offset) (y +ℤ p.y_offset)) (offset_text p.x_offset p.y_offset ++ advance_text p.x_advance p.y_advance) x y u v e g)
+    (chosen (has flags NO_ADVANCES) (λ x y. offset_text (x +ℤ p.x_offset) (y +ℤ p.y_offset))
+    (offset_text p.x_offset p.y_offset ++ advance_text p.x_advance p.y_advance) x y u v e g)
 
-join_more : (x : List ℕ) (xs : List (List ℕ)) (piece : List ℕ) → join_with_byte 124 ((x ∷ xs) ++ piece ∷ []) ≡ (join_with_byte 124 (x ∷ xs) ++ 124 ∷ []) ++ piece
+join_more : (x : List ℕ) (xs : List (List ℕ)) (piece : List ℕ)
+    → join_with_byte 124 ((x ∷ xs) ++ piece ∷ []) ≡ (join_with_byte 124 (x ∷ xs) ++ 124 ∷ []) ++ piece
 join_more x [] piece = sym (append_assoc x (124 ∷ []) piece)
 join_more x (y ∷ xs) piece =
     let rest = join_with_byte 124 (y ∷ xs) in
@@ -73,35 +83,45 @@ join_more x (y ∷ xs) piece =
     ∙ ap (λ l. l ++ piece) (sym (append_assoc x (124 ∷ rest) (124 ∷ [])))
 
 -- the pieces before i, a bar, and the piece at i
-pub join-push : (pieces : List (List ℕ)) (i : ℕ) (piece : List ℕ) → length pieces ≡ i → join_with_byte 124 (pieces ++ piece ∷ []) ≡ (join_with_byte 124 pieces ++ bar_before i) ++ piece
+pub join-push : (pieces : List (List ℕ)) (i : ℕ) (piece : List ℕ) → length pieces ≡ i
+    → join_with_byte 124 (pieces ++ piece ∷ []) ≡ (join_with_byte 124 pieces ++ bar_before i) ++ piece
 join-push [] zero piece n = refl
 join-push [] (suc i) piece n = absurd (omega arith)
 join-push (x ∷ xs) zero piece n = absurd (omega arith)
 join-push (x ∷ xs) (suc i) piece n = join_more x xs piece
 
-pub glyph_texts-push : (font : Font) (flags : SerializeFlags) (earlier : List GlyphPosition) (gs : List (hb_glyph_info_t × GlyphPosition)) (g : hb_glyph_info_t × GlyphPosition)
-    → glyph_texts font flags earlier (gs ++ g ∷ []) ≡ glyph_texts font flags earlier gs ++ glyph_text font flags (earlier ++ map (λ g. g.1) gs) g ∷ []
+pub glyph_texts-push : (font : Font) (flags : SerializeFlags) (earlier : List GlyphPosition)
+    (gs : List (hb_glyph_info_t × GlyphPosition)) (g : hb_glyph_info_t × GlyphPosition)
+    → glyph_texts font flags earlier (gs ++ g ∷ []) ≡ glyph_texts font flags earlier gs
+    ++ glyph_text font flags (earlier ++ map (λ g. g.1) gs) g ∷ []
 glyph_texts-push font flags earlier [] g = ap (λ ps. glyph_text font flags ps g ∷ []) (sym (append-nil earlier))
 glyph_texts-push font flags earlier (h ∷ gs) g =
     ap (λ l. glyph_text font flags earlier h ∷ l)
     (glyph_texts-push font flags (earlier ++ h.1 ∷ []) gs g
-    ∙ ap (λ ps. glyph_texts font flags (earlier ++ h.1 ∷ []) gs ++ glyph_text font flags ps g ∷ []) (append_assoc earlier (h.1 ∷ []) (map (λ g. g.1) gs)))
+    ∙ ap (λ ps. glyph_texts font flags (earlier ++ h.1 ∷ []) gs ++ glyph_text font flags ps g ∷ [])
+    (append_assoc earlier (h.1 ∷ []) (map (λ g. g.1) gs)))
 
-pub length-glyph_texts : (font : Font) (flags : SerializeFlags) (earlier : List GlyphPosition) (gs : List (hb_glyph_info_t × GlyphPosition)) → length (glyph_texts font flags earlier gs) ≡ length gs
+pub length-glyph_texts : (font : Font) (flags : SerializeFlags) (earlier : List GlyphPosition)
+    (gs : List (hb_glyph_info_t × GlyphPosition)) → length (glyph_texts font flags earlier gs) ≡ length gs
 length-glyph_texts font flags earlier [] = refl
 length-glyph_texts font flags earlier (g ∷ gs) = ap suc (length-glyph_texts font flags (earlier ++ g.1 ∷ []) gs)
 
 -- the positions of the first glyphs
-positions_of-take : (infos : List hb_glyph_info_t) (positions : List GlyphPosition) (i : ℕ) → length positions ≡ length infos → i ≤ length infos
+positions_of-take : (infos : List hb_glyph_info_t) (positions : List GlyphPosition) (i : ℕ)
+    → length positions ≡ length infos → i ≤ length infos
     → map (λ g. g.1) (take i (zip infos positions)) ≡ take i positions
 positions_of-take infos positions zero n h = refl
 positions_of-take [] [] (suc i) n h = refl
 positions_of-take [] (p ∷ ps) (suc i) n h = absurd (omega arith)
 positions_of-take (g ∷ gs) [] (suc i) n h = absurd (omega arith)
-positions_of-take (g ∷ gs) (p ∷ ps) (suc i) n h = ap (λ l. p ∷ l) (positions_of-take gs ps i (omega arith) (omega arith))
+positions_of-take (g ∷ gs) (p ∷ ps) (suc i) n h =
+    ap (λ l. p ∷ l) (positions_of-take gs ps i (omega arith) (omega arith))
 
-pub text_more : (font : Font) (flags : SerializeFlags) (infos : List hb_glyph_info_t) (positions : List GlyphPosition) (i : ℕ) (d : hb_glyph_info_t) (e : GlyphPosition) → i < length infos → length positions ≡ length infos
-    → glyphs_text font flags (take (i + 1) (zip infos positions)) ≡ (glyphs_text font flags (take i (zip infos positions)) ++ bar_before i) ++ glyph_text font flags (take i positions) (get_or infos i d, get_or positions i e)
+pub text_more : (font : Font) (flags : SerializeFlags) (infos : List hb_glyph_info_t) (positions : List GlyphPosition)
+    (i : ℕ) (d : hb_glyph_info_t) (e : GlyphPosition) → i < length infos → length positions ≡ length infos
+    → glyphs_text font flags (take (i + 1) (zip infos positions))
+    ≡ (glyphs_text font flags (take i (zip infos positions)) ++ bar_before i)
+    ++ glyph_text font flags (take i positions) (get_or infos i d, get_or positions i e)
 text_more font flags infos positions i d e h n =
     let gs = zip infos positions in
     let zipped : i < length gs = omega (arith, length-zip infos positions) in
@@ -111,9 +131,13 @@ text_more font flags infos positions i d e h n =
     ∙ ap (join_with_byte 124) (glyph_texts-push font flags [] front g)
     ∙ join-push (glyph_texts font flags [] front) i (glyph_text font flags (map (λ g. g.1) front) g)
     (length-glyph_texts font flags [] front ∙ length-take-le i gs (omega (arith, zipped)))
-    ∙ ap (λ ps. (glyphs_text font flags front ++ bar_before i) ++ glyph_text font flags ps g) (positions_of-take infos positions i n (omega arith))
-    ∙ ap (λ p. (glyphs_text font flags front ++ bar_before i) ++ glyph_text font flags (take i positions) p) (get_or-zip infos positions i (d, e) h (omega arith))
+    ∙ ap (λ ps. (glyphs_text font flags front ++ bar_before i) ++ glyph_text font flags ps g)
+    (positions_of-take infos positions i n (omega arith))
+    ∙ ap (λ p. (glyphs_text font flags front ++ bar_before i) ++ glyph_text font flags (take i positions) p)
+    (get_or-zip infos positions i (d, e) h (omega arith))
 
-pub text_all : (font : Font) (flags : SerializeFlags) (infos : List hb_glyph_info_t) (positions : List GlyphPosition) (i : ℕ) → length infos ≤ i
+pub text_all : (font : Font) (flags : SerializeFlags) (infos : List hb_glyph_info_t) (positions : List GlyphPosition)
+    (i : ℕ) → length infos ≤ i
     → glyphs_text font flags (take i (zip infos positions)) ≡ glyphs_text font flags (zip infos positions)
-text_all font flags infos positions i h = ap (glyphs_text font flags) (take_all i (zip infos positions) (omega (arith, length-zip infos positions)))
+text_all font flags infos positions i h =
+    ap (glyphs_text font flags) (take_all i (zip infos positions) (omega (arith, length-zip infos positions)))

@@ -1,10 +1,12 @@
 -- The serialized text: of each glyph the pieces that a set of flags asks for, and the glyphs joined by bars.
-use Rattle.std.specs.Prelude.{ℕ, zero, suc, ◌≤◌, ◌==◌, Bool, ◌&&◌, ◌||◌, not, List, [], ◌∷◌, ◌++◌, Option, None, unwrap_or, codes, ℤ, pos, ◌+ℤ◌, if◌then◌else◌, bit_and}
+use Rattle.std.specs.Prelude.{ℕ, zero, suc, ◌≤◌, ◌==◌, Bool, ◌&&◌, ◌||◌, not, List, [], ◌∷◌, ◌++◌, Option, None}
+use Rattle.std.specs.Prelude.{unwrap_or, codes, ℤ, pos, ◌+ℤ◌, if◌then◌else◌, bit_and}
 use Rattle.std.specs.Fmt.{decimal, signed_decimal}
 use Rattle.std.specs.Ordering.{int_eq}
 use Rattle.std.specs.List.{All, fold, join_with_byte}
 use Rattle.rb_glyph.specs.declared.flag_sets.SerializeFlags.{SerializeFlags}
-use Rattle.rb_glyph.specs.declared.flag_sets.TheConstants.SerializeFlags.{NO_CLUSTERS, NO_POSITIONS, NO_GLYPH_NAMES, GLYPH_EXTENTS, GLYPH_FLAGS, NO_ADVANCES}
+use Rattle.rb_glyph.specs.declared.flag_sets.TheConstants.SerializeFlags.{NO_CLUSTERS, NO_POSITIONS, NO_GLYPH_NAMES}
+use Rattle.rb_glyph.specs.declared.flag_sets.TheConstants.SerializeFlags.{GLYPH_EXTENTS, GLYPH_FLAGS, NO_ADVANCES}
 use Rattle.rb_glyph.specs.declared.glyph_flag.TheConstants.{DEFINED}
 use Rattle.rb_glyph.specs.declared.info.hb_glyph_info_t.{hb_glyph_info_t}
 use Rattle.rb_glyph.specs.declared.names.GlyphExtents.{GlyphExtents}
@@ -41,8 +43,8 @@ offset_text x y = if int_eq x (pos 0) && int_eq y (pos 0) then [] else 64 ∷ si
 abbrev pub advance_text : ℤ → ℤ → List ℕ
 advance_text x y = 43 ∷ signed_decimal x ++ (if int_eq y (pos 0) then [] else 44 ∷ signed_decimal y)
 
--- the offsets and the advances; under `NO_ADVANCES` the offsets alone, from the sums x and y of all earlier advances; under
--- `NO_POSITIONS` nothing
+-- the offsets and the advances; under `NO_ADVANCES` the offsets alone, from the sums x and y of all earlier advances;
+-- under `NO_POSITIONS` nothing
 abbrev pub position_text : SerializeFlags → ℤ → ℤ → GlyphPosition → List ℕ
 position_text flags x y p =
     if has flags NO_POSITIONS then []
@@ -51,7 +53,8 @@ position_text flags x y p =
 
 -- "#" and the glyph flags as a digit, from 1 to 7, under `GLYPH_FLAGS`, unless there are none
 abbrev pub flags_text : SerializeFlags → ℕ → List ℕ
-flags_text flags mask = if not (has flags GLYPH_FLAGS) || bit_and mask DEFINED == 0 then [] else 35 ∷ decimal (bit_and mask DEFINED)
+flags_text flags mask =
+    if not (has flags GLYPH_FLAGS) || bit_and mask DEFINED == 0 then [] else 35 ∷ decimal (bit_and mask DEFINED)
 
 -- the extents of a glyph of which the font knows none
 abbrev pub zero_extents : GlyphExtents
@@ -59,7 +62,8 @@ zero_extents = record { x_bearing = pos 0; y_bearing = pos 0; width = pos 0; hei
 
 -- "<x_bearing,y_bearing,width,height>"
 abbrev pub box_text : GlyphExtents → List ℕ
-box_text e = 60 ∷ signed_decimal e.x_bearing ++ 44 ∷ signed_decimal e.y_bearing ++ 44 ∷ signed_decimal e.width ++ 44 ∷ signed_decimal e.height ++ 62 ∷ []
+box_text e = 60 ∷ signed_decimal e.x_bearing ++ 44 ∷ signed_decimal e.y_bearing ++ 44 ∷ signed_decimal e.width
+    ++ 44 ∷ signed_decimal e.height ++ 62 ∷ []
 
 -- the extents, or zeros where the font has none, under `GLYPH_EXTENTS`
 abbrev pub extents_text : SerializeFlags → Option GlyphExtents → List ℕ
@@ -84,9 +88,11 @@ glyph_text font flags earlier g =
     ++ extents_text flags (font.extents g.0.glyph_id)
 
 -- the text of each glyph, after glyphs with these positions
-abbrev pub glyph_texts : Font → SerializeFlags → List GlyphPosition → List (hb_glyph_info_t × GlyphPosition) → List (List ℕ)
+abbrev pub glyph_texts : Font → SerializeFlags → List GlyphPosition → List (hb_glyph_info_t × GlyphPosition)
+    → List (List ℕ)
 glyph_texts font flags earlier [] = []
-glyph_texts font flags earlier (g ∷ gs) = glyph_text font flags earlier g ∷ glyph_texts font flags (earlier ++ g.1 ∷ []) gs
+glyph_texts font flags earlier (g ∷ gs) =
+    glyph_text font flags earlier g ∷ glyph_texts font flags (earlier ++ g.1 ∷ []) gs
 
 -- the texts of the glyphs, joined by "|"
 abbrev pub glyphs_text : Font → SerializeFlags → List (hb_glyph_info_t × GlyphPosition) → List ℕ

@@ -205,7 +205,8 @@ fn write_name<F: GlyphNames>(
 ) -> Result<(), AllocError>
     requires { info.now.glyph_id ≤ 65535 }
     ensures { OnOk result (string_bytes text.new ≡ string_bytes text.old
-        ++ unwrap_or (F.name_of font.now info.now.glyph_id) (codes "gid" ++ decimal info.now.glyph_id)) }
+        ++ unwrap_or (F.name_of font.now info.now.glyph_id)
+        (codes "gid" ++ decimal info.now.glyph_id)) }
 {
     match font.glyph_name(info.as_glyph()) {
         Some(name) => text.push_str(name),

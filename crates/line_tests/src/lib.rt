@@ -1,5 +1,5 @@
-//! Tests of `shaping_lines` and `line_words`, over what they make public, as in the `tests/` folder of a Rust crate. What each line is
-//! answered with stands in the stored run of `shaping_cli`.
+//! Tests of `shaping_lines` and `line_words`, over what they make public, as in the `tests/` folder of a Rust crate.
+//! What each line is answered with stands in the stored run of `shaping_cli`.
 #![tactic(auto)]
 
 #[cfg(test)]

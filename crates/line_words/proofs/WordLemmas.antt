@@ -1,5 +1,6 @@
 -- Digits, and the numbers that they write.
-use Rattle.std.proofs.Common.{ℕ, ◌≡◌, ◌^◌, ◌<◌, List, [], ◌∷◌, Bool, true, false, Result, Ok, Err, SomeIff, refl, subst, arith, rules}
+use Rattle.std.proofs.Common.{ℕ, ◌≡◌, ◌^◌, ◌<◌, List, [], ◌∷◌, Bool, true, false, Result, Ok, Err, SomeIff, refl, subst}
+use Rattle.std.proofs.Common.{arith, rules}
 use Rattle.std.specs.Char.{is_ascii_digit, is_ascii_hexdigit, digit_value}
 use Rattle.std.specs.List.{list_all}
 use Rattle.std.specs.Result.{OkIff, result_ok}
@@ -13,7 +14,8 @@ decimals : IsNumeralModel (λ word. list_all is_ascii_digit word ≡ true) decim
 decimals = numerals_by_value _ (search rules)
 
 -- `parse` at a text of digits
-pub decimal_from_parse : {E : Type 0} → (word : List ℕ) (r : Result ℕ E) → ParsesUnsigned 64 10 word r → list_all is_ascii_digit word ≡ true
+pub decimal_from_parse : {E : Type 0} → (word : List ℕ) (r : Result ℕ E) → ParsesUnsigned 64 10 word r
+    → list_all is_ascii_digit word ≡ true
     → SomeIff (result_ok r) (IsDecimal word × (decimal_value word < 2 ^ 64)) (decimal_value word)
 decimal_from_parse {E} word (Ok n) h p =
     let q = parse_digits decimals {E = E} 64 word (Ok n) h p in (((q.0.0, p), q.0.1), q.1)
@@ -27,7 +29,8 @@ hexadecimal_digits : (word : List ℕ) → list_all is_ascii_hexdigit word ≡ t
 hexadecimal_digits [] h = tt
 hexadecimal_digits (c ∷ cs) h = first (is_ascii_hexdigit c) refl (hexadecimal_digits cs)
   where
-    first : (b : Bool) → is_ascii_hexdigit c ≡ b → (list_all is_ascii_hexdigit cs ≡ true → AllDigits 16 cs) → AllDigits 16 (c ∷ cs)
+    first : (b : Bool) → is_ascii_hexdigit c ≡ b → (list_all is_ascii_hexdigit cs ≡ true → AllDigits 16 cs)
+        → AllDigits 16 (c ∷ cs)
     first true e more = (hexadecimal_digit c e, more (search (rules, h, e)))
     first false e more = absurd (search (rules, h, e))
 
@@ -36,11 +39,14 @@ no_plus [] h = refl
 no_plus (c ∷ cs) h = search (rules, h)
 
 -- the same of hexadecimal digits
-pub hexadecimal_from_parse : {E : Type 0} → (word : List ℕ) (r : Result ℕ E) → ParsesUnsigned 32 16 word r → list_all is_ascii_hexdigit word ≡ true
+pub hexadecimal_from_parse : {E : Type 0} → (word : List ℕ) (r : Result ℕ E) → ParsesUnsigned 32 16 word r
+    → list_all is_ascii_hexdigit word ≡ true
     → SomeIff (result_ok r) (IsHexadecimal word × (hexadecimal_value word < 2 ^ 32)) (hexadecimal_value word)
 hexadecimal_from_parse {E} word (Ok n) h p =
-    let q = subst (λ t. OkIff {E = E} (Ok n) (IsNumeral 16 t × (digits_value 16 t < 2 ^ 32)) (digits_value 16 t)) (no_plus word p) h in
+    let q = subst (λ t. OkIff {E = E} (Ok n) (IsNumeral 16 t × (digits_value 16 t < 2 ^ 32)) (digits_value 16 t))
+    (no_plus word p) h in
     (((q.0.0.0, p), q.0.1), q.1)
 hexadecimal_from_parse {E} word (Err e) h p =
-    let q = subst (λ t. OkIff {E = E} (Err e) (IsNumeral 16 t × (digits_value 16 t < 2 ^ 32)) (digits_value 16 t)) (no_plus word p) h in
+    let q = subst (λ t. OkIff {E = E} (Err e) (IsNumeral 16 t × (digits_value 16 t < 2 ^ 32)) (digits_value 16 t))
+    (no_plus word p) h in
     λ d. q ((d.0.0, hexadecimal_digits word p), d.1)

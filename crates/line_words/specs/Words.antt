@@ -1,5 +1,6 @@
 -- The words of a line.
-use Rattle.std.specs.Prelude.{ℕ, ◌<◌, ◌^◌, ◌&&◌, ◌==◌, ◌≡◌, List, length, Option, Some, None, Bool, true, if◌then◌else◌, nat_lt, option_and_then, option_map, codes}
+use Rattle.std.specs.Prelude.{ℕ, ◌<◌, ◌^◌, ◌&&◌, ◌==◌, ◌≡◌, List, length, Option, Some, None, Bool, true, if◌then◌else◌}
+use Rattle.std.specs.Prelude.{nat_lt, option_and_then, option_map, codes}
 use lib.Utf8.{scalar}
 use Rattle.std.specs.Char.{is_ascii_digit, is_ascii_hexdigit}
 use Rattle.std.specs.List.{before_first, after_first, position_or_len, list_all}

@@ -1,4 +1,5 @@
-use Rattle.std.proofs.Common.{◌≡◌, ℕ, ◌+◌, ◌*◌, ◌-◌, ◌<◌, ◌≤◌, ◌^◌, None, List, [], ◌∷◌, Bool, true, false, length, take}
+use Rattle.std.proofs.Common.{◌≡◌, ℕ, ◌+◌, ◌*◌, ◌-◌, ◌<◌, ◌≤◌, ◌^◌, None, List, [], ◌∷◌, Bool, true, false, length}
+use Rattle.std.proofs.Common.{take}
 use Rattle.std.proofs.Common.{get_or, arith, refl, sym, subst, ◌∙◌}
 use Rattle.std.specs.List.{take_while, prefix_len, AllPass}
 use Rattle.std.specs.Char.{is_ascii_digit}
@@ -38,7 +39,8 @@ refused_none b ds h large = too_wide b (digits_value 10 ds) large ∙ sym (signe
 
 -- one more digit
 pub value_more : (ds : List ℕ) (i : ℕ) → AllPass is_ascii_digit ds → i < length ds
-    → (48 ≤ get_or ds i 0) × (digits_value 10 (take (i + 1) ds) ≡ digits_value 10 (take i ds) * 10 + (get_or ds i 0 - 48))
+    → (48 ≤ get_or ds i 0) × (digits_value 10 (take (i + 1) ds)
+    ≡ digits_value 10 (take i ds) * 10 + (get_or ds i 0 - 48))
 value_more ds i all h =
     let r = in_range (get_or ds i 0) (all i 0 h) in
     let e = digit_value_digit (get_or ds i 0) r in

@@ -70,7 +70,8 @@ impl Feature {
     /// Whether the feature reaches the whole text.
     pub fn is_global(&self) -> bool
         ensures { IsTrue result
-            ↔ ((self.now.start ≡ HB_FEATURE_GLOBAL_START) × (self.now.end ≡ HB_FEATURE_GLOBAL_END)) }
+            ↔ ((self.now.start ≡ HB_FEATURE_GLOBAL_START)
+            × (self.now.end ≡ HB_FEATURE_GLOBAL_END)) }
     {
         self.start == HB_FEATURE_GLOBAL_START && self.end == HB_FEATURE_GLOBAL_END
     }

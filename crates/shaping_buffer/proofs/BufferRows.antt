@@ -6,7 +6,8 @@ use Rattle.std.specs.Str.{chars}
 use Rattle.std.specs.Fmt.{digits}
 use Rattle.std.specs.List.{sum}
 use Rattle.rb_glyph.specs.declared.flag_sets.SerializeFlags.{SerializeFlags}
-use Rattle.rb_glyph.specs.declared.flag_sets.TheConstants.SerializeFlags.{NO_GLYPH_NAMES, NO_POSITIONS, NO_ADVANCES, GLYPH_EXTENTS, DEFINED}
+use Rattle.rb_glyph.specs.declared.flag_sets.TheConstants.SerializeFlags.{NO_GLYPH_NAMES, NO_POSITIONS, NO_ADVANCES}
+use Rattle.rb_glyph.specs.declared.flag_sets.TheConstants.SerializeFlags.{GLYPH_EXTENTS, DEFINED}
 use Rattle.rb_glyph.specs.declared.info.hb_glyph_info_t.{hb_glyph_info_t}
 use Rattle.glyph_lists.specs.Clusters.{zero_glyph, least}
 use Rattle.glyph_lists.specs.Marks.{with_glyph_flags, mark_part, end_mark, ends}
@@ -34,14 +35,16 @@ flags_of bits = record { 0 = sum bits }
 
 -- the text of a character pushed into a new buffer
 abbrev text_of_a : List ℕ → List ℕ
-text_of_a bits = text_of nothing_known (flags_of bits) (with_zero_positions (pushed (codes "a") (empty_state 9 (pos 0))).state)
+text_of_a bits =
+    text_of nothing_known (flags_of bits) (with_zero_positions (pushed (codes "a") (empty_state 9 (pos 0))).state)
 
 nothing_reads_as_nothing : text_of nothing_known NO_GLYPH_NAMES (with_zero_positions (empty_state 9 (pos 0))) ≡ []
 nothing_reads_as_nothing = refl
 
 each_text_is_numbered_from_its_first_byte :
     text_of nothing_known (flags_of (NO_GLYPH_NAMES.0 ∷ NO_POSITIONS.0 ∷ []))
-    (with_zero_positions (pushed (codes "a") (pushed (encode_utf8_all (233 ∷ 122 ∷ [])) (empty_state 9 (pos 0))).state).state)
+    (with_zero_positions
+    (pushed (codes "a") (pushed (encode_utf8_all (233 ∷ 122 ∷ [])) (empty_state 9 (pos 0))).state).state)
     ≡ codes "233=0|122=2|97=0"
 unfolding chars encode_utf8 digits
 each_text_is_numbered_from_its_first_byte = refl
@@ -62,7 +65,8 @@ all_flags : text_of_a (DEFINED.0 ∷ []) ≡ codes "97<0,0,0,0>"
 unfolding chars encode_utf8 digits
 all_flags = refl
 
-text_is_too_long : pushed (codes "ab") (empty_state 1 (pos 0)) ≡ record { done = false; state = record (empty_state 1 (pos 0)) { successful = false } }
+text_is_too_long : pushed (codes "ab") (empty_state 1 (pos 0))
+    ≡ record { done = false; state = record (empty_state 1 (pos 0)) { successful = false } }
 unfolding chars encode_utf8
 text_is_too_long = refl
 

@@ -8,6 +8,7 @@ use Rattle.std.specs.Char.{IsScalar}
 use Rattle.std.specs.Str.{chars, all_scalars}
 use Rattle.rb_glyph.specs.declared.info.hb_glyph_info_t.{hb_glyph_info_t}
 use Rattle.shaping_buffer.specs.Pushed.{character, glyphs_at}
+use Rattle.shaping_buffer.proofs.PushedLemmas.{length_pushed}
 use Rattle.glyph_lists.specs.Guess.{AreCharacters}
 use Rattle.glyph_lists.specs.ClusterNumbers.{reset_clusters}
 
@@ -23,18 +24,25 @@ characters-glyphs_at offset (c ∷ cs) s =
     All-cons Is (character c (offset % 4294967296)) (glyphs_at rest cs) parts.0 (characters-glyphs_at rest cs parts.1)
 
 -- a text that is pushed
-pub characters_pushed : (l : List hb_glyph_info_t) (text : List ℕ) → IsUtf8 text → AreCharacters l → AreCharacters (l ++ glyphs_at 0 (chars text))
-characters_pushed l text utf8 all = All-append Is l (glyphs_at 0 (chars text)) all (characters-glyphs_at 0 (chars text) (scalars-chars text utf8))
+pub characters_pushed : (l : List hb_glyph_info_t) (text : List ℕ) → IsUtf8 text → AreCharacters l
+    → AreCharacters (l ++ glyphs_at 0 (chars text))
+characters_pushed l text utf8 all =
+    All-append Is l (glyphs_at 0 (chars text)) all (characters-glyphs_at 0 (chars text) (scalars-chars text utf8))
+
+pub ruleset pushes = (length_pushed, characters_pushed)
 
 -- a character that is added
-pub characters_added : (l : List hb_glyph_info_t) (c cluster : ℕ) → IsScalar c → AreCharacters l → AreCharacters (l ++ character c cluster ∷ [])
+pub characters_added : (l : List hb_glyph_info_t) (c cluster : ℕ) → IsScalar c → AreCharacters l
+    → AreCharacters (l ++ character c cluster ∷ [])
 characters_added l c cluster scalar all = All-push Is l (character c cluster) all scalar
 
 -- clusters that are numbered anew
 pub characters_reset : (first : ℕ) (l : List hb_glyph_info_t) → AreCharacters l → AreCharacters (reset_clusters first l)
 characters_reset first [] all = All-nil Is
 characters_reset first (g ∷ l) all =
-    All-cons Is (record g { cluster = first % 4294967296 }) (reset_clusters (first + 1) l) (All-head Is g l all) (characters_reset (first + 1) l (All-tail Is g l all))
+    All-cons Is (record g { cluster = first % 4294967296 }) (reset_clusters (first + 1) l) (All-head Is g l all)
+    (characters_reset (first + 1) l (All-tail Is g l all))
 
-pub characters_along : (l new : List hb_glyph_info_t) (text : List ℕ) → IsUtf8 text → new ≡ l ++ glyphs_at 0 (chars text) → AreCharacters l → AreCharacters new
+pub characters_along : (l new : List hb_glyph_info_t) (text : List ℕ) → IsUtf8 text
+    → new ≡ l ++ glyphs_at 0 (chars text) → AreCharacters l → AreCharacters new
 characters_along l new text utf8 is all = subst AreCharacters (sym is) (characters_pushed l text utf8 all)

@@ -3,8 +3,10 @@ use Rattle.std.proofs.Common.{◌≡◌, ℕ, List, [], ◌∷◌, refl, pos, tr
 use Rattle.std.specs.Prelude.{◌+◌, ◌==◌, ℤ, Some}
 use Rattle.rb_glyph.specs.declared.info.hb_glyph_info_t.{hb_glyph_info_t}
 use Rattle.rb_glyph.specs.declared.position.GlyphPosition.{GlyphPosition}
-use Rattle.glyph_lists.specs.Clusters.{zero_glyph, least, with_cluster, run_start, run_end, range_least, widened_start, widened_end, run_merge}
-use Rattle.glyph_lists.specs.Deletion.{merge_or_mark, deletion, is_not_empty, begins_with, last_cluster, lowers_run, merges_next, with_trailing_run}
+use Rattle.glyph_lists.specs.Clusters.{zero_glyph, least, with_cluster, run_start, run_end, range_least, widened_start}
+use Rattle.glyph_lists.specs.Clusters.{widened_end, run_merge}
+use Rattle.glyph_lists.specs.Deletion.{merge_or_mark, deletion, is_not_empty, begins_with, last_cluster, lowers_run}
+use Rattle.glyph_lists.specs.Deletion.{merges_next, with_trailing_run}
 use Rattle.glyph_lists.specs.Groups.{Test, share_cluster, share_syllable, group_end}
 use Rattle.shaping_buffer.specs.State.{State, empty_state}
 use Rattle.shaping_buffer.specs.Positions.{zero_position}
@@ -63,12 +65,19 @@ no_syllable_past_the_end = refl
 
 next_glyph_takes_the_cluster :
     delete_glyphs_inplace (λ g. g.glyph_id == 97) (placed_text (0 ∷ 1 ∷ 2 ∷ []))
-    ≡ record (text []) { input = letter 98 0 ∷ letter 99 2 ∷ []; positions = Some (advance (pos 20) ∷ advance (pos 30) ∷ []) }
-unfolding deletion lowers_run merges_next begins_with last_cluster is_not_empty merge_or_mark run_merge range_least widened_start widened_end run_start run_end least with_cluster
+    ≡ record (text []) {
+      input = letter 98 0 ∷ letter 99 2 ∷ [];
+      positions = Some (advance (pos 20) ∷ advance (pos 30) ∷ []);
+    }
+unfolding deletion lowers_run merges_next begins_with last_cluster is_not_empty merge_or_mark run_merge range_least
+    widened_start widened_end run_start run_end least with_cluster
 next_glyph_takes_the_cluster = refl
 
 last_glyph_takes_the_cluster :
     delete_glyphs_inplace (λ g. g.glyph_id == 98) (placed_text (2 ∷ 1 ∷ 0 ∷ []))
-    ≡ record (text []) { input = letter 97 1 ∷ letter 99 0 ∷ []; positions = Some (advance (pos 10) ∷ advance (pos 30) ∷ []) }
+    ≡ record (text []) {
+      input = letter 97 1 ∷ letter 99 0 ∷ [];
+      positions = Some (advance (pos 10) ∷ advance (pos 30) ∷ []);
+    }
 unfolding deletion lowers_run merges_next begins_with last_cluster is_not_empty with_trailing_run run_start with_cluster
 last_glyph_takes_the_cluster = refl

@@ -1,5 +1,6 @@
 -- Groups that are reversed one after the other.
-use Rattle.std.proofs.Common.{◌≡◌, ℕ, zero, suc, ◌+◌, ◌<◌, ◌≤◌, inl, inr, Bool, true, false, List, [], length, take, drop, if◌then◌else◌, refl, sym, ap, ◌∙◌, arith, drop-drop}
+use Rattle.std.proofs.Common.{◌≡◌, ℕ, zero, suc, ◌+◌, ◌<◌, ◌≤◌, inl, inr, Bool, true, false, List, [], length, take}
+use Rattle.std.proofs.Common.{drop, if◌then◌else◌, refl, sym, ap, ◌∙◌, arith, drop-drop}
 use Rattle.std.proofs.Common.{reverse as reverse_list, length-drop, length-append}
 use Rattle.std.specs.Prelude.{nat_lt, Option, None, Some, unwrap_or}
 use Rattle.std.specs.Option.{option_map}
@@ -10,10 +11,13 @@ use Rattle.glyph_lists.specs.Deletion.{merge_or_mark}
 use Rattle.glyph_lists.specs.Groups as groups
 use Rattle.glyph_lists.specs.Groups.{Test, group_end, group_lens, first_group_len}
 use Rattle.glyph_lists.proofs.LengthsLemmas.{length-merge_or_mark}
-use Rattle.glyph_lists.proofs.GroupsLemmas.{group_lens_first, first_group_len-within, total_of_groups, total, length-reverse_range, after_reverse_range, ranges_reversed, ranges_in_reverse}
+use Rattle.glyph_lists.proofs.GroupsLemmas.{group_lens_first, first_group_len-within, total_of_groups, total}
+use Rattle.glyph_lists.proofs.GroupsLemmas.{length-reverse_range, after_reverse_range, ranges_reversed}
+use Rattle.glyph_lists.proofs.GroupsLemmas.{ranges_in_reverse}
 use Rattle.shaping_buffer.specs.State.{State, len}
 use Rattle.shaping_buffer.specs.ClusterStep.{merge_clusters, any_order, both, both_place, floor_of}
-use Rattle.shaping_buffer.specs.GroupStep.{KeepsOthers, reverse, reverse_range, reverse_group, merged_groups, groups_in_reverse, reverse_groups}
+use Rattle.shaping_buffer.specs.GroupStep.{KeepsOthers, reverse, reverse_range, reverse_group, merged_groups}
+use Rattle.shaping_buffer.specs.GroupStep.{groups_in_reverse, reverse_groups}
 
 -- the groups from `start` on, at most `turns` of them
 abbrev pub reverse_each : Bool → Test → ℕ → ℕ → State → State
@@ -29,16 +33,24 @@ reverse_each merges test (suc turns) start s =
 pub length_merged : (a b : ℕ) (s : State) → length (merge_clusters a b s).input ≡ length s.input
 length_merged a b s =
     let l = merge_or_mark (any_order s) (both s) (both_place s a) (both_place s b) (floor_of s) in
-    omega (arith, length-drop (length s.out) l, length-merge_or_mark (any_order s) (both s) (both_place s a) (both_place s b) (floor_of s), length-append s.out s.input)
+    omega (
+      arith,
+      length-drop (length s.out) l,
+      length-merge_or_mark (any_order s) (both s) (both_place s a)
+          (both_place s b) (floor_of s),
+      length-append s.out s.input,
+    )
 
 len_closed : (s : State) → s.have_output ≡ false → len s ≡ length s.input
 len_closed s closed = cond-false _ _ _ closed
 
 -- so a place in the list stays one
 pub still_within : (a b k : ℕ) (s : State) → s.have_output ≡ false → k ≤ len s → k ≤ len (merge_clusters a b s)
-still_within a b k s closed h = omega (arith, len_closed s closed, len_closed (merge_clusters a b s) closed, length_merged a b s)
+still_within a b k s closed h =
+    omega (arith, len_closed s closed, len_closed (merge_clusters a b s) closed, length_merged a b s)
 
-pub length_group : (merges : Bool) (a b : ℕ) (s : State) → a ≤ b → length (reverse_group merges a b s).input ≡ length s.input
+pub length_group : (merges : Bool) (a b : ℕ) (s : State) → a ≤ b
+    → length (reverse_group merges a b s).input ≡ length s.input
 length_group true a b s up = length-reverse_range a b (merge_clusters a b s).input up ∙ length_merged a b s
 length_group false a b s up = length-reverse_range a b s.input up
 
@@ -50,16 +62,20 @@ group_keeps true a b s none =
 group_keeps false a b s none = refl
 
 pub keeps_then : (s t u : State) → KeepsOthers s t → KeepsOthers t u → KeepsOthers s u
-keeps_then s t u first second = second ∙ ap (λ (w : State). record w { input = u.input; positions = u.positions; scratch_flags = u.scratch_flags }) first
+keeps_then s t u first second = second
+    ∙ ap (λ (w : State). record w { input = u.input; positions = u.positions; scratch_flags = u.scratch_flags }) first
 
 -- ---- one group after the other
 
-pub each_done : (merges : Bool) (test : Test) (turns start : ℕ) (s : State) → length s.input ≤ start → reverse_each merges test turns start s ≡ s
+pub each_done : (merges : Bool) (test : Test) (turns start : ℕ) (s : State) → length s.input ≤ start
+    → reverse_each merges test turns start s ≡ s
 each_done merges test zero start s h = refl
 each_done merges test (suc turns) start s h = cond-false _ _ _ (le-ltb start (length s.input) h)
 
-pub each_turn : (merges : Bool) (test : Test) (turns turns2 start end : ℕ) (s : State) → start < length s.input → turns ≡ suc turns2
-    → end ≡ group_end test start s.input → reverse_each merges test turns2 end (reverse_group merges start end s) ≡ reverse_each merges test turns start s
+pub each_turn : (merges : Bool) (test : Test) (turns turns2 start end : ℕ) (s : State) → start < length s.input
+    → turns ≡ suc turns2
+    → end ≡ group_end test start s.input → reverse_each merges test turns2 end (reverse_group merges start end s)
+    ≡ reverse_each merges test turns start s
 each_turn merges test turns turns2 start end s h e e2 =
     ap (λ k. reverse_each merges test turns2 k (reverse_group merges start k s)) e2
     ∙ sym (cond-true _ _ _ (lt-ltb start (length s.input) h))
@@ -67,11 +83,13 @@ each_turn merges test turns turns2 start end s h e e2 =
 
 -- ---- merging
 
-each_merges : (test : Test) (turns start : ℕ) (s : State) → reverse_each true test turns start s ≡ merged_groups test turns start s
+each_merges : (test : Test) (turns start : ℕ) (s : State)
+    → reverse_each true test turns start s ≡ merged_groups test turns start s
 each_merges test zero start s = refl
 each_merges test (suc turns) start s =
     let end = group_end test start s.input in
-    ap (λ after. if nat_lt start (length s.input) then after else s) (each_merges test turns end (reverse_group true start end s))
+    ap (λ after. if nat_lt start (length s.input) then after else s)
+    (each_merges test turns end (reverse_group true start end s))
 
 -- ---- not merging
 
@@ -89,7 +107,8 @@ reversed_twice None = refl
 reversed_twice (Some xs) = ap Some (reverse-reverse xs)
 
 abbrev in_ranges : List ℕ → ℕ → State → State
-in_ranges ns start s = record s { input = ranges_reversed ns start s.input; positions = option_map (ranges_reversed ns start) s.positions }
+in_ranges ns start s =
+    record s { input = ranges_reversed ns start s.input; positions = option_map (ranges_reversed ns start) s.positions }
 
 each_in_ranges : (test : Test) (turns start : ℕ) (s : State) → length s.input ≤ start + turns
     → reverse_each false test turns start s ≡ in_ranges (group_lens test (drop start s.input)) start s
@@ -108,11 +127,14 @@ each_in_ranges test (suc turns) start s h = elim (cases_lt start (length s.input
       let t = reverse_range start end s in
       let ns = group_lens test (drop n rest) in
       let left : length t.input ≤ end + turns = omega (arith, length-reverse_range start end s.input (omega arith)) in
-      let lens : group_lens test (drop end t.input) ≡ ns = ap (group_lens test) (after_reverse_range start end s.input (omega arith) in_l ∙ sym (drop-drop n start s.input)) in
+      let lens : group_lens test (drop end t.input) ≡ ns =
+      ap (group_lens test) (after_reverse_range start end s.input (omega arith) in_l
+      ∙ sym (drop-drop n start s.input)) in
       cond-true _ _ _ (lt-ltb start (length s.input) lt)
       ∙ each_in_ranges test turns end t left
       ∙ ap (λ ks. in_ranges ks end t) lens
-      ∙ ap (λ o. record s { input = ranges_reversed ns end t.input; positions = o }) (option_twice (ranges_reversed ns end) (groups.reverse_range start end) s.positions)
+      ∙ ap (λ o. record s { input = ranges_reversed ns end t.input; positions = o })
+      (option_twice (ranges_reversed ns end) (groups.reverse_range start end) s.positions)
       ∙ sym (ap (λ ks. in_ranges ks start s) (group_lens_first test rest some))
   | inr ge ↦ cond-false _ _ _ (le-ltb start (length s.input) ge)
       ∙ ap (λ o. record s { positions = o }) (same_option s.positions)
@@ -123,26 +145,35 @@ each_in_ranges test (suc turns) start s h = elim (cases_lt start (length s.input
 abbrev pub HasEachPosition : State → Type 0
 HasEachPosition s = (ps : List GlyphPosition) → s.positions ≡ Some ps → length ps ≡ length s.input
 
-pub each_position : (have_positions : Bool) (n : ℕ) (placed : List GlyphPosition) → (have_positions ≡ true → length placed ≡ n)
+pub each_position : (have_positions : Bool) (n : ℕ) (placed : List GlyphPosition)
+    → (have_positions ≡ true → length placed ≡ n)
     → (ps : List GlyphPosition) → (if have_positions then Some placed else None) ≡ Some ps → length ps ≡ n
 each_position true n placed as_many ps e = ap (λ o. length (unwrap_or o [])) (sym e) ∙ as_many refl
 each_position false n placed as_many ps e = cc
 
-positions_in_reverse : (ns : List ℕ) (n : ℕ) (o : Option (List GlyphPosition)) → total ns ≡ n → ((ps : List GlyphPosition) → o ≡ Some ps → length ps ≡ n)
+positions_in_reverse : (ns : List ℕ) (n : ℕ) (o : Option (List GlyphPosition)) → total ns ≡ n
+    → ((ps : List GlyphPosition) → o ≡ Some ps → length ps ≡ n)
     → option_map reverse_list (option_map (ranges_reversed ns 0) o) ≡ option_map (groups.groups_in_reverse ns) o
 positions_in_reverse ns n None all each = refl
 positions_in_reverse ns n (Some ps) all each = ap Some (ranges_in_reverse ns ps (all ∙ sym (each ps refl)))
 
-each_in_reverse : (test : Test) (s : State) → HasEachPosition s → reverse (reverse_each false test (length s.input) 0 s) ≡ groups_in_reverse test s
+each_in_reverse : (test : Test) (s : State) → HasEachPosition s
+    → reverse (reverse_each false test (length s.input) 0 s) ≡ groups_in_reverse test s
 each_in_reverse test s each =
     let ns = group_lens test s.input in
     let all = total_of_groups test s.input in
     ap reverse (each_in_ranges test (length s.input) 0 s (omega arith))
-    ∙ ap (λ xs. record s { input = xs; positions = option_map reverse_list (option_map (ranges_reversed ns 0) s.positions) }) (ranges_in_reverse ns s.input all)
-    ∙ ap (λ o. record s { input = groups.groups_in_reverse ns s.input; positions = o }) (positions_in_reverse ns (length s.input) s.positions all each)
+    ∙ ap (λ xs. record s {
+      input = xs;
+      positions = option_map reverse_list
+          (option_map (ranges_reversed ns 0) s.positions);
+    }) (ranges_in_reverse ns s.input all)
+    ∙ ap (λ o. record s { input = groups.groups_in_reverse ns s.input; positions = o })
+    (positions_in_reverse ns (length s.input) s.positions all each)
 
 -- ---- both
 
-pub each_then_all : (merges : Bool) (test : Test) (s : State) → HasEachPosition s → reverse (reverse_each merges test (length s.input) 0 s) ≡ reverse_groups test merges s
+pub each_then_all : (merges : Bool) (test : Test) (s : State) → HasEachPosition s
+    → reverse (reverse_each merges test (length s.input) 0 s) ≡ reverse_groups test merges s
 each_then_all true test s each = ap reverse (each_merges test (length s.input) 0 s)
 each_then_all false test s each = each_in_reverse test s each

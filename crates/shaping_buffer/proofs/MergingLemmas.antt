@@ -6,7 +6,8 @@ use Rattle.glyph_lists.specs.Deletion.{merge_or_mark}
 use Rattle.glyph_lists.specs.Parts.{is_short}
 use Rattle.glyph_lists.proofs.SidesLemmas.{merge_or_mark_merges}
 use Rattle.shaping_buffer.specs.State.{State}
-use Rattle.shaping_buffer.specs.ClusterStep.{both, both_place, input_start, floor_of, any_order, flagged_if, merge_clusters}
+use Rattle.shaping_buffer.specs.ClusterStep.{both, both_place, input_start, floor_of, any_order, flagged_if}
+use Rattle.shaping_buffer.specs.ClusterStep.{merge_clusters}
 
 -- a place in the list is the same one in both sides
 place_closed : (k : ℕ) (s : State) → s.have_output ≡ false → s.out ≡ [] → both_place s k ≡ k
@@ -29,5 +30,6 @@ closed_merge a b s closed none level =
     sym (
     ap (λ o. record (merge_clusters a b s) { out = o }) (ap (λ o. take (length o) l) none ∙ sym none)
     ∙ ap (λ xs. record (merge_clusters a b s) { out = s.out; input = xs }) (ap (λ o. drop (length o) l) none ∙ merged)
-    ∙ ap (λ m. record s { input = run_merge s.input a b s.idx; scratch_flags = flagged_if (m && not (is_short a b)) s }) level
+    ∙ ap (λ m. record s { input = run_merge s.input a b s.idx; scratch_flags = flagged_if (m && not (is_short a b)) s })
+    level
     )

@@ -1,5 +1,6 @@
 -- One more character, at the end of the glyphs of a text.
-use Rattle.std.proofs.Common.{◌≡◌, ℕ, suc, ◌+◌, ◌%◌, ◌<◌, ◌≤◌, List, [], ◌∷◌, ◌++◌, length, IsUtf8, refl, ap, sym, ◌∙◌, arith, append_assoc, append-nil, length-append}
+use Rattle.std.proofs.Common.{◌≡◌, ℕ, suc, ◌+◌, ◌%◌, ◌<◌, ◌≤◌, List, [], ◌∷◌, ◌++◌, length, IsUtf8, refl, ap, sym, ◌∙◌}
+use Rattle.std.proofs.Common.{arith, append_assoc, append-nil, length-append}
 use Rattle.std.proofs.lemmas.List.{nil_from_length}
 use Rattle.std.specs.Prelude.{encode_utf8}
 use Rattle.std.specs.Str.{chars}
@@ -23,7 +24,9 @@ length_pushed xs cs = omega (arith, length-append xs (glyphs_at 0 cs), length_gl
 abbrev pub glyph_at : ℕ → ℕ → hb_glyph_info_t
 glyph_at offset c = record { glyph_id = c; mask = 0; cluster = offset % 4294967296; var1 = 0; var2 = 0 }
 
-module _ {whole done : List hb_glyph_info_t} {offset : ℕ} {rest : List ℕ} {capacity : ℕ} (f : Filling whole done offset rest capacity) (i c : ℕ) (more : List ℕ) (next : ℕ) (at : i ≡ offset) (front : rest ≡ encode_utf8 c ++ more) (is : next ≡ offset + length (encode_utf8 c)) where
+module _ {whole done : List hb_glyph_info_t} {offset : ℕ} {rest : List ℕ} {capacity : ℕ}
+    (f : Filling whole done offset rest capacity) (i c : ℕ) (more : List ℕ) (next : ℕ) (at : i ≡ offset)
+    (front : rest ≡ encode_utf8 c ++ more) (is : next ≡ offset + length (encode_utf8 c)) where
   glyphs_front : chars rest ≡ c ∷ chars more
   glyphs_front = chars_past_char rest more c f.utf8 front
 
@@ -40,6 +43,8 @@ module _ {whole done : List hb_glyph_info_t} {offset : ℕ} {rest : List ℕ} {c
     room = let n = ap length glyphs_front in omega (arith, f.room, length-append done (glyph_at i c ∷ []));
   }
 
-pub filling_done : {whole done : List hb_glyph_info_t} {offset : ℕ} {rest : List ℕ} {capacity : ℕ} → Filling whole done offset rest capacity → length rest ≡ 0 → done ≡ whole
+pub filling_done : {whole done : List hb_glyph_info_t} {offset : ℕ} {rest : List ℕ} {capacity : ℕ}
+    → Filling whole done offset rest capacity → length rest ≡ 0 → done ≡ whole
 filling_done {done = done} {offset = offset} {rest = rest} f none =
-    sym (append-nil done) ∙ ap (λ cs. done ++ glyphs_at offset cs) (sym (ap chars (nil_from_length rest none) ∙ chars-nil)) ∙ f.all
+    sym (append-nil done) ∙ ap (λ cs. done ++ glyphs_at offset cs)
+    (sym (ap chars (nil_from_length rest none) ∙ chars-nil)) ∙ f.all

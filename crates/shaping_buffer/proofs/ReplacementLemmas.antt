@@ -1,5 +1,6 @@
 -- A replacement, in the words of the two sides.
-use Rattle.std.proofs.Common.{◌≡◌, inl, inr, ℕ, ◌+◌, ◌-◌, ◌<◌, ◌≤◌, ◌&&◌, not, Bool, true, false, List, [], ◌∷◌, ◌++◌, length, take, drop, sym, ap, ◌∙◌, arith, length-append, get_or, leb, ltb}
+use Rattle.std.proofs.Common.{◌≡◌, inl, inr, ℕ, ◌+◌, ◌-◌, ◌<◌, ◌≤◌, ◌&&◌, not, Bool, true, false, List, [], ◌∷◌, ◌++◌}
+use Rattle.std.proofs.Common.{length, take, drop, sym, ap, ◌∙◌, arith, length-append, get_or, leb, ltb}
 use Rattle.std.proofs.lemmas.Bool.{cond_both, cond-true, cond-false, cases_lt, false≢true, le-leb, lt-leb}
 use Rattle.std.proofs.lemmas.Grind.{common_steps}
 use Rattle.std.proofs.lemmas.List.{length-map, length-take-le, take_more, map-append, get_or-drop, drop-drop}
@@ -14,10 +15,13 @@ use Rattle.glyph_lists.specs.Replacement.{copies, replacement}
 use Rattle.glyph_lists.proofs.MergesLemmas.{length-run_merge}
 use Rattle.shaping_buffer.specs.State.{State}
 use Rattle.shaping_buffer.specs.ClusterStep.{both, any_order, flagged_if}
-use Rattle.shaping_buffer.specs.Step.{Outcome, MayWant, limited, settled, put_out, skip_glyphs, replace_front, replace_glyphs, with_id}
+use Rattle.shaping_buffer.specs.Step.{Outcome, MayWant, limited, settled, put_out, skip_glyphs, replace_front}
+use Rattle.shaping_buffer.specs.Step.{replace_glyphs, with_id}
 
-pub copied : (g : hb_glyph_info_t) (ids : List ℕ) (i d : ℕ) → i < length ids → copies g (take (i + 1) ids) ≡ copies g (take i ids) ++ with_id (get_or ids i d) g ∷ []
-copied g ids i d h = ap (copies g) (take_more ids i d h) ∙ map-append (λ id. with_id id g) (take i ids) (get_or ids i d ∷ [])
+pub copied : (g : hb_glyph_info_t) (ids : List ℕ) (i d : ℕ) → i < length ids
+    → copies g (take (i + 1) ids) ≡ copies g (take i ids) ++ with_id (get_or ids i d) g ∷ []
+copied g ids i d h =
+    ap (copies g) (take_more ids i d h) ∙ map-append (λ id. with_id id g) (take i ids) (get_or ids i d ∷ [])
 
 pub length_copies : (g : hb_glyph_info_t) (ids : List ℕ) → length (copies g ids) ≡ length ids
 length_copies g ids = length-map ids (λ id. with_id id g)
@@ -27,9 +31,11 @@ abbrev pub front_merged : Bool → ℕ → State → List hb_glyph_info_t
 front_merged level n s = merge_or_mark level (both s) (length s.out) (length s.out + n) 0
 
 abbrev pub front_replaced : ℕ → List ℕ → State → State
-front_replaced n ids s = record (replace_front (any_order s) n ids s) { scratch_flags = flagged_if (any_order s && not (ltb n 2)) s }
+front_replaced n ids s =
+    record (replace_front (any_order s) n ids s) { scratch_flags = flagged_if (any_order s && not (ltb n 2)) s }
 
-pub replaced_sides : (n : ℕ) (ids : List ℕ) (s : State) → s.have_output ≡ true → replace_glyphs n ids s ≡ limited (length s.out + length ids) s (front_replaced n ids s)
+pub replaced_sides : (n : ℕ) (ids : List ℕ) (s : State) → s.have_output ≡ true
+    → replace_glyphs n ids s ≡ limited (length s.out + length ids) s (front_replaced n ids s)
 replaced_sides n ids s opened =
     let start : length s.out + (s.idx - s.idx) ≡ length s.out = omega arith in
     let end : length s.out + (s.idx + n - s.idx) ≡ length s.out + n = omega arith in
@@ -38,71 +44,104 @@ replaced_sides n ids s opened =
     rw (opened, start, end, count, length-append s.out, length_copies head ids)
 
 -- it is done where the copies fit
-pub replaced_done : (n : ℕ) (ids : List ℕ) (s : State) → s.have_output ≡ true → length s.out + length ids ≤ s.max_len → replace_glyphs n ids s ≡ record { done = true; state = settled (front_replaced n ids s) }
-replaced_done n ids s opened fits = replaced_sides n ids s opened ∙ cond-true (leb (length s.out + length ids) s.max_len) _ _ (le-leb (length s.out + length ids) s.max_len fits)
+pub replaced_done : (n : ℕ) (ids : List ℕ) (s : State) → s.have_output ≡ true → length s.out + length ids ≤ s.max_len
+    → replace_glyphs n ids s ≡ record { done = true; state = settled (front_replaced n ids s) }
+replaced_done n ids s opened fits = replaced_sides n ids s opened
+    ∙ cond-true (leb (length s.out + length ids) s.max_len) _ _ (le-leb (length s.out + length ids) s.max_len fits)
 
-pub replaced_refused : (n : ℕ) (ids : List ℕ) (s : State) → s.have_output ≡ true → s.max_len < length s.out + length ids → replace_glyphs n ids s ≡ record { done = false; state = record s { successful = false } }
-replaced_refused n ids s opened long = replaced_sides n ids s opened ∙ cond-false (leb (length s.out + length ids) s.max_len) _ _ (lt-leb (length s.out + length ids) s.max_len long)
+pub replaced_refused : (n : ℕ) (ids : List ℕ) (s : State) → s.have_output ≡ true → s.max_len < length s.out + length ids
+    → replace_glyphs n ids s ≡ record { done = false; state = record s { successful = false } }
+replaced_refused n ids s opened long = replaced_sides n ids s opened
+    ∙ cond-false (leb (length s.out + length ids) s.max_len) _ _ (lt-leb (length s.out + length ids) s.max_len long)
 
 -- a merge keeps the front in its place
-front_stays : (any_order : Bool) (l : List hb_glyph_info_t) (p q : ℕ) → p ≤ length l → p ≤ length (merge_or_mark any_order l p q 0)
+front_stays : (any_order : Bool) (l : List hb_glyph_info_t) (p q : ℕ) → p ≤ length l
+    → p ≤ length (merge_or_mark any_order l p q 0)
 unfolding merge_or_mark
 front_stays true l p q h =
     cond_both (ltb (q - p) 2) _ _ (λ (r : List hb_glyph_info_t). p ≤ length r) (λ _. h)
-    (λ _. omega (arith, length-append (take p l ++ mark BREAK_BITS (part l p q)) (drop q l), length-append (take p l) (mark BREAK_BITS (part l p q)), length-take-le p l h))
+    (λ _. omega (
+      arith,
+      length-append (take p l ++ mark BREAK_BITS (part l p q)) (drop q l),
+      length-append (take p l) (mark BREAK_BITS (part l p q)),
+      length-take-le p l h,
+    ))
 front_stays false l p q h = omega (arith, length-run_merge l p q 0)
 
 -- the out side becomes longer by the copies
-pub length_replaced : (level : Bool) (n : ℕ) (ids : List ℕ) (s : State) → length (replace_front level n ids s).out ≡ length s.out + length ids
+pub length_replaced : (level : Bool) (n : ℕ) (ids : List ℕ) (s : State)
+    → length (replace_front level n ids s).out ≡ length s.out + length ids
 length_replaced level n ids s =
     let l = front_merged level n s in
     let head = slice_index_or (drop (length s.out) l) 0 zero_glyph in
     let whole = length-append s.out s.input in
     let stays = front_stays level (both s) (length s.out) (length s.out + n) (omega arith) in
-    omega (arith, length-append (take (length s.out) l) (copies head ids), length_copies head ids, length-take-le (length s.out) l stays)
+    omega (
+      arith,
+      length-append (take (length s.out) l) (copies head ids),
+      length_copies head ids,
+      length-take-le (length s.out) l stays,
+    )
 
 -- where more is put out than was read, it leaves the storage of the input, and may want memory
 pub replaced_away : (level : Bool) (n : ℕ) (ids : List ℕ) (s : State) → s.idx + n < length s.out + length ids
     → settled (replace_front level n ids s) ≡ record (replace_front level n ids s) { have_separate_output = true }
 replaced_away level n ids s h = let e = length_replaced level n ids s in grind (arith, common_steps, e)
 
-pub away_wants : (level : Bool) (n : ℕ) (ids : List ℕ) (s : State) → s.have_output ≡ true → length s.out ≤ s.idx → n ≤ length s.input → s.idx + n < length s.out + length ids
+pub away_wants : (level : Bool) (n : ℕ) (ids : List ℕ) (s : State) → s.have_output ≡ true → length s.out ≤ s.idx
+    → n ≤ length s.input → s.idx + n < length s.out + length ids
     → MayWant s (settled (replace_front level n ids s))
-away_wants level n ids s opened near within h = let e = length_replaced level n ids s in grind (arith, common_steps, e, opened)
+away_wants level n ids s opened near within h = let e =
+    length_replaced level n ids s in grind (arith, common_steps, e, opened)
 
 pub replaced_apart : (level : Bool) (n : ℕ) (ids : List ℕ) (s : State) → s.have_separate_output ≡ true
     → settled (replace_front level n ids s) ≡ replace_front level n ids s
 replaced_apart level n ids s h = grind (arith, common_steps)
 
-pub apart_wants : (level : Bool) (n : ℕ) (ids : List ℕ) (s : State) → s.have_output ≡ true → s.have_separate_output ≡ true → 0 < length ids
+pub apart_wants : (level : Bool) (n : ℕ) (ids : List ℕ) (s : State) → s.have_output ≡ true
+    → s.have_separate_output ≡ true → 0 < length ids
     → MayWant s (settled (replace_front level n ids s))
-apart_wants level n ids s opened apart h = let e = length_replaced level n ids s in grind (arith, common_steps, e, opened)
+apart_wants level n ids s opened apart h = let e =
+    length_replaced level n ids s in grind (arith, common_steps, e, opened)
 
-pub replaced_in_place : (level : Bool) (n : ℕ) (ids : List ℕ) (s : State) → s.have_separate_output ≡ false → length s.out + length ids ≤ s.idx + n
+pub replaced_in_place : (level : Bool) (n : ℕ) (ids : List ℕ) (s : State) → s.have_separate_output ≡ false
+    → length s.out + length ids ≤ s.idx + n
     → settled (replace_front level n ids s) ≡ replace_front level n ids s
 replaced_in_place level n ids s near h = let e = length_replaced level n ids s in grind (arith, common_steps, e)
 
 -- of both sides as one list it is a replacement
-pub replaced_both : (n : ℕ) (ids : List ℕ) (s : State) → both (front_replaced n ids s) ≡ replacement (any_order s) (both s) (length s.out) (length s.out + n) ids
+pub replaced_both : (n : ℕ) (ids : List ℕ) (s : State)
+    → both (front_replaced n ids s) ≡ replacement (any_order s) (both s) (length s.out) (length s.out + n) ids
 unfolding replacement
 replaced_both n ids s =
     let p = length s.out in
     let l = front_merged (any_order s) n s in
     let start : p + 0 ≡ p = omega arith in
-    ap (λ g. (take p l ++ copies g ids) ++ drop n (drop p l)) (get_or-drop p l 0 zero_glyph ∙ ap (λ k. get_or l k zero_glyph) start)
+    ap (λ g. (take p l ++ copies g ids) ++ drop n (drop p l))
+    (get_or-drop p l 0 zero_glyph ∙ ap (λ k. get_or l k zero_glyph) start)
     ∙ ap (λ r. (take p l ++ copies (get_or l p zero_glyph) ids) ++ r) (drop-drop n p l)
 
 pub done_replacement : (n : ℕ) (ids : List ℕ) (s : State) → s.have_output ≡ true → (replace_glyphs n ids s).done ≡ true
     → both (replace_glyphs n ids s).state ≡ replacement (any_order s) (both s) (length s.out) (length s.out + n) ids
 done_replacement n ids s opened done =
     elim (cases_lt s.max_len (length s.out + length ids)) [
-      | inl long ↦ absurd (false≢true (sym (ap (λ (o : Outcome). o.done) (replaced_refused n ids s opened long)) ∙ done))
+      | inl long ↦ absurd (false≢true (sym (ap (λ (o : Outcome). o.done) (replaced_refused n ids s opened long))
+          ∙ done))
       | inr fits ↦ ap (λ (o : Outcome). both o.state) (replaced_done n ids s opened fits) ∙ replaced_both n ids s
     ]
 
 -- ---- copies that are put out in place, where they have room
-pub copies_put : (g : hb_glyph_info_t) (ids : List ℕ) (n : ℕ) (s : State) → s.have_output ≡ true → s.have_separate_output ≡ false → length s.out + length ids ≤ s.idx + n → length s.out + length ids ≤ s.max_len
-    → put_out (copies g ids) s (skip_glyphs n s) ≡ record { done = true; state = record s { out = s.out ++ copies g ids; input = drop n s.input; idx = s.idx + n } }
+pub copies_put : (g : hb_glyph_info_t) (ids : List ℕ) (n : ℕ) (s : State) → s.have_output ≡ true
+    → s.have_separate_output ≡ false → length s.out + length ids ≤ s.idx + n → length s.out + length ids ≤ s.max_len
+    → put_out (copies g ids) s (skip_glyphs n s)
+    ≡ record {
+      done = true;
+      state = record s {
+        out = s.out ++ copies g ids;
+        input = drop n s.input;
+        idx = s.idx + n;
+      };
+    }
 copies_put g ids n s opened near room fits =
     let e = length_copies g ids in
     let long = length-append s.out (copies g ids) in

@@ -1,5 +1,6 @@
 -- The deleting walk by calls is the walk over the list.
-use Rattle.std.proofs.Common.{◌≡◌, ℕ, zero, suc, ◌+◌, ◌≤◌, Bool, true, false, [], ◌++◌, length, take, drop, leb, refl, sym, ap, subst, ◌∙◌, arith, length-append, length-take, length-drop}
+use Rattle.std.proofs.Common.{◌≡◌, ℕ, zero, suc, ◌+◌, ◌≤◌, Bool, true, false, [], ◌++◌, length, take, drop, leb, refl}
+use Rattle.std.proofs.Common.{sym, ap, subst, ◌∙◌, arith, length-append, length-take, length-drop}
 use Rattle.std.proofs.lemmas.Bool.{cond-true, cond-false, le-leb}
 use Rattle.rb_glyph.specs.declared.info.hb_glyph_info_t.{hb_glyph_info_t}
 use Rattle.glyph_lists.specs.Deletion.{Sides}
@@ -26,12 +27,14 @@ next_is_done s h =
     let fits : length (s.out ++ take 1 s.input) ≤ s.max_len = simp (length-append, length-take) (omega (arith, h.2)) in
     ap (λ (o : Outcome). o.state) (cond-true s.have_output _ _ h.0)
     ∙ ap (λ (o : Outcome). o.state) (cond-true (leb (length (s.out ++ take 1 s.input)) s.max_len) _ _ (le-leb _ _ fits))
-    ∙ ap (λ xs. settled (record s { out = s.out ++ take 1 s.input; input = xs; idx = s.idx + 1 })) (cond-true s.have_output (drop 1 s.input) s.input h.0)
+    ∙ ap (λ xs. settled (record s { out = s.out ++ take 1 s.input; input = xs; idx = s.idx + 1 }))
+    (cond-true s.have_output (drop 1 s.input) s.input h.0)
 
 module _ (test : hb_glyph_info_t → Bool) (level_is : Bool) where
   -- a walk by calls that has begun leads where the walk over both sides leads, and nothing is refused
   abbrev Agrees : ℕ → State → Sides → Type 0
-  Agrees calls s start = (sides_of (walk_by_calls test calls s) ≡ after_walk level_is test calls start) × IsUnderWay (walk_by_calls test calls s)
+  Agrees calls s start = (sides_of (walk_by_calls test calls s) ≡ after_walk level_is test calls start)
+      × IsUnderWay (walk_by_calls test calls s)
 
   one_turn : (calls : ℕ) (s : State) → any_order s ≡ level_is → IsUnderWay s
       → ((t : State) → any_order t ≡ level_is → IsUnderWay t → Agrees calls t (sides_of t))
@@ -40,12 +43,15 @@ module _ (test : hb_glyph_info_t → Bool) (level_is : Bool) where
       let d = length-deletion (any_order s) s.out (head_of s) (drop 1 s.input) in
       let n = d.0 in
       let m = d.1 in
-      let fits : length (delete_glyph s).out + length (delete_glyph s).input ≤ s.max_len = omega (arith, h.2, n, m, length-drop 1 s.input) in
-      let made : sides_of (delete_glyph s) ≡ after_turn level_is test (sides_of s) = ap (λ a. after_deletion a (sides_of s)) level ∙ sym (cond-true _ _ _ e) in
+      let fits : length (delete_glyph s).out + length (delete_glyph s).input ≤ s.max_len =
+      omega (arith, h.2, n, m, length-drop 1 s.input) in
+      let made : sides_of (delete_glyph s) ≡ after_turn level_is test (sides_of s) =
+      ap (λ a. after_deletion a (sides_of s)) level ∙ sym (cond-true _ _ _ e) in
       subst (λ t. Agrees calls t (after_turn level_is test (sides_of s))) (sym (cond-true _ _ _ e))
       (subst (λ u. Agrees calls (delete_glyph s) u) made (later (delete_glyph s) level (h.0, h.1, fits)))
   one_turn calls s level h later false e =
-      let fits : length (moved s).out + length (moved s).input ≤ s.max_len = simp (length-append, length-take, length-drop) (omega (arith, h.2)) in
+      let fits : length (moved s).out + length (moved s).input ≤ s.max_len =
+      simp (length-append, length-take, length-drop) (omega (arith, h.2)) in
       let made : sides_of (moved s) ≡ after_turn level_is test (sides_of s) = sym (cond-false _ _ _ e) in
       subst (λ t. Agrees calls t (after_turn level_is test (sides_of s))) (sym (cond-false _ _ _ e ∙ next_is_done s h))
       (subst (λ u. Agrees calls (moved s) u) made (later (moved s) level (h.0, h.1, fits)))
@@ -58,6 +64,15 @@ module _ (test : hb_glyph_info_t → Bool) (level_is : Bool) where
 pub sync_is_done : (s : State) → IsUnderWay s → ((sync s).done ≡ true) × ((sync s).state.input ≡ s.out ++ s.input)
 sync_is_done s h =
     let fits : length (s.out ++ s.input) ≤ s.max_len = simp length-append h.2 in
-    let is : sync s ≡ record { done = true; state = record s { have_output = false; have_separate_output = false; out = []; input = s.out ++ s.input; idx = 0 } } =
+    let is : sync s ≡ record {
+      done = true;
+      state = record s {
+        have_output = false;
+        have_separate_output = false;
+        out = [];
+        input = s.out ++ s.input;
+        idx = 0;
+      };
+    } =
     cond-true s.successful _ _ h.1 ∙ cond-true (leb (length (s.out ++ s.input)) s.max_len) _ _ (le-leb _ _ fits) in
     (ap (λ (o : Outcome). o.done) is, ap (λ (o : Outcome). o.state.input) is)

@@ -11,7 +11,8 @@ use Rattle.shaping_buffer.specs.ClusterStep.{any_order, flagged_if, head_of, mer
 
 -- nothing differs but the glyphs of the list, their positions and the scratch flags
 abbrev pub KeepsOthers : State → State → Type 0
-KeepsOthers old new = new ≡ record old { input = new.input; positions = new.positions; scratch_flags = new.scratch_flags }
+KeepsOthers old new =
+    new ≡ record old { input = new.input; positions = new.positions; scratch_flags = new.scratch_flags }
 
 -- `reverse`: the list in reverse order, and its positions with it, where there are any
 abbrev pub reverse : State → State
@@ -20,19 +21,26 @@ reverse s = record s { input = reverse_list s.input; positions = option_map reve
 -- `reverse_range`: the places from start to end in reverse order
 abbrev pub reverse_range : ℕ → ℕ → State → State
 reverse_range start end s =
-    record s { input = groups.reverse_range start end s.input; positions = option_map (groups.reverse_range start end) s.positions }
+    record s {
+      input = groups.reverse_range start end s.input;
+      positions = option_map (groups.reverse_range start end) s.positions;
+    }
 
 -- the groups of the list in reverse order, each in its own order, and the positions with their glyphs
 abbrev pub groups_in_reverse : groups.Test → State → State
 groups_in_reverse test s =
     let lens = groups.group_lens test s.input in
-    record s { input = groups.groups_in_reverse lens s.input; positions = option_map (groups.groups_in_reverse lens) s.positions }
+    record s {
+      input = groups.groups_in_reverse lens s.input;
+      positions = option_map (groups.groups_in_reverse lens) s.positions;
+    }
 
 -- one group reversed in its place, and where this holds merged before
 abbrev pub reverse_group : Bool → ℕ → ℕ → State → State
 reverse_group merges start end s = reverse_range start end (if merges then merge_clusters start end s else s)
 
--- The groups from `start` on, at most `turns` of them: each is merged in the list as it then stands, and reversed in its place.
+-- The groups from `start` on, at most `turns` of them: each is merged in the list as it then stands, and reversed in
+-- its place.
 abbrev pub merged_groups : groups.Test → ℕ → ℕ → State → State
 merged_groups test zero start s = s
 merged_groups test (suc turns) start s =
@@ -40,12 +48,14 @@ merged_groups test (suc turns) start s =
     let after = merged_groups test turns end (reverse_group true start end s) in
     if nat_lt start (length s.input) then after else s
 
--- `reverse_groups`: the groups in reverse order, or where it merges the merged groups, each of them reversed, and then the whole list
+-- `reverse_groups`: the groups in reverse order, or where it merges the merged groups, each of them reversed, and then
+-- the whole list
 abbrev pub reverse_groups : groups.Test → Bool → State → State
 reverse_groups test merges s =
     if merges then reverse (merged_groups test (length s.input) 0 s) else groups_in_reverse test s
 
--- `delete_glyphs_inplace`: what the deleting walk over the list leaves, with the positions of the glyphs that it keeps; the cursor is at the start
+-- `delete_glyphs_inplace`: what the deleting walk over the list leaves, with the positions of the glyphs that it keeps;
+-- the cursor is at the start
 abbrev pub delete_glyphs_inplace : (hb_glyph_info_t → Bool) → State → State
 delete_glyphs_inplace test s =
     let level = any_order s in
@@ -57,7 +67,8 @@ delete_glyphs_inplace test s =
       scratch_flags = flagged_if (level && walk_merges level test (length s.input) start) s;
     }
 
--- one call of the walk by calls: `delete_glyph` where the test holds of the head as it then stands, and else `next_glyph`
+-- one call of the walk by calls: `delete_glyph` where the test holds of the head as it then stands, and else
+-- `next_glyph`
 abbrev pub call_of_walk : (hb_glyph_info_t → Bool) → State → State
 call_of_walk test s = if test (head_of s) then delete_glyph s else (next_glyph s).state
 

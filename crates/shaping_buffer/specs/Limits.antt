@@ -1,6 +1,9 @@
--- The limits of a buffer: how many glyphs a side may hold, and how many operations a shaper may make. And the numbers of ligatures.
-use Rattle.std.specs.Prelude.{ℕ, ℤ, Option, Some, None, unwrap_or, false, ◌+◌, ◌*◌, ◌%◌, ◌==◌, ◌^◌, max, pos, nat_abs, nat_lt, if◌then◌else◌}
-use Rattle.shaping_buffer.specs.declared.buffer.TheConstants.hb_buffer_t.{MAX_LEN_DEFAULT, MAX_LEN_FACTOR, MAX_LEN_MIN, MAX_OPS_DEFAULT, MAX_OPS_FACTOR, MAX_OPS_MIN}
+-- The limits of a buffer: how many glyphs a side may hold, and how many operations a shaper may make. And the numbers
+-- of ligatures.
+use Rattle.std.specs.Prelude.{ℕ, ℤ, Option, Some, None, unwrap_or, false, ◌+◌, ◌*◌, ◌%◌, ◌==◌, ◌^◌, max, pos, nat_abs}
+use Rattle.std.specs.Prelude.{nat_lt, if◌then◌else◌}
+use Rattle.shaping_buffer.specs.declared.buffer.TheConstants.hb_buffer_t.{MAX_LEN_DEFAULT, MAX_LEN_FACTOR, MAX_LEN_MIN}
+use Rattle.shaping_buffer.specs.declared.buffer.TheConstants.hb_buffer_t.{MAX_OPS_DEFAULT, MAX_OPS_FACTOR, MAX_OPS_MIN}
 use Rattle.shaping_buffer.specs.State.{State, len}
 
 -- `set_max_len`
@@ -20,7 +23,8 @@ enter s =
       serial = 0;
       shaping_failed = false;
       scratch_flags = 0;
-      max_len = (if nat_lt (MAX_LEN_FACTOR * len s) (2 ^ 64) then max (MAX_LEN_FACTOR * len s) MAX_LEN_MIN else s.max_len);
+      max_len =
+          (if nat_lt (MAX_LEN_FACTOR * len s) (2 ^ 64) then max (MAX_LEN_FACTOR * len s) MAX_LEN_MIN else s.max_len);
       max_ops = unwrap_or (max_ops_for (len s)) s.max_ops;
     }
 

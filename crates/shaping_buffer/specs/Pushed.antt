@@ -22,7 +22,8 @@ grown xs s = limited (length (s.input ++ xs)) s (record s { input = s.input ++ x
 abbrev pub pushed : List ℕ → State → Outcome
 pushed text s = grown (glyphs_at 0 (chars text)) s
 
--- `add`: one character, with a cluster of the caller's, stands at the end of the list, and the text after it is forgotten
+-- `add`: one character, with a cluster of the caller's, stands at the end of the list, and the text after it is
+-- forgotten
 abbrev pub added : ℕ → ℕ → State → Outcome
 added c cluster s =
     let list = s.input ++ character c cluster ∷ [] in

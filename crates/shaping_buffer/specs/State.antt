@@ -1,5 +1,6 @@
 -- The two lists: what a buffer holds, as its callers see it.
-use Rattle.std.specs.Prelude.{◌≡◌, ℕ, ◌+◌, ◌-◌, Bool, true, false, List, [], length, Option, None, IsSome, if◌then◌else◌, ℤ}
+use Rattle.std.specs.Prelude.{◌≡◌, ℕ, ◌+◌, ◌-◌, Bool, true, false, List, [], length, Option, None, IsSome}
+use Rattle.std.specs.Prelude.{if◌then◌else◌, ℤ}
 use Rattle.rb_text.specs.declared.glyph_id.GlyphId.{GlyphId}
 use Rattle.rb_text.specs.declared.direction.Direction.{Direction}
 use Rattle.rb_text.specs.declared.direction.Direction.TheVariants.{Invalid}
@@ -83,9 +84,14 @@ empty_state max_len max_ops = record {
 
 -- emptied for the next text: the limits, the flags, the invisible glyph and whether shaping failed stay
 abbrev pub cleared : State → State
-cleared s = record (empty_state s.max_len s.max_ops) { flags = s.flags; invisible = s.invisible; shaping_failed = s.shaping_failed }
+cleared s = record (empty_state s.max_len s.max_ops) {
+  flags = s.flags;
+  invisible = s.invisible;
+  shaping_failed = s.shaping_failed;
+}
 
--- a text that is not yet shaped: no output is open, the cursor is at the start, there are no positions, and the ids are characters
+-- a text that is not yet shaped: no output is open, the cursor is at the start, there are no positions, and the ids are
+-- characters
 pub record IsText (s : State) : Type 0 where
   pub closed : s.have_output ≡ false
   pub at_start : s.idx ≡ 0

@@ -1,5 +1,6 @@
 -- A cursor call's step: what it makes of the two lists, and when it is refused for length.
-use Rattle.std.specs.Prelude.{◌≡◌, ℕ, ◌+◌, ◌-◌, ◌<◌, ◌==◌, ◌||◌, ◌⊎◌, Bool, true, false, List, [], ◌∷◌, ◌++◌, length, take, drop, map, None, Result, Ok, Err, nat_le, nat_lt, slice_index_or, if◌then◌else◌}
+use Rattle.std.specs.Prelude.{◌≡◌, ℕ, ◌+◌, ◌-◌, ◌<◌, ◌==◌, ◌||◌, ◌⊎◌, Bool, true, false, List, [], ◌∷◌, ◌++◌, length}
+use Rattle.std.specs.Prelude.{take, drop, map, None, Result, Ok, Err, nat_le, nat_lt, slice_index_or, if◌then◌else◌}
 use Rattle.std.specs.declared.alloc.AllocError.{AllocError}
 use Rattle.rb_glyph.specs.declared.info.hb_glyph_info_t.{hb_glyph_info_t}
 use Rattle.glyph_lists.specs.Clusters.{zero_glyph}
@@ -19,8 +20,8 @@ pub record Outcome : Type 0 where
 abbrev pub settled : State → State
 settled s = record s { have_separate_output = s.have_separate_output || nat_lt s.idx (length s.out) }
 
--- The length rule: a call that holds so many glyphs in the end is refused exactly where they are more than max_len. Then
--- it only clears successful.
+-- The length rule: a call that holds so many glyphs in the end is refused exactly where they are more than max_len.
+-- Then it only clears successful.
 abbrev pub limited : ℕ → State → State → Outcome
 limited held before after =
     if nat_le held before.max_len then record { done = true; state = settled after }
@@ -44,10 +45,12 @@ abbrev pub MeetsOrWants : Type 0 → Outcome → State → Result Bool AllocErro
 MeetsOrWants may_want outcome old (Ok done) new = (done ≡ outcome.done) × (new ≡ outcome.state)
 MeetsOrWants may_want outcome old (Err e) new = may_want × (outcome.done ≡ true) × (new ≡ old)
 
--- a cursor call may want memory where an output is open, which is separate before the call or after it, and a side becomes longer
+-- a cursor call may want memory where an output is open, which is separate before the call or after it, and a side
+-- becomes longer
 abbrev pub MayWant : State → State → Type 0
 MayWant before after =
-    (before.have_output ≡ true) × (before.have_separate_output || after.have_separate_output ≡ true) × Grows before after
+    (before.have_output ≡ true) × (before.have_separate_output || after.have_separate_output ≡ true)
+    × Grows before after
 
 -- of a cursor call
 abbrev pub Meets : Outcome → State → Result Bool AllocError → State → Type 0
@@ -71,7 +74,8 @@ with_id id g = record g { glyph_id = id }
 abbrev pub put_out : List hb_glyph_info_t → State → State → Outcome
 put_out xs s after = limited (length (s.out ++ xs)) s (record after { out = after.out ++ xs })
 
--- `clear_output`: an output is open with nothing in it, in the storage of the input, the cursor is at the start, and positions are off
+-- `clear_output`: an output is open with nothing in it, in the storage of the input, the cursor is at the start, and
+-- positions are off
 abbrev pub clear_output : State → State
 clear_output s = record s { have_output = true; have_separate_output = false; out = []; idx = 0; positions = None }
 
@@ -102,7 +106,8 @@ replace_glyphs n ids s =
     let m = merge_clusters s.idx (s.idx + n) s in
     put_out (copies (head_of m) ids) s (skip_glyphs n m)
 
--- the first n glyphs of the input are merged, or marked, and copies of the head as it then stands put out in their stead
+-- the first n glyphs of the input are merged, or marked, and copies of the head as it then stands put out in their
+-- stead
 abbrev pub replace_front : Bool → ℕ → List ℕ → State → State
 replace_front any_order n ids s =
     let l = merge_or_mark any_order (both s) (length s.out) (length s.out + n) 0 in
@@ -128,8 +133,8 @@ output_info g s = put_out (g ∷ []) s s
 abbrev pub copy_glyph : State → Outcome
 copy_glyph s = put_out (take 1 s.input) s s
 
--- both sides, split at i; the cursor counts on by the glyphs that were put out, and back by those that were taken back, not
--- below the start
+-- both sides, split at i; the cursor counts on by the glyphs that were put out, and back by those that were taken back,
+-- not below the start
 abbrev pub split_at : ℕ → State → State
 split_at i s =
     record s {
@@ -142,8 +147,8 @@ split_at i s =
 abbrev pub last_place : State → ℕ
 last_place s = if s.have_output then length s.out + length s.input else length s.input
 
--- `move_to`: both sides are split at i, and a move forward holds what was then put out, one backward what is then left to
--- read; with no output only the cursor moves; after a refusal nothing
+-- `move_to`: both sides are split at i, and a move forward holds what was then put out, one backward what is then left
+-- to read; with no output only the cursor moves; after a refusal nothing
 abbrev pub move_to : ℕ → State → Outcome
 move_to i s =
     let after = split_at i s in
@@ -152,7 +157,8 @@ move_to i s =
     else refused s)
     else unlimited (record s { idx = i })
 
--- `sync`: the output is closed, and the list is what was put out, and then what was left to read; after a refusal nothing
+-- `sync`: the output is closed, and the list is what was put out, and then what was left to read; after a refusal
+-- nothing
 abbrev pub sync : State → Outcome
 sync s =
     let l = s.out ++ s.input in
@@ -166,8 +172,8 @@ ensure n s = limited n s s
 
 -- ---- the storage
 
--- Both sides in one list: with no output open it is the input; else what was put out stands at its start, and what is left
--- to read from the cursor on. What stands between is left open.
+-- Both sides in one list: with no output open it is the input; else what was put out stands at its start, and what is
+-- left to read from the cursor on. What stands between is left open.
 pub record IsStorage (s : State) (l : List hb_glyph_info_t) : Type 0 where
   pub len : length l ≡ len s
   pub out : take (length s.out) l ≡ s.out

@@ -96,7 +96,8 @@ impl GlyphBuffer {
     ) -> Result<String, AllocError>
         requires { asks_font flags ≡ true → AreGlyphs self.now.input }
         ensures { IfOk result (λ text. string_bytes text ≡ text_of
-            (record { name = F.name_of font.now; extents = F.extents_of font.now }) flags self.now) }
+            (record { name = F.name_of font.now; extents = F.extents_of font.now })
+            flags self.now) }
     {
         glyphs_text(
             alloc,

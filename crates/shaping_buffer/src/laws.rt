@@ -24,14 +24,16 @@ pub fn done_sync_gives_the_list()
 
 /// With an output open `move_to` keeps both sides as one list, and one that is done splits it at the place.
 pub fn move_keeps_the_list()
-    ensures list { (i : ℕ) (s : State) → s.have_output ≡ true → both (step.move_to i s).state ≡ both s }
+    ensures list { (i : ℕ) (s : State) → s.have_output ≡ true
+        → both (step.move_to i s).state ≡ both s }
     ensures place { (i : ℕ) (s : State) → s.have_output ≡ true → i ≤ step.last_place s
         → (step.move_to i s).done ≡ true → length (step.move_to i s).state.out ≡ i }
 {}
 
 /// What a `replace_glyphs` that is done makes of both sides as one list is a replacement of that list.
 pub fn done_replacement_is_of_the_list()
-    ensures { (n : ℕ) (ids : List ℕ) (s : State) → s.have_output ≡ true → (step.replace_glyphs n ids s).done ≡ true
+    ensures { (n : ℕ) (ids : List ℕ) (s : State) → s.have_output ≡ true
+        → (step.replace_glyphs n ids s).done ≡ true
         → both (step.replace_glyphs n ids s).state
         ≡ replacement (any_order s) (both s) (length s.out) (length s.out + n) ids }
 {}
@@ -39,7 +41,8 @@ pub fn done_replacement_is_of_the_list()
 /// The numbers of the limits.
 pub fn limits_have_their_numbers()
     ensures len { (MAX_LEN_FACTOR ≡ 64) × (MAX_LEN_MIN ≡ 16384) × (MAX_LEN_DEFAULT ≡ 1073741823) }
-    ensures ops { (MAX_OPS_FACTOR ≡ pos 1024) × (MAX_OPS_MIN ≡ pos 16384) × (MAX_OPS_DEFAULT ≡ pos 536870911) }
+    ensures ops { (MAX_OPS_FACTOR ≡ pos 1024) × (MAX_OPS_MIN ≡ pos 16384)
+        × (MAX_OPS_DEFAULT ≡ pos 536870911) }
 {}
 
 /// A list that is reversed twice is as it was, and so are its positions, where there are any.
@@ -50,7 +53,8 @@ pub fn two_reversals_are_none()
 /// `delete_glyphs_inplace` leaves the glyphs that `clear_output`, a walk by `delete_glyph` and `next_glyph`, and `sync`
 /// leave, where no refusal stands: none of these calls is refused then.
 pub fn deletion_in_place_is_deletion_by_calls()
-    ensures { (test : hb_glyph_info_t → Bool) (s : State) → s.successful ≡ true → length s.input ≤ s.max_len
+    ensures { (test : hb_glyph_info_t → Bool) (s : State) → s.successful ≡ true
+        → length s.input ≤ s.max_len
         → let closed = step.sync (walk_by_calls test (length s.input) (step.clear_output s)) in
         (closed.done ≡ true) × (closed.state.input ≡ (delete_glyphs_inplace test s).input) }
 {}

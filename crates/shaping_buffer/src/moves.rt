@@ -86,7 +86,8 @@ pub(crate) fn put_back(info: &mut Vec<hb_glyph_info_t>, at: usize, glyphs: &[hb_
     requires within { at ≤ vec_len info.old }
     requires fits { length glyphs.now ≤ at }
     ensures len { vec_len info.new ≡ vec_len info.old }
-    ensures put { drop (at - length glyphs.now) info.new.items ≡ glyphs.now ++ drop at info.old.items }
+    ensures put { drop (at - length glyphs.now) info.new.items
+        ≡ glyphs.now ++ drop at info.old.items }
 {
     info.as_mut_slice()[at - glyphs.len()..at].copy_from_slice(glyphs);
 }

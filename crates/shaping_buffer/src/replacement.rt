@@ -25,10 +25,12 @@ pub(crate) fn replace_apart(
     requires room { length out.old.items + length ids.now ≤ vec_capacity out.old }
     ensures len { length info.new.items ≡ length info.old.items }
     ensures out { let k = length out.old.items in
-        let l = merge_or_mark any_order (out.old.items ++ drop cursor info.old.items) k (k + count) 0 in
+        let l = merge_or_mark any_order (out.old.items ++ drop cursor info.old.items)
+        k (k + count) 0 in
         out.new.items ≡ take k l ++ copies (slice_index_or (drop k l) 0 zero_glyph) ids.now }
     ensures input { let k = length out.old.items in
-        let l = merge_or_mark any_order (out.old.items ++ drop cursor info.old.items) k (k + count) 0 in
+        let l = merge_or_mark any_order (out.old.items ++ drop cursor info.old.items)
+        k (k + count) 0 in
         drop (cursor + count) info.new.items ≡ drop count (drop k l) }
 {
     let len = out.len();
@@ -52,11 +54,13 @@ pub(crate) fn replace_in_place(
     requires room { placed + length ids.now ≤ cursor + count }
     ensures len { length info.new.items ≡ length info.old.items }
     ensures out { let k = placed in
-        let l = merge_or_mark any_order (take k info.old.items ++ drop cursor info.old.items) k (k + count) 0 in
+        let l = merge_or_mark any_order (take k info.old.items ++ drop cursor info.old.items)
+        k (k + count) 0 in
         take (k + length ids.now) info.new.items
         ≡ take k l ++ copies (slice_index_or (drop k l) 0 zero_glyph) ids.now }
     ensures input { let k = placed in
-        let l = merge_or_mark any_order (take k info.old.items ++ drop cursor info.old.items) k (k + count) 0 in
+        let l = merge_or_mark any_order (take k info.old.items ++ drop cursor info.old.items)
+        k (k + count) 0 in
         drop (cursor + count) info.new.items ≡ drop count (drop k l) }
 {
     one_slice::merge_or_mark(info, placed, cursor, placed, placed + count, 0, any_order);
@@ -81,10 +85,12 @@ pub(crate) fn replace_away(
     requires room { placed + length ids.now ≤ vec_capacity out.old }
     ensures len { length info.new.items ≡ length info.old.items }
     ensures out { let k = placed in
-        let l = merge_or_mark any_order (take k info.old.items ++ drop cursor info.old.items) k (k + count) 0 in
+        let l = merge_or_mark any_order (take k info.old.items ++ drop cursor info.old.items)
+        k (k + count) 0 in
         out.new.items ≡ take k l ++ copies (slice_index_or (drop k l) 0 zero_glyph) ids.now }
     ensures input { let k = placed in
-        let l = merge_or_mark any_order (take k info.old.items ++ drop cursor info.old.items) k (k + count) 0 in
+        let l = merge_or_mark any_order (take k info.old.items ++ drop cursor info.old.items)
+        k (k + count) 0 in
         drop (cursor + count) info.new.items ≡ drop count (drop k l) }
 {
     one_slice::merge_or_mark(info, placed, cursor, placed, placed + count, 0, any_order);
@@ -106,9 +112,11 @@ fn merge_front(
     requires order { length out.old ≤ end }
     requires within { end ≤ length out.old + (length info.old - cursor) }
     ensures out { out.new
-        ≡ take (length out.old) (merge_or_mark any_order (out.old ++ drop cursor info.old) (length out.old) end 0) }
+        ≡ take (length out.old) (merge_or_mark any_order (out.old ++ drop cursor info.old)
+        (length out.old) end 0) }
     ensures input { drop cursor info.new
-        ≡ drop (length out.old) (merge_or_mark any_order (out.old ++ drop cursor info.old) (length out.old) end 0) }
+        ≡ drop (length out.old) (merge_or_mark any_order (out.old ++ drop cursor info.old)
+        (length out.old) end 0) }
 {
     let start = out.len();
     merge_or_mark(out, info, cursor, start, end, 0, any_order);
@@ -138,8 +146,10 @@ pub(crate) fn write_copies(
 )
     requires { at + length ids.now ≤ vec_len info.old }
     ensures len { vec_len info.new ≡ vec_len info.old }
-    ensures put { take (at + length ids.now) info.new.items ≡ take at info.old.items ++ copies glyph ids.now }
-    ensures left { drop (at + length ids.now) info.new.items ≡ drop (at + length ids.now) info.old.items }
+    ensures put { take (at + length ids.now) info.new.items
+        ≡ take at info.old.items ++ copies glyph ids.now }
+    ensures left { drop (at + length ids.now) info.new.items
+        ≡ drop (at + length ids.now) info.old.items }
 {
     for (i, id) in ids.iter().enumerate() {
         info[at + i] = hb_glyph_info_t {

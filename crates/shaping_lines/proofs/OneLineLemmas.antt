@@ -1,5 +1,7 @@
 -- No answer has a line feed in it.
-use Rattle.std.proofs.Common.{ℕ, ℤ, pos, negsuc, zero, suc, ◌≡◌, ◌==◌, ◌/◌, ◌%◌, ◌-◌, List, [], ◌∷◌, ◌++◌, map, length, replicate, codes, option_map, bit_and, ◌&&◌, ◌||◌, not, ◌+ℤ◌, None, Bool, true, false, if◌then◌else◌, refl, sym, subst, arith}
+use Rattle.std.proofs.Common.{ℕ, ℤ, pos, negsuc, zero, suc, ◌≡◌, ◌==◌, ◌/◌, ◌%◌, ◌-◌, List, [], ◌∷◌, ◌++◌, map, length}
+use Rattle.std.proofs.Common.{replicate, codes, option_map, bit_and, ◌&&◌, ◌||◌, not, ◌+ℤ◌, None, Bool, true, false}
+use Rattle.std.proofs.Common.{if◌then◌else◌, refl, sym, subst, arith}
 use Rattle.std.specs.Char.{to_ascii_lowercase}
 use Rattle.std.specs.Fmt.{decimal, signed_decimal, digits, digits_onto, digit_glyph}
 use Rattle.std.specs.Int.{from_bool}
@@ -19,17 +21,21 @@ use Rattle.shaping_buffer.specs.Positions.{with_zero_positions}
 use Rattle.shaping_buffer.specs.Pushed.{pushed, added}
 use Rattle.shaping_buffer.specs.State.{State}
 use Rattle.shaping_buffer.specs.Step.{Outcome}
-use Rattle.glyph_text.specs.Text.{nothing_known, has, name_text, cluster_text, offset_text, advance_text, position_text, flags_text}
+use Rattle.glyph_text.specs.Text.{nothing_known, has, name_text, cluster_text, offset_text, advance_text, position_text}
+use Rattle.glyph_text.specs.Text.{flags_text}
 use Rattle.glyph_text.specs.Text.{zero_extents, box_text, extents_text, x_advances, y_advances, glyph_text}
 use Rattle.glyph_text.specs.Text.{glyph_texts}
 use Rattle.shaping_buffer.specs.Text.{glyphs_of, text_of}
 use Rattle.shaping_runs.specs.Replay.{turn}
 use Rattle.shaping_runs.specs.declared.call.Answer.{Answer}
 use Rattle.shaping_runs.specs.declared.call.Answer.TheVariants.{Done, Refused, Outside}
-use Rattle.shaping_lines.specs.Commands.{Request, push, add, level, flags, limit, call, replace_glyphs, state, serialize, new, feature, tags, compose, decompose}
-use Rattle.shaping_lines.specs.Queries.{hexadecimal, eight_digits, feature_text, language_rows, spaced_tags, tag_lists_text}
+use Rattle.shaping_lines.specs.Commands.{Request, push, add, level, flags, limit, call, replace_glyphs, state}
+use Rattle.shaping_lines.specs.Commands.{serialize, new, feature, tags, compose, decompose}
+use Rattle.shaping_lines.specs.Queries.{hexadecimal, eight_digits, feature_text, language_rows, spaced_tags}
+use Rattle.shaping_lines.specs.Queries.{tag_lists_text}
 use Rattle.shaping_lines.specs.Replies.{is_line_feed, IsOneLine, answer_text, truth_text}
-use Rattle.shaping_lines.specs.Session.{Follows, FollowsSerialize, Grows, held_by, is_within, may_be_printed, replacement_turn}
+use Rattle.shaping_lines.specs.Session.{Follows, FollowsSerialize, Grows, held_by, is_within, may_be_printed}
+use Rattle.shaping_lines.specs.Session.{replacement_turn}
 use Rattle.shaping_lines.specs.StateText.{state_text, head_text, digit_of, items_text, item_text}
 use Rattle.shaping_lines.specs.declared.session.Session.{Session}
 use Rattle.shaping_lines.specs.declared.session.Session.TheVariants.{Text, Turned}
@@ -52,11 +58,13 @@ digit_glyph-no_feed : (upper : Bool) (d : ℕ) → is_line_feed (digit_glyph upp
 digit_glyph-no_feed true d = grind (arith, nat_tests)
 digit_glyph-no_feed false d = grind (arith, nat_tests)
 
-one_line-digits_onto : (k base : ℕ) (upper : Bool) (n : ℕ) (xs : List ℕ) → IsOneLine xs → IsOneLine (digits_onto k base upper n xs)
+one_line-digits_onto : (k base : ℕ) (upper : Bool) (n : ℕ) (xs : List ℕ) → IsOneLine xs
+    → IsOneLine (digits_onto k base upper n xs)
 one_line-digits_onto zero base upper n xs h = h
 one_line-digits_onto (suc k) base upper n xs h =
     let more = one_line-cons (digit_glyph upper (n % base)) xs (digit_glyph-no_feed upper (n % base)) h in
-    one_line-if (n / base == 0) (digit_glyph upper (n % base) ∷ xs) (digits_onto k base upper (n / base) (digit_glyph upper (n % base) ∷ xs))
+    one_line-if (n / base == 0) (digit_glyph upper (n % base) ∷ xs)
+    (digits_onto k base upper (n / base) (digit_glyph upper (n % base) ∷ xs))
     more (one_line-digits_onto k base upper (n / base) (digit_glyph upper (n % base) ∷ xs) more)
 
 pub one_line-decimal : (n : ℕ) → IsOneLine (decimal n)
@@ -72,24 +80,31 @@ one_line-signed (pos n) = one_line-decimal n
 one_line-signed (negsuc n) = one_line-cons 45 (decimal (suc n)) refl (one_line-decimal (suc n))
 
 -- two texts that a byte parts
-parted : (xs : List ℕ) (b : ℕ) (ys : List ℕ) → is_line_feed b ≡ false → IsOneLine xs → IsOneLine ys → IsOneLine (xs ++ b ∷ ys)
+parted : (xs : List ℕ) (b : ℕ) (ys : List ℕ) → is_line_feed b ≡ false → IsOneLine xs → IsOneLine ys
+    → IsOneLine (xs ++ b ∷ ys)
 parted xs b ys e h k = one_line-append xs (b ∷ ys) h (one_line-cons b ys e k)
 
-one_line-join : {A : Type 0} (f : A → List ℕ) (b : ℕ) → is_line_feed b ≡ false → ((x : A) → IsOneLine (f x)) → (xs : List A)
+one_line-join : {A : Type 0} (f : A → List ℕ) (b : ℕ) → is_line_feed b ≡ false → ((x : A) → IsOneLine (f x))
+    → (xs : List A)
     → IsOneLine (join_with_byte b (map f xs))
 one_line-join f b e h [] = refl
 one_line-join f b e h (x ∷ []) = h x
-one_line-join f b e h (x ∷ y ∷ xs) = parted (f x) b (join_with_byte b (map f (y ∷ xs))) e (h x) (one_line-join f b e h (y ∷ xs))
+one_line-join f b e h (x ∷ y ∷ xs) =
+    parted (f x) b (join_with_byte b (map f (y ∷ xs))) e (h x) (one_line-join f b e h (y ∷ xs))
 
 pub one_line-eight_digits : (n : ℕ) → IsOneLine (eight_digits n)
 one_line-eight_digits n =
-    one_line-append (replicate (8 - length (hexadecimal n)) 48) (hexadecimal n) (one_line-replicate (8 - length (hexadecimal n)) 48 refl) (one_line-hexadecimal n)
+    one_line-append (replicate (8 - length (hexadecimal n)) 48) (hexadecimal n)
+    (one_line-replicate (8 - length (hexadecimal n)) 48 refl) (one_line-hexadecimal n)
 
 pub one_line-feature : (f : Feature) → IsOneLine (feature_text f)
 one_line-feature f =
-    let value = parted (eight_digits f.tag.0) 32 (decimal f.value) refl (one_line-eight_digits f.tag.0) (one_line-decimal f.value) in
-    let start = parted (eight_digits f.tag.0 ++ 32 ∷ decimal f.value) 32 (decimal f.start) refl value (one_line-decimal f.start) in
-    parted (eight_digits f.tag.0 ++ 32 ∷ decimal f.value ++ 32 ∷ decimal f.start) 32 (decimal f.end) refl start (one_line-decimal f.end)
+    let value = parted (eight_digits f.tag.0) 32 (decimal f.value) refl (one_line-eight_digits f.tag.0)
+    (one_line-decimal f.value) in
+    let start = parted (eight_digits f.tag.0 ++ 32 ∷ decimal f.value) 32 (decimal f.start) refl value
+    (one_line-decimal f.start) in
+    parted (eight_digits f.tag.0 ++ 32 ∷ decimal f.value ++ 32 ∷ decimal f.start) 32 (decimal f.end) refl start
+    (one_line-decimal f.end)
 
 one_line-spaced : (ts : List ℕ) → IsOneLine (spaced_tags ts)
 one_line-spaced [] = refl
@@ -109,19 +124,25 @@ one_line-pair a b = parted (hexadecimal a) 32 (hexadecimal b) refl (one_line-hex
 
 one_line-item : (g : hb_glyph_info_t) → IsOneLine (item_text g)
 one_line-item g =
-    let cluster = parted (decimal g.glyph_id) 58 (decimal g.cluster) refl (one_line-decimal g.glyph_id) (one_line-decimal g.cluster) in
-    parted (decimal g.glyph_id ++ 58 ∷ decimal g.cluster) 58 (decimal (bit_and g.mask 7)) refl cluster (one_line-decimal (bit_and g.mask 7))
+    let cluster = parted (decimal g.glyph_id) 58 (decimal g.cluster) refl (one_line-decimal g.glyph_id)
+    (one_line-decimal g.cluster) in
+    parted (decimal g.glyph_id ++ 58 ∷ decimal g.cluster) 58 (decimal (bit_and g.mask 7)) refl cluster
+    (one_line-decimal (bit_and g.mask 7))
 
 one_line-items : (items : List hb_glyph_info_t) → IsOneLine (items_text items)
 one_line-items items = one_line-join item_text 32 refl one_line-item items
 
 one_line-head : (s : State) → IsOneLine (head_text s)
 one_line-head s =
-    let open_ = one_line-append (codes "open=") (digit_of s.have_output) refl (one_line-decimal (from_bool s.have_output)) in
+    let open_ =
+    one_line-append (codes "open=") (digit_of s.have_output) refl (one_line-decimal (from_bool s.have_output)) in
     let at = one_line-append (codes "open=" ++ digit_of s.have_output) (codes " idx=") open_ refl in
-    let cursor = one_line-append (codes "open=" ++ digit_of s.have_output ++ codes " idx=") (decimal s.idx) at (one_line-decimal s.idx) in
-    let so = one_line-append (codes "open=" ++ digit_of s.have_output ++ codes " idx=" ++ decimal s.idx) (codes " ok=") cursor refl in
-    one_line-append (codes "open=" ++ digit_of s.have_output ++ codes " idx=" ++ decimal s.idx ++ codes " ok=") (digit_of s.successful)
+    let cursor = one_line-append (codes "open=" ++ digit_of s.have_output ++ codes " idx=") (decimal s.idx) at
+    (one_line-decimal s.idx) in
+    let so = one_line-append (codes "open=" ++ digit_of s.have_output ++ codes " idx=" ++ decimal s.idx) (codes " ok=")
+    cursor refl in
+    one_line-append (codes "open=" ++ digit_of s.have_output ++ codes " idx=" ++ decimal s.idx ++ codes " ok=")
+    (digit_of s.successful)
     so (one_line-decimal (from_bool s.successful))
 
 one_line-state : (s : State) → IsOneLine (state_text s)
@@ -129,8 +150,10 @@ one_line-state s =
     let a = one_line-append (head_text s) (codes " out=[") (one_line-head s) refl in
     let b = one_line-append (head_text s ++ codes " out=[") (items_text s.out) a (one_line-items s.out) in
     let c = one_line-append (head_text s ++ codes " out=[" ++ items_text s.out) (codes "] in=[") b refl in
-    let d = one_line-append (head_text s ++ codes " out=[" ++ items_text s.out ++ codes "] in=[") (items_text s.input) c (one_line-items s.input) in
-    one_line-append (head_text s ++ codes " out=[" ++ items_text s.out ++ codes "] in=[" ++ items_text s.input) (codes "]") d refl
+    let d = one_line-append (head_text s ++ codes " out=[" ++ items_text s.out ++ codes "] in=[") (items_text s.input) c
+    (one_line-items s.input) in
+    one_line-append (head_text s ++ codes " out=[" ++ items_text s.out ++ codes "] in=[" ++ items_text s.input)
+    (codes "]") d refl
 
 one_line-name : (set : SerializeFlags) (id : ℕ) → IsOneLine (name_text set None id)
 one_line-name set id =
@@ -210,7 +233,8 @@ one_line-answer Done = refl
 one_line-answer Refused = refl
 one_line-answer Outside = refl
 
-one_line-grown : (step : State → Outcome) (before after : Session) (answer : List ℕ) → Grows step before after answer → IsOneLine answer
+one_line-grown : (step : State → Outcome) (before after : Session) (answer : List ℕ) → Grows step before after answer
+    → IsOneLine answer
 one_line-grown step (Text text) after answer h = subst IsOneLine (sym h.1) (one_line-truth (step text).done)
 one_line-grown step (Turned buffer) after answer h = subst IsOneLine (sym h.1) refl
 
@@ -222,14 +246,16 @@ one_line-serialized set before after answer h =
     (one_line-text set (with_zero_positions (held_by before))) refl)
 
 -- whatever is asked, the answer is one line
-pub one_line-followed : (request : Request) (before after : Session) (answer : List ℕ) → Follows request before after answer → IsOneLine answer
+pub one_line-followed : (request : Request) (before after : Session) (answer : List ℕ)
+    → Follows request before after answer → IsOneLine answer
 one_line-followed (push text) before after answer h = one_line-grown (pushed text) before after answer h
 one_line-followed (add c n) before after answer h = one_line-grown (added c n) before after answer h
 one_line-followed (level n) before after answer h = subst IsOneLine (sym h.1) refl
 one_line-followed (flags n) before after answer h = subst IsOneLine (sym h.1) refl
 one_line-followed (limit n) before after answer h =
     subst IsOneLine (sym h.1) (one_line-if (is_within n (held_by before)) (codes "ok") (codes "outside") refl refl)
-one_line-followed (call c) before after answer h = subst IsOneLine (sym h.1) (one_line-answer (turn c (held_by before)).answer)
+one_line-followed (call c) before after answer h =
+    subst IsOneLine (sym h.1) (one_line-answer (turn c (held_by before)).answer)
 one_line-followed (replace_glyphs num_in ids) before after answer h =
     subst IsOneLine (sym h.1) (one_line-answer (replacement_turn num_in ids (held_by before)).answer)
 one_line-followed state before after answer h = subst IsOneLine (sym h.1) (one_line-state (held_by before))

@@ -1,5 +1,6 @@
 -- A replacement by all of its ids, and ids that are taken one by one.
-use Rattle.std.proofs.Common.{ℕ, suc, ◌≡◌, ◌<◌, ◌-◌, ◌+◌, ◌&&◌, List, [], ◌∷◌, ◌++◌, length, nat_le, Some, None, Bool, true, false, refl, ap, sym, ◌∙◌, arith, append_assoc}
+use Rattle.std.proofs.Common.{ℕ, suc, ◌≡◌, ◌<◌, ◌-◌, ◌+◌, ◌&&◌, List, [], ◌∷◌, ◌++◌, length, nat_le, Some, None, Bool}
+use Rattle.std.proofs.Common.{true, false, refl, ap, sym, ◌∙◌, arith, append_assoc}
 use Rattle.std.specs.Borrow.{Bor}
 use Rattle.std.proofs.lemmas.Bool.Decides.{nat_tests}
 use Rattle.std.proofs.lemmas.List.{take_all}
@@ -21,20 +22,26 @@ itself n = grind (arith, nat_tests)
 pub turn-all_ids : (num_in : ℕ) (ids : Bor (List ℕ)) (s : State)
     → turn (ReplaceGlyphs num_in (length ids.now) ids) s ≡ replacement_turn num_in ids.now s
 turn-all_ids num_in ids s =
-    rw (itself (length ids.now), and-true (nat_le num_in (lookahead_len s)), take_all (length ids.now) ids.now (omega arith)) refl
+    rw (
+      itself (length ids.now),
+      and-true (nat_le num_in (lookahead_len s)),
+      take_all (length ids.now) ids.now (omega arith),
+    ) refl
 
 -- ids before others
 abbrev pub ids_before : List ℕ → Taken (List ℕ) → Taken (List ℕ)
 ids_before ids None = None
 ids_before ids (Some (more, left)) = Some (ids ++ more, left)
 
-before-one : (ids : List ℕ) (id : ℕ) (taken : Taken (List ℕ)) → ids_before ids (id_before (Some id) taken) ≡ ids_before (ids ++ id ∷ []) taken
+before-one : (ids : List ℕ) (id : ℕ) (taken : Taken (List ℕ))
+    → ids_before ids (id_before (Some id) taken) ≡ ids_before (ids ++ id ∷ []) taken
 before-one ids id None = refl
 before-one ids id (Some (more, left)) = ap (λ l. Some (l, left)) (sym (append_assoc ids (id ∷ []) more))
 
 -- one id more is taken
 pub ids_in-one_more : (count i : ℕ) (left : Left) (ids : List ℕ) (id : ℕ) → i < count → next_u32 left ≡ Some id
-    → ids_before ids (ids_in (count - i) left) ≡ ids_before (ids ++ id ∷ []) (ids_in (count - (i + 1)) (past_first_word left))
+    → ids_before ids (ids_in (count - i) left) ≡ ids_before (ids ++ id ∷ [])
+    (ids_in (count - (i + 1)) (past_first_word left))
 ids_in-one_more count i left ids id h e =
     let one : count - i ≡ suc (count - (i + 1)) = omega arith in
     ap (λ n. ids_before ids (ids_in n left)) one

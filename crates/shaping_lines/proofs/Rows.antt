@@ -2,7 +2,8 @@
 use Rattle.std.proofs.Common.{◌≡◌, [], ◌∷◌, Some, None, codes, refl}
 use Rattle.std.specs.Fmt.{digits}
 use Rattle.rb_text.specs.Tag.{tag_of}
-use Rattle.shaping_lines.specs.Commands.{request_in, request_named, command_in, treatment_in, question_in, query_in, replace_glyphs, tags}
+use Rattle.shaping_lines.specs.Commands.{request_in, request_named, command_in, treatment_in, question_in, query_in}
+use Rattle.shaping_lines.specs.Commands.{replace_glyphs, tags}
 use Rattle.shaping_lines.specs.Queries.{tags_text}
 
 -- as many ids as the second number says
@@ -29,6 +30,7 @@ unfolding digits
 told = refl
 
 -- letters of a language are made small
-told_of_malayalam : tags_text (Some (tag_of (codes "Mlym"))) (Some (codes "ML")) ≡ codes "scripts 6d6c6d33 6d6c6d32 6d6c796d languages 4d414c20"
+told_of_malayalam : tags_text (Some (tag_of (codes "Mlym"))) (Some (codes "ML"))
+    ≡ codes "scripts 6d6c6d33 6d6c6d32 6d6c796d languages 4d414c20"
 unfolding digits
 told_of_malayalam = refl

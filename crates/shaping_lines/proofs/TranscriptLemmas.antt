@@ -1,23 +1,28 @@
 -- One line more, and one answer more.
-use Rattle.std.proofs.Common.{ℕ, ◌≡◌, ◌<◌, ◌++◌, List, [], ◌∷◌, length, Option, None, Some, codes, refl, sym, ap, subst, ◌∙◌, arith, append_assoc, append-nil}
+use Rattle.std.proofs.Common.{ℕ, ◌≡◌, ◌<◌, ◌++◌, List, [], ◌∷◌, length, Option, None, Some, codes, refl, sym, ap, subst}
+use Rattle.std.proofs.Common.{◌∙◌, arith, append_assoc, append-nil}
 use Rattle.std.specs.Io.KnownBytes.{Appends}
 use Rattle.std.specs.List.{after_first, before_first}
 use Rattle.shaping_lines.specs.Commands.{Request, request_in_bytes}
 use Rattle.shaping_lines.specs.Session.{Follows, fresh}
 use Rattle.shaping_lines.specs.Replies.{IsOneLine, is_line_feed}
-use Rattle.shaping_lines.specs.Transcript.{transcript, lines_of, AnswersLine, AnswersLines, AnswersAll, AnswersToUnknown}
+use Rattle.shaping_lines.specs.Transcript.{transcript, lines_of, AnswersLine, AnswersLines, AnswersAll}
+use Rattle.shaping_lines.specs.Transcript.{AnswersToUnknown}
 use Rattle.shaping_lines.specs.declared.session.Session.{Session}
 use Rattle.shaping_lines.proofs.LineLemmas.{first_line}
 use Rattle.shaping_lines.proofs.OneLineLemmas.{one_line-followed}
 
-pub transcript-push : (answers : List (List ℕ)) (answer : List ℕ) → transcript (answers ++ answer ∷ []) ≡ transcript answers ++ (answer ++ 10 ∷ [])
+pub transcript-push : (answers : List (List ℕ)) (answer : List ℕ)
+    → transcript (answers ++ answer ∷ []) ≡ transcript answers ++ (answer ++ 10 ∷ [])
 transcript-push [] answer = append-nil (answer ++ 10 ∷ [])
 transcript-push (a ∷ more) answer =
-    ap (λ l. (a ++ 10 ∷ []) ++ l) (transcript-push more answer) ∙ sym (append_assoc (a ++ 10 ∷ []) (transcript more) (answer ++ 10 ∷ []))
+    ap (λ l. (a ++ 10 ∷ []) ++ l) (transcript-push more answer)
+    ∙ sym (append_assoc (a ++ 10 ∷ []) (transcript more) (answer ++ 10 ∷ []))
 
 -- what was written so far, and then one answer more
 pub appends_answer : (a b c : Option (List ℕ)) (answers : List (List ℕ)) (answer : List ℕ)
-    → Appends a b (transcript answers) → Appends b c (answer ++ 10 ∷ []) → Appends a c (transcript (answers ++ answer ∷ []))
+    → Appends a b (transcript answers) → Appends b c (answer ++ 10 ∷ [])
+    → Appends a c (transcript (answers ++ answer ∷ []))
 appends_answer None b c answers answer p q = tt
 appends_answer (Some x) None c answers answer p q = absurd p
 appends_answer (Some x) (Some y) None answers answer p q = absurd q
@@ -29,7 +34,8 @@ appends_answer (Some x) (Some y) (Some z) answers answer p q =
 pub chain-push : (before between after : Session) (lines answers : List (List ℕ)) (line answer : List ℕ)
     → AnswersLines before lines answers between → AnswersLine between line answer after
     → AnswersLines before (lines ++ line ∷ []) (answers ++ answer ∷ []) after
-chain-push before between after [] [] line answer e h = (after, subst (λ s. AnswersLine s line answer after) (sym e) h, refl)
+chain-push before between after [] [] line answer e h =
+    (after, subst (λ s. AnswersLine s line answer after) (sym e) h, refl)
 chain-push before between after [] (a ∷ answers) line answer e h = absurd e
 chain-push before between after (l ∷ lines) [] line answer e h = absurd e
 chain-push before between after (l ∷ lines) (a ∷ answers) line answer e h =
@@ -44,17 +50,21 @@ pub record AnswersBefore (input rest : List ℕ) (session : Session) (before aft
   pub written : Appends before after (transcript answers)
 
 -- the rest begins with a line
-pub line_ahead : (input rest line next : List ℕ) (earlier : List (List ℕ)) → lines_of input ≡ earlier ++ lines_of rest → 0 < length rest
-    → line ≡ before_first is_line_feed rest → next ≡ after_first is_line_feed rest → lines_of input ≡ earlier ++ line ∷ lines_of next
+pub line_ahead : (input rest line next : List ℕ) (earlier : List (List ℕ)) → lines_of input ≡ earlier ++ lines_of rest
+    → 0 < length rest
+    → line ≡ before_first is_line_feed rest → next ≡ after_first is_line_feed rest
+    → lines_of input ≡ earlier ++ line ∷ lines_of next
 line_ahead input rest line next earlier cut some l n = rw (l, n) (cut ∙ ap (λ ls. earlier ++ ls) (first_line rest some))
 
 -- one line more is answered
 pub answers_line : (input rest line next : List ℕ) (session after : Session) (a b c : Option (List ℕ)) (answer : List ℕ)
-    → AnswersBefore input rest session a b → 0 < length rest → line ≡ before_first is_line_feed rest → next ≡ after_first is_line_feed rest
+    → AnswersBefore input rest session a b → 0 < length rest → line ≡ before_first is_line_feed rest
+    → next ≡ after_first is_line_feed rest
     → AnswersLine session line answer after → Appends b c (answer ++ 10 ∷ []) → AnswersBefore input next after a c
 answers_line input rest line next session after a b c answer so_far some l n h w = record {
   earlier = so_far.earlier ++ line ∷ [];
-  lines = line_ahead input rest line next so_far.earlier so_far.lines some l n ∙ sym (append_assoc so_far.earlier (line ∷ []) (lines_of next));
+  lines = line_ahead input rest line next so_far.earlier so_far.lines some l n
+      ∙ sym (append_assoc so_far.earlier (line ∷ []) (lines_of next));
   answers = so_far.answers ++ answer ∷ [];
   chain = chain-push fresh session after so_far.earlier so_far.answers line answer so_far.chain h;
   written = appends_answer a b c so_far.answers answer so_far.written w;
@@ -62,7 +72,8 @@ answers_line input rest line next session after a b c answer so_far some l n h w
 
 -- the line ahead is no command
 pub answers_unknown : (input rest line next : List ℕ) (session : Session) (a b c : Option (List ℕ))
-    → AnswersBefore input rest session a b → 0 < length rest → line ≡ before_first is_line_feed rest → next ≡ after_first is_line_feed rest
+    → AnswersBefore input rest session a b → 0 < length rest → line ≡ before_first is_line_feed rest
+    → next ≡ after_first is_line_feed rest
     → request_in_bytes line ≡ None → Appends b c (codes "unknown command" ++ 10 ∷ []) → AnswersToUnknown input a c
 answers_unknown input rest line next session a b c so_far some l n h w = record {
   earlier = so_far.earlier;
@@ -77,11 +88,13 @@ answers_unknown input rest line next session a b c so_far some l n h w = record 
 }
 
 -- nothing is left
-pub answers_all : (input rest : List ℕ) (session : Session) (a b : Option (List ℕ)) → AnswersBefore input rest session a b → length rest ≡ 0 → AnswersAll input a b
+pub answers_all : (input rest : List ℕ) (session : Session) (a b : Option (List ℕ))
+    → AnswersBefore input rest session a b → length rest ≡ 0 → AnswersAll input a b
 answers_all input [] session a b so_far e = record {
   answers = so_far.answers;
   session = session;
-  chain = subst (λ ls. AnswersLines fresh ls so_far.answers session) (sym (so_far.lines ∙ append-nil so_far.earlier)) so_far.chain;
+  chain = subst (λ ls. AnswersLines fresh ls so_far.answers session) (sym (so_far.lines ∙ append-nil so_far.earlier))
+      so_far.chain;
   written = so_far.written;
 }
 answers_all input (b ∷ rest) session a c so_far e = absurd (omega (arith, e))
@@ -91,7 +104,8 @@ appends_nothing None = tt
 appends_nothing (Some x) = sym (append-nil x)
 
 -- no line is answered yet
-pub answers_none : (input : List ℕ) (session : Session) (a : Option (List ℕ)) → session ≡ fresh → AnswersBefore input input session a a
+pub answers_none : (input : List ℕ) (session : Session) (a : Option (List ℕ)) → session ≡ fresh
+    → AnswersBefore input input session a a
 answers_none input session a e = record {
   earlier = [];
   lines = refl;
@@ -101,7 +115,8 @@ answers_none input session a e = record {
 }
 
 -- the answer to a line, from the text of a reply
-pub line_answered : (request : Request) (before after : Session) (line answer text : List ℕ) → request_in_bytes line ≡ Some request
+pub line_answered : (request : Request) (before after : Session) (line answer text : List ℕ)
+    → request_in_bytes line ≡ Some request
     → Follows request before after text → answer ≡ text → AnswersLine before line answer after
 line_answered request before after line answer text asked follows e = record {
   request = request;

@@ -5,15 +5,19 @@ use Rattle.std.specs.Str.{bytes_eq, is_utf8}
 use Rattle.shaping_buffer.specs.ClusterLevel.{level_of}
 use Rattle.shaping_buffer.specs.declared.cluster_level.TheConstants.{HB_BUFFER_CLUSTER_LEVEL_CHARACTERS}
 use Rattle.shaping_runs.specs.declared.call.Call.{Call}
-use Rattle.shaping_runs.specs.declared.call.Call.TheVariants.{ClearOutput, NextGlyph, NextGlyphs, SkipGlyph, MoveTo, Sync}
+use Rattle.shaping_runs.specs.declared.call.Call.TheVariants.{ClearOutput, NextGlyph, NextGlyphs, SkipGlyph, MoveTo}
+use Rattle.shaping_runs.specs.declared.call.Call.TheVariants.{Sync}
 use Rattle.shaping_runs.specs.declared.call.Call.TheVariants.{ReplaceGlyph, OutputGlyph, CopyGlyph, DeleteGlyph}
 use Rattle.shaping_runs.specs.declared.call.Call.TheVariants.{MergeClusters, MergeOutClusters, UnsafeToBreak}
 use Rattle.shaping_runs.specs.declared.call.Call.TheVariants.{UnsafeToBreakFromOutbuffer, SafeToInsertTatweel}
 use Rattle.shaping_runs.specs.declared.call.Call.TheVariants.{UnsafeToConcat, UnsafeToConcatFromOutbuffer}
-use Rattle.line_words.specs.Words.{Left, next_character, next_language, next_place, next_script, next_u32, past_space, past_first_word, first_word}
+use Rattle.line_words.specs.Words.{Left, next_character, next_language, next_place, next_script, next_u32, past_space}
+use Rattle.line_words.specs.Words.{past_first_word, first_word}
 use Rattle.shaping_lines.specs.declared.command.TheConstants.{ALL_BUFFER_FLAGS, ALL_SERIALIZE_FLAGS}
 use Rattle.shaping_lines.specs.declared.command.Command.{Command}
-use Rattle.shaping_lines.specs.declared.command.Command.TheVariants.{Push, Add, Level, Flags, Limit, Make, ReplaceGlyphs, State, Serialize, New, Feature, Tags, Compose, Decompose}
+use Rattle.shaping_lines.specs.declared.command.Command.TheVariants.{Push, Add, Level, Flags, Limit, Make}
+use Rattle.shaping_lines.specs.declared.command.Command.TheVariants.{ReplaceGlyphs, State, Serialize, New, Feature}
+use Rattle.shaping_lines.specs.declared.command.Command.TheVariants.{Tags, Compose, Decompose}
 
 -- What a line asks for: a command with its texts and its numbers.
 pub data Request : Type 0 where

@@ -1,5 +1,6 @@
 -- The answers to questions that are asked of no text.
-use Rattle.std.specs.Prelude.{ℕ, ◌≡◌, ◌-◌, false, List, [], ◌∷◌, ◌++◌, length, replicate, codes, flat_map, map, Option, None, option_map}
+use Rattle.std.specs.Prelude.{ℕ, ◌≡◌, ◌-◌, false, List, [], ◌∷◌, ◌++◌, length, replicate, codes, flat_map, map, Option}
+use Rattle.std.specs.Prelude.{None, option_map}
 use Rattle.std.specs.Char.{to_ascii_lowercase}
 use Rattle.std.specs.Fmt.{decimal, radix_digits}
 use Rattle.rb_text.specs.declared.feature.Feature.{Feature}

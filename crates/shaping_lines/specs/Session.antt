@@ -17,7 +17,8 @@ use Rattle.shaping_runs.specs.declared.call.Answer.TheVariants.{Outside}
 use Rattle.shaping_lines.specs.Queries.{AnswersFeature, AnswersCompose, AnswersDecompose, tags_text}
 use Rattle.shaping_lines.specs.Replies.{answer_text, truth_text}
 use Rattle.shaping_lines.specs.StateText.{state_text}
-use Rattle.shaping_lines.specs.Commands.{Request, push, add, level, flags, limit, call, replace_glyphs, state, serialize, new, feature, tags, compose, decompose}
+use Rattle.shaping_lines.specs.Commands.{Request, push, add, level, flags, limit, call, replace_glyphs, state}
+use Rattle.shaping_lines.specs.Commands.{serialize, new, feature, tags, compose, decompose}
 use Rattle.shaping_lines.specs.declared.session.TheConstants.{LAST_GLYPH}
 use Rattle.shaping_lines.specs.declared.session.Session.{Session}
 use Rattle.shaping_lines.specs.declared.session.Session.TheVariants.{Text, Turned}

@@ -25,7 +25,8 @@ digit_of b = decimal (from_bool b)
 
 -- whether an output is open, the cursor, and whether no call was refused
 abbrev pub head_text : State → List ℕ
-head_text s = codes "open=" ++ digit_of s.have_output ++ codes " idx=" ++ decimal s.idx ++ codes " ok=" ++ digit_of s.successful
+head_text s =
+    codes "open=" ++ digit_of s.have_output ++ codes " idx=" ++ decimal s.idx ++ codes " ok=" ++ digit_of s.successful
 
 -- and then what was put out, and what is left to read
 abbrev pub state_text : State → List ℕ

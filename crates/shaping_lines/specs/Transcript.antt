@@ -1,5 +1,6 @@
 -- What a run reads and writes.
-use Rattle.std.specs.Prelude.{ℕ, ◌≡◌, ◌++◌, ◌⊎◌, ⊤, List, [], ◌∷◌, flat_map, codes, Option, Some, None, Result, if◌then◌else◌, Ok, Err}
+use Rattle.std.specs.Prelude.{ℕ, ◌≡◌, ◌++◌, ◌⊎◌, ⊤, List, [], ◌∷◌, flat_map, codes, Option, Some, None, Result}
+use Rattle.std.specs.Prelude.{if◌then◌else◌, Ok, Err}
 use Rattle.std.specs.Io.KnownBytes.{append_known, Keeps, Appends, Consumes, IsAtEnd}
 use Rattle.shaping_lines.specs.Commands.{Request, request_in_bytes}
 use Rattle.shaping_lines.specs.Replies.{is_line_feed, IsOneLine}

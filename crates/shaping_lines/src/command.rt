@@ -261,7 +261,8 @@ fn flag_call_of(name: &str, words: &mut Words<'_>) -> Option<Call<'static>>
 /// The cluster level of a number.
 fn level_of(number: u32) -> Option<BufferClusterLevel>
     ensures { MatchOption result (at_most HB_BUFFER_CLUSTER_LEVEL_CHARACTERS (Some number) ≡ None)
-        (λ level. at_most HB_BUFFER_CLUSTER_LEVEL_CHARACTERS (Some number) ≡ Some (cluster_level.level_of level)) }
+        (λ level. at_most HB_BUFFER_CLUSTER_LEVEL_CHARACTERS (Some number)
+        ≡ Some (cluster_level.level_of level)) }
 {
     match number {
         0 => Some(BufferClusterLevel::MonotoneGraphemes),

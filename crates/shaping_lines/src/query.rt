@@ -50,7 +50,8 @@ pub fn tags(
     script: Option<Script>,
     language: Option<&str>,
 ) -> Result<Reply, AllocError>
-    ensures { IfOk result (λ reply. reply_text reply ≡ tags_text script (option_copied language.entry)) }
+    ensures { IfOk result (λ reply. reply_text reply
+        ≡ tags_text script (option_copied language.entry)) }
 {
     let language = language_of(alloc, language)?;
     let rows = [("ml", Tag::from_bytes(b"MAL "))];

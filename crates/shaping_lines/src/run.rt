@@ -232,7 +232,8 @@ fn hold(held: &mut Vec<u8>, bytes: &[u8])
 
 /// Writes what is held.
 fn write_held<W: Write>(writer: &mut W, held: &mut Vec<u8>) -> Result<(), RunFault>
-    ensures ok { OnOk result (Appends (W.contents writer.old) (W.contents writer.new) held.old.items) }
+    ensures ok { OnOk result (Appends (W.contents writer.old) (W.contents writer.new)
+        held.old.items) }
     ensures items { OnOk result (held.new.items ≡ []) }
     ensures len { OnOk result (vec_len held.new ≡ 0) }
     ensures err { IfErr result (λ fault. fault ≡ RunFault.Write) }

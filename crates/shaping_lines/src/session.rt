@@ -160,7 +160,8 @@ impl Session {
     }
 
     fn make(self, call: Call<'_>) -> Result<(Session, Reply), AllocError>
-        ensures { IfOk result (λ next. FollowsTurn (turn call.entry) self next.0 (reply_text next.1)) }
+        ensures { IfOk result (λ next. FollowsTurn (turn call.entry) self next.0
+            (reply_text next.1)) }
     {
         let mut buffer = self.into_buffer();
         let mut answers = [Answer::Outside];

@@ -1,14 +1,23 @@
 -- A call is refused for length exactly where the side that it holds would pass the limit.
-use Rattle.std.proofs.Common.{◌≡◌, ◌↔◌, ℕ, ◌+◌, ◌-◌, ◌<◌, ◌≤◌, inl, inr, Bool, true, false, not, ◌&&◌, cond, List, [], ◌∷◌, ◌++◌, length, map, take, drop, min, refl, sym, ap, ◌∙◌, subst, arith, eqb, leb, length-append, length-drop}
-use Rattle.std.proofs.lemmas.Bool.{cond_both, cond-true, cond-false, cases_Bool, cases_lt, and_parts, leb-true, ltb-true, eqb-true, eqb-false, lt-leb, le-leb}
+use Rattle.std.proofs.Common.{◌≡◌, ◌↔◌, ℕ, ◌+◌, ◌-◌, ◌<◌, ◌≤◌, inl, inr, Bool, true, false, not, ◌&&◌, cond, List, []}
+use Rattle.std.proofs.Common.{◌∷◌, ◌++◌, length, map, take, drop, min, refl, sym, ap, ◌∙◌, subst, arith, eqb, leb}
+use Rattle.std.proofs.Common.{length-append, length-drop}
+use Rattle.std.proofs.lemmas.Bool.{cond_both, cond-true, cond-false, cases_Bool, cases_lt, and_parts, leb-true}
+use Rattle.std.proofs.lemmas.Bool.{ltb-true, eqb-true, eqb-false, lt-leb, le-leb}
 use Rattle.std.proofs.lemmas.List.{length-map, length-take-le}
 use Rattle.rb_glyph.specs.declared.info.hb_glyph_info_t.{hb_glyph_info_t}
 use Rattle.shaping_buffer.specs.State.{State, len, lookahead_len}
-use Rattle.shaping_buffer.specs.Step.{Outcome, limited, unlimited, refused, put_out, skip_glyph, skip_glyphs, next_glyphs, split_at, move_to, with_id, glyph_to_copy, last_place}
+use Rattle.shaping_buffer.specs.Step.{Outcome, limited, unlimited, refused, put_out, skip_glyph, skip_glyphs}
+use Rattle.shaping_buffer.specs.Step.{next_glyphs, split_at, move_to, with_id, glyph_to_copy, last_place}
 use Rattle.shaping_buffer.specs.ClusterStep.{both}
 use Rattle.shaping_buffer.proofs.ReplacementLemmas.{replaced_sides, front_replaced}
 use Rattle.shaping_runs.specs.declared.call.Call.{Call}
-use Rattle.shaping_runs.specs.declared.call.Call.TheVariants.{ClearOutput, NextGlyph, NextGlyphs, SkipGlyph, ReplaceGlyph, ReplaceGlyphs, OutputGlyph, OutputInfo, CopyGlyph, MoveTo, Sync, DeleteGlyph, MergeClusters, MergeOutClusters, UnsafeToBreak, UnsafeToBreakFromOutbuffer, SafeToInsertTatweel, UnsafeToConcat, UnsafeToConcatFromOutbuffer}
+use Rattle.shaping_runs.specs.declared.call.Call.TheVariants.{ClearOutput, NextGlyph, NextGlyphs, SkipGlyph}
+use Rattle.shaping_runs.specs.declared.call.Call.TheVariants.{ReplaceGlyph, ReplaceGlyphs, OutputGlyph, OutputInfo}
+use Rattle.shaping_runs.specs.declared.call.Call.TheVariants.{CopyGlyph, MoveTo, Sync, DeleteGlyph, MergeClusters}
+use Rattle.shaping_runs.specs.declared.call.Call.TheVariants.{MergeOutClusters, UnsafeToBreak}
+use Rattle.shaping_runs.specs.declared.call.Call.TheVariants.{UnsafeToBreakFromOutbuffer, SafeToInsertTatweel}
+use Rattle.shaping_runs.specs.declared.call.Call.TheVariants.{UnsafeToConcat, UnsafeToConcatFromOutbuffer}
 use Rattle.shaping_runs.specs.declared.call.Answer.TheVariants.{Refused}
 use Rattle.shaping_runs.specs.Replay.{Turn, turn, after, answer_of, may_be_made, outcome_of, has_glyph}
 use Rattle.shaping_runs.specs.Headline.{held, held_open, moves_or_syncs, awaits_clear}
@@ -23,8 +32,10 @@ Exact s o h = (o.done ≡ false) ↔ (s.max_len < h)
 
 limited_exact : (h : ℕ) (s new : State) → Exact s (limited h s new) h
 limited_exact h s new = elim (cases_lt s.max_len h) [
-  | inl lt ↦ subst (λ (o : Outcome). Exact s o h) (sym (cond-false (leb h s.max_len) _ _ (lt-leb h s.max_len lt))) (λ _. lt, λ _. refl)
-  | inr ge ↦ subst (λ (o : Outcome). Exact s o h) (sym (cond-true (leb h s.max_len) _ _ (le-leb h s.max_len ge))) (λ e. cc, λ lt. absurd (omega arith))
+  | inl lt ↦ subst (λ (o : Outcome). Exact s o h) (sym (cond-false (leb h s.max_len) _ _ (lt-leb h s.max_len lt)))
+      (λ _. lt, λ _. refl)
+  | inr ge ↦ subst (λ (o : Outcome). Exact s o h) (sym (cond-true (leb h s.max_len) _ _ (le-leb h s.max_len ge)))
+      (λ e. cc, λ lt. absurd (omega arith))
 ]
 
 never : (s new : State) → Exact s (unlimited new) 0
@@ -32,31 +43,40 @@ never s new = (λ e. cc, λ lt. absurd (omega arith))
 
 -- with an output open so many are held, and else none
 module _ (call : Call) (s : State) where
-  while_open : (o : Outcome) (h : ℕ) (new : State) → s.have_output ≡ true → o ≡ limited h s new → h ≡ held_open call s → Exact s o (held call s)
+  while_open : (o : Outcome) (h : ℕ) (new : State) → s.have_output ≡ true → o ≡ limited h s new → h ≡ held_open call s
+      → Exact s o (held call s)
   while_open o h new opened e eh =
-      subst (λ (p : Outcome). Exact s p (held call s)) (sym e) (subst (Exact s (limited h s new)) (eh ∙ sym (cond-true s.have_output (held_open call s) 0 opened)) (limited_exact h s new))
+      subst (λ (p : Outcome). Exact s p (held call s)) (sym e)
+      (subst (Exact s (limited h s new)) (eh ∙ sym (cond-true s.have_output (held_open call s) 0 opened))
+      (limited_exact h s new))
 
   while_closed : (o : Outcome) (new : State) → s.have_output ≡ false → o ≡ unlimited new → Exact s o (held call s)
   while_closed o new closed e =
-      subst (λ (p : Outcome). Exact s p (held call s)) (sym e) (subst (Exact s (unlimited new)) (sym (cond-false s.have_output (held_open call s) 0 closed)) (never s new))
+      subst (λ (p : Outcome). Exact s p (held call s)) (sym e)
+      (subst (Exact s (unlimited new)) (sym (cond-false s.have_output (held_open call s) 0 closed)) (never s new))
 
   holds_nothing : (new : State) → held_open call s ≡ 0 → Exact s (unlimited new) (held call s)
-  holds_nothing new none = subst (Exact s (unlimited new)) (sym (cond_both s.have_output (held_open call s) 0 (λ h. h ≡ 0) (λ _. none) (λ _. refl))) (never s new)
+  holds_nothing new none = subst (Exact s (unlimited new))
+      (sym (cond_both s.have_output (held_open call s) 0 (λ h. h ≡ 0) (λ _. none) (λ _. refl))) (never s new)
 
   -- these glyphs are put out
-  puts_out : (xs : List hb_glyph_info_t) (then : State) → s.have_output ≡ true → length (s.out ++ xs) ≡ held_open call s → Exact s (put_out xs s then) (held call s)
-  puts_out xs then opened eh = while_open (put_out xs s then) (length (s.out ++ xs)) (record then { out = then.out ++ xs }) opened refl eh
+  puts_out : (xs : List hb_glyph_info_t) (then : State) → s.have_output ≡ true → length (s.out ++ xs) ≡ held_open call s
+      → Exact s (put_out xs s then) (held call s)
+  puts_out xs then opened eh =
+      while_open (put_out xs s then) (length (s.out ++ xs)) (record then { out = then.out ++ xs }) opened refl eh
 
 -- ---- lengths
 
 taken : (n : ℕ) (out input : List hb_glyph_info_t) → n ≤ length input → length (out ++ take n input) ≡ length out + n
 taken n out input within = omega (arith, length-append out (take n input), length-take-le n input within)
 
-copied : (out input : List hb_glyph_info_t) → length (cond (eqb (length input) 0) (drop (length out - 1) out) (take 1 input)) ≡ min 1 (length (out ++ input))
+copied : (out input : List hb_glyph_info_t)
+    → length (cond (eqb (length input) 0) (drop (length out - 1) out) (take 1 input)) ≡ min 1 (length (out ++ input))
 copied out input =
     cond_both (eqb (length input) 0) _ _ (λ (l : List hb_glyph_info_t). length l ≡ min 1 (length (out ++ input)))
     (λ e. omega (arith, length-drop (length out - 1) out, length-append out input, eqb-true (length input) 0 e))
-    (λ e. let off : length input ≡ 0 → ⊥ = eqb-false (length input) 0 e in omega (arith, length-take-le 1 input (omega arith), length-append out input, off))
+    (λ e. let off : length input ≡ 0 → ⊥ = eqb-false (length input) 0 e in
+    omega (arith, length-take-le 1 input (omega arith), length-append out input, off))
 
 -- ---- every call
 
@@ -68,7 +88,8 @@ held_place place s = cond (leb (length s.out) place) (length (take place (both s
 abbrev joined : State → State
 joined s = record s { have_output = false; have_separate_output = false; out = []; input = both s; idx = 0 }
 
-next_exact : (call : Call) (n : ℕ) (s : State) → held_open call s ≡ length s.out + n → n ≤ lookahead_len s → Exact s (next_glyphs n s) (held call s)
+next_exact : (call : Call) (n : ℕ) (s : State) → held_open call s ≡ length s.out + n → n ≤ lookahead_len s
+    → Exact s (next_glyphs n s) (held call s)
 next_exact call n s is within = elim (cases_Bool s.have_output) [
   | inl opened ↦ subst (λ (o : Outcome). Exact s o (held call s)) (sym (cond-true s.have_output _ _ opened))
       (puts_out call s (take n s.input) (skip_glyphs n s) opened
@@ -84,48 +105,72 @@ not_awaited true true e h = refl
 not_awaited true false e h = cc
 not_awaited false ok e h = cc
 
-outcome_exact : (call : Call) (s : State) → may_be_made call s ≡ true → awaits_clear call s ≡ false → Exact s (outcome_of call s) (held call s)
+outcome_exact : (call : Call) (s : State) → may_be_made call s ≡ true → awaits_clear call s ≡ false
+    → Exact s (outcome_of call s) (held call s)
 outcome_exact NextGlyph s e free = next_exact NextGlyph 1 s refl (one_left s e)
 outcome_exact (NextGlyphs n) s e free = next_exact (NextGlyphs n) n s refl (leb-true n (lookahead_len s) e)
 outcome_exact (ReplaceGlyph id) s e free =
     let w = and_parts s.have_output (has_glyph s) e in
     let some = glyph_left s.have_output s.idx (length s.input) w.0 w.1 in
     puts_out (ReplaceGlyph id) s (map (with_id id) (take 1 s.input)) (skip_glyph s) w.0
-    (omega (arith, length-append s.out (map (with_id id) (take 1 s.input)), length-map (take 1 s.input) (with_id id), length-take-le 1 s.input some))
+    (omega (
+      arith,
+      length-append s.out (map (with_id id) (take 1 s.input)),
+      length-map (take 1 s.input) (with_id id),
+      length-take-le 1 s.input some,
+    ))
 outcome_exact (ReplaceGlyphs num_in num_out ids) s e free =
     let w = and_parts s.have_output _ e in
     let v = and_parts (has_glyph s) _ w.1 in
     let u = and_parts (leb num_in (lookahead_len s)) _ v.1 in
-    while_open (ReplaceGlyphs num_in num_out ids) s _ (length s.out + length (take num_out ids.now)) (front_replaced num_in (take num_out ids.now) s) w.0 (replaced_sides num_in (take num_out ids.now) s w.0)
+    while_open (ReplaceGlyphs num_in num_out ids) s _ (length s.out + length (take num_out ids.now))
+    (front_replaced num_in (take num_out ids.now) s) w.0 (replaced_sides num_in (take num_out ids.now) s w.0)
     (omega (arith, length-take-le num_out ids.now (leb-true num_out (length ids.now) u.1)))
 outcome_exact (OutputGlyph id) s e free =
     let g = glyph_to_copy s in
     puts_out (OutputGlyph id) s (map (with_id id) g) s e
-    (length-append s.out (map (with_id id) g) ∙ ap (λ k. length s.out + k) (length-map g (with_id id) ∙ copied s.out s.input))
+    (length-append s.out (map (with_id id) g)
+    ∙ ap (λ k. length s.out + k) (length-map g (with_id id) ∙ copied s.out s.input))
 outcome_exact (OutputInfo g) s e free = puts_out (OutputInfo g) s (g ∷ []) s e (length-append s.out (g ∷ []))
 outcome_exact CopyGlyph s e free =
     let w = and_parts s.have_output (has_glyph s) e in
-    puts_out CopyGlyph s (take 1 s.input) s w.0 (taken 1 s.out s.input (glyph_left s.have_output s.idx (length s.input) w.0 w.1))
+    puts_out CopyGlyph s (take 1 s.input) s w.0
+    (taken 1 s.out s.input (glyph_left s.have_output s.idx (length s.input) w.0 w.1))
 outcome_exact (MoveTo place) s e free = elim (cases_Bool s.have_output) [
   | inl opened ↦
-      let within : place ≤ length s.out + length s.input = subst (λ k. place ≤ k) (cond-true s.have_output _ _ opened) (leb-true place (last_place s) e) in
+      let within : place ≤ length s.out + length s.input =
+      subst (λ k. place ≤ k) (cond-true s.have_output _ _ opened) (leb-true place (last_place s) e) in
       let all = length-append s.out s.input in
-      while_open (MoveTo place) s (move_to place s) (held_place place s) (split_at place s) opened (cond-true s.have_output _ _ opened ∙ cond-true s.successful _ _ (not_awaited s.have_output s.successful opened free))
-      (ap (λ k. cond (leb (length s.out) place) k (length (drop place (both s)))) (length-take-le place (both s) (omega arith))
+      while_open (MoveTo place) s (move_to place s) (held_place place s) (split_at place s) opened
+      (cond-true s.have_output _ _ opened ∙ cond-true s.successful _ _
+      (not_awaited s.have_output s.successful opened free))
+      (ap (λ k. cond (leb (length s.out) place) k (length (drop place (both s))))
+      (length-take-le place (both s) (omega arith))
       ∙ ap (cond (leb (length s.out) place) place) (length-drop place (both s)))
-  | inr closed ↦ while_closed (MoveTo place) s (move_to place s) (record s { idx = place }) closed (cond-false s.have_output _ _ closed)
+  | inr closed ↦ while_closed (MoveTo place) s (move_to place s) (record s { idx = place }) closed
+      (cond-false s.have_output _ _ closed)
 ]
-outcome_exact Sync s e free = while_open Sync s _ (length (both s)) (joined s) e (cond-true s.successful _ _ (not_awaited s.have_output s.successful e free)) refl
+outcome_exact Sync s e free = while_open Sync s _ (length (both s)) (joined s) e
+    (cond-true s.successful _ _ (not_awaited s.have_output s.successful e free)) refl
 outcome_exact ClearOutput s e free = holds_nothing ClearOutput s (outcome_of ClearOutput s).state refl
 outcome_exact SkipGlyph s e free = holds_nothing SkipGlyph s (outcome_of SkipGlyph s).state refl
 outcome_exact DeleteGlyph s e free = holds_nothing DeleteGlyph s (outcome_of DeleteGlyph s).state refl
-outcome_exact (MergeClusters start end) s e free = holds_nothing (MergeClusters start end) s (outcome_of (MergeClusters start end) s).state refl
-outcome_exact (MergeOutClusters start end) s e free = holds_nothing (MergeOutClusters start end) s (outcome_of (MergeOutClusters start end) s).state refl
-outcome_exact (UnsafeToBreak start end) s e free = holds_nothing (UnsafeToBreak start end) s (outcome_of (UnsafeToBreak start end) s).state refl
-outcome_exact (UnsafeToBreakFromOutbuffer start end) s e free = holds_nothing (UnsafeToBreakFromOutbuffer start end) s (outcome_of (UnsafeToBreakFromOutbuffer start end) s).state refl
-outcome_exact (SafeToInsertTatweel start end) s e free = holds_nothing (SafeToInsertTatweel start end) s (outcome_of (SafeToInsertTatweel start end) s).state refl
-outcome_exact (UnsafeToConcat start end) s e free = holds_nothing (UnsafeToConcat start end) s (outcome_of (UnsafeToConcat start end) s).state refl
-outcome_exact (UnsafeToConcatFromOutbuffer start end) s e free = holds_nothing (UnsafeToConcatFromOutbuffer start end) s (outcome_of (UnsafeToConcatFromOutbuffer start end) s).state refl
+outcome_exact (MergeClusters start end) s e free =
+    holds_nothing (MergeClusters start end) s (outcome_of (MergeClusters start end) s).state refl
+outcome_exact (MergeOutClusters start end) s e free =
+    holds_nothing (MergeOutClusters start end) s (outcome_of (MergeOutClusters start end) s).state refl
+outcome_exact (UnsafeToBreak start end) s e free =
+    holds_nothing (UnsafeToBreak start end) s (outcome_of (UnsafeToBreak start end) s).state refl
+outcome_exact (UnsafeToBreakFromOutbuffer start end) s e free =
+    holds_nothing (UnsafeToBreakFromOutbuffer start end) s (outcome_of (UnsafeToBreakFromOutbuffer start end) s).state
+    refl
+outcome_exact (SafeToInsertTatweel start end) s e free =
+    holds_nothing (SafeToInsertTatweel start end) s (outcome_of (SafeToInsertTatweel start end) s).state refl
+outcome_exact (UnsafeToConcat start end) s e free =
+    holds_nothing (UnsafeToConcat start end) s (outcome_of (UnsafeToConcat start end) s).state refl
+outcome_exact (UnsafeToConcatFromOutbuffer start end) s e free =
+    holds_nothing (UnsafeToConcatFromOutbuffer start end) s (outcome_of (UnsafeToConcatFromOutbuffer start end) s).state
+    refl
 
 -- ---- its turn
 
@@ -133,12 +178,14 @@ answered : (done : Bool) → (answer_of done ≡ Refused) ↔ (done ≡ false)
 answered true = (λ e. cc, λ e. cc)
 answered false = (λ e. refl, λ e. refl)
 
-pub refused_exactly : (call : Call) (s : State) → may_be_made call s ≡ true → awaits_clear call s ≡ false → ((turn call s).answer ≡ Refused) ↔ (s.max_len < held call s)
+pub refused_exactly : (call : Call) (s : State) → may_be_made call s ≡ true → awaits_clear call s ≡ false
+    → ((turn call s).answer ≡ Refused) ↔ (s.max_len < held call s)
 refused_exactly call s e free =
     let o = outcome_of call s in
     let x = outcome_exact call s e free in
     let a = answered o.done in
-    subst (λ (t : Turn). (t.answer ≡ Refused) ↔ (s.max_len < held call s)) (sym (cond-true (may_be_made call s) _ _ e)) (λ r. x.0 (a.0 r), λ lt. a.1 (x.1 lt))
+    subst (λ (t : Turn). (t.answer ≡ Refused) ↔ (s.max_len < held call s)) (sym (cond-true (may_be_made call s) _ _ e))
+    (λ r. x.0 (a.0 r), λ lt. a.1 (x.1 lt))
 
 -- ---- what a refusal changes
 
@@ -158,20 +205,26 @@ put_changes : (xs : List hb_glyph_info_t) (s then : State) → Changes s (put_ou
 put_changes xs s then = limited_changes (length (s.out ++ xs)) s (record then { out = then.out ++ xs })
 
 next_changes : (n : ℕ) (s : State) → Changes s (next_glyphs n s)
-next_changes n s = cond_both s.have_output _ _ (Changes s) (λ _. put_changes (take n s.input) s (skip_glyphs n s)) (λ _. done_changes s (skip_glyphs n s))
+next_changes n s = cond_both s.have_output _ _ (Changes s) (λ _. put_changes (take n s.input) s (skip_glyphs n s))
+    (λ _. done_changes s (skip_glyphs n s))
 
 outcome_changes : (call : Call) (s : State) → may_be_made call s ≡ true → Changes s (outcome_of call s)
 outcome_changes NextGlyph s e = next_changes 1 s
 outcome_changes (NextGlyphs n) s e = next_changes n s
 outcome_changes (ReplaceGlyph id) s e = put_changes (map (with_id id) (take 1 s.input)) s (skip_glyph s)
 outcome_changes (ReplaceGlyphs num_in num_out ids) s e =
-    subst (Changes s) (sym (replaced_sides num_in (take num_out ids.now) s (and_parts s.have_output _ e).0)) (limited_changes (length s.out + length (take num_out ids.now)) s (front_replaced num_in (take num_out ids.now) s))
+    subst (Changes s) (sym (replaced_sides num_in (take num_out ids.now) s (and_parts s.have_output _ e).0))
+    (limited_changes (length s.out + length (take num_out ids.now)) s
+    (front_replaced num_in (take num_out ids.now) s))
 outcome_changes (OutputGlyph id) s e = put_changes (map (with_id id) (glyph_to_copy s)) s s
 outcome_changes (OutputInfo g) s e = put_changes (g ∷ []) s s
 outcome_changes CopyGlyph s e = put_changes (take 1 s.input) s s
 outcome_changes (MoveTo place) s e =
-    cond_both s.have_output _ _ (Changes s) (λ _. cond_both s.successful _ _ (Changes s) (λ _. limited_changes _ s (split_at place s)) (waiting_changes s)) (λ _. done_changes s (record s { idx = place }))
-outcome_changes Sync s e = cond_both s.successful _ _ (Changes s) (λ _. limited_changes (length (both s)) s (joined s)) (waiting_changes s)
+    cond_both s.have_output _ _ (Changes s)
+    (λ _. cond_both s.successful _ _ (Changes s) (λ _. limited_changes _ s (split_at place s)) (waiting_changes s))
+    (λ _. done_changes s (record s { idx = place }))
+outcome_changes Sync s e =
+    cond_both s.successful _ _ (Changes s) (λ _. limited_changes (length (both s)) s (joined s)) (waiting_changes s)
 outcome_changes ClearOutput s e = done_changes s _
 outcome_changes SkipGlyph s e = done_changes s _
 outcome_changes DeleteGlyph s e = done_changes s _
@@ -183,14 +236,16 @@ outcome_changes (SafeToInsertTatweel start end) s e = done_changes s _
 outcome_changes (UnsafeToConcat start end) s e = done_changes s _
 outcome_changes (UnsafeToConcatFromOutbuffer start end) s e = done_changes s _
 
-pub refusal_changes : (call : Call) (s : State) → (turn call s).answer ≡ Refused → (turn call s).state ≡ record s { successful = false }
+pub refusal_changes : (call : Call) (s : State) → (turn call s).answer ≡ Refused
+    → (turn call s).state ≡ record s { successful = false }
 refusal_changes call s =
     cond_both (may_be_made call s) _ _ (λ (t : Turn). t.answer ≡ Refused → t.state ≡ record s { successful = false })
     (λ e r. outcome_changes call s e ((answered (outcome_of call s).done).0 r)) (λ _ r. cc)
 
 -- ---- after a refusal
 
-waits : (call : Call) (s : State) → moves_or_syncs call ≡ true → s.have_output ≡ true → s.successful ≡ false → may_be_made call s ≡ true → turn call s ≡ record { answer = Refused; state = s }
+waits : (call : Call) (s : State) → moves_or_syncs call ≡ true → s.have_output ≡ true → s.successful ≡ false
+    → may_be_made call s ≡ true → turn call s ≡ record { answer = Refused; state = s }
 waits (MoveTo place) s is opened h e = move_refused s opened h place (leb-true place (last_place s) e)
 waits Sync s is opened h e = sync_refused s opened h
 waits ClearOutput s is opened h e = cc
@@ -211,6 +266,8 @@ waits (SafeToInsertTatweel start end) s is opened h e = cc
 waits (UnsafeToConcat start end) s is opened h e = cc
 waits (UnsafeToConcatFromOutbuffer start end) s is opened h e = cc
 
-pub refused_for_good : (calls : List Call) (call : Call) (s : State) → s.successful ≡ false → moves_or_syncs call ≡ true → (after calls s).have_output ≡ true
-    → may_be_made call (after calls s) ≡ true → turn call (after calls s) ≡ record { answer = Refused; state = after calls s }
+pub refused_for_good : (calls : List Call) (call : Call) (s : State) → s.successful ≡ false → moves_or_syncs call ≡ true
+    → (after calls s).have_output ≡ true
+    → may_be_made call (after calls s) ≡ true → turn call (after calls s)
+    ≡ record { answer = Refused; state = after calls s }
 refused_for_good calls call s h is opened e = waits call (after calls s) is opened (refusal_after calls s h) e

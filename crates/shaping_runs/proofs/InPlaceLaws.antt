@@ -1,5 +1,6 @@
 -- Where no output is separate along a list of calls, none of them stops for want of memory.
-use Rattle.std.proofs.Common.{◌≡◌, ℕ, zero, suc, ◌<◌, true, false, ◌||◌, List, [], ◌∷◌, length, take, sym, ap, ◌∙◌, subst, arith}
+use Rattle.std.proofs.Common.{◌≡◌, ℕ, zero, suc, ◌<◌, true, false, ◌||◌, List, [], ◌∷◌, length, take, sym, ap, ◌∙◌}
+use Rattle.std.proofs.Common.{subst, arith}
 use Rattle.std.specs.Prelude.{slice_get, IfSome}
 use Rattle.std.proofs.lemmas.Bool.{cond_both, false≢true}
 use Rattle.shaping_buffer.specs.State.{State}
@@ -16,14 +17,18 @@ before_in_place : (calls : List Call) (s : State) → StaysInPlace calls s → s
 before_in_place [] s stays = stays
 before_in_place (call ∷ calls) s stays = stays.0
 
-call_never_stops : (call : Call) (s : State) → s.have_separate_output ≡ false → (turn call s).state.have_separate_output ≡ false → MayStop call s → ⊥
+call_never_stops : (call : Call) (s : State) → s.have_separate_output ≡ false
+    → (turn call s).state.have_separate_output ≡ false → MayStop call s → ⊥
 call_never_stops call s old new stop =
     cond_both (may_be_made call s) _ _ (λ (t : Turn). t.state.have_separate_output ≡ false → t.answer ≡ Done → ⊥)
-    (λ _ then_in_place _. let separate : (false || false) ≡ true = sym (ap (λ b. b || (outcome_of call s).state.have_separate_output) old ∙ then_in_place) ∙ stop.0.1 in absurd (false≢true separate))
+    (λ _ then_in_place _. let separate : (false || false)
+    ≡ true = sym (ap (λ b. b || (outcome_of call s).state.have_separate_output) old ∙ then_in_place) ∙ stop.0.1 in
+    absurd (false≢true separate))
     (λ _ _ done. outside_is_not_done done)
     new stop.1
 
-stops_nowhere : (calls : List Call) (s : State) → StaysInPlace calls s → (at : ℕ) (new : State) → at < length calls → new ≡ after (take at calls) s
+stops_nowhere : (calls : List Call) (s : State) → StaysInPlace calls s → (at : ℕ) (new : State) → at < length calls
+    → new ≡ after (take at calls) s
     → IfSome (slice_get calls at) (λ call. MayStop call new) → ⊥
 stops_nowhere [] s stays at new within is due = absurd (omega (arith, within))
 stops_nowhere (call ∷ calls) s stays zero new within is due =
@@ -31,6 +36,8 @@ stops_nowhere (call ∷ calls) s stays zero new within is due =
 stops_nowhere (call ∷ calls) s stays (suc at) new within is due =
     stops_nowhere calls (turn call s).state stays.1 at new (omega (arith, within)) is due
 
-pub never_stops : (calls : List Call) (s : State) → StaysInPlace calls s → (at : ℕ) (before : List Answer) (new : State) (answers : List Answer)
+pub never_stops : (calls : List Call) (s : State) → StaysInPlace calls s
+    → (at : ℕ) (before : List Answer) (new : State) (answers : List Answer)
     → StopsAt at calls s before new answers → ⊥
-never_stops calls s stays at before new answers stop = stops_nowhere calls s stays at new stop.within stop.state stop.due
+never_stops calls s stays at before new answers stop =
+    stops_nowhere calls s stays at new stop.within stop.state stop.due

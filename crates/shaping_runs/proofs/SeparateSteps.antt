@@ -1,5 +1,6 @@
 -- When what is put out leaves the storage of the input.
-use Rattle.std.proofs.Common.{◌≡◌, ◌≤◌, ◌+◌, ℕ, true, false, not, ◌||◌, if◌then◌else◌, List, [], ◌∷◌, ◌++◌, length, map, take, drop, refl, sym, ap, ◌∙◌, arith, ltb, leb, length-take}
+use Rattle.std.proofs.Common.{◌≡◌, ◌≤◌, ◌+◌, ℕ, true, false, not, ◌||◌, if◌then◌else◌, List, [], ◌∷◌, ◌++◌, length, map}
+use Rattle.std.proofs.Common.{take, drop, refl, sym, ap, ◌∙◌, arith, ltb, leb, length-take}
 use Rattle.std.specs.Prelude.{nat_lt}
 use Rattle.std.proofs.lemmas.Bool.{cond_both, false≢true}
 use Rattle.std.proofs.lemmas.Grind.{common_steps}
@@ -9,10 +10,18 @@ use Rattle.rb_glyph.specs.declared.info.hb_glyph_info_t.{hb_glyph_info_t}
 use Rattle.glyph_lists.specs.Replacement.{copies}
 use Rattle.glyph_lists.proofs.LengthsLemmas.{length-deletion}
 use Rattle.shaping_buffer.specs.State.{State}
-use Rattle.shaping_buffer.specs.Step.{Outcome, limited, put_out, skip_glyph, skip_glyphs, next_glyphs, glyph_to_copy, move_to, split_at, sync, with_id}
-use Rattle.shaping_buffer.specs.ClusterStep.{any_order, both_place, merge_clusters, merge_out_clusters, delete_glyph, head_of, scan, plain_scan, flag_all, asks, range_start, range_end, unsafe_to_break_from_outbuffer}
+use Rattle.shaping_buffer.specs.Step.{Outcome, limited, put_out, skip_glyph, skip_glyphs, next_glyphs, glyph_to_copy}
+use Rattle.shaping_buffer.specs.Step.{move_to, split_at, sync, with_id}
+use Rattle.shaping_buffer.specs.ClusterStep.{any_order, both_place, merge_clusters, merge_out_clusters, delete_glyph}
+use Rattle.shaping_buffer.specs.ClusterStep.{head_of, scan, plain_scan, flag_all, asks, range_start, range_end}
+use Rattle.shaping_buffer.specs.ClusterStep.{unsafe_to_break_from_outbuffer}
 use Rattle.shaping_runs.specs.declared.call.Call.{Call}
-use Rattle.shaping_runs.specs.declared.call.Call.TheVariants.{ClearOutput, NextGlyph, NextGlyphs, SkipGlyph, ReplaceGlyph, ReplaceGlyphs, OutputGlyph, OutputInfo, CopyGlyph, MoveTo, Sync, DeleteGlyph, MergeClusters, MergeOutClusters, UnsafeToBreak, UnsafeToBreakFromOutbuffer, SafeToInsertTatweel, UnsafeToConcat, UnsafeToConcatFromOutbuffer}
+use Rattle.shaping_runs.specs.declared.call.Call.TheVariants.{ClearOutput, NextGlyph, NextGlyphs, SkipGlyph}
+use Rattle.shaping_runs.specs.declared.call.Call.TheVariants.{ReplaceGlyph, ReplaceGlyphs, OutputGlyph, OutputInfo}
+use Rattle.shaping_runs.specs.declared.call.Call.TheVariants.{CopyGlyph, MoveTo, Sync, DeleteGlyph, MergeClusters}
+use Rattle.shaping_runs.specs.declared.call.Call.TheVariants.{MergeOutClusters, UnsafeToBreak}
+use Rattle.shaping_runs.specs.declared.call.Call.TheVariants.{UnsafeToBreakFromOutbuffer, SafeToInsertTatweel}
+use Rattle.shaping_runs.specs.declared.call.Call.TheVariants.{UnsafeToConcat, UnsafeToConcatFromOutbuffer}
 use Rattle.shaping_runs.specs.Replay.{Turn, turn, may_be_made, outcome_of}
 use Rattle.shaping_runs.specs.Separation.{IsNear, Follows}
 
@@ -21,27 +30,32 @@ abbrev Told : State → State → Type 0
 Told old new = new.have_output ≡ true → Follows old new
 
 -- a call that neither puts out nor takes back
-unmoved : (old new : State) → new.have_separate_output ≡ old.have_separate_output → (old.have_separate_output ≡ false → length new.out ≤ new.idx) → Told old new
+unmoved : (old new : State) → new.have_separate_output ≡ old.have_separate_output
+    → (old.have_separate_output ≡ false → length new.out ≤ new.idx) → Told old new
 unmoved old new e near = λ _. grind (arith, common_steps)
 
 module _ (s : State) (near : IsNear s) where
   same : Told s s
   same = unmoved s s refl near
 
-  limited_told : (held : ℕ) (after : State) → after.have_separate_output ≡ s.have_separate_output → Told s (limited held s after).state
+  limited_told : (held : ℕ) (after : State) → after.have_separate_output ≡ s.have_separate_output
+      → Told s (limited held s after).state
   limited_told held after e =
       cond_both (leb held s.max_len) _ _ (λ (o : Outcome). Told s o.state)
       (λ _ _. ap (λ b. b || nat_lt after.idx (length after.out)) e)
       (λ _. unmoved s (record s { successful = false }) refl near)
 
-  put_out_told : (xs : List hb_glyph_info_t) (after : State) → after.have_separate_output ≡ s.have_separate_output → Told s (put_out xs s after).state
+  put_out_told : (xs : List hb_glyph_info_t) (after : State) → after.have_separate_output ≡ s.have_separate_output
+      → Told s (put_out xs s after).state
   put_out_told xs after e = limited_told (length (s.out ++ xs)) (record after { out = after.out ++ xs }) e
 
   next_told : (n : ℕ) → s.have_output ≡ true → Told s (next_glyphs n s).state
-  next_told n opened = cond_both s.have_output _ _ (λ (o : Outcome). Told s o.state) (λ _. put_out_told (take n s.input) (skip_glyphs n s) refl) (λ closed. absurd (false≢true (sym closed ∙ opened)))
+  next_told n opened = cond_both s.have_output _ _ (λ (o : Outcome). Told s o.state)
+      (λ _. put_out_told (take n s.input) (skip_glyphs n s) refl) (λ closed. absurd (false≢true (sym closed ∙ opened)))
 
   -- nothing is put out, and nothing taken back
-  out_kept : (new : State) → new.have_separate_output ≡ s.have_separate_output → length new.out ≤ length s.out → s.idx ≤ new.idx → Told s new
+  out_kept : (new : State) → new.have_separate_output ≡ s.have_separate_output → length new.out ≤ length s.out
+      → s.idx ≤ new.idx → Told s new
   out_kept new e fewer on = unmoved s new e (λ h. let m = near h in omega (arith, m, fewer, on))
 
   cut : (l : List hb_glyph_info_t) → length (take (length s.out) l) ≤ length s.out
@@ -51,17 +65,20 @@ module _ (s : State) (near : IsNear s) where
   scan_told bits p q = out_kept (scan bits p q s) refl (cut _) (omega arith)
 
   plain_scan_told : (bits start end : ℕ) → Told s (plain_scan bits start end s)
-  plain_scan_told bits start end = cond_both (ltb _ 2) _ _ (λ (t : State). Told s t) (λ _. same) (λ _. scan_told bits (both_place s start) (both_place s end))
+  plain_scan_told bits start end = cond_both (ltb _ 2) _ _ (λ (t : State). Told s t) (λ _. same)
+      (λ _. scan_told bits (both_place s start) (both_place s end))
 
   flag_all_told : (bits p q : ℕ) → Told s (if asks PRODUCE_UNSAFE_TO_CONCAT s then flag_all bits p q s else s)
   flag_all_told bits p q =
-      cond_both (asks PRODUCE_UNSAFE_TO_CONCAT s) _ _ (λ (t : State). Told s t) (λ _. out_kept (flag_all bits p q s) refl (cut _) (omega arith)) (λ _. same)
+      cond_both (asks PRODUCE_UNSAFE_TO_CONCAT s) _ _ (λ (t : State). Told s t)
+      (λ _. out_kept (flag_all bits p q s) refl (cut _) (omega arith)) (λ _. same)
 
   module _ (opened : s.have_output ≡ true) where
     move_told : (place : ℕ) → Told s (move_to place s).state
     move_told place =
         cond_both s.have_output _ _ (λ (o : Outcome). Told s o.state)
-        (λ _. cond_both s.successful _ _ (λ (o : Outcome). Told s o.state) (λ _. limited_told _ (split_at place s) refl) (λ _. same))
+        (λ _. cond_both s.successful _ _ (λ (o : Outcome). Told s o.state) (λ _. limited_told _ (split_at place s) refl)
+        (λ _. same))
         (λ closed. absurd (false≢true (sym closed ∙ opened)))
 
     sync_told : Told s (sync s).state
@@ -91,10 +108,14 @@ module _ (s : State) (near : IsNear s) where
     outcome_told (MergeClusters start end) may = out_kept (merge_clusters start end s) refl (cut _) (omega arith)
     outcome_told (MergeOutClusters start end) may = out_kept (merge_out_clusters start end s) refl (cut _) (omega arith)
     outcome_told (UnsafeToBreak start end) may = plain_scan_told _ _ _
-    outcome_told (UnsafeToBreakFromOutbuffer start end) may = out_kept (unsafe_to_break_from_outbuffer start end s) refl (cut _) (omega arith)
+    outcome_told (UnsafeToBreakFromOutbuffer start end) may =
+        out_kept (unsafe_to_break_from_outbuffer start end s) refl (cut _) (omega arith)
     outcome_told (SafeToInsertTatweel start end) may = plain_scan_told _ _ _
-    outcome_told (UnsafeToConcat start end) may = flag_all_told UNSAFE_TO_CONCAT (both_place s (range_start start)) (both_place s (range_end end s))
-    outcome_told (UnsafeToConcatFromOutbuffer start end) may = flag_all_told UNSAFE_TO_CONCAT (range_start start) (both_place s (range_end end s))
+    outcome_told (UnsafeToConcat start end) may =
+        flag_all_told UNSAFE_TO_CONCAT (both_place s (range_start start)) (both_place s (range_end end s))
+    outcome_told (UnsafeToConcatFromOutbuffer start end) may =
+        flag_all_told UNSAFE_TO_CONCAT (range_start start) (both_place s (range_end end s))
 
     pub turn_told : (call : Call) → Told s (turn call s).state
-    turn_told call = cond_both (may_be_made call s) _ _ (λ (t : Turn). Told s t.state) (λ may. outcome_told call may) (λ _. same)
+    turn_told call =
+        cond_both (may_be_made call s) _ _ (λ (t : Turn). Told s t.state) (λ may. outcome_told call may) (λ _. same)

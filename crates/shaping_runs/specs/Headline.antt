@@ -1,17 +1,22 @@
--- What the headline says of a call: the length that it holds, the range that it merges or marks, and when it reaches both sides.
-use Rattle.std.specs.Prelude.{◌≡◌, ℕ, ◌+◌, ◌-◌, ◌⊎◌, ◌&&◌, Bool, true, false, not, List, length, min, nat_le, if◌then◌else◌}
+-- What the headline says of a call: the length that it holds, the range that it merges or marks, and when it reaches
+-- both sides.
+use Rattle.std.specs.Prelude.{◌≡◌, ℕ, ◌+◌, ◌-◌, ◌⊎◌, ◌&&◌, Bool, true, false, not, List, length, min, nat_le}
+use Rattle.std.specs.Prelude.{if◌then◌else◌}
 use Rattle.rb_glyph.specs.declared.info.hb_glyph_info_t.{hb_glyph_info_t}
 use Rattle.glyph_lists.specs.Parts.{part}
 use Rattle.glyph_lists.specs.Clusters.{IsMonotone}
 use Rattle.shaping_buffer.specs.State.{State}
 use Rattle.shaping_buffer.specs.ClusterStep.{both, both_place, any_order, range_start, range_end}
 use Rattle.shaping_runs.specs.declared.call.Call.{Call}
-use Rattle.shaping_runs.specs.declared.call.Call.TheVariants.{NextGlyph, NextGlyphs, ReplaceGlyph, ReplaceGlyphs, OutputGlyph, OutputInfo, CopyGlyph, MoveTo, Sync, MergeClusters, MergeOutClusters, UnsafeToBreak, UnsafeToBreakFromOutbuffer}
+use Rattle.shaping_runs.specs.declared.call.Call.TheVariants.{NextGlyph, NextGlyphs, ReplaceGlyph, ReplaceGlyphs}
+use Rattle.shaping_runs.specs.declared.call.Call.TheVariants.{OutputGlyph, OutputInfo, CopyGlyph, MoveTo, Sync}
+use Rattle.shaping_runs.specs.declared.call.Call.TheVariants.{MergeClusters, MergeOutClusters, UnsafeToBreak}
+use Rattle.shaping_runs.specs.declared.call.Call.TheVariants.{UnsafeToBreakFromOutbuffer}
 
 -- ---- length
 
--- With an output open a call holds one side: what it puts out and what was put out before, or what a move back leaves to
--- read, or both sides as the list. Other calls hold nothing.
+-- With an output open a call holds one side: what it puts out and what was put out before, or what a move back leaves
+-- to read, or both sides as the list. Other calls hold nothing.
 abbrev pub held_open : Call → State → ℕ
 held_open NextGlyph s = length s.out + 1
 held_open (NextGlyphs n) s = length s.out + n

@@ -1,6 +1,7 @@
--- Rendering: a text is pushed, features set mask bits, calls are made up to the first that is refused, and each glyph is put
--- at position 0.
-use Rattle.std.specs.Prelude.{◌≡◌, ◌≢◌, ℕ, ◌+◌, ◌^◌, ◌<◌, ◌≤◌, ◌==◌, true, false, List, [], ◌∷◌, ◌++◌, length, take, drop, Some, None, IfSome, slice_get, if◌then◌else◌}
+-- Rendering: a text is pushed, features set mask bits, calls are made up to the first that is refused, and each glyph
+-- is put at position 0.
+use Rattle.std.specs.Prelude.{◌≡◌, ◌≢◌, ℕ, ◌+◌, ◌^◌, ◌<◌, ◌≤◌, ◌==◌, true, false, List, [], ◌∷◌, ◌++◌, length, take}
+use Rattle.std.specs.Prelude.{drop, Some, None, IfSome, slice_get, if◌then◌else◌}
 use Rattle.std.specs.List.{All}
 use Rattle.rb_text.specs.declared.feature.Feature.{Feature}
 use Rattle.shaping_buffer.specs.declared.buffer.TheConstants.hb_buffer_t.{MAX_LEN_DEFAULT, MAX_OPS_DEFAULT}
@@ -13,7 +14,8 @@ use Rattle.shaping_runs.specs.declared.call.Call.{Call}
 use Rattle.shaping_runs.specs.declared.call.Answer.{Answer}
 use Rattle.shaping_runs.specs.declared.call.Answer.TheVariants as answer
 use Rattle.shaping_runs.specs.declared.rendering.RenderFault.{RenderFault}
-use Rattle.shaping_runs.specs.declared.rendering.RenderFault.TheVariants.{Length, Refused, Memory, TooManyFeatures, OutputLeftOpen}
+use Rattle.shaping_runs.specs.declared.rendering.RenderFault.TheVariants.{Length, Refused, Memory, TooManyFeatures}
+use Rattle.shaping_runs.specs.declared.rendering.RenderFault.TheVariants.{OutputLeftOpen}
 use Rattle.shaping_runs.specs.declared.rendering.TheConstants.{MAX_FEATURES, FIRST_FEATURE_BIT}
 use Rattle.shaping_runs.specs.Replay.{turn, after, answers_of, StopsAt}
 
@@ -51,7 +53,8 @@ pub record AnswersAll (calls : List Call) (old : State) (answers : List Answer) 
   pub unrefused : NoneRefused calls old
   pub told : answers ≡ answers_of calls old
 
--- the call at this place is the first that is refused: the answers up to its own are told, and the others are as they were
+-- the call at this place is the first that is refused: the answers up to its own are told, and the others are as they
+-- were
 pub record RefusedAt (at : ℕ) (calls : List Call) (old : State) (before answers : List Answer) : Type 0 where
   pub within : at < length calls
   pub first : NoneRefused (take at calls) old
@@ -83,7 +86,8 @@ pub record ComesToCalls (text : List ℕ) (features : List Feature) : Type 0 whe
   pub fits : (pushed_text text).done ≡ true
 
 -- Done: the glyphs are those of the text after its features and all calls, at positions of 0.
-pub record RendersTo (text : List ℕ) (features : List Feature) (calls : List Call) (rendered : State) (told : List Answer) : Type 0 where
+pub record RendersTo (text : List ℕ) (features : List Feature) (calls : List Call) (rendered : State)
+    (told : List Answer) : Type 0 where
   pub comes : ComesToCalls text features
   pub answers : AnswersAll calls (text_with_features text features) told
   pub closed : (after calls (text_with_features text features)).have_output ≡ false
@@ -92,10 +96,13 @@ pub record RendersTo (text : List ℕ) (features : List Feature) (calls : List C
 -- Not done: why, and what the answers hold.
 abbrev pub Fails : RenderFault → List ℕ → List Feature → List Call → List Answer → List Answer → Type 0
 Fails TooManyFeatures text features calls before answers = (MAX_FEATURES < length features) × (answers ≡ before)
-Fails Length text features calls before answers = (length features ≤ MAX_FEATURES) × ((pushed_text text).done ≡ false) × (answers ≡ before)
+Fails Length text features calls before answers =
+    (length features ≤ MAX_FEATURES) × ((pushed_text text).done ≡ false) × (answers ≡ before)
 Fails (Memory None) text features calls before answers = ComesToCalls text features × (answers ≡ before)
-Fails (Refused at) text features calls before answers = ComesToCalls text features × RefusedAt at calls (text_with_features text features) before answers
-Fails (Memory (Some at)) text features calls before answers = ComesToCalls text features × WantsMemoryAt at calls (text_with_features text features) before answers
+Fails (Refused at) text features calls before answers =
+    ComesToCalls text features × RefusedAt at calls (text_with_features text features) before answers
+Fails (Memory (Some at)) text features calls before answers =
+    ComesToCalls text features × WantsMemoryAt at calls (text_with_features text features) before answers
 Fails OutputLeftOpen text features calls before answers =
     ComesToCalls text features
     × AnswersAll calls (text_with_features text features) answers

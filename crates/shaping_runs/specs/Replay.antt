@@ -1,8 +1,14 @@
 -- Replay: what a list of calls answers and leaves, as a fold of the calls' steps over the two lists.
-use Rattle.std.specs.Prelude.{◌≡◌, ℕ, Option, ◌<◌, Bool, true, false, ◌&&◌, not, List, [], ◌∷◌, ◌++◌, length, take, drop, nat_lt, nat_le, slice_get, IfSome, Result, Ok, Err, if◌then◌else◌}
+use Rattle.std.specs.Prelude.{◌≡◌, ℕ, Option, ◌<◌, Bool, true, false, ◌&&◌, not, List, [], ◌∷◌, ◌++◌, length, take}
+use Rattle.std.specs.Prelude.{drop, nat_lt, nat_le, slice_get, IfSome, Result, Ok, Err, if◌then◌else◌}
 use Rattle.std.specs.declared.alloc.AllocError.{AllocError}
 use Rattle.shaping_runs.specs.declared.call.Call.{Call}
-use Rattle.shaping_runs.specs.declared.call.Call.TheVariants.{ClearOutput, NextGlyph, NextGlyphs, SkipGlyph, ReplaceGlyph, ReplaceGlyphs, OutputGlyph, OutputInfo, CopyGlyph, MoveTo, Sync, DeleteGlyph, MergeClusters, MergeOutClusters, UnsafeToBreak, UnsafeToBreakFromOutbuffer, SafeToInsertTatweel, UnsafeToConcat, UnsafeToConcatFromOutbuffer}
+use Rattle.shaping_runs.specs.declared.call.Call.TheVariants.{ClearOutput, NextGlyph, NextGlyphs, SkipGlyph}
+use Rattle.shaping_runs.specs.declared.call.Call.TheVariants.{ReplaceGlyph, ReplaceGlyphs, OutputGlyph, OutputInfo}
+use Rattle.shaping_runs.specs.declared.call.Call.TheVariants.{CopyGlyph, MoveTo, Sync, DeleteGlyph, MergeClusters}
+use Rattle.shaping_runs.specs.declared.call.Call.TheVariants.{MergeOutClusters, UnsafeToBreak}
+use Rattle.shaping_runs.specs.declared.call.Call.TheVariants.{UnsafeToBreakFromOutbuffer, SafeToInsertTatweel}
+use Rattle.shaping_runs.specs.declared.call.Call.TheVariants.{UnsafeToConcat, UnsafeToConcatFromOutbuffer}
 use Rattle.shaping_runs.specs.declared.call.Answer.{Answer}
 use Rattle.shaping_runs.specs.declared.call.Answer.TheVariants.{Done, Refused, Outside}
 use Rattle.shaping_buffer.specs.State.{State, len, lookahead_len}
@@ -62,10 +68,12 @@ outcome_of DeleteGlyph s = step.unlimited (cluster_step.delete_glyph s)
 outcome_of (MergeClusters start end) s = step.unlimited (cluster_step.merge_clusters start end s)
 outcome_of (MergeOutClusters start end) s = step.unlimited (cluster_step.merge_out_clusters start end s)
 outcome_of (UnsafeToBreak start end) s = step.unlimited (cluster_step.unsafe_to_break start end s)
-outcome_of (UnsafeToBreakFromOutbuffer start end) s = step.unlimited (cluster_step.unsafe_to_break_from_outbuffer start end s)
+outcome_of (UnsafeToBreakFromOutbuffer start end) s =
+    step.unlimited (cluster_step.unsafe_to_break_from_outbuffer start end s)
 outcome_of (SafeToInsertTatweel start end) s = step.unlimited (cluster_step.safe_to_insert_tatweel start end s)
 outcome_of (UnsafeToConcat start end) s = step.unlimited (cluster_step.unsafe_to_concat start end s)
-outcome_of (UnsafeToConcatFromOutbuffer start end) s = step.unlimited (cluster_step.unsafe_to_concat_from_outbuffer start end s)
+outcome_of (UnsafeToConcatFromOutbuffer start end) s =
+    step.unlimited (cluster_step.unsafe_to_concat_from_outbuffer start end s)
 
 -- how it is answered that a call was done, or refused
 abbrev pub answer_of : Bool → Answer
@@ -80,7 +88,8 @@ pub record Turn : Type 0 where
 -- a call, in or outside its condition
 abbrev pub turn : Call → State → Turn
 turn call s =
-    if may_be_made call s then record { answer = answer_of (outcome_of call s).done; state = (outcome_of call s).state } else record { answer = Outside; state = s }
+    if may_be_made call s then record { answer = answer_of (outcome_of call s).done; state = (outcome_of call s).state }
+    else record { answer = Outside; state = s }
 
 -- what the calls leave
 abbrev pub after : List Call → State → State
@@ -103,7 +112,8 @@ GivesTurn call old (Ok answer) new = (answer ≡ (turn call old).answer) × (new
 GivesTurn call old (Err e) new = MayStop call old × (new ≡ old)
 
 -- The calls before it stand, the call at this place found no memory, and the answers from there on are as they were.
-pub record StopsAt (at : ℕ) (calls : List Call) (old : State) (before : List Answer) (new : State) (answers : List Answer) : Type 0 where
+pub record StopsAt (at : ℕ) (calls : List Call) (old : State) (before : List Answer) (new : State)
+    (answers : List Answer) : Type 0 where
   pub within : at < length calls
   pub due : IfSome (slice_get calls at) (λ call. MayStop call new)
   pub state : new ≡ after (take at calls) old

@@ -9,8 +9,10 @@ use Rattle.glyph_lists.specs.Parts.{part, map_range}
 use Rattle.glyph_lists.specs.Clusters.{clusters, with_cluster, run_merge, run_start, range_least}
 use Rattle.glyph_lists.specs.Clusters.{widened_start, widened_end, zero_glyph}
 use Rattle.glyph_lists.specs.Marks.{with_glyph_flags, mark}
-use Rattle.glyph_lists.specs.Deletion.{Sides, deletion, merge_or_mark, with_trailing_run, last_cluster, lowers_run, merges_next}
-use Rattle.glyph_lists.specs.Deletion.{Sides, deletion, merge_or_mark, with_trailing_run, last_cluster, lowers_run, merges_next}
+use Rattle.glyph_lists.specs.Deletion.{Sides, deletion, merge_or_mark, with_trailing_run, last_cluster, lowers_run}
+use Rattle.glyph_lists.specs.Deletion.{merges_next}
+use Rattle.glyph_lists.specs.Deletion.{Sides, deletion, merge_or_mark, with_trailing_run, last_cluster, lowers_run}
+use Rattle.glyph_lists.specs.Deletion.{merges_next}
 use Rattle.glyph_lists.proofs.PartsLemmas.{map-map_range, map-new_part, map-map_same}
 use Rattle.glyph_lists.proofs.RunsLemmas.{run_start-le, widened_start-le, widened_end-ge}
 use Rattle.shaping_buffer.specs.State.{State, lookahead_len, place_of}

@@ -271,7 +271,8 @@ impl hb_buffer_t {
     fn put_for_head(&mut self, glyph: hb_glyph_info_t) -> Result<bool, AllocError>
         requires opened { self.old.have_output ≡ true }
         requires glyph { 0 < lookahead_len self.old }
-        ensures { Meets (step.put_out (glyph ∷ []) self.old (step.skip_glyph self.old)) self.old result self.new }
+        ensures { Meets (step.put_out (glyph ∷ []) self.old (step.skip_glyph self.old))
+            self.old result self.new }
     {
         if self.have_separate_output {
             return self.put_apart(glyph, 1);
@@ -285,7 +286,8 @@ impl hb_buffer_t {
         requires opened { self.old.have_output ≡ true }
         requires near { self.old.have_separate_output ≡ false }
         requires glyph { 0 < length self.old.input }
-        ensures { Meets (step.put_out (glyph ∷ []) self.old (step.skip_glyph self.old)) self.old result self.new }
+        ensures { Meets (step.put_out (glyph ∷ []) self.old (step.skip_glyph self.old))
+            self.old result self.new }
     {
         self.info[self.placed] = glyph;
         self.placed += 1;
@@ -314,7 +316,8 @@ impl hb_buffer_t {
         requires opened { self.old.have_output ≡ true }
         requires apart { self.old.have_separate_output ≡ true }
         requires within { read ≤ length self.old.input }
-        ensures { Meets (step.put_out (glyph ∷ []) self.old (step.skip_glyphs read self.old)) self.old result self.new }
+        ensures { Meets (step.put_out (glyph ∷ []) self.old (step.skip_glyphs read self.old))
+            self.old result self.new }
     {
         if self.out_info.len() >= self.max_len {
             self.successful = false;

@@ -102,7 +102,8 @@ impl hb_buffer_t {
     fn plain_scan(&mut self, bits: u32, start: Option<usize>, end: Option<usize>)
         requires order { range_start start ≤ range_end end self.old }
         requires past_cursor { self.old.have_output ≡ true → self.old.idx ≤ range_start start }
-        ensures { self.new ≡ step.plain_scan bits (range_start start) (range_end end self.old) self.old }
+        ensures { self.new
+            ≡ step.plain_scan bits (range_start start) (range_end end self.old) self.old }
     {
         let from = start.unwrap_or(0);
         let to = self.range_end(end);

@@ -15,7 +15,7 @@ impl hb_buffer_t {
     /// Pushes the characters of a text, all or none, each with the place of its first byte as cluster. `Ok(false)`
     /// where the list would grow too long: then only `successful` changes. `Err(AllocError)` where memory ran out,
     /// which an empty text never asks for: then nothing changed.
-    #[tactic(auto, using(crate::proofs::PushedLemmas::length_pushed, crate::proofs::CharactersLemmas::characters_pushed))]
+    #[tactic(auto, using(crate::proofs::CharactersLemmas::pushes))]
     pub(crate) fn push_str(&mut self, text: &str) -> Result<bool, AllocError>
         requires closed { self.old.have_output ≡ false }
         requires plain { self.old.positions ≡ None }

@@ -31,7 +31,8 @@ impl hb_buffer_t {
         requires glyph { 0 < lookahead_len self.old }
         requires within { num_in ≤ lookahead_len self.old }
         requires ids { num_out ≤ length glyph_data.now }
-        ensures { Meets (step.replace_glyphs num_in (take num_out glyph_data.now) self.old) self.old result self.new }
+        ensures { Meets (step.replace_glyphs num_in (take num_out glyph_data.now) self.old)
+            self.old result self.new }
     {
         let ids = &glyph_data[..num_out];
         if let Some(head) = self.kept_head(num_in)
@@ -54,7 +55,8 @@ impl hb_buffer_t {
         requires glyph { 0 < length self.old.input }
         requires within { num_in ≤ length self.old.input }
         requires ids { num_out ≤ length glyph_data.now }
-        ensures { Meets (step.replace_glyphs num_in (take num_out glyph_data.now) self.old) self.old result self.new }
+        ensures { Meets (step.replace_glyphs num_in (take num_out glyph_data.now) self.old)
+            self.old result self.new }
     {
         if num_out > self.max_len - self.out_len() {
             self.successful = false;
@@ -91,7 +93,8 @@ impl hb_buffer_t {
         requires opened { self.now.have_output ≡ true }
         requires glyph { 0 < length self.now.input }
         requires within { count ≤ length self.now.input }
-        ensures { IfSome result (LeavesHead (any_order self.now) count self.now.out self.now.input) }
+        ensures { IfSome result
+            (LeavesHead (any_order self.now) count self.now.out self.now.input) }
     {
         // Read before the test, the glyph is kept in one piece for the copies.
         let head = self.info[self.cursor];
@@ -106,7 +109,8 @@ impl hb_buffer_t {
     fn lowered_head(&self, count: usize) -> Option<hb_glyph_info_t>
         requires opened { self.now.have_output ≡ true }
         requires within { count ≤ length self.now.input }
-        ensures { IfSome result (LeavesHead (any_order self.now) count self.now.out self.now.input) }
+        ensures { IfSome result
+            (LeavesHead (any_order self.now) count self.now.out self.now.input) }
     {
         let any_order = self.any_order();
         lowered_head(self.out_info(), &self.info[self.cursor..], count, any_order)
@@ -118,7 +122,8 @@ impl hb_buffer_t {
     fn put_copies(&mut self, read: usize, glyph: hb_glyph_info_t, ids: &[u32]) -> bool
         requires opened { self.old.have_output ≡ true }
         requires within { read ≤ length self.old.input }
-        ensures done { result ≡ true → step.put_out (copies glyph ids.now) self.old (step.skip_glyphs read self.old)
+        ensures done { result ≡ true
+            → step.put_out (copies glyph ids.now) self.old (step.skip_glyphs read self.old)
             ≡ record { done = true; state = self.new } }
         ensures same { result ≡ false → self.new ≡ self.old }
     {
@@ -134,7 +139,8 @@ impl hb_buffer_t {
         requires opened { self.old.have_output ≡ true }
         requires apart { self.old.have_separate_output ≡ true }
         requires within { read ≤ length self.old.input }
-        ensures done { result ≡ true → step.put_out (copies glyph ids.now) self.old (step.skip_glyphs read self.old)
+        ensures done { result ≡ true
+            → step.put_out (copies glyph ids.now) self.old (step.skip_glyphs read self.old)
             ≡ record { done = true; state = self.new } }
         ensures same { result ≡ false → self.new ≡ self.old }
     {
@@ -153,7 +159,8 @@ impl hb_buffer_t {
         requires opened { self.old.have_output ≡ true }
         requires near { self.old.have_separate_output ≡ false }
         requires within { read ≤ length self.old.input }
-        ensures done { result ≡ true → step.put_out (copies glyph ids.now) self.old (step.skip_glyphs read self.old)
+        ensures done { result ≡ true
+            → step.put_out (copies glyph ids.now) self.old (step.skip_glyphs read self.old)
             ≡ record { done = true; state = self.new } }
         ensures same { result ≡ false → self.new ≡ self.old }
     {
@@ -177,7 +184,8 @@ impl hb_buffer_t {
         requires glyph { 0 < length self.old.input }
         requires within { count ≤ length self.old.input }
         requires fits { length self.old.out + length ids.now ≤ self.old.max_len }
-        ensures done { OnOk result (self.new ≡ settled (step.replace_front any_order count ids.now self.old)) }
+        ensures done { OnOk result (self.new
+            ≡ settled (step.replace_front any_order count ids.now self.old)) }
         ensures same { OnErr result (self.new ≡ self.old) }
         ensures wants { OnErr result (step.MayWant self.old
             (settled (step.replace_front any_order count ids.now self.old))) }
@@ -204,7 +212,8 @@ impl hb_buffer_t {
         requires glyph { 0 < length self.old.input }
         requires within { count ≤ length self.old.input }
         requires fits { length self.old.out + length ids.now ≤ self.old.max_len }
-        ensures done { OnOk result (self.new ≡ step.replace_front any_order count ids.now self.old) }
+        ensures done { OnOk result (self.new
+            ≡ step.replace_front any_order count ids.now self.old) }
         ensures same { OnErr result (self.new ≡ self.old) }
         ensures wants { OnErr result (0 < length ids.now) }
     {
@@ -250,7 +259,8 @@ impl hb_buffer_t {
         requires within { count ≤ length self.old.input }
         requires fits { length self.old.out + length ids.now ≤ self.old.max_len }
         ensures done { OnOk result (self.new
-            ≡ record (step.replace_front any_order count ids.now self.old) { have_separate_output = true }) }
+            ≡ record (step.replace_front any_order count ids.now self.old)
+            { have_separate_output = true }) }
         ensures same { OnErr result (self.new ≡ self.old) }
     {
         self.out_info.reserve(self.placed + ids.len())?;

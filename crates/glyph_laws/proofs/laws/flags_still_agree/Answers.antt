@@ -1,4 +1,7 @@
-use Rattle.glyph_laws.proofs.GlyphFlagsLemmas.{merge_keeps_flags, run_merge_keeps_flags, merge_or_mark_keeps_flags, deletion_keeps_flags, marked_keep_flags, mark_keeps_flags, mark_others_keeps_flags, end_mark_keeps_flags, mark_part_keeps_flags, new_part_keeps_flags}
+use Rattle.glyph_laws.proofs.GlyphFlagsLemmas.{merge_keeps_flags, run_merge_keeps_flags, merge_or_mark_keeps_flags}
+use Rattle.glyph_laws.proofs.GlyphFlagsLemmas.{deletion_keeps_flags, marked_keep_flags, mark_keeps_flags}
+use Rattle.glyph_laws.proofs.GlyphFlagsLemmas.{mark_others_keeps_flags, end_mark_keeps_flags, mark_part_keeps_flags}
+use Rattle.glyph_laws.proofs.GlyphFlagsLemmas.{new_part_keeps_flags}
 use Rattle.glyph_laws.proofs.ReplacementLemmas.{replaced_keeps_flags}
 use Rattle.glyph_laws.proofs.laws.flags_still_agree.Goals as goal
 

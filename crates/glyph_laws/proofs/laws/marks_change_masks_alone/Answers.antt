@@ -1,5 +1,6 @@
 use Rattle.glyph_laws.proofs.ReadingsLemmas.{clusters-but_masks}
-use Rattle.glyph_laws.proofs.MarksLemmas.{reset_masks-map_marked, reset_masks-mark, reset_masks-mark_others, reset_masks-end_mark, reset_masks-mark_part, reset_masks-new_part}
+use Rattle.glyph_laws.proofs.MarksLemmas.{reset_masks-map_marked, reset_masks-mark, reset_masks-mark_others}
+use Rattle.glyph_laws.proofs.MarksLemmas.{reset_masks-end_mark, reset_masks-mark_part, reset_masks-new_part}
 use Rattle.glyph_laws.proofs.laws.marks_change_masks_alone.Goals as goal
 
 pub returns-clause-each : goal.returns-clause-each

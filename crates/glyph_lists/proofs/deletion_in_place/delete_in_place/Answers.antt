@@ -1,11 +1,17 @@
 use Rattle.std.proofs.Common.{◌≡◌, ◌+◌, ◌-◌, ◌<◌, ◌∙◌, ◌||◌, true, false, suc, refl, sym, ap, length, get_or, arith}
 use Rattle.glyph_lists.specs.Clusters.{zero_glyph}
-use Rattle.glyph_lists.proofs.DeletingWalkLemmas.{leads_first, leads_same, leads_deletion, leads_next, walk_ends, merges_told, positions_kept}
+use Rattle.glyph_lists.proofs.DeletingWalkLemmas.{leads_first, leads_same, leads_deletion, leads_next, walk_ends}
+use Rattle.glyph_lists.proofs.DeletingWalkLemmas.{merges_told, positions_kept}
 use Rattle.glyph_lists.proofs.deletion_in_place.delete_in_place.Goals as goal
 use Rattle.glyph_lists.proofs.deletion_in_place.delete_in_place.Goals.{then-deletes, else-deletes}
 
 pub loop-at-init : goal.loop-at-init
-loop-at-init g c = (length c.args.info.now, omega arith, omega arith, λ test by. leads_first c.args.any_order test c.args.info.now c.args.pos.now)
+loop-at-init g c = (
+  length c.args.info.now,
+  omega arith,
+  omega arith,
+  λ test by. leads_first c.args.any_order test c.args.info.now c.args.pos.now,
+)
 
 pub delete_at-merges-requires-clause-order : goal.delete_at-merges-requires-clause-order
 delete_at-merges-requires-clause-order g c = c.loop-at.invariant.2
@@ -35,19 +41,26 @@ loop-at-preserved g c =
         omega (arith, inv.2, w.kept-is),
         λ test by.
             let is : test (get_or l.info l.at zero_glyph) ≡ true = sym (by _ _ c.deletes.ensures) ∙ w.if-deletes.true in
-            leads_same any_order test old old_pos t (l.at + 1) _ new.kept _ new.info _ new.pos _ new.merges w.kept-is w.info-is w.pos-is refl
-            (leads_deletion any_order test old old_pos inv.0 t l.kept l.at l.info w.delete_at-merges.new.info l.pos l.merges fewer (inv.3 test by) new.merges is w.delete_at-merges.ensures.sides (w.merges-is ∙ ap (λ b. l.merges || b) w.delete_at-merges.ensures.merges)),
+            leads_same any_order test old old_pos t (l.at + 1) _ new.kept _ new.info _ new.pos _ new.merges w.kept-is
+            w.info-is w.pos-is refl
+            (leads_deletion any_order test old old_pos inv.0 t l.kept l.at l.info w.delete_at-merges.new.info l.pos
+            l.merges fewer (inv.3 test by) new.merges is w.delete_at-merges.ensures.sides
+            (w.merges-is ∙ ap (λ b. l.merges || b) w.delete_at-merges.ensures.merges)),
       )
       | else-deletes w ↦ (
         t,
         left,
         omega (arith, inv.2, w.kept-is),
         λ test by.
-            let is : test (get_or l.info l.at zero_glyph) ≡ false = sym (by _ _ c.deletes.ensures) ∙ w.if-deletes.false in
+            let is : test (get_or l.info l.at zero_glyph) ≡ false =
+            sym (by _ _ c.deletes.ensures) ∙ w.if-deletes.false in
             let info = w.keep_at.ensures in
             let pos = w.keep_at-else-deletes.ensures in
-            leads_same any_order test old old_pos t (l.at + 1) _ new.kept _ new.info _ new.pos _ new.merges w.kept-is w.info-is w.pos-is w.merges-is
-            (leads_next any_order test old old_pos inv.0 t l.kept l.at l.info w.keep_at.new.items l.pos l.merges fewer (inv.3 test by) w.keep_at-else-deletes.new.items within l.auto.pos is (info.front (omega arith)) info.rest pos.front pos.rest),
+            leads_same any_order test old old_pos t (l.at + 1) _ new.kept _ new.info _ new.pos _ new.merges w.kept-is
+            w.info-is w.pos-is w.merges-is
+            (leads_next any_order test old old_pos inv.0 t l.kept l.at l.info w.keep_at.new.items l.pos l.merges fewer
+            (inv.3 test by) w.keep_at-else-deletes.new.items within l.auto.pos is (info.front (omega arith))
+            info.rest pos.front pos.rest),
       )
     ]
 
@@ -58,16 +71,19 @@ pub returns-clause-info : goal.returns-clause-info
 returns-clause-info g c = λ test by.
     let inv = c.loop-at.invariant in
     let l = c.loop-at in
-    walk_ends c.args.any_order test c.args.info.now c.args.pos.now inv.0 l.kept l.at l.info l.pos l.merges (omega (arith, inv.1)) (inv.3 test by) (omega arith)
+    walk_ends c.args.any_order test c.args.info.now c.args.pos.now inv.0 l.kept l.at l.info l.pos l.merges
+    (omega (arith, inv.1)) (inv.3 test by) (omega arith)
 
 pub returns-clause-pos : goal.returns-clause-pos
 returns-clause-pos g c = λ test by n.
     let inv = c.loop-at.invariant in
     let l = c.loop-at in
-    positions_kept c.args.any_order test c.args.info.now c.args.pos.now inv.0 l.kept l.at l.info l.pos l.merges (omega (arith, inv.1)) (inv.3 test by) (omega arith) n
+    positions_kept c.args.any_order test c.args.info.now c.args.pos.now inv.0 l.kept l.at l.info l.pos l.merges
+    (omega (arith, inv.1)) (inv.3 test by) (omega arith) n
 
 pub returns-clause-merges : goal.returns-clause-merges
 returns-clause-merges g c = λ test by.
     let inv = c.loop-at.invariant in
     let l = c.loop-at in
-    merges_told c.args.any_order test c.args.info.now c.args.pos.now inv.0 l.kept l.at l.info l.pos l.merges (omega (arith, inv.1)) (inv.3 test by)
+    merges_told c.args.any_order test c.args.info.now c.args.pos.now inv.0 l.kept l.at l.info l.pos l.merges
+    (omega (arith, inv.1)) (inv.3 test by)

@@ -9,7 +9,8 @@ abbrev pub invariant-loop-start : goal.invariant-loop-start
 invariant-loop-start l = record {
   within : l.start ≤ length l.fn.info;
   marked : l.info ≡ map_range (with_glyph_flags l.bits) l.fn.info l.start (length l.fn.info);
-  same : last_before l.cluster (clusters l.fn.info) l.start ≡ last_before l.cluster (clusters l.fn.info) (length l.fn.info);
+  same : last_before l.cluster (clusters l.fn.info) l.start
+      ≡ last_before l.cluster (clusters l.fn.info) (length l.fn.info);
 }
 
 abbrev pub decreases-loop-start : goal.decreases-loop-start

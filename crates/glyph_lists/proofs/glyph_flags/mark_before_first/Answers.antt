@@ -15,12 +15,15 @@ loop-end-preserved c =
     let f = with_glyph_flags c.args.bits in
     let within : l.end < length info = c.loop-end-test.true in
     let same : get_or l.info l.end zero_glyph ≡ get_or info l.end zero_glyph =
-    ap (λ xs. get_or xs l.end zero_glyph) l.invariant.marked ∙ map_range_next f info 0 l.end zero_glyph (omega arith) within in
+    ap (λ xs. get_or xs l.end zero_glyph) l.invariant.marked
+    ∙ map_range_next f info 0 l.end zero_glyph (omega arith) within in
     record {
       within = omega (arith, within);
-      marked = ap (λ xs. set xs l.end c.mark.new.glyph) l.invariant.marked ∙ map_range_more f info 0 l.end c.mark.new.glyph zero_glyph (omega arith) within (c.mark.ensures ∙ ap f same);
+      marked = ap (λ xs. set xs l.end c.mark.new.glyph) l.invariant.marked
+          ∙ map_range_more f info 0 l.end c.mark.new.glyph zero_glyph (omega arith) within (c.mark.ensures ∙ ap f same);
       same = first_more c.args.cluster (clusters info) l.end (omega (arith, length-clusters info))
-          (λ is. c.if-info-end.true (ap (λ (g : hb_glyph_info_t). g.cluster) same ∙ sym (get_or-clusters info l.end zero_glyph within) ∙ is)) ∙ l.invariant.same;
+          (λ is. c.if-info-end.true (ap (λ (g : hb_glyph_info_t). g.cluster) same
+          ∙ sym (get_or-clusters info l.end zero_glyph within) ∙ is)) ∙ l.invariant.same;
     }
 
 pub returns-else-info-end : goal.returns-else-info-end
@@ -31,8 +34,11 @@ returns-else-info-end c =
     let within : l.end < length info = c.loop-end-test.true in
     let is : get_or (clusters info) l.end 0 ≡ c.args.cluster =
     get_or-clusters info l.end zero_glyph within
-    ∙ ap (λ (g : hb_glyph_info_t). g.cluster) (sym (ap (λ xs. get_or xs l.end zero_glyph) l.invariant.marked ∙ map_range_next f info 0 l.end zero_glyph (omega arith) within))
+    ∙ ap (λ (g : hb_glyph_info_t). g.cluster)
+    (sym (ap (λ xs. get_or xs l.end zero_glyph) l.invariant.marked
+    ∙ map_range_next f info 0 l.end zero_glyph (omega arith) within))
     ∙ c.if-info-end.false in
     l.invariant.marked
     ∙ ap (map_range f info 0)
-    (sym (first_here c.args.cluster (clusters info) l.end (omega (arith, length-clusters info)) is) ∙ l.invariant.same ∙ first_is c.args.cluster (clusters info))
+    (sym (first_here c.args.cluster (clusters info) l.end (omega (arith, length-clusters info)) is) ∙ l.invariant.same
+    ∙ first_is c.args.cluster (clusters info))

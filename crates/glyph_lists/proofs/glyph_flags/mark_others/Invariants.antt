@@ -7,4 +7,5 @@ use Rattle.glyph_lists.proofs.glyph_flags.mark_others.Given as goal
 
 abbrev pub invariant-loop-glyph : goal.invariant-loop-glyph
 invariant-loop-glyph l =
-    l.info ≡ mapped (λ (g : hb_glyph_info_t). if g.cluster == l.cluster then g else with_glyph_flags l.bits g) l.glyph-index l.fn.info
+    l.info ≡ mapped (λ (g : hb_glyph_info_t). if g.cluster == l.cluster then g else with_glyph_flags l.bits g)
+    l.glyph-index l.fn.info

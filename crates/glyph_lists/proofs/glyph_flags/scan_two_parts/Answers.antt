@@ -15,9 +15,12 @@ returns-clause-out c =
     let rest = drop a.cursor a.info.now in
     let least : r.result ≡ scan_least a.any_order (drop a.start a.out.now) (part rest (a.start - n) (a.end - n)) =
     r.ensures
-    ∙ ap (λ k. scan_least a.any_order (part a.out.now c.min-seam.result n) (part a.info.now (a.cursor + k) (a.cursor + (a.end - n)))) from
-    ∙ ap (λ k. scan_least a.any_order (part a.out.now k n) (part a.info.now (a.cursor + (a.start - n)) (a.cursor + (a.end - n)))) seam
-    ∙ ap (λ xs. scan_least a.any_order xs (part a.info.now (a.cursor + (a.start - n)) (a.cursor + (a.end - n)))) (slice_end a.out.now a.start)
+    ∙ ap (λ k. scan_least a.any_order (part a.out.now c.min-seam.result n)
+    (part a.info.now (a.cursor + k) (a.cursor + (a.end - n)))) from
+    ∙ ap (λ k. scan_least a.any_order (part a.out.now k n)
+    (part a.info.now (a.cursor + (a.start - n)) (a.cursor + (a.end - n)))) seam
+    ∙ ap (λ xs. scan_least a.any_order xs (part a.info.now (a.cursor + (a.start - n)) (a.cursor + (a.end - n))))
+    (slice_end a.out.now a.start)
     ∙ ap (scan_least a.any_order (drop a.start a.out.now)) (part-at a.info.now a.cursor (a.start - n) (a.end - n)) in
     c.scan_part_slice.ensures
     ∙ ap (λ k. on_part (part_scan a.any_order a.bits r.result) a.out.now k n) seam
@@ -35,12 +38,18 @@ returns-clause-info c =
     let rest = drop a.cursor a.info.now in
     let least : r.result ≡ scan_least a.any_order (drop a.start a.out.now) (part rest (a.start - n) (a.end - n)) =
     r.ensures
-    ∙ ap (λ k. scan_least a.any_order (part a.out.now c.min-seam.result n) (part a.info.now (a.cursor + k) (a.cursor + (a.end - n)))) from
-    ∙ ap (λ k. scan_least a.any_order (part a.out.now k n) (part a.info.now (a.cursor + (a.start - n)) (a.cursor + (a.end - n)))) seam
-    ∙ ap (λ xs. scan_least a.any_order xs (part a.info.now (a.cursor + (a.start - n)) (a.cursor + (a.end - n)))) (slice_end a.out.now a.start)
+    ∙ ap (λ k. scan_least a.any_order (part a.out.now c.min-seam.result n)
+    (part a.info.now (a.cursor + k) (a.cursor + (a.end - n)))) from
+    ∙ ap (λ k. scan_least a.any_order (part a.out.now k n)
+    (part a.info.now (a.cursor + (a.start - n)) (a.cursor + (a.end - n)))) seam
+    ∙ ap (λ xs. scan_least a.any_order xs (part a.info.now (a.cursor + (a.start - n)) (a.cursor + (a.end - n))))
+    (slice_end a.out.now a.start)
     ∙ ap (scan_least a.any_order (drop a.start a.out.now)) (part-at a.info.now a.cursor (a.start - n) (a.end - n)) in
     c.scan_part_slice-2.ensures
     ∙ ap (λ k. on_part (part_scan a.any_order a.bits r.result) a.info.now (a.cursor + k) (a.cursor + (a.end - n))) from
-    ∙ on_part-at (part_scan a.any_order a.bits r.result) a.info.now a.cursor (a.start - n) (a.end - n) (omega (arith, c.requires.order))
-    ∙ ap (λ m. take a.cursor a.info.now ++ on_part (part_scan a.any_order a.bits m) rest (a.start - n) (a.end - n)) least
-    ∙ ap (λ xs. take a.cursor a.info.now ++ xs) (scanned_input a.any_order a.bits a.out.now rest a.start a.end c.requires.past_out c.requires.order)
+    ∙ on_part-at (part_scan a.any_order a.bits r.result) a.info.now a.cursor (a.start - n) (a.end - n)
+    (omega (arith, c.requires.order))
+    ∙ ap (λ m. take a.cursor a.info.now ++ on_part (part_scan a.any_order a.bits m) rest (a.start - n) (a.end - n))
+    least
+    ∙ ap (λ xs. take a.cursor a.info.now ++ xs)
+    (scanned_input a.any_order a.bits a.out.now rest a.start a.end c.requires.past_out c.requires.order)

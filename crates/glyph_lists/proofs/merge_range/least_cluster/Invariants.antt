@@ -5,4 +5,5 @@ use Rattle.glyph_lists.proofs.merge_range.least_cluster.Given as goal
 
 abbrev pub invariant-loop-i : goal.invariant-loop-i
 invariant-loop-i l =
-    SameLists l.fn.reads l.reads × (l.least ≡ range_least (both_clusters l.fn.reads) l.start l.i) × (l.reads.reads ≡ l.fn.reads.reads + (l.i - (l.start + 1)))
+    SameLists l.fn.reads l.reads × (l.least ≡ range_least (both_clusters l.fn.reads) l.start l.i)
+    × (l.reads.reads ≡ l.fn.reads.reads + (l.i - (l.start + 1)))

@@ -3,7 +3,8 @@ use Rattle.std.proofs.lemmas.Grind.{common_steps}
 use Rattle.glyph_lists.specs.Clusters.{with_cluster, zero_glyph}
 use Rattle.glyph_lists.specs.MergedHead.{LeavesHead}
 use Rattle.glyph_lists.proofs.MergedHeadLemmas.{falling_leaves}
-use Rattle.glyph_lists.proofs.merged_head.lowered_head.Goals.{else-not-is_empty-via-then-not-is_empty+else-out-head, else-not-is_empty-via-else-not-is_empty}
+use Rattle.glyph_lists.proofs.merged_head.lowered_head.Goals.{else-not-is_empty-via-then-not-is_empty+else-out-head}
+use Rattle.glyph_lists.proofs.merged_head.lowered_head.Goals.{else-not-is_empty-via-else-not-is_empty}
 use Rattle.glyph_lists.proofs.merged_head.lowered_head.Goals as goal
 
 pub returns : goal.returns

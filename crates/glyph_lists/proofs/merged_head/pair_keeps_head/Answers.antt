@@ -12,7 +12,8 @@ returns-then-input-eq2 c =
 
 pub returns-else-input-eq2 : goal.returns-else-input-eq2
 returns-else-input-eq2 c =
-    λ e out. rising_leaves out c.args.input.now c.requires (omega (arith, c.if-head-next.true)) (λ _ _ same. grind (arith, common_steps, e, same))
+    λ e out. rising_leaves out c.args.input.now c.requires (omega (arith, c.if-head-next.true))
+    (λ _ _ same. grind (arith, common_steps, e, same))
 
 pub returns : goal.returns
 returns c =

@@ -10,9 +10,11 @@ returns-clause-out c =
     let a = c.args in
     let l = a.out.now ++ drop a.cursor a.info.now in
     let r = c.merge_range-cluster in
-    let is : both_clusters c.new-reads.result ≡ clusters l = ap both_clusters c.new-reads.ensures ∙ ap (λ xs. clusters (a.out.now ++ xs)) (take_rest a.info.now a.cursor) in
+    let is : both_clusters c.new-reads.result ≡ clusters l =
+    ap both_clusters c.new-reads.ensures ∙ ap (λ xs. clusters (a.out.now ++ xs)) (take_rest a.info.now a.cursor) in
     c.set_sides.ensures.out
-    ∙ ap (take (length a.out.now)) (run_merge_from l a.start a.end a.floor r.result.0 r.result.1 r.result.2 (omega arith)
+    ∙ ap (take (length a.out.now)) (run_merge_from l a.start a.end a.floor r.result.0 r.result.1 r.result.2
+    (omega arith)
     (r.ensures.least ∙ ap (λ cs. range_least cs a.start a.end) is)
     (r.ensures.from ∙ ap (λ cs. widened_start cs a.start a.end a.floor) is)
     (r.ensures.to ∙ ap (λ cs. widened_end cs a.start a.end) is))
@@ -22,9 +24,11 @@ returns-clause-info c =
     let a = c.args in
     let l = a.out.now ++ drop a.cursor a.info.now in
     let r = c.merge_range-cluster in
-    let is : both_clusters c.new-reads.result ≡ clusters l = ap both_clusters c.new-reads.ensures ∙ ap (λ xs. clusters (a.out.now ++ xs)) (take_rest a.info.now a.cursor) in
+    let is : both_clusters c.new-reads.result ≡ clusters l =
+    ap both_clusters c.new-reads.ensures ∙ ap (λ xs. clusters (a.out.now ++ xs)) (take_rest a.info.now a.cursor) in
     c.set_sides.ensures.info
-    ∙ ap (λ xs. take a.cursor a.info.now ++ drop (length a.out.now) xs) (run_merge_from l a.start a.end a.floor r.result.0 r.result.1 r.result.2 (omega arith)
+    ∙ ap (λ xs. take a.cursor a.info.now ++ drop (length a.out.now) xs)
+    (run_merge_from l a.start a.end a.floor r.result.0 r.result.1 r.result.2 (omega arith)
     (r.ensures.least ∙ ap (λ cs. range_least cs a.start a.end) is)
     (r.ensures.from ∙ ap (λ cs. widened_start cs a.start a.end a.floor) is)
     (r.ensures.to ∙ ap (λ cs. widened_end cs a.start a.end) is))

@@ -1,4 +1,5 @@
-use Rattle.std.proofs.Common.{◌≤◌, ◌-◌, ◌++◌, ◌∙◌, refl, ap, subst, length, take, drop, arith, length-append, length-drop}
+use Rattle.std.proofs.Common.{◌≤◌, ◌-◌, ◌++◌, ◌∙◌, refl, ap, subst, length, take, drop, arith, length-append}
+use Rattle.std.proofs.Common.{length-drop}
 use Rattle.std.proofs.lemmas.List.{take_rest}
 use Rattle.glyph_lists.specs.Clusters.{clusters, run_merge, NoRunCrosses}
 use Rattle.glyph_lists.proofs.MergesLemmas.{run_merge_short}
@@ -25,15 +26,23 @@ pub returns-then-not-run_crosses-clause-out : goal.returns-then-not-run_crosses-
 returns-then-not-run_crosses-clause-out c =
     let a = c.args in
     let rest = drop a.cursor a.info.now in
-    let apart : NoRunCrosses (clusters a.out.now) (clusters rest) = subst (λ xs. NoRunCrosses (clusters a.out.now) (clusters xs)) (take_rest a.info.now a.cursor) (c.run_crosses.ensures c.if-not-run_crosses.true) in
-    cut_out a.out.now a.out.now _ _ refl (run_merge_right a.out.now rest apart a.start a.end a.floor (omega arith) (omega arith) (omega (arith, length-drop a.cursor a.info.now)))
+    let apart : NoRunCrosses (clusters a.out.now) (clusters rest) =
+    subst (λ xs. NoRunCrosses (clusters a.out.now) (clusters xs)) (take_rest a.info.now a.cursor)
+    (c.run_crosses.ensures c.if-not-run_crosses.true) in
+    cut_out a.out.now a.out.now _ _ refl (run_merge_right a.out.now rest apart a.start a.end a.floor (omega arith)
+    (omega arith) (omega (arith, length-drop a.cursor a.info.now)))
 
 pub returns-then-not-run_crosses-clause-info : goal.returns-then-not-run_crosses-clause-info
 returns-then-not-run_crosses-clause-info c =
     let a = c.args in
     let n = length a.out.now in
     let rest = drop a.cursor a.info.now in
-    let apart : NoRunCrosses (clusters a.out.now) (clusters rest) = subst (λ xs. NoRunCrosses (clusters a.out.now) (clusters xs)) (take_rest a.info.now a.cursor) (c.run_crosses.ensures c.if-not-run_crosses.true) in
+    let apart : NoRunCrosses (clusters a.out.now) (clusters rest) =
+    subst (λ xs. NoRunCrosses (clusters a.out.now) (clusters xs)) (take_rest a.info.now a.cursor)
+    (c.run_crosses.ensures c.if-not-run_crosses.true) in
     c.merge_from.ensures
     ∙ ap (λ k. take a.cursor a.info.now ++ run_merge rest (a.start - n) (a.end - n) k) c.saturating_sub.ensures
-    ∙ ap (λ xs. take a.cursor a.info.now ++ xs) (cut_input a.out.now a.out.now _ _ refl (run_merge_right a.out.now rest apart a.start a.end a.floor (omega arith) (omega arith) (omega (arith, length-drop a.cursor a.info.now))))
+    ∙ ap (λ xs. take a.cursor a.info.now ++ xs)
+    (cut_input a.out.now a.out.now _ _ refl
+    (run_merge_right a.out.now rest apart a.start a.end a.floor (omega arith) (omega arith)
+    (omega (arith, length-drop a.cursor a.info.now))))

@@ -11,4 +11,10 @@ loop-digit-preserved c =
 pub returns-then-value-from-clause-none : goal.returns-then-value-from-clause-none
 returns-then-value-from-clause-none c =
     let more = value_more c.args.digits.now c.loop-digit.digit-index c.requires c.loop-digit-test.true in
-    omega (arith, more.1, c.loop-digit.invariant.0, c.from.ensures, digits_value-take-le 10 c.args.digits.now (c.loop-digit.digit-index + 1) (omega arith))
+    omega (
+      arith,
+      more.1,
+      c.loop-digit.invariant.0,
+      c.from.ensures,
+      digits_value-take-le 10 c.args.digits.now (c.loop-digit.digit-index + 1) (omega arith),
+    )

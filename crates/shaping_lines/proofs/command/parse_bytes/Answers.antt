@@ -8,7 +8,8 @@ returns-in-Ok c =
     let text = c.in-Ok.ensures.cases in
     let same : request_in c.in-Ok.text.now ≡ request_in_bytes c.args.line.now =
     ap request_in text.0 ∙ sym (request_in_bytes-text c.args.line.now text.1) in
-    subst (λ r. IfOk c.parse.result (λ found. MatchOption found (r ≡ None) (λ command. r ≡ Some (request_of command)))) same c.parse.ensures
+    subst (λ r. IfOk c.parse.result (λ found. MatchOption found (r ≡ None) (λ command. r ≡ Some (request_of command))))
+    same c.parse.ensures
 
 pub returns-in-Err : goal.returns-in-Err
 returns-in-Err c = request_in_bytes-no_text c.args.line.now c.in-Err.ensures.cases.0

@@ -5,7 +5,11 @@ use Rattle.shaping_lines.proofs.OneLineLemmas.{one_line-hexadecimal}
 use Rattle.shaping_lines.proofs.query.compose.Goals as goal
 
 pub returns-in_default : goal.returns-in_default
-returns-in_default c = (λ s h. absurd (c.in_default.not-Some s (c.composed.ensures.hangul s h)), λ n. c.none.ensures, subst IsOneLine (sym c.none.ensures) refl)
+returns-in_default c = (
+  λ s h. absurd (c.in_default.not-Some s (c.composed.ensures.hangul s h)),
+  λ n. c.none.ensures,
+  subst IsOneLine (sym c.none.ensures) refl,
+)
 
 pub returns : goal.returns
 returns c =

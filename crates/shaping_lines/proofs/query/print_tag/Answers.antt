@@ -6,5 +6,6 @@ use Rattle.shaping_lines.proofs.query.print_tag.Goals as goal
 
 pub returns : goal.returns
 returns c =
-    let told : string_bytes c.in_ok-format.field-0 ≡ padded_integral (format_spec 32 0 4 8 (2 ^ 64 - 1)) false [] (hexadecimal c.args.tag) = search rules in
+    let told : string_bytes c.in_ok-format.field-0
+    ≡ padded_integral (format_spec 32 0 4 8 (2 ^ 64 - 1)) false [] (hexadecimal c.args.tag) = search rules in
     told ∙ eight_digits_from_padded c.args.tag

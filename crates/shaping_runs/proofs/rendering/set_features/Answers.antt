@@ -10,6 +10,7 @@ loop-i-preserved c = set_more _ _ _ _ _ _ c.loop-i-test.true c.loop-i.invariant 
 pub returns : goal.returns
 returns c =
     record {
-      state = c.loop-i.invariant.state ∙ ap (λ fs. with_features 0 fs c.args.buffer.now) (take_all c.loop-i.i c.args.features.now c.loop-i-test.false);
+      state = c.loop-i.invariant.state ∙ ap (λ fs. with_features 0 fs c.args.buffer.now)
+          (take_all c.loop-i.i c.args.features.now c.loop-i-test.false);
       closed = c.loop-i.invariant.closed;
     }

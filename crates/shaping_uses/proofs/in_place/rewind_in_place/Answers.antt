@@ -14,5 +14,7 @@ unreachable-requires c =
       near = omega (arith, ap length none_out);
       closed = λ _. none_out;
     } in
-    let stays = c.what_is_put_out_stays_in_place.ensures calls s (refl, (refl, (refl, (refl, (refl, (refl, (refl, tt))))))) here in
-    c.lists_in_place_never_stop.ensures calls s stays c.in-Err.field-0.at (replicate 7 Outside) c.replay.new.buffer c.replay.new.answers c.in-Err.ensures.stopped
+    let stays = c.what_is_put_out_stays_in_place.ensures calls s
+    (refl, (refl, (refl, (refl, (refl, (refl, (refl, tt))))))) here in
+    c.lists_in_place_never_stop.ensures calls s stays c.in-Err.field-0.at (replicate 7 Outside) c.replay.new.buffer
+    c.replay.new.answers c.in-Err.ensures.stopped

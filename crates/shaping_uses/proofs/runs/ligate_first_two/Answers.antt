@@ -9,4 +9,5 @@ pub returns : goal.returns
 returns c = λ n new.
     let P : State → Type 0 = λ s. occurs n (clusters (both s)) ≡ true in
     let calls = ClearOutput ∷ MergeClusters 0 2 ∷ ReplaceGlyph c.args.ligature ∷ SkipGlyph ∷ Sync ∷ [] in
-    c.no_cluster_is_new.ensures.calls calls c.args.buffer.now (refl, (refl, (refl, (refl, (refl, tt))))) n (subst P c.in_ok-replay.ensures.state new)
+    c.no_cluster_is_new.ensures.calls calls c.args.buffer.now (refl, (refl, (refl, (refl, (refl, tt))))) n
+    (subst P c.in_ok-replay.ensures.state new)

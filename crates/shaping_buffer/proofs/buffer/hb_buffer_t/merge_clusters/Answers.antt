@@ -12,6 +12,7 @@ returns c =
     let b = c.self.inside in
     let shut = c.self.invariant.shut c.if-self.false in
     let closed : s.have_output ≡ false = sym (ap (λ (t : State). t.have_output) c.self.view_is) ∙ c.if-self.false in
-    let none : s.out ≡ [] = sym (ap (λ (t : State). t.out) c.self.view_is) ∙ cond-false _ _ _ shut.0 ∙ ap (λ k. take k b.info.items) shut.1 in
+    let none : s.out ≡ [] = sym (ap (λ (t : State). t.out) c.self.view_is) ∙ cond-false _ _ _ shut.0
+    ∙ ap (λ k. take k b.info.items) shut.1 in
     let level : any_order s ≡ false = sym c.any_order.ensures ∙ c.if-any_order.false in
     c.merge_closed.ensures ∙ closed_merge c.args.start c.args.end s closed none level

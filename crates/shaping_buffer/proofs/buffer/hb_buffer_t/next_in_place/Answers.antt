@@ -11,5 +11,6 @@ returns c =
     let from = c.self.inside.cursor in
     let xs = c.self.inside.info.items in
     let same : to ≡ from = omega (arith, c.self.invariant.near, c.if-self.false) in
-    let put : take (from + n) xs ≡ take to xs ++ take n (drop from xs) = take-add from n xs ∙ ap (λ k. take k xs ++ take n (drop from xs)) (sym same) in
+    let put : take (from + n) xs ≡ take to xs ++ take n (drop from xs) =
+    take-add from n xs ∙ ap (λ k. take k xs ++ take n (drop from xs)) (sym same) in
     grind (arith, common_steps, put, same)

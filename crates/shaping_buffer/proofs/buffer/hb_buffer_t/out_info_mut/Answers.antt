@@ -11,7 +11,8 @@ returns c =
         refl,
         λ w.
             let written = front_written b.info b.placed w within in
-            let rest = front_input b.have_output b.info b.placed b.cursor w within near (λ h. (c.self.invariant.shut h).1) in
+            let rest =
+            front_input b.have_output b.info b.placed b.cursor w within near (λ h. (c.self.invariant.shut h).1) in
             rw (← c.self.view_is) (grind (arith, written, rest)),
       ),
       record { writes_back = tt; value = grind (arith, common_steps) },

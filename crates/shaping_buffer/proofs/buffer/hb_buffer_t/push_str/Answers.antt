@@ -7,7 +7,8 @@ use Rattle.shaping_buffer.proofs.buffer.hb_buffer_t.push_str.Goals as goal
 pub returns-clause-characters : goal.returns-clause-characters
 returns-clause-characters c = λ all.
     let grown = c.append_characters.new.info.items in
-    characters_along c.args.self.now.input (if c.self.inside.have_output then drop c.self.inside.cursor grown else grown) c.args.text.now c.utf8.text (grind (arith, common_steps)) all
+    characters_along c.args.self.now.input (if c.self.inside.have_output then drop c.self.inside.cursor grown
+    else grown) c.args.text.now c.utf8.text (grind (arith, common_steps)) all
 
 pub returns-clause-grown : goal.returns-clause-grown
 returns-clause-grown c =

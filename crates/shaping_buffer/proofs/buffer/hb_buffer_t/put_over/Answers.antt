@@ -11,7 +11,8 @@ returns c =
     let b = c.self.inside in
     let near = c.self.invariant.near in
     let some : b.cursor < length b.info.items = grind (arith, common_steps) in
-    let e = head_put c.args.glyph c.args.self.now r.opened r.near (grind (arith, common_steps)) r.glyph (grind (arith, common_steps)) in
+    let e = head_put c.args.glyph c.args.self.now r.opened r.near (grind (arith, common_steps)) r.glyph
+    (grind (arith, common_steps)) in
     let put = take_more_set b.info.items b.placed c.args.glyph (omega (arith, near, some)) in
     let left = drop-set-lt (b.cursor + 1) b.info.items b.placed c.args.glyph (omega (arith, near)) in
     let next = next_left b.cursor b.info.items in

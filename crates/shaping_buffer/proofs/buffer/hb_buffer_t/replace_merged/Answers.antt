@@ -8,7 +8,8 @@ pub returns-in_err-replace_front : goal.returns-in_err-replace_front
 returns-in_err-replace_front c =
     let a = c.args in
     let e = replaced_done a.count a.ids.now a.self.now c.requires.opened c.requires.fits in
-    let wants = subst (λ (l : Bool). MayWant a.self.now (settled (replace_front l a.count a.ids.now a.self.now))) c.any_order-any_order.ensures c.in_err-replace_front.ensures.wants in
+    let wants = subst (λ (l : Bool). MayWant a.self.now (settled (replace_front l a.count a.ids.now a.self.now)))
+    c.any_order-any_order.ensures c.in_err-replace_front.ensures.wants in
     let same = c.in_err-replace_front.ensures.same in
     rw e (first_of (search (rules, wants, same), grind (arith, common_steps, wants, same)))
 

@@ -3,7 +3,8 @@ use Rattle.std.proofs.lemmas.Bool.{cond-false}
 use Rattle.glyph_lists.specs.Groups as groups_of
 use Rattle.shaping_buffer.specs.State.{State}
 use Rattle.shaping_buffer.specs.GroupStep.{KeepsOthers, reverse}
-use Rattle.shaping_buffer.proofs.GroupStepLemmas.{reverse_each, each_done, each_turn, each_then_all, each_position, group_keeps, keeps_then, length_group}
+use Rattle.shaping_buffer.proofs.GroupStepLemmas.{reverse_each, each_done, each_turn, each_then_all, each_position}
+use Rattle.shaping_buffer.proofs.GroupStepLemmas.{group_keeps, keeps_then, length_group}
 use Rattle.shaping_buffer.proofs.buffer.hb_buffer_t.reverse_groups.Goals as goal
 
 pub loop-start-init : goal.loop-start-init
@@ -18,7 +19,8 @@ loop-start-init g c =
       n ∙ ap length list,
       refl,
       refl,
-      λ ps e. each_position b.have_positions (length old.input) b.pos.items (λ on. c.self.invariant.as_many on ∙ ap length list) ps (ap (λ (s : State). s.positions) c.self.view_is ∙ e),
+      λ ps e. each_position b.have_positions (length old.input) b.pos.items
+          (λ on. c.self.invariant.as_many on ∙ ap length list) ps (ap (λ (s : State). s.positions) c.self.view_is ∙ e),
       λ test by. refl,
     )
 
@@ -31,25 +33,32 @@ loop-start-preserved g c =
     let s = c.loop-start.self in
     let b = c.self-in-loop-start.inside in
     let view = c.self-in-loop-start.view_is in
-    let shut : b.have_output ≡ false = ap (λ (t : State). t.have_output) view ∙ ap (λ (t : State). t.have_output) inv.4 ∙ c.requires.closed in
+    let shut : b.have_output ≡ false =
+    ap (λ (t : State). t.have_output) view ∙ ap (λ (t : State). t.have_output) inv.4 ∙ c.requires.closed in
     let within = c.self-in-loop-start.invariant.shut shut in
-    let none : s.out ≡ [] = sym (ap (λ (t : State). t.out) view) ∙ cond-false _ _ _ within.0 ∙ ap (λ k. take k b.info.items) within.1 in
-    let list : c.deref.result.now ≡ s.input = c.deref.ensures.value ∙ sym (cond-false _ _ _ shut) ∙ ap (λ (t : State). t.input) view in
+    let none : s.out ≡ [] =
+    sym (ap (λ (t : State). t.out) view) ∙ cond-false _ _ _ within.0 ∙ ap (λ k. take k b.info.items) within.1 in
+    let list : c.deref.result.now ≡ s.input =
+    c.deref.ensures.value ∙ sym (cond-false _ _ _ shut) ∙ ap (λ (t : State). t.input) view in
     let up : start ≤ end = omega (arith, c.group_end-end.ensures.after) in
     let new = c.reverse_group.ensures in
-    let same : length c.reverse_group.new.self.input ≡ length s.input = ap (λ (t : State). length t.input) new ∙ length_group merges start end s up in
+    let same : length c.reverse_group.new.self.input ≡ length s.input =
+    ap (λ (t : State). length t.input) new ∙ length_group merges start end s up in
     let within : start < length s.input = omega (arith, c.loop-start-test.true, inv.2) in
     let fewer : inv.0 ≡ suc (inv.0 - 1) = omega (arith, inv.1) in
-    let left : length c.reverse_group.new.self.input ≤ end + (inv.0 - 1) = omega (arith, inv.1, same, c.group_end-end.ensures.after) in (
+    let left : length c.reverse_group.new.self.input ≤ end + (inv.0 - 1) =
+    omega (arith, inv.1, same, c.group_end-end.ensures.after) in (
       inv.0 - 1,
       left,
       inv.2 ∙ sym same,
       same ∙ inv.3,
-      keeps_then c.args.self.now s c.reverse_group.new.self inv.4 (subst (KeepsOthers s) (sym new) (group_keeps merges start end s none)),
+      keeps_then c.args.self.now s c.reverse_group.new.self inv.4
+          (subst (KeepsOthers s) (sym new) (group_keeps merges start end s none)),
       inv.5,
       λ test by.
           ap (reverse_each merges test (inv.0 - 1) end) new
-          ∙ each_turn merges test inv.0 (inv.0 - 1) start end s within fewer (c.group_end-end.ensures.is test by ∙ ap (groups_of.group_end test start) list)
+          ∙ each_turn merges test inv.0 (inv.0 - 1) start end s within fewer
+          (c.group_end-end.ensures.is test by ∙ ap (groups_of.group_end test start) list)
           ∙ inv.6 test by,
     )
 
@@ -57,5 +66,6 @@ pub returns-clause-is : goal.returns-clause-is
 returns-clause-is g c = λ test by.
     let inv = c.loop-start.invariant in
     c.reverse.ensures
-    ∙ ap reverse (sym (each_done c.args.merge_clusters test inv.0 c.loop-start.start c.loop-start.self (omega arith)) ∙ inv.6 test by)
+    ∙ ap reverse (sym (each_done c.args.merge_clusters test inv.0 c.loop-start.start c.loop-start.self (omega arith))
+    ∙ inv.6 test by)
     ∙ each_then_all c.args.merge_clusters test c.args.self.now inv.5
