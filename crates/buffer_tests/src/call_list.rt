@@ -1,3 +1,4 @@
+use crate::lists::buffer_of;
 use cluster_runs::CLUSTER_RUNS;
 use cursor_runs::CURSOR_RUNS;
 use shaping_buffer::{
@@ -57,12 +58,17 @@ const PLAIN: Run<'static> = Run {
     scratch_flags: 0,
 };
 
-fn buffer_of(rt: &impl Abort, alloc: Global, run: &Run<'_>) -> Result<hb_buffer_t, Fail> {
+fn letters_in(alloc: Global, clusters: &[u32]) -> Result<UnicodeBuffer, Fail> {
     let letters = ['a', 'b', 'c', 'd'];
     let mut text = UnicodeBuffer::new(alloc);
-    for (letter, cluster) in letters.iter().zip(run.clusters) {
+    for (letter, cluster) in letters.iter().zip(clusters) {
         text.add(*letter, *cluster)?;
     }
+    Ok(text)
+}
+
+fn buffer_of_run(rt: &impl Abort, alloc: Global, run: &Run<'_>) -> Result<hb_buffer_t, Fail> {
+    let mut text = letters_in(alloc, run.clusters)?;
     text.set_cluster_level(run.level);
     text.set_flags(BufferFlags::from_bits_retain(run.flags));
     let mut buffer = text.into_buffer();
@@ -80,7 +86,7 @@ fn assert_glyphs(rt: &impl Abort, glyphs: &[hb_glyph_info_t], want: &[Seen]) {
 }
 
 fn assert_run(rt: &impl Abort, alloc: Global, run: &Run<'_>) -> Result<(), Fail> {
-    let mut buffer = buffer_of(rt, alloc, run)?;
+    let mut buffer = buffer_of_run(rt, alloc, run)?;
     let mut answers = [REFUSED; 12];
     let count = run.calls.len();
     assert!(rt; count <= 12);
@@ -119,9 +125,7 @@ struct Stored<'a> {
 }
 
 fn assert_stored(rt: &impl Abort, alloc: Global, run: &Stored<'_>) -> Result<(), Fail> {
-    let mut text = UnicodeBuffer::new(alloc);
-    assert_eq!(rt; text.push_str(run.text), Ok(true));
-    let mut buffer = text.into_buffer();
+    let mut buffer = buffer_of(rt, alloc, run.text);
     let mut answers = [OUTSIDE; 12];
     let count = run.calls.len();
     assert!(rt; count <= 12);
@@ -152,6 +156,14 @@ fn both_sides_stand_in_one_vector(rt: HostRuntime) -> Result<(), Fail> {
     Ok(())
 }
 
+/// Makes a call, and asserts that it is done, and whether the output is separate behind it.
+fn make_one(rt: &impl Abort, buffer: &mut hb_buffer_t, call: Call<'_>, separate: bool) {
+    let mut answers = [OUTSIDE];
+    assert_eq!(rt; replay(buffer, &[call], &mut answers), Ok(()));
+    assert_eq!(rt; answers, [DONE]);
+    assert_eq!(rt; buffer.have_separate_output(), separate);
+}
+
 #[test]
 fn an_output_is_separate_once_it_is_the_longer(rt: HostRuntime) -> Result<(), Fail> {
     let runs: [(&[(Call<'_>, bool)], usize); 2] = [
@@ -176,14 +188,9 @@ fn an_output_is_separate_once_it_is_the_longer(rt: HostRuntime) -> Result<(), Fa
         ),
     ];
     for (calls, len) in &runs {
-        let mut text = UnicodeBuffer::new(rt.alloc());
-        assert_eq!(rt; text.push_str("AB"), Ok(true));
-        let mut buffer = text.into_buffer();
+        let mut buffer = buffer_of(&rt, rt.alloc(), "AB");
         for (call, separate) in *calls {
-            let mut answers = [OUTSIDE];
-            assert_eq!(rt; replay(&mut buffer, &[*call], &mut answers), Ok(()));
-            assert_eq!(rt; answers, [DONE]);
-            assert_eq!(rt; buffer.have_separate_output(), *separate);
+            make_one(&rt, &mut buffer, *call, *separate);
         }
         assert_eq!(rt; buffer.len(), *len);
     }

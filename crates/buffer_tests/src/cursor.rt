@@ -1,5 +1,5 @@
 use crate::lists::{assert_ids, buffer_of};
-use rb_glyph::hb_glyph_info_t;
+use shaping_buffer::{hb_buffer_t, hb_glyph_info_t};
 use std::process::Abort;
 use std::test::Fail;
 
@@ -35,35 +35,44 @@ fn glyphs_are_read_and_put_out(rt: HostRuntime) -> Result<(), Fail> {
     Ok(())
 }
 
+/// Reads so many glyphs.
+fn read(rt: &impl Abort, buffer: &mut hb_buffer_t, count: usize) {
+    assert!(rt; buffer.lookahead_len() >= count);
+    assert_eq!(rt; buffer.next_glyphs(count), Ok(true));
+}
+
+/// Goes back to a place of the output.
+fn go_back(rt: &impl Abort, buffer: &mut hb_buffer_t, place: usize) {
+    assert!(rt; buffer.have_output() && buffer.out_len() >= place);
+    assert_eq!(rt; buffer.move_to(place), Ok(true));
+}
+
+/// Puts these glyphs out in place of the one at the cursor.
+fn replace_one(rt: &impl Abort, buffer: &mut hb_buffer_t, ids: &[u32]) {
+    assert!(rt; buffer.have_output() && buffer.lookahead_len() > 0);
+    assert_eq!(rt; buffer.replace_glyphs(1, ids.len(), ids), Ok(true));
+}
+
+/// Asserts where the cursor stands, and how long the two sides are.
+fn assert_sides(rt: &impl Abort, buffer: &hb_buffer_t, want: (usize, usize, usize)) {
+    assert_eq!(rt; (buffer.idx(), buffer.out_len(), buffer.info().len()), want);
+}
+
 #[test]
-fn many_glyphs_are_taken_back(rt: HostRuntime) -> Result<(), Fail> {
+fn many_glyphs_are_taken_back(rt: HostRuntime) {
     let tens = "abcdefghijabcdefghijabcdefghijabcdefghijabcdefghijabcdefghijabcdefghijabcdefghij";
     let mut buffer = buffer_of(&rt, rt.alloc(), tens);
     buffer.clear_output();
-    assert!(rt; buffer.lookahead_len() >= 75);
-    assert_eq!(rt; buffer.next_glyphs(75), Ok(true));
-    assert!(rt; buffer.have_output() && buffer.out_len() >= 5);
-    assert_eq!(rt; buffer.move_to(5), Ok(true));
-    assert_eq!(rt;
-        (buffer.idx(), buffer.out_len(), buffer.info().len()),
-        (5, 5, 75)
-    );
+    read(&rt, &mut buffer, 75);
+    go_back(&rt, &mut buffer, 5);
+    assert_sides(&rt, &buffer, (5, 5, 75));
     assert_letters(&rt, buffer.info(), 5);
-    assert!(rt; buffer.have_output() && buffer.lookahead_len() > 0);
-    assert_eq!(rt; buffer.replace_glyphs(1, 70, &[9; 70]), Ok(true));
-    assert_eq!(rt;
-        (buffer.idx(), buffer.out_len(), buffer.info().len()),
-        (6, 75, 74)
-    );
-    assert!(rt; buffer.have_output() && buffer.out_len() >= 5);
-    assert_eq!(rt; buffer.move_to(5), Ok(true));
-    assert_eq!(rt;
-        (buffer.idx(), buffer.out_len(), buffer.info().len()),
-        (0, 5, 144)
-    );
-    assert!(rt; buffer.lookahead_len() >= 70);
+    replace_one(&rt, &mut buffer, &[9; 70]);
+    assert_sides(&rt, &buffer, (6, 75, 74));
+    go_back(&rt, &mut buffer, 5);
+    assert_sides(&rt, &buffer, (0, 5, 144));
+    assert!(rt; buffer.lookahead_len() > 0);
     assert_eq!(rt; buffer.cur(0).glyph_id, 9);
-    assert_eq!(rt; buffer.next_glyphs(70), Ok(true));
+    read(&rt, &mut buffer, 70);
     assert_letters(&rt, buffer.info(), 6);
-    Ok(())
 }

@@ -1,0 +1,13 @@
+use Rattle.std.proofs.Common.{arith}
+use Rattle.std.proofs.lemmas.Grind.{common_steps}
+use Rattle.shaping_buffer.proofs.Views.{sides}
+use Rattle.shaping_buffer.proofs.buffer.hb_buffer_t.scan_sides.Goals as goal
+
+pub scan_two_parts-requires-clause-within : goal.scan_two_parts-requires-clause-within
+scan_two_parts-requires-clause-within c = grind (arith, common_steps) steps 1200000
+
+pub scan_two_parts-requires-2-clause-within : goal.scan_two_parts-requires-2-clause-within
+scan_two_parts-requires-2-clause-within c = grind (arith, common_steps) steps 1200000
+
+pub returns : goal.returns
+returns c = grind (arith, common_steps) steps 400000
