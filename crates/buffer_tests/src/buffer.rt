@@ -5,7 +5,7 @@ use std::test::Fail;
 #[test]
 fn the_largest_cluster_is_in_the_range_of_all(rt: HostRuntime) -> Result<(), Fail> {
     let mut text = UnicodeBuffer::new(rt.alloc());
-    assert_eq!(rt; text.add('a', u32::MAX), Ok(true));
+    assert!(rt; text.add('a', u32::MAX) == Ok(true));
     let mut buffer = text.into_buffer();
     buffer.reset_masks(5);
     assert_glyphs(&rt, buffer.info(), &[(u32::MAX, 5)]);
@@ -20,15 +20,15 @@ fn the_largest_cluster_is_in_the_range_of_all(rt: HostRuntime) -> Result<(), Fai
 #[test]
 fn merges_and_flags_with_no_output(rt: HostRuntime) -> Result<(), Fail> {
     let mut buffer = buffer_of(&rt, rt.alloc(), "abcd");
-    assert_eq!(rt; buffer.len(), 4);
+    assert!(rt; buffer.len() == 4);
     assert!(rt; !buffer.have_output());
     buffer.merge_clusters(1, 3);
     assert_glyphs(&rt, buffer.info(), &[(0, 0), (1, 0), (1, 0), (3, 0)]);
-    assert_eq!(rt; buffer.len(), 4);
+    assert!(rt; buffer.len() == 4);
     assert!(rt; !buffer.have_output());
     buffer.unsafe_to_break(None, Some(9));
     assert_glyphs(&rt, buffer.info(), &[(0, 0), (1, 3), (1, 3), (3, 3)]);
-    assert_eq!(rt; buffer.scratch_flags, 0x20);
+    assert!(rt; buffer.scratch_flags == 0x20);
     let mut info = glyph(3, 31);
     hb_buffer_t::set_cluster(&mut info, 1, 10);
     assert_glyphs(&rt, &[info], &[(1, 26)]);

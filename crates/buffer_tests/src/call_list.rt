@@ -79,9 +79,9 @@ fn buffer_of_run(rt: &impl Abort, alloc: Global, run: &Run<'_>) -> Result<hb_buf
 }
 
 fn assert_glyphs(rt: &impl Abort, glyphs: &[hb_glyph_info_t], want: &[Seen]) {
-    assert_eq!(rt; glyphs.len(), want.len());
+    assert!(rt; glyphs.len() == want.len());
     for (glyph, want) in glyphs.iter().zip(want) {
-        assert_eq!(rt; (glyph.glyph_id, glyph.cluster, glyph.mask & 7), *want);
+        assert!(rt; (glyph.glyph_id, glyph.cluster, glyph.mask & 7) == *want);
     }
 }
 
@@ -90,18 +90,15 @@ fn assert_run(rt: &impl Abort, alloc: Global, run: &Run<'_>) -> Result<(), Fail>
     let mut answers = [REFUSED; 12];
     let count = run.calls.len();
     assert!(rt; count <= 12);
-    assert_eq!(rt;
-        replay(&mut buffer, run.calls, &mut answers[..count]),
-        Ok(())
-    );
-    assert_eq!(rt; &answers[..count], run.answers);
-    assert_eq!(rt; buffer.have_output(), run.open);
-    assert_eq!(rt; buffer.have_separate_output(), run.separate);
-    assert_eq!(rt; buffer.idx(), run.idx);
-    assert_eq!(rt; buffer.successful(), run.successful);
+    assert!(rt; replay(&mut buffer, run.calls, &mut answers[..count]) == Ok(()));
+    assert!(rt; &answers[..count] == run.answers);
+    assert!(rt; buffer.have_output() == run.open);
+    assert!(rt; buffer.have_separate_output() == run.separate);
+    assert!(rt; buffer.idx() == run.idx);
+    assert!(rt; buffer.successful() == run.successful);
     assert_glyphs(rt, buffer.out_info(), run.out);
     assert_glyphs(rt, buffer.info(), run.input);
-    assert_eq!(rt; buffer.scratch_flags, run.scratch_flags);
+    assert!(rt; buffer.scratch_flags == run.scratch_flags);
     Ok(())
 }
 
@@ -129,13 +126,10 @@ fn assert_stored(rt: &impl Abort, alloc: Global, run: &Stored<'_>) -> Result<(),
     let mut answers = [OUTSIDE; 12];
     let count = run.calls.len();
     assert!(rt; count <= 12);
-    assert_eq!(rt;
-        replay(&mut buffer, run.calls, &mut answers[..count]),
-        Ok(())
-    );
+    assert!(rt; replay(&mut buffer, run.calls, &mut answers[..count]) == Ok(()));
     assert!(rt; answers[..count].iter().all(|answer| *answer == DONE));
-    assert_eq!(rt; buffer.have_separate_output(), run.separate);
-    assert_eq!(rt; buffer.idx(), run.idx);
+    assert!(rt; buffer.have_separate_output() == run.separate);
+    assert!(rt; buffer.idx() == run.idx);
     assert_glyphs(rt, buffer.out_info(), run.out);
     assert_glyphs(rt, buffer.info(), run.input);
     if !buffer.have_separate_output() {
@@ -159,9 +153,9 @@ fn both_sides_stand_in_one_vector(rt: HostRuntime) -> Result<(), Fail> {
 /// Makes a call, and asserts that it is done, and whether the output is separate behind it.
 fn make_one(rt: &impl Abort, buffer: &mut hb_buffer_t, call: Call<'_>, separate: bool) {
     let mut answers = [OUTSIDE];
-    assert_eq!(rt; replay(buffer, &[call], &mut answers), Ok(()));
-    assert_eq!(rt; answers, [DONE]);
-    assert_eq!(rt; buffer.have_separate_output(), separate);
+    assert!(rt; replay(buffer, &[call], &mut answers) == Ok(()));
+    assert!(rt; answers == [DONE]);
+    assert!(rt; buffer.have_separate_output() == separate);
 }
 
 #[test]
@@ -192,7 +186,7 @@ fn an_output_is_separate_once_it_is_the_longer(rt: HostRuntime) -> Result<(), Fa
         for (call, separate) in *calls {
             make_one(&rt, &mut buffer, *call, *separate);
         }
-        assert_eq!(rt; buffer.len(), *len);
+        assert!(rt; buffer.len() == *len);
     }
     Ok(())
 }
@@ -214,11 +208,11 @@ fn calls_and_answers_are_printed_by_name(rt: HostRuntime) -> Result<(), Fail> {
         Call::UnsafeToBreak(Some(1), None),
     ];
     let printed = format!(in rt.alloc(); "{calls:?}")?;
-    assert_eq!(rt;
-        printed.as_str(),
-        "[ClearOutput, ReplaceGlyph(7), ReplaceGlyphs(2, 1, [9]), UnsafeToBreak(Some(1), None)]"
+    assert!(rt;
+        printed.as_str()
+            == "[ClearOutput, ReplaceGlyph(7), ReplaceGlyphs(2, 1, [9]), UnsafeToBreak(Some(1), None)]"
     );
     let printed = format!(in rt.alloc(); "{OUTSIDE:?} {:?}", Stopped { at: 3 })?;
-    assert_eq!(rt; printed.as_str(), "Outside Stopped { at: 3 }");
+    assert!(rt; printed.as_str() == "Outside Stopped { at: 3 }");
     Ok(())
 }

@@ -24,10 +24,10 @@ pub(crate) fn glyphs<const N: usize>(clusters: [u32; N]) -> [hb_glyph_info_t; N]
 
 /// Asserts the clusters and the masks of the glyphs.
 pub(crate) fn assert_glyphs(rt: &impl Abort, glyphs: &[hb_glyph_info_t], want: &[(u32, u32)]) {
-    assert_eq!(rt; glyphs.len(), want.len());
+    assert!(rt; glyphs.len() == want.len());
     for (glyph, (cluster, mask)) in glyphs.iter().zip(want) {
-        assert_eq!(rt; glyph.cluster, *cluster);
-        assert_eq!(rt; glyph.mask, *mask);
+        assert!(rt; glyph.cluster == *cluster);
+        assert!(rt; glyph.mask == *mask);
     }
 }
 
@@ -36,15 +36,15 @@ pub(crate) fn buffer_of(rt: &impl Abort, alloc: Global, text: &str) -> hb_buffer
     ensures { result.have_output ≡ false }
 {
     let mut characters = UnicodeBuffer::new(alloc);
-    assert_eq!(rt; characters.push_str(text), Ok(true));
+    assert!(rt; characters.push_str(text) == Ok(true));
     characters.into_buffer()
 }
 
 /// Asserts the ids of the glyphs.
 pub(crate) fn assert_ids(rt: &impl Abort, glyphs: &[hb_glyph_info_t], want: &[u32]) {
-    assert_eq!(rt; glyphs.len(), want.len());
+    assert!(rt; glyphs.len() == want.len());
     for (glyph, id) in glyphs.iter().zip(want.iter()) {
-        assert_eq!(rt; glyph.glyph_id, *id);
+        assert!(rt; glyph.glyph_id == *id);
     }
 }
 
@@ -53,5 +53,5 @@ pub(crate) fn read_one(rt: &impl Abort, buffer: &mut hb_buffer_t) {
     assert!(rt; !buffer.have_output());
     buffer.clear_output();
     assert!(rt; buffer.lookahead_len() > 0);
-    assert_eq!(rt; buffer.next_glyph(), Ok(true));
+    assert!(rt; buffer.next_glyph() == Ok(true));
 }

@@ -13,14 +13,14 @@ fn kern(value: u32, start: u32, end: u32) -> Feature {
 }
 
 fn assert_masks(rt: &impl Abort, glyphs: &GlyphBuffer, want: &[u32]) {
-    assert_eq!(rt; glyphs.len(), want.len());
+    assert!(rt; glyphs.len() == want.len());
     for (glyph, want) in glyphs.glyph_infos().iter().zip(want) {
-        assert_eq!(rt; glyph.mask, *want);
+        assert!(rt; glyph.mask == *want);
     }
-    assert_eq!(rt; glyphs.glyph_positions().len(), want.len());
+    assert!(rt; glyphs.glyph_positions().len() == want.len());
     for position in glyphs.glyph_positions() {
-        assert_eq!(rt; (position.x_advance, position.y_advance), (0, 0));
-        assert_eq!(rt; (position.x_offset, position.y_offset), (0, 0));
+        assert!(rt; (position.x_advance, position.y_advance) == (0, 0));
+        assert!(rt; (position.x_offset, position.y_offset) == (0, 0));
     }
 }
 
@@ -43,7 +43,7 @@ fn features_set_the_bits_of_their_places(rt: HostRuntime) -> Result<(), Fail> {
             Ok(glyphs) => assert_masks(&rt, &glyphs, masks),
             Err(_) => panic!(rt; "not rendered"),
         }
-        assert_eq!(rt; answers, [Answer::Done; 3]);
+        assert!(rt; answers == [Answer::Done; 3]);
     }
     Ok(())
 }
@@ -53,15 +53,15 @@ fn faults_say_where(rt: HostRuntime) -> Result<(), Fail> {
     let mut answers = [Answer::Outside];
     match render(rt.alloc(), "ab", &[], &[Call::ClearOutput], &mut answers) {
         Ok(_) => panic!(rt; "rendered"),
-        Err(fault) => assert_eq!(rt; fault, RenderFault::OutputLeftOpen),
+        Err(fault) => assert!(rt; fault == RenderFault::OutputLeftOpen),
     }
-    assert_eq!(rt; answers, [Answer::Done]);
+    assert!(rt; answers == [Answer::Done]);
     let mut answers = [Answer::Outside];
     let many = [kern(1, 0, 1); 25];
     match render(rt.alloc(), "ab", &many, &[Call::ClearOutput], &mut answers) {
         Ok(_) => panic!(rt; "rendered"),
-        Err(fault) => assert_eq!(rt; fault, RenderFault::TooManyFeatures),
+        Err(fault) => assert!(rt; fault == RenderFault::TooManyFeatures),
     }
-    assert_eq!(rt; answers, [Answer::Outside]);
+    assert!(rt; answers == [Answer::Outside]);
     Ok(())
 }

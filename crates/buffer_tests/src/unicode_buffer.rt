@@ -7,10 +7,10 @@ use std::test::Fail;
 /// The ids and clusters of a text.
 fn assert_text(rt: &impl Abort, text: UnicodeBuffer, want: &[(u32, u32)]) {
     let buffer = text.into_buffer();
-    assert_eq!(rt; buffer.info().len(), want.len());
+    assert!(rt; buffer.info().len() == want.len());
     for (glyph, pair) in buffer.info().iter().zip(want.iter()) {
-        assert_eq!(rt; (glyph.glyph_id, glyph.cluster), *pair);
-        assert_eq!(rt; glyph.mask, 0);
+        assert!(rt; (glyph.glyph_id, glyph.cluster) == *pair);
+        assert!(rt; glyph.mask == 0);
     }
 }
 
@@ -18,13 +18,13 @@ fn assert_text(rt: &impl Abort, text: UnicodeBuffer, want: &[(u32, u32)]) {
 fn characters_are_numbered_by_their_first_bytes(rt: HostRuntime) -> Result<(), Fail> {
     let mut text = UnicodeBuffer::new(rt.alloc());
     assert!(rt; text.is_empty());
-    assert_eq!(rt; text.push_str("éz"), Ok(true));
-    assert_eq!(rt; text.push_str("a"), Ok(true));
-    assert_eq!(rt; text.add('y', 7), Ok(true));
-    assert_eq!(rt; text.len(), 4);
+    assert!(rt; text.push_str("éz") == Ok(true));
+    assert!(rt; text.push_str("a") == Ok(true));
+    assert!(rt; text.add('y', 7) == Ok(true));
+    assert!(rt; text.len() == 4);
     assert_text(&rt, text, &[(233, 0), (122, 2), (97, 0), (121, 7)]);
     let mut text = UnicodeBuffer::new(rt.alloc());
-    assert_eq!(rt; text.push_str("éz"), Ok(true));
+    assert!(rt; text.push_str("éz") == Ok(true));
     text.reset_clusters();
     assert_text(&rt, text, &[(233, 0), (122, 1)]);
     Ok(())
@@ -39,10 +39,10 @@ fn assert_after(rt: &impl Abort, mut text: UnicodeBuffer, pushes: bool, want: &[
     } else {
         text.add('x', 0)
     };
-    assert_eq!(rt; done, Ok(true));
+    assert!(rt; done == Ok(true));
     let buffer = text.into_buffer();
-    assert_eq!(rt; buffer.context(0), ['g', 'f', 'e', 'd', 'c'].as_slice());
-    assert_eq!(rt; buffer.context(1), want);
+    assert!(rt; buffer.context(0) == ['g', 'f', 'e', 'd', 'c'].as_slice());
+    assert!(rt; buffer.context(1) == want);
 }
 
 #[test]
@@ -55,9 +55,9 @@ fn contexts_keep_the_nearest_five(rt: HostRuntime) -> Result<(), Fail> {
 
 /// Guesses from one character.
 fn assert_guess(rt: &impl Abort, mut text: UnicodeBuffer, c: char, want: (Script, Direction)) {
-    assert_eq!(rt; text.add(c, 0), Ok(true));
+    assert!(rt; text.add(c, 0) == Ok(true));
     text.guess_segment_properties();
-    assert_eq!(rt; (text.script(), text.direction()), want);
+    assert!(rt; (text.script(), text.direction()) == want);
 }
 
 #[test]
@@ -75,13 +75,13 @@ fn what_is_said_of_a_text_is_told_again(rt: HostRuntime) -> Result<(), Fail> {
     text.set_direction(Direction::BottomToTop);
     text.set_script(script::ARABIC);
     text.set_flags(BufferFlags::VERIFY);
-    assert_eq!(rt; text.direction(), Direction::BottomToTop);
-    assert_eq!(rt; text.script(), script::ARABIC);
+    assert!(rt; text.direction() == Direction::BottomToTop);
+    assert!(rt; text.script() == script::ARABIC);
     text.clear();
-    assert_eq!(rt; text.script(), script::UNKNOWN);
-    assert_eq!(rt; text.flags().bits(), 0x20);
+    assert!(rt; text.script() == script::UNKNOWN);
+    assert!(rt; text.flags().bits() == 0x20);
     text.set_not_found_variation_selector_glyph(9);
-    assert_eq!(rt; text.into_buffer().not_found_variation_selector, Some(9));
+    assert!(rt; text.into_buffer().not_found_variation_selector == Some(9));
     Ok(())
 }
 
@@ -90,10 +90,10 @@ fn languages_and_levels_are_told_again(rt: HostRuntime) -> Result<(), Fail> {
     let mut text = UnicodeBuffer::new(rt.alloc());
     assert!(rt; text.language().is_none());
     text.set_language(Language::from_str(rt.alloc(), "En")?);
-    assert_eq!(rt; text.language().ok_or("no language")?.as_str(), "en");
+    assert!(rt; text.language().ok_or("no language")?.as_str() == "en");
     text.set_cluster_level(BufferClusterLevel::Characters);
-    assert_eq!(rt; text.cluster_level(), BufferClusterLevel::Characters);
+    assert!(rt; text.cluster_level() == BufferClusterLevel::Characters);
     let printed = format!(in rt.alloc(); "{:?}", BufferClusterLevel::default())?;
-    assert_eq!(rt; printed.as_str(), "MonotoneGraphemes");
+    assert!(rt; printed.as_str() == "MonotoneGraphemes");
     Ok(())
 }

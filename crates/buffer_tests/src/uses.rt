@@ -18,9 +18,9 @@ use std::str::FromStr;
 use std::test::Fail;
 
 fn assert_masks(rt: &impl Abort, glyphs: &[hb_glyph_info_t], want: &[u32]) {
-    assert_eq!(rt; glyphs.len(), want.len());
+    assert!(rt; glyphs.len() == want.len());
     for (glyph, mask) in glyphs.iter().zip(want) {
-        assert_eq!(rt; glyph.mask, *mask);
+        assert!(rt; glyph.mask == *mask);
     }
 }
 
@@ -41,7 +41,7 @@ fn a_text_is_rendered(rt: &impl Abort, alloc: Global) -> Result<(), Fail> {
     match render_with_ligature(alloc, "fib", kern, 9) {
         Ok(glyphs) => {
             let line = glyphs.serialize(alloc, &NoGlyphNames, SerializeFlags::NO_GLYPH_NAMES)?;
-            assert_eq!(rt; line.as_str(), "9=0+0|98=2+0");
+            assert!(rt; line.as_str() == "9=0+0|98=2+0");
             assert_masks(rt, glyphs.glyph_infos(), &[0, 256]);
         }
         Err(_) => panic!(rt; "not rendered"),
@@ -51,26 +51,26 @@ fn a_text_is_rendered(rt: &impl Abort, alloc: Global) -> Result<(), Fail> {
 
 fn texts_are_printed_and_merged(rt: &impl Abort, alloc: Global) -> Result<(), Fail> {
     let line = print_characters(alloc, "éa")?.ok_or("short")?;
-    assert_eq!(rt; line.as_str(), "233=0+0|97=2+0");
+    assert!(rt; line.as_str() == "233=0+0|97=2+0");
     let numbers = clusters_of_merged(alloc, "abc")?.ok_or("two characters")?;
-    assert_eq!(rt; numbers.as_slice(), [0, 0, 2].as_slice());
+    assert!(rt; numbers.as_slice() == [0, 0, 2].as_slice());
     assert!(rt; clusters_of_merged(alloc, "a")?.is_none());
-    assert_eq!(rt; first_two_as_one(alloc, "ab"), Ok(true));
-    assert_eq!(rt; first_two_as_one(alloc, "a"), Ok(false));
+    assert!(rt; first_two_as_one(alloc, "ab") == Ok(true));
+    assert!(rt; first_two_as_one(alloc, "a") == Ok(false));
     Ok(())
 }
 
 fn glyphs_are_dropped(rt: &impl Abort, alloc: Global) {
     let mut buffer = buffer_of(rt, alloc, "abc");
     assert!(rt; ligate_first_two(&mut buffer, 7).is_ok());
-    assert_eq!(rt; buffer.info().len(), 2);
+    assert!(rt; buffer.info().len() == 2);
     let mut buffer = buffer_of(rt, alloc, "a\u{ad}b");
     for glyph in buffer.info_slice_mut() {
         glyph.set_unicode_props(if glyph.glyph_id == 0xad { 0x21 } else { 5 });
     }
     assert!(rt; !buffer.have_output());
-    assert_eq!(rt; hide_ignorables(&mut buffer), Ok(true));
-    assert_eq!(rt; buffer.info().len(), 2);
+    assert!(rt; hide_ignorables(&mut buffer) == Ok(true));
+    assert!(rt; buffer.info().len() == 2);
 }
 
 /// A line is cut where the pair is not.
@@ -84,11 +84,11 @@ fn a_pair_is_kerned(rt: &impl Abort, alloc: Global) {
     assert_masks(rt, buffer.info(), &[0, 0, 3, 0]);
     assert!(rt; buffer.have_positions());
     for (position, advance) in buffer.pos().iter().zip(&[0, -3, 0, 0]) {
-        assert_eq!(rt; position.x_advance, *advance);
+        assert!(rt; position.x_advance == *advance);
     }
     assert!(rt; buffer.info().len() == 4);
-    assert_eq!(rt; cut_of_line(buffer.info(), 3), 3);
-    assert_eq!(rt; cut_of_line(buffer.info(), 2), 1);
+    assert!(rt; cut_of_line(buffer.info(), 3) == 3);
+    assert!(rt; cut_of_line(buffer.info(), 2) == 1);
 }
 
 fn writes_land_at_their_places(rt: &impl Abort, alloc: Global) {
@@ -106,14 +106,14 @@ fn writes_land_at_their_places(rt: &impl Abort, alloc: Global) {
     advance_at(&mut buffer, 1);
     assert!(rt; buffer.have_positions());
     for (position, advance) in buffer.pos().iter().zip(&[5, 5, 0]) {
-        assert_eq!(rt; position.x_advance, *advance);
+        assert!(rt; position.x_advance == *advance);
     }
     assert!(rt; !buffer.have_output());
     buffer.clear_output();
     assert!(rt; buffer.lookahead_len() > 1);
     mask_next(&mut buffer, 1);
     assert!(rt; buffer.lookahead_len() > 0);
-    assert_eq!(rt; buffer.next_glyph(), Ok(true));
+    assert!(rt; buffer.next_glyph() == Ok(true));
     assert!(rt; buffer.out_len() > 0);
     mask_out(&mut buffer, 0);
     assert!(rt; buffer.out_len() > 0);
@@ -122,19 +122,19 @@ fn writes_land_at_their_places(rt: &impl Abort, alloc: Global) {
     mask_last(&mut buffer);
     assert_masks(rt, buffer.out_info(), &[5]);
     assert_masks(rt, buffer.info(), &[5, 5]);
-    assert_eq!(rt; buffer.cluster_level, 2);
+    assert!(rt; buffer.cluster_level == 2);
 }
 
 fn readers_tell_what_stands(rt: &impl Abort, alloc: Global) {
-    assert_eq!(rt; most_glyphs(alloc), 0x3FFF_FFFF);
-    assert_eq!(rt; most_operations(alloc), 0x1FFF_FFFF);
+    assert!(rt; most_glyphs(alloc) == 0x3FFF_FFFF);
+    assert!(rt; most_operations(alloc) == 0x1FFF_FFFF);
     let mut text = UnicodeBuffer::new(alloc);
     text.set_pre_context("abcdefg");
     text.set_post_context("ab");
     let mut buffer = text.into_buffer();
-    assert_eq!(rt; context_len(&buffer), 7);
+    assert!(rt; context_len(&buffer) == 7);
     assert!(rt; !buffer.have_output());
-    assert_eq!(rt; out_len_while_closed(&buffer), 0);
+    assert!(rt; out_len_while_closed(&buffer) == 0);
     assert!(rt; !buffer.have_output());
     buffer.clear_output();
     assert!(rt; buffer.have_output());
@@ -148,29 +148,29 @@ fn calls_in_place_are_done(rt: &impl Abort, alloc: Global) {
     assert!(rt; buffer.lookahead_len() > 0);
     buffer.skip_glyph();
     assert!(rt; buffer.lookahead_len() > 0 && !buffer.have_separate_output());
-    assert_eq!(rt; next_in_place(&mut buffer), Ok(true));
+    assert!(rt; next_in_place(&mut buffer) == Ok(true));
     assert!(rt;
         buffer.have_output() && buffer.lookahead_len() > 0 && !buffer.have_separate_output()
     );
-    assert_eq!(rt; replace_in_place(&mut buffer, 7), Ok(true));
+    assert!(rt; replace_in_place(&mut buffer, 7) == Ok(true));
     assert!(rt; buffer.lookahead_len() >= 2 && !buffer.have_separate_output());
-    assert_eq!(rt; next_glyphs_in_place(&mut buffer, 2), Ok(true));
+    assert!(rt; next_glyphs_in_place(&mut buffer, 2) == Ok(true));
     assert!(rt; buffer.have_output() && buffer.out_len() >= 2);
     assert!(rt; buffer.successful() && !buffer.have_separate_output());
-    assert_eq!(rt; move_in_place(&mut buffer, 2), Ok(true));
+    assert!(rt; move_in_place(&mut buffer, 2) == Ok(true));
     assert!(rt; buffer.have_output() && buffer.successful() && !buffer.have_separate_output());
-    assert_eq!(rt; sync_in_place(&mut buffer), Ok(true));
-    assert_eq!(rt; buffer.info().len(), 4);
+    assert!(rt; sync_in_place(&mut buffer) == Ok(true));
+    assert!(rt; buffer.info().len() == 4);
 }
 
 /// One is dropped, three are put out and taken back, and the output is closed.
 fn a_list_in_place_is_done(rt: &impl Abort, alloc: Global) {
     let mut buffer = buffer_of(rt, alloc, "abcde");
     assert!(rt; !buffer.have_output() && buffer.successful() && buffer.len() >= 4);
-    assert_eq!(rt; rewind_in_place(&mut buffer), [Answer::Done; 7]);
+    assert!(rt; rewind_in_place(&mut buffer) == [Answer::Done; 7]);
     assert!(rt; !buffer.have_output() && buffer.idx() == 0);
-    assert_eq!(rt; buffer.info().len(), 4);
+    assert!(rt; buffer.info().len() == 4);
     for (glyph, id) in buffer.info().iter().zip(&[98, 99, 100, 101]) {
-        assert_eq!(rt; glyph.glyph_id, *id);
+        assert!(rt; glyph.glyph_id == *id);
     }
 }

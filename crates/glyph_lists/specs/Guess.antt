@@ -2,10 +2,10 @@
 use Rattle.std.specs.Prelude.{ℕ, Bool, not, List, Option, Some, None, map, unwrap_or, ◌==◌, ◌||◌, codes}
 use Rattle.std.specs.List.{All, find}
 use Rattle.std.specs.Char.{IsScalar}
-use Rattle.rb_text.specs.Tag.{tag_of}
-use Rattle.rb_text.specs.Direction.{direction_of}
-use Rattle.rb_text.specs.declared.direction.Direction.{Direction}
-use Rattle.rb_text.specs.declared.direction.Direction.TheVariants.{LeftToRight}
+use Rattle.rb_common.specs.Tag.{tag_of}
+use Rattle.rb_common.specs.Direction.{direction_of}
+use Rattle.rb_common.specs.declared.direction.Direction.{Direction}
+use Rattle.rb_common.specs.declared.direction.Direction.TheVariants.{LeftToRight}
 use Rattle.rb_glyph.specs.Scripts.{script_of_char}
 use Rattle.rb_glyph.specs.declared.info.hb_glyph_info_t.{hb_glyph_info_t}
 

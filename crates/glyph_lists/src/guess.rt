@@ -3,8 +3,8 @@
 ghost use Rattle.std.specs.Prelude.{◌≡◌};
 ghost use Rattle.glyph_lists.specs.Guess.{AreCharacters, is_neutral, guessed_script, guessed_direction};
 
+use rb_common::{Direction, Script, script};
 use rb_glyph::{CharExt, hb_glyph_info_t};
-use rb_text::{Direction, Script, script};
 
 /// Whether the script says nothing of the text: punctuation and digits are common to many, marks
 /// inherit the script of what they stand on, and some characters have none.

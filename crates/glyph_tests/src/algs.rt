@@ -11,7 +11,7 @@ fn words_have_the_bits_that_are_named(rt: HostRuntime) {
         rb_flag_range(0, 31),
     ];
     let highest = 0x8000_0000;
-    assert_eq!(rt; words, [1, highest, highest, 0, 0x1C, 0xFFFF_FFFF]);
+    assert!(rt; words == [1, highest, highest, 0, 0x1C, 0xFFFF_FFFF]);
     let words = [
         rb_flag64(0),
         rb_flag64(63),
@@ -19,5 +19,5 @@ fn words_have_the_bits_that_are_named(rt: HostRuntime) {
         rb_flag64_unsafe(64),
     ];
     let highest = 0x8000_0000_0000_0000;
-    assert_eq!(rt; words, [1, highest, highest, 0]);
+    assert!(rt; words == [1, highest, highest, 0]);
 }

@@ -5,7 +5,7 @@ use std::test::Fail;
 fn the_last_five_characters_before_a_text_are_kept_outward(rt: HostRuntime) -> Result<(), Fail> {
     let mut context = Context::new();
     keep_before(&mut context, "abcdefg");
-    assert_eq!(rt; context.as_slice(), ['g', 'f', 'e', 'd', 'c'].as_slice());
+    assert!(rt; context.as_slice() == ['g', 'f', 'e', 'd', 'c'].as_slice());
     Ok(())
 }
 
@@ -13,7 +13,7 @@ fn the_last_five_characters_before_a_text_are_kept_outward(rt: HostRuntime) -> R
 fn the_first_five_characters_after_a_text_are_kept(rt: HostRuntime) -> Result<(), Fail> {
     let mut context = Context::new();
     keep_after(&mut context, "abcdefg");
-    assert_eq!(rt; context.as_slice(), ['a', 'b', 'c', 'd', 'e'].as_slice());
+    assert!(rt; context.as_slice() == ['a', 'b', 'c', 'd', 'e'].as_slice());
     Ok(())
 }
 
@@ -22,9 +22,9 @@ fn what_was_kept_before_is_gone(rt: HostRuntime) -> Result<(), Fail> {
     let mut context = Context::new();
     keep_before(&mut context, "abcdefg");
     keep_before(&mut context, "xy");
-    assert_eq!(rt; context.as_slice(), ['y', 'x'].as_slice());
+    assert!(rt; context.as_slice() == ['y', 'x'].as_slice());
     keep_after(&mut context, "ab");
-    assert_eq!(rt; context.as_slice(), ['a', 'b'].as_slice());
+    assert!(rt; context.as_slice() == ['a', 'b'].as_slice());
     keep_after(&mut context, "");
     assert!(rt; context.is_empty());
     Ok(())
@@ -34,8 +34,8 @@ fn what_was_kept_before_is_gone(rt: HostRuntime) -> Result<(), Fail> {
 fn characters_of_every_length_are_read_from_both_ends(rt: HostRuntime) -> Result<(), Fail> {
     let mut context = Context::new();
     keep_before(&mut context, "aé€𐌀z");
-    assert_eq!(rt; context.as_slice(), ['z', '𐌀', '€', 'é', 'a'].as_slice());
+    assert!(rt; context.as_slice() == ['z', '𐌀', '€', 'é', 'a'].as_slice());
     keep_after(&mut context, "aé€𐌀z");
-    assert_eq!(rt; context.as_slice(), ['a', 'é', '€', '𐌀', 'z'].as_slice());
+    assert!(rt; context.as_slice() == ['a', 'é', '€', '𐌀', 'z'].as_slice());
     Ok(())
 }

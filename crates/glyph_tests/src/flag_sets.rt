@@ -3,16 +3,13 @@ use rb_glyph::{BufferFlags, Flags, GlyphPropsFlags, SerializeFlags, UnicodeProps
 #[test]
 fn a_set_is_its_bits(rt: HostRuntime) {
     let buffer = BufferFlags::VERIFY.union(BufferFlags::PRODUCE_UNSAFE_TO_CONCAT);
-    assert_eq!(rt; [buffer.bits(), BufferFlags::all().bits()], [0x60, 0xFF]);
+    assert!(rt; [buffer.bits(), BufferFlags::all().bits()] == [0x60, 0xFF]);
     let serialize = SerializeFlags::NO_CLUSTERS.union(SerializeFlags::NO_GLYPH_NAMES);
-    assert_eq!(rt; [serialize.bits(), SerializeFlags::all().bits()], [5, 63]);
+    assert!(rt; [serialize.bits(), SerializeFlags::all().bits()] == [5, 63]);
     let unicode = UnicodeProps::IGNORABLE.union(UnicodeProps::CF_ZWJ);
-    assert_eq!(rt;
-        [unicode.bits(), UnicodeProps::all().bits()],
-        [0x120, 0x7FF]
-    );
+    assert!(rt; [unicode.bits(), UnicodeProps::all().bits()] == [0x120, 0x7FF]);
     let glyph = GlyphPropsFlags::MARK.union(GlyphPropsFlags::SUBSTITUTED);
-    assert_eq!(rt; [glyph.bits(), GlyphPropsFlags::all().bits()], [0x18, 0x7E]);
+    assert!(rt; [glyph.bits(), GlyphPropsFlags::all().bits()] == [0x18, 0x7E]);
 }
 
 #[test]
@@ -28,7 +25,7 @@ fn sets_are_asked_and_changed(rt: HostRuntime) {
         BufferFlags::from_bits(6).unwrap_or_default().bits(),
         BufferFlags::empty().bits(),
     ];
-    assert_eq!(rt; made, [4, 2, 10, 0xF9, 6, 6, 0]);
+    assert!(rt; made == [4, 2, 10, 0xF9, 6, 6, 0]);
     assert!(rt; six.intersects(twelve) && !six.contains(twelve));
     assert!(rt; !six.is_empty() && !six.is_all());
     let mut changed = six;
@@ -36,5 +33,5 @@ fn sets_are_asked_and_changed(rt: HostRuntime) {
     changed.remove(six);
     changed.toggle(twelve);
     changed.set(BufferFlags::VERIFY, true);
-    assert_eq!(rt; changed.bits(), 0x24);
+    assert!(rt; changed.bits() == 0x24);
 }

@@ -1,17 +1,19 @@
 use crate::lists::{assert_masks, glyph, glyphs};
 use glyph_lists::glyph_flags::{mark_range, scan_range, scan_two_parts};
 
+/// Clusters, a range, whether they are in any order, and the masks after the scan.
+static SCANS: [([u32; 4], usize, usize, bool, [u32; 4]); 6] = [
+    ([1, 1, 2, 3], 0, 4, false, [0, 0, 3, 3]),
+    ([1, 3, 1, 2], 0, 4, false, [0, 0, 0, 3]),
+    ([4, 3, 3, 1], 0, 4, false, [3, 3, 3, 0]),
+    ([2, 1, 3, 1], 0, 4, true, [3, 0, 3, 0]),
+    ([1, 3, 1, 2], 1, 2, true, [0, 0, 0, 0]),
+    ([1, 3, 1, 2], 4, 4, false, [0, 0, 0, 0]),
+];
+
 #[test]
 fn a_scan_of_one_part_marks_all_but_the_least(rt: HostRuntime) {
-    let rows = [
-        ([1, 1, 2, 3], 0, 4, false, [0, 0, 3, 3]),
-        ([1, 3, 1, 2], 0, 4, false, [0, 0, 0, 3]),
-        ([4, 3, 3, 1], 0, 4, false, [3, 3, 3, 0]),
-        ([2, 1, 3, 1], 0, 4, true, [3, 0, 3, 0]),
-        ([1, 3, 1, 2], 1, 2, true, [0, 0, 0, 0]),
-        ([1, 3, 1, 2], 4, 4, false, [0, 0, 0, 0]),
-    ];
-    for (clusters, start, end, any_order, masks) in rows {
+    for &(clusters, start, end, any_order, masks) in &SCANS {
         let mut info = glyphs(clusters);
         assert!(rt; start <= end && end <= 4);
         scan_range(&mut [], &mut info, 0, start, end, 3, any_order);
@@ -22,19 +24,21 @@ fn a_scan_of_one_part_marks_all_but_the_least(rt: HostRuntime) {
     assert_masks(&rt, &info, &[8, 12, 1]);
 }
 
+/// How many were read, clusters, a range, whether they are in any order, and the masks after the scan.
+static SCANS_OF_TWO: [(usize, [u32; 4], usize, usize, bool, [u32; 4]); 7] = [
+    (2, [0, 1, 1, 2], 0, 4, false, [0, 3, 3, 3]),
+    (3, [3, 1, 3, 1], 0, 4, false, [3, 0, 3, 0]),
+    (2, [3, 1, 1, 2], 0, 4, false, [3, 0, 0, 3]),
+    (3, [0, 2, 1, 3], 1, 4, true, [0, 3, 0, 3]),
+    (2, [0, 1, 2, 3], 2, 4, false, [0, 0, 0, 3]),
+    (2, [0, 1, 2, 3], 0, 2, false, [0, 3, 0, 0]),
+    (1, [0, 1, 2, 1], 1, 3, false, [0, 0, 3, 0]),
+];
+
 /// The out side holds the first glyphs, as many as were read.
 #[test]
 fn a_scan_of_two_parts_goes_by_the_least_of_both(rt: HostRuntime) {
-    let rows = [
-        (2, [0, 1, 1, 2], 0, 4, false, [0, 3, 3, 3]),
-        (3, [3, 1, 3, 1], 0, 4, false, [3, 0, 3, 0]),
-        (2, [3, 1, 1, 2], 0, 4, false, [3, 0, 0, 3]),
-        (3, [0, 2, 1, 3], 1, 4, true, [0, 3, 0, 3]),
-        (2, [0, 1, 2, 3], 2, 4, false, [0, 0, 0, 3]),
-        (2, [0, 1, 2, 3], 0, 2, false, [0, 3, 0, 0]),
-        (1, [0, 1, 2, 1], 1, 3, false, [0, 0, 3, 0]),
-    ];
-    for (cut, clusters, start, end, any_order, masks) in rows {
+    for &(cut, clusters, start, end, any_order, masks) in &SCANS_OF_TWO {
         let mut out = glyphs(clusters);
         let mut info = glyphs(clusters);
         assert!(rt; cut <= end && start <= end && end <= 4);

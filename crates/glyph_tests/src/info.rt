@@ -7,17 +7,17 @@ fn properties_share_words(rt: HostRuntime) {
     info.set_glyph_props(0x1234);
     info.set_lig_props(0x56);
     info.set_syllable(0x78);
-    assert_eq!(rt; info.glyph_index(), 0x7856_1234);
-    assert_eq!(rt; info.glyph_props(), 0x1234);
-    assert_eq!(rt; info.lig_props(), 0x56);
-    assert_eq!(rt; info.syllable(), 0x78);
+    assert!(rt; info.glyph_index() == 0x7856_1234);
+    assert!(rt; info.glyph_props() == 0x1234);
+    assert!(rt; info.lig_props() == 0x56);
+    assert!(rt; info.syllable() == 0x78);
     info.set_glyph_index(0xFFFF_FFFF);
-    assert_eq!(rt; info.var1, 0xFFFF_FFFF);
+    assert!(rt; info.var1 == 0xFFFF_FFFF);
     info.var2 = 0xABCD_0000;
     info.set_unicode_props(0xEC);
-    assert_eq!(rt; info.unicode_props(), 0xEC);
+    assert!(rt; info.unicode_props() == 0xEC);
     info.unhide();
-    assert_eq!(rt; info.var2, 0xABCD_00AC);
+    assert!(rt; info.var2 == 0xABCD_00AC);
 }
 
 #[test]
@@ -27,7 +27,7 @@ fn an_item_is_a_character_or_a_glyph(rt: HostRuntime) {
         mask: glyph_flag::UNSAFE_TO_BREAK,
         ..hb_glyph_info_t::default()
     };
-    assert_eq!(rt; info.as_char(), 'z');
-    assert_eq!(rt; info.as_glyph(), GlyphId(122));
+    assert!(rt; info.as_char() == 'z');
+    assert!(rt; info.as_glyph() == GlyphId(122));
     assert!(rt; info.unsafe_to_break());
 }

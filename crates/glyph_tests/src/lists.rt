@@ -21,26 +21,26 @@ pub(crate) fn glyphs<const N: usize>(clusters: [u32; N]) -> [hb_glyph_info_t; N]
 
 /// Asserts the clusters and the masks of the glyphs.
 pub(crate) fn assert_glyphs(rt: &impl Abort, glyphs: &[hb_glyph_info_t], want: &[(u32, u32)]) {
-    assert_eq!(rt; glyphs.len(), want.len());
+    assert!(rt; glyphs.len() == want.len());
     for (glyph, (cluster, mask)) in glyphs.iter().zip(want) {
-        assert_eq!(rt; glyph.cluster, *cluster);
-        assert_eq!(rt; glyph.mask, *mask);
+        assert!(rt; glyph.cluster == *cluster);
+        assert!(rt; glyph.mask == *mask);
     }
 }
 
 /// Asserts the clusters of the glyphs, whose masks are 0.
 pub(crate) fn assert_clusters(rt: &impl Abort, glyphs: &[hb_glyph_info_t], want: &[u32]) {
-    assert_eq!(rt; glyphs.len(), want.len());
+    assert!(rt; glyphs.len() == want.len());
     for (glyph, cluster) in glyphs.iter().zip(want) {
-        assert_eq!(rt; glyph.cluster, *cluster);
-        assert_eq!(rt; glyph.mask, 0);
+        assert!(rt; glyph.cluster == *cluster);
+        assert!(rt; glyph.mask == 0);
     }
 }
 
 /// Asserts the masks of the glyphs.
 pub(crate) fn assert_masks(rt: &impl Abort, glyphs: &[hb_glyph_info_t], want: &[u32]) {
-    assert_eq!(rt; glyphs.len(), want.len());
+    assert!(rt; glyphs.len() == want.len());
     for (glyph, mask) in glyphs.iter().zip(want) {
-        assert_eq!(rt; glyph.mask, *mask);
+        assert!(rt; glyph.mask == *mask);
     }
 }

@@ -15,6 +15,6 @@ fn a_range_is_widened_through_the_runs_at_its_ends(rt: HostRuntime) {
         let list = glyphs(clusters);
         assert!(rt; cut <= 4 && start + 2 <= end && end <= 4);
         let mut reads = ClusterReads::new(&list[..cut], &list[cut..]);
-        assert_eq!(rt; merge_range(&mut reads, start, end, floor), want);
+        assert!(rt; merge_range(&mut reads, start, end, floor) == want);
     }
 }

@@ -1,25 +1,27 @@
 use crate::lists::{assert_clusters, assert_glyphs, glyph, glyphs};
 use glyph_lists::merging::{merge_or_mark, merge_slice, run_merge};
 
+/// How many were read, clusters, a range and a floor, and the clusters after the merge.
+static MERGES: [(usize, [u32; 4], usize, usize, usize, [u32; 4]); 13] = [
+    (0, [3, 3, 2, 1], 1, 3, 0, [2, 2, 2, 1]),
+    (0, [4, 3, 3, 1], 0, 2, 0, [3, 3, 3, 1]),
+    (0, [4, 3, 3, 1], 1, 4, 0, [4, 1, 1, 1]),
+    (0, [1, 2, 2, 2], 0, 2, 0, [1, 1, 1, 1]),
+    (0, [1, 0, 1, 1], 0, 2, 0, [0, 0, 1, 1]),
+    (0, [3, 3, 3, 1], 2, 4, 1, [3, 1, 1, 1]),
+    (0, [3, 3, 3, 1], 2, 4, 3, [3, 3, 1, 1]),
+    (2, [3, 2, 2, 1], 2, 4, 0, [3, 1, 1, 1]),
+    (2, [0, 1, 1, 2], 0, 2, 0, [0, 0, 0, 2]),
+    (2, [4, 3, 2, 1], 2, 4, 0, [4, 3, 1, 1]),
+    (2, [0, 1, 2, 3], 0, 2, 0, [0, 0, 2, 3]),
+    (2, [0, 1, 2, 2], 1, 3, 0, [0, 1, 1, 1]),
+    (1, [1, 0, 2, 2], 0, 1, 0, [1, 0, 2, 2]),
+];
+
 /// The out side holds the first glyphs, as many as were read.
 #[test]
 fn a_merge_takes_in_the_runs_at_its_ends(rt: HostRuntime) {
-    let rows = [
-        (0, [3, 3, 2, 1], 1, 3, 0, [2, 2, 2, 1]),
-        (0, [4, 3, 3, 1], 0, 2, 0, [3, 3, 3, 1]),
-        (0, [4, 3, 3, 1], 1, 4, 0, [4, 1, 1, 1]),
-        (0, [1, 2, 2, 2], 0, 2, 0, [1, 1, 1, 1]),
-        (0, [1, 0, 1, 1], 0, 2, 0, [0, 0, 1, 1]),
-        (0, [3, 3, 3, 1], 2, 4, 1, [3, 1, 1, 1]),
-        (0, [3, 3, 3, 1], 2, 4, 3, [3, 3, 1, 1]),
-        (2, [3, 2, 2, 1], 2, 4, 0, [3, 1, 1, 1]),
-        (2, [0, 1, 1, 2], 0, 2, 0, [0, 0, 0, 2]),
-        (2, [4, 3, 2, 1], 2, 4, 0, [4, 3, 1, 1]),
-        (2, [0, 1, 2, 3], 0, 2, 0, [0, 0, 2, 3]),
-        (2, [0, 1, 2, 2], 1, 3, 0, [0, 1, 1, 1]),
-        (1, [1, 0, 2, 2], 0, 1, 0, [1, 0, 2, 2]),
-    ];
-    for (cut, before, start, end, floor, after) in rows {
+    for &(cut, before, start, end, floor, after) in &MERGES {
         let mut out = glyphs(before);
         let mut info = glyphs(before);
         assert!(rt; cut <= 4 && start <= end && end <= 4);
@@ -30,17 +32,19 @@ fn a_merge_takes_in_the_runs_at_its_ends(rt: HostRuntime) {
     }
 }
 
+/// Clusters, a range and a floor, and the clusters after the merge.
+static MERGES_OF_ONE: [([u32; 4], usize, usize, usize, [u32; 4]); 6] = [
+    ([3, 3, 2, 1], 1, 3, 0, [2, 2, 2, 1]),
+    ([3, 3, 2, 1], 1, 3, 1, [3, 2, 2, 1]),
+    ([0, 1, 1, 2], 0, 2, 0, [0, 0, 0, 2]),
+    ([2, 2, 1, 1], 0, 2, 0, [2, 2, 1, 1]),
+    ([0, 1, 2, 2], 0, 3, 0, [0, 0, 0, 0]),
+    ([1, 0, 2, 2], 0, 1, 0, [1, 0, 2, 2]),
+];
+
 #[test]
 fn a_merge_of_one_list_takes_in_the_runs_at_its_ends(rt: HostRuntime) {
-    let rows = [
-        ([3, 3, 2, 1], 1, 3, 0, [2, 2, 2, 1]),
-        ([3, 3, 2, 1], 1, 3, 1, [3, 2, 2, 1]),
-        ([0, 1, 1, 2], 0, 2, 0, [0, 0, 0, 2]),
-        ([2, 2, 1, 1], 0, 2, 0, [2, 2, 1, 1]),
-        ([0, 1, 2, 2], 0, 3, 0, [0, 0, 0, 0]),
-        ([1, 0, 2, 2], 0, 1, 0, [1, 0, 2, 2]),
-    ];
-    for (before, start, end, floor, after) in rows {
+    for &(before, start, end, floor, after) in &MERGES_OF_ONE {
         let mut info = glyphs(before);
         assert!(rt; start <= end && end <= 4);
         merge_slice(&mut info, start, end, floor);

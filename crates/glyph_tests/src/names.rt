@@ -39,7 +39,7 @@ fn measures_of<F: GlyphNames>(font: &F, glyph: GlyphId) -> (usize, i32) {
 
 #[test]
 fn a_font_answers_through_its_bound(rt: HostRuntime) {
-    assert_eq!(rt; measures_of(&OneGlyph, GlyphId(5)), (4, 3));
-    assert_eq!(rt; measures_of(&OneGlyph, GlyphId(6)), (0, 0));
-    assert_eq!(rt; measures_of(&NoGlyphNames, GlyphId(5)), (0, 0));
+    assert!(rt; measures_of(&OneGlyph, GlyphId(5)) == (4, 3));
+    assert!(rt; measures_of(&OneGlyph, GlyphId(6)) == (0, 0));
+    assert!(rt; measures_of(&NoGlyphNames, GlyphId(5)) == (0, 0));
 }

@@ -8,14 +8,14 @@ fn hangul_goes_before_the_table(rt: HostRuntime) -> Result<(), Fail> {
         (('\u{1100}', '\u{1161}'), 'x'),
     ];
     let compositions = Compositions::new(&rows).ok_or("two rows")?;
-    assert_eq!(rt; compose(&compositions, 'a', '\u{301}'), Some('\u{e1}'));
+    assert!(rt; compose(&compositions, 'a', '\u{301}') == Some('\u{e1}'));
     let syllable = compose(&compositions, '\u{1100}', '\u{1161}');
-    assert_eq!(rt; syllable, Some('\u{ac00}'));
+    assert!(rt; syllable == Some('\u{ac00}'));
     let rows = [('\u{212b}', '\u{c5}', None), ('\u{ac00}', 'x', Some('y'))];
     let decompositions = Decompositions::new(&rows).ok_or("two rows")?;
     let angstrom = decompose(&decompositions, '\u{212b}');
-    assert_eq!(rt; angstrom, Some(('\u{c5}', '\0')));
+    assert!(rt; angstrom == Some(('\u{c5}', '\0')));
     let parts = decompose(&decompositions, '\u{ac00}');
-    assert_eq!(rt; parts, Some(('\u{1100}', '\u{1161}')));
+    assert!(rt; parts == Some(('\u{1100}', '\u{1161}')));
     Ok(())
 }

@@ -9,12 +9,12 @@ fn a_table_has_rising_rows(rt: HostRuntime) {
         Compositions::new(&[(('a', grave), 'à'), (('a', acute), 'á')]).is_some(),
         Decompositions::new(&[('Å', 'A', Some('\u{30a}')), ('\u{212b}', 'Å', None)]).is_some(),
     ];
-    assert_eq!(rt; made, [true, true, true, true]);
+    assert!(rt; made == [true, true, true, true]);
     let refused = [
         CombiningClasses::new(&[(acute, 230), (grave, 230)]).is_none(),
         Mirrors::new(&[('(', ')'), ('(', ')')]).is_none(),
         Compositions::new(&[(('a', acute), 'á'), (('a', grave), 'à')]).is_none(),
         Decompositions::new(&[('\u{212b}', 'Å', None), ('Å', 'A', Some('\u{30a}'))]).is_none(),
     ];
-    assert_eq!(rt; refused, [true, true, true, true]);
+    assert!(rt; refused == [true, true, true, true]);
 }

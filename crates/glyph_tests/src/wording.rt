@@ -39,6 +39,6 @@ fn values_are_printed_by_their_fields(rt: HostRuntime) -> Result<(), Fail> {
         Compositions::new(&[(('a', 'b'), 'c')]),
         Decompositions::new(&[('c', 'a', None)])
     )?;
-    assert_eq!(rt; printed.as_str(), WORDING);
+    assert!(rt; printed.as_str() == WORDING);
     Ok(())
 }

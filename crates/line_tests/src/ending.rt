@@ -55,8 +55,8 @@ fn the_status_is_that_of_the_run_which_says_nothing(rt: HostRuntime) -> Result<(
         let mut written = Vec::new(rt.alloc());
         let error = Listener::new(rt.alloc(), false);
         let end = run_to_end(rt.alloc(), &mut reader, &mut written, &error);
-        assert_eq!(rt; end, ExitCode::from(status));
-        assert_eq!(rt; written.as_slice(), answers);
+        assert!(rt; end == ExitCode::from(status));
+        assert!(rt; written.as_slice() == answers);
         assert!(rt; error.heard.into_inner().is_empty());
     }
     Ok(())
@@ -71,14 +71,14 @@ fn a_fault_is_told_and_ends_with_3(rt: HostRuntime) -> Result<(), Fail> {
     ];
     for (fault, line) in rows {
         let error = Listener::new(rt.alloc(), false);
-        assert_eq!(rt; conclude(&error, Err(fault)), ExitCode::from(3));
-        assert_eq!(rt; error.heard.into_inner().as_str(), line);
+        assert!(rt; conclude(&error, Err(fault)) == ExitCode::from(3));
+        assert!(rt; error.heard.into_inner().as_str() == line);
     }
     // Also where standard error fails.
     let error = Listener::new(rt.alloc(), true);
     let mut lines: &[u8] = b"push a\n";
     let mut no_room: &mut [u8] = &mut [];
     let end = run_to_end(rt.alloc(), &mut lines, &mut no_room, &error);
-    assert_eq!(rt; end, ExitCode::from(3));
+    assert!(rt; end == ExitCode::from(3));
     Ok(())
 }

@@ -111,14 +111,14 @@ fn each_read_may_be_short_or_interrupted_or_fail(rt: HostRuntime) {
         let mut reader = SlowReader::new(LINES);
         reader.interrupted = read..read + 1;
         let outcome = run(rt.alloc(), reader, &mut written);
-        assert_eq!(rt; outcome, Ok(0), "at {read}");
-        assert_eq!(rt; written.as_slice(), ANSWERS, "at {read}");
+        assert!(rt; outcome == Ok(0), "at {read}");
+        assert!(rt; written.as_slice() == ANSWERS, "at {read}");
         written.clear();
         let mut reader = SlowReader::new(LINES);
         reader.fails_at = read;
         let outcome = run(rt.alloc(), reader, &mut written);
-        assert_eq!(rt; outcome, Err(RunFault::Read), "at {read}");
-        assert_eq!(rt; written.len(), 0, "at {read}");
+        assert!(rt; outcome == Err(RunFault::Read), "at {read}");
+        assert!(rt; written.len() == 0, "at {read}");
     }
 }
 
@@ -130,16 +130,16 @@ fn no_more_than_65536_reads_are_made(rt: HostRuntime) -> Result<(), Fail> {
         reader.is_endless = true;
         reader.interrupted = 0..interrupted_to;
         let outcome = run(rt.alloc(), &mut reader, &mut written);
-        assert_eq!(rt; outcome, Err(RunFault::Read));
-        assert_eq!(rt; written.len(), 0);
-        assert_eq!(rt; (reader.reads, reader.largest), (65536, 65536));
+        assert!(rt; outcome == Err(RunFault::Read));
+        assert!(rt; written.len() == 0);
+        assert!(rt; (reader.reads, reader.largest) == (65536, 65536));
     }
     let mut lines = vec![in rt.alloc(); b'a'; 65535]?;
     lines.as_mut_slice()[..5].copy_from_slice(b"push ");
     let mut written = Vec::new(rt.alloc());
     let outcome = run(rt.alloc(), SlowReader::new(lines.as_slice()), &mut written);
-    assert_eq!(rt; outcome, Ok(0));
-    assert_eq!(rt; written.as_slice(), b"true\n".as_slice());
+    assert!(rt; outcome == Ok(0));
+    assert!(rt; written.as_slice() == b"true\n".as_slice());
     Ok(())
 }
 
@@ -148,14 +148,14 @@ fn each_write_and_the_flush_may_fail(rt: HostRuntime) {
     for fails_at in 0..ANSWERS.len() {
         let mut writer = SlowWriter::new(rt.alloc(), fails_at);
         let outcome = run(rt.alloc(), LINES, &mut writer);
-        assert_eq!(rt; outcome, Err(RunFault::Write), "at {fails_at}");
+        assert!(rt; outcome == Err(RunFault::Write), "at {fails_at}");
     }
     let mut writer = SlowWriter::new(rt.alloc(), usize::MAX);
-    assert_eq!(rt; run(rt.alloc(), LINES, &mut writer), Ok(0));
-    assert_eq!(rt; writer.written.as_slice(), ANSWERS);
+    assert!(rt; run(rt.alloc(), LINES, &mut writer) == Ok(0));
+    assert!(rt; writer.written.as_slice() == ANSWERS);
     writer.flush_fails = true;
     let outcome = run(rt.alloc(), LINES, &mut writer);
-    assert_eq!(rt; outcome, Err(RunFault::Write));
+    assert!(rt; outcome == Err(RunFault::Write));
 }
 
 #[test]
@@ -172,9 +172,9 @@ fn what_is_held_is_flushed_before_any_outcome_but_a_failed_write(
         let mut writer = SlowWriter::new(rt.alloc(), usize::MAX);
         let mut held = Vec::new(rt.alloc());
         held.extend_from_slice(b"true\n")?;
-        assert_eq!(rt; finish(&mut writer, &mut held, outcome), outcome);
-        assert_eq!(rt; writer.flushes, flushes, "at {outcome:?}");
-        assert_eq!(rt; writer.written.len(), 5 * flushes, "at {outcome:?}");
+        assert!(rt; finish(&mut writer, &mut held, outcome) == outcome);
+        assert!(rt; writer.flushes == flushes, "at {outcome:?}");
+        assert!(rt; writer.written.len() == 5 * flushes, "at {outcome:?}");
     }
     Ok(())
 }
@@ -197,7 +197,7 @@ fn many_answers_and_a_long_one_are_written_in_order(rt: HostRuntime) -> Result<(
     answers.extend_from_slice(b"\n\n")?;
     let mut written = Vec::new(rt.alloc());
     let outcome = run(rt.alloc(), lines.as_slice(), &mut written);
-    assert_eq!(rt; outcome, Ok(0));
+    assert!(rt; outcome == Ok(0));
     assert!(rt; written.as_slice() == answers.as_slice());
     Ok(())
 }

@@ -6,8 +6,8 @@ use Rattle.std.specs.Char.{is_ascii_digit, is_ascii_hexdigit}
 use Rattle.std.specs.List.{before_first, after_first, position_or_len, list_all}
 use Rattle.std.specs.Str.{bytes_eq}
 use Rattle.std.specs.Str.Parse.{digits_value}
-use Rattle.rb_text.specs.Script.{script_of}
-use Rattle.rb_text.specs.Tag.{lossy_tag_of}
+use Rattle.rb_common.specs.Script.{script_of}
+use Rattle.rb_common.specs.Tag.{lossy_tag_of}
 
 -- what parts two words
 abbrev pub is_space : ℕ → Bool

@@ -7,7 +7,7 @@ ghost use Rattle.line_words.specs.Words.{is_space, first_word, past_space, past_
 ghost use Rattle.line_words.specs.Words.{next_u32, next_place, IsHexadecimal, hexadecimal_value, next_character};
 ghost use Rattle.line_words.specs.Words.{next_script, next_language};
 
-use rb_text::Script;
+use rb_common::Script;
 use std::marker::Model;
 
 /// A line that is taken word by word from its front. Words are not empty, and one space parts them.

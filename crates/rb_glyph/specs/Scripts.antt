@@ -3,7 +3,7 @@ use Rattle.std.specs.Prelude.{ℕ, codes}
 use Rattle.unicode.specs.Script.{script}
 use Rattle.unicode.specs.declared.properties.Script.{Script}
 use Rattle.unicode.specs.declared.properties.Script.TheVariants as unicode
-use Rattle.rb_text.specs.Tag.{tag_of}
+use Rattle.rb_common.specs.Tag.{tag_of}
 
 -- the ISO 15924 tag of the script with that name; Canadian_Aboriginal is CANADIAN_SYLLABICS, and a name without
 -- a constant is UNKNOWN

@@ -12,7 +12,7 @@ use crate::hb_unicode_funcs_t::*;
 use crate::modified_combining_class::*;
 use crate::tables::{CombiningClasses, Mirrors};
 use crate::{categories, lookup, ranges, scripts};
-use rb_text::Script;
+use rb_common::Script;
 use unicode::properties::{GeneralCategory, Script as UnicodeScript};
 
 /// The properties of characters that shaping goes by.
@@ -20,7 +20,7 @@ pub trait CharExt: Sized {
     // The code point.
     ghost code_point: { Self → ℕ };
 
-    /// The script (Unicode Standard Annex 24), as the constant of `rb_text::script` with its name.
+    /// The script (Unicode Standard Annex 24), as the constant of `rb_common::script` with its name.
     ///
     /// A script without a constant, and a character without a script, give `UNKNOWN`.
     fn script(self) -> Script

@@ -8,7 +8,7 @@ use crate::fields::{read_field, write_field};
 use crate::flag_sets::UnicodeProps;
 use crate::glyph_flag;
 use bitflags::Flags;
-use rb_text::GlyphId;
+use rb_common::GlyphId;
 
 /// One item of a buffer: a character before shaping, and a glyph after it.
 #[derive(Clone, Copy, Debug, Default)]

@@ -1,6 +1,6 @@
 //! What a font says of its glyphs.
 
-use rb_text::GlyphId;
+use rb_common::GlyphId;
 
 /// The box around a glyph's outline, in font units.
 #[derive(Clone, Copy, Debug, Default)]

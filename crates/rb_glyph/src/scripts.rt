@@ -2,7 +2,7 @@
 ghost use Rattle.std.specs.Prelude.{◌≡◌};
 ghost use Rattle.rb_glyph.specs.Scripts.{script_named};
 
-use rb_text::{Script, script};
+use rb_common::{Script, script};
 use unicode::properties::Script as UnicodeScript;
 
 /// The constant with the script's name; a script without one is unknown.

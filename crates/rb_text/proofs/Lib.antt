@@ -5,4 +5,3 @@ pub mod Parts
 pub mod Readings
 mod Rows
 pub mod TableRows
-pub mod TitleCase

@@ -3,7 +3,7 @@ use Rattle.std.proofs.Common.{◌≡◌, ℕ, Option, None, Some, List, [], ◌�
 use Rattle.std.specs.Prelude.{ℤ, option_to_list}
 use Rattle.std.proofs.lemmas.List.{append_assoc, append-nil}
 use Rattle.rb_text.specs.Feature.{Optional, Number, TagPart, Range, Word, Setting, ReadsAs}
-use Rattle.rb_text.specs.Ascii.{open_bracket, close_bracket}
+use Rattle.rb_common.specs.Ascii.{open_bracket, close_bracket}
 use Rattle.rb_text.specs.FeatureParts.{number_text, tag_text, range_text, word_text, setting_text, parts_text}
 use Rattle.rb_text.specs.declared.feature.Feature.{Feature}
 

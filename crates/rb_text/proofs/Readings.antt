@@ -8,8 +8,8 @@ use Rattle.std.proofs.lemmas.Bool.Decides.{nat_tests}
 use Rattle.std.proofs.lemmas.Option.{cond_some, option_and_then_some}
 use Rattle.rb_text.proofs.Cuts.{take_while-whole, skip_while-whole, whole, first_if-optional, after_if-optional}
 use Rattle.rb_text.proofs.Cuts.{optional, number_in-number, after_number-number, number}
-use Rattle.rb_text.specs.Ascii.{open_bracket, close_bracket, equals_sign}
-use Rattle.rb_text.specs.Tag.{lossy_tag_of}
+use Rattle.rb_common.specs.Ascii.{open_bracket, close_bracket, equals_sign}
+use Rattle.rb_common.specs.Tag.{lossy_tag_of}
 use Rattle.rb_text.specs.TextParser.{first_if, after_if, skip_while, is_sign, is_quote, is_word, short_tag, number_in}
 use Rattle.rb_text.specs.TextParser.{after_number, toggle_of}
 use Rattle.rb_text.specs.Feature.{Stops, Whole, Number, TagPart, NoRange, OneNumber, TwoNumbers, Range, is_byte}

@@ -1,7 +1,7 @@
 -- Worked examples of the definitions of tags.
 use Rattle.std.proofs.Common.{◌≡◌, ℕ, List, [], ◌∷◌, Option, Some, None, true, false, refl}
 use Rattle.std.specs.Prelude.{codes}
-use Rattle.rb_text.specs.Tag.{tag_of}
+use Rattle.rb_common.specs.Tag.{tag_of}
 use Rattle.rb_text.specs.LanguageCut.{prefix_of, private_use_of, key_of}
 use Rattle.rb_text.specs.LanguageTable.{is_table, tags_of_key}
 use Rattle.rb_text.specs.Tags.{scripts_of, languages_of}

@@ -13,7 +13,7 @@ use Rattle.std.specs.declared.cmp.Ordering.{Ordering}
 use Rattle.std.specs.declared.cmp.Ordering.TheVariants.{Less, Equal, Greater}
 use Rattle.std.proofs.lemmas.Cmp.{nat_list_cmp_total}
 use Rattle.std.proofs.lemmas.Map.Text.{is_eq-slice_cmp}
-use Rattle.rb_text.specs.declared.tag.Tag.{Tag}
+use Rattle.rb_common.specs.declared.tag.Tag.{Tag}
 use Rattle.rb_text.specs.declared.tags.TheConstants.{MAX_TAGS}
 use Rattle.rb_text.specs.LanguageTable.{tags_of_key, tags_before_null, front_tags, rows_of, is_below}
 use Rattle.rb_text.specs.LanguageTable.{is_followed_by, is_table, rows_with}

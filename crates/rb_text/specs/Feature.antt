@@ -7,9 +7,9 @@ use Rattle.std.specs.Char.{is_ascii_alphabetic, is_ascii_digit, is_ascii_whitesp
 use Rattle.std.specs.Int.{cast_unsigned, w32}
 use Rattle.std.specs.declared.ops.Bound.{Bound}
 use Rattle.std.specs.declared.ops.Bound.TheVariants.{Included, Excluded, Unbounded}
-use Rattle.rb_text.specs.Ascii.{hyphen, open_bracket, close_bracket, equals_sign, colon, semicolon}
-use Rattle.rb_text.specs.Tag.{lossy_tag_of}
-use Rattle.rb_text.specs.declared.tag.TheConstants.{TAG_LEN}
+use Rattle.rb_common.specs.Ascii.{hyphen, open_bracket, close_bracket, equals_sign, colon, semicolon}
+use Rattle.rb_common.specs.Tag.{lossy_tag_of}
+use Rattle.rb_common.specs.declared.tag.TheConstants.{TAG_LEN}
 use Rattle.rb_text.specs.declared.feature.TheConstants.{HB_FEATURE_GLOBAL_START, HB_FEATURE_GLOBAL_END}
 use Rattle.rb_text.specs.TextParser.{is_sign, is_quote, is_word, is_minus, signed_number, toggle_of}
 use Rattle.rb_text.specs.declared.feature.Feature.{Feature}

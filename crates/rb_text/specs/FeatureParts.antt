@@ -2,7 +2,7 @@
 use Rattle.std.specs.Prelude.{ℕ, ◌++◌, List, [], ◌∷◌, Option, Some, None, ℤ, option_to_list}
 use Rattle.std.proofs.Common.{inl, inr}
 use Rattle.rb_text.specs.Feature.{Number, TagPart, Range, Word, Setting, ReadsAs}
-use Rattle.rb_text.specs.Ascii.{open_bracket, close_bracket}
+use Rattle.rb_common.specs.Ascii.{open_bracket, close_bracket}
 use Rattle.rb_text.specs.declared.feature.Feature.{Feature}
 
 abbrev pub number_text : (text : List ℕ) (value : Option ℤ) (rest : List ℕ) → Number text value rest → List ℕ

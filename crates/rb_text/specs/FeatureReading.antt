@@ -6,7 +6,7 @@ use Rattle.std.specs.Char.{is_ascii_alphabetic, is_ascii_whitespace}
 use Rattle.std.specs.Int.{cast_unsigned, w32}
 use Rattle.rb_text.specs.TextParser.{is_sign, is_quote, is_word, first_if, after_if, skip_while, short_tag, number_in}
 use Rattle.rb_text.specs.TextParser.{after_number, toggle_of}
-use Rattle.rb_text.specs.Ascii.{open_bracket, close_bracket, equals_sign}
+use Rattle.rb_common.specs.Ascii.{open_bracket, close_bracket, equals_sign}
 use Rattle.rb_text.specs.declared.feature.TheConstants.{HB_FEATURE_GLOBAL_START, HB_FEATURE_GLOBAL_END}
 use Rattle.rb_text.specs.Feature.{prefix_of, is_byte, is_separator, word_or, end_after}
 use Rattle.rb_text.specs.declared.feature.Feature.{Feature}

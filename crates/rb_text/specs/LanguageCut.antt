@@ -4,7 +4,7 @@ use Rattle.std.specs.Prelude.{ℕ, ◌==◌, ◌&&◌, List, [], ◌∷◌, Opti
 use Rattle.std.specs.Prelude.{nat_eq, length, drop, option_map, codes}
 use Rattle.std.specs.List.{starts_with, before_first, after_first}
 use Rattle.std.specs.Char.{is_ascii_alphabetic}
-use Rattle.rb_text.specs.Ascii.{hyphen}
+use Rattle.rb_common.specs.Ascii.{hyphen}
 use Rattle.rb_text.specs.declared.language_cut.TheConstants.{EXTENDED_PREFIX_MIN}
 
 abbrev pub is_hyphen : ℕ → Bool

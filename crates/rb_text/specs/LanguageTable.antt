@@ -7,7 +7,7 @@ use Rattle.std.specs.Cmp.Lexicographic.{slice_cmp}
 use Rattle.std.specs.Char.{is_ascii_lowercase, is_ascii_digit}
 use Rattle.std.specs.Borrow.{Bor}
 use Rattle.std.specs.Str.{bytes_eq}
-use Rattle.rb_text.specs.declared.tag.Tag.{Tag}
+use Rattle.rb_common.specs.declared.tag.Tag.{Tag}
 use Rattle.rb_text.specs.declared.tags.TheConstants.{MAX_TAGS}
 
 -- the rows by the bytes of their keys and the numbers of their tags

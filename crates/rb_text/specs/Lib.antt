@@ -1,13 +1,7 @@
-pub mod Answer
-pub mod Ascii
-pub mod Direction
 pub mod Feature
 pub mod FeatureParts
 pub mod FeatureReading
 pub mod LanguageCut
 pub mod LanguageTable
-pub mod Script
-pub mod ScriptConstants
-pub mod Tag
 pub mod Tags
 pub mod TextParser

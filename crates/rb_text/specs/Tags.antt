@@ -5,11 +5,11 @@ use Rattle.std.specs.Option.{option_and_then}
 use Rattle.std.specs.List.{take_while}
 use Rattle.std.specs.Char.{is_ascii_alphanumeric, to_ascii_lowercase}
 use Rattle.std.specs.Int.{to_be_bytes, w32}
-use Rattle.rb_text.specs.Tag.{tag_of, lossy_tag_of, uppercase_tag}
+use Rattle.rb_common.specs.Tag.{tag_of, lossy_tag_of, uppercase_tag}
 use Rattle.rb_text.specs.LanguageCut.{prefix_of, private_use_of, from_first, key_of}
 use Rattle.rb_text.specs.LanguageTable.{tags_of_key}
 use Rattle.rb_text.specs.declared.tags.TheConstants.{SMALL_FIRST_LETTER}
-use Rattle.rb_text.specs.declared.tag.TheConstants.{TAG_LEN}
+use Rattle.rb_common.specs.declared.tag.TheConstants.{TAG_LEN}
 
 -- the tag of the second shaping specification of a script, which some scripts of India and that of Myanmar have
 abbrev pub new_tag : ℕ → Option ℕ

@@ -4,9 +4,9 @@ use Rattle.std.specs.Prelude.{false, if◌then◌else◌, nat_lt, nat_le, drop, 
 use Rattle.std.specs.List.{prefix_len, take_while}
 use Rattle.std.specs.Char.{is_ascii_alphanumeric, is_ascii_digit, to_ascii_lowercase}
 use Rattle.std.specs.Str.Parse.{digits_value}
-use Rattle.rb_text.specs.Ascii.{plus_sign, hyphen, single_quote, double_quote, low_line, small_o, small_n, small_f}
-use Rattle.rb_text.specs.Tag.{lossy_tag_of}
-use Rattle.rb_text.specs.declared.tag.TheConstants.{TAG_LEN}
+use Rattle.rb_common.specs.Ascii.{plus_sign, hyphen, single_quote, double_quote, low_line, small_o, small_n, small_f}
+use Rattle.rb_common.specs.Tag.{lossy_tag_of}
+use Rattle.rb_common.specs.declared.tag.TheConstants.{TAG_LEN}
 
 -- `+` or `-`
 abbrev pub is_sign : ℕ → Bool

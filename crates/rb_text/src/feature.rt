@@ -6,8 +6,8 @@ ghost use Rattle.rb_text.specs.FeatureParts.{parts_text};
 ghost use Rattle.rb_text.specs.FeatureReading.{tag_in, range_in, setting_in, feature_in};
 ghost use Rattle.rb_text.specs.TextParser.{is_sign, first_if, after_if};
 
-use crate::tag::Tag;
 use crate::text_parser::TextParser;
+use rb_common::tag::Tag;
 use std::ops::Bound;
 use std::str::FromStr;
 

@@ -7,8 +7,8 @@ ghost use Rattle.std.specs.Char.{is_ascii_digit, is_ascii_lowercase};
 ghost use Rattle.rb_text.specs.LanguageTable.{front_tags, is_below, is_followed_by, is_key, is_table, rows_of};
 ghost use Rattle.rb_text.specs.LanguageTable.{rows_with, tags_of_key};
 
-use crate::tag::Tag;
 use crate::tags::{MAX_TAGS, ThreeTags};
+use rb_common::tag::Tag;
 use std::marker::Model;
 
 /// The OpenType tags of languages: rows of a key and a tag, borrowed as they stand.

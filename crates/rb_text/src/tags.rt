@@ -12,9 +12,9 @@ ghost use Rattle.rb_text.specs.Tags.{tags_of_prefix, third_tag};
 use crate::language::Language;
 use crate::language_cut::{from_first, key, prefix, private_use};
 use crate::language_table::LanguageTable;
-use crate::script::{self, Script};
-use crate::tag::{TAG_LEN, Tag, TagExt};
 use arrayvec::ArrayVec;
+use rb_common::script::{self, Script};
+use rb_common::tag::{TAG_LEN, Tag, TagExt};
 
 /// The most tags that a script or a language has here.
 pub const MAX_TAGS: usize = 3;

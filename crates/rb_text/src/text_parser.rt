@@ -7,7 +7,7 @@ ghost use Rattle.std.specs.List.{take_while, AllPass};
 ghost use Rattle.rb_text.specs.TextParser.{first_if, after_if, skip_while, is_quote, is_word, short_tag};
 ghost use Rattle.rb_text.specs.TextParser.{signed_number, number_in, after_number, toggle_of, Computes};
 
-use crate::tag::{TAG_LEN, Tag};
+use rb_common::tag::{TAG_LEN, Tag};
 use std::marker::Model;
 
 /// Reads a text from its front, byte by byte or a run of bytes at a time.

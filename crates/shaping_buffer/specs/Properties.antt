@@ -1,7 +1,7 @@
 -- What is said of a text, and what is guessed.
 use Rattle.std.specs.Prelude.{ℕ, List, Option, None, Some}
-use Rattle.rb_text.specs.declared.direction.Direction.{Direction}
-use Rattle.rb_text.specs.declared.direction.Direction.TheVariants.{Invalid}
+use Rattle.rb_common.specs.declared.direction.Direction.{Direction}
+use Rattle.rb_common.specs.declared.direction.Direction.TheVariants.{Invalid}
 use Rattle.glyph_lists.specs.Context.{before_text, after_text}
 use Rattle.glyph_lists.specs.Guess.{guessed_script, guessed_direction}
 use Rattle.glyph_lists.specs.ClusterNumbers.{reset_clusters}

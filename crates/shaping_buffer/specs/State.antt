@@ -1,9 +1,9 @@
 -- The two lists: what a buffer holds, as its callers see it.
 use Rattle.std.specs.Prelude.{◌≡◌, ℕ, ◌+◌, ◌-◌, Bool, true, false, List, [], length, Option, None, IsSome}
 use Rattle.std.specs.Prelude.{if◌then◌else◌, ℤ}
-use Rattle.rb_text.specs.declared.glyph_id.GlyphId.{GlyphId}
-use Rattle.rb_text.specs.declared.direction.Direction.{Direction}
-use Rattle.rb_text.specs.declared.direction.Direction.TheVariants.{Invalid}
+use Rattle.rb_common.specs.declared.glyph_id.GlyphId.{GlyphId}
+use Rattle.rb_common.specs.declared.direction.Direction.{Direction}
+use Rattle.rb_common.specs.declared.direction.Direction.TheVariants.{Invalid}
 use Rattle.rb_glyph.specs.declared.flag_sets.BufferFlags.{BufferFlags}
 use Rattle.rb_glyph.specs.declared.info.hb_glyph_info_t.{hb_glyph_info_t}
 use Rattle.rb_glyph.specs.declared.position.GlyphPosition.{GlyphPosition}

@@ -1,7 +1,7 @@
 -- Worked rows: lines, what they ask for, and how they are answered.
 use Rattle.std.proofs.Common.{◌≡◌, [], ◌∷◌, Some, None, codes, refl}
 use Rattle.std.specs.Fmt.{digits}
-use Rattle.rb_text.specs.Tag.{tag_of}
+use Rattle.rb_common.specs.Tag.{tag_of}
 use Rattle.shaping_lines.specs.Commands.{request_in, request_named, command_in, treatment_in, question_in, query_in}
 use Rattle.shaping_lines.specs.Commands.{replace_glyphs, tags}
 use Rattle.shaping_lines.specs.Queries.{tags_text}

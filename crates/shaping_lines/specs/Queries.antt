@@ -5,7 +5,7 @@ use Rattle.std.specs.Char.{to_ascii_lowercase}
 use Rattle.std.specs.Fmt.{decimal, radix_digits}
 use Rattle.rb_text.specs.declared.feature.Feature.{Feature}
 use Rattle.rb_text.specs.Feature.{ReadsAs}
-use Rattle.rb_text.specs.Tag.{tag_of}
+use Rattle.rb_common.specs.Tag.{tag_of}
 use Rattle.rb_text.specs.Tags.{scripts_of, languages_of}
 use Rattle.rb_glyph.specs.Hangul.{HangulComposes}
 use Rattle.shaping_lines.specs.Replies.{IsOneLine}

@@ -37,13 +37,13 @@ static DIRECTIONS: [(&str, Direction, bool, bool, Direction); 5] = [
 fn each_direction_has_its_line_and_its_opposite(rt: HostRuntime) {
     for &(text, direction, is_horizontal, is_forward, reverse) in &DIRECTIONS {
         let lines = [direction.is_horizontal(), !direction.is_vertical()];
-        assert_eq!(rt; lines, [is_horizontal; 2]);
+        assert!(rt; lines == [is_horizontal; 2]);
         let ways = [direction.is_forward(), !direction.is_backward()];
-        assert_eq!(rt; ways, [is_forward; 2]);
+        assert!(rt; ways == [is_forward; 2]);
         let named = text.parse::<Direction>().unwrap_or_default();
-        assert_eq!(rt; (named, direction.reverse()), (direction, reverse));
+        assert!(rt; (named, direction.reverse()) == (direction, reverse));
     }
-    assert_eq!(rt; " ltr".parse::<Direction>(), Err("invalid direction"));
+    assert!(rt; " ltr".parse::<Direction>() == Err("invalid direction"));
 }
 
 #[test]
@@ -56,8 +56,5 @@ fn scripts_have_directions(rt: HostRuntime) {
     ]
     .map(Direction::from_script);
     let to_right = Some(Direction::LeftToRight);
-    assert_eq!(rt;
-        found,
-        [Some(Direction::RightToLeft), None, to_right, to_right]
-    );
+    assert!(rt; found == [Some(Direction::RightToLeft), None, to_right, to_right]);
 }

@@ -96,10 +96,10 @@ fn texts_are_read_by_the_grammar(rt: HostRuntime) {
             start,
             end,
         };
-        assert_eq!(rt; text.parse::<Feature>(), Ok(feature));
+        assert!(rt; text.parse::<Feature>() == Ok(feature));
     }
     for text in &REFUSED {
-        assert_eq!(rt; text.parse::<Feature>(), Err("invalid feature"));
+        assert!(rt; text.parse::<Feature>() == Err("invalid feature"));
     }
     feature_texts_read_one_way();
 }
@@ -127,8 +127,8 @@ static BOUNDS: [(Bound<usize>, Bound<usize>, u32, u32); 5] = [
 fn a_new_feature_has_its_bounds(rt: HostRuntime) {
     for &(from, to, start, end) in &BOUNDS {
         let feature = Feature::new(Tag(9), 7, from, to);
-        assert_eq!(rt; (feature.tag, feature.value), (Tag(9), 7));
-        assert_eq!(rt; (feature.start, feature.end), (start, end));
-        assert_eq!(rt; feature.is_global(), start == 0 && end == u32::MAX);
+        assert!(rt; (feature.tag, feature.value) == (Tag(9), 7));
+        assert!(rt; (feature.start, feature.end) == (start, end));
+        assert!(rt; feature.is_global() == (start == 0 && end == u32::MAX));
     }
 }

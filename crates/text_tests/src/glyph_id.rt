@@ -4,7 +4,7 @@ use rb_text::{GlyphId, hb_codepoint_t};
 fn a_glyph_id_is_its_number(rt: HostRuntime) {
     let notdef: GlyphId = GlyphId(0);
     let letter: hb_codepoint_t = 'a';
-    assert_eq!(rt; notdef.0, 0);
+    assert!(rt; notdef.0 == 0);
     assert!(rt; notdef != GlyphId(1));
-    assert_eq!(rt; letter, 'a');
+    assert!(rt; letter == 'a');
 }

@@ -181,9 +181,9 @@ impl ComplexLanguages for OneTwoThree {
 
 /// The tags are those of the text, four bytes each.
 fn are(rt: &impl Abort, tags: &ThreeTags, text: &str) {
-    assert_eq!(rt; tags.len() * 4, text.len());
+    assert!(rt; tags.len() * 4 == text.len());
     for (tag, bytes) in tags.iter().zip(text.as_bytes().chunks(4)) {
-        assert_eq!(rt; *tag, Tag::from_bytes_lossy(bytes));
+        assert!(rt; *tag == Tag::from_bytes_lossy(bytes));
     }
 }
 
@@ -224,9 +224,9 @@ fn complex_cases_come_before_the_table(rt: HostRuntime) -> Result<(), Fail> {
     let table = LanguageTable::new(&TABLE).ok_or("no table")?;
     let language = Language::from_str(rt.alloc(), "zz")?;
     let (_, none) = tags_from_script_and_language(None, Some(&language), &table, &NoTags);
-    assert_eq!(rt; none.left(), 3);
+    assert!(rt; none.left() == 3);
     let (_, three) = tags_from_script_and_language(None, Some(&language), &table, &OneTwoThree);
-    assert_eq!(rt; three.as_slice(), [Tag(1), Tag(2), Tag(3)].as_slice());
+    assert!(rt; three.as_slice() == [Tag(1), Tag(2), Tag(3)].as_slice());
     assert!(rt; SmallVecExt::is_full(&three));
     Ok(())
 }

@@ -3,22 +3,19 @@ use rb_text::{Tag, TextParser};
 #[test]
 fn bytes_are_read_from_the_left(rt: HostRuntime) {
     let mut p = TextParser::new("ab\t \"'aab12k_9,kerns");
-    assert_eq!(rt; p.curr_byte(), Some(b'a'));
+    assert!(rt; p.curr_byte() == Some(b'a'));
     p.advance(1);
-    assert_eq!(rt;
-        [p.consume_byte(b'a'), p.consume_byte(b'b')],
-        [None, Some(())]
-    );
+    assert!(rt; [p.consume_byte(b'a'), p.consume_byte(b'b')] == [None, Some(())]);
     p.skip_spaces();
     let quotes = [p.consume_quote(), p.consume_quote(), p.consume_quote()];
-    assert_eq!(rt; quotes, [Some(b'"'), Some(b'\''), None]);
-    assert_eq!(rt; p.consume_bytes(|b| b == b'a').len(), 2);
+    assert!(rt; quotes == [Some(b'"'), Some(b'\''), None]);
+    assert!(rt; p.consume_bytes(|b| b == b'a').len() == 2);
     p.skip_bytes(|b| b != b'k');
     let tags = [p.consume_tag(), p.consume_tag()];
-    assert_eq!(rt; tags, [Some(Tag(0x6b5f3920)), Some(Tag(0))]);
-    assert_eq!(rt; p.consume_byte(b','), Some(()));
+    assert!(rt; tags == [Some(Tag(0x6b5f3920)), Some(Tag(0))]);
+    assert!(rt; p.consume_byte(b',') == Some(()));
     assert!(rt; !p.at_end());
-    assert_eq!(rt; p.consume_tag(), None);
+    assert!(rt; p.consume_tag().is_none());
     assert!(rt; p.at_end());
 }
 
@@ -41,7 +38,7 @@ static NUMBERS: [(&str, Option<i32>, Option<u8>); 11] = [
 fn numbers(rt: HostRuntime) {
     for &(text, number, next) in &NUMBERS {
         let mut p = TextParser::new(text);
-        assert_eq!(rt; (p.consume_i32(), p.curr_byte()), (number, next));
+        assert!(rt; (p.consume_i32(), p.curr_byte()) == (number, next));
     }
 }
 
@@ -58,6 +55,6 @@ static TOGGLES: [(&str, Option<bool>, Option<u8>); 5] = [
 fn on_and_off(rt: HostRuntime) {
     for &(text, toggle, next) in &TOGGLES {
         let mut p = TextParser::new(text);
-        assert_eq!(rt; (p.consume_bool(), p.curr_byte()), (toggle, next));
+        assert!(rt; (p.consume_bool(), p.curr_byte()) == (toggle, next));
     }
 }

@@ -17,9 +17,9 @@ fn values_are_printed_by_their_fields(rt: HostRuntime) -> Result<(), Fail> {
         GlyphId(7),
         script::LATIN
     )?;
-    assert_eq!(rt;
-        printed.as_str(),
-        "Feature { tag: Tag(2), value: 1, start: 0, end: 5 } GlyphId(7) Script(Tag(1281455214)) \
+    assert!(rt;
+        printed.as_str()
+            == "Feature { tag: Tag(2), value: 1, start: 0, end: 5 } GlyphId(7) Script(Tag(1281455214)) \
          Language(\"en\") LanguageTable { rows: [] }"
     );
     let printed = format!(in rt.alloc();
@@ -27,6 +27,6 @@ fn values_are_printed_by_their_fields(rt: HostRuntime) -> Result<(), Fail> {
         Direction::RightToLeft,
         LanguageError::Memory
     )?;
-    assert_eq!(rt; printed.as_str(), "RightToLeft Memory");
+    assert!(rt; printed.as_str() == "RightToLeft Memory");
     Ok(())
 }

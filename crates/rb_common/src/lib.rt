@@ -1,0 +1,12 @@
+//! What text and glyphs are both told in: tags, scripts, directions, and the numbers of characters and glyphs.
+#![tactic(auto)]
+
+pub mod direction;
+pub mod glyph_id;
+pub mod script;
+pub mod tag;
+
+pub use direction::Direction;
+pub use glyph_id::{GlyphId, hb_codepoint_t};
+pub use script::Script;
+pub use tag::{Tag, TagExt};
