@@ -58,16 +58,15 @@ reverse_groups test merges s =
 -- the cursor is at the start
 abbrev pub delete_glyphs_inplace : (hb_glyph_info_t → Bool) → State → State
 delete_glyphs_inplace test s =
-    let level = any_order s in
     let start = sides_at 0 0 s.input in
     record s {
-      input = left_by_walk level test s.input;
+      input = left_by_walk (any_order s) test s.input;
       idx = 0;
-      positions = option_map (kept_beside level test start) s.positions;
-      scratch_flags = flagged_if (level && walk_merges level test (length s.input) start) s;
+      positions = option_map (kept_beside (any_order s) test start) s.positions;
+      scratch_flags = flagged_if (any_order s && walk_merges (any_order s) test (length s.input) start) s;
     }
 
--- one call of the walk by calls: `delete_glyph` where the test holds of the head as it then stands, and else
+-- one call of the walk by calls: `delete_glyph` where the test holds of the current glyph as it then is, and else
 -- `next_glyph`
 abbrev pub call_of_walk : (hb_glyph_info_t → Bool) → State → State
 call_of_walk test s = if test (head_of s) then delete_glyph s else (next_glyph s).state

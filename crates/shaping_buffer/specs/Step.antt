@@ -7,7 +7,7 @@ use Rattle.glyph_lists.specs.Clusters.{zero_glyph}
 use Rattle.glyph_lists.specs.Deletion.{merge_or_mark}
 use Rattle.glyph_lists.specs.Replacement.{copies}
 use Rattle.shaping_buffer.specs.State.{State, len}
-use Rattle.shaping_buffer.specs.ClusterStep.{both, merge_clusters, head_of}
+use Rattle.shaping_buffer.specs.ClusterStep.{both, any_order, merge_input, head_of}
 
 -- ---- the answer of a call
 
@@ -20,7 +20,7 @@ pub record Outcome : Type 0 where
 abbrev pub settled : State → State
 settled s = record s { have_separate_output = s.have_separate_output || nat_lt s.idx (length s.out) }
 
--- The length rule: a call that holds so many glyphs in the end is refused exactly where they are more than max_len.
+-- The length rule: a call that would fill a side with `held` glyphs is refused exactly when they are more than max_len.
 -- Then it only clears successful.
 abbrev pub limited : ℕ → State → State → Outcome
 limited held before after =
@@ -39,13 +39,13 @@ refused s = record { done = false; state = s }
 abbrev pub Grows : State → State → Type 0
 Grows before after = (length before.out < length after.out) ⊎ (length before.input < length after.input)
 
--- What came of a call: its outcome, or want of memory, which comes where the call may want some, hides no refusal and
--- changes nothing.
+-- What came of a call: its outcome, or running out of memory, which comes where the call may allocate, hides no
+-- refusal and changes nothing.
 abbrev pub MeetsOrWants : Type 0 → Outcome → State → Result Bool AllocError → State → Type 0
 MeetsOrWants may_want outcome old (Ok done) new = (done ≡ outcome.done) × (new ≡ outcome.state)
 MeetsOrWants may_want outcome old (Err e) new = may_want × (outcome.done ≡ true) × (new ≡ old)
 
--- a cursor call may want memory where an output is open, which is separate before the call or after it, and a side
+-- a cursor call may allocate where an output is open, which is separate before the call or after it, and a side
 -- becomes longer
 abbrev pub MayWant : State → State → Type 0
 MayWant before after =
@@ -56,11 +56,11 @@ MayWant before after =
 abbrev pub Meets : Outcome → State → Result Bool AllocError → State → Type 0
 Meets outcome old result new = MeetsOrWants (MayWant old outcome.state) outcome old result new
 
--- of a call that grows the list: it may want memory where the list becomes longer
+-- of a call that grows the list: it may allocate where the list becomes longer
 abbrev pub GrowthMeets : Outcome → State → Result Bool AllocError → State → Type 0
 GrowthMeets outcome old result new = MeetsOrWants (length old.input < length outcome.state.input) outcome old result new
 
--- of `ensure`: it may want memory where there is to be more room than the list takes
+-- of `ensure`: it may allocate where there is to be more room than the list takes
 abbrev pub RoomMeets : ℕ → Outcome → State → Result Bool AllocError → State → Type 0
 RoomMeets size outcome old result new = MeetsOrWants (len old < size) outcome old result new
 
@@ -95,19 +95,23 @@ next_glyphs n s = if s.have_output then put_out (take n s.input) s (skip_glyphs 
 abbrev pub next_glyph : State → Outcome
 next_glyph s = next_glyphs 1 s
 
--- `replace_glyph`: the head is put out under another id
+-- `replace_glyph`: the current glyph is put out under another id
 abbrev pub replace_glyph : ℕ → State → Outcome
 replace_glyph id s = put_out (map (with_id id) (take 1 s.input)) s (skip_glyph s)
 
--- `replace_glyphs`: the first n glyphs of the input are merged, or marked, and in their stead copies of the head as it
--- then stands are put out, one under each id; where they are too many, nothing is merged
-abbrev pub replace_glyphs : ℕ → List ℕ → State → Outcome
-replace_glyphs n ids s =
-    let m = merge_clusters s.idx (s.idx + n) s in
+-- the first n glyphs of the input are merged, or in any order of clusters marked, and in place of them copies of the
+-- current glyph as it then stands are put out, one under each id; where they are too many, nothing is merged
+abbrev pub replace_input : Bool → ℕ → List ℕ → State → Outcome
+replace_input any_order n ids s =
+    let m = merge_input any_order s.idx (s.idx + n) s in
     put_out (copies (head_of m) ids) s (skip_glyphs n m)
 
--- the first n glyphs of the input are merged, or marked, and copies of the head as it then stands put out in their
--- stead
+-- `replace_glyphs`
+abbrev pub replace_glyphs : ℕ → List ℕ → State → Outcome
+replace_glyphs n ids s = replace_input (any_order s) n ids s
+
+-- the first n glyphs of the input are merged, or marked, and copies of the current glyph as it then is
+-- put out in place of them
 abbrev pub replace_front : Bool → ℕ → List ℕ → State → State
 replace_front any_order n ids s =
     let l = merge_or_mark any_order (both s) (length s.out) (length s.out + n) 0 in
@@ -117,7 +121,7 @@ replace_front any_order n ids s =
       idx = s.idx + n;
     }
 
--- the glyph that a new one is a copy of: the head of the input, or the last that was put out where nothing is left
+-- the glyph that a new one is a copy of: the current glyph, or the last that was put out where nothing is left
 abbrev pub glyph_to_copy : State → List hb_glyph_info_t
 glyph_to_copy s = if length s.input == 0 then drop (length s.out - 1) s.out else take 1 s.input
 
@@ -129,7 +133,7 @@ output_glyph id s = put_out (map (with_id id) (glyph_to_copy s)) s s
 abbrev pub output_info : hb_glyph_info_t → State → Outcome
 output_info g s = put_out (g ∷ []) s s
 
--- `copy_glyph`: a copy of the head is put out
+-- `copy_glyph`: a copy of the current glyph is put out
 abbrev pub copy_glyph : State → Outcome
 copy_glyph s = put_out (take 1 s.input) s s
 

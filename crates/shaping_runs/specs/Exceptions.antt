@@ -2,16 +2,19 @@
 -- open and glyphs before it; glyphs of the caller's that are put out; and calls that put out more than they read.
 use Rattle.std.specs.Prelude.{⊤, ◌≡◌, ◌&&◌, Bool, true, false, not, List, [], ◌∷◌, nat_lt}
 use Rattle.shaping_buffer.specs.State.{State}
+use Rattle.shaping_buffer.specs.ClusterLevel.{groups_graphemes}
 use Rattle.shaping_buffer.specs.ClusterStep.{is_input_range}
 use Rattle.shaping_runs.specs.declared.call.Call.{Call}
 use Rattle.shaping_runs.specs.declared.call.Call.TheVariants.{ReplaceGlyphs, OutputGlyph, OutputInfo, CopyGlyph}
-use Rattle.shaping_runs.specs.declared.call.Call.TheVariants.{MergeClusters}
+use Rattle.shaping_runs.specs.declared.call.Call.TheVariants.{MergeClusters, MergeGraphemeClusters}
 use Rattle.shaping_runs.specs.Replay.{turn}
 
 -- the call is such a merge, within its condition
 abbrev pub is_merge_stopped_at_cursor : Call → State → Bool
 is_merge_stopped_at_cursor (MergeClusters start end) s =
     is_input_range start end s && (not s.have_output && nat_lt 0 s.idx)
+is_merge_stopped_at_cursor (MergeGraphemeClusters start end) s =
+    groups_graphemes s.cluster_level && (is_input_range start end s && (not s.have_output && nat_lt 0 s.idx))
 is_merge_stopped_at_cursor call s = false
 
 -- the call puts a glyph of the caller's out, within its condition

@@ -6,12 +6,13 @@ use Rattle.rb_glyph.specs.declared.info.hb_glyph_info_t.{hb_glyph_info_t}
 use Rattle.glyph_lists.specs.Parts.{part}
 use Rattle.glyph_lists.specs.Clusters.{IsMonotone}
 use Rattle.shaping_buffer.specs.State.{State}
+use Rattle.shaping_buffer.specs.ClusterLevel.{groups_graphemes}
 use Rattle.shaping_buffer.specs.ClusterStep.{both, both_place, any_order, range_start, range_end}
 use Rattle.shaping_runs.specs.declared.call.Call.{Call}
 use Rattle.shaping_runs.specs.declared.call.Call.TheVariants.{NextGlyph, NextGlyphs, ReplaceGlyph, ReplaceGlyphs}
 use Rattle.shaping_runs.specs.declared.call.Call.TheVariants.{OutputGlyph, OutputInfo, CopyGlyph, MoveTo, Sync}
 use Rattle.shaping_runs.specs.declared.call.Call.TheVariants.{MergeClusters, MergeOutClusters, UnsafeToBreak}
-use Rattle.shaping_runs.specs.declared.call.Call.TheVariants.{UnsafeToBreakFromOutbuffer}
+use Rattle.shaping_runs.specs.declared.call.Call.TheVariants.{UnsafeToBreakFromOutbuffer, MergeGraphemeClusters}
 
 -- ---- length
 
@@ -54,22 +55,25 @@ pub record HasMonotoneClusters (s : State) : Type 0 where
 abbrev pub ReachesBothSides : State → Type 0
 ReachesBothSides s = (s.have_output ≡ true) ⊎ (s.idx ≡ 0)
 
--- the calls that merge clusters
-abbrev pub is_merge : Call → Bool
-is_merge (MergeClusters start end) = true
-is_merge (MergeOutClusters start end) = true
-is_merge call = false
+-- the calls that merge clusters: `merge_grapheme_clusters` where the level groups graphemes
+abbrev pub is_merge : Call → State → Bool
+is_merge (MergeClusters start end) s = true
+is_merge (MergeOutClusters start end) s = true
+is_merge (MergeGraphemeClusters start end) s = groups_graphemes s.cluster_level
+is_merge call s = false
 
--- the calls that mark as unsafe to break
-abbrev pub is_break : Call → Bool
-is_break (UnsafeToBreak start end) = true
-is_break (UnsafeToBreakFromOutbuffer start end) = true
-is_break call = false
+-- the calls that mark as unsafe to break: `merge_grapheme_clusters` at the other levels
+abbrev pub is_break : Call → State → Bool
+is_break (UnsafeToBreak start end) s = true
+is_break (UnsafeToBreakFromOutbuffer start end) s = true
+is_break (MergeGraphemeClusters start end) s = not (groups_graphemes s.cluster_level)
+is_break call s = false
 
 -- where the range of such a call begins, by places in both sides
 abbrev pub from_place : Call → State → ℕ
 from_place (MergeClusters start end) s = both_place s start
 from_place (MergeOutClusters start end) s = start
+from_place (MergeGraphemeClusters start end) s = both_place s start
 from_place (UnsafeToBreak start end) s = both_place s (range_start start)
 from_place (UnsafeToBreakFromOutbuffer start end) s = range_start start
 from_place call s = 0
@@ -78,6 +82,7 @@ from_place call s = 0
 abbrev pub to_place : Call → State → ℕ
 to_place (MergeClusters start end) s = both_place s end
 to_place (MergeOutClusters start end) s = end
+to_place (MergeGraphemeClusters start end) s = both_place s end
 to_place (UnsafeToBreak start end) s = both_place s (range_end end s)
 to_place (UnsafeToBreakFromOutbuffer start end) s = both_place s (range_end end s)
 to_place call s = 0

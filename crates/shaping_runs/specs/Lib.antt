@@ -3,3 +3,4 @@ pub mod Exceptions
 pub mod Render
 pub mod Separation
 pub mod Headline
+pub mod ThreeLevels

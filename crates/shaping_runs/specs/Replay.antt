@@ -9,6 +9,7 @@ use Rattle.shaping_runs.specs.declared.call.Call.TheVariants.{CopyGlyph, MoveTo,
 use Rattle.shaping_runs.specs.declared.call.Call.TheVariants.{MergeOutClusters, UnsafeToBreak}
 use Rattle.shaping_runs.specs.declared.call.Call.TheVariants.{UnsafeToBreakFromOutbuffer, SafeToInsertTatweel}
 use Rattle.shaping_runs.specs.declared.call.Call.TheVariants.{UnsafeToConcat, UnsafeToConcatFromOutbuffer}
+use Rattle.shaping_runs.specs.declared.call.Call.TheVariants.{MergeGraphemeClusters}
 use Rattle.shaping_runs.specs.declared.call.Answer.{Answer}
 use Rattle.shaping_runs.specs.declared.call.Answer.TheVariants.{Done, Refused, Outside}
 use Rattle.shaping_buffer.specs.State.{State, len, lookahead_len}
@@ -45,6 +46,7 @@ may_be_made Sync s = s.have_output
 may_be_made DeleteGlyph s = s.have_output && has_glyph s
 may_be_made (MergeClusters start end) s = is_input_range start end s
 may_be_made (MergeOutClusters start end) s = is_out_range start end s
+may_be_made (MergeGraphemeClusters start end) s = is_input_range start end s
 may_be_made (UnsafeToBreak start end) s = flags_input start end s
 may_be_made (UnsafeToBreakFromOutbuffer start end) s = flags_sides start end s
 may_be_made (SafeToInsertTatweel start end) s = flags_input start end s
@@ -67,6 +69,7 @@ outcome_of Sync s = step.sync s
 outcome_of DeleteGlyph s = step.unlimited (cluster_step.delete_glyph s)
 outcome_of (MergeClusters start end) s = step.unlimited (cluster_step.merge_clusters start end s)
 outcome_of (MergeOutClusters start end) s = step.unlimited (cluster_step.merge_out_clusters start end s)
+outcome_of (MergeGraphemeClusters start end) s = step.unlimited (cluster_step.merge_grapheme_clusters start end s)
 outcome_of (UnsafeToBreak start end) s = step.unlimited (cluster_step.unsafe_to_break start end s)
 outcome_of (UnsafeToBreakFromOutbuffer start end) s =
     step.unlimited (cluster_step.unsafe_to_break_from_outbuffer start end s)
@@ -106,7 +109,7 @@ answers_of (call ∷ calls) s = (turn call s).answer ∷ answers_of calls (turn 
 abbrev pub MayStop : Call → State → Type 0
 MayStop call s = MayWant s (outcome_of call s).state × ((turn call s).answer ≡ Done)
 
--- What came of one call: its turn, or want of memory. Then nothing changed.
+-- What came of one call: its turn, or running out of memory. Then nothing changed.
 abbrev pub GivesTurn : Call → State → Result Answer AllocError → State → Type 0
 GivesTurn call old (Ok answer) new = (answer ≡ (turn call old).answer) × (new ≡ (turn call old).state)
 GivesTurn call old (Err e) new = MayStop call old × (new ≡ old)
