@@ -1,6 +1,8 @@
 use crate::lists::buffer_of;
 use cluster_runs::CLUSTER_RUNS;
 use cursor_runs::CURSOR_RUNS;
+use held_runs::{HELD, NEVER_REFUSED};
+use odd_runs::{LIMITED_RUNS, ODD_RUNS};
 use shaping_buffer::{
     BufferClusterLevel, BufferFlags, Flags, UnicodeBuffer, hb_buffer_t, hb_glyph_info_t,
 };
@@ -12,6 +14,8 @@ use stored_runs::STORED_RUNS;
 
 mod cluster_runs;
 mod cursor_runs;
+mod held_runs;
+mod odd_runs;
 mod stored_runs;
 
 /// A glyph as it is seen here: its id, its cluster and its glyph flags.
@@ -215,4 +219,57 @@ fn calls_and_answers_are_printed_by_name(rt: HostRuntime) -> Result<(), Fail> {
     let printed = format!(in rt.alloc(); "{OUTSIDE:?} {:?}", Stopped { at: 3 })?;
     assert!(rt; printed.as_str() == "Outside Stopped { at: 3 }");
     Ok(())
+}
+
+#[test]
+fn odd_orders_and_limits_answer_and_leave_what_is_written(rt: HostRuntime) -> Result<(), Fail> {
+    for run in ODD_RUNS.iter().chain(&LIMITED_RUNS) {
+        assert_run(&rt, rt.alloc(), run)?;
+    }
+    Ok(())
+}
+
+/// Calls on AB, one more, and how many glyphs the longer side holds after that one.
+#[derive(Clone, Copy)]
+struct Held<'a>(&'a [Call<'a>], Call<'a>, usize);
+
+/// The answer of a call at a cluster level, where each side may hold so many glyphs.
+fn answer_at(
+    rt: &impl Abort,
+    alloc: Global,
+    level: u32,
+    held: &Held<'_>,
+    max_len: usize,
+) -> Answer {
+    let mut buffer = buffer_of(rt, alloc, "AB");
+    buffer.cluster_level = level;
+    let mut answers = [OUTSIDE; 3];
+    let count = held.0.len();
+    assert!(rt; count <= 3);
+    assert!(rt; replay(&mut buffer, held.0, &mut answers[..count]) == Ok(()));
+    assert!(rt; buffer.len() <= max_len && buffer.out_len() <= max_len);
+    buffer.set_max_len(max_len);
+    let before = (buffer.idx(), buffer.out_len(), buffer.len());
+    let mut answers = [OUTSIDE];
+    assert!(rt; replay(&mut buffer, &[held.1], &mut answers) == Ok(()));
+    if answers == [REFUSED] {
+        assert!(rt; (buffer.idx(), buffer.out_len(), buffer.len()) == before);
+    }
+    assert!(rt; buffer.successful() == (answers == [DONE]));
+    answers[0]
+}
+
+#[test]
+fn a_limit_is_met_and_one_below_is_refused(rt: HostRuntime) {
+    for level in 0..4 {
+        for held in &HELD {
+            assert!(rt; answer_at(&rt, rt.alloc(), level, held, held.2) == DONE);
+            assert!(rt;
+                answer_at(&rt, rt.alloc(), level, held, held.2.saturating_sub(1)) == REFUSED
+            );
+        }
+        for held in &NEVER_REFUSED {
+            assert!(rt; answer_at(&rt, rt.alloc(), level, held, held.2) == DONE);
+        }
+    }
 }

@@ -1,5 +1,6 @@
 use shaping_buffer::{UnicodeBuffer, hb_buffer_t, hb_glyph_info_t};
 use std::alloc::Global;
+use std::cell::Cell;
 use std::process::Abort;
 
 /// A text from `a` on, of these clusters and masks, with advances of 10, 20 and so on.
@@ -81,7 +82,7 @@ fn buffer_at(rt: &impl Abort, alloc: Global, level: u32, glyphs: &[(u32, u32)]) 
     buffer
 }
 
-/// Asserts whether it was told that there are glyph flags.
+/// Asserts whether the scratch flag says that there are glyph flags.
 fn assert_told(rt: &impl Abort, buffer: &hb_buffer_t, told: bool) {
     assert!(rt; buffer.scratch_flags == (if told { 32 } else { 0 }));
 }
@@ -225,4 +226,55 @@ fn groups_and_syllables_end(rt: HostRuntime) {
     assert_ends(&rt, &buffer, 2, 3, 3);
     assert!(rt; !buffer.have_output());
     assert!(rt; buffer.next_syllable(5) == 5);
+}
+
+/// Counts its calls, and answers true but at each of so many.
+fn is_counted(count: &Cell<u32>, every: u32) -> bool {
+    let calls = count.get().wrapping_add(1);
+    count.set(calls);
+    every == 0 || calls % every != 0
+}
+
+/// Five glyphs, positions and all.
+fn five(rt: &impl Abort, alloc: Global, level: u32) -> hb_buffer_t {
+    buffer_at(rt, alloc, level, &[(0, 1), (0, 2), (3, 3), (1, 0), (1, 7)])
+}
+
+/// A group ends after its start and in the list.
+fn assert_group_ends(rt: &impl Abort, buffer: &hb_buffer_t, start: usize, every: u32) {
+    assert!(rt; !buffer.have_output() && start < buffer.len());
+    let count = Cell::new(0);
+    let end = buffer.group_end(start, |_, _| is_counted(&count, every));
+    assert!(rt; start < end && end <= buffer.len());
+}
+
+/// A reversal keeps the length.
+fn assert_reversal_keeps(rt: &impl Abort, mut buffer: hb_buffer_t, every: u32, merge: bool) {
+    let count = Cell::new(0);
+    assert!(rt; !buffer.have_output());
+    buffer.reverse_groups(|_, _| is_counted(&count, every), merge);
+    assert!(rt; buffer.len() == 5 && buffer.successful() && !buffer.have_output());
+}
+
+/// A deletion never raises the length.
+fn assert_deletion_lowers(rt: &impl Abort, mut buffer: hb_buffer_t, every: u32) {
+    let count = Cell::new(0);
+    assert!(rt; !buffer.have_output());
+    buffer.delete_glyphs_inplace(|_| is_counted(&count, every));
+    assert!(rt; buffer.len() <= 5 && buffer.successful() && !buffer.have_output());
+}
+
+#[test]
+fn closures_may_answer_by_a_counter(rt: HostRuntime) {
+    for every in 0..6 {
+        for level in 0..4 {
+            let buffer = five(&rt, rt.alloc(), level);
+            for start in 0..5 {
+                assert_group_ends(&rt, &buffer, start, every);
+            }
+            assert_reversal_keeps(&rt, buffer, every, false);
+            assert_reversal_keeps(&rt, five(&rt, rt.alloc(), level), every, true);
+            assert_deletion_lowers(&rt, five(&rt, rt.alloc(), level), every);
+        }
+    }
 }

@@ -19,6 +19,8 @@ mod laws;
 #[cfg(test)]
 mod laws_of_lists;
 #[cfg(test)]
+mod levels;
+#[cfg(test)]
 mod limits;
 #[cfg(test)]
 mod lists;

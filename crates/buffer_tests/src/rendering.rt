@@ -1,5 +1,5 @@
-use shaping_buffer::{Feature, GlyphBuffer, Tag};
-use shaping_runs::{Answer, Call, RenderFault, render};
+use shaping_buffer::{BufferClusterLevel, Feature, GlyphBuffer, Tag};
+use shaping_runs::{Answer, Call, RenderFault, render, render_at};
 use std::process::Abort;
 use std::test::Fail;
 
@@ -64,4 +64,82 @@ fn faults_say_where(rt: HostRuntime) -> Result<(), Fail> {
     }
     assert!(rt; answers == [Answer::Outside]);
     Ok(())
+}
+
+const LEVELS: [BufferClusterLevel; 4] = [
+    BufferClusterLevel::MonotoneGraphemes,
+    BufferClusterLevel::MonotoneCharacters,
+    BufferClusterLevel::Characters,
+    BufferClusterLevel::Graphemes,
+];
+
+/// Asserts the clusters and the glyph flags of a text that was rendered.
+fn assert_rendered(
+    rt: &impl Abort,
+    rendered: Result<GlyphBuffer, RenderFault>,
+    want: &[(u32, u32)],
+) {
+    match rendered {
+        Ok(glyphs) => {
+            assert!(rt; glyphs.len() == want.len());
+            for (glyph, want) in glyphs.glyph_infos().iter().zip(want) {
+                assert!(rt; (glyph.cluster, glyph.mask & 7) == *want);
+            }
+        }
+        Err(_) => panic!(rt; "not rendered"),
+    }
+}
+
+#[test]
+fn a_text_is_rendered_at_its_level(rt: HostRuntime) {
+    let marked: &[(u32, u32)] = &[(0, 0), (1, 3), (2, 0)];
+    let merged: &[(u32, u32)] = &[(0, 0), (0, 0), (2, 0)];
+    // what `merge_clusters` leaves, and what `merge_grapheme_clusters` leaves
+    let rows = [
+        (merged, merged),
+        (merged, marked),
+        (marked, marked),
+        (marked, merged),
+    ];
+    for (level, (clusters, graphemes)) in LEVELS.iter().zip(rows) {
+        let mut answers = [Answer::Outside];
+        let calls = [Call::MergeClusters(0, 2)];
+        let rendered = render_at(rt.alloc(), *level, "abc", &[], &calls, &mut answers);
+        assert_rendered(&rt, rendered, clusters);
+        let calls = [Call::MergeGraphemeClusters(0, 2)];
+        let rendered = render_at(rt.alloc(), *level, "abc", &[], &calls, &mut answers);
+        assert_rendered(&rt, rendered, graphemes);
+        assert!(rt; answers == [Answer::Done]);
+    }
+    let mut answers = [Answer::Outside];
+    let calls = [Call::MergeGraphemeClusters(0, 2)];
+    assert_rendered(
+        &rt,
+        render(rt.alloc(), "abc", &[], &calls, &mut answers),
+        merged,
+    );
+}
+
+/// Asserts the fault of a text that was not rendered.
+fn assert_fault(rt: &impl Abort, rendered: Result<GlyphBuffer, RenderFault>, want: RenderFault) {
+    match rendered {
+        Ok(_) => panic!(rt; "rendered"),
+        Err(fault) => assert!(rt; fault == want),
+    }
+}
+
+#[test]
+fn faults_come_at_each_level(rt: HostRuntime) {
+    for level in LEVELS {
+        let mut answers = [Answer::Outside];
+        let calls = [Call::ClearOutput];
+        let rendered = render_at(rt.alloc(), level, "ab", &[], &calls, &mut answers);
+        assert_fault(&rt, rendered, RenderFault::OutputLeftOpen);
+        assert!(rt; answers == [Answer::Done]);
+        let mut answers = [Answer::Outside];
+        let many = [kern(1, 0, 1); 25];
+        let rendered = render_at(rt.alloc(), level, "ab", &many, &calls, &mut answers);
+        assert_fault(&rt, rendered, RenderFault::TooManyFeatures);
+        assert!(rt; answers == [Answer::Outside]);
+    }
 }

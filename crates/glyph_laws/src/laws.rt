@@ -90,7 +90,7 @@ pub fn marks_change_masks_alone()
         → clusters l ≡ clusters m }
 {}
 
-/// Merges keep the length. So does a deletion on each side, the head aside.
+/// Merges keep the length. So does a deletion on each side, except for the current glyph.
 pub fn lengths_stay()
     ensures cluster_merge { (l r : List hb_glyph_info_t) → length (cluster_merge l r) ≡ length l }
     ensures run_merge { (l : List hb_glyph_info_t) (p q floor : ℕ)

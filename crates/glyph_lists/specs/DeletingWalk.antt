@@ -11,15 +11,15 @@ use Rattle.glyph_lists.specs.Deletion.{Sides, deletion, merges_next}
 abbrev pub sides_at : ℕ → ℕ → List hb_glyph_info_t → Sides
 sides_at k i l = record { out = take k l; rest = drop i l }
 
--- the glyph at the head of what is left
+-- the current glyph
 abbrev pub head_of : Sides → hb_glyph_info_t
 head_of s = slice_index_or s.rest 0 zero_glyph
 
--- the head is put out
+-- the current glyph is put out
 abbrev pub after_next : Sides → Sides
 after_next s = record { out = s.out ++ take 1 s.rest; rest = drop 1 s.rest }
 
--- the head goes by the rule of deletion
+-- the current glyph goes by the rule of deletion
 abbrev pub after_deletion : Bool → Sides → Sides
 after_deletion any_order s = deletion any_order s.out (head_of s) (drop 1 s.rest)
 
@@ -45,11 +45,11 @@ kept_beside any_order test s (p ∷ ps) =
     let kept = kept_beside any_order test (after_turn any_order test s) ps in
     if test (head_of s) then kept else p ∷ kept
 
--- the head, were it deleted, would be merged with the glyph after it
+-- the current glyph, were it deleted, would be merged with the glyph after it
 abbrev pub deletion_merges : Sides → Bool
 deletion_merges s = merges_next s.out (head_of s) (drop 1 s.rest)
 
--- whether in that many turns a deleted head is merged with the glyph after it
+-- whether in that many turns a deleted glyph is merged with the one after it
 abbrev pub walk_merges : Bool → (hb_glyph_info_t → Bool) → ℕ → Sides → Bool
 walk_merges any_order test zero s = false
 walk_merges any_order test (suc turns) s =

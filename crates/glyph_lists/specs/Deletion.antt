@@ -1,4 +1,4 @@
--- Deletion: the head of the input goes, and its cluster is kept where it is lower than its neighbour's.
+-- Deletion: the current glyph goes, and its cluster is kept where it is lower than its neighbour's.
 use Rattle.std.specs.Prelude.{ℕ, ◌-◌, ◌==◌, ◌||◌, ◌&&◌, Bool, not, true, false, List, [], ◌∷◌, length, drop, nat_lt}
 use Rattle.std.specs.Prelude.{slice_index, if◌then◌else◌}
 use Rattle.rb_glyph.specs.declared.info.hb_glyph_info_t.{hb_glyph_info_t}
@@ -37,21 +37,21 @@ unfoldable pub with_trailing_run : ℕ → ℕ → List hb_glyph_info_t → List
 with_trailing_run c w l =
     map_range (with_cluster c w) l (run_start (clusters l) (last_cluster l) 0 (length l)) (length l)
 
--- a neighbour of the head that leaves has cluster c: the next glyph, or the last that was put out
+-- a neighbour of the deleted glyph has cluster c: the next glyph, or the last that was put out
 abbrev pub has_neighbour_in : ℕ → List hb_glyph_info_t → List hb_glyph_info_t → Bool
 has_neighbour_in c out rest = begins_with c rest || (is_not_empty out && (last_cluster out == c))
 
--- Where no neighbour has the head's cluster, the trailing run of `out` takes it, if it is lower,
+-- Where no neighbour has the deleted glyph's cluster, the trailing run of `out` takes it, if it is lower,
 unfoldable pub lowers_run : List hb_glyph_info_t → hb_glyph_info_t → List hb_glyph_info_t → Bool
 lowers_run out x rest =
     not (has_neighbour_in x.cluster out rest) && (is_not_empty out && nat_lt x.cluster (last_cluster out))
 
--- or with nothing put out the head is merged with the next glyph.
+-- or with nothing put out it is merged with the next glyph.
 unfoldable pub merges_next : List hb_glyph_info_t → hb_glyph_info_t → List hb_glyph_info_t → Bool
 merges_next out x rest =
     not (has_neighbour_in x.cluster out rest) && (not (is_not_empty out) && is_not_empty rest)
 
--- Deletion: the head x leaves the input.
+-- Deletion: the current glyph x leaves the input.
 unfoldable pub deletion : Bool → List hb_glyph_info_t → hb_glyph_info_t → List hb_glyph_info_t → Sides
 deletion any_order out x rest =
     if lowers_run out x rest then record { out = with_trailing_run x.cluster x.mask out; rest = rest }

@@ -1,4 +1,4 @@
--- Marks: which glyphs of a range are told that no break may stand before them.
+-- Marks: which glyphs of a range are marked as unsafe to break before.
 use Rattle.std.specs.Prelude.{ℕ, ◌-◌, ◌==◌, ◌++◌, not, List, [], ◌∷◌, length, map, slice_index, bit_or, if◌then◌else◌}
 use Rattle.std.specs.List.{prefix_len, suffix_len}
 use Rattle.rb_glyph.specs.declared.info.hb_glyph_info_t.{hb_glyph_info_t}

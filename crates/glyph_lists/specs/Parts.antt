@@ -5,7 +5,7 @@ use Rattle.std.specs.Prelude.{ℕ, ◌-◌, ◌++◌, Bool, List, map, take, dro
 abbrev pub part : {X : Type 0} → List X → ℕ → ℕ → List X
 part xs p q = take (q - p) (drop p xs)
 
--- the list with f of what stands from place p up to place q in its stead
+-- the list with f of the part from place p up to place q in place of that part
 abbrev pub on_part : {X : Type 0} → (List X → List X) → List X → ℕ → ℕ → List X
 on_part f xs p q = take p xs ++ f (part xs p q) ++ drop q xs
 

@@ -8,8 +8,8 @@ use Rattle.glyph_lists.specs.Deletion.{merge_or_mark}
 abbrev pub copies : hb_glyph_info_t → List ℕ → List hb_glyph_info_t
 copies g ids = map (λ id. record g { glyph_id = id }) ids
 
--- Places p to q are merged, and then copies of the glyph at p stand there in their stead.
+-- Places p to q are merged, or in any order of clusters marked, and copies of the glyph at p then take their place.
 unfoldable pub replacement : Bool → List hb_glyph_info_t → ℕ → ℕ → List ℕ → List hb_glyph_info_t
-replacement marks l p q ids =
-    let m = merge_or_mark marks l p q 0 in
+replacement any_order l p q ids =
+    let m = merge_or_mark any_order l p q 0 in
     take p m ++ copies (slice_index_or m p zero_glyph) ids ++ drop q m

@@ -1,4 +1,4 @@
-//! Glyphs that are told that no break may stand before them.
+//! Marks glyphs as unsafe to break before.
 //!
 //! A scan adds bits to the masks of the glyphs that are not in the least cluster of their range. In any order of
 //! clusters it reads every cluster. Else it goes by the clusters at the ends, and stops at the first glyph of the
@@ -9,7 +9,7 @@ ghost use Rattle.std.specs.Prelude.{if◌then◌else◌};
 ghost use Rattle.std.specs.List.{prefix_len, suffix_len};
 ghost use Rattle.glyph_lists.specs.Parts.{part, on_part, map_range};
 ghost use Rattle.glyph_lists.specs.Clusters.{clusters, least};
-ghost use Rattle.glyph_lists.specs.Marks.{with_glyph_flags, mark_others, mark_part, ends, ends_least};
+ghost use Rattle.glyph_lists.specs.Marks.{with_glyph_flags, mark, mark_others, mark_part, ends, ends_least};
 ghost use Rattle.glyph_lists.specs.Scans.{scan_of, part_scan, scan_least, two_part_scan};
 
 use rb_glyph::{glyph_flag, hb_glyph_info_t};
@@ -207,15 +207,24 @@ fn least_of_both(out: &[hb_glyph_info_t], input: &[hb_glyph_info_t]) -> u32
     least_of(out).min(least_of(input))
 }
 
+/// Scans one list in any order of clusters, out of the way of the scans that go by the ends.
+#[inline(never)]
+#[tactic(auto, unfolding(crate::specs::Marks::mark))]
+fn mark_outside_least(info: &mut [hb_glyph_info_t], bits: u32)
+    ensures { info.new ≡ mark bits info.old }
+{
+    let least = least_of(info);
+    mark_others(info, bits, least);
+}
+
 /// Scans one list.
 #[inline]
-#[tactic(auto, unfolding(crate::specs::Scans::scan_of, crate::specs::Marks::mark, crate::specs::Marks::end_mark))]
+#[tactic(auto, unfolding(crate::specs::Scans::scan_of, crate::specs::Marks::end_mark))]
 fn scan_list(info: &mut [hb_glyph_info_t], bits: u32, any_order: bool)
     ensures { info.new ≡ scan_of any_order bits info.old }
 {
     if any_order {
-        let least = least_of(info);
-        mark_others(info, bits, least);
+        mark_outside_least(info, bits);
     } else {
         let least = least_end(info);
         mark_part(info, bits, least);
@@ -224,7 +233,13 @@ fn scan_list(info: &mut [hb_glyph_info_t], bits: u32, any_order: bool)
 
 /// Scans the glyphs from `start` to `end` of one list.
 #[inline]
-fn scan_slice(info: &mut [hb_glyph_info_t], start: usize, end: usize, bits: u32, any_order: bool)
+pub fn scan_slice(
+    info: &mut [hb_glyph_info_t],
+    start: usize,
+    end: usize,
+    bits: u32,
+    any_order: bool,
+)
     requires order { start ≤ end }
     requires within { end ≤ length info.old }
     ensures { info.new ≡ on_part (scan_of any_order bits) info.old start end }

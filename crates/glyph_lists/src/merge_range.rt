@@ -29,7 +29,12 @@ fn least_cluster(reads: &mut ClusterReads, start: usize, end: usize, first: u32,
 /// Where the run of `cluster` begins that ends before `end`, not below `floor`.
 #[inline(always)]
 #[tactic(auto, using(crate::proofs::RunsLemmas::walks))]
-fn run_start_before(reads: &mut ClusterReads, cluster: u32, floor: usize, end: usize) -> usize
+pub(crate) fn run_start_before(
+    reads: &mut ClusterReads,
+    cluster: u32,
+    floor: usize,
+    end: usize,
+) -> usize
     requires within { end ≤ length (both_clusters reads.old) }
     requires room { reads.old.reads < 2 ^ 100 }
     ensures is { result ≡ run_start (both_clusters reads.old) cluster floor end }
@@ -47,7 +52,7 @@ fn run_start_before(reads: &mut ClusterReads, cluster: u32, floor: usize, end: u
 /// Where the run of `cluster` ends that begins at `start`.
 #[inline(always)]
 #[tactic(auto, using(crate::proofs::RunsLemmas::walks))]
-fn run_end_after(reads: &mut ClusterReads, cluster: u32, start: usize) -> usize
+pub(crate) fn run_end_after(reads: &mut ClusterReads, cluster: u32, start: usize) -> usize
     requires within { start ≤ length (both_clusters reads.old) }
     requires room { reads.old.reads < 2 ^ 101 }
     ensures is { result ≡ run_end (both_clusters reads.old) cluster start }

@@ -1,4 +1,4 @@
-//! The head of the input after a merge that changes no glyph behind it: mostly there is no need to write the others.
+//! The current glyph after a merge that changes no glyph behind it: mostly there is no need to write the others.
 
 ghost use Rattle.std.specs.Prelude.{◌≡◌, ◌≤◌, true, false, List, length, slice_index_or, IfSome};
 ghost use Rattle.glyph_lists.specs.Clusters.{zero_glyph};
@@ -24,7 +24,7 @@ fn pair_keeps_head(input: &[hb_glyph_info_t]) -> bool
 }
 
 /// Whether the merge of the first `count` glyphs of the input leaves the first as it is, and all others that stay, and
-/// marks nothing. It says so of two glyphs at the most.
+/// marks nothing. It says so of at most two glyphs.
 #[inline(always)]
 pub fn keeps_head(input: &[hb_glyph_info_t], count: usize, any_order: bool) -> bool
     requires { count ≤ length input.now }
@@ -37,8 +37,8 @@ pub fn keeps_head(input: &[hb_glyph_info_t], count: usize, any_order: bool) -> b
     count == 2 && !any_order && pair_keeps_head(input)
 }
 
-/// The head of the input as the merge of its first two glyphs lowers it. `None` where it does not, where the run of the
-/// first goes on into `out`, where it marks, and of other counts.
+/// The current glyph as the merge of the input's first two glyphs lowers it. `None` where it does not, where the run of
+/// the first goes on into `out`, where it marks, and of other counts.
 #[inline(always)]
 pub fn lowered_head(
     out: &[hb_glyph_info_t],

@@ -1,13 +1,14 @@
 //! Merges: glyphs of several clusters become one cluster, or in any order of clusters are marked instead.
 
 ghost use Rattle.std.specs.Prelude.{◌≡◌, ℕ, ◌+◌, ◌-◌, ◌<◌, ◌≤◌, ◌++◌, true, false, List, length, take, drop};
-ghost use Rattle.glyph_lists.specs.Clusters.{clusters, run_merge, NoRunCrosses};
+ghost use Rattle.glyph_lists.specs.Clusters.{clusters, run_merge, with_cluster, NoRunCrosses};
 ghost use Rattle.glyph_lists.specs.Deletion.{merge_or_mark};
+ghost use Rattle.glyph_lists.specs.Parts.{map_range};
 
 use crate::cluster_reads::ClusterReads;
-use crate::clusters::{set_range, set_sides};
+use crate::clusters::{set_cluster, set_range, set_sides};
 use crate::glyph_flags::{BREAK_BITS, scan_range};
-use crate::merge_range::merge_range;
+use crate::merge_range::{merge_range, run_end_after, run_start_before};
 use rb_glyph::hb_glyph_info_t;
 
 /// Merges the glyphs from `start` to `end` of one list, out of the way of two glyphs.
@@ -23,6 +24,19 @@ fn merge_many(info: &mut [hb_glyph_info_t], start: usize, end: usize, floor: usi
     set_range(info, from, to, cluster, 0);
 }
 
+/// Puts the glyphs of a range, which is mostly one, into a cluster. Those that change theirs lose their glyph flags.
+#[inline(always)]
+fn set_run(info: &mut [hb_glyph_info_t], start: usize, end: usize, cluster: u32)
+    requires some { start < end }
+    requires within { end ≤ length info.old }
+    ensures { info.new ≡ map_range (with_cluster cluster 0) info.old start end }
+{
+    if end - start > 1 {
+        set_range(info, start + 1, end, cluster, 0);
+    }
+    set_cluster(&mut info[start], cluster, 0);
+}
+
 /// Merges the two glyphs from `start` on. The one that is in their least cluster stays, and so do those next to it.
 #[inline(always)]
 fn merge_two(info: &mut [hb_glyph_info_t], start: usize, floor: usize)
@@ -31,11 +45,14 @@ fn merge_two(info: &mut [hb_glyph_info_t], start: usize, floor: usize)
 {
     let whole = &info[..];
     let mut reads = ClusterReads::new(&[], whole);
-    let (cluster, from, to) = merge_range(&mut reads, start, start + 2, floor);
-    if info[start].cluster == cluster {
-        set_range(info, start + 1, to, cluster, 0);
-    } else {
-        set_range(info, from, start + 1, cluster, 0);
+    let first = reads.cluster(start);
+    let last = reads.cluster(start + 1);
+    if first < last {
+        let to = run_end_after(&mut reads, last, start + 2);
+        set_run(info, start + 1, to, first);
+    } else if last < first {
+        let from = run_start_before(&mut reads, first, floor, start);
+        set_run(info, from, start + 1, last);
     }
 }
 

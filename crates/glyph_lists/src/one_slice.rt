@@ -6,7 +6,7 @@ ghost use Rattle.glyph_lists.specs.Clusters.{zero_glyph, run_merge};
 ghost use Rattle.glyph_lists.specs.Deletion.{merge_or_mark, deletion};
 ghost use Rattle.glyph_lists.specs.Marks.{with_glyph_flags};
 ghost use Rattle.glyph_lists.specs.Parts.{on_part, map_range};
-ghost use Rattle.glyph_lists.specs.Scans.{scan_of, two_part_scan};
+ghost use Rattle.glyph_lists.specs.Scans.{two_part_scan};
 
 use crate::{deletion, glyph_flags, merging};
 use rb_glyph::hb_glyph_info_t;
@@ -115,32 +115,6 @@ pub fn scan_two_parts(
 {
     let (front, input) = info.split_at_mut(cursor);
     glyph_flags::scan_two_parts(&mut front[..out_len], input, 0, start, end, bits, any_order);
-}
-
-/// Scans the glyphs from `start`, which is not in the out side, to `end`, as `glyph_flags::scan_range` does.
-pub fn scan_range(
-    info: &mut [hb_glyph_info_t],
-    out_len: usize,
-    cursor: usize,
-    start: usize,
-    end: usize,
-    bits: u32,
-    any_order: bool,
-)
-    requires near { out_len ≤ cursor }
-    requires cursor_within { cursor ≤ length info.old }
-    requires past_out { out_len ≤ start }
-    requires order { start ≤ end }
-    requires within { end ≤ out_len + (length info.old - cursor) }
-    ensures out { take out_len info.new ≡ take out_len
-        (on_part (scan_of any_order bits) (take out_len info.old ++ drop cursor info.old)
-        start end) }
-    ensures input { drop cursor info.new ≡ drop out_len
-        (on_part (scan_of any_order bits) (take out_len info.old ++ drop cursor info.old)
-        start end) }
-{
-    let (front, input) = info.split_at_mut(cursor);
-    glyph_flags::scan_range(&mut front[..out_len], input, 0, start, end, bits, any_order);
 }
 
 /// Keeps the cluster of the glyph at the cursor, which then leaves the input, as `deletion::delete_at_cursor` does.

@@ -1,7 +1,7 @@
 use crate::lists::{assert_clusters, assert_glyphs, glyph, glyphs};
 use glyph_lists::deletion::{delete_at_cursor, merges_next, set_trailing_run};
 
-/// What was put out, if anything, and the head with the two glyphs after it.
+/// What was put out, if anything, and the current glyph with the two glyphs after it.
 #[test]
 fn a_lower_cluster_is_kept(rt: HostRuntime) {
     let rows = [

@@ -1,5 +1,5 @@
 use crate::lists::{assert_masks, glyph, glyphs};
-use glyph_lists::glyph_flags::{mark_range, scan_range, scan_two_parts};
+use glyph_lists::glyph_flags::{mark_range, scan_range, scan_slice, scan_two_parts};
 
 /// Clusters, a range, whether they are in any order, and the masks after the scan.
 static SCANS: [([u32; 4], usize, usize, bool, [u32; 4]); 6] = [
@@ -20,7 +20,7 @@ fn a_scan_of_one_part_marks_all_but_the_least(rt: HostRuntime) {
         assert_masks(&rt, &info, &masks);
     }
     let mut info = [glyph(0, 8), glyph(1, 8), glyph(2, 1)];
-    scan_range(&mut [], &mut info, 0, 0, 2, 4, false);
+    scan_slice(&mut info, 0, 2, 4, false);
     assert_masks(&rt, &info, &[8, 12, 1]);
 }
 

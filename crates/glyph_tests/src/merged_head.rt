@@ -1,7 +1,7 @@
 use crate::lists::{glyph, glyphs};
 use glyph_lists::merged_head::{keeps_head, lowered_head};
 
-/// The input, how many of its glyphs are merged, and whether the head and what stands behind them stay.
+/// The input, how many of its glyphs are merged, and whether the current glyph and what is behind them stay.
 #[test]
 fn a_head_is_kept_where_no_glyph_that_stays_changes(rt: HostRuntime) {
     let rows = [
@@ -21,7 +21,8 @@ fn a_head_is_kept_where_no_glyph_that_stays_changes(rt: HostRuntime) {
     assert!(rt; keeps_head(&glyphs([0, 1]), 1, true));
 }
 
-/// What was put out, the input, how many of its glyphs are merged, and the cluster of the head if it is lowered alone.
+/// What was put out, the input, how many of its glyphs are merged, and the cluster of the current glyph if it alone is
+/// lowered.
 #[test]
 fn a_head_is_lowered_where_its_run_begins_there(rt: HostRuntime) {
     let rows = [

@@ -1,4 +1,4 @@
--- What a text tells when it is read back.
+-- What can be read back from a text.
 use Rattle.std.specs.Prelude.{ℕ, ◌+◌, ◌^◌, ◌<◌, ◌≤◌, ℤ, nat_abs, bit_and}
 use Rattle.rb_glyph.specs.declared.flag_sets.SerializeFlags.{SerializeFlags}
 use Rattle.rb_glyph.specs.declared.flag_sets.TheConstants.SerializeFlags.{NO_GLYPH_NAMES, GLYPH_FLAGS}
@@ -10,7 +10,7 @@ use Rattle.rb_glyph.specs.declared.position.GlyphPosition.{GlyphPosition}
 abbrev pub numbers_and_flags : SerializeFlags
 numbers_and_flags = record { 0 = NO_GLYPH_NAMES.0 + GLYPH_FLAGS.0 }
 
--- what a text under these flags tells of a glyph
+-- what a text under these flags says of a glyph
 pub record Told : Type 0 where
   pub glyph_id : ℕ
   pub cluster : ℕ

@@ -1,4 +1,4 @@
-//! What a text tells when it is read back.
+//! What can be read back from a text.
 //!
 //! The function here is empty. Its contract is a fact of definitions, and holds for every list of glyphs.
 
@@ -9,7 +9,7 @@ ghost use Rattle.glyph_text.specs.TextReading.{numbers_and_flags, told_of, FitsI
 ghost use Rattle.rb_glyph.specs.declared.info.hb_glyph_info_t.{hb_glyph_info_t};
 ghost use Rattle.rb_glyph.specs.declared.position.GlyphPosition.{GlyphPosition};
 
-/// Under `NO_GLYPH_NAMES` and `GLYPH_FLAGS` alone a text tells its glyphs apart: where two texts are equal, whatever
+/// Under `NO_GLYPH_NAMES` and `GLYPH_FLAGS` alone a text decides its glyphs: if two texts are equal, whatever
 /// the fonts are, there are as many glyphs, with equal numbers, clusters, offsets, advances and glyph flags.
 pub fn equal_texts_tell_of_equal_glyphs()
     ensures { (font other : Font) (xs ys : List (hb_glyph_info_t × GlyphPosition))

@@ -8,7 +8,7 @@ use itoa::write_digits;
 use std::marker::Model;
 use std::str::from_utf8_unchecked;
 
-/// How many bytes such a text has at the most: a number has ten digits, and a sign stands before each of two.
+/// How many bytes such a text has at most: each of two numbers has at most ten digits and a sign before it.
 const LIMIT: usize = 22;
 
 /// A text of numbers and of ASCII signs before them. It goes into a longer text by one copy.

@@ -48,7 +48,7 @@ impl Point {
         }
     }
 
-    /// The place behind a glyph. Only under `NO_ADVANCES` places are told, and positions read for them.
+    /// The place behind a glyph. Only under `NO_ADVANCES` places are written, and positions read for them.
     #[inline(always)]
     fn place_behind(self, flags: SerializeFlags, position: &GlyphPosition) -> Point
         requires { IsNear self }

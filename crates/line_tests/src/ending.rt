@@ -7,7 +7,7 @@ use std::io::{self, Eprint, ErrorKind, Read, Write};
 use std::process::ExitCode;
 use std::test::Fail;
 
-/// Keeps the line that it is told, or fails.
+/// Keeps the line that it is given, or fails.
 #[derive(Drop)]
 struct Listener {
     alloc: Global,

@@ -20,8 +20,9 @@ replace_glyph +7\n\
 replace_glyph a\n\
 replace_glyph 4294967296\n\
 merge_clusters 0\n\
+merge_grapheme_clusters 0\n\
 merge_clusters 0 18446744073709551616\n\
-level 3\n\
+level 4\n\
 flags 256\n\
 serialize 64\n\
 limit\n\

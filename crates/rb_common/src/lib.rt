@@ -1,4 +1,4 @@
-//! What text and glyphs are both told in: tags, scripts, directions, and the numbers of characters and glyphs.
+//! Types shared by text and glyphs: tags, scripts, directions, and the numbers of characters and glyphs.
 #![tactic(auto)]
 
 pub mod direction;

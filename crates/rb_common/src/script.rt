@@ -11,7 +11,7 @@ mod tags;
 
 pub use tags::constant_tags;
 
-/// The bits of a tag but for those that make a letter small.
+/// The bits of a tag except those that make a letter small.
 const CAPITALS: u32 = 0xdfdfdfdf;
 
 /// The bits that make the last three letters of a tag small.

@@ -12,7 +12,7 @@ default_ignorables =
     (0x200B, 0x200F) ∷ (0x202A, 0x202E) ∷ (0x2060, 0x206F) ∷ (0xFE00, 0xFE0F) ∷ (0xFEFF, 0xFEFF) ∷
     (0xFFF0, 0xFFF8) ∷ (0x1D173, 0x1D17A) ∷ (0xE0000, 0xE0FFF) ∷ []
 
--- the variation selectors, but for the Mongolian ones
+-- the variation selectors, except the Mongolian ones
 abbrev pub variation_selectors : List (ℕ × ℕ)
 variation_selectors =
     (0xFE00, 0xFE0F) ∷ (0xE0100, 0xE01EF) ∷ []

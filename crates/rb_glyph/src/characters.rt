@@ -157,7 +157,7 @@ impl CharExt for char {
     }
 }
 
-/// A law with no code: the tables that the properties of characters are told by rise, and their ranges do not meet.
+/// A law with no code: the tables of the properties of characters rise, and their ranges do not overlap.
 pub fn character_tables_law()
     ensures default_ignorables { IsTrue (are_apart default_ignorables) }
     ensures variation_selectors { IsTrue (are_apart variation_selectors) }

@@ -123,7 +123,7 @@ impl SerializeFlags {
     /// Offsets and advances are left out.
     pub const NO_POSITIONS: SerializeFlags = SerializeFlags(2);
 
-    /// Glyphs are told by their numbers alone.
+    /// Glyphs are written by their numbers alone.
     pub const NO_GLYPH_NAMES: SerializeFlags = SerializeFlags(4);
 
     /// The extents of each glyph are added.

@@ -1,7 +1,7 @@
 //! The classes that marks are reordered by: `CCCn` stands for the canonical combining class n, after HarfBuzz.
 //!
 //! Hebrew points go in the order of the SBL Hebrew manual, the Arabic shadda before other marks, and the Telugu length
-//! marks and the Thai vowels below so that a shaper meets them where it wants them.
+//! marks and the Thai vowels below so that a shaper finds them where it needs them.
 
 /// Hebrew, canonical class 10.
 pub const CCC10: u8 = 22;

@@ -38,7 +38,7 @@ pub trait GlyphNames {
 
 /// A font that knows nothing: no glyph of it has a name, nor extents.
 ///
-/// It is the font to hand in where glyphs are told by their numbers alone.
+/// It is the font to pass where glyphs are written by their numbers alone.
 #[derive(Clone, Copy, Debug, Default)]
 pub struct NoGlyphNames;
 

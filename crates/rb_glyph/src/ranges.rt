@@ -17,7 +17,7 @@ pub(crate) static DEFAULT_IGNORABLES: [(char, char); 13] = [
     ('\u{e0000}', '\u{e0fff}'),
 ];
 
-/// Variation selectors, but for the Mongolian ones.
+/// Variation selectors, except the Mongolian ones.
 pub(crate) static VARIATION_SELECTORS: [(char, char); 2] = [
     ('\u{fe00}', '\u{fe0f}'),
     ('\u{e0100}', '\u{e01ef}'),

@@ -26,7 +26,7 @@ new_tag script =
     else if script == tag_of (codes "Mymr") then Some (tag_of (codes "mym2"))
     else None
 
--- the tag that OpenType first gave a script: its ISO 15924 tag with a small first letter, but for five
+-- the tag that OpenType first gave a script: its ISO 15924 tag with a small first letter, except for five
 abbrev pub old_tag : ℕ → ℕ
 old_tag script =
     if script == tag_of (codes "Hira") then tag_of (codes "kana")

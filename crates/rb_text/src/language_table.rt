@@ -46,7 +46,7 @@ impl<'a> LanguageTable<'a> {
         }
     }
 
-    /// The tags of the rows with the key, up to a null tag and three at the most; `None` where there is
+    /// The tags of the rows with the key, up to a null tag and at most three; `None` where there is
     /// no such row.
     pub(crate) fn tags(&self, key: &[u8]) -> Option<ThreeTags>
         ensures { option_map (λ tags. map (λ t. t.0) tags.items) result

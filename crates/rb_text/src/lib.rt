@@ -1,4 +1,4 @@
-//! Tags, scripts, directions, languages and font features: the words that a text shaper is told in.
+//! Tags, scripts, directions, languages and font features: what a text shaper is given beside the text.
 #![tactic(auto)]
 
 pub mod feature;

@@ -101,7 +101,7 @@ impl ComplexLanguages for NoComplexLanguages {
 ///   `dflt` there, and `dflt` for `DFLT`.
 /// - Else the tags of the prefix are those of its case in `complex`.
 /// - Where it is no such case, they are those of the rows of `table` with the prefix's first subtag as
-///   their key, up to a null tag and three at the most. Where the prefix has six bytes or more and
+///   their key, up to a null tag and at most three. Where the prefix has six bytes or more and
 ///   its second subtag is three bytes of which the first is a letter, the second takes the place of the first.
 /// - Where there is no such row, a prefix of three bytes is its own tag, in capitals.
 pub fn tags_from_script_and_language<C: ComplexLanguages>(

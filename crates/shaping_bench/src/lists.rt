@@ -1,4 +1,4 @@
-//! Calls that go over a whole list with no output open, which each function asks.
+//! Calls that go over a whole list with no output open, as each function requires.
 
 ghost use Rattle.std.specs.Prelude.{◌≡◌, false};
 
@@ -18,7 +18,7 @@ pub fn reverse_groups(buffer: &mut hb_buffer_t)
     buffer.reverse_groups(|a, b| hb_buffer_t::_cluster_group_func(a, b), false);
 }
 
-/// Requires for the end of each cluster. It gives their sum.
+/// Asks for the end of each cluster, and gives their sum.
 pub fn group_ends(buffer: &hb_buffer_t) -> usize
     requires { buffer.now.have_output ≡ false }
 {

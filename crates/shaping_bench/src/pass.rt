@@ -20,6 +20,7 @@ pub enum Pass {
     MergeSliding,
     MergePairs,
     MergePairsFalling,
+    MergeGraphemes,
     UnsafeSliding,
     UnsafeWindows,
     DeleteThird,
@@ -108,6 +109,7 @@ impl Pass {
         match self {
             Pass::MergeSliding => ranges::merge_sliding(buffer),
             Pass::MergePairs | Pass::MergePairsFalling => ranges::merge_pairs(buffer),
+            Pass::MergeGraphemes => ranges::merge_graphemes(buffer),
             Pass::UnsafeSliding => ranges::unsafe_sliding(buffer),
             Pass::UnsafeWindows => ranges::unsafe_windows(buffer),
             Pass::DeleteThirdInplace => lists::delete_third_inplace(buffer),

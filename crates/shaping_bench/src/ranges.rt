@@ -1,4 +1,4 @@
-//! Merges and break flags over ranges of a list with no output open, which each function asks.
+//! Merges and break flags over ranges of a list with no output open, as each function requires.
 
 ghost use Rattle.std.specs.Prelude.{◌≡◌, false};
 
@@ -21,6 +21,19 @@ pub fn merge_pairs(buffer: &mut hb_buffer_t)
 {
     for pair in 0..buffer.len() / 2 {
         buffer.merge_clusters(2 * pair, 2 * pair + 2);
+    }
+}
+
+/// Makes one cluster of two glyphs that share a grapheme, and then of the next two.
+pub fn merge_graphemes(buffer: &mut hb_buffer_t)
+    requires { buffer.old.have_output ≡ false }
+{
+    for pair in 0..buffer.len() / 2 {
+        let end = 2 * pair + 2;
+        if end > buffer.len() {
+            break;
+        }
+        buffer.merge_grapheme_clusters(2 * pair, end);
     }
 }
 

@@ -30,7 +30,7 @@ impl Workload {
 }
 
 /// Every workload with its name.
-pub const WORKLOADS: [(&str, Workload); 27] = [
+pub const WORKLOADS: [(&str, Workload); 28] = [
     ("push_str_new", Workload::NewText),
     ("push_str_reused", Workload::ReusedText),
     ("next_glyph_sync", Workload::Calls(Pass::NextGlyphSync)),
@@ -55,6 +55,10 @@ pub const WORKLOADS: [(&str, Workload); 27] = [
     (
         "merge_clusters_pairs_falling",
         Workload::Calls(Pass::MergePairsFalling),
+    ),
+    (
+        "merge_grapheme_clusters_pairs",
+        Workload::Calls(Pass::MergeGraphemes),
     ),
     (
         "unsafe_to_break_sliding4",

@@ -7,6 +7,7 @@ pub mod CopyLemmas
 pub mod PushedLemmas
 pub mod CharactersLemmas
 pub mod MergingLemmas
+pub mod ScanLemmas
 pub mod GroupStepLemmas
 pub mod WalkLemmas
 pub mod BufferRows

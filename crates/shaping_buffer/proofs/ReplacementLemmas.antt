@@ -28,7 +28,7 @@ length_copies g ids = length-map ids (λ id. with_id id g)
 
 -- both sides, the first n glyphs of the input merged
 abbrev pub front_merged : Bool → ℕ → State → List hb_glyph_info_t
-front_merged level n s = merge_or_mark level (both s) (length s.out) (length s.out + n) 0
+front_merged any_order n s = merge_or_mark any_order (both s) (length s.out) (length s.out + n) 0
 
 abbrev pub front_replaced : ℕ → List ℕ → State → State
 front_replaced n ids s =
@@ -69,13 +69,13 @@ front_stays true l p q h =
 front_stays false l p q h = omega (arith, length-run_merge l p q 0)
 
 -- the out side becomes longer by the copies
-pub length_replaced : (level : Bool) (n : ℕ) (ids : List ℕ) (s : State)
-    → length (replace_front level n ids s).out ≡ length s.out + length ids
-length_replaced level n ids s =
-    let l = front_merged level n s in
+pub length_replaced : (any_order : Bool) (n : ℕ) (ids : List ℕ) (s : State)
+    → length (replace_front any_order n ids s).out ≡ length s.out + length ids
+length_replaced any_order n ids s =
+    let l = front_merged any_order n s in
     let head = slice_index_or (drop (length s.out) l) 0 zero_glyph in
     let whole = length-append s.out s.input in
-    let stays = front_stays level (both s) (length s.out) (length s.out + n) (omega arith) in
+    let stays = front_stays any_order (both s) (length s.out) (length s.out + n) (omega arith) in
     omega (
       arith,
       length-append (take (length s.out) l) (copies head ids),
@@ -84,30 +84,30 @@ length_replaced level n ids s =
     )
 
 -- where more is put out than was read, it leaves the storage of the input, and may want memory
-pub replaced_away : (level : Bool) (n : ℕ) (ids : List ℕ) (s : State) → s.idx + n < length s.out + length ids
-    → settled (replace_front level n ids s) ≡ record (replace_front level n ids s) { have_separate_output = true }
-replaced_away level n ids s h = let e = length_replaced level n ids s in grind (arith, common_steps, e)
+pub replaced_away : (any_order : Bool) (n : ℕ) (ids : List ℕ) (s : State) → s.idx + n < length s.out + length ids
+    → settled (replace_front any_order n ids s) ≡ record (replace_front any_order n ids s) { have_separate_output = true }
+replaced_away any_order n ids s h = let e = length_replaced any_order n ids s in grind (arith, common_steps, e)
 
-pub away_wants : (level : Bool) (n : ℕ) (ids : List ℕ) (s : State) → s.have_output ≡ true → length s.out ≤ s.idx
+pub away_wants : (any_order : Bool) (n : ℕ) (ids : List ℕ) (s : State) → s.have_output ≡ true → length s.out ≤ s.idx
     → n ≤ length s.input → s.idx + n < length s.out + length ids
-    → MayWant s (settled (replace_front level n ids s))
-away_wants level n ids s opened near within h = let e =
-    length_replaced level n ids s in grind (arith, common_steps, e, opened)
+    → MayWant s (settled (replace_front any_order n ids s))
+away_wants any_order n ids s opened near within h = let e =
+    length_replaced any_order n ids s in grind (arith, common_steps, e, opened)
 
-pub replaced_apart : (level : Bool) (n : ℕ) (ids : List ℕ) (s : State) → s.have_separate_output ≡ true
-    → settled (replace_front level n ids s) ≡ replace_front level n ids s
-replaced_apart level n ids s h = grind (arith, common_steps)
+pub replaced_apart : (any_order : Bool) (n : ℕ) (ids : List ℕ) (s : State) → s.have_separate_output ≡ true
+    → settled (replace_front any_order n ids s) ≡ replace_front any_order n ids s
+replaced_apart any_order n ids s h = grind (arith, common_steps)
 
-pub apart_wants : (level : Bool) (n : ℕ) (ids : List ℕ) (s : State) → s.have_output ≡ true
+pub apart_wants : (any_order : Bool) (n : ℕ) (ids : List ℕ) (s : State) → s.have_output ≡ true
     → s.have_separate_output ≡ true → 0 < length ids
-    → MayWant s (settled (replace_front level n ids s))
-apart_wants level n ids s opened apart h = let e =
-    length_replaced level n ids s in grind (arith, common_steps, e, opened)
+    → MayWant s (settled (replace_front any_order n ids s))
+apart_wants any_order n ids s opened apart h = let e =
+    length_replaced any_order n ids s in grind (arith, common_steps, e, opened)
 
-pub replaced_in_place : (level : Bool) (n : ℕ) (ids : List ℕ) (s : State) → s.have_separate_output ≡ false
+pub replaced_in_place : (any_order : Bool) (n : ℕ) (ids : List ℕ) (s : State) → s.have_separate_output ≡ false
     → length s.out + length ids ≤ s.idx + n
-    → settled (replace_front level n ids s) ≡ replace_front level n ids s
-replaced_in_place level n ids s near h = let e = length_replaced level n ids s in grind (arith, common_steps, e)
+    → settled (replace_front any_order n ids s) ≡ replace_front any_order n ids s
+replaced_in_place any_order n ids s near h = let e = length_replaced any_order n ids s in grind (arith, common_steps, e)
 
 -- of both sides as one list it is a replacement
 pub replaced_both : (n : ℕ) (ids : List ℕ) (s : State)

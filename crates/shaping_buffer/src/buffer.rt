@@ -1,13 +1,16 @@
-//! The buffer: its fields, what callers see of it, and its readers.
+//! The buffer: its fields, what contracts see of it, and its accessors.
 
 ghost use Rattle.std.specs.Prelude.{◌≡◌, ◌<◌, ◌≤◌, ◌==◌, ◌↔◌, [], true, false, if◌then◌else◌};
 ghost use Rattle.std.specs.Prelude.{None, IsSome, IsTrue, length, pos};
 ghost use Rattle.shaping_buffer.specs.State.{len, lookahead_len, empty_state, cleared};
 ghost use Rattle.shaping_buffer.specs.Step.{IsStorage};
 ghost use Rattle.shaping_buffer.specs.ClusterStep as cluster_step;
+ghost use Rattle.shaping_buffer.specs.ClusterLevel.{groups_graphemes};
 
 use crate::cluster_level::{
-    HB_BUFFER_CLUSTER_LEVEL_CHARACTERS, HB_BUFFER_CLUSTER_LEVEL_DEFAULT, hb_buffer_cluster_level_t,
+    HB_BUFFER_CLUSTER_LEVEL_CHARACTERS, HB_BUFFER_CLUSTER_LEVEL_DEFAULT,
+    HB_BUFFER_CLUSTER_LEVEL_GRAPHEMES, HB_BUFFER_CLUSTER_LEVEL_MONOTONE_CHARACTERS,
+    hb_buffer_cluster_level_t,
 };
 use glyph_lists::context::{CONTEXT_LENGTH, Context};
 use rb_glyph::{
@@ -39,7 +42,7 @@ mod sides;
 pub struct hb_buffer_t {
     /// How the text is to be treated.
     pub flags: BufferFlags,
-    /// How far clusters are merged: a level of HarfBuzz's, where any number but 1 and 2 acts as 0.
+    /// How far clusters are merged: a level of HarfBuzz's, where any number except 1, 2 and 3 acts as 0.
     pub cluster_level: hb_buffer_cluster_level_t,
     /// The glyph that stands for an invisible character, where the font's space does not.
     pub invisible: Option<GlyphId>,
@@ -186,7 +189,7 @@ impl hb_buffer_t {
         self.cursor - self.front
     }
 
-    /// How many glyphs each side may hold at the most.
+    /// How many glyphs each side may hold.
     pub fn max_len(&self) -> usize
         ensures { result ≡ self.now.max_len }
     {
@@ -324,13 +327,24 @@ impl hb_buffer_t {
 
     /// Whether clusters may stand in any order: then merges mark glyphs in place of merging, and scans read all
     /// clusters.
+    #[inline]
     fn any_order(&self) -> bool
         ensures { result ≡ cluster_step.any_order self.now }
     {
         self.cluster_level == HB_BUFFER_CLUSTER_LEVEL_CHARACTERS
+            || self.cluster_level == HB_BUFFER_CLUSTER_LEVEL_GRAPHEMES
+    }
+
+    /// Whether `merge_grapheme_clusters` makes a grapheme one cluster.
+    fn groups_graphemes(&self) -> bool
+        ensures { result ≡ groups_graphemes self.now.cluster_level }
+    {
+        self.cluster_level != HB_BUFFER_CLUSTER_LEVEL_MONOTONE_CHARACTERS
+            && self.cluster_level != HB_BUFFER_CLUSTER_LEVEL_CHARACTERS
     }
 
     /// Says that there are glyph flags.
+    #[inline]
     fn set_has_glyph_flags(&mut self)
         ensures { self.new ≡ cluster_step.flagged self.old }
     {

@@ -3,7 +3,7 @@
 ghost use Rattle.std.specs.Prelude.{◌≡◌};
 ghost use Rattle.shaping_buffer.specs.ClusterLevel.{level_of, named_level};
 
-/// A cluster level as a number, after HarfBuzz's `hb_buffer_cluster_level_t`. Any number but those below acts as
+/// A cluster level as a number, after HarfBuzz's `hb_buffer_cluster_level_t`. Any number except those below acts as
 /// [`HB_BUFFER_CLUSTER_LEVEL_MONOTONE_GRAPHEMES`].
 pub type hb_buffer_cluster_level_t = u32;
 
@@ -18,7 +18,10 @@ pub const HB_BUFFER_CLUSTER_LEVEL_MONOTONE_CHARACTERS: hb_buffer_cluster_level_t
 /// cluster on.
 pub const HB_BUFFER_CLUSTER_LEVEL_CHARACTERS: hb_buffer_cluster_level_t = 2;
 
-/// The level where nothing else is said.
+/// As [`HB_BUFFER_CLUSTER_LEVEL_CHARACTERS`], except that `merge_grapheme_clusters` makes a grapheme one cluster.
+pub const HB_BUFFER_CLUSTER_LEVEL_GRAPHEMES: hb_buffer_cluster_level_t = 3;
+
+/// The level of a new buffer.
 pub const HB_BUFFER_CLUSTER_LEVEL_DEFAULT: hb_buffer_cluster_level_t =
     HB_BUFFER_CLUSTER_LEVEL_MONOTONE_GRAPHEMES;
 
@@ -34,27 +37,31 @@ pub enum BufferClusterLevel {
     /// Merges mark glyphs as unsafe to break instead, and clusters may stand in any order. A deletion may still hand
     /// its cluster on.
     Characters,
+    /// As `Characters`, except that `merge_grapheme_clusters` makes a grapheme one cluster.
+    Graphemes,
 }
 
 impl BufferClusterLevel {
-    /// The number of the level.
-    pub(crate) fn number(self) -> hb_buffer_cluster_level_t
+    /// The number of the level, as the buffer's field `cluster_level` has it.
+    pub fn number(self) -> hb_buffer_cluster_level_t
         ensures { result ≡ level_of self }
     {
         match self {
             BufferClusterLevel::MonotoneGraphemes => HB_BUFFER_CLUSTER_LEVEL_MONOTONE_GRAPHEMES,
             BufferClusterLevel::MonotoneCharacters => HB_BUFFER_CLUSTER_LEVEL_MONOTONE_CHARACTERS,
             BufferClusterLevel::Characters => HB_BUFFER_CLUSTER_LEVEL_CHARACTERS,
+            BufferClusterLevel::Graphemes => HB_BUFFER_CLUSTER_LEVEL_GRAPHEMES,
         }
     }
 
-    /// The level of a number.
-    pub(crate) fn of_number(number: hb_buffer_cluster_level_t) -> Self
+    /// The level of a number, `MonotoneGraphemes` for any number except 1, 2 and 3.
+    pub fn of_number(number: hb_buffer_cluster_level_t) -> Self
         ensures { result ≡ named_level number }
     {
         match number {
             HB_BUFFER_CLUSTER_LEVEL_MONOTONE_CHARACTERS => BufferClusterLevel::MonotoneCharacters,
             HB_BUFFER_CLUSTER_LEVEL_CHARACTERS => BufferClusterLevel::Characters,
+            HB_BUFFER_CLUSTER_LEVEL_GRAPHEMES => BufferClusterLevel::Graphemes,
             _ => BufferClusterLevel::MonotoneGraphemes,
         }
     }

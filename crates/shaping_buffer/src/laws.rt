@@ -7,6 +7,11 @@ ghost use Rattle.glyph_lists.specs.Replacement.{replacement};
 ghost use Rattle.shaping_buffer.specs.declared.buffer.TheConstants.hb_buffer_t.{MAX_LEN_DEFAULT, MAX_LEN_FACTOR};
 ghost use Rattle.shaping_buffer.specs.declared.buffer.TheConstants.hb_buffer_t.{MAX_LEN_MIN, MAX_OPS_DEFAULT};
 ghost use Rattle.shaping_buffer.specs.declared.buffer.TheConstants.hb_buffer_t.{MAX_OPS_FACTOR, MAX_OPS_MIN};
+ghost use Rattle.shaping_buffer.specs.declared.cluster_level.TheConstants.{HB_BUFFER_CLUSTER_LEVEL_DEFAULT};
+ghost use Rattle.shaping_buffer.specs.declared.cluster_level.TheConstants.{HB_BUFFER_CLUSTER_LEVEL_GRAPHEMES};
+ghost use Rattle.shaping_buffer.specs.declared.cluster_level.TheConstants.{HB_BUFFER_CLUSTER_LEVEL_CHARACTERS};
+ghost use Rattle.shaping_buffer.specs.declared.cluster_level.TheConstants.{HB_BUFFER_CLUSTER_LEVEL_MONOTONE_GRAPHEMES};
+ghost use Rattle.shaping_buffer.specs.declared.cluster_level.TheConstants.{HB_BUFFER_CLUSTER_LEVEL_MONOTONE_CHARACTERS};
 ghost use Rattle.shaping_buffer.specs.ClusterStep.{both, any_order};
 ghost use Rattle.rb_glyph.specs.declared.info.hb_glyph_info_t.{hb_glyph_info_t};
 ghost use Rattle.shaping_buffer.specs.State.{State};
@@ -43,6 +48,15 @@ pub fn limits_have_their_numbers()
     ensures len { (MAX_LEN_FACTOR ≡ 64) × (MAX_LEN_MIN ≡ 16384) × (MAX_LEN_DEFAULT ≡ 1073741823) }
     ensures ops { (MAX_OPS_FACTOR ≡ pos 1024) × (MAX_OPS_MIN ≡ pos 16384)
         × (MAX_OPS_DEFAULT ≡ pos 536870911) }
+{}
+
+/// The numbers of the cluster levels.
+pub fn levels_have_their_numbers()
+    ensures graphemes { (HB_BUFFER_CLUSTER_LEVEL_MONOTONE_GRAPHEMES ≡ 0)
+        × (HB_BUFFER_CLUSTER_LEVEL_GRAPHEMES ≡ 3) }
+    ensures characters { (HB_BUFFER_CLUSTER_LEVEL_MONOTONE_CHARACTERS ≡ 1)
+        × (HB_BUFFER_CLUSTER_LEVEL_CHARACTERS ≡ 2) }
+    ensures default { HB_BUFFER_CLUSTER_LEVEL_DEFAULT ≡ 0 }
 {}
 
 /// A list that is reversed twice is as it was, and so are its positions, where there are any.

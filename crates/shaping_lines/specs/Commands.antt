@@ -3,12 +3,12 @@ use Rattle.std.specs.Prelude.{ℕ, zero, suc, List, [], ◌∷◌, Option, Some,
 use Rattle.std.specs.Option.{option_copied}
 use Rattle.std.specs.Str.{bytes_eq, is_utf8}
 use Rattle.shaping_buffer.specs.ClusterLevel.{level_of}
-use Rattle.shaping_buffer.specs.declared.cluster_level.TheConstants.{HB_BUFFER_CLUSTER_LEVEL_CHARACTERS}
 use Rattle.shaping_runs.specs.declared.call.Call.{Call}
 use Rattle.shaping_runs.specs.declared.call.Call.TheVariants.{ClearOutput, NextGlyph, NextGlyphs, SkipGlyph, MoveTo}
 use Rattle.shaping_runs.specs.declared.call.Call.TheVariants.{Sync}
 use Rattle.shaping_runs.specs.declared.call.Call.TheVariants.{ReplaceGlyph, OutputGlyph, CopyGlyph, DeleteGlyph}
 use Rattle.shaping_runs.specs.declared.call.Call.TheVariants.{MergeClusters, MergeOutClusters, UnsafeToBreak}
+use Rattle.shaping_runs.specs.declared.call.Call.TheVariants.{MergeGraphemeClusters}
 use Rattle.shaping_runs.specs.declared.call.Call.TheVariants.{UnsafeToBreakFromOutbuffer, SafeToInsertTatweel}
 use Rattle.shaping_runs.specs.declared.call.Call.TheVariants.{UnsafeToConcat, UnsafeToConcatFromOutbuffer}
 use Rattle.line_words.specs.Words.{Left, next_character, next_language, next_place, next_script, next_u32, past_space}
@@ -132,16 +132,22 @@ flag_call_in name left =
     then with_flag_range UnsafeToConcatFromOutbuffer left
     else None
 
--- the calls that put glyphs out in place of others, or drop one, and those that merge clusters
+-- the calls that merge clusters
+unfoldable pub merge_call_in : List ℕ → Left → Taken Call
+merge_call_in name left =
+    if bytes_eq name (codes "merge_clusters") then with_range MergeClusters left
+    else if bytes_eq name (codes "merge_out_clusters") then with_range MergeOutClusters left
+    else if bytes_eq name (codes "merge_grapheme_clusters") then with_range MergeGraphemeClusters left
+    else flag_call_in name left
+
+-- the calls that put glyphs out in place of others, or drop one
 unfoldable pub edit_call_in : List ℕ → Left → Taken Call
 edit_call_in name left =
     if bytes_eq name (codes "replace_glyph") then with_glyph ReplaceGlyph left
     else if bytes_eq name (codes "output_glyph") then with_glyph OutputGlyph left
     else if bytes_eq name (codes "copy_glyph") then alone CopyGlyph left
     else if bytes_eq name (codes "delete_glyph") then alone DeleteGlyph left
-    else if bytes_eq name (codes "merge_clusters") then with_range MergeClusters left
-    else if bytes_eq name (codes "merge_out_clusters") then with_range MergeOutClusters left
-    else flag_call_in name left
+    else merge_call_in name left
 
 -- a call, by the name of its method: those that open an output, walk and close it come first
 unfoldable pub call_in : List ℕ → Left → Taken Call
@@ -178,7 +184,7 @@ question_in name left =
 -- those that say how the text is treated
 unfoldable pub treatment_in : List ℕ → Left → Taken Request
 treatment_in name left =
-    if bytes_eq name (codes "level") then with_number_to HB_BUFFER_CLUSTER_LEVEL_CHARACTERS level left
+    if bytes_eq name (codes "level") then with_number_to 3 level left
     else if bytes_eq name (codes "flags") then with_number_to ALL_BUFFER_FLAGS flags left
     else if bytes_eq name (codes "limit") then with_place limit left
     else question_in name left
@@ -202,7 +208,7 @@ abbrev pub ids_in : ℕ → Left → Taken (List ℕ)
 ids_in zero left = Some ([], left)
 ids_in (suc count) left = id_before (next_u32 left) (ids_in count (past_first_word left))
 
--- how many glyphs are replaced, and the ids of those that come in their stead
+-- how many glyphs are replaced, and the ids of those that take their place
 abbrev pub replacement_by : ℕ → Taken (List ℕ) → Taken Request
 replacement_by num_in None = None
 replacement_by num_in (Some (ids, left)) = Some (replace_glyphs num_in ids, left)

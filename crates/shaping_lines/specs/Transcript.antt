@@ -60,7 +60,7 @@ pub record AnswersAll (input : List ℕ) (before after : Option (List ℕ)) : Ty
   pub chain : AnswersLines fresh (lines_of input) answers session
   pub written : Appends before after (transcript answers)
 
--- The lines before the first that is no command are answered, and that line is told to be none.
+-- The lines before the first that is no command are answered, and that line is answered as unknown.
 pub record AnswersToUnknown (input : List ℕ) (before after : Option (List ℕ)) : Type 0 where
   pub earlier : List (List ℕ)
   pub unknown : List ℕ
@@ -91,7 +91,7 @@ Writes input before after (Err Memory) = AnswersBeginning input before after
 Writes input before after (Err Read) = ⊥
 Writes input before after (Err Write) = ⊤
 
--- what is held is written before the outcome is told, unless the writer fails
+-- what is held is written before the run ends, unless the writer fails
 abbrev pub Finishes : Option (List ℕ) → Option (List ℕ) → List ℕ → Result ℕ RunFault → Result ℕ RunFault → Type 0
 Finishes before after held outcome result = (result ≡ Err Write) ⊎ ((result ≡ outcome) × Appends before after held)
 
@@ -110,7 +110,7 @@ Answers unread rest before after (Err Memory) =
     ⊎ ((input : List ℕ) × Consumes unread rest input × IsAtEnd rest × Writes input before after (Err Memory))
 Answers unread rest before after (Err Write) = ⊤
 
--- the status that a program ends with tells what it read and wrote: it is that of an outcome, and `Answers` says of
+-- the status that a program ends with says what it read and wrote: it is that of an outcome, and `Answers` says of
 -- that outcome what was read and written
 abbrev pub EndsAs : Option (List ℕ) → Option (List ℕ) → Option (List ℕ) → Option (List ℕ) → ℕ → Type 0
 EndsAs unread rest before after status =

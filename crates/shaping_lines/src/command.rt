@@ -4,12 +4,12 @@ ghost use Rattle.std.specs.Prelude.{◌≡◌, ◌<◌, ◌≤◌, Some, None, M
 ghost use Rattle.shaping_buffer.specs.ClusterLevel as cluster_level;
 ghost use Rattle.shaping_lines.specs.Commands.{request_in_bytes, request_in, request_named, replacement_in, ids_in};
 ghost use Rattle.shaping_lines.specs.Commands.{command_in, treatment_in, question_in, query_in, call_in, edit_call_in};
+ghost use Rattle.shaping_lines.specs.Commands.{merge_call_in};
 ghost use Rattle.shaping_lines.specs.Commands.{flag_call_in, call_request, request_of, at_most};
 
 use line_words::words::Words;
 use rb_text::Script;
 use shaping_buffer::BufferClusterLevel;
-use shaping_buffer::cluster_level::HB_BUFFER_CLUSTER_LEVEL_CHARACTERS;
 use shaping_runs::Call;
 use std::alloc::{AllocError, Global};
 use std::str;
@@ -121,7 +121,7 @@ fn replacement(alloc: Global, words: &mut Words<'_>) -> Result<Option<Command<'s
     Ok(Some(Command::ReplaceGlyphs { num_in, ids }))
 }
 
-/// So many ids, of which each is a word.
+/// This many ids, of which each is a word.
 fn ids(alloc: Global, count: usize, words: &mut Words<'_>) -> Result<Option<Vec<u32>>, AllocError>
     ensures { IfOk result (λ found. MatchOption found (ids_in count words.old ≡ None)
         (λ ids. ids_in count words.old ≡ Some (ids.items, words.new))) }
@@ -223,7 +223,7 @@ fn call_of(name: &str, words: &mut Words<'_>) -> Option<Call<'static>>
     }
 }
 
-/// The calls that put glyphs out in place of others, or drop one, and those that merge clusters.
+/// The calls that put glyphs out in place of others, or drop one.
 #[tactic(auto, unfolding(crate::specs::Commands::edit_call_in))]
 fn edit_call_of(name: &str, words: &mut Words<'_>) -> Option<Call<'static>>
     ensures { MatchOption result (edit_call_in name.now words.old ≡ None)
@@ -234,8 +234,22 @@ fn edit_call_of(name: &str, words: &mut Words<'_>) -> Option<Call<'static>>
         "output_glyph" => Some(Call::OutputGlyph(words.number()?)),
         "copy_glyph" => Some(Call::CopyGlyph),
         "delete_glyph" => Some(Call::DeleteGlyph),
+        _ => merge_call_of(name, words),
+    }
+}
+
+/// The calls that merge clusters.
+#[tactic(auto, unfolding(crate::specs::Commands::merge_call_in))]
+fn merge_call_of(name: &str, words: &mut Words<'_>) -> Option<Call<'static>>
+    ensures { MatchOption result (merge_call_in name.now words.old ≡ None)
+        (λ call. merge_call_in name.now words.old ≡ Some (call, words.new)) }
+{
+    match name {
         "merge_clusters" => Some(Call::MergeClusters(words.place()?, words.place()?)),
         "merge_out_clusters" => Some(Call::MergeOutClusters(words.place()?, words.place()?)),
+        "merge_grapheme_clusters" => {
+            Some(Call::MergeGraphemeClusters(words.place()?, words.place()?))
+        }
         _ => flag_call_of(name, words),
     }
 }
@@ -260,14 +274,14 @@ fn flag_call_of(name: &str, words: &mut Words<'_>) -> Option<Call<'static>>
 
 /// The cluster level of a number.
 fn level_of(number: u32) -> Option<BufferClusterLevel>
-    ensures { MatchOption result (at_most HB_BUFFER_CLUSTER_LEVEL_CHARACTERS (Some number) ≡ None)
-        (λ level. at_most HB_BUFFER_CLUSTER_LEVEL_CHARACTERS (Some number)
-        ≡ Some (cluster_level.level_of level)) }
+    ensures { MatchOption result (at_most 3 (Some number) ≡ None)
+        (λ level. at_most 3 (Some number) ≡ Some (cluster_level.level_of level)) }
 {
     match number {
         0 => Some(BufferClusterLevel::MonotoneGraphemes),
         1 => Some(BufferClusterLevel::MonotoneCharacters),
         2 => Some(BufferClusterLevel::Characters),
+        3 => Some(BufferClusterLevel::Graphemes),
         _ => None,
     }
 }

@@ -12,8 +12,8 @@ use std::process::ExitCode;
 /// The exit status after a fault.
 const FAULT: u8 = 3;
 
-/// All that the program does: a run over its input and its output, whose fault is told on standard error. It gives the
-/// status to end with.
+/// All that the program does: a run over its input and its output, whose fault is reported on standard error. It gives
+/// the status to end with.
 pub fn run_to_end<R: Read, W: Write, E: Eprint>(
     alloc: Global,
     reader: &mut R,
@@ -27,7 +27,7 @@ pub fn run_to_end<R: Read, W: Write, E: Eprint>(
     conclude(error, outcome)
 }
 
-/// Tells a fault on standard error, and gives the status to end with: that of the run, or 3 after a fault.
+/// Reports a fault on standard error, and gives the status to end with: that of the run, or 3 after a fault.
 pub fn conclude<E: Eprint>(error: &E, outcome: Result<u8, RunFault>) -> ExitCode
     ensures { exit_status result ≡ status_after outcome }
 {
@@ -35,7 +35,7 @@ pub fn conclude<E: Eprint>(error: &E, outcome: Result<u8, RunFault>) -> ExitCode
         Ok(status) => ExitCode::from(status),
         Err(fault) => {
             let message = fault.message();
-            // Where standard error fails too, there is nobody left to tell.
+            // If standard error fails too, there is no place left to report it.
             let _ = eprintln!(error; "{message}");
             ExitCode::from(FAULT)
         }

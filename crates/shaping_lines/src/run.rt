@@ -76,7 +76,7 @@ pub fn run_on<R: Read, W: Write>(
     finish(writer, &mut held, outcome)
 }
 
-/// Writes what is held, also where the memory ran out, before the outcome is told. A writer that failed gets no more.
+/// Writes what is held, also if memory ran out, before it answers. A writer that failed gets no more.
 pub fn finish<W: Write>(
     writer: &mut W,
     held: &mut Vec<u8>,

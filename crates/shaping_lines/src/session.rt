@@ -113,7 +113,7 @@ impl Session {
                 Session::Text(buffer)
             }
             Session::Turned(mut buffer) => {
-                buffer.cluster_level = level as u32;
+                buffer.cluster_level = level.number();
                 Session::Turned(buffer)
             }
         };
@@ -172,7 +172,7 @@ impl Session {
         Ok((Session::Turned(buffer), reply))
     }
 
-    /// Replaces so many glyphs at the cursor by as many as there are ids.
+    /// Replaces this many glyphs at the cursor by as many as there are ids.
     fn replace_glyphs(self, num_in: usize, ids: &[u32]) -> Result<(Session, Reply), AllocError>
         ensures { IfOk result (λ next.
             FollowsTurn (replacement_turn num_in ids.now) self next.0 (reply_text next.1)) }

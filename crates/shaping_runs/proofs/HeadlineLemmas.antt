@@ -2,7 +2,7 @@
 use Rattle.std.proofs.Common.{◌≡◌, ◌↔◌, ◌⊎◌, ℕ, ◌+◌, ◌-◌, ◌<◌, ◌≤◌, inl, inr, Bool, true, false, cond, List, [], ◌∷◌}
 use Rattle.std.proofs.Common.{◌++◌, length, get_or, take, drop, refl, sym, ap, ◌∙◌, subst, arith, ltb, leb}
 use Rattle.std.proofs.Common.{length-append}
-use Rattle.std.proofs.lemmas.Bool.{cond_both, cond-true, cond-false, and_parts, leb-true, ltb-true, eq-eqb}
+use Rattle.std.proofs.lemmas.Bool.{cond_both, cond-true, cond-false, and_parts, leb-true, ltb-true, eq-eqb, not-true}
 use Rattle.std.proofs.lemmas.List.{take-append-drop, length-take-le}
 use Rattle.rb_glyph.specs.declared.info.hb_glyph_info_t.{hb_glyph_info_t}
 use Rattle.glyph_lists.specs.Parts.{part, on_part}
@@ -23,7 +23,10 @@ use Rattle.glyph_laws.proofs.NumbersLemmas.{least-deletion}
 use Rattle.glyph_laws.proofs.ReplacementLemmas.{least-replacement}
 use Rattle.shaping_buffer.specs.State.{State, len, lookahead_len}
 use Rattle.shaping_buffer.specs.Step.{Outcome}
+use Rattle.shaping_buffer.specs.ClusterLevel.{groups_graphemes}
 use Rattle.shaping_buffer.specs.ClusterStep.{both, both_place, any_order, floor_of, range_start, range_end}
+use Rattle.shaping_buffer.specs.ClusterStep.{is_input_range, merge_sides, unsafe_to_break}
+use Rattle.std.specs.Prelude.{Some}
 use Rattle.shaping_buffer.proofs.ReplacementLemmas.{replaced_sides, replaced_both}
 use Rattle.shaping_runs.specs.declared.call.Call.{Call}
 use Rattle.shaping_runs.specs.declared.call.Call.TheVariants.{ClearOutput, NextGlyph, NextGlyphs, SkipGlyph}
@@ -32,10 +35,11 @@ use Rattle.shaping_runs.specs.declared.call.Call.TheVariants.{CopyGlyph, MoveTo,
 use Rattle.shaping_runs.specs.declared.call.Call.TheVariants.{MergeOutClusters, UnsafeToBreak}
 use Rattle.shaping_runs.specs.declared.call.Call.TheVariants.{UnsafeToBreakFromOutbuffer, SafeToInsertTatweel}
 use Rattle.shaping_runs.specs.declared.call.Call.TheVariants.{UnsafeToConcat, UnsafeToConcatFromOutbuffer}
+use Rattle.shaping_runs.specs.declared.call.Call.TheVariants.{MergeGraphemeClusters}
 use Rattle.shaping_runs.specs.Replay.{Turn, turn, may_be_made, outcome_of, has_glyph}
 use Rattle.shaping_runs.specs.Headline.{HasMonotoneClusters, ReachesBothSides, is_merge, is_break, from_place, to_place}
 use Rattle.shaping_runs.specs.Headline.{range_of}
-use Rattle.shaping_runs.proofs.Steps.{input_within, input_order, place_within, front_left, glyph_left}
+use Rattle.shaping_runs.proofs.Steps.{input_within, input_order, place_within, front_left, glyph_left, end_kept}
 
 -- what a call leaves within its condition
 made : (call : Call) (s : State) → may_be_made call s ≡ true → both (turn call s).state ≡ both (outcome_of call s).state
@@ -55,21 +59,29 @@ module _ (s : State) (mono : HasMonotoneClusters s) where
   merged_part : (p q : ℕ) → q ≤ length (both s) → run_merge (both s) p q 0 ≡ cluster_merge (both s) (part (both s) p q)
   merged_part p q in_l = run_merge_is_cluster_merge (both s) p q in_l (IsContiguous-from_monotone (both s) mono.order)
 
-  merged_by : (call : Call) → is_merge call ≡ true → may_be_made call s ≡ true → ReachesBothSides s
-      → both (outcome_of call s).state ≡ cluster_merge (both s) (range_of call s)
-  merged_by (MergeClusters start end) is e reaches =
+  input_merged : (any_order : Bool) → any_order ≡ false → (start end : ℕ) → is_input_range start end s ≡ true
+      → ReachesBothSides s
+      → both (merge_sides any_order (both_place s start) (both_place s end) s)
+      ≡ cluster_merge (both s) (part (both s) (both_place s start) (both_place s end))
+  input_merged any_order level start end e reaches =
       let p = both_place s start in
       let q = both_place s end in
-      take-append-drop (length s.out) (merge_or_mark (any_order s) (both s) p q (floor_of s))
-      ∙ merge_or_mark_merges (any_order s) (both s) p q (floor_of s) mono.level
+      take-append-drop (length s.out) (merge_or_mark any_order (both s) p q (floor_of s))
+      ∙ merge_or_mark_merges any_order (both s) p q (floor_of s) level
       ∙ ap (run_merge (both s) p q) (floor_none s reaches)
       ∙ merged_part p q (place_in s end (input_within start end s e))
+
+  merged_by : (call : Call) → is_merge call s ≡ true → may_be_made call s ≡ true → ReachesBothSides s
+      → both (outcome_of call s).state ≡ cluster_merge (both s) (range_of call s)
+  merged_by (MergeClusters start end) is e reaches = input_merged (any_order s) mono.level start end e reaches
   merged_by (MergeOutClusters start end) is e reaches =
       let w = and_parts s.have_output _ e in
       let within : end ≤ length s.out = leb-true end (length s.out) (and_parts (leb start end) _ w.1).1 in
       take-append-drop (length s.out) (cond (any_order s) (both s) (run_merge (both s) start end 0))
       ∙ cond-false (any_order s) _ _ mono.level
       ∙ merged_part start end (omega (arith, length-append s.out s.input))
+  merged_by (MergeGraphemeClusters start end) is e reaches =
+      ap both (cond-true (groups_graphemes s.cluster_level) _ _ is) ∙ input_merged false refl start end e reaches
   merged_by ClearOutput is e reaches = cc
   merged_by NextGlyph is e reaches = cc
   merged_by (NextGlyphs n) is e reaches = cc
@@ -88,7 +100,7 @@ module _ (s : State) (mono : HasMonotoneClusters s) where
   merged_by (UnsafeToConcat start end) is e reaches = cc
   merged_by (UnsafeToConcatFromOutbuffer start end) is e reaches = cc
 
-pub merge_coarsens : (call : Call) (s : State) → is_merge call ≡ true → may_be_made call s ≡ true
+pub merge_coarsens : (call : Call) (s : State) → is_merge call s ≡ true → may_be_made call s ≡ true
     → HasMonotoneClusters s → ReachesBothSides s
     → both (turn call s).state ≡ cluster_merge (both s) (range_of call s)
 merge_coarsens call s is e mono reaches = made call s e ∙ merged_by s mono call is e reaches
@@ -101,7 +113,7 @@ SharesAfter l r new =
     ⊎ ((occurs (get_or (clusters l) i 0) (clusters r) ≡ true)
     × (occurs (get_or (clusters l) j 0) (clusters r) ≡ true)))
 
-pub merge_shares_by : (call : Call) (s : State) → is_merge call ≡ true → may_be_made call s ≡ true
+pub merge_shares_by : (call : Call) (s : State) → is_merge call s ≡ true → may_be_made call s ≡ true
     → HasMonotoneClusters s → ReachesBothSides s
     → SharesAfter (both s) (range_of call s) (both (turn call s).state)
 merge_shares_by call s is e mono reaches =
@@ -113,7 +125,7 @@ KeepsAfter l new =
     (i : ℕ) → i < length l → get_or (clusters new) i 0 ≡ get_or (clusters l) i 0
     → get_or new i zero_glyph ≡ get_or l i zero_glyph
 
-pub merge_keeps_by : (call : Call) (s : State) → is_merge call ≡ true → may_be_made call s ≡ true
+pub merge_keeps_by : (call : Call) (s : State) → is_merge call s ≡ true → may_be_made call s ≡ true
     → HasMonotoneClusters s → ReachesBothSides s
     → KeepsAfter (both s) (both (turn call s).state)
 merge_keeps_by call s is e mono reaches =
@@ -159,25 +171,34 @@ module _ (s : State) (mono : HasMonotoneClusters s) where
   end_in : (end : _) → both_place s (range_end end s) ≤ length (both s)
   end_in end = place_in s (range_end end s) (omega arith)
 
-  marked_by : (call : Call) → is_break call ≡ true → may_be_made call s ≡ true
-      → both (outcome_of call s).state ≡ on_part (mark BREAK_BITS) (both s) (from_place call s) (to_place call s)
-  marked_by (UnsafeToBreak start end) is e =
-      let a = range_start start in
+  input_marked : (start : ℕ) (end : _) → start ≤ range_end end s
+      → both (unsafe_to_break (Some start) end s)
+      ≡ on_part (mark BREAK_BITS) (both s) (both_place s start) (both_place s (range_end end s))
+  input_marked a end up =
       let b = range_end end s in
       let p = both_place s a in
       let q = both_place s b in
-      let up : a ≤ b = input_order a b s e in
       cond_both (ltb (b - a) 2) _ _ (λ (t : State). both t ≡ on_part (mark BREAK_BITS) (both s) p q)
       (λ short. let few = ltb-true (b - a) 2 short in
       sym (mark_in_short BREAK_BITS (both s) p q (omega arith) (omega arith) (end_in end)))
       (λ _. take-append-drop (length s.out) (on_part (scan_of (any_order s) BREAK_BITS) (both s) p q)
       ∙ scanned (any_order s) BREAK_BITS p q mono.level (end_in end))
+
+  marked_by : (call : Call) → is_break call s ≡ true → may_be_made call s ≡ true
+      → both (outcome_of call s).state ≡ on_part (mark BREAK_BITS) (both s) (from_place call s) (to_place call s)
+  marked_by (UnsafeToBreak start end) is e =
+      input_marked (range_start start) end (input_order (range_start start) (range_end end s) s e)
   marked_by (UnsafeToBreakFromOutbuffer start end) is e =
       let p = range_start start in
       let q = both_place s (range_end end s) in
       let k = length s.out - p in
       take-append-drop (length s.out) (on_part (two_part_scan (any_order s) BREAK_BITS k) (both s) p q)
       ∙ two_scanned (any_order s) BREAK_BITS k p q mono.level (end_in end)
+  marked_by (MergeGraphemeClusters start end) is e =
+      let kept = end_kept end s (input_within start end s e) in
+      ap both (cond-false (groups_graphemes s.cluster_level) _ _ (not-true (groups_graphemes s.cluster_level) is))
+      ∙ input_marked start (Some end) (subst (λ k. start ≤ k) (sym kept) (input_order start end s e))
+      ∙ ap (λ k. on_part (mark BREAK_BITS) (both s) (both_place s start) (both_place s k)) kept
   marked_by ClearOutput is e = cc
   marked_by NextGlyph is e = cc
   marked_by (NextGlyphs n) is e = cc
@@ -196,7 +217,7 @@ module _ (s : State) (mono : HasMonotoneClusters s) where
   marked_by (UnsafeToConcat start end) is e = cc
   marked_by (UnsafeToConcatFromOutbuffer start end) is e = cc
 
-pub break_marks : (call : Call) (s : State) → is_break call ≡ true → may_be_made call s ≡ true → HasMonotoneClusters s
+pub break_marks : (call : Call) (s : State) → is_break call s ≡ true → may_be_made call s ≡ true → HasMonotoneClusters s
     → both (turn call s).state ≡ on_part (mark BREAK_BITS) (both s) (from_place call s) (to_place call s)
 break_marks call s is e mono = made call s e ∙ marked_by s mono call is e
 

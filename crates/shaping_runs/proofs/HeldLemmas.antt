@@ -18,6 +18,7 @@ use Rattle.shaping_runs.specs.declared.call.Call.TheVariants.{CopyGlyph, MoveTo,
 use Rattle.shaping_runs.specs.declared.call.Call.TheVariants.{MergeOutClusters, UnsafeToBreak}
 use Rattle.shaping_runs.specs.declared.call.Call.TheVariants.{UnsafeToBreakFromOutbuffer, SafeToInsertTatweel}
 use Rattle.shaping_runs.specs.declared.call.Call.TheVariants.{UnsafeToConcat, UnsafeToConcatFromOutbuffer}
+use Rattle.shaping_runs.specs.declared.call.Call.TheVariants.{MergeGraphemeClusters}
 use Rattle.shaping_runs.specs.declared.call.Answer.TheVariants.{Refused}
 use Rattle.shaping_runs.specs.Replay.{Turn, turn, after, answer_of, may_be_made, outcome_of, has_glyph}
 use Rattle.shaping_runs.specs.Headline.{held, held_open, moves_or_syncs, awaits_clear}
@@ -159,6 +160,8 @@ outcome_exact (MergeClusters start end) s e free =
     holds_nothing (MergeClusters start end) s (outcome_of (MergeClusters start end) s).state refl
 outcome_exact (MergeOutClusters start end) s e free =
     holds_nothing (MergeOutClusters start end) s (outcome_of (MergeOutClusters start end) s).state refl
+outcome_exact (MergeGraphemeClusters start end) s e free =
+    holds_nothing (MergeGraphemeClusters start end) s (outcome_of (MergeGraphemeClusters start end) s).state refl
 outcome_exact (UnsafeToBreak start end) s e free =
     holds_nothing (UnsafeToBreak start end) s (outcome_of (UnsafeToBreak start end) s).state refl
 outcome_exact (UnsafeToBreakFromOutbuffer start end) s e free =
@@ -230,6 +233,7 @@ outcome_changes SkipGlyph s e = done_changes s _
 outcome_changes DeleteGlyph s e = done_changes s _
 outcome_changes (MergeClusters start end) s e = done_changes s _
 outcome_changes (MergeOutClusters start end) s e = done_changes s _
+outcome_changes (MergeGraphemeClusters start end) s e = done_changes s _
 outcome_changes (UnsafeToBreak start end) s e = done_changes s _
 outcome_changes (UnsafeToBreakFromOutbuffer start end) s e = done_changes s _
 outcome_changes (SafeToInsertTatweel start end) s e = done_changes s _
@@ -260,6 +264,7 @@ waits CopyGlyph s is opened h e = cc
 waits DeleteGlyph s is opened h e = cc
 waits (MergeClusters start end) s is opened h e = cc
 waits (MergeOutClusters start end) s is opened h e = cc
+waits (MergeGraphemeClusters start end) s is opened h e = cc
 waits (UnsafeToBreak start end) s is opened h e = cc
 waits (UnsafeToBreakFromOutbuffer start end) s is opened h e = cc
 waits (SafeToInsertTatweel start end) s is opened h e = cc

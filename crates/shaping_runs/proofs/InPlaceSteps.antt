@@ -10,12 +10,13 @@ use Rattle.rb_glyph.specs.declared.info.hb_glyph_info_t.{hb_glyph_info_t}
 use Rattle.glyph_lists.specs.Replacement.{copies}
 use Rattle.glyph_lists.proofs.LengthsLemmas.{length-deletion}
 use Rattle.shaping_buffer.proofs.ReplacementLemmas.{length_copies}
+use Rattle.shaping_buffer.specs.ClusterLevel.{groups_graphemes}
 use Rattle.shaping_buffer.specs.State.{State}
 use Rattle.shaping_buffer.specs.Step.{Outcome, limited, put_out, skip_glyph, skip_glyphs, next_glyphs, replace_glyphs}
 use Rattle.shaping_buffer.specs.Step.{move_to, split_at, sync, with_id}
 use Rattle.shaping_buffer.specs.ClusterStep.{any_order, both_place, merge_clusters, merge_out_clusters, delete_glyph}
 use Rattle.shaping_buffer.specs.ClusterStep.{head_of, scan, plain_scan, flag_all, asks, range_start, range_end}
-use Rattle.shaping_buffer.specs.ClusterStep.{unsafe_to_break_from_outbuffer}
+use Rattle.shaping_buffer.specs.ClusterStep.{merge_sides, unsafe_to_break_from_outbuffer}
 use Rattle.shaping_runs.specs.declared.call.Call.{Call}
 use Rattle.shaping_runs.specs.declared.call.Call.TheVariants.{ClearOutput, NextGlyph, NextGlyphs, SkipGlyph}
 use Rattle.shaping_runs.specs.declared.call.Call.TheVariants.{ReplaceGlyph, ReplaceGlyphs, OutputGlyph, OutputInfo}
@@ -23,6 +24,7 @@ use Rattle.shaping_runs.specs.declared.call.Call.TheVariants.{CopyGlyph, MoveTo,
 use Rattle.shaping_runs.specs.declared.call.Call.TheVariants.{MergeOutClusters, UnsafeToBreak}
 use Rattle.shaping_runs.specs.declared.call.Call.TheVariants.{UnsafeToBreakFromOutbuffer, SafeToInsertTatweel}
 use Rattle.shaping_runs.specs.declared.call.Call.TheVariants.{UnsafeToConcat, UnsafeToConcatFromOutbuffer}
+use Rattle.shaping_runs.specs.declared.call.Call.TheVariants.{MergeGraphemeClusters}
 use Rattle.shaping_runs.specs.Replay.{Turn, turn, may_be_made, outcome_of}
 use Rattle.shaping_runs.specs.Exceptions.{adds_glyphs, NoGlyphIsAdded}
 use Rattle.shaping_runs.specs.Separation.{IsInPlace, StaysInPlace}
@@ -134,10 +136,10 @@ module _ (s : State) (here : IsInPlace s) where
         closed = here.closed;
       })
 
-  scan_stays : (bits p q : ℕ) → IsInPlace (scan bits p q s)
-  scan_stays bits p q = kept (scan bits p q s) refl refl (cut _) (omega arith)
+  scan_stays : (bits p q : ℕ) → IsInPlace (scan (any_order s) bits p q s)
+  scan_stays bits p q = kept (scan (any_order s) bits p q s) refl refl (cut _) (omega arith)
 
-  plain_scan_stays : (bits start end : ℕ) → IsInPlace (plain_scan bits start end s)
+  plain_scan_stays : (bits start end : ℕ) → IsInPlace (plain_scan (any_order s) bits start end s)
   plain_scan_stays bits start end = cond_both (ltb _ 2) _ _ (λ (t : State). IsInPlace t) (λ _. here)
       (λ _. scan_stays bits (both_place s start) (both_place s end))
 
@@ -166,6 +168,10 @@ module _ (s : State) (here : IsInPlace s) where
   outcome_stays (MergeClusters start end) none may = kept (merge_clusters start end s) refl refl (cut _) (omega arith)
   outcome_stays (MergeOutClusters start end) none may =
       kept (merge_out_clusters start end s) refl refl (cut _) (omega arith)
+  outcome_stays (MergeGraphemeClusters start end) none may =
+      cond_both (groups_graphemes s.cluster_level) _ _ (λ (t : State). IsInPlace t)
+      (λ _. kept (merge_sides false (both_place s start) (both_place s end) s) refl refl (cut _) (omega arith))
+      (λ _. plain_scan_stays _ _ _)
   outcome_stays (UnsafeToBreak start end) none may = plain_scan_stays _ _ _
   outcome_stays (UnsafeToBreakFromOutbuffer start end) none may =
       kept (unsafe_to_break_from_outbuffer start end s) refl refl (cut _) (omega arith)

@@ -11,3 +11,4 @@ pub mod InPlaceSteps
 pub mod InPlaceLaws
 pub mod HeldLemmas
 pub mod HeadlineLemmas
+pub mod OldRuns

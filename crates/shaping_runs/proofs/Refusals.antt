@@ -4,11 +4,12 @@ use Rattle.std.proofs.Common.{leb}
 use Rattle.std.proofs.lemmas.Bool.{cond_both, cond-true, cond-false, le-leb}
 use Rattle.rb_glyph.specs.declared.flag_sets.TheConstants.BufferFlags.{PRODUCE_UNSAFE_TO_CONCAT}
 use Rattle.rb_glyph.specs.declared.info.hb_glyph_info_t.{hb_glyph_info_t}
+use Rattle.shaping_buffer.specs.ClusterLevel.{groups_graphemes}
 use Rattle.shaping_buffer.specs.State.{State}
 use Rattle.shaping_buffer.specs.Step.{Outcome, limited, put_out, skip_glyph, skip_glyphs, next_glyphs, glyph_to_copy}
 use Rattle.shaping_buffer.specs.Step.{split_at, refused, last_place, with_id}
 use Rattle.glyph_lists.specs.Replacement.{copies}
-use Rattle.shaping_buffer.specs.ClusterStep.{merge_clusters, head_of, plain_scan, asks}
+use Rattle.shaping_buffer.specs.ClusterStep.{any_order, merge_clusters, head_of, plain_scan, asks}
 use Rattle.shaping_runs.specs.declared.call.Call.{Call}
 use Rattle.shaping_runs.specs.declared.call.Call.TheVariants.{ClearOutput, NextGlyph, NextGlyphs, SkipGlyph}
 use Rattle.shaping_runs.specs.declared.call.Call.TheVariants.{ReplaceGlyph, ReplaceGlyphs, OutputGlyph, OutputInfo}
@@ -16,6 +17,7 @@ use Rattle.shaping_runs.specs.declared.call.Call.TheVariants.{CopyGlyph, MoveTo,
 use Rattle.shaping_runs.specs.declared.call.Call.TheVariants.{MergeOutClusters, UnsafeToBreak}
 use Rattle.shaping_runs.specs.declared.call.Call.TheVariants.{UnsafeToBreakFromOutbuffer, SafeToInsertTatweel}
 use Rattle.shaping_runs.specs.declared.call.Call.TheVariants.{UnsafeToConcat, UnsafeToConcatFromOutbuffer}
+use Rattle.shaping_runs.specs.declared.call.Call.TheVariants.{MergeGraphemeClusters}
 use Rattle.shaping_runs.specs.declared.call.Answer.TheVariants.{Refused}
 use Rattle.shaping_runs.specs.Replay.{Turn, turn, after, answer_of, may_be_made, outcome_of}
 
@@ -33,7 +35,7 @@ next_stays n s h = cond_both s.have_output _ _ (λ (o : Outcome). o.state.succes
     (λ _. put_out_stays (take n s.input) s (skip_glyphs n s) h) (λ _. h)
 
 plain_scan_stays : (bits start end : ℕ) (s : State) → s.successful ≡ false
-    → (plain_scan bits start end s).successful ≡ false
+    → (plain_scan (any_order s) bits start end s).successful ≡ false
 plain_scan_stays bits start end s h = cond_both (ltb _ 2) _ _ (λ (t : State). t.successful ≡ false) (λ _. h) (λ _. h)
 
 outcome_stays : (call : Call) (s : State) → s.successful ≡ false → (outcome_of call s).state.successful ≡ false
@@ -59,6 +61,9 @@ outcome_stays Sync s h = cond_both s.successful _ _ (λ (o : Outcome). o.state.s
 outcome_stays DeleteGlyph s h = h
 outcome_stays (MergeClusters start end) s h = h
 outcome_stays (MergeOutClusters start end) s h = h
+outcome_stays (MergeGraphemeClusters start end) s h =
+    cond_both (groups_graphemes s.cluster_level) _ _ (λ (t : State). t.successful ≡ false) (λ _. h)
+    (λ _. plain_scan_stays _ _ _ s h)
 outcome_stays (UnsafeToBreak start end) s h = plain_scan_stays _ _ _ s h
 outcome_stays (UnsafeToBreakFromOutbuffer start end) s h = h
 outcome_stays (SafeToInsertTatweel start end) s h = plain_scan_stays _ _ _ s h

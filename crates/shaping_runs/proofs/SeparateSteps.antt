@@ -9,12 +9,13 @@ use Rattle.rb_glyph.specs.declared.glyph_flag.TheConstants.{UNSAFE_TO_CONCAT}
 use Rattle.rb_glyph.specs.declared.info.hb_glyph_info_t.{hb_glyph_info_t}
 use Rattle.glyph_lists.specs.Replacement.{copies}
 use Rattle.glyph_lists.proofs.LengthsLemmas.{length-deletion}
+use Rattle.shaping_buffer.specs.ClusterLevel.{groups_graphemes}
 use Rattle.shaping_buffer.specs.State.{State}
 use Rattle.shaping_buffer.specs.Step.{Outcome, limited, put_out, skip_glyph, skip_glyphs, next_glyphs, glyph_to_copy}
 use Rattle.shaping_buffer.specs.Step.{move_to, split_at, sync, with_id}
 use Rattle.shaping_buffer.specs.ClusterStep.{any_order, both_place, merge_clusters, merge_out_clusters, delete_glyph}
 use Rattle.shaping_buffer.specs.ClusterStep.{head_of, scan, plain_scan, flag_all, asks, range_start, range_end}
-use Rattle.shaping_buffer.specs.ClusterStep.{unsafe_to_break_from_outbuffer}
+use Rattle.shaping_buffer.specs.ClusterStep.{merge_sides, unsafe_to_break_from_outbuffer}
 use Rattle.shaping_runs.specs.declared.call.Call.{Call}
 use Rattle.shaping_runs.specs.declared.call.Call.TheVariants.{ClearOutput, NextGlyph, NextGlyphs, SkipGlyph}
 use Rattle.shaping_runs.specs.declared.call.Call.TheVariants.{ReplaceGlyph, ReplaceGlyphs, OutputGlyph, OutputInfo}
@@ -22,6 +23,7 @@ use Rattle.shaping_runs.specs.declared.call.Call.TheVariants.{CopyGlyph, MoveTo,
 use Rattle.shaping_runs.specs.declared.call.Call.TheVariants.{MergeOutClusters, UnsafeToBreak}
 use Rattle.shaping_runs.specs.declared.call.Call.TheVariants.{UnsafeToBreakFromOutbuffer, SafeToInsertTatweel}
 use Rattle.shaping_runs.specs.declared.call.Call.TheVariants.{UnsafeToConcat, UnsafeToConcatFromOutbuffer}
+use Rattle.shaping_runs.specs.declared.call.Call.TheVariants.{MergeGraphemeClusters}
 use Rattle.shaping_runs.specs.Replay.{Turn, turn, may_be_made, outcome_of}
 use Rattle.shaping_runs.specs.Separation.{IsNear, Follows}
 
@@ -61,10 +63,10 @@ module _ (s : State) (near : IsNear s) where
   cut : (l : List hb_glyph_info_t) → length (take (length s.out) l) ≤ length s.out
   cut l = omega (arith, length-take (length s.out) l)
 
-  scan_told : (bits p q : ℕ) → Told s (scan bits p q s)
-  scan_told bits p q = out_kept (scan bits p q s) refl (cut _) (omega arith)
+  scan_told : (bits p q : ℕ) → Told s (scan (any_order s) bits p q s)
+  scan_told bits p q = out_kept (scan (any_order s) bits p q s) refl (cut _) (omega arith)
 
-  plain_scan_told : (bits start end : ℕ) → Told s (plain_scan bits start end s)
+  plain_scan_told : (bits start end : ℕ) → Told s (plain_scan (any_order s) bits start end s)
   plain_scan_told bits start end = cond_both (ltb _ 2) _ _ (λ (t : State). Told s t) (λ _. same)
       (λ _. scan_told bits (both_place s start) (both_place s end))
 
@@ -107,6 +109,10 @@ module _ (s : State) (near : IsNear s) where
         out_kept (delete_glyph s) refl (omega (arith, d.0)) (omega arith)
     outcome_told (MergeClusters start end) may = out_kept (merge_clusters start end s) refl (cut _) (omega arith)
     outcome_told (MergeOutClusters start end) may = out_kept (merge_out_clusters start end s) refl (cut _) (omega arith)
+    outcome_told (MergeGraphemeClusters start end) may =
+        cond_both (groups_graphemes s.cluster_level) _ _ (λ (t : State). Told s t)
+        (λ _. out_kept (merge_sides false (both_place s start) (both_place s end) s) refl (cut _) (omega arith))
+        (λ _. plain_scan_told _ _ _)
     outcome_told (UnsafeToBreak start end) may = plain_scan_told _ _ _
     outcome_told (UnsafeToBreakFromOutbuffer start end) may =
         out_kept (unsafe_to_break_from_outbuffer start end s) refl (cut _) (omega arith)

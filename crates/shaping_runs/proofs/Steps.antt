@@ -5,7 +5,7 @@ use Rattle.std.proofs.Common.{leb, append_assoc}
 use Rattle.std.proofs.lemmas.Bool.{cond_both, cond-true, cond-false, cases_Bool, false≢true, and_parts, ltb-true}
 use Rattle.std.proofs.lemmas.Bool.{ltb-false, leb-true}
 use Rattle.std.proofs.lemmas.List.{take-append-drop}
-use Rattle.std.specs.Prelude.{slice_index_or}
+use Rattle.std.specs.Prelude.{Some, slice_index_or}
 use Rattle.rb_glyph.specs.declared.info.hb_glyph_info_t.{hb_glyph_info_t}
 use Rattle.glyph_lists.specs.Parts.{part, on_part, map_range}
 use Rattle.glyph_lists.specs.Clusters.{zero_glyph, run_merge}
@@ -18,7 +18,8 @@ use Rattle.shaping_buffer.specs.State.{State, len, lookahead_len}
 use Rattle.shaping_buffer.specs.Step.{Outcome, limited, put_out, skip_glyphs, next_glyphs, glyph_to_copy}
 use Rattle.shaping_buffer.specs.Step.{replace_glyphs, move_to, split_at, with_id}
 use Rattle.shaping_buffer.proofs.ReplacementLemmas.{front_replaced, replaced_sides, replaced_both}
-use Rattle.shaping_buffer.specs.ClusterStep.{both, with_both, both_place, floor_of, any_order, merge_clusters}
+use Rattle.shaping_buffer.specs.ClusterLevel.{groups_graphemes}
+use Rattle.shaping_buffer.specs.ClusterStep.{both, with_both, both_place, floor_of, any_order, merge_sides}
 use Rattle.shaping_buffer.specs.ClusterStep.{merge_out_clusters, scan, plain_scan, scan_sides, flag_all, asks}
 use Rattle.shaping_buffer.specs.ClusterStep.{is_input_range, is_sides_range, range_start, range_end}
 use Rattle.glyph_lists.specs.declared.glyph_flags.TheConstants.{BREAK_BITS}
@@ -34,6 +35,7 @@ use Rattle.shaping_runs.specs.declared.call.Call.TheVariants.{CopyGlyph, MoveTo,
 use Rattle.shaping_runs.specs.declared.call.Call.TheVariants.{MergeOutClusters, UnsafeToBreak}
 use Rattle.shaping_runs.specs.declared.call.Call.TheVariants.{UnsafeToBreakFromOutbuffer, SafeToInsertTatweel}
 use Rattle.shaping_runs.specs.declared.call.Call.TheVariants.{UnsafeToConcat, UnsafeToConcatFromOutbuffer}
+use Rattle.shaping_runs.specs.declared.call.Call.TheVariants.{MergeGraphemeClusters}
 use Rattle.shaping_runs.specs.Replay.{Turn, turn, after, may_be_made, outcome_of, has_glyph}
 use Rattle.shaping_runs.specs.Exceptions.{is_merge_stopped_at_cursor, brings_glyph, NoGlyphIsBrought}
 
@@ -44,6 +46,10 @@ input_order start end s e = leb-true start end (and_parts (leb start end) _ e).0
 
 pub input_within : (start end : ℕ) (s : State) → is_input_range start end s ≡ true → end ≤ len s
 input_within start end s e = leb-true end (len s) (and_parts (leb end (len s)) _ (and_parts (leb start end) _ e).1).0
+
+-- an end in the list is not cut
+pub end_kept : (end : ℕ) (s : State) → end ≤ len s → range_end (Some end) s ≡ end
+end_kept end s h = omega arith
 
 pub place_within : (have_output : Bool) (idx n end : ℕ) → end ≤ cond have_output (idx + n) n
     → end - cond have_output idx 0 ≤ n
@@ -164,13 +170,21 @@ module _ (P : List hb_glyph_info_t → Type 0) (Floor : ℕ → Type 0) (steps :
   with_both_keeps : (l : List hb_glyph_info_t) (s : State) → P l → P (both (with_both l s))
   with_both_keeps l s h = subst P (sym (take-append-drop (length s.out) l)) h
 
-  merge_keeps : (start end : ℕ) (s : State) → end ≤ len s → Floor (floor_of s) → P (both s)
-      → P (both (merge_clusters start end s))
-  merge_keeps start end s in_len floor h =
+  merge_keeps : (any_order : Bool) (start end : ℕ) (s : State) → end ≤ len s → Floor (floor_of s) → P (both s)
+      → P (both (merge_sides any_order (both_place s start) (both_place s end) s))
+  merge_keeps any_order start end s in_len floor h =
       let low = place_within s.have_output s.idx (length s.input) end in_len in
-      with_both_keeps (merge_or_mark (any_order s) (both s) (both_place s start) (both_place s end) (floor_of s)) s
-      (steps.after_merge (any_order s) (both s) (both_place s start) (both_place s end) (floor_of s) floor
+      with_both_keeps (merge_or_mark any_order (both s) (both_place s start) (both_place s end) (floor_of s)) s
+      (steps.after_merge any_order (both s) (both_place s start) (both_place s end) (floor_of s) floor
       (omega (arith, low, length-append s.out s.input)) h)
+
+  -- the floor of a merge that is not stopped at the cursor is allowed
+  floor_held : (within : Bool) (s : State) → within ≡ true
+      → ((within && (not s.have_output && ltb 0 s.idx)) ≡ true → Floor (floor_of s)) → Floor (floor_of s)
+  floor_held within s e held = elim (cases_Bool (within && (not s.have_output && ltb 0 s.idx))) [
+    | inl on ↦ held on
+    | inr off ↦ subst Floor (sym (floor_zero within s.have_output s.idx e off)) steps.lowest
+  ]
 
   merge_out_keeps : (start end : ℕ) (s : State) → end ≤ length s.out → P (both s)
       → P (both (merge_out_clusters start end s))
@@ -182,19 +196,19 @@ module _ (P : List hb_glyph_info_t → Type 0) (Floor : ℕ → Type 0) (steps :
       h))
 
   module _ (bits : ℕ) (safe : BreakImpliesConcat bits) (s : State) (h : P (both s)) where
-    scan_keeps : (p q : ℕ) → p ≤ q → P (both (scan bits p q s))
+    scan_keeps : (p q : ℕ) → p ≤ q → P (both (scan (any_order s) bits p q s))
     scan_keeps p q up =
         with_both_keeps (on_part (scan_of (any_order s) bits) (both s) p q) s
         (subst (λ xs. P (take p (both s) ++ xs ++ drop q (both s)))
         (two_part_scan-none (any_order s) bits (part (both s) p q))
         (steps.after_scan (any_order s) bits 0 safe (both s) p q up h))
 
-    plain_scan_keeps : (start end : ℕ) → start ≤ end → P (both (plain_scan bits start end s))
+    plain_scan_keeps : (start end : ℕ) → start ≤ end → P (both (plain_scan (any_order s) bits start end s))
     plain_scan_keeps start end up =
         cond_both (ltb (end - start) 2) _ _ (λ (t : State). P (both t)) (λ _. h)
         (λ _. scan_keeps (both_place s start) (both_place s end) (omega arith))
 
-    scan_sides_keeps : (p q : ℕ) → p ≤ q → P (both (scan_sides bits p q s))
+    scan_sides_keeps : (p q : ℕ) → p ≤ q → P (both (scan_sides (any_order s) bits p q s))
     scan_sides_keeps p q up =
         with_both_keeps (on_part (two_part_scan (any_order s) bits (length s.out - p)) (both s) p q) s
         (steps.after_scan (any_order s) bits (length s.out - p) safe (both s) p q up h)
@@ -234,14 +248,19 @@ module _ (P : List hb_glyph_info_t → Type 0) (Floor : ℕ → Type 0) (steps :
       let w = and_parts s.have_output (has_glyph s) e in
       delete_keeps (any_order s) s.out s.input (glyph_left s.have_output s.idx (length s.input) w.0 w.1) h
   outcome_keeps (MergeClusters start end) s e own held h =
-      merge_keeps start end s (input_within start end s e)
-      (elim (cases_Bool (is_merge_stopped_at_cursor (MergeClusters start end) s)) [
-        | inl on ↦ held on
-        | inr off ↦ subst Floor (sym (floor_zero (is_input_range start end s) s.have_output s.idx e off)) steps.lowest
-      ]) h
+      merge_keeps (any_order s) start end s (input_within start end s e)
+      (floor_held (is_input_range start end s) s e held) h
   outcome_keeps (MergeOutClusters start end) s e own held h =
       let w = and_parts s.have_output _ e in
       merge_out_keeps start end s (leb-true end (length s.out) (and_parts (leb start end) _ w.1).1) h
+  outcome_keeps (MergeGraphemeClusters start end) s e own held h =
+      cond_both (groups_graphemes s.cluster_level) _ _ (λ (t : State). P (both t))
+      (λ groups. merge_keeps false start end s (input_within start end s e)
+      (floor_held (is_input_range start end s) s e
+      (λ on. held (ap (λ b. b && (is_input_range start end s && (not s.have_output && ltb 0 s.idx))) groups ∙ on))) h)
+      (λ _. plain_scan_keeps BREAK_BITS three_agrees s h start (range_end (Some end) s)
+      (input_order start (range_end (Some end) s) s
+      (subst (λ k. is_input_range start k s ≡ true) (sym (end_kept end s (input_within start end s e))) e)))
   outcome_keeps (UnsafeToBreak start end) s e own held h =
       plain_scan_keeps BREAK_BITS three_agrees s h (range_start start) (range_end end s)
       (input_order (range_start start) (range_end end s) s e)

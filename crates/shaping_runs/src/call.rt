@@ -9,14 +9,15 @@ pub enum Call<'a> {
     ClearOutput,
     /// Puts the glyph at the cursor out; with no output open only the cursor moves. Requires a glyph there.
     NextGlyph,
-    /// Puts so many glyphs at the cursor out; with no output open only the cursor moves. Requires as many glyphs there.
+    /// Puts this many glyphs at the cursor out; with no output open only the cursor moves. Requires as many glyphs
+    /// there.
     NextGlyphs(usize),
     /// Drops the glyph at the cursor; with no output open only the cursor moves. Requires a glyph there.
     SkipGlyph,
     /// Puts the glyph at the cursor out under this id. Requires an open output and a glyph at the cursor.
     ReplaceGlyph(u32),
-    /// Merges so many glyphs at the cursor, and puts out copies of the first as it then stands in their stead, under so
-    /// many of these ids. Requires an open output, a glyph at the cursor, as many glyphs there and as many ids.
+    /// Merges this many glyphs at the cursor, and puts out copies of the first, as it then is, in place of them, under
+    /// this many of these ids. Requires an open output, a glyph at the cursor, as many glyphs there and as many ids.
     ReplaceGlyphs(usize, usize, &'a [u32]),
     /// Puts a copy of the glyph at the cursor out, under this id, or of the last that was put out where none is left to
     /// read; nothing where both sides are empty. Requires an open output.
@@ -39,6 +40,9 @@ pub enum Call<'a> {
     /// Merges the clusters of the out side from a start to an end. Requires an open output and
     /// `start <= end <= out_len`.
     MergeOutClusters(usize, usize),
+    /// Makes a grapheme of the input one cluster, from a start to an end; at levels 1 and 2 as `UnsafeToBreak` does.
+    /// Requires what `MergeClusters` requires.
+    MergeGraphemeClusters(usize, usize),
     /// Marks the input's glyphs from a start (the origin) to an end (the length, to which it is cut) that a scan
     /// finds outside the least cluster as unsafe to break and to concatenate. Requires `start <= end`, and with an
     /// output open that the start is not before the cursor.
@@ -50,10 +54,10 @@ pub enum Call<'a> {
     /// and else as `UnsafeToBreak` does. Requires what `UnsafeToBreak` requires.
     SafeToInsertTatweel(Option<usize>, Option<usize>),
     /// Marks all of the input from a start to an end as unsafe to concatenate, where the buffer's flags ask for that.
-    /// Requires what `UnsafeToBreak` asks.
+    /// Requires what `UnsafeToBreak` requires.
     UnsafeToConcat(Option<usize>, Option<usize>),
     /// The same of the out side from a start and the input up to an end. Requires what `UnsafeToBreakFromOutbuffer`
-    /// asks.
+    /// requires.
     UnsafeToConcatFromOutbuffer(Option<usize>, Option<usize>),
 }
 

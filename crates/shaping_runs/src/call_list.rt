@@ -9,15 +9,15 @@ use crate::call::{Answer, Call};
 use shaping_buffer::hb_buffer_t;
 use std::alloc::AllocError;
 
-/// The call at this place found no memory.
+/// Memory ran out in the call at this place.
 #[derive(Clone, Copy, PartialEq, Eq, Debug)]
 pub struct Stopped {
     /// The place of the call in the list.
     pub at: usize,
 }
 
-/// Makes the calls in order, and tells what came of each. Requires as many answers as calls. A call whose condition
-/// fails is answered `Outside`. `Err(Stopped { at })` where a call found no memory: the calls before it stand, it
+/// Makes the calls in order, and answers each. Requires as many answers as calls. A call whose condition
+/// fails is answered `Outside`. `Err(Stopped { at })` when memory ran out in a call: the calls before it were made, it
 /// changed nothing itself, and the answers from there on are as they were.
 pub fn replay(
     buffer: &mut hb_buffer_t,
@@ -65,7 +65,9 @@ fn may_be_made(buffer: &hb_buffer_t, call: &Call<'_>) -> bool
         }
         Call::OutputGlyph(_) | Call::OutputInfo(_) | Call::Sync => open,
         Call::MoveTo(place) => is_place(buffer, place),
-        Call::MergeClusters(start, end) => is_input_range(buffer, start, end),
+        Call::MergeClusters(start, end) | Call::MergeGraphemeClusters(start, end) => {
+            is_input_range(buffer, start, end)
+        }
         Call::MergeOutClusters(start, end) => open && start <= end && end <= buffer.out_len(),
         Call::UnsafeToBreak(start, end)
         | Call::SafeToInsertTatweel(start, end)
@@ -140,6 +142,7 @@ fn perform(buffer: &mut hb_buffer_t, call: &Call<'_>) -> Result<bool, AllocError
         Call::DeleteGlyph => buffer.delete_glyph(),
         Call::MergeClusters(start, end) => buffer.merge_clusters(start, end),
         Call::MergeOutClusters(start, end) => buffer.merge_out_clusters(start, end),
+        Call::MergeGraphemeClusters(start, end) => buffer.merge_grapheme_clusters(start, end),
         Call::UnsafeToBreak(start, end) => buffer.unsafe_to_break(start, end),
         Call::UnsafeToBreakFromOutbuffer(start, end) => buffer.unsafe_to_break_from_outbuffer(
             start, end,

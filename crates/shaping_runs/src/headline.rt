@@ -20,9 +20,9 @@ ghost use Rattle.shaping_runs.specs.Replay.{after, may_be_made, turn};
 ghost use Rattle.shaping_runs.specs.Headline.{held, moves_or_syncs, awaits_clear, HasMonotoneClusters};
 ghost use Rattle.shaping_runs.specs.Headline.{ReachesBothSides, is_merge, is_break, from_place, to_place, range_of};
 
-/// A call within its condition is refused for length exactly where the side that it holds would pass `max_len`, unless
-/// it waits for `clear`, and a refusal changes nothing but `successful`. Then `move_to` and `sync` with an output open
-/// are refused along every list of calls, and change nothing.
+/// A call within its condition is refused for length exactly when the side it would fill would exceed `max_len`, unless
+/// it waits for `clear`, and a refusal changes nothing except `successful`. Then `move_to` and `sync` with an output
+/// open are refused along every list of calls, and change nothing.
 pub fn length_refuses()
     ensures exactly { (call : Call) (s : State) → may_be_made call s ≡ true
         → awaits_clear call s ≡ false
@@ -35,32 +35,33 @@ pub fn length_refuses()
         → turn call (after calls s) ≡ record { answer = Answer.Refused; state = after calls s } }
 {}
 
-/// At the monotone levels, on monotone clusters, with an output open or the cursor at the start, `merge_clusters` and
-/// `merge_out_clusters` give the cluster merge of both sides, which is the least coarsening: two glyphs share a
-/// cluster afterwards exactly if they did before or both their clusters occur in the range. A glyph that keeps its
-/// cluster stays as it is.
+/// At the monotone levels, on monotone clusters, with an output open or the cursor at the start, `merge_clusters`,
+/// `merge_out_clusters` and, except at level 1, `merge_grapheme_clusters` give the cluster merge of both sides, which
+/// is the least coarsening: two glyphs share a cluster afterwards exactly if they did before or both their clusters
+/// occur in the range. A glyph that keeps its cluster stays as it is.
 pub fn merges_are_least_coarsenings()
-    ensures merge { (call : Call) (s : State) → is_merge call ≡ true → may_be_made call s ≡ true
+    ensures merge { (call : Call) (s : State) → is_merge call s ≡ true → may_be_made call s ≡ true
         → HasMonotoneClusters s → ReachesBothSides s
         → both (turn call s).state ≡ cluster_merge (both s) (range_of call s) }
-    ensures shares { (call : Call) (s : State) → is_merge call ≡ true → may_be_made call s ≡ true
+    ensures shares { (call : Call) (s : State) → is_merge call s ≡ true → may_be_made call s ≡ true
         → HasMonotoneClusters s → ReachesBothSides s
         → let old = clusters (both s) in let new = clusters (both (turn call s).state) in
         (i j : ℕ) → i < length (both s) → j < length (both s)
         → (slice_index new i ≡ slice_index new j) ↔ ((slice_index old i ≡ slice_index old j)
         ⊎ ((occurs (slice_index old i) (clusters (range_of call s)) ≡ true)
         × (occurs (slice_index old j) (clusters (range_of call s)) ≡ true))) }
-    ensures keeps { (call : Call) (s : State) → is_merge call ≡ true → may_be_made call s ≡ true
+    ensures keeps { (call : Call) (s : State) → is_merge call s ≡ true → may_be_made call s ≡ true
         → HasMonotoneClusters s → ReachesBothSides s → (i : ℕ) → i < length (both s)
         → slice_index (clusters (both (turn call s).state)) i ≡ slice_index (clusters (both s)) i
         → slice_index_or (both (turn call s).state) i zero_glyph
         ≡ slice_index_or (both s) i zero_glyph }
 {}
 
-/// At the monotone levels, on monotone clusters, `unsafe_to_break` and its `_from_outbuffer` form mark exactly the
-/// glyphs of the range that are not in its least cluster, also across the cursor.
+/// At the monotone levels, on monotone clusters, `unsafe_to_break`, its `_from_outbuffer` form and at level 1
+/// `merge_grapheme_clusters` mark exactly the glyphs of the range that are not in its least cluster, also across the
+/// cursor.
 pub fn breaks_are_marks()
-    ensures { (call : Call) (s : State) → is_break call ≡ true → may_be_made call s ≡ true
+    ensures { (call : Call) (s : State) → is_break call s ≡ true → may_be_made call s ≡ true
         → HasMonotoneClusters s
         → both (turn call s).state
         ≡ on_part (mark BREAK_BITS) (both s) (from_place call s) (to_place call s) }
@@ -95,8 +96,8 @@ pub fn no_cluster_is_new()
         → occurs c (clusters (both (after calls s))) ≡ true → occurs c (clusters (both s)) ≡ true }
 {}
 
-/// Clusters only merge: coarse lists stay coarse along every list of calls, but for `output_info`, and for a merge that
-/// is made while no output is open and the cursor is past the start.
+/// Clusters only merge: coarse lists stay coarse along every list of calls, except `output_info`, and a merge that is
+/// made while no output is open and the cursor is past the start.
 pub fn clusters_only_merge()
     ensures { (calls : List Call) (s : State) → NoGlyphIsBrought calls s
         → NoMergeStopsAtCursor calls s

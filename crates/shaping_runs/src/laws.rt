@@ -3,14 +3,15 @@
 //! Each function here is empty. Its contract is a fact of the definitions that the contract of
 //! [`replay`](crate::replay) names, and holds for every list of calls and every state.
 
-ghost use Rattle.std.specs.Prelude.{◌≡◌, ℕ, true, List};
+ghost use Rattle.std.specs.Prelude.{◌≡◌, ◌≢◌, ℕ, true, false, List};
 ghost use Rattle.glyph_lists.specs.GlyphFlags.{FlagsAgree};
 ghost use Rattle.shaping_buffer.specs.State.{State};
 ghost use Rattle.shaping_buffer.specs.ClusterStep.{both};
 ghost use Rattle.shaping_runs.specs.declared.call.Answer.{Answer};
 ghost use Rattle.shaping_runs.specs.declared.call.Call.{Call};
 ghost use Rattle.shaping_runs.specs.Exceptions.{NoGlyphIsBrought, NoGlyphIsAdded};
-ghost use Rattle.shaping_runs.specs.Replay.{after, turn, StopsAt};
+ghost use Rattle.shaping_runs.specs.Replay.{after, answers_of, turn, StopsAt};
+ghost use Rattle.shaping_runs.specs.ThreeLevels.{old_turn, old_after, old_answers_of, is_new, AreOld};
 ghost use Rattle.shaping_runs.specs.Separation.{IsNear, Follows, IsInPlace, StaysInPlace};
 
 /// Where each glyph that is unsafe to break is unsafe to concatenate too, that stays so along
@@ -34,10 +35,22 @@ pub fn what_is_put_out_stays_in_place()
         → IsInPlace s → StaysInPlace calls s }
 {}
 
-/// Where no output is separate before a list of calls, between them and after them, `replay` stops at none of them: no
-/// memory is asked for, so they are made whatever memory there is.
+/// Where no output is separate before a list of calls, between them and after them, `replay` stops at none of them:
+/// they take no memory, so they never run out of it.
 pub fn lists_in_place_never_stop()
     ensures { (calls : List Call) (s : State) → StaysInPlace calls s
         → (at : ℕ) (before : List Answer) (new : State) (answers : List Answer)
         → StopsAt at calls s before new answers → ⊥ }
+{}
+
+/// Runs from before level 3 came are kept. In a state whose level is not 3, each call except
+/// `merge_grapheme_clusters` gives the answer and the state that it gave when clusters could stand in any order at
+/// level 2 alone, and so does every list of such calls. No call changes the level.
+pub fn old_runs_are_kept()
+    ensures turn { (call : Call) (s : State) → is_new call ≡ false → s.cluster_level ≢ 3
+        → turn call s ≡ old_turn call s }
+    ensures level { (call : Call) (s : State)
+        → (turn call s).state.cluster_level ≡ s.cluster_level }
+    ensures calls { (calls : List Call) (s : State) → AreOld calls → s.cluster_level ≢ 3
+        → (after calls s ≡ old_after calls s) × (answers_of calls s ≡ old_answers_of calls s) }
 {}

@@ -3,7 +3,7 @@
 
 pub use call::{Answer, Call};
 pub use call_list::{Stopped, replay};
-pub use rendering::{MAX_FEATURES, RenderFault, render};
+pub use rendering::{MAX_FEATURES, RenderFault, render, render_at};
 pub use shaping_buffer;
 
 pub mod call;

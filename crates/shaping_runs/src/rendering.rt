@@ -2,6 +2,7 @@
 
 ghost use Rattle.std.specs.Prelude.{◌≡◌, ◌≢◌, ◌<◌, ◌≤◌, ◌==◌, if◌then◌else◌, false, length, OnOk, IfErr, MatchResult};
 ghost use Rattle.std.specs.Prelude.{true};
+ghost use Rattle.shaping_buffer.specs.declared.cluster_level.BufferClusterLevel.TheVariants.{MonotoneGraphemes};
 ghost use Rattle.shaping_runs.specs.declared.call.Answer.{Answer};
 ghost use Rattle.shaping_runs.specs.declared.rendering.TheConstants.{MAX_FEATURES};
 ghost use Rattle.shaping_runs.specs.Replay.{after};
@@ -11,10 +12,10 @@ ghost use Rattle.shaping_runs.specs.Render.{FailsOnText, RendersTo, Fails};
 use crate::call::{Answer, Call};
 use crate::call_list::make;
 use rb_glyph::algs::rb_flag;
-use shaping_buffer::{Feature, GlyphBuffer, UnicodeBuffer, hb_buffer_t};
+use shaping_buffer::{BufferClusterLevel, Feature, GlyphBuffer, UnicodeBuffer, hb_buffer_t};
 use std::alloc::Global;
 
-/// How many features [`render`] takes: the bits that a mask has for them.
+/// How many features [`render_at`] takes: the bits that a mask has for them.
 pub const MAX_FEATURES: usize = 24;
 
 /// The bit of the first feature. Those below it are for glyph flags.
@@ -41,13 +42,7 @@ pub enum RenderFault {
     OutputLeftOpen,
 }
 
-/// Renders a text: pushes its characters, gives each feature the mask bit of its place, 8 for the first, in the
-/// clusters from its start to its end where its value is not 0, makes the calls in order up to the first that is
-/// refused, and puts each glyph at position 0. Requires as many answers as calls.
-///
-/// `Err` with `TooManyFeatures`, `Length` or `Memory { at: None }`: no call was made, and the answers are as they were.
-/// With `Refused { at }`: the answers up to that of the refused call are given. With `Memory { at: Some(at) }`: those
-/// before the call that found no memory are given. With `OutputLeftOpen`: all are.
+/// Renders a text at the default cluster level, `MonotoneGraphemes`: [`render_at`] says how.
 pub fn render(
     alloc: Global,
     text: &str,
@@ -57,13 +52,44 @@ pub fn render(
 ) -> Result<GlyphBuffer, RenderFault>
     requires { length answers.old ≡ length calls.now }
     ensures { MatchResult result
-        (λ glyphs. RendersTo text.now features.now calls.now glyphs answers.new)
-        (λ fault. Fails fault text.now features.now calls.now answers.old answers.new) }
+        (λ glyphs. RendersTo MonotoneGraphemes text.now features.now calls.now glyphs answers.new)
+        (λ fault. Fails fault MonotoneGraphemes text.now features.now calls.now answers.old
+        answers.new) }
+{
+    render_at(
+        alloc,
+        BufferClusterLevel::MonotoneGraphemes,
+        text,
+        features,
+        calls,
+        answers,
+    )
+}
+
+/// Renders a text at a cluster level: pushes its characters, gives each feature the mask bit of its place, 8 for the
+/// first, in the clusters from its start to its end where its value is not 0, makes the calls in order up to the first
+/// that is refused, and puts each glyph at position 0. Requires as many answers as calls.
+///
+/// `Err` with `TooManyFeatures`, `Length` or `Memory { at: None }`: no call was made, and the answers are as they were.
+/// With `Refused { at }`: the answers up to that of the refused call are given. With `Memory { at: Some(at) }`: those
+/// before the call in which memory ran out are given. With `OutputLeftOpen`: all are.
+pub fn render_at(
+    alloc: Global,
+    level: BufferClusterLevel,
+    text: &str,
+    features: &[Feature],
+    calls: &[Call],
+    answers: &mut [Answer],
+) -> Result<GlyphBuffer, RenderFault>
+    requires { length answers.old ≡ length calls.now }
+    ensures { MatchResult result
+        (λ glyphs. RendersTo level text.now features.now calls.now glyphs answers.new)
+        (λ fault. Fails fault level text.now features.now calls.now answers.old answers.new) }
 {
     if features.len() > MAX_FEATURES {
         return Err(RenderFault::TooManyFeatures);
     }
-    let mut buffer = buffer_of(alloc, text)?;
+    let mut buffer = buffer_of(alloc, level, text)?;
     set_features(&mut buffer, features);
     make_until_refused(&mut buffer, calls, answers)?;
     if buffer.have_output() {
@@ -74,12 +100,18 @@ pub fn render(
 }
 
 /// The buffer over a text.
-fn buffer_of(alloc: Global, text: &str) -> Result<hb_buffer_t, RenderFault>
+fn buffer_of(
+    alloc: Global,
+    level: BufferClusterLevel,
+    text: &str,
+) -> Result<hb_buffer_t, RenderFault>
     ensures { MatchResult result
-        (λ buffer. ((pushed_text text.now).done ≡ true) × (buffer ≡ (pushed_text text.now).state))
-        (λ fault. FailsOnText fault text.now) }
+        (λ buffer. ((pushed_text level text.now).done ≡ true)
+        × (buffer ≡ (pushed_text level text.now).state))
+        (λ fault. FailsOnText fault level text.now) }
 {
     let mut characters = UnicodeBuffer::new(alloc);
+    characters.set_cluster_level(level);
     match characters.push_str(text) {
         Ok(true) => Ok(characters.into_buffer()),
         Ok(false) => Err(RenderFault::Length),

@@ -1,6 +1,7 @@
 -- A text whose first two glyphs become one.
 use Rattle.std.specs.Prelude.{ℕ, List, [], ◌∷◌}
 use Rattle.rb_text.specs.declared.feature.Feature.{Feature}
+use Rattle.shaping_buffer.specs.declared.cluster_level.BufferClusterLevel.TheVariants.{MonotoneGraphemes}
 use Rattle.shaping_buffer.specs.State.{State}
 use Rattle.shaping_buffer.specs.Positions.{with_zero_positions}
 use Rattle.shaping_runs.specs.declared.call.Call.{Call}
@@ -16,4 +17,4 @@ ligature_calls ligature =
 -- a text with one feature after these calls, at positions of 0
 abbrev pub with_ligature : List ℕ → Feature → ℕ → State
 with_ligature text feature ligature =
-    with_zero_positions (after (ligature_calls ligature) (text_with_features text (feature ∷ [])))
+    with_zero_positions (after (ligature_calls ligature) (text_with_features MonotoneGraphemes text (feature ∷ [])))

@@ -1,5 +1,5 @@
-//! Calls while the output is in place, in the storage of the input. They take no memory, so they are done where there
-//! is none: no user of them has a want of memory to tell. It is so of single calls, and of a list of them.
+//! Calls while the output is in place, in the storage of the input. They take no memory, so they never run out of it.
+//! It is so of single calls, and of a list of them.
 
 ghost use Rattle.std.specs.Prelude.{◌≡◌, ◌<◌, ◌≤◌, true, false, None, Ok, drop, replicate};
 ghost use Rattle.shaping_buffer.specs.State.{len, lookahead_len};

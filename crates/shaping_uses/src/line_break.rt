@@ -1,4 +1,4 @@
-//! A reader of the break flags, who cuts a line.
+//! Line breaking at the break flags.
 
 ghost use Rattle.std.specs.Prelude.{◌≡◌, ◌<◌, ◌≤◌, ℕ, true, false, length};
 ghost use Rattle.shaping_uses.specs.LineBreak.{may_be_cut};

@@ -1,4 +1,4 @@
-//! What is known of every buffer, from its readers alone.
+//! What is known of every buffer, from its accessors alone.
 
 ghost use Rattle.std.specs.Prelude.{◌≡◌, ◌≤◌, false, true, pos};
 
@@ -21,7 +21,7 @@ pub fn have_positions_while_open(buffer: &hb_buffer_t) -> bool
     buffer.have_positions()
 }
 
-/// The characters on both sides of the text are ten at the most.
+/// There are at most ten characters on both sides of the text.
 pub fn context_len(buffer: &hb_buffer_t) -> usize
     ensures { result ≤ 10 }
 {

@@ -77,7 +77,7 @@ pub(super) static CURSOR_RUNS: [Run<'static>; 12] = [
         scratch_flags: 0x20,
         ..PLAIN
     },
-    // copies in front of the head, with too few glyphs or ids, and with more ids than are taken
+    // copies in front of the current glyph, with too few glyphs or ids, and with more ids than are taken
     Run {
         clusters: &[0, 1],
         calls: &[

@@ -1,6 +1,6 @@
 //! The cursor calls: glyphs are read at the cursor, and put out. They are those of HarfBuzz's `hb_buffer_t`.
 //!
-//! A call that may want memory answers `Err(AllocError)` where there was none: then nothing changed. That comes only
+//! A call that allocates answers `Err(AllocError)` when memory runs out: then nothing changed. That happens only
 //! where the output is separate before the call, or would be after it, and a side would become longer.
 
 ghost use Rattle.std.specs.Prelude.{◌≡◌, ◌<◌, ◌≤◌, ◌∷◌, [], true, false, length, take};

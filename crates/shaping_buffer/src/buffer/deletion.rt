@@ -10,9 +10,9 @@ use glyph_lists::{deletion, one_slice};
 impl hb_buffer_t {
     /// Drops the glyph at the cursor, and keeps its cluster where it is lower than its neighbour's. Where no
     /// neighbour shares it, the run of glyphs put out last takes it, if it is lower, and its glyph flags in place of
-    /// their own; or with nothing put out, the next glyph is merged with it, as by `merge_clusters`, which at level 2
-    /// marks instead and sets the scratch flag `HB_BUFFER_SCRATCH_FLAG_HAS_GLYPH_FLAGS`. Requires an open output, and
-    /// a glyph at the cursor.
+    /// their own; or with nothing put out, the next glyph is merged with it, as by `merge_clusters`, which at levels 2
+    /// and 3 marks instead and sets the scratch flag `HB_BUFFER_SCRATCH_FLAG_HAS_GLYPH_FLAGS`. Requires an open output,
+    /// and a glyph at the cursor.
     pub fn delete_glyph(&mut self)
         requires opened { self.old.have_output ≡ true }
         requires glyph { 0 < lookahead_len self.old }

@@ -10,7 +10,7 @@
 ghost use Rattle.std.specs.Prelude.{◌≡◌, ◌-◌, ◌≤◌, true, false, length};
 ghost use Rattle.shaping_buffer.specs.State.{len};
 ghost use Rattle.shaping_buffer.specs.ClusterStep as step;
-ghost use Rattle.shaping_buffer.specs.ClusterStep.{range_start, range_end};
+ghost use Rattle.shaping_buffer.specs.ClusterStep.{any_order, both_place, range_start, range_end};
 
 use super::hb_buffer_t;
 use glyph_lists::glyph_flags::{self, BREAK_BITS};
@@ -19,10 +19,11 @@ use rb_glyph::{BufferFlags, Flags, glyph_flag};
 
 impl hb_buffer_t {
     /// Marks the input's glyphs from `start` (the origin) to `end` (the length, to which it is cut) that are not in
-    /// the least cluster as unsafe to break and to concatenate before. At level 2, and on monotone clusters, these are
-    /// all such glyphs; else the scan goes by the clusters at the ends. Fewer than two glyphs stay as they are; else
-    /// it sets the scratch flag. Requires `start <= end`, and with an output open that `start` is not before the
-    /// cursor.
+    /// the least cluster as unsafe to break and to concatenate before. At levels 2 and 3, and on monotone clusters,
+    /// these are all such glyphs; else the scan goes by the clusters at the ends. Fewer than two glyphs stay as they
+    /// are; else it sets the scratch flag. Requires `start <= end`, and with an output open that `start` is not before
+    /// the cursor.
+    #[inline]
     pub fn unsafe_to_break(&mut self, start: Option<usize>, end: Option<usize>)
         requires order { range_start start ≤ range_end end self.old }
         requires past_cursor { self.old.have_output ≡ true → self.old.idx ≤ range_start start }
@@ -99,21 +100,23 @@ impl hb_buffer_t {
     }
 
     /// A scan of the input from `start` to `end`, unless there are fewer than two glyphs.
+    #[inline]
     fn plain_scan(&mut self, bits: u32, start: Option<usize>, end: Option<usize>)
         requires order { range_start start ≤ range_end end self.old }
         requires past_cursor { self.old.have_output ≡ true → self.old.idx ≤ range_start start }
         ensures { self.new
-            ≡ step.plain_scan bits (range_start start) (range_end end self.old) self.old }
+            ≡ step.plain_scan (any_order self.old) bits (range_start start) (range_end end self.old) self.old }
     {
         let from = start.unwrap_or(0);
         let to = self.range_end(end);
         if to - from < 2 {
             return;
         }
-        self.scan(bits, self.both_place(from), self.both_place(to));
+        self.scan(bits, from, to);
     }
 
     /// The end of a flag call's range, cut to the length.
+    #[inline]
     #[tactic(auto, using(crate::proofs::Views::len_left))]
     fn range_end(&self, end: Option<usize>) -> usize
         ensures is { result ≡ range_end end self.now }
@@ -123,30 +126,21 @@ impl hb_buffer_t {
         end.unwrap_or(len).min(len)
     }
 
-    /// A scan of both sides from `from`, which is not in the out side, to `to`.
-    #[tactic(auto, using(crate::proofs::Views::sides))]
-    fn scan(&mut self, bits: u32, from: usize, to: usize)
-        requires past_out { length self.old.out ≤ from }
-        requires order { from ≤ to }
-        requires within { to ≤ length (step.both self.old) }
-        ensures { self.new ≡ step.scan bits from to self.old }
+    /// A scan of the input from `start` to `end`. It lies in the one slice, whatever stands on the out side.
+    #[inline]
+    #[tactic(auto, using(crate::proofs::Views::len_left))]
+    fn scan(&mut self, bits: u32, start: usize, end: usize)
+        requires order { start ≤ end }
+        requires within { end ≤ len self.old }
+        requires past_cursor { self.old.have_output ≡ true → self.old.idx ≤ start }
+        ensures { self.new ≡ step.scan (any_order self.old) bits (both_place self.old start)
+            (both_place self.old end) self.old }
     {
         let any_order = self.any_order();
         self.set_has_glyph_flags();
-        let at = if self.have_output { self.cursor } else { 0 };
-        if self.have_separate_output {
-            glyph_flags::scan_range(
-                &mut self.out_info,
-                &mut self.info,
-                at,
-                from,
-                to,
-                bits,
-                any_order,
-            );
-            return;
-        }
-        one_slice::scan_range(&mut self.info, self.placed, at, from, to, bits, any_order);
+        let from = self.front + start;
+        let to = self.front + end;
+        glyph_flags::scan_slice(&mut self.info, from, to, bits, any_order);
     }
 
     /// A scan of both sides from `from` to `to`, which is not in the out side, in two parts.
@@ -155,7 +149,7 @@ impl hb_buffer_t {
         requires past_out { length self.old.out ≤ to }
         requires order { from ≤ to }
         requires within { to ≤ length (step.both self.old) }
-        ensures { self.new ≡ step.scan_sides bits from to self.old }
+        ensures { self.new ≡ step.scan_sides (any_order self.old) bits from to self.old }
     {
         let any_order = self.any_order();
         self.set_has_glyph_flags();

@@ -9,19 +9,19 @@ use super::hb_buffer_t;
 use rb_glyph::HB_BUFFER_SCRATCH_FLAG_DEFAULT;
 
 impl hb_buffer_t {
-    /// While a text is shaped, each side may hold so many times its length.
+    /// While a text is shaped, each side may hold this many times its length.
     pub const MAX_LEN_FACTOR: usize = 64;
 
     /// While a text is shaped, each side may hold no fewer glyphs than these.
     pub const MAX_LEN_MIN: usize = 16384;
 
-    /// A shaper may make so many operations for each glyph of the text.
+    /// A shaper may make this many operations for each glyph of the text.
     pub const MAX_OPS_FACTOR: i32 = 1024;
 
     /// A shaper may make no fewer operations than these.
     pub const MAX_OPS_MIN: i32 = 16384;
 
-    /// Says how many glyphs each side may hold at the most. Requires that no side holds more.
+    /// Sets how many glyphs each side may hold. Requires that no side holds more.
     pub fn set_max_len(&mut self, max_len: usize)
         requires input { len self.old ≤ max_len }
         requires out { length self.old.out ≤ max_len }

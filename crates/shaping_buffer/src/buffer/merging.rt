@@ -24,9 +24,9 @@ impl hb_buffer_t {
 
     /// Merges the clusters of the input's glyphs from `start` to `end`, and of the runs at its ends, into the least of
     /// them; a glyph that changes its cluster loses its glyph flags. With no output open the start is not widened past
-    /// the cursor. At level 2 the glyphs outside the least cluster are marked as unsafe to break and to concatenate
-    /// instead, and the scratch flag `HB_BUFFER_SCRATCH_FLAG_HAS_GLYPH_FLAGS` is set. Fewer than two glyphs stay as
-    /// they are. Requires `start <= end <= len`, and with an output open that `start` is not before the cursor.
+    /// the cursor. At levels 2 and 3 the glyphs outside the least cluster are marked as unsafe to break and to
+    /// concatenate instead, and the scratch flag `HB_BUFFER_SCRATCH_FLAG_HAS_GLYPH_FLAGS` is set. Fewer than two glyphs
+    /// stay as they are. Requires `start <= end <= len`, and with an output open that `start` is not before the cursor.
     pub fn merge_clusters(&mut self, start: usize, end: usize)
         requires order { start ≤ end }
         requires within { end ≤ len self.old }
@@ -38,6 +38,25 @@ impl hb_buffer_t {
             return;
         }
         self.merge_closed(start, end);
+    }
+
+    /// Makes a grapheme one cluster: the input's glyphs from `start` to `end`. They are merged as by `merge_clusters`
+    /// at level 0, at every level except 1 and 2. At these it is `unsafe_to_break(start, end)`. Fewer than two glyphs
+    /// stay as they are. Requires what `merge_clusters` requires. HarfBuzz's call of this name came with its fourth
+    /// cluster level.
+    pub fn merge_grapheme_clusters(&mut self, start: usize, end: usize)
+        requires order { start ≤ end }
+        requires within { end ≤ len self.old }
+        requires past_cursor { self.old.have_output ≡ true → self.old.idx ≤ start }
+        ensures { self.new ≡ step.merge_grapheme_clusters start end self.old }
+    {
+        if !self.groups_graphemes() {
+            self.unsafe_to_break(Some(start), Some(end));
+        } else if self.have_output {
+            self.merge_sides(self.both_place(start), self.both_place(end), false);
+        } else {
+            self.merge_closed(start, end);
+        }
     }
 
     /// Merges the glyphs from `start` to `end` where no output is open.
@@ -53,7 +72,7 @@ impl hb_buffer_t {
         merging::merge_slice(&mut self.info, start, end, self.cursor);
     }
 
-    /// Merges the same, or marks it at level 2, with an output open or none.
+    /// Merges the same, or marks it at levels 2 and 3, with an output open or none.
     #[inline(never)]
     fn merge_input(&mut self, start: usize, end: usize)
         requires order { start ≤ end }
@@ -93,7 +112,7 @@ impl hb_buffer_t {
     }
 
     /// Merges the clusters of the out side's glyphs from `start` to `end`, and of the runs at its ends, also into the
-    /// input, into the least of them; a glyph that changes its cluster loses its glyph flags. At level 2 nothing
+    /// input, into the least of them; a glyph that changes its cluster loses its glyph flags. At levels 2 and 3 nothing
     /// changes, and fewer than two glyphs stay as they are. Requires an open output, and `start <= end <= out_len`.
     pub fn merge_out_clusters(&mut self, start: usize, end: usize)
         requires opened { self.old.have_output ≡ true }

@@ -16,8 +16,8 @@ use rb_glyph::hb_glyph_info_t;
 use std::alloc::AllocError;
 
 impl hb_buffer_t {
-    /// Merges the first `num_in` glyphs at the cursor as `merge_clusters` does, which at level 2 marks them instead,
-    /// and puts out copies of the first as it then stands in their stead, under the first `num_out` ids of
+    /// Merges the first `num_in` glyphs at the cursor as `merge_clusters` does, which at levels 2 and 3 marks them
+    /// instead, and puts out copies of the first, as it then is, in place of them, under the first `num_out` ids of
     /// `glyph_data`. Requires an open output, a glyph at the cursor, as many glyphs there and as many ids.
     /// `Ok(false)` where the out side would grow too long: then only `successful` changes. `Err(AllocError)` where
     /// memory ran out: then nothing changed.
@@ -87,7 +87,7 @@ impl hb_buffer_t {
         Ok(true)
     }
 
-    /// The head of the input, where the merge of the first glyphs leaves it as it is, and all others that stay.
+    /// The current glyph, where the merge of the first glyphs leaves it as it is, and all others that stay.
     #[inline(always)]
     fn kept_head(&self, count: usize) -> Option<hb_glyph_info_t>
         requires opened { self.now.have_output ≡ true }
@@ -104,7 +104,7 @@ impl hb_buffer_t {
         None
     }
 
-    /// The head of the input as the merge of the first glyphs lowers it, where all others that stay are left as they
+    /// The current glyph as the merge of the first glyphs lowers it, where all others that stay are left as they
     /// are.
     fn lowered_head(&self, count: usize) -> Option<hb_glyph_info_t>
         requires opened { self.now.have_output ≡ true }

@@ -1,6 +1,5 @@
 use Rattle.std.proofs.Common.{arith}
 use Rattle.std.proofs.lemmas.Grind.{common_steps}
-use Rattle.std.proofs.Common.{rules}
 use Rattle.glyph_lists.proofs.merging.run_crosses.Goals as goal
 
 pub returns-then-not-is_empty-2 : goal.returns-then-not-is_empty-2

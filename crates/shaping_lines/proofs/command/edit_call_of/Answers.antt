@@ -6,18 +6,6 @@ pub returns-in_err-number-in-output_glyph : goal.returns-in_err-number-in-output
 unfolding edit_call_in
 returns-in_err-number-in-output_glyph c = search rules
 
-pub returns-in_err-place-in-merge_clusters : goal.returns-in_err-place-in-merge_clusters
-unfolding edit_call_in
-returns-in_err-place-in-merge_clusters c = search rules
-
-pub returns-in_err-place-in-merge_clusters-2 : goal.returns-in_err-place-in-merge_clusters-2
-unfolding edit_call_in
-returns-in_err-place-in-merge_clusters-2 c = search rules
-
-pub returns-in_err-place-in-merge_out_clusters : goal.returns-in_err-place-in-merge_out_clusters
-unfolding edit_call_in
-returns-in_err-place-in-merge_out_clusters c = search rules
-
 pub returns-in_ok-number-in-output_glyph : goal.returns-in_ok-number-in-output_glyph
 unfolding edit_call_in
 returns-in_ok-number-in-output_glyph c = search rules
@@ -29,14 +17,6 @@ returns-in-copy_glyph c = search rules
 pub returns-in-delete_glyph : goal.returns-in-delete_glyph
 unfolding edit_call_in
 returns-in-delete_glyph c = search rules
-
-pub returns-in_ok-place-in-merge_clusters-2 : goal.returns-in_ok-place-in-merge_clusters-2
-unfolding edit_call_in
-returns-in_ok-place-in-merge_clusters-2 c = search rules
-
-pub returns-in_ok-place-in-merge_out_clusters-2 : goal.returns-in_ok-place-in-merge_out_clusters-2
-unfolding edit_call_in
-returns-in_ok-place-in-merge_out_clusters-2 c = search rules
 
 pub returns-in_default : goal.returns-in_default
 unfolding edit_call_in

@@ -1,5 +1,5 @@
 use Rattle.std.proofs.Common.{rules}
-use Rattle.shaping_runs.proofs.rendering.render.Goals as goal
+use Rattle.shaping_runs.proofs.rendering.render_at.Goals as goal
 
 pub returns-then-features-gt-MAX_FEATURES : goal.returns-then-features-gt-MAX_FEATURES
 returns-then-features-gt-MAX_FEATURES c = search rules

@@ -1,0 +1,51 @@
+//! Texts and buffers in which each thing that can be said of them was said, so that none can go unseen.
+
+use crate::scenario::Lost;
+use rb_text::{Direction, GlyphId, Language, script};
+use shaping_buffer::{BufferFlags, Flags, UnicodeBuffer, hb_buffer_t};
+use std::alloc::Global;
+
+/// Flags that have glyphs marked as unsafe to concatenate, and as safe for a tatweel.
+const FLAGS: u32 = 0xC0;
+
+/// An empty text of which everything was said.
+pub fn begun_text(alloc: Global) -> Result<UnicodeBuffer, Lost> {
+    let mut text = UnicodeBuffer::new(alloc);
+    text.set_language(Language::from_str(alloc, "he-IL")?);
+    text.set_script(script::HEBREW);
+    text.set_direction(Direction::RightToLeft);
+    text.set_flags(BufferFlags::from_bits_retain(FLAGS));
+    text.set_pre_context("before");
+    text.set_post_context("after");
+    text.set_not_found_variation_selector_glyph(4);
+    Ok(text)
+}
+
+/// A buffer over a text, at a cluster level, of which everything was said. Each glyph has a mask and numbers of its
+/// own.
+pub fn begun_buffer(alloc: Global, text: &str, level: u32) -> Result<hb_buffer_t, Lost> {
+    let mut characters = begun_text(alloc)?;
+    if !characters.push_str(text)? {
+        return Err(Lost::Refusal);
+    }
+    let mut buffer = characters.into_buffer();
+    buffer.cluster_level = level;
+    buffer.invisible = Some(GlyphId(3));
+    buffer.shaping_failed = true;
+    buffer.serial = 6;
+    buffer.max_ops = 77;
+    set_glyphs(&mut buffer);
+    Ok(buffer)
+}
+
+/// Gives each glyph a mask and numbers of its own, where no output is open.
+fn set_glyphs(buffer: &mut hb_buffer_t) {
+    if buffer.have_output() {
+        return;
+    }
+    for (i, glyph) in (1u32..).zip(buffer.info_slice_mut().iter_mut()) {
+        glyph.mask = 0x0F00 | (i & 7);
+        glyph.var1 = i;
+        glyph.var2 = !i;
+    }
+}

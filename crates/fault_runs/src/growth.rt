@@ -1,0 +1,150 @@
+//! Texts that grow step by step.
+
+use crate::beginning::begun_text;
+use crate::scenario::{Lost, Scenario};
+use crate::seen::{same_buffers, same_texts};
+use shaping_buffer::{UnicodeBuffer, hb_buffer_t};
+use std::alloc::{AllocError, Global};
+
+/// A call that makes a text grow.
+#[derive(Clone, Copy)]
+pub enum Step<'a> {
+    Push(&'a str),
+    Add(char, u32),
+}
+
+/// Steps that make a text grow.
+#[derive(Clone, Copy)]
+pub struct Growth<'a> {
+    pub name: &'a str,
+    pub least: u32,
+    pub steps: &'a [Step<'a>],
+    /// Whether the text is looked into where a step runs out of memory, in place of going on.
+    pub stops: bool,
+}
+
+impl Scenario for Growth<'_> {
+    type Ready = (UnicodeBuffer, hb_buffer_t);
+
+    fn name(&self) -> &str {
+        self.name
+    }
+
+    fn least(&self) -> u32 {
+        self.least
+    }
+
+    fn prepare(&self, alloc: Global) -> Result<(UnicodeBuffer, hb_buffer_t), Lost> {
+        let whole = self.text_after(alloc, self.steps)?;
+        Ok((begun_text(alloc)?, whole.into_buffer()))
+    }
+
+    fn watch(&self, alloc: Global, ready: (UnicodeBuffer, hb_buffer_t)) -> Result<(), Lost> {
+        let (mut text, whole) = ready;
+        for (i, step) in self.steps.iter().enumerate() {
+            match grow(&mut text, step) {
+                Ok(true) => {}
+                Ok(false) => return Err(Lost::Refusal),
+                Err(_) => {
+                    let twin = self.text_after(alloc, &self.steps[..i])?;
+                    if self.stops {
+                        return is_kept(text, twin);
+                    }
+                    grow_again(&mut text, &twin, step)?;
+                }
+            }
+        }
+        if same_buffers(&text.into_buffer(), &whole) {
+            return Ok(());
+        }
+        Err(Lost::State)
+    }
+}
+
+impl Growth<'_> {
+    /// The text after these steps.
+    fn text_after(&self, alloc: Global, steps: &[Step<'_>]) -> Result<UnicodeBuffer, Lost> {
+        let mut text = begun_text(alloc)?;
+        for step in steps {
+            if !grow(&mut text, step)? {
+                return Err(Lost::Refusal);
+            }
+        }
+        Ok(text)
+    }
+}
+
+fn grow(text: &mut UnicodeBuffer, step: &Step<'_>) -> Result<bool, AllocError> {
+    match *step {
+        Step::Push(more) => text.push_str(more),
+        Step::Add(character, cluster) => text.add(character, cluster),
+    }
+}
+
+/// Whether a text is as one in which no step ran out of memory.
+fn is_kept(text: UnicodeBuffer, twin: UnicodeBuffer) -> Result<(), Lost> {
+    if same_buffers(&text.into_buffer(), &twin.into_buffer()) {
+        return Ok(());
+    }
+    Err(Lost::EarlierState)
+}
+
+/// Takes a step again that ran out of memory.
+fn grow_again(text: &mut UnicodeBuffer, twin: &UnicodeBuffer, step: &Step<'_>) -> Result<(), Lost> {
+    if !same_texts(text, twin) {
+        return Err(Lost::EarlierState);
+    }
+    if !grow(text, step)? {
+        return Err(Lost::Refusal);
+    }
+    Ok(())
+}
+
+/// Texts that are longer from step to step.
+const PUSHES: &[Step<'static>] = &[
+    Step::Push("a"),
+    Step::Push(""),
+    Step::Push("bcd"),
+    Step::Push("efghijklmn"),
+    Step::Push("The quick brown fox jumps over the lazy dog."),
+];
+
+/// A text, and characters one by one.
+const ADDED: &[Step<'static>] = &[
+    Step::Push("ab"),
+    Step::Add('c', 7),
+    Step::Add('d', 7),
+    Step::Add('e', 8),
+    Step::Add('f', 9),
+    Step::Add('g', 9),
+    Step::Add('h', 9),
+    Step::Add('i', 9),
+    Step::Add('j', 4_294_967_295),
+];
+
+pub static GROWTHS: [Growth<'static>; 4] = [
+    Growth {
+        name: "push_str, again and again",
+        least: 6,
+        steps: PUSHES,
+        stops: false,
+    },
+    Growth {
+        name: "push_str, up to the one that runs out of memory",
+        least: 6,
+        steps: PUSHES,
+        stops: true,
+    },
+    Growth {
+        name: "add, again and again",
+        least: 4,
+        steps: ADDED,
+        stops: false,
+    },
+    Growth {
+        name: "add, up to the one that runs out of memory",
+        least: 4,
+        steps: ADDED,
+        stops: true,
+    },
+];

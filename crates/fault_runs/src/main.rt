@@ -1,0 +1,50 @@
+//! A program that watches the library where memory is refused to it: scenario by scenario it makes calls, and after
+//! each that runs out of memory it compares all that can be seen with what stood before the call, and makes it again.
+//! It prints a line for each scenario, and the same lines whichever allocation was refused. `tools/faults` refuses
+//! each.
+#![tactic(auto)]
+
+use growth::GROWTHS;
+use program::Program;
+use rendered::RENDERED;
+use runs::apart::{APART_RUNS, BECOMING};
+use runs::in_place::IN_PLACE;
+use runs::whole::WHOLE;
+use said::{Made, Tags, Told};
+use scenario::{Scenario, tell};
+use std::alloc::Global;
+use std::io;
+use written::Written;
+
+mod beginning;
+mod growth;
+mod program;
+mod rendered;
+mod run;
+mod runs;
+mod said;
+mod scenario;
+mod seen;
+mod written;
+
+/// Tells of one scenario after the other.
+fn tell_all<S: Scenario>(rt: &impl Print, alloc: Global, scenarios: &[S]) -> io::Result<()> {
+    for scenario in scenarios {
+        tell(rt, alloc, scenario)?;
+    }
+    Ok(())
+}
+
+fn main(rt: HostRuntime) -> io::Result<()> {
+    tell_all(&rt, rt.alloc(), &GROWTHS)?;
+    tell_all(&rt, rt.alloc(), &IN_PLACE)?;
+    tell_all(&rt, rt.alloc(), &BECOMING)?;
+    tell_all(&rt, rt.alloc(), &APART_RUNS)?;
+    tell_all(&rt, rt.alloc(), &WHOLE)?;
+    tell_all(&rt, rt.alloc(), &RENDERED)?;
+    tell(&rt, rt.alloc(), &Written)?;
+    tell(&rt, rt.alloc(), &Made)?;
+    tell(&rt, rt.alloc(), &Told)?;
+    tell(&rt, rt.alloc(), &Tags)?;
+    tell(&rt, rt.alloc(), &Program)
+}

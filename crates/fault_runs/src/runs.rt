@@ -1,0 +1,5 @@
+//! The lists of calls that are watched.
+
+pub mod apart;
+pub mod in_place;
+pub mod whole;
