@@ -4,10 +4,8 @@ pub mod FrontLemmas
 pub mod Relends
 pub mod ReplacementLemmas
 pub mod CopyLemmas
-pub mod PushedLemmas
 pub mod CharactersLemmas
 pub mod MergingLemmas
-pub mod ScanLemmas
 pub mod GroupStepLemmas
 pub mod WalkLemmas
 pub mod BufferRows

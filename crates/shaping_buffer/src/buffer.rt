@@ -12,6 +12,7 @@ use crate::cluster_level::{
     HB_BUFFER_CLUSTER_LEVEL_GRAPHEMES, HB_BUFFER_CLUSTER_LEVEL_MONOTONE_CHARACTERS,
     hb_buffer_cluster_level_t,
 };
+use glyph_sides::Sides;
 use glyph_lists::context::{CONTEXT_LENGTH, Context};
 use rb_glyph::{
     BufferFlags, Flags, GlyphPosition, HB_BUFFER_SCRATCH_FLAG_DEFAULT,
@@ -34,7 +35,7 @@ mod positions;
 mod properties;
 mod references;
 mod replacement;
-mod sides;
+mod places;
 
 /// A text on its way through shaping: glyphs in reading order with a cursor, and while an output is open a second
 /// list, the out side, that calls put glyphs into while they read the first.
@@ -62,21 +63,9 @@ pub struct hb_buffer_t {
     pub scratch_flags: hb_buffer_scratch_flags_t,
     /// How many more operations a shaper may make.
     pub max_ops: i32,
-    /// The input from place `front` on; what lies before the cursor was read. While the output is in place, its first
-    /// glyphs are those that were put out.
-    info: Vec<hb_glyph_info_t>,
-    /// What was put out, once it has left the storage of the input.
-    out_info: Vec<hb_glyph_info_t>,
-    /// How many glyphs were put out in place.
-    placed: usize,
-    have_separate_output: bool,
-    /// How many places in front of the input stand free, for glyphs that are taken back past its start. There are none
-    /// while the output is in place.
-    front: usize,
+    /// What was put out, and what is left to read.
+    sides: Sides,
     pos: Vec<GlyphPosition>,
-    /// The place of the cursor in `info`.
-    cursor: usize,
-    have_output: bool,
     have_positions: bool,
     successful: bool,
     max_len: usize,
@@ -85,7 +74,7 @@ pub struct hb_buffer_t {
 }
 
 impl Model for hb_buffer_t {
-    ghost use Rattle.std.specs.Prelude.{if◌then◌else◌, ◌-◌, take, drop, Some, None};
+    ghost use Rattle.std.specs.Prelude.{if◌then◌else◌, Some, None};
     ghost use Rattle.shaping_buffer.specs.State.{State};
 
     ghost Value = { State };
@@ -93,11 +82,11 @@ impl Model for hb_buffer_t {
     ghost use Rattle.shaping_buffer.specs.IsConsistent.{IsConsistent};
 
     ghost view = { λ b. record {
-      have_output = b.have_output;
-      have_separate_output = b.have_separate_output;
-      out = if b.have_separate_output then b.out_info.items else take b.placed b.info.items;
-      input = if b.have_output then drop b.cursor b.info.items else b.info.items;
-      idx = b.cursor - b.front;
+      have_output = b.sides.is_open;
+      have_separate_output = b.sides.is_separate;
+      out = b.sides.out;
+      input = b.sides.input;
+      idx = b.sides.idx;
       successful = b.successful;
       max_len = b.max_len;
       positions = if b.have_positions then Some b.pos.items else None;
@@ -144,14 +133,8 @@ impl hb_buffer_t {
             serial: 0,
             scratch_flags: HB_BUFFER_SCRATCH_FLAG_DEFAULT,
             max_ops: Self::MAX_OPS_DEFAULT,
-            info: Vec::new(alloc),
-            out_info: Vec::new(alloc),
-            placed: 0,
-            have_separate_output: false,
-            front: 0,
+            sides: Sides::new(alloc),
             pos: Vec::new(alloc),
-            cursor: 0,
-            have_output: false,
             have_positions: false,
             successful: true,
             max_len: Self::MAX_LEN_DEFAULT,
@@ -166,7 +149,7 @@ impl hb_buffer_t {
         ensures within { len self.now ≤ self.now.max_len }
         ensures cursor { self.now.idx ≤ len self.now }
     {
-        self.info.len() - self.front
+        self.sides.len()
     }
 
     /// How many glyphs were put out: none while no output is open.
@@ -175,18 +158,14 @@ impl hb_buffer_t {
         ensures within { length self.now.out ≤ self.now.max_len }
         ensures closed { self.now.have_output ≡ false → self.now.out ≡ [] }
     {
-        if self.have_separate_output {
-            self.out_info.len()
-        } else {
-            self.placed
-        }
+        self.sides.out_len()
     }
 
     /// The cursor: how many glyphs of the input were read.
     pub fn idx(&self) -> usize
         ensures { result ≡ self.now.idx }
     {
-        self.cursor - self.front
+        self.sides.idx()
     }
 
     /// How many glyphs each side may hold.
@@ -207,7 +186,7 @@ impl hb_buffer_t {
     pub fn have_output(&self) -> bool
         ensures { result ≡ self.now.have_output }
     {
-        self.have_output
+        self.sides.is_open()
     }
 
     /// Whether what was put out has left the storage of the input, as it does once it has more glyphs than were read.
@@ -217,7 +196,7 @@ impl hb_buffer_t {
         ensures closed { self.now.have_output ≡ false → result ≡ false }
         ensures near { result ≡ false → length self.now.out ≤ self.now.idx }
     {
-        self.have_separate_output
+        self.sides.is_separate()
     }
 
     /// Both sides in one slice: with no output open the list; else what was put out at its start, and what is left to
@@ -226,7 +205,7 @@ impl hb_buffer_t {
         requires { self.now.have_separate_output ≡ false }
         ensures { IsStorage self.now result.now }
     {
-        self.info.as_slice()
+        self.sides.storage()
     }
 
     /// Whether the glyphs have positions. While an output is open they have none.
@@ -241,39 +220,31 @@ impl hb_buffer_t {
     pub fn is_empty(&self) -> bool
         ensures { IsTrue result ↔ (len self.now ≡ 0) }
     {
-        self.info.len() == self.front
+        self.sides.len() == 0
     }
 
     /// The glyphs that are left to read; with no output open the whole list.
     pub fn info(&self) -> &[hb_glyph_info_t]
         ensures { result.now ≡ self.now.input }
     {
-        if self.have_output {
-            &self.info[self.cursor..]
-        } else {
-            &self.info
-        }
+        self.sides.input()
     }
 
     /// The glyphs that were put out.
     pub fn out_info(&self) -> &[hb_glyph_info_t]
         ensures { result.now ≡ self.now.out }
     {
-        if self.have_separate_output {
-            &self.out_info
-        } else {
-            &self.info[..self.placed]
-        }
+        self.sides.out()
     }
 
     /// How many glyphs stand before the cursor: those that were put out, or with no output open those before it.
     pub fn backtrack_len(&self) -> usize
         ensures { result ≡ (if self.now.have_output then length self.now.out else self.now.idx) }
     {
-        if self.have_output {
-            self.out_len()
+        if self.sides.is_open() {
+            self.sides.out_len()
         } else {
-            self.cursor
+            self.sides.idx()
         }
     }
 
@@ -281,7 +252,7 @@ impl hb_buffer_t {
     pub fn lookahead_len(&self) -> usize
         ensures { result ≡ lookahead_len self.now }
     {
-        self.info.len() - self.cursor
+        self.sides.left()
     }
 
     /// The characters next to the text, at most five, nearest first: before it (side 0) or after it (side 1). Requires
@@ -304,14 +275,8 @@ impl hb_buffer_t {
     pub fn clear(&mut self)
         ensures { self.new ≡ cleared self.old }
     {
-        self.info.clear();
-        self.out_info.clear();
-        self.placed = 0;
-        self.have_separate_output = false;
-        self.front = 0;
+        self.sides.clear();
         self.pos.clear();
-        self.cursor = 0;
-        self.have_output = false;
         self.have_positions = false;
         self.successful = true;
         self.pre_context.clear();

@@ -27,7 +27,4 @@ mod buffer;
 pub mod cluster_level;
 mod glyph_buffer;
 pub mod laws;
-mod lend;
-mod moves;
-mod replacement;
 mod unicode_buffer;

@@ -5,7 +5,7 @@ ghost use Rattle.shaping_buffer.specs.State.{lookahead_len};
 ghost use Rattle.shaping_buffer.specs.ClusterStep as step;
 
 use super::hb_buffer_t;
-use glyph_lists::{deletion, one_slice};
+use glyph_lists::deletion;
 
 impl hb_buffer_t {
     /// Drops the glyph at the cursor, and keeps its cluster where it is lower than its neighbour's. Where no
@@ -19,7 +19,7 @@ impl hb_buffer_t {
         ensures { self.new ≡ step.delete_glyph self.old }
     {
         let any_order = self.any_order();
-        if any_order && deletion::merges_next(self.out_info(), &self.info, self.cursor) {
+        if any_order && deletion::merges_next(self.sides.out(), self.sides.input(), 0) {
             self.set_has_glyph_flags();
         }
         self.delete_head(any_order);
@@ -31,12 +31,6 @@ impl hb_buffer_t {
         requires glyph { 0 < length self.old.input }
         ensures { self.new ≡ step.delete_head any_order self.old }
     {
-        if self.have_separate_output {
-            deletion::delete_at_cursor(&mut self.out_info, &mut self.info, self.cursor, any_order);
-            self.cursor += 1;
-            return;
-        }
-        one_slice::delete_at_cursor(&mut self.info, self.placed, self.cursor, any_order);
-        self.cursor += 1;
+        self.sides.delete_head(any_order);
     }
 }

@@ -13,8 +13,7 @@ ghost use Rattle.shaping_buffer.specs.ClusterStep as step;
 ghost use Rattle.shaping_buffer.specs.ClusterStep.{any_order, both_place, range_start, range_end};
 
 use super::hb_buffer_t;
-use glyph_lists::glyph_flags::{self, BREAK_BITS};
-use glyph_lists::one_slice;
+use glyph_lists::glyph_flags::BREAK_BITS;
 use rb_glyph::{BufferFlags, Flags, glyph_flag};
 
 impl hb_buffer_t {
@@ -122,7 +121,7 @@ impl hb_buffer_t {
         ensures is { result ≡ range_end end self.now }
         ensures within { result ≤ len self.now }
     {
-        let len = self.info.len() - self.front;
+        let len = self.sides.len();
         end.unwrap_or(len).min(len)
     }
 
@@ -138,9 +137,7 @@ impl hb_buffer_t {
     {
         let any_order = self.any_order();
         self.set_has_glyph_flags();
-        let from = self.front + start;
-        let to = self.front + end;
-        glyph_flags::scan_slice(&mut self.info, from, to, bits, any_order);
+        self.sides.scan_input(start, end, bits, any_order);
     }
 
     /// A scan of both sides from `from` to `to`, which is not in the out side, in two parts.
@@ -153,20 +150,7 @@ impl hb_buffer_t {
     {
         let any_order = self.any_order();
         self.set_has_glyph_flags();
-        let at = if self.have_output { self.cursor } else { 0 };
-        if self.have_separate_output {
-            glyph_flags::scan_two_parts(
-                &mut self.out_info,
-                &mut self.info,
-                at,
-                from,
-                to,
-                bits,
-                any_order,
-            );
-            return;
-        }
-        one_slice::scan_two_parts(&mut self.info, self.placed, at, from, to, bits, any_order);
+        self.sides.scan_two_parts(from, to, bits, any_order);
     }
 
     /// Adds the bits to all glyphs of both sides from `from` to `to`.
@@ -177,11 +161,6 @@ impl hb_buffer_t {
         ensures { self.new ≡ step.flag_all bits from to self.old }
     {
         self.set_has_glyph_flags();
-        let at = if self.have_output { self.cursor } else { 0 };
-        if self.have_separate_output {
-            glyph_flags::mark_range(&mut self.out_info, &mut self.info, at, from, to, bits);
-            return;
-        }
-        one_slice::mark_range(&mut self.info, self.placed, at, from, to, bits);
+        self.sides.mark_range(from, to, bits);
     }
 }

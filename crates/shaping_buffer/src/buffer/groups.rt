@@ -18,7 +18,7 @@ impl hb_buffer_t {
         requires { self.old.have_output ≡ false }
         ensures { self.new ≡ step.reverse self.old }
     {
-        reversal::reverse(&mut self.info);
+        reversal::reverse(self.sides.list_mut());
         reversal::reverse(&mut self.pos);
     }
 
@@ -30,7 +30,7 @@ impl hb_buffer_t {
         requires within { end ≤ len self.old }
         ensures { self.new ≡ step.reverse_range start end self.old }
     {
-        groups::reverse_range(&mut self.info, start, end);
+        groups::reverse_range(self.sides.list_mut(), start, end);
         if self.have_positions {
             groups::reverse_range(&mut self.pos, start, end);
         }
@@ -52,7 +52,7 @@ impl hb_buffer_t {
             → ((x y : _) (r : _) → F.post group x y r → r ≡ test x.now y.now)
             → result ≡ groups_of.group_end test start self.now.input }
     {
-        groups::group_end(&self.info, start, &group)
+        groups::group_end(self.sides.input(), start, &group)
     }
 
     /// The end of the syllable that `start` is in: of the glyphs from there on that have the syllable number of the
@@ -61,10 +61,10 @@ impl hb_buffer_t {
         requires { self.now.have_output ≡ false }
         ensures { result ≡ groups_of.group_end groups_of.share_syllable start self.now.input }
     {
-        if start >= self.info.len() {
+        if start >= self.sides.len() {
             return start;
         }
-        groups::group_end(&self.info, start, &|a, b| a.syllable() == b.syllable())
+        groups::group_end(self.sides.input(), start, &|a, b| a.syllable() == b.syllable())
     }
 
     /// Puts the groups into reverse order, each in its own order, and the positions with their glyphs, where there are
@@ -83,10 +83,10 @@ impl hb_buffer_t {
         ensures len { length self.new.input ≡ length self.old.input }
         ensures others { step.KeepsOthers self.old self.new }
     {
-        let len = self.info.len();
+        let len = self.sides.len();
         let mut start = 0;
         while start < len {
-            let end = groups::group_end(&self.info, start, &group);
+            let end = groups::group_end(self.sides.input(), start, &group);
             self.reverse_group(start, end, merge_clusters);
             start = end;
         }
@@ -120,10 +120,9 @@ impl hb_buffer_t {
         ensures others { step.KeepsOthers (record self.old { idx = 0 }) self.new }
     {
         let any_order = self.any_order();
-        let (kept, merges) = delete_in_place(&mut self.info, &mut self.pos, any_order, &filter);
-        self.info.truncate(kept);
+        let (kept, merges) = delete_in_place(self.sides.list_mut(), &mut self.pos, any_order, &filter);
+        self.sides.truncate(kept);
         self.pos.truncate(kept);
-        self.cursor = 0;
         if merges {
             self.set_has_glyph_flags();
         }

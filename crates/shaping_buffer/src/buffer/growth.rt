@@ -1,9 +1,9 @@
 //! Texts and characters that are put at the end of the list, as by HarfBuzz's `hb_buffer_add_utf8` and
 //! `hb_buffer_add`.
 
-ghost use Rattle.std.specs.Prelude.{◌≡◌, ◌+◌, ◌≤◌, ◌++◌, false, None, length, vec_len, vec_capacity, chars};
+ghost use Rattle.std.specs.Prelude.{◌≡◌, false, None, length, chars};
 ghost use Rattle.glyph_lists.specs.Guess.{AreCharacters};
-ghost use Rattle.shaping_buffer.specs.Pushed.{glyphs_at, pushed, added};
+ghost use Rattle.shaping_buffer.specs.Pushed.{pushed, added};
 ghost use Rattle.shaping_buffer.specs.Step as step;
 ghost use Rattle.shaping_buffer.specs.Step.{GrowthMeets, RoomMeets};
 
@@ -23,13 +23,12 @@ impl hb_buffer_t {
         ensures characters { AreCharacters self.old.input → AreCharacters self.new.input }
     {
         let more = count_characters(text);
-        if more > self.max_len - self.info.len() {
+        if more > self.max_len - self.sides.len() {
             self.successful = false;
             return Ok(false);
         }
-        self.info.reserve(more)?;
-        self.pos.reserve(self.info.len() + more)?;
-        append_characters(&mut self.info, text);
+        self.pos.reserve(self.sides.len() + more)?;
+        self.sides.append(text, more)?;
         Ok(true)
     }
 
@@ -42,9 +41,9 @@ impl hb_buffer_t {
             self.successful = false;
             return Ok(false);
         }
-        let len = self.info.len() - self.front;
+        let len = self.sides.len();
         if size > len {
-            self.info.reserve(size - len)?;
+            self.sides.reserve(size - len)?;
             self.pos.reserve(size - self.pos.len())?;
         }
         Ok(true)
@@ -59,12 +58,12 @@ impl hb_buffer_t {
         ensures grown { GrowthMeets (added codepoint cluster self.old) self.old result self.new }
         ensures characters { AreCharacters self.old.input → AreCharacters self.new.input }
     {
-        if self.info.len() >= self.max_len {
+        if self.sides.len() >= self.max_len {
             self.successful = false;
             return Ok(false);
         }
-        self.pos.reserve(self.info.len() + 1)?;
-        self.info.push(hb_glyph_info_t {
+        self.pos.reserve(self.sides.len() + 1)?;
+        self.sides.push(hb_glyph_info_t {
             glyph_id: codepoint as u32,
             mask: 0,
             cluster,
@@ -81,20 +80,4 @@ fn count_characters(text: &str) -> usize
     ensures { result ≡ length (chars text.now) }
 {
     text.chars().count()
-}
-
-/// A glyph for each character, where there is room.
-fn append_characters(info: &mut Vec<hb_glyph_info_t>, text: &str)
-    requires { vec_len info.old + length (chars text.now) ≤ vec_capacity info.old }
-    ensures { info.new.items ≡ info.old.items ++ glyphs_at 0 (chars text.now) }
-{
-    for (i, c) in text.char_indices() {
-        info.push_reserved(hb_glyph_info_t {
-            glyph_id: c as u32,
-            mask: 0,
-            cluster: (i % 0x1_0000_0000) as u32,
-            var1: 0,
-            var2: 0,
-        });
-    }
 }

@@ -36,13 +36,14 @@ impl hb_buffer_t {
         requires { self.old.have_output ≡ false }
         ensures { self.new ≡ step.enter self.old }
     {
+        let len = self.sides.len();
         self.serial = 0;
         self.shaping_failed = false;
         self.scratch_flags = HB_BUFFER_SCRATCH_FLAG_DEFAULT;
-        if let Some(max_len) = self.info.len().checked_mul(Self::MAX_LEN_FACTOR) {
+        if let Some(max_len) = len.checked_mul(Self::MAX_LEN_FACTOR) {
             self.max_len = max_len.max(Self::MAX_LEN_MIN);
         }
-        if let Some(max_ops) = ops_for(self.info.len()) {
+        if let Some(max_ops) = ops_for(len) {
             self.max_ops = max_ops;
         }
     }
@@ -54,7 +55,7 @@ impl hb_buffer_t {
         ensures { self.new ≡ step.leave self.old }
     {
         self.serial = 0;
-        self.max_len = Self::MAX_LEN_DEFAULT.max(self.info.len());
+        self.max_len = Self::MAX_LEN_DEFAULT.max(self.sides.len());
         self.max_ops = Self::MAX_OPS_DEFAULT;
     }
 

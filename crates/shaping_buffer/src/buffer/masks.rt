@@ -12,7 +12,7 @@ impl hb_buffer_t {
         requires { self.old.have_output ≡ false }
         ensures { self.new ≡ step.reset_masks mask self.old }
     {
-        masks::reset_masks(&mut self.info, mask);
+        masks::reset_masks(self.sides.list_mut(), mask);
     }
 
     /// Gives the bits of `mask` those of `value`, in each glyph whose cluster is at least `cluster_start` and below
@@ -22,6 +22,6 @@ impl hb_buffer_t {
         requires { self.old.have_output ≡ false }
         ensures { self.new ≡ step.set_masks value mask cluster_start cluster_end self.old }
     {
-        masks::set_masks(&mut self.info, value, mask, cluster_start, cluster_end);
+        masks::set_masks(self.sides.list_mut(), value, mask, cluster_start, cluster_end);
     }
 }

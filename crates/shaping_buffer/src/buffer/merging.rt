@@ -10,7 +10,7 @@ ghost use Rattle.glyph_lists.specs.Clusters.{with_cluster, run_merge};
 ghost use Rattle.shaping_buffer.specs.ClusterStep as step;
 
 use super::hb_buffer_t;
-use glyph_lists::{clusters, merging, one_slice};
+use glyph_lists::{clusters, merging};
 use rb_glyph::hb_glyph_info_t;
 
 impl hb_buffer_t {
@@ -33,7 +33,7 @@ impl hb_buffer_t {
         requires past_cursor { self.old.have_output ≡ true → self.old.idx ≤ start }
         ensures { self.new ≡ step.merge_clusters start end self.old }
     {
-        if self.have_output || self.any_order() {
+        if self.sides.is_open() || self.any_order() {
             self.merge_input(start, end);
             return;
         }
@@ -52,7 +52,7 @@ impl hb_buffer_t {
     {
         if !self.groups_graphemes() {
             self.unsafe_to_break(Some(start), Some(end));
-        } else if self.have_output {
+        } else if self.sides.is_open() {
             self.merge_sides(self.both_place(start), self.both_place(end), false);
         } else {
             self.merge_closed(start, end);
@@ -69,7 +69,8 @@ impl hb_buffer_t {
           input = run_merge self.old.input start end self.old.idx;
         } }
     {
-        merging::merge_slice(&mut self.info, start, end, self.cursor);
+        let floor = self.sides.idx();
+        merging::merge_slice(self.sides.list_mut(), start, end, floor);
     }
 
     /// Merges the same, or marks it at levels 2 and 3, with an output open or none.
@@ -94,21 +95,12 @@ impl hb_buffer_t {
         requires within { to ≤ length (step.both self.old) }
         ensures { self.new ≡ step.merge_sides any_order from to self.old }
     {
-        let floor = if self.have_output { 0 } else { self.cursor };
-        let at = if self.have_output { self.cursor } else { 0 };
-        if self.have_separate_output {
-            merging::merge_or_mark(
-                &mut self.out_info,
-                &mut self.info,
-                at,
-                from,
-                to,
-                floor,
-                any_order,
-            );
-            return;
-        }
-        one_slice::merge_or_mark(&mut self.info, self.placed, at, from, to, floor, any_order);
+        let floor = if self.sides.is_open() {
+            0
+        } else {
+            self.sides.idx()
+        };
+        self.sides.merge_or_mark(from, to, floor, any_order);
     }
 
     /// Merges the clusters of the out side's glyphs from `start` to `end`, and of the runs at its ends, also into the
@@ -123,17 +115,6 @@ impl hb_buffer_t {
         if self.any_order() {
             return;
         }
-        if self.have_separate_output {
-            merging::run_merge(
-                &mut self.out_info,
-                &mut self.info,
-                self.cursor,
-                start,
-                end,
-                0,
-            );
-            return;
-        }
-        one_slice::run_merge(&mut self.info, self.placed, self.cursor, start, end, 0);
+        self.sides.run_merge(start, end, 0);
     }
 }

@@ -31,7 +31,7 @@ impl hb_buffer_t {
         };
         self.pos.clear();
         // This takes no memory: each call that grows the list, and `sync`, reserved room for as many positions.
-        self.pos.resize(self.info.len(), zero).unwrap();
+        self.pos.resize(self.sides.len(), zero).unwrap();
         self.have_positions = true;
     }
 }

@@ -28,7 +28,7 @@ impl hb_buffer_t {
         requires { self.old.have_output ≡ false }
         ensures { self.new ≡ with_clusters_reset self.old }
     {
-        cluster_numbers::reset_clusters(&mut self.info);
+        cluster_numbers::reset_clusters(self.sides.list_mut());
     }
 
     /// Fills in what was not said: the script, as that of the first character which is not common, inherited or
@@ -40,7 +40,7 @@ impl hb_buffer_t {
         ensures { self.new ≡ guessed self.old }
     {
         if self.script.is_none() {
-            self.script = guess::first_script(&self.info);
+            self.script = guess::first_script(self.sides.input());
         }
         if self.direction == Direction::Invalid {
             self.direction = guess::guess_direction(self.script);

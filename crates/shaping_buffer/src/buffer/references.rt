@@ -4,7 +4,6 @@ ghost use Rattle.std.specs.Prelude.{◌≡◌, ◌<◌, ◌-◌, false, Some, le
 ghost use Rattle.shaping_buffer.specs.State.{lookahead_len, len, place_of};
 
 use super::hb_buffer_t;
-use crate::lend::front_mut;
 use rb_glyph::{GlyphPosition, hb_glyph_info_t};
 
 impl hb_buffer_t {
@@ -17,7 +16,7 @@ impl hb_buffer_t {
         requires { i < lookahead_len self.now }
         ensures { result.now ≡ slice_index_or self.now.input (place_of self.now i) result.now }
     {
-        &self.info[self.cursor + i]
+        self.sides.cur(i)
     }
 
     /// The glyph `i` places after the cursor, to be written: that glyph alone changes. Requires that there is one.
@@ -27,7 +26,7 @@ impl hb_buffer_t {
         ensures value { result.now
             ≡ slice_index_or self.old.input (place_of self.old i) result.now }
     {
-        &mut self.info[self.cursor + i]
+        self.sides.cur_mut(i)
     }
 
     /// The last glyph that was put out. Requires that there is one.
@@ -35,11 +34,8 @@ impl hb_buffer_t {
         requires { 0 < length self.now.out }
         ensures { result.now ≡ slice_index_or self.now.out (length self.now.out - 1) result.now }
     {
-        if self.have_separate_output {
-            &self.out_info[self.out_info.len() - 1]
-        } else {
-            &self.info[self.placed - 1]
-        }
+        let out = self.sides.out();
+        &out[out.len() - 1]
     }
 
     /// The last glyph that was put out, to be written: that glyph alone changes. Requires that there is one.
@@ -49,12 +45,7 @@ impl hb_buffer_t {
         ensures value { result.now
             ≡ slice_index_or self.old.out (length self.old.out - 1) result.now }
     {
-        if self.have_separate_output {
-            let last = self.out_info.len() - 1;
-            return &mut self.out_info[last];
-        }
-        let last = self.placed - 1;
-        &mut self.info[last]
+        self.sides.last_mut()
     }
 
     /// The glyphs that were put out, to be written: nothing but them changes.
@@ -62,10 +53,7 @@ impl hb_buffer_t {
         ensures* writes_back { sem 𝓛 (LendsOut self.entry result) }
         ensures value { result.now ≡ self.old.out }
     {
-        if self.have_separate_output {
-            return &mut self.out_info;
-        }
-        front_mut(&mut self.info, self.placed)
+        self.sides.out_mut()
     }
 
     /// The list, to be written: nothing but its glyphs changes. Requires that no output is open.
@@ -74,7 +62,7 @@ impl hb_buffer_t {
         ensures* writes_back { sem 𝓛 (LendsInput self.entry result) }
         ensures value { result.now ≡ self.old.input }
     {
-        &mut self.info
+        self.sides.list_mut()
     }
 
     /// The position at the cursor, to be written: it alone changes. Requires positions, and a glyph at the cursor.
@@ -85,7 +73,8 @@ impl hb_buffer_t {
         ensures value { result.now
             ≡ slice_index_or (unwrap_or self.old.positions []) self.old.idx result.now }
     {
-        &mut self.pos[self.cursor - self.front]
+        let at = self.sides.idx();
+        &mut self.pos[at]
     }
 
     /// The position of each glyph, to be written: nothing but positions changes. Requires positions.

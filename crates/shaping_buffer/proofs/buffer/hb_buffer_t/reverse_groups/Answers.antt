@@ -1,6 +1,7 @@
-use Rattle.std.proofs.Common.{◌≡◌, ◌+◌, ◌-◌, ◌<◌, ◌≤◌, ◌∙◌, suc, false, [], refl, sym, ap, subst, length, take, arith}
+use Rattle.std.proofs.Common.{◌≡◌, ◌+◌, ◌-◌, ◌<◌, ◌≤◌, ◌∙◌, suc, false, [], refl, sym, ap, subst, length, arith}
 use Rattle.std.proofs.lemmas.Bool.{cond-false}
 use Rattle.glyph_lists.specs.Groups as groups_of
+use Rattle.glyph_sides.specs.TwoLists.{len}
 use Rattle.shaping_buffer.specs.State.{State}
 use Rattle.shaping_buffer.specs.GroupStep.{KeepsOthers, reverse}
 use Rattle.shaping_buffer.proofs.GroupStepLemmas.{reverse_each, each_done, each_turn, each_then_all, each_position}
@@ -11,16 +12,17 @@ pub loop-start-init : goal.loop-start-init
 loop-start-init g c =
     let old = c.args.self.now in
     let b = c.self.inside in
-    let shut : b.have_output ≡ false = ap (λ (s : State). s.have_output) c.self.view_is ∙ c.requires.closed in
-    let n : c.len-len.result ≡ length b.info.items = omega arith in
-    let list : b.info.items ≡ old.input = sym (cond-false _ _ _ shut) ∙ ap (λ (s : State). s.input) c.self.view_is in (
+    let shut : b.sides.is_open ≡ false = ap (λ (s : State). s.have_output) c.self.view_is ∙ c.requires.closed in
+    let list : b.sides.input ≡ old.input = ap (λ (s : State). s.input) c.self.view_is in
+    let whole : len b.sides ≡ length old.input = cond-false _ _ _ shut ∙ ap length list in
+    let n : c.len-len.result ≡ length old.input = c.len-len.ensures.len ∙ whole in (
       length old.input,
       omega arith,
-      n ∙ ap length list,
+      n,
       refl,
       refl,
       λ ps e. each_position b.have_positions (length old.input) b.pos.items
-          (λ on. c.self.invariant.as_many on ∙ ap length list) ps (ap (λ (s : State). s.positions) c.self.view_is ∙ e),
+          (λ on. c.self.invariant.as_many on ∙ whole) ps (ap (λ (s : State). s.positions) c.self.view_is ∙ e),
       λ test by. refl,
     )
 
@@ -33,13 +35,10 @@ loop-start-preserved g c =
     let s = c.loop-start.self in
     let b = c.self-in-loop-start.inside in
     let view = c.self-in-loop-start.view_is in
-    let shut : b.have_output ≡ false =
+    let shut : b.sides.is_open ≡ false =
     ap (λ (t : State). t.have_output) view ∙ ap (λ (t : State). t.have_output) inv.4 ∙ c.requires.closed in
-    let within = c.self-in-loop-start.invariant.shut shut in
-    let none : s.out ≡ [] =
-    sym (ap (λ (t : State). t.out) view) ∙ cond-false _ _ _ within.0 ∙ ap (λ k. take k b.info.items) within.1 in
-    let list : c.deref.result.now ≡ s.input =
-    c.deref.ensures.value ∙ sym (cond-false _ _ _ shut) ∙ ap (λ (t : State). t.input) view in
+    let none : s.out ≡ [] = sym (ap (λ (t : State). t.out) view) ∙ c.input.ensures.shut shut in
+    let list : c.input.result.now ≡ s.input = c.input.ensures.is ∙ ap (λ (t : State). t.input) view in
     let up : start ≤ end = omega (arith, c.group_end-end.ensures.after) in
     let new = c.reverse_group.ensures in
     let same : length c.reverse_group.new.self.input ≡ length s.input =

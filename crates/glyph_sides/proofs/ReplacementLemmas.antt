@@ -1,0 +1,46 @@
+-- A replacement, in the words of the two sides.
+use Rattle.std.proofs.Common.{◌≡◌, ℕ, ◌+◌, ◌<◌, ◌≤◌, Bool, List, ◌++◌, length, take, drop, arith}
+use Rattle.std.proofs.Common.{length-append, length-take, length-drop, subst, sym}
+use Rattle.std.specs.Prelude.{slice_index_or, Result, Ok, Err, OnOk}
+use Rattle.std.specs.declared.alloc.AllocError.{AllocError}
+use Rattle.rb_glyph.specs.declared.info.hb_glyph_info_t.{hb_glyph_info_t}
+use Rattle.glyph_lists.specs.Clusters.{zero_glyph}
+use Rattle.glyph_lists.specs.Deletion.{merge_or_mark}
+use Rattle.glyph_lists.specs.Replacement.{copies}
+use Rattle.glyph_lists.proofs.LengthsLemmas.{length-merge_or_mark}
+use Rattle.glyph_sides.specs.TwoLists.{TwoLists, Makes, both, replaced}
+use Rattle.glyph_sides.proofs.CopyLemmas.{length_copies}
+
+-- the out side becomes longer by the copies
+pub length_replaced : (level : Bool) (n : ℕ) (ids : List ℕ) (s : TwoLists)
+    → length (replaced level n ids s).out ≡ length s.out + length ids
+length_replaced level n ids s =
+    let l = merge_or_mark level (both s) (length s.out) (length s.out + n) 0 in
+    let head = slice_index_or (drop (length s.out) l) 0 zero_glyph in
+    omega (
+      arith,
+      length-append s.out s.input,
+      length-merge_or_mark level (both s) (length s.out) (length s.out + n) 0,
+      length-append (take (length s.out) l) (copies head ids),
+      length_copies head ids,
+      length-take (length s.out) l,
+    )
+
+-- the input becomes shorter by what is read
+pub left_replaced : (level : Bool) (n : ℕ) (ids : List ℕ) (s : TwoLists) → n ≤ length s.input
+    → length (replaced level n ids s).input + n ≡ length s.input
+left_replaced level n ids s within =
+    let l = merge_or_mark level (both s) (length s.out) (length s.out + n) 0 in
+    omega (
+      arith,
+      length-append s.out s.input,
+      length-merge_or_mark level (both s) (length s.out) (length s.out + n) 0,
+      length-drop (length s.out) l,
+      length-drop n (drop (length s.out) l),
+    )
+
+-- what is true of what an operation makes is true where it was done
+pub made_then : {T : Type 0} (P : TwoLists → Type 0) (after old new : TwoLists) (r : Result T AllocError)
+    → Makes after old r new → P after → OnOk r (P new)
+made_then P after old new (Ok v) made p = subst P (sym made) p
+made_then P after old new (Err e) made p = tt

@@ -1,0 +1,50 @@
+-- Lists seen from the whole input and from what is left of it.
+use Rattle.std.proofs.Common.{◌≡◌, ℕ, ◌+◌, ◌≤◌, Bool, true, false, List, ◌++◌, length, take, drop, refl, sym, ap, ◌∙◌}
+use Rattle.std.proofs.Common.{arith, if◌then◌else◌, length-drop}
+use Rattle.std.proofs.Math.ListN.{set}
+use Rattle.std.proofs.Math.Seq.{drop-append_seam}
+use Rattle.std.proofs.lemmas.List.{drop-drop, drop-set-add, drop_at, length-take-le}
+
+-- what is left after some more glyphs, seen from the vector and from what was left
+pub left_after : {X : Type 0} (is : Bool) (n k : ℕ) (xs : List X)
+    → (if is then drop (n + k) xs else xs)
+    ≡ (if is then drop k (if is then drop n xs else xs) else (if is then drop n xs else xs))
+left_after true n k xs = sym (drop-drop k n xs)
+left_after false n k xs = refl
+
+-- what is left after one more glyph
+pub next_left : {X : Type 0} (n : ℕ) (xs : List X) → drop (n + 1) xs ≡ drop 1 (drop n xs)
+next_left n xs = sym (drop-drop 1 n xs)
+
+-- a write after the cursor, seen from the vector and from what is left
+pub set_left : {X : Type 0} (is : Bool) (n k : ℕ) (xs : List X) (x : X)
+    → (if is then drop n (set xs (n + k) x) else set xs (n + k) x)
+    ≡ set (if is then drop n xs else xs) (if is then k else n + k) x
+set_left true n k xs x = drop-set-add n xs k x
+set_left false n k xs x = refl
+
+-- the length of the input, seen from what is left of it
+pub len_left : {X : Type 0} (is : Bool) (n : ℕ) (xs : List X) → n ≤ length xs
+    → (if is then n + length (if is then drop n xs else xs) else length (if is then drop n xs else xs)) ≡ length xs
+len_left true n xs h = omega (arith, length-drop n xs)
+len_left false n xs h = refl
+
+-- ---- what an open output leaves to read, or the whole input
+
+-- seen from the vector
+pub input_of : {X : Type 0} (is : Bool) (n : ℕ) (xs : List X)
+    → drop (if is then n else 0) xs ≡ (if is then drop n xs else xs)
+input_of true n xs = refl
+input_of false n xs = refl
+
+-- other items in its stead
+pub new_input : {X : Type 0} (is : Bool) (n : ℕ) (xs ys : List X) → n ≤ length xs
+    → (if is then drop n (take (if is then n else 0) xs ++ ys) else take (if is then n else 0) xs ++ ys) ≡ ys
+new_input true n xs ys h = drop_at (take n xs) ys n (length-take-le n xs h)
+new_input false n xs ys h = refl
+
+pub ruleset sides = (input_of, new_input)
+
+-- what stands after a front that is whole
+pub behind : {X : Type 0} (n : ℕ) (xs ys : List X) → n ≤ length xs → drop n (take n xs ++ ys) ≡ ys
+behind n xs ys h = ap (λ k. drop k (take n xs ++ ys)) (sym (length-take-le n xs h)) ∙ drop-append_seam (take n xs) ys

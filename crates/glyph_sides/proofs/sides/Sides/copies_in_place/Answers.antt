@@ -1,0 +1,16 @@
+use Rattle.std.proofs.Common.{◌+◌, ◌≤◌, length, arith}
+use Rattle.std.proofs.lemmas.Grind.{common_steps}
+use Rattle.glyph_sides.proofs.CopyLemmas.{length_copies}
+use Rattle.glyph_sides.proofs.MoveLemmas.{drop_further}
+use Rattle.glyph_sides.proofs.sides.Sides.copies_in_place.Goals as goal
+
+pub returns : goal.returns
+returns c =
+    let a = c.args in
+    let b = c.self.inside in
+    let room : b.placed + length a.ids.now ≤ b.cursor + a.read = grind (arith, common_steps) in
+    let left = drop_further c.write_copies.new.info.items b.info.items (b.placed + length a.ids.now) (b.cursor + a.read)
+    room c.write_copies.ensures.left in
+    let put = c.write_copies.ensures.put in
+    let count = length_copies a.glyph a.ids.now in
+    grind (arith, common_steps, left, put, count)

@@ -1,0 +1,19 @@
+use Rattle.std.proofs.Common.{◌+◌, refl, arith}
+use Rattle.std.proofs.lemmas.Grind.{common_steps}
+use Rattle.glyph_sides.proofs.Views.{set_left}
+use Rattle.glyph_sides.proofs.FrontLemmas.{set_kept}
+use Rattle.glyph_sides.proofs.sides.Sides.cur_mut.Goals as goal
+
+pub returns : goal.returns
+returns c =
+    let b = c.self.inside in (
+      (
+        refl,
+        λ w.
+            let near = c.self.invariant.near in
+            let kept = set_kept b.is_separate b.out_info.items b.info.items b.placed (b.cursor + c.args.i) w
+            (λ h. omega arith) in
+            rw (← c.self.view_is) (grind (arith, kept, set_left)),
+      ),
+      record { writes_back = tt; value = grind (arith, common_steps) },
+    )

@@ -1,0 +1,5 @@
+pub mod TextGlyphs
+pub mod TwoLists
+pub mod IsStored
+pub mod LendingLists
+pub mod Lending

@@ -1,0 +1,143 @@
+//! Both sides as one list: merges, scans and flags over places in it, and deletion of the head.
+
+ghost use Rattle.std.specs.Prelude.{◌≡◌, ◌+◌, ◌-◌, ◌<◌, ◌≤◌, true, length};
+ghost use Rattle.glyph_lists.specs.Clusters.{run_merge};
+ghost use Rattle.glyph_lists.specs.Deletion.{merge_or_mark};
+ghost use Rattle.glyph_lists.specs.Marks.{with_glyph_flags};
+ghost use Rattle.glyph_lists.specs.Parts.{on_part, map_range};
+ghost use Rattle.glyph_lists.specs.Scans.{scan_of, two_part_scan};
+ghost use Rattle.glyph_sides.specs.TwoLists.{both, with_both, place, len, head_deleted};
+
+use super::Sides;
+use glyph_lists::{deletion, glyph_flags, merging, one_slice};
+
+impl Sides {
+    /// Merges the glyphs from `start` to `end`.
+    #[inline(always)]
+    #[tactic(auto, using(crate::proofs::Views::sides))]
+    pub fn run_merge(&mut self, start: usize, end: usize, floor: usize)
+        requires order { start ≤ end }
+        requires within { end ≤ length (both self.old) }
+        ensures is { self.new ≡ with_both (run_merge (both self.old) start end floor) self.old }
+        ensures out_len { length self.new.out ≡ length self.old.out }
+        ensures input_len { length self.new.input ≡ length self.old.input }
+    {
+        let at = if self.is_open { self.cursor } else { 0 };
+        if self.is_separate {
+            merging::run_merge(&mut self.out_info, &mut self.info, at, start, end, floor);
+            return;
+        }
+        one_slice::run_merge(&mut self.info, self.placed, at, start, end, floor);
+    }
+
+    /// Merges or marks the glyphs from `start` to `end` of the input.
+    #[inline(always)]
+    #[tactic(auto, using(crate::proofs::Views::sides))]
+    pub fn merge_or_mark(&mut self, start: usize, end: usize, floor: usize, any_order: bool)
+        requires past_out { length self.old.out ≤ start }
+        requires order { start ≤ end }
+        requires within { end ≤ length (both self.old) }
+        ensures is { self.new
+            ≡ with_both (merge_or_mark any_order (both self.old) start end floor) self.old }
+        ensures out_len { length self.new.out ≡ length self.old.out }
+        ensures input_len { length self.new.input ≡ length self.old.input }
+    {
+        let at = if self.is_open { self.cursor } else { 0 };
+        if self.is_separate {
+            merging::merge_or_mark(
+                &mut self.out_info,
+                &mut self.info,
+                at,
+                start,
+                end,
+                floor,
+                any_order,
+            );
+            return;
+        }
+        one_slice::merge_or_mark(&mut self.info, self.placed, at, start, end, floor, any_order);
+    }
+
+    /// Adds the bits to the mask of each glyph from `start` to `end`.
+    #[inline(always)]
+    #[tactic(auto, using(crate::proofs::Views::sides))]
+    pub fn mark_range(&mut self, start: usize, end: usize, bits: u32)
+        requires order { start ≤ end }
+        requires within { end ≤ length (both self.old) }
+        ensures is { self.new
+            ≡ with_both (map_range (with_glyph_flags bits) (both self.old) start end) self.old }
+        ensures out_len { length self.new.out ≡ length self.old.out }
+        ensures input_len { length self.new.input ≡ length self.old.input }
+    {
+        let at = if self.is_open { self.cursor } else { 0 };
+        if self.is_separate {
+            glyph_flags::mark_range(&mut self.out_info, &mut self.info, at, start, end, bits);
+            return;
+        }
+        one_slice::mark_range(&mut self.info, self.placed, at, start, end, bits);
+    }
+
+    /// Scans the input's glyphs from `start` to `end`, counted from its start. With an output open, `start` is at the
+    /// cursor or after it. The range lies in the one slice, whatever stands on the out side.
+    #[inline(always)]
+    pub fn scan_input(&mut self, start: usize, end: usize, bits: u32, any_order: bool)
+        requires from_cursor { self.old.is_open ≡ true → self.old.idx ≤ start }
+        requires order { start ≤ end }
+        requires within { end ≤ len self.old }
+        ensures is { self.new ≡ with_both (on_part (scan_of any_order bits) (both self.old)
+            (place start self.old) (place end self.old)) self.old }
+        ensures out_len { length self.new.out ≡ length self.old.out }
+        ensures input_len { length self.new.input ≡ length self.old.input }
+    {
+        let from = self.front + start;
+        let to = self.front + end;
+        glyph_flags::scan_slice(&mut self.info, from, to, bits, any_order);
+    }
+
+    /// Scans the glyphs from `start` to `end`, which is in the input, in two parts.
+    #[inline(always)]
+    #[tactic(auto, using(crate::proofs::Views::sides))]
+    pub fn scan_two_parts(&mut self, start: usize, end: usize, bits: u32, any_order: bool)
+        requires past_out { length self.old.out ≤ end }
+        requires order { start ≤ end }
+        requires within { end ≤ length (both self.old) }
+        ensures is { self.new ≡ with_both
+            (on_part (two_part_scan any_order bits (length self.old.out - start))
+            (both self.old) start end) self.old }
+        ensures out_len { length self.new.out ≡ length self.old.out }
+        ensures input_len { length self.new.input ≡ length self.old.input }
+    {
+        let at = if self.is_open { self.cursor } else { 0 };
+        if self.is_separate {
+            glyph_flags::scan_two_parts(
+                &mut self.out_info,
+                &mut self.info,
+                at,
+                start,
+                end,
+                bits,
+                any_order,
+            );
+            return;
+        }
+        one_slice::scan_two_parts(&mut self.info, self.placed, at, start, end, bits, any_order);
+    }
+
+    /// Drops the head, and keeps its cluster.
+    #[inline(always)]
+    pub fn delete_head(&mut self, any_order: bool)
+        requires opened { self.old.is_open ≡ true }
+        requires glyph { 0 < length self.old.input }
+        ensures is { self.new ≡ head_deleted any_order self.old }
+        ensures out_len { length self.new.out ≡ length self.old.out }
+        ensures input_len { length self.new.input + 1 ≡ length self.old.input }
+    {
+        if self.is_separate {
+            deletion::delete_at_cursor(&mut self.out_info, &mut self.info, self.cursor, any_order);
+            self.cursor += 1;
+            return;
+        }
+        one_slice::delete_at_cursor(&mut self.info, self.placed, self.cursor, any_order);
+        self.cursor += 1;
+    }
+}

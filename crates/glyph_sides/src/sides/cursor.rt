@@ -1,0 +1,188 @@
+//! Glyphs are read at the cursor, and put out.
+//!
+//! An operation that may want memory answers `Err(AllocError)` where there was none: then nothing changed. That comes
+//! only where the output is separate before it or after it, and a side becomes longer.
+
+ghost use Rattle.std.specs.Prelude.{◌≡◌, ◌+◌, ◌<◌, ◌≤◌, ◌∷◌, [], true, false, length};
+ghost use Rattle.glyph_sides.specs.TwoLists as lists;
+ghost use Rattle.glyph_sides.specs.TwoLists.{Makes, left};
+
+use super::Sides;
+use crate::moves::{close_gap, put_down};
+use rb_glyph::hb_glyph_info_t;
+use std::alloc::AllocError;
+use std::mem;
+
+impl Sides {
+    /// Moves `n` glyphs at the cursor to the end of the out side; with no output open only the cursor moves. Requires as
+    /// many glyphs there.
+    #[inline(always)]
+    pub fn next(&mut self, n: usize) -> Result<(), AllocError>
+        requires { n ≤ left self.old }
+        ensures { Makes (lists.next n self.old) self.old result self.new }
+    {
+        if !self.is_open {
+            self.cursor += n;
+            return Ok(());
+        }
+        if self.is_separate {
+            return self.next_apart(n);
+        }
+        self.next_in_place(n);
+        Ok(())
+    }
+
+    /// Moves one glyph. Requires one at the cursor.
+    #[inline(always)]
+    pub fn next_one(&mut self) -> Result<(), AllocError>
+        requires { 0 < left self.old }
+        ensures { Makes (lists.next 1 self.old) self.old result self.new }
+    {
+        if !self.is_open {
+            self.cursor += 1;
+            return Ok(());
+        }
+        let glyph = self.info[self.cursor];
+        if self.is_separate {
+            return self.one_apart();
+        }
+        if self.placed < self.cursor {
+            self.info[self.placed] = glyph;
+        }
+        self.placed += 1;
+        self.cursor += 1;
+        Ok(())
+    }
+
+    /// Behind a separate output. The room is made first, so that the glyph is copied once.
+    fn one_apart(&mut self) -> Result<(), AllocError>
+        requires opened { self.old.is_open ≡ true }
+        requires apart { self.old.is_separate ≡ true }
+        requires glyph { 0 < length self.old.input }
+        ensures { Makes (lists.next 1 self.old) self.old result self.new }
+    {
+        self.out_info.reserve(1)?;
+        self.out_info.push_reserved(self.info[self.cursor]);
+        self.cursor += 1;
+        Ok(())
+    }
+
+    #[inline(always)]
+    fn next_in_place(&mut self, n: usize)
+        requires opened { self.old.is_open ≡ true }
+        requires near { self.old.is_separate ≡ false }
+        requires within { n ≤ length self.old.input }
+        ensures { self.new ≡ lists.next n self.old }
+    {
+        put_down(&mut self.info, self.placed, self.cursor, n);
+        self.placed += n;
+        self.cursor += n;
+    }
+
+    #[inline(never)]
+    fn next_apart(&mut self, n: usize) -> Result<(), AllocError>
+        requires opened { self.old.is_open ≡ true }
+        requires apart { self.old.is_separate ≡ true }
+        requires within { n ≤ length self.old.input }
+        ensures { Makes (lists.next n self.old) self.old result self.new }
+    {
+        self.out_info
+            .extend_from_slice(&self.info[self.cursor..self.cursor + n])?;
+        self.cursor += n;
+        Ok(())
+    }
+
+    /// Drops `n` glyphs at the cursor; with no output open the cursor moves over them. Requires as many glyphs there.
+    #[inline(always)]
+    #[tactic(auto, using(crate::proofs::Views::left_after))]
+    pub fn skip(&mut self, n: usize)
+        requires { n ≤ left self.old }
+        ensures { self.new ≡ lists.skip n self.old }
+    {
+        self.cursor += n;
+    }
+
+    /// Puts a glyph out, and reads some. Requires an open output, and as many glyphs to read.
+    #[inline(always)]
+    pub fn put(&mut self, glyph: hb_glyph_info_t, read: usize) -> Result<(), AllocError>
+        requires opened { self.old.is_open ≡ true }
+        requires within { read ≤ length self.old.input }
+        ensures { Makes (lists.put (glyph ∷ []) (lists.skip read self.old)) self.old result self.new }
+    {
+        if self.is_separate {
+            self.out_info.push(glyph)?;
+            self.cursor += read;
+            return Ok(());
+        }
+        if self.placed >= self.cursor + read {
+            return self.put_away(glyph);
+        }
+        self.info[self.placed] = glyph;
+        self.placed += 1;
+        self.cursor += read;
+        Ok(())
+    }
+
+    /// Puts out one glyph more than were read: with those before it, it leaves the storage of the input.
+    fn put_away(&mut self, glyph: hb_glyph_info_t) -> Result<(), AllocError>
+        requires opened { self.old.is_open ≡ true }
+        requires near { self.old.is_separate ≡ false }
+        requires full { self.old.idx ≤ length self.old.out }
+        ensures { Makes (lists.put (glyph ∷ []) self.old) self.old result self.new }
+    {
+        self.out_info.reserve(self.placed + 1)?;
+        self.out_info
+            .extend_from_slice(&self.info[..self.placed])
+            .unwrap();
+        self.out_info.push_reserved(glyph);
+        self.placed = 0;
+        self.is_separate = true;
+        Ok(())
+    }
+
+    /// Closes the output: the list is what was put out, and then what was left to read, and the cursor is at its start.
+    /// Requires an open output.
+    #[inline(always)]
+    pub fn close(&mut self) -> Result<(), AllocError>
+        requires { self.old.is_open ≡ true }
+        ensures { Makes (lists.closed self.old) self.old result self.new }
+    {
+        if self.is_separate {
+            return self.close_apart();
+        }
+        self.close_in_place();
+        Ok(())
+    }
+
+    #[inline(always)]
+    fn close_in_place(&mut self)
+        requires opened { self.old.is_open ≡ true }
+        requires near { self.old.is_separate ≡ false }
+        ensures { self.new ≡ lists.closed self.old }
+    {
+        close_gap(&mut self.info, self.placed, self.cursor);
+        self.placed = 0;
+        self.cursor = 0;
+        self.is_open = false;
+    }
+
+    #[inline(never)]
+    fn close_apart(&mut self) -> Result<(), AllocError>
+        requires opened { self.old.is_open ≡ true }
+        requires apart { self.old.is_separate ≡ true }
+        ensures { Makes (lists.closed self.old) self.old result self.new }
+    {
+        if self.out_info.is_empty() {
+            close_gap(&mut self.info, 0, self.cursor);
+        } else {
+            self.out_info.extend_from_slice(&self.info[self.cursor..])?;
+            mem::swap(&mut self.info, &mut self.out_info);
+            self.out_info.clear();
+        }
+        self.is_separate = false;
+        self.front = 0;
+        self.cursor = 0;
+        self.is_open = false;
+        Ok(())
+    }
+}

@@ -1,0 +1,207 @@
+//! Several glyphs give way to copies of the first.
+
+ghost use Rattle.std.specs.Prelude.{◌≡◌, ◌+◌, ◌<◌, ◌≤◌, true, false, length, OnOk};
+ghost use Rattle.glyph_lists.specs.Replacement.{copies};
+ghost use Rattle.glyph_sides.specs.TwoLists as lists;
+ghost use Rattle.glyph_sides.specs.TwoLists.{Makes, replaced};
+
+use super::Sides;
+use crate::copies::{append_copies, write_copies};
+use crate::replacement;
+use glyph_lists::merged_head::{keeps_head, lowered_head};
+use rb_glyph::hb_glyph_info_t;
+use std::alloc::AllocError;
+
+impl Sides {
+    /// Puts copies of the current glyph out in place of the first `count` glyphs of the input, one under each id, where
+    /// the merge of these glyphs leaves it as it is and the copies have room. Answers whether it did: else nothing
+    /// changes. Requires an open output, a glyph at the cursor and as many glyphs there.
+    #[inline(always)]
+    pub fn replace_kept(&mut self, count: usize, ids: &[u32], any_order: bool) -> bool
+        requires opened { self.old.is_open ≡ true }
+        requires glyph { 0 < length self.old.input }
+        requires within { count ≤ length self.old.input }
+        ensures done { result ≡ true → self.new ≡ replaced any_order count ids.now self.old }
+        ensures unmarked { result ≡ true → any_order ≡ true → count < 2 }
+        ensures same { result ≡ false → self.new ≡ self.old }
+    {
+        // Read before the test, the glyph is kept in one piece for the copies.
+        let head = self.info[self.cursor];
+        keeps_head(&self.info[self.cursor..], count, any_order) && self.put_copies(head, ids, count)
+    }
+
+    /// Puts a copy of a glyph out under each id, where they have room, and reads some. Answers whether it did: else
+    /// nothing changes.
+    #[inline(always)]
+    fn put_copies(&mut self, glyph: hb_glyph_info_t, ids: &[u32], read: usize) -> bool
+        requires opened { self.old.is_open ≡ true }
+        requires within { read ≤ length self.old.input }
+        ensures done { result ≡ true
+            → self.new ≡ lists.put (copies glyph ids.now) (lists.skip read self.old) }
+        ensures same { result ≡ false → self.new ≡ self.old }
+    {
+        if self.is_separate {
+            return self.copies_apart(glyph, ids, read);
+        }
+        if self.placed + ids.len() > self.cursor + read {
+            return false;
+        }
+        self.copies_in_place(glyph, ids, read);
+        true
+    }
+
+    #[inline(always)]
+    fn copies_apart(&mut self, glyph: hb_glyph_info_t, ids: &[u32], read: usize) -> bool
+        requires opened { self.old.is_open ≡ true }
+        requires apart { self.old.is_separate ≡ true }
+        requires within { read ≤ length self.old.input }
+        ensures done { result ≡ true
+            → self.new ≡ lists.put (copies glyph ids.now) (lists.skip read self.old) }
+        ensures same { result ≡ false → self.new ≡ self.old }
+    {
+        if ids.len() > self.out_info.capacity() - self.out_info.len() {
+            return false;
+        }
+        append_copies(&mut self.out_info, glyph, ids);
+        self.cursor += read;
+        true
+    }
+
+    #[inline(always)]
+    fn copies_in_place(&mut self, glyph: hb_glyph_info_t, ids: &[u32], read: usize)
+        requires opened { self.old.is_open ≡ true }
+        requires near { self.old.is_separate ≡ false }
+        requires within { read ≤ length self.old.input }
+        requires room { length self.old.out + length ids.now ≤ self.old.idx + read }
+        ensures { self.new ≡ lists.put (copies glyph ids.now) (lists.skip read self.old) }
+    {
+        write_copies(&mut self.info, self.placed, glyph, ids);
+        self.placed += ids.len();
+        self.cursor += read;
+    }
+
+    /// Merges, or marks, the first `count` glyphs of the input, and puts out copies of the first as it then stands in
+    /// place of them, one under each id. Requires an open output, a glyph at the cursor and as many glyphs there.
+    pub fn replace(
+        &mut self,
+        count: usize,
+        ids: &[u32],
+        any_order: bool,
+    ) -> Result<(), AllocError>
+        requires opened { self.old.is_open ≡ true }
+        requires glyph { 0 < length self.old.input }
+        requires within { count ≤ length self.old.input }
+        ensures made { Makes (replaced any_order count ids.now self.old) self.old result self.new }
+        ensures out_len { OnOk result
+            (length self.new.out ≡ length self.old.out + length ids.now) }
+        ensures input_len { OnOk result
+            (length self.new.input + count ≡ length self.old.input) }
+    {
+        if let Some(head) = lowered_head(self.out(), self.input(), count, any_order)
+            && self.put_copies(head, ids, count)
+        {
+            return Ok(());
+        }
+        self.replace_merged(count, ids, any_order)
+    }
+
+    /// Does that by the merge, whatever it changes.
+    fn replace_merged(
+        &mut self,
+        count: usize,
+        ids: &[u32],
+        any_order: bool,
+    ) -> Result<(), AllocError>
+        requires opened { self.old.is_open ≡ true }
+        requires glyph { 0 < length self.old.input }
+        requires within { count ≤ length self.old.input }
+        ensures made { Makes (replaced any_order count ids.now self.old) self.old result self.new }
+        ensures out_len { OnOk result
+            (length self.new.out ≡ length self.old.out + length ids.now) }
+        ensures input_len { OnOk result
+            (length self.new.input + count ≡ length self.old.input) }
+    {
+        if self.is_separate {
+            return self.replace_apart(count, ids, any_order);
+        }
+        if self.placed + ids.len() > self.cursor + count {
+            return self.replace_away(count, ids, any_order);
+        }
+        self.replace_in_place(count, ids, any_order);
+        Ok(())
+    }
+
+    fn replace_apart(
+        &mut self,
+        count: usize,
+        ids: &[u32],
+        any_order: bool,
+    ) -> Result<(), AllocError>
+        requires opened { self.old.is_open ≡ true }
+        requires apart { self.old.is_separate ≡ true }
+        requires glyph { 0 < length self.old.input }
+        requires within { count ≤ length self.old.input }
+        ensures { Makes (replaced any_order count ids.now self.old) self.old result self.new }
+    {
+        self.out_info.reserve(ids.len())?;
+        replacement::replace_apart(
+            &mut self.out_info,
+            &mut self.info,
+            self.cursor,
+            count,
+            ids,
+            any_order,
+        );
+        self.cursor += count;
+        Ok(())
+    }
+
+    fn replace_in_place(&mut self, count: usize, ids: &[u32], any_order: bool)
+        requires opened { self.old.is_open ≡ true }
+        requires near { self.old.is_separate ≡ false }
+        requires glyph { 0 < length self.old.input }
+        requires within { count ≤ length self.old.input }
+        requires room { length self.old.out + length ids.now ≤ self.old.idx + count }
+        ensures { self.new ≡ replaced any_order count ids.now self.old }
+    {
+        replacement::replace_in_place(
+            &mut self.info,
+            self.placed,
+            self.cursor,
+            count,
+            ids,
+            any_order,
+        );
+        self.placed += ids.len();
+        self.cursor += count;
+    }
+
+    fn replace_away(
+        &mut self,
+        count: usize,
+        ids: &[u32],
+        any_order: bool,
+    ) -> Result<(), AllocError>
+        requires opened { self.old.is_open ≡ true }
+        requires near { self.old.is_separate ≡ false }
+        requires glyph { 0 < length self.old.input }
+        requires within { count ≤ length self.old.input }
+        requires past { self.old.idx + count < length self.old.out + length ids.now }
+        ensures { Makes (replaced any_order count ids.now self.old) self.old result self.new }
+    {
+        self.out_info.reserve(self.placed + ids.len())?;
+        replacement::replace_away(
+            &mut self.out_info,
+            &mut self.info,
+            self.placed,
+            self.cursor,
+            count,
+            ids,
+            any_order,
+        );
+        self.placed = 0;
+        self.is_separate = true;
+        self.cursor += count;
+        Ok(())
+    }
+}
