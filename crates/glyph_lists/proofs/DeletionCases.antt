@@ -1,9 +1,8 @@
 -- Deletion, case by case.
-use Rattle.std.proofs.Common.{◌≡◌, ℕ, ◌+◌, ◌-◌, ◌<◌, List, [], ◌∷◌, ◌++◌, length, get_or, take, drop, refl, sym, ap}
+use Rattle.std.proofs.Common.{◌≡◌, ℕ, ◌-◌, ◌<◌, List, [], ◌∷◌, ◌++◌, length, get_or, take, drop, refl, sym, ap}
 use Rattle.std.proofs.Common.{◌∙◌, arith, eqb, true, false, Bool}
 use Rattle.std.specs.Prelude.{not, nat_lt}
-use Rattle.std.proofs.lemmas.List.{drop_more, length-take-le}
-use Rattle.std.proofs.Math.Seq.{drop-append-add}
+use Rattle.std.proofs.lemmas.List.{drop_more}
 use Rattle.std.proofs.lemmas.Bool.{cond-true, cond-false, and_parts}
 use Rattle.rb_glyph.specs.declared.info.hb_glyph_info_t.{hb_glyph_info_t}
 use Rattle.glyph_lists.specs.Parts.{map_range}
@@ -78,15 +77,12 @@ nothing_before any_order [] l h = refl
 nothing_before any_order (g ∷ out) l h = absurd (omega arith)
 
 -- the rest of the input, once its first glyph has left
-pub rest_merged : (any_order : Bool) (out l l2 : List hb_glyph_info_t) (i : ℕ) → i < length l → length out ≡ 0
-    → l2 ≡ take i l ++ drop (length out) (merge_or_mark any_order (out ++ drop i l) 0 2 0)
-    → drop (i + 1) l2 ≡ drop 1 (merge_or_mark any_order (get_or l i zero_glyph ∷ drop (i + 1) l) 0 2 0)
-rest_merged any_order out l l2 i h none e =
-    let n : length (take i l) ≡ i = length-take-le i l (omega arith) in
-    ap (drop (i + 1)) (e ∙ ap (λ xs. take i l ++ xs) (nothing_before any_order out (drop i l) none))
-    ∙ ap (λ k. drop (k + 1) (take i l ++ merge_or_mark any_order (drop i l) 0 2 0)) (sym n)
-    ∙ drop-append-add (take i l) (merge_or_mark any_order (drop i l) 0 2 0) 1
-    ∙ ap (λ xs. drop 1 (merge_or_mark any_order xs 0 2 0)) (drop_more l i zero_glyph h)
+pub rest_merged : (any_order : Bool) (out l l2 : List hb_glyph_info_t) → 0 < length l → length out ≡ 0
+    → l2 ≡ drop (length out) (merge_or_mark any_order (out ++ l) 0 2 0)
+    → drop 1 l2 ≡ drop 1 (merge_or_mark any_order (get_or l 0 zero_glyph ∷ drop 1 l) 0 2 0)
+rest_merged any_order out l l2 h none e =
+    ap (drop 1) (e ∙ nothing_before any_order out l none)
+    ∙ ap (λ xs. drop 1 (merge_or_mark any_order xs 0 2 0)) (drop_more l 0 zero_glyph h)
 
 -- ---- the cases
 

@@ -1,8 +1,8 @@
 -- Two lists, one after the other, of which the second begins at a cursor of a longer one.
 use Rattle.std.proofs.Common.{◌≡◌, ℕ, ◌+◌, ◌-◌, ◌≤◌, List, ◌++◌, length, take, drop, min, refl, sym, ap, ◌∙◌, arith}
-use Rattle.std.proofs.Common.{append_assoc, Bool, true, false}
+use Rattle.std.proofs.Common.{append_assoc, Bool, true, false, inl, inr}
 use Rattle.std.proofs.lemmas.List.{take-append-drop, drop-drop}
-use Rattle.std.proofs.lemmas.Bool.{cond-true, cond-false, lt-ltb, le-ltb}
+use Rattle.std.proofs.lemmas.Bool.{cond-true, cond-false, lt-ltb, le-ltb, cases_lt}
 use Rattle.std.proofs.Math.Seq.{take-append_seam, drop-append_seam, take-append-add, drop-append-add, take-add}
 use Rattle.glyph_lists.specs.Parts.{map_range, on_part, part}
 use Rattle.rb_glyph.specs.declared.info.hb_glyph_info_t.{hb_glyph_info_t}
@@ -40,11 +40,8 @@ range_nothing f xs i a b h = ap (λ k. take i xs ++ map_range f (drop i xs) a k)
 pub same_out : {X : Type 0} (out rest l : List X) → l ≡ out ++ rest → out ≡ take (length out) l
 same_out out rest l e = sym (ap (take (length out)) e ∙ take-append_seam out rest)
 
-pub same_info : {X : Type 0} (out info l : List X) (i : ℕ) → l ≡ out ++ drop i info
-    → info ≡ take i info ++ drop (length out) l
-same_info out info l i e =
-    sym (take-append-drop i info)
-    ∙ ap (λ xs. take i info ++ xs) (sym (ap (drop (length out)) e ∙ drop-append_seam out (drop i info)))
+pub same_input : {X : Type 0} (out rest l : List X) → l ≡ out ++ rest → rest ≡ drop (length out) l
+same_input out rest l e = sym (ap (drop (length out)) e ∙ drop-append_seam out rest)
 
 -- a list of two that are as long as before
 pub cut_out : {X : Type 0} (out xs ys l : List X) → length xs ≡ length out → l ≡ xs ++ ys → xs ≡ take (length out) l
@@ -86,12 +83,6 @@ unfolding merge_or_mark
 merge_or_mark_marks true l p q floor e h = cond-false _ _ _ (le-ltb (q - p) 2 (omega arith))
 merge_or_mark_marks false l p q floor e h = cc
 
-pub merge_or_mark_any : (any_order : Bool) (l : List hb_glyph_info_t) (p q floor : ℕ) → any_order ≡ true
-    → merge_or_mark any_order l p q floor ≡ merge_or_mark true l p q 0
-unfolding merge_or_mark
-merge_or_mark_any true l p q floor e = refl
-merge_or_mark_any false l p q floor e = cc
-
 -- ---- a part of both
 
 -- a part of the second list, seen from both as one
@@ -114,6 +105,20 @@ on_part-past g xs ys p q h up =
     ∙ ap (λ zs. (xs ++ take (p - n) ys) ++ g (part ys (p - n) (q - n)) ++ zs) dq
     ∙ ap (λ zs. zs ++ drop (q - n) ys) (append_assoc xs (take (p - n) ys) (g (part ys (p - n) (q - n))))
     ∙ append_assoc xs (take (p - n) ys ++ g (part ys (p - n) (q - n))) (drop (q - n) ys)
+
+-- a range of the second list is marked there alone
+pub merge_or_mark_past : (any_order : Bool) (xs ys : List hb_glyph_info_t) (p q floor : ℕ) → any_order ≡ true
+    → length xs ≤ p → p ≤ q → merge_or_mark any_order (xs ++ ys) p q floor
+    ≡ xs ++ merge_or_mark true ys (p - length xs) (q - length xs) 0
+merge_or_mark_past any_order xs ys p q floor is h up =
+    let n = length xs in
+    elim (cases_lt (q - p) 2) [
+      | inl lt ↦ merge_or_mark_short any_order (xs ++ ys) p q floor is (omega arith)
+          ∙ ap (λ zs. xs ++ zs) (sym (merge_or_mark_short true ys (p - n) (q - n) 0 refl (omega arith)))
+      | inr ge ↦ merge_or_mark_marks any_order (xs ++ ys) p q floor is (omega arith)
+          ∙ on_part-past (mark BREAK_BITS) xs ys p q h up
+          ∙ ap (λ zs. xs ++ zs) (sym (merge_or_mark_marks true ys (p - n) (q - n) 0 refl (omega arith)))
+    ]
 
 -- a part of the second list, seen from the longer one
 pub part-at : {X : Type 0} (l : List X) (i c d : ℕ) → part l (i + c) (i + d) ≡ part (drop i l) c d

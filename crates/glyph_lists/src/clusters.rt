@@ -38,33 +38,29 @@ pub fn set_range(info: &mut [hb_glyph_info_t], start: usize, end: usize, cluster
     set_clusters(&mut info[start..end], cluster, mask);
 }
 
-/// Puts the glyphs from `start` to `end` of the two sides as one list into a cluster: `out`, and `info` from the cursor
-/// on. A glyph that changes its cluster loses its glyph flags.
+/// Puts the glyphs from `start` to `end` of the two sides as one list, `out` first, into a cluster. A glyph that changes
+/// its cluster loses its glyph flags.
 #[inline]
 #[tactic(auto, using(crate::proofs::SidesLemmas::sides))]
 pub fn set_sides(
     out: &mut [hb_glyph_info_t],
-    info: &mut [hb_glyph_info_t],
-    cursor: usize,
+    input: &mut [hb_glyph_info_t],
     start: usize,
     end: usize,
     cluster: u32,
 )
-    requires cursor_within { cursor ≤ length info.old }
     requires order { start ≤ end }
-    requires within { end ≤ length out.old + (length info.old - cursor) }
+    requires within { end ≤ length out.old + length input.old }
     ensures out { out.new ≡ take (length out.old)
-        (map_range (with_cluster cluster 0) (out.old ++ drop cursor info.old) start end) }
-    ensures info { info.new ≡ take cursor info.old ++ drop (length out.old)
-        (map_range (with_cluster cluster 0) (out.old ++ drop cursor info.old) start end) }
+        (map_range (with_cluster cluster 0) (out.old ++ input.old) start end) }
+    ensures input { input.new ≡ drop (length out.old)
+        (map_range (with_cluster cluster 0) (out.old ++ input.old) start end) }
 {
     let len = out.len();
     if start < len {
         set_range(out, start, end.min(len), cluster, 0);
     }
     if end > len {
-        let from = cursor + start.saturating_sub(len);
-        let to = cursor + (end - len);
-        set_range(info, from, to, cluster, 0);
+        set_range(input, start.saturating_sub(len), end - len, cluster, 0);
     }
 }

@@ -10,15 +10,6 @@ use crate::clusters::set_range;
 use crate::merging::merge_or_mark;
 use rb_glyph::hb_glyph_info_t;
 
-/// Whether there is a glyph.
-#[inline]
-#[tactic(auto, using(crate::proofs::DeletionCases::neighbours))]
-fn is_not_empty(info: &[hb_glyph_info_t]) -> bool
-    ensures { result ≡ is_not_empty info.now }
-{
-    !info.is_empty()
-}
-
 /// Whether the first glyph is in the cluster.
 #[inline]
 #[tactic(auto, using(crate::proofs::DeletionCases::neighbours))]
@@ -34,48 +25,42 @@ fn first_is_in(info: &[hb_glyph_info_t], cluster: u32) -> bool
 fn last_is_in(info: &[hb_glyph_info_t], cluster: u32) -> bool
     ensures { result ≡ (is_not_empty info.now && (last_cluster info.now == cluster)) }
 {
-    is_not_empty(info) && info[info.len() - 1].cluster == cluster
+    !info.is_empty() && info[info.len() - 1].cluster == cluster
 }
 
-/// Whether a neighbour on either side has the cluster of the glyph at the cursor.
+/// Whether a neighbour on either side has the cluster of the first glyph of the input.
 #[inline]
-fn has_neighbour_in_cluster(
-    out: &[hb_glyph_info_t],
-    info: &[hb_glyph_info_t],
-    cursor: usize,
-) -> bool
-    requires { cursor < length info.now }
-    ensures { result ≡ has_neighbour_in (slice_index_or info.now cursor zero_glyph).cluster
-        out.now (drop (cursor + 1) info.now) }
+fn has_neighbour_in_cluster(out: &[hb_glyph_info_t], input: &[hb_glyph_info_t]) -> bool
+    requires { 0 < length input.now }
+    ensures { result ≡ has_neighbour_in (slice_index_or input.now 0 zero_glyph).cluster
+        out.now (drop 1 input.now) }
 {
-    let cluster = info[cursor].cluster;
-    first_is_in(&info[cursor + 1..], cluster) || last_is_in(out, cluster)
+    let cluster = input[0].cluster;
+    first_is_in(&input[1..], cluster) || last_is_in(out, cluster)
 }
 
-/// Whether the trailing run of `out` takes the cluster of the glyph at the cursor before that goes.
+/// Whether the trailing run of `out` takes the cluster of the first glyph of the input before that goes.
 #[inline]
 #[tactic(auto, using(crate::proofs::DeletionCases::neighbours), unfolding(crate::specs::Deletion::lowers_run))]
-fn lowers_run(out: &[hb_glyph_info_t], info: &[hb_glyph_info_t], cursor: usize) -> bool
-    requires { cursor < length info.now }
-    ensures { result ≡ lowers_run
-        out.now (slice_index_or info.now cursor zero_glyph) (drop (cursor + 1) info.now) }
+fn lowers_run(out: &[hb_glyph_info_t], input: &[hb_glyph_info_t]) -> bool
+    requires { 0 < length input.now }
+    ensures { result
+        ≡ lowers_run out.now (slice_index_or input.now 0 zero_glyph) (drop 1 input.now) }
 {
-    !has_neighbour_in_cluster(out, info, cursor)
-        && is_not_empty(out)
-        && info[cursor].cluster < out[out.len() - 1].cluster
+    !has_neighbour_in_cluster(out, input)
+        && !out.is_empty()
+        && input[0].cluster < out[out.len() - 1].cluster
 }
 
-/// Whether the glyph at the cursor is merged with the next one before it goes.
+/// Whether the first glyph of the input is merged with the next one before it goes.
 #[inline]
 #[tactic(auto, using(crate::proofs::DeletionCases::neighbours), unfolding(crate::specs::Deletion::merges_next))]
-pub fn merges_next(out: &[hb_glyph_info_t], info: &[hb_glyph_info_t], cursor: usize) -> bool
-    requires { cursor < length info.now }
-    ensures { result ≡ merges_next
-        out.now (slice_index_or info.now cursor zero_glyph) (drop (cursor + 1) info.now) }
+pub fn merges_next(out: &[hb_glyph_info_t], input: &[hb_glyph_info_t]) -> bool
+    requires { 0 < length input.now }
+    ensures { result
+        ≡ merges_next out.now (slice_index_or input.now 0 zero_glyph) (drop 1 input.now) }
 {
-    !is_not_empty(out)
-        && is_not_empty(&info[cursor + 1..])
-        && !has_neighbour_in_cluster(out, info, cursor)
+    out.is_empty() && input.len() > 1 && !has_neighbour_in_cluster(out, input)
 }
 
 /// Where the run of `cluster` begins that ends the list.
@@ -104,28 +89,21 @@ pub fn set_trailing_run(out: &mut [hb_glyph_info_t], cluster: u32, mask: u32)
     set_range(out, start, len, cluster, mask);
 }
 
-/// Keeps the cluster of the glyph at the cursor, which then leaves the input: what stands at the cursor afterwards is
-/// left open.
+/// Keeps the cluster of the first glyph of the input, which then leaves it: what stands there afterwards is left open.
 #[inline]
-pub fn delete_at_cursor(
-    out: &mut [hb_glyph_info_t],
-    info: &mut [hb_glyph_info_t],
-    cursor: usize,
-    any_order: bool,
-)
-    requires { cursor < length info.old }
+pub fn delete_head(out: &mut [hb_glyph_info_t], input: &mut [hb_glyph_info_t], any_order: bool)
+    requires { 0 < length input.old }
     ensures out { out.new ≡ (deletion any_order
-        out.old (slice_index_or info.old cursor zero_glyph) (drop (cursor + 1) info.old)).out }
-    ensures kept { take cursor info.new ≡ take cursor info.old }
-    ensures rest { drop (cursor + 1) info.new ≡ (deletion any_order
-        out.old (slice_index_or info.old cursor zero_glyph) (drop (cursor + 1) info.old)).rest }
+        out.old (slice_index_or input.old 0 zero_glyph) (drop 1 input.old)).out }
+    ensures rest { drop 1 input.new ≡ (deletion any_order
+        out.old (slice_index_or input.old 0 zero_glyph) (drop 1 input.old)).rest }
 {
-    let head = info[cursor];
-    if lowers_run(out, info, cursor) {
+    let head = input[0];
+    if lowers_run(out, input) {
         set_trailing_run(out, head.cluster, head.mask);
         return;
     }
-    if merges_next(out, info, cursor) {
-        merge_or_mark(out, info, cursor, 0, 2, 0, any_order);
+    if merges_next(out, input) {
+        merge_or_mark(out, input, 0, 2, 0, any_order);
     }
 }

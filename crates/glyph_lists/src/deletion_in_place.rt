@@ -5,7 +5,7 @@ ghost use Rattle.rb_glyph.specs.declared.info.hb_glyph_info_t.{hb_glyph_info_t};
 ghost use Rattle.glyph_lists.specs.DeletingWalk.{sides_at, deletion_merges, after_deletion, left_by_walk, kept_beside};
 ghost use Rattle.glyph_lists.specs.DeletingWalk.{walk_merges};
 
-use crate::deletion::{delete_at_cursor, merges_next};
+use crate::deletion::{delete_head, merges_next};
 use rb_glyph::{GlyphPosition, hb_glyph_info_t};
 
 /// Deletes the glyphs for which `deletes` holds as they stand when the walk comes to them, and moves the others down,
@@ -60,8 +60,8 @@ fn delete_at(info: &mut [hb_glyph_info_t], kept: usize, at: usize, any_order: bo
 {
     let (front, rest) = info.split_at_mut(at);
     let out = &mut front[..kept];
-    let merges = any_order && merges_next(out, rest, 0);
-    delete_at_cursor(out, rest, 0, any_order);
+    let merges = any_order && merges_next(out, rest);
+    delete_head(out, rest, any_order);
     merges
 }
 

@@ -58,34 +58,29 @@ fn mark_slice(info: &mut [hb_glyph_info_t], start: usize, end: usize, bits: u32)
     mark_all(&mut info[start..end], bits);
 }
 
-/// Adds the bits to the mask of each glyph from `start` to `end` of the two sides as one list: `out`, and `info` from
-/// the cursor on.
+/// Adds the bits to the mask of each glyph from `start` to `end` of the two sides as one list, `out` first.
 #[inline]
 #[tactic(auto, using(crate::proofs::SidesLemmas::sides))]
 pub fn mark_range(
     out: &mut [hb_glyph_info_t],
-    info: &mut [hb_glyph_info_t],
-    cursor: usize,
+    input: &mut [hb_glyph_info_t],
     start: usize,
     end: usize,
     bits: u32,
 )
-    requires cursor_within { cursor ≤ length info.old }
     requires order { start ≤ end }
-    requires within { end ≤ length out.old + (length info.old - cursor) }
+    requires within { end ≤ length out.old + length input.old }
     ensures out { out.new ≡ take (length out.old)
-        (map_range (with_glyph_flags bits) (out.old ++ drop cursor info.old) start end) }
-    ensures info { info.new ≡ take cursor info.old ++ drop (length out.old)
-        (map_range (with_glyph_flags bits) (out.old ++ drop cursor info.old) start end) }
+        (map_range (with_glyph_flags bits) (out.old ++ input.old) start end) }
+    ensures input { input.new ≡ drop (length out.old)
+        (map_range (with_glyph_flags bits) (out.old ++ input.old) start end) }
 {
     let len = out.len();
     if start < len {
         mark_slice(out, start, end.min(len), bits);
     }
     if end > len {
-        let from = cursor + start.saturating_sub(len);
-        let to = cursor + (end - len);
-        mark_slice(info, from, to, bits);
+        mark_slice(input, start.saturating_sub(len), end - len, bits);
     }
 }
 
@@ -247,37 +242,6 @@ pub fn scan_slice(
     scan_list(&mut info[start..end], bits, any_order);
 }
 
-/// Scans the glyphs from `start` to `end` of the two sides as one list, where `start` is not in `out`: `out`, and
-/// `info` from the cursor on.
-#[inline]
-pub fn scan_range(
-    out: &mut [hb_glyph_info_t],
-    info: &mut [hb_glyph_info_t],
-    cursor: usize,
-    start: usize,
-    end: usize,
-    bits: u32,
-    any_order: bool,
-)
-    requires cursor_within { cursor ≤ length info.old }
-    requires past_out { length out.old ≤ start }
-    requires order { start ≤ end }
-    requires within { end ≤ length out.old + (length info.old - cursor) }
-    ensures out { out.new ≡ take (length out.old)
-        (on_part (scan_of any_order bits) (out.old ++ drop cursor info.old) start end) }
-    ensures info { info.new ≡ take cursor info.old ++ drop (length out.old)
-        (on_part (scan_of any_order bits) (out.old ++ drop cursor info.old) start end) }
-{
-    let len = out.len();
-    scan_slice(
-        info,
-        cursor + (start - len),
-        cursor + (end - len),
-        bits,
-        any_order,
-    );
-}
-
 /// Scans one part, by the least cluster of all parts.
 #[inline]
 fn scan_part(info: &mut [hb_glyph_info_t], bits: u32, least: u32, any_order: bool)
@@ -319,33 +283,31 @@ fn least_for_scan(out: &[hb_glyph_info_t], input: &[hb_glyph_info_t], any_order:
     }
 }
 
-/// Scans the glyphs from `start` to `end` of the two sides as one list, where `end` is not within `out`: `out`, and
-/// `info` from the cursor on. What lies on either side is a part of its own.
+/// Scans the glyphs from `start` to `end` of the two sides as one list, `out` first, where `end` is not within `out`.
+/// What lies on either side is a part of its own.
 pub fn scan_two_parts(
     out: &mut [hb_glyph_info_t],
-    info: &mut [hb_glyph_info_t],
-    cursor: usize,
+    input: &mut [hb_glyph_info_t],
     start: usize,
     end: usize,
     bits: u32,
     any_order: bool,
 )
-    requires cursor_within { cursor ≤ length info.old }
     requires past_out { length out.old ≤ end }
     requires order { start ≤ end }
-    requires within { end ≤ length out.old + (length info.old - cursor) }
+    requires within { end ≤ length out.old + length input.old }
     ensures out { out.new ≡ take (length out.old)
         (on_part (two_part_scan any_order bits (length out.old - start))
-        (out.old ++ drop cursor info.old) start end) }
-    ensures info { info.new ≡ take cursor info.old ++ drop (length out.old)
+        (out.old ++ input.old) start end) }
+    ensures input { input.new ≡ drop (length out.old)
         (on_part (two_part_scan any_order bits (length out.old - start))
-        (out.old ++ drop cursor info.old) start end) }
+        (out.old ++ input.old) start end) }
 {
     let len = out.len();
     let seam = start.min(len);
-    let from = cursor + start.saturating_sub(len);
-    let to = cursor + (end - len);
-    let least = least_for_scan(&out[seam..], &info[from..to], any_order);
+    let from = start.saturating_sub(len);
+    let to = end - len;
+    let least = least_for_scan(&out[seam..], &input[from..to], any_order);
     scan_part_slice(out, seam, len, bits, least, any_order);
-    scan_part_slice(info, from, to, bits, least, any_order);
+    scan_part_slice(input, from, to, bits, least, any_order);
 }

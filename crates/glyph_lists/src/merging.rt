@@ -7,7 +7,7 @@ ghost use Rattle.glyph_lists.specs.Parts.{map_range};
 
 use crate::cluster_reads::ClusterReads;
 use crate::clusters::{set_cluster, set_range, set_sides};
-use crate::glyph_flags::{BREAK_BITS, scan_range};
+use crate::glyph_flags::{BREAK_BITS, scan_slice};
 use crate::merge_range::{merge_range, run_end_after, run_start_before};
 use rb_glyph::hb_glyph_info_t;
 
@@ -84,38 +84,24 @@ fn merge_list(info: &mut [hb_glyph_info_t], start: usize, end: usize, floor: usi
     merge_slice(info, start, end, floor);
 }
 
-/// Merges the glyphs from `start` to `end` of those from the cursor on.
-#[inline(always)]
-fn merge_from(info: &mut [hb_glyph_info_t], cursor: usize, start: usize, end: usize, floor: usize)
-    requires cursor_within { cursor ≤ length info.old }
-    requires some { start + 2 ≤ end }
-    requires within { end ≤ length info.old - cursor }
-    ensures { info.new ≡ take cursor info.old ++ run_merge (drop cursor info.old) start end floor }
-{
-    merge_list(&mut info[cursor..], start, end, floor);
-}
-
-/// Merges the glyphs from `start` to `end` of the two sides as one list: `out`, and `info` from the cursor on.
+/// Merges the glyphs from `start` to `end` of the two sides as one list, `out` first.
 fn merge_sides(
     out: &mut [hb_glyph_info_t],
-    info: &mut [hb_glyph_info_t],
-    cursor: usize,
+    input: &mut [hb_glyph_info_t],
     start: usize,
     end: usize,
     floor: usize,
 )
-    requires cursor_within { cursor ≤ length info.old }
     requires some { start + 2 ≤ end }
-    requires within { end ≤ length out.old + (length info.old - cursor) }
-    ensures out { out.new ≡ take (length out.old)
-        (run_merge (out.old ++ drop cursor info.old) start end floor) }
-    ensures info { info.new ≡ take cursor info.old ++ drop (length out.old)
-        (run_merge (out.old ++ drop cursor info.old) start end floor) }
+    requires within { end ≤ length out.old + length input.old }
+    ensures out { out.new
+        ≡ take (length out.old) (run_merge (out.old ++ input.old) start end floor) }
+    ensures input { input.new
+        ≡ drop (length out.old) (run_merge (out.old ++ input.old) start end floor) }
 {
-    let whole = &info[..];
-    let mut reads = ClusterReads::new(out, &whole[cursor..]);
+    let mut reads = ClusterReads::new(out, input);
     let (cluster, from, to) = merge_range(&mut reads, start, end, floor);
-    set_sides(out, info, cursor, from, to, cluster);
+    set_sides(out, input, from, to, cluster);
 }
 
 /// Whether a run goes on from `out` into `input`.
@@ -126,116 +112,96 @@ fn run_crosses(out: &[hb_glyph_info_t], input: &[hb_glyph_info_t]) -> bool
     !out.is_empty() && !input.is_empty() && out[out.len() - 1].cluster == input[0].cluster
 }
 
-/// Merges the same, where the range lies in `out` or a run goes on across the cursor.
+/// Merges the same, where the range lies in `out` or a run goes on from `out` into `input`.
 #[inline(never)]
 fn merge_across(
     out: &mut [hb_glyph_info_t],
-    info: &mut [hb_glyph_info_t],
-    cursor: usize,
+    input: &mut [hb_glyph_info_t],
     start: usize,
     end: usize,
     floor: usize,
 )
-    requires cursor_within { cursor ≤ length info.old }
     requires some { start + 2 ≤ end }
-    requires within { end ≤ length out.old + (length info.old - cursor) }
-    ensures out { out.new ≡ take (length out.old)
-        (run_merge (out.old ++ drop cursor info.old) start end floor) }
-    ensures info { info.new ≡ take cursor info.old ++ drop (length out.old)
-        (run_merge (out.old ++ drop cursor info.old) start end floor) }
+    requires within { end ≤ length out.old + length input.old }
+    ensures out { out.new
+        ≡ take (length out.old) (run_merge (out.old ++ input.old) start end floor) }
+    ensures input { input.new
+        ≡ drop (length out.old) (run_merge (out.old ++ input.old) start end floor) }
 {
-    if end <= out.len() && !run_crosses(out, &info[cursor..]) {
+    if end <= out.len() && !run_crosses(out, input) {
         merge_list(out, start, end, floor);
     } else {
-        merge_sides(out, info, cursor, start, end, floor);
+        merge_sides(out, input, start, end, floor);
     }
 }
 
-/// Merges the glyphs from `start` to `end` of the two sides as one list: `out`, and `info` from the cursor on.
-/// The range is widened through the runs at its ends, its start not below `floor`. A range on one side stays there,
-/// unless a run goes on across the cursor.
+/// Merges the glyphs from `start` to `end` of the two sides as one list, `out` first. The range is widened through the
+/// runs at its ends, its start not below `floor`. A range on one side stays there, unless a run goes on from `out` into
+/// `input`.
 #[inline(always)]
 pub fn run_merge(
     out: &mut [hb_glyph_info_t],
-    info: &mut [hb_glyph_info_t],
-    cursor: usize,
+    input: &mut [hb_glyph_info_t],
     start: usize,
     end: usize,
     floor: usize,
 )
-    requires cursor_within { cursor ≤ length info.old }
     requires order { start ≤ end }
-    requires within { end ≤ length out.old + (length info.old - cursor) }
-    ensures out { out.new ≡ take (length out.old)
-        (run_merge (out.old ++ drop cursor info.old) start end floor) }
-    ensures info { info.new ≡ take cursor info.old ++ drop (length out.old)
-        (run_merge (out.old ++ drop cursor info.old) start end floor) }
+    requires within { end ≤ length out.old + length input.old }
+    ensures out { out.new
+        ≡ take (length out.old) (run_merge (out.old ++ input.old) start end floor) }
+    ensures input { input.new
+        ≡ drop (length out.old) (run_merge (out.old ++ input.old) start end floor) }
 {
     if end - start < 2 {
         return;
     }
     let len = out.len();
-    if start >= len && !run_crosses(out, &info[cursor..]) {
-        merge_from(
-            info,
-            cursor,
-            start - len,
-            end - len,
-            floor.saturating_sub(len),
-        );
+    if start >= len && !run_crosses(out, input) {
+        merge_list(input, start - len, end - len, floor.saturating_sub(len));
     } else {
-        merge_across(out, info, cursor, start, end, floor);
+        merge_across(out, input, start, end, floor);
     }
 }
 
-/// The merge in any order of clusters: the glyphs outside the least cluster of the range get both break flags.
+/// Marks the glyphs from `start` to `end` of one list where they would be merged: in any order of clusters those outside
+/// the least cluster of the range get both break flags.
 #[inline(never)]
-fn mark_instead(
-    out: &mut [hb_glyph_info_t],
-    info: &mut [hb_glyph_info_t],
-    cursor: usize,
-    start: usize,
-    end: usize,
-)
-    requires cursor_within { cursor ≤ length info.old }
-    requires past_out { length out.old ≤ start }
+fn mark_instead(info: &mut [hb_glyph_info_t], start: usize, end: usize)
     requires order { start ≤ end }
-    requires within { end ≤ length out.old + (length info.old - cursor) }
-    ensures out { out.new ≡ take (length out.old)
-        (merge_or_mark true (out.old ++ drop cursor info.old) start end 0) }
-    ensures info { info.new ≡ take cursor info.old ++ drop (length out.old)
-        (merge_or_mark true (out.old ++ drop cursor info.old) start end 0) }
+    requires within { end ≤ length info.old }
+    ensures { info.new ≡ merge_or_mark true info.old start end 0 }
 {
     if end - start < 2 {
         return;
     }
-    scan_range(out, info, cursor, start, end, BREAK_BITS, true);
+    scan_slice(info, start, end, BREAK_BITS, true);
 }
 
-/// Merges the glyphs from `start` to `end` of the two sides as one list, where `start` is not in `out`. In any order of
-/// clusters those outside the least cluster of the range get both break flags instead, and keep their clusters.
+/// Merges the glyphs from `start` to `end` of the two sides as one list, `out` first, where `start` is not in `out`. In
+/// any order of clusters those outside the least cluster of the range get both break flags instead, and keep their
+/// clusters.
 #[inline(always)]
 pub fn merge_or_mark(
     out: &mut [hb_glyph_info_t],
-    info: &mut [hb_glyph_info_t],
-    cursor: usize,
+    input: &mut [hb_glyph_info_t],
     start: usize,
     end: usize,
     floor: usize,
     any_order: bool,
 )
-    requires cursor_within { cursor ≤ length info.old }
     requires past_out { length out.old ≤ start }
     requires order { start ≤ end }
-    requires within { end ≤ length out.old + (length info.old - cursor) }
+    requires within { end ≤ length out.old + length input.old }
     ensures out { out.new ≡ take (length out.old)
-        (merge_or_mark any_order (out.old ++ drop cursor info.old) start end floor) }
-    ensures info { info.new ≡ take cursor info.old ++ drop (length out.old)
-        (merge_or_mark any_order (out.old ++ drop cursor info.old) start end floor) }
+        (merge_or_mark any_order (out.old ++ input.old) start end floor) }
+    ensures input { input.new ≡ drop (length out.old)
+        (merge_or_mark any_order (out.old ++ input.old) start end floor) }
 {
     if any_order {
-        mark_instead(out, info, cursor, start, end);
+        let len = out.len();
+        mark_instead(input, start - len, end - len);
     } else {
-        run_merge(out, info, cursor, start, end, floor);
+        run_merge(out, input, start, end, floor);
     }
 }

@@ -30,7 +30,7 @@ pub fn run_merge(
         (run_merge (take out_len info.old ++ drop cursor info.old) start end floor) }
 {
     let (front, input) = info.split_at_mut(cursor);
-    merging::run_merge(&mut front[..out_len], input, 0, start, end, floor);
+    merging::run_merge(&mut front[..out_len], input, start, end, floor);
 }
 
 /// Merges the glyphs from `start`, which is not in the out side, to `end`, or marks them, as `merging::merge_or_mark`
@@ -55,15 +55,7 @@ pub fn merge_or_mark(
         (merge_or_mark any_order (take out_len info.old ++ drop cursor info.old) start end floor) }
 {
     let (front, input) = info.split_at_mut(cursor);
-    merging::merge_or_mark(
-        &mut front[..out_len],
-        input,
-        0,
-        start,
-        end,
-        floor,
-        any_order,
-    );
+    merging::merge_or_mark(&mut front[..out_len], input, start, end, floor, any_order);
 }
 
 /// Adds the bits to the mask of each glyph from `start` to `end`, as `glyph_flags::mark_range` does.
@@ -87,7 +79,7 @@ pub fn mark_range(
         start end) }
 {
     let (front, input) = info.split_at_mut(cursor);
-    glyph_flags::mark_range(&mut front[..out_len], input, 0, start, end, bits);
+    glyph_flags::mark_range(&mut front[..out_len], input, start, end, bits);
 }
 
 /// Scans the glyphs from `start` to `end`, which is not in the out side, in two parts, as
@@ -114,10 +106,10 @@ pub fn scan_two_parts(
         (take out_len info.old ++ drop cursor info.old) start end) }
 {
     let (front, input) = info.split_at_mut(cursor);
-    glyph_flags::scan_two_parts(&mut front[..out_len], input, 0, start, end, bits, any_order);
+    glyph_flags::scan_two_parts(&mut front[..out_len], input, start, end, bits, any_order);
 }
 
-/// Keeps the cluster of the glyph at the cursor, which then leaves the input, as `deletion::delete_at_cursor` does.
+/// Keeps the cluster of the glyph at the cursor, which then leaves the input, as `deletion::delete_head` does.
 #[tactic(auto, using(crate::proofs::SidesLemmas::next_left))]
 pub fn delete_at_cursor(
     info: &mut [hb_glyph_info_t],
@@ -145,5 +137,5 @@ fn delete_head(info: &mut [hb_glyph_info_t], out_len: usize, cursor: usize, any_
         (slice_index_or (drop cursor info.old) 0 zero_glyph) (drop 1 (drop cursor info.old))).rest }
 {
     let (front, input) = info.split_at_mut(cursor);
-    deletion::delete_at_cursor(&mut front[..out_len], input, 0, any_order);
+    deletion::delete_head(&mut front[..out_len], input, any_order);
 }

@@ -13,8 +13,8 @@ fn a_change_of_cluster_takes_the_flags(rt: HostRuntime) {
 #[test]
 fn a_range_lies_on_both_sides(rt: HostRuntime) {
     let mut out = glyphs([3, 2]);
-    let mut info = glyphs([3, 2, 4, 5]);
-    set_sides(&mut out, &mut info, 2, 1, 3, 1);
+    let mut input = glyphs([4, 5]);
+    set_sides(&mut out, &mut input, 1, 3, 1);
     assert_clusters(&rt, &out, &[3, 1]);
-    assert_clusters(&rt, &info, &[3, 2, 1, 5]);
+    assert_clusters(&rt, &input, &[1, 5]);
 }

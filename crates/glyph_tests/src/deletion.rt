@@ -1,5 +1,5 @@
 use crate::lists::{assert_clusters, assert_glyphs, glyph, glyphs};
-use glyph_lists::deletion::{delete_at_cursor, merges_next, set_trailing_run};
+use glyph_lists::deletion::{delete_head, merges_next, set_trailing_run};
 
 /// What was put out, if anything, and the current glyph with the two glyphs after it.
 #[test]
@@ -14,11 +14,11 @@ fn a_lower_cluster_is_kept(rt: HostRuntime) {
     ];
     for (out_len, before, input, any_order, after, rest) in rows {
         let mut out = glyphs(before);
-        let mut info = glyphs(input);
+        let mut input = glyphs(input);
         assert!(rt; out_len <= 2);
-        delete_at_cursor(&mut out[..out_len], &mut info, 0, any_order);
+        delete_head(&mut out[..out_len], &mut input, any_order);
         assert_clusters(&rt, &out, &after);
-        assert_glyphs(&rt, &info[1..], &rest);
+        assert_glyphs(&rt, &input[1..], &rest);
     }
 }
 
@@ -31,8 +31,7 @@ fn the_trailing_run_takes_the_flags_too(rt: HostRuntime) {
 
 #[test]
 fn the_last_glyph_is_merged_with_none(rt: HostRuntime) {
-    let info = glyphs([0, 1]);
-    assert!(rt; merges_next(&[], &info, 0));
-    assert!(rt; !merges_next(&[], &info, 1));
-    assert!(rt; !merges_next(&glyphs([3]), &info, 0));
+    assert!(rt; merges_next(&[], &glyphs([0, 1])));
+    assert!(rt; !merges_next(&[], &glyphs([1])));
+    assert!(rt; !merges_next(&glyphs([3]), &glyphs([0, 1])));
 }

@@ -1,5 +1,5 @@
 use crate::lists::{assert_masks, glyph, glyphs};
-use glyph_lists::glyph_flags::{mark_range, scan_range, scan_slice, scan_two_parts};
+use glyph_lists::glyph_flags::{mark_range, scan_slice, scan_two_parts};
 
 /// Clusters, a range, whether they are in any order, and the masks after the scan.
 static SCANS: [([u32; 4], usize, usize, bool, [u32; 4]); 6] = [
@@ -16,7 +16,7 @@ fn a_scan_of_one_part_marks_all_but_the_least(rt: HostRuntime) {
     for &(clusters, start, end, any_order, masks) in &SCANS {
         let mut info = glyphs(clusters);
         assert!(rt; start <= end && end <= 4);
-        scan_range(&mut [], &mut info, 0, start, end, 3, any_order);
+        scan_slice(&mut info, start, end, 3, any_order);
         assert_masks(&rt, &info, &masks);
     }
     let mut info = [glyph(0, 8), glyph(1, 8), glyph(2, 1)];
@@ -24,7 +24,7 @@ fn a_scan_of_one_part_marks_all_but_the_least(rt: HostRuntime) {
     assert_masks(&rt, &info, &[8, 12, 1]);
 }
 
-/// How many were read, clusters, a range, whether they are in any order, and the masks after the scan.
+/// How many were put out, clusters, a range, whether they are in any order, and the masks after the scan.
 static SCANS_OF_TWO: [(usize, [u32; 4], usize, usize, bool, [u32; 4]); 7] = [
     (2, [0, 1, 1, 2], 0, 4, false, [0, 3, 3, 3]),
     (3, [3, 1, 3, 1], 0, 4, false, [3, 0, 3, 0]),
@@ -35,24 +35,24 @@ static SCANS_OF_TWO: [(usize, [u32; 4], usize, usize, bool, [u32; 4]); 7] = [
     (1, [0, 1, 2, 1], 1, 3, false, [0, 0, 3, 0]),
 ];
 
-/// The out side holds the first glyphs, as many as were read.
+/// The out side holds the first glyphs, and the input the others.
 #[test]
 fn a_scan_of_two_parts_goes_by_the_least_of_both(rt: HostRuntime) {
     for &(cut, clusters, start, end, any_order, masks) in &SCANS_OF_TWO {
-        let mut out = glyphs(clusters);
-        let mut info = glyphs(clusters);
+        let mut list = glyphs(clusters);
         assert!(rt; cut <= end && start <= end && end <= 4);
-        scan_two_parts(&mut out[..cut], &mut info, cut, start, end, 3, any_order);
-        assert_masks(&rt, &out[..cut], &masks[..cut]);
-        assert_masks(&rt, &info[cut..], &masks[cut..]);
+        let (out, input) = list.split_at_mut(cut);
+        scan_two_parts(out, input, start, end, 3, any_order);
+        assert_masks(&rt, out, &masks[..cut]);
+        assert_masks(&rt, input, &masks[cut..]);
     }
 }
 
 #[test]
 fn a_range_is_marked_on_both_sides(rt: HostRuntime) {
     let mut out = glyphs([0, 1]);
-    let mut info = [glyph(0, 0), glyph(1, 0), glyph(2, 1), glyph(3, 0)];
-    mark_range(&mut out, &mut info, 2, 1, 3, 2);
+    let mut input = [glyph(2, 1), glyph(3, 0)];
+    mark_range(&mut out, &mut input, 1, 3, 2);
     assert_masks(&rt, &out, &[0, 2]);
-    assert_masks(&rt, &info, &[0, 0, 3, 0]);
+    assert_masks(&rt, &input, &[3, 0]);
 }

@@ -1,7 +1,7 @@
 use crate::lists::{assert_clusters, assert_glyphs, glyph, glyphs};
 use glyph_lists::merging::{merge_or_mark, merge_slice, run_merge};
 
-/// How many were read, clusters, a range and a floor, and the clusters after the merge.
+/// How many were put out, clusters, a range and a floor, and the clusters after the merge.
 static MERGES: [(usize, [u32; 4], usize, usize, usize, [u32; 4]); 13] = [
     (0, [3, 3, 2, 1], 1, 3, 0, [2, 2, 2, 1]),
     (0, [4, 3, 3, 1], 0, 2, 0, [3, 3, 3, 1]),
@@ -18,17 +18,16 @@ static MERGES: [(usize, [u32; 4], usize, usize, usize, [u32; 4]); 13] = [
     (1, [1, 0, 2, 2], 0, 1, 0, [1, 0, 2, 2]),
 ];
 
-/// The out side holds the first glyphs, as many as were read.
+/// The out side holds the first glyphs, and the input the others.
 #[test]
 fn a_merge_takes_in_the_runs_at_its_ends(rt: HostRuntime) {
     for &(cut, before, start, end, floor, after) in &MERGES {
-        let mut out = glyphs(before);
-        let mut info = glyphs(before);
+        let mut list = glyphs(before);
         assert!(rt; cut <= 4 && start <= end && end <= 4);
-        run_merge(&mut out[..cut], &mut info, cut, start, end, floor);
-        assert_clusters(&rt, &out[..cut], &after[..cut]);
-        assert_clusters(&rt, &info[..cut], &before[..cut]);
-        assert_clusters(&rt, &info[cut..], &after[cut..]);
+        let (out, input) = list.split_at_mut(cut);
+        run_merge(out, input, start, end, floor);
+        assert_clusters(&rt, out, &after[..cut]);
+        assert_clusters(&rt, input, &after[cut..]);
     }
 }
 
@@ -55,7 +54,7 @@ fn a_merge_of_one_list_takes_in_the_runs_at_its_ends(rt: HostRuntime) {
 #[test]
 fn flags_go_where_the_cluster_changes(rt: HostRuntime) {
     let mut info = [glyph(0, 0), glyph(1, 3), glyph(2, 3)];
-    merge_or_mark(&mut [], &mut info, 0, 1, 3, 0, false);
+    merge_or_mark(&mut [], &mut info, 1, 3, 0, false);
     assert_glyphs(&rt, &info, &[(0, 0), (1, 3), (1, 0)]);
 }
 
@@ -67,11 +66,11 @@ fn a_merge_in_any_order_marks(rt: HostRuntime) {
         (0, [1, 0, 2, 2], 0, 1, [(1, 0), (0, 0), (2, 0), (2, 0)]),
     ];
     for (cut, before, start, end, after) in rows {
-        let mut out = glyphs(before);
-        let mut info = glyphs(before);
+        let mut list = glyphs(before);
         assert!(rt; cut <= start && start <= end && end <= 4);
-        merge_or_mark(&mut out[..cut], &mut info, cut, start, end, 0, true);
-        assert_glyphs(&rt, &out[..cut], &after[..cut]);
-        assert_glyphs(&rt, &info[cut..], &after[cut..]);
+        let (out, input) = list.split_at_mut(cut);
+        merge_or_mark(out, input, start, end, 0, true);
+        assert_glyphs(&rt, out, &after[..cut]);
+        assert_glyphs(&rt, input, &after[cut..]);
     }
 }

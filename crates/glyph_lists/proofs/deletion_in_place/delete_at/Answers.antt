@@ -6,4 +6,4 @@ returns-clause-sides c =
     let a = c.args in
     let halves = c.split_at_mut-front.ensures in
     deleted_in_place a.any_order a.kept a.at a.info.now _ _ _ _ c.requires.order c.requires.within halves.front
-    halves.back c.delete_at_cursor.ensures.out c.delete_at_cursor.ensures.rest
+    halves.back c.delete_head.ensures.out c.delete_head.ensures.rest
