@@ -2,7 +2,7 @@
 use Rattle.std.proofs.Common.{◌≡◌, ℕ, ◌+◌, ◌-◌, ◌≤◌, ◌<◌, Bool, true, false, List, ◌++◌, length, take, drop, refl, sym}
 use Rattle.std.proofs.Common.{ap, ◌∙◌, arith, length-append, length-drop, length-take, if◌then◌else◌}
 use Rattle.std.proofs.Math.Seq.{take-append_seam, take-set-lt}
-use Rattle.glyph_sides.proofs.MoveLemmas.{drop_past}
+use Rattle.glyph_sides.proofs.ShiftLemmas.{drop_past}
 use Rattle.std.proofs.Math.ListN.{set}
 use Rattle.std.proofs.lemmas.List.{take-set-le, drop-set-lt, drop-set-lt, drop-drop, length-take-le}
 use Rattle.std.specs.List.{length_refill}

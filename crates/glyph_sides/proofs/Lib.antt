@@ -1,8 +1,8 @@
 pub mod Views
 pub mod ScanLemmas
-pub mod MoveLemmas
+pub mod ShiftLemmas
 pub mod FrontLemmas
 pub mod Relends
 pub mod CopyLemmas
 pub mod ReplacementLemmas
-pub mod PushedLemmas
+pub mod CharactersLemmas

@@ -4,16 +4,16 @@ ghost use Rattle.std.specs.Prelude.{◌≡◌, ◌+◌, ◌-◌, ◌<◌, ◌≤
 ghost use Rattle.glyph_sides.specs.TextGlyphs.{glyphs_at};
 ghost use Rattle.glyph_sides.specs.TwoLists.{IsSides, len, left, nothing, opened, place};
 
-use crate::growth::append_characters;
+use crate::characters::append_characters;
 use rb_glyph::hb_glyph_info_t;
 use std::alloc::{AllocError, Global};
 use std::marker::Model;
 
 mod both;
 mod cursor;
-mod moving;
 mod references;
 mod replacement;
+mod rewind;
 
 /// Two lists of glyphs with a cursor between them: the out side, that glyphs are put into, and the input, that they are
 /// read from. With no output open there is one list, and the cursor in it.

@@ -8,7 +8,7 @@ use Rattle.std.specs.Char.{IsScalar}
 use Rattle.std.specs.Str.{chars, all_scalars}
 use Rattle.rb_glyph.specs.declared.info.hb_glyph_info_t.{hb_glyph_info_t}
 use Rattle.glyph_sides.specs.TextGlyphs.{character, glyphs_at}
-use Rattle.glyph_sides.proofs.PushedLemmas.{length_pushed}
+use Rattle.glyph_sides.proofs.CharactersLemmas.{length_pushed}
 use Rattle.glyph_lists.specs.Guess.{AreCharacters}
 use Rattle.glyph_lists.specs.ClusterNumbers.{reset_clusters}
 

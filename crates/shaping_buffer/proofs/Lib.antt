@@ -1,9 +1,5 @@
-pub mod Views
 pub mod MoveLemmas
-pub mod FrontLemmas
-pub mod Relends
 pub mod ReplacementLemmas
-pub mod CopyLemmas
 pub mod CharactersLemmas
 pub mod MergingLemmas
 pub mod GroupStepLemmas

@@ -24,58 +24,6 @@ drop_past i xs ys h =
     let e : i ≡ length xs + (i - length xs) = omega arith in
     ap (λ k. drop k (xs ++ ys)) e ∙ drop-append-add xs ys (i - length xs)
 
--- a part of a list
-pub range_is : {X : Type 0} (xs : List X) (start end : ℕ) → start ≤ end
-    → drop start (take end xs) ≡ slice_range xs start end
-range_is xs start end h = let e : end ≡ start + (end - start) =
-    omega arith in ap (λ k. drop start (take k xs)) e ∙ drop-take start (end - start) xs
-
--- what lies after the glyphs that were copied down stays
-pub left_by_copy : {X : Type 0} (xs : List X) (to from count : ℕ) → to ≤ from → from + count ≤ length xs
-    → drop (from + count) (copy_within xs from (from + count) to) ≡ drop (from + count) xs
-left_by_copy xs to from count down within =
-    let n : ℕ = from + count - from in
-    let ys = copy_within xs from (from + count) to in
-    let e : to + n + (from - to) ≡ from + count = omega arith in
-    let room : n ≤ length (drop from xs) = omega (arith, length-drop from xs) in
-    ap (λ k. drop k ys) (sym e) ∙ sym (drop-drop (from - to) (to + n) ys)
-    ∙ ap (drop (from - to)) (drop-paste xs to (drop from xs) n (omega arith) room)
-    ∙ drop-drop (from - to) (to + n) xs ∙ ap (λ k. drop k xs) e
-
--- where nothing lies between, glyphs stand where they belong
-pub put_already : {X : Type 0} (xs : List X) (to from count : ℕ) → to ≤ from → from ≤ to
-    → take (to + count) xs ≡ take to xs ++ take count (drop from xs)
-put_already xs to from count down up =
-    let e : to ≡ from = omega arith in take-add to count xs ∙ ap (λ k. take to xs ++ take count (drop k xs)) e
-
-pub ruleset down = (range_is, left_by_copy, put_already)
-
-pub closed_already : {X : Type 0} (xs : List X) (to from : ℕ) → to ≤ from → from ≤ to → xs ≡ take to xs ++ drop from xs
-closed_already xs to from down up =
-    let e : to ≡ from = omega arith in sym (take-append-drop to xs) ∙ ap (λ k. take to xs ++ drop k xs) e
-
--- what two lists share from a place on they share further on
-pub drop_further : {X : Type 0} (xs ys : List X) (n m : ℕ) → n ≤ m → drop n xs ≡ drop n ys → drop m xs ≡ drop m ys
-drop_further xs ys n m after e =
-    let k : n + (m - n) ≡ m = omega arith in
-    ap (λ j. drop j xs) (sym k) ∙ sym (drop-drop (m - n) n xs) ∙ ap (drop (m - n)) e ∙ drop-drop (m - n) n ys
-    ∙ ap (λ j. drop j ys) k
-
--- a glyph that is put out in place of the head stays in the storage of the input
-pub head_put : (g : hb_glyph_info_t) (s : State) → s.have_output ≡ true → s.have_separate_output ≡ false
-    → length s.out ≤ s.idx → 0 < length s.input → length s.out + 1 ≤ s.max_len
-    → put_out (g ∷ []) s (skip_glyph s)
-    ≡ record { done = true; state = record s { out = s.out ++ g ∷ []; input = drop 1 s.input; idx = s.idx + 1 } }
-head_put g s opened near within some fits = grind (arith, common_steps)
-
--- a move back in place, where both sides together are not too long
-abbrev pub moved_back : ℕ → State → State
-moved_back i s = record s { out = take i s.out; input = drop i s.out ++ s.input; idx = s.idx - (length s.out - i) }
-
-pub back_is : (s : State) (i : ℕ) → s.have_output ≡ true → s.successful ≡ true → length s.out ≤ s.idx → i < length s.out
-    → length s.input + (length s.out - i) ≤ s.max_len → move_to i s ≡ record { done = true; state = moved_back i s }
-back_is s i opened good near behind fits = grind (arith, common_steps)
-
 -- a move forward puts out the glyphs in between
 pub forward_is_next : (i : ℕ) (s : State) → s.have_output ≡ true → s.successful ≡ true → length s.out ≤ i
     → i ≤ length s.out + length s.input → move_to i s ≡ next_glyphs (i - length s.out) s

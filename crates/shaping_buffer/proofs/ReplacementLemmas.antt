@@ -18,11 +18,6 @@ use Rattle.shaping_buffer.specs.ClusterStep.{both, any_order, flagged_if}
 use Rattle.shaping_buffer.specs.Step.{Outcome, MayWant, limited, settled, put_out, skip_glyphs, replace_front}
 use Rattle.shaping_buffer.specs.Step.{replace_glyphs, with_id}
 
-pub copied : (g : hb_glyph_info_t) (ids : List ℕ) (i d : ℕ) → i < length ids
-    → copies g (take (i + 1) ids) ≡ copies g (take i ids) ++ with_id (get_or ids i d) g ∷ []
-copied g ids i d h =
-    ap (copies g) (take_more ids i d h) ∙ map-append (λ id. with_id id g) (take i ids) (get_or ids i d ∷ [])
-
 pub length_copies : (g : hb_glyph_info_t) (ids : List ℕ) → length (copies g ids) ≡ length ids
 length_copies g ids = length-map ids (λ id. with_id id g)
 
@@ -54,61 +49,6 @@ pub replaced_refused : (n : ℕ) (ids : List ℕ) (s : State) → s.have_output 
 replaced_refused n ids s opened long = replaced_sides n ids s opened
     ∙ cond-false (leb (length s.out + length ids) s.max_len) _ _ (lt-leb (length s.out + length ids) s.max_len long)
 
--- a merge keeps the front in its place
-front_stays : (any_order : Bool) (l : List hb_glyph_info_t) (p q : ℕ) → p ≤ length l
-    → p ≤ length (merge_or_mark any_order l p q 0)
-unfolding merge_or_mark
-front_stays true l p q h =
-    cond_both (ltb (q - p) 2) _ _ (λ (r : List hb_glyph_info_t). p ≤ length r) (λ _. h)
-    (λ _. omega (
-      arith,
-      length-append (take p l ++ mark BREAK_BITS (part l p q)) (drop q l),
-      length-append (take p l) (mark BREAK_BITS (part l p q)),
-      length-take-le p l h,
-    ))
-front_stays false l p q h = omega (arith, length-run_merge l p q 0)
-
--- the out side becomes longer by the copies
-pub length_replaced : (any_order : Bool) (n : ℕ) (ids : List ℕ) (s : State)
-    → length (replace_front any_order n ids s).out ≡ length s.out + length ids
-length_replaced any_order n ids s =
-    let l = front_merged any_order n s in
-    let head = slice_index_or (drop (length s.out) l) 0 zero_glyph in
-    let whole = length-append s.out s.input in
-    let stays = front_stays any_order (both s) (length s.out) (length s.out + n) (omega arith) in
-    omega (
-      arith,
-      length-append (take (length s.out) l) (copies head ids),
-      length_copies head ids,
-      length-take-le (length s.out) l stays,
-    )
-
--- where more is put out than was read, it leaves the storage of the input, and may want memory
-pub replaced_away : (any_order : Bool) (n : ℕ) (ids : List ℕ) (s : State) → s.idx + n < length s.out + length ids
-    → settled (replace_front any_order n ids s) ≡ record (replace_front any_order n ids s) { have_separate_output = true }
-replaced_away any_order n ids s h = let e = length_replaced any_order n ids s in grind (arith, common_steps, e)
-
-pub away_wants : (any_order : Bool) (n : ℕ) (ids : List ℕ) (s : State) → s.have_output ≡ true → length s.out ≤ s.idx
-    → n ≤ length s.input → s.idx + n < length s.out + length ids
-    → MayWant s (settled (replace_front any_order n ids s))
-away_wants any_order n ids s opened near within h = let e =
-    length_replaced any_order n ids s in grind (arith, common_steps, e, opened)
-
-pub replaced_apart : (any_order : Bool) (n : ℕ) (ids : List ℕ) (s : State) → s.have_separate_output ≡ true
-    → settled (replace_front any_order n ids s) ≡ replace_front any_order n ids s
-replaced_apart any_order n ids s h = grind (arith, common_steps)
-
-pub apart_wants : (any_order : Bool) (n : ℕ) (ids : List ℕ) (s : State) → s.have_output ≡ true
-    → s.have_separate_output ≡ true → 0 < length ids
-    → MayWant s (settled (replace_front any_order n ids s))
-apart_wants any_order n ids s opened apart h = let e =
-    length_replaced any_order n ids s in grind (arith, common_steps, e, opened)
-
-pub replaced_in_place : (any_order : Bool) (n : ℕ) (ids : List ℕ) (s : State) → s.have_separate_output ≡ false
-    → length s.out + length ids ≤ s.idx + n
-    → settled (replace_front any_order n ids s) ≡ replace_front any_order n ids s
-replaced_in_place any_order n ids s near h = let e = length_replaced any_order n ids s in grind (arith, common_steps, e)
-
 -- of both sides as one list it is a replacement
 pub replaced_both : (n : ℕ) (ids : List ℕ) (s : State)
     → both (front_replaced n ids s) ≡ replacement (any_order s) (both s) (length s.out) (length s.out + n) ids
@@ -129,20 +69,3 @@ done_replacement n ids s opened done =
           ∙ done))
       | inr fits ↦ ap (λ (o : Outcome). both o.state) (replaced_done n ids s opened fits) ∙ replaced_both n ids s
     ]
-
--- ---- copies that are put out in place, where they have room
-pub copies_put : (g : hb_glyph_info_t) (ids : List ℕ) (n : ℕ) (s : State) → s.have_output ≡ true
-    → s.have_separate_output ≡ false → length s.out + length ids ≤ s.idx + n → length s.out + length ids ≤ s.max_len
-    → put_out (copies g ids) s (skip_glyphs n s)
-    ≡ record {
-      done = true;
-      state = record s {
-        out = s.out ++ copies g ids;
-        input = drop n s.input;
-        idx = s.idx + n;
-      };
-    }
-copies_put g ids n s opened near room fits =
-    let e = length_copies g ids in
-    let long = length-append s.out (copies g ids) in
-    grind (arith, common_steps, e, long)

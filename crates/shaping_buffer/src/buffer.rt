@@ -12,8 +12,8 @@ use crate::cluster_level::{
     HB_BUFFER_CLUSTER_LEVEL_GRAPHEMES, HB_BUFFER_CLUSTER_LEVEL_MONOTONE_CHARACTERS,
     hb_buffer_cluster_level_t,
 };
-use glyph_sides::Sides;
 use glyph_lists::context::{CONTEXT_LENGTH, Context};
+use glyph_sides::Sides;
 use rb_glyph::{
     BufferFlags, Flags, GlyphPosition, HB_BUFFER_SCRATCH_FLAG_DEFAULT,
     HB_BUFFER_SCRATCH_FLAG_HAS_GLYPH_FLAGS, hb_buffer_scratch_flags_t, hb_glyph_info_t,
@@ -31,11 +31,11 @@ mod limits;
 mod masks;
 mod merging;
 mod moving;
+mod places;
 mod positions;
 mod properties;
 mod references;
 mod replacement;
-mod places;
 
 /// A text on its way through shaping: glyphs in reading order with a cursor, and while an output is open a second
 /// list, the out side, that calls put glyphs into while they read the first.

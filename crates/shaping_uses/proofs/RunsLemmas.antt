@@ -7,7 +7,7 @@ use Rattle.shaping_buffer.specs.State.{State, len, empty_state}
 use Rattle.shaping_buffer.specs.Step.{Outcome}
 use Rattle.shaping_buffer.specs.Pushed.{glyphs_at, pushed}
 use Rattle.shaping_buffer.specs.ClusterStep.{is_input_range}
-use Rattle.shaping_buffer.proofs.PushedLemmas.{length_glyphs_at}
+use Rattle.glyph_sides.proofs.CharactersLemmas.{length_glyphs_at}
 use Rattle.shaping_runs.specs.declared.call.Call.TheVariants.{MergeClusters}
 use Rattle.shaping_runs.specs.declared.call.Answer.{Answer}
 use Rattle.shaping_runs.specs.declared.call.Answer.TheVariants.{Outside, Done}

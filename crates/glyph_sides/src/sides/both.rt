@@ -1,8 +1,9 @@
 //! Both sides as one list: merges, scans and flags over places in it, and deletion of the head.
 
-ghost use Rattle.std.specs.Prelude.{◌≡◌, ◌+◌, ◌-◌, ◌<◌, ◌≤◌, true, length};
+ghost use Rattle.std.specs.Prelude.{◌≡◌, ◌+◌, ◌-◌, ◌<◌, ◌≤◌, true, length, drop, slice_index_or};
 ghost use Rattle.glyph_lists.specs.Clusters.{run_merge};
-ghost use Rattle.glyph_lists.specs.Deletion.{merge_or_mark};
+ghost use Rattle.glyph_lists.specs.Clusters.{zero_glyph};
+ghost use Rattle.glyph_lists.specs.Deletion.{deletion, merge_or_mark};
 ghost use Rattle.glyph_lists.specs.Marks.{with_glyph_flags};
 ghost use Rattle.glyph_lists.specs.Parts.{on_part, map_range};
 ghost use Rattle.glyph_lists.specs.Scans.{scan_of, two_part_scan};
@@ -10,35 +11,36 @@ ghost use Rattle.glyph_sides.specs.TwoLists.{both, with_both, place, len, head_d
 
 use super::Sides;
 use glyph_lists::{deletion, glyph_flags, merging, one_slice};
+use rb_glyph::hb_glyph_info_t;
 
 impl Sides {
-    /// Merges the glyphs from `start` to `end`.
+    /// Merges the glyphs from place `from` to place `to`.
     #[inline(always)]
     #[tactic(auto, using(crate::proofs::Views::sides))]
-    pub fn run_merge(&mut self, start: usize, end: usize, floor: usize)
-        requires order { start ≤ end }
-        requires within { end ≤ length (both self.old) }
-        ensures is { self.new ≡ with_both (run_merge (both self.old) start end floor) self.old }
+    pub fn run_merge(&mut self, from: usize, to: usize, floor: usize)
+        requires order { from ≤ to }
+        requires within { to ≤ length (both self.old) }
+        ensures is { self.new ≡ with_both (run_merge (both self.old) from to floor) self.old }
         ensures out_len { length self.new.out ≡ length self.old.out }
         ensures input_len { length self.new.input ≡ length self.old.input }
     {
         let at = if self.is_open { self.cursor } else { 0 };
         if self.is_separate {
-            merging::run_merge(&mut self.out_info, &mut self.info, at, start, end, floor);
+            merging::run_merge(&mut self.out_info, &mut self.info[at..], from, to, floor);
             return;
         }
-        one_slice::run_merge(&mut self.info, self.placed, at, start, end, floor);
+        one_slice::run_merge(&mut self.info, self.placed, at, from, to, floor);
     }
 
-    /// Merges or marks the glyphs from `start` to `end` of the input.
+    /// Merges or marks the glyphs from place `from` to place `to` of the input.
     #[inline(always)]
     #[tactic(auto, using(crate::proofs::Views::sides))]
-    pub fn merge_or_mark(&mut self, start: usize, end: usize, floor: usize, any_order: bool)
-        requires past_out { length self.old.out ≤ start }
-        requires order { start ≤ end }
-        requires within { end ≤ length (both self.old) }
+    pub fn merge_or_mark(&mut self, from: usize, to: usize, floor: usize, any_order: bool)
+        requires past_out { length self.old.out ≤ from }
+        requires order { from ≤ to }
+        requires within { to ≤ length (both self.old) }
         ensures is { self.new
-            ≡ with_both (merge_or_mark any_order (both self.old) start end floor) self.old }
+            ≡ with_both (merge_or_mark any_order (both self.old) from to floor) self.old }
         ensures out_len { length self.new.out ≡ length self.old.out }
         ensures input_len { length self.new.input ≡ length self.old.input }
     {
@@ -46,35 +48,34 @@ impl Sides {
         if self.is_separate {
             merging::merge_or_mark(
                 &mut self.out_info,
-                &mut self.info,
-                at,
-                start,
-                end,
+                &mut self.info[at..],
+                from,
+                to,
                 floor,
                 any_order,
             );
             return;
         }
-        one_slice::merge_or_mark(&mut self.info, self.placed, at, start, end, floor, any_order);
+        one_slice::merge_or_mark(&mut self.info, self.placed, at, from, to, floor, any_order);
     }
 
-    /// Adds the bits to the mask of each glyph from `start` to `end`.
+    /// Adds the bits to the mask of each glyph from `from` to `to`.
     #[inline(always)]
     #[tactic(auto, using(crate::proofs::Views::sides))]
-    pub fn mark_range(&mut self, start: usize, end: usize, bits: u32)
-        requires order { start ≤ end }
-        requires within { end ≤ length (both self.old) }
+    pub fn mark_range(&mut self, from: usize, to: usize, bits: u32)
+        requires order { from ≤ to }
+        requires within { to ≤ length (both self.old) }
         ensures is { self.new
-            ≡ with_both (map_range (with_glyph_flags bits) (both self.old) start end) self.old }
+            ≡ with_both (map_range (with_glyph_flags bits) (both self.old) from to) self.old }
         ensures out_len { length self.new.out ≡ length self.old.out }
         ensures input_len { length self.new.input ≡ length self.old.input }
     {
         let at = if self.is_open { self.cursor } else { 0 };
         if self.is_separate {
-            glyph_flags::mark_range(&mut self.out_info, &mut self.info, at, start, end, bits);
+            glyph_flags::mark_range(&mut self.out_info, &mut self.info[at..], from, to, bits);
             return;
         }
-        one_slice::mark_range(&mut self.info, self.placed, at, start, end, bits);
+        one_slice::mark_range(&mut self.info, self.placed, at, from, to, bits);
     }
 
     /// Scans the input's glyphs from `start` to `end`, counted from its start. With an output open, `start` is at the
@@ -94,16 +95,16 @@ impl Sides {
         glyph_flags::scan_slice(&mut self.info, from, to, bits, any_order);
     }
 
-    /// Scans the glyphs from `start` to `end`, which is in the input, in two parts.
+    /// Scans the glyphs from place `from` to place `to`, which is in the input, in two parts.
     #[inline(always)]
     #[tactic(auto, using(crate::proofs::Views::sides))]
-    pub fn scan_two_parts(&mut self, start: usize, end: usize, bits: u32, any_order: bool)
-        requires past_out { length self.old.out ≤ end }
-        requires order { start ≤ end }
-        requires within { end ≤ length (both self.old) }
+    pub fn scan_two_parts(&mut self, from: usize, to: usize, bits: u32, any_order: bool)
+        requires past_out { length self.old.out ≤ to }
+        requires order { from ≤ to }
+        requires within { to ≤ length (both self.old) }
         ensures is { self.new ≡ with_both
-            (on_part (two_part_scan any_order bits (length self.old.out - start))
-            (both self.old) start end) self.old }
+            (on_part (two_part_scan any_order bits (length self.old.out - from))
+            (both self.old) from to) self.old }
         ensures out_len { length self.new.out ≡ length self.old.out }
         ensures input_len { length self.new.input ≡ length self.old.input }
     {
@@ -111,16 +112,15 @@ impl Sides {
         if self.is_separate {
             glyph_flags::scan_two_parts(
                 &mut self.out_info,
-                &mut self.info,
-                at,
-                start,
-                end,
+                &mut self.info[at..],
+                from,
+                to,
                 bits,
                 any_order,
             );
             return;
         }
-        one_slice::scan_two_parts(&mut self.info, self.placed, at, start, end, bits, any_order);
+        one_slice::scan_two_parts(&mut self.info, self.placed, at, from, to, bits, any_order);
     }
 
     /// Drops the head, and keeps its cluster.
@@ -133,11 +133,29 @@ impl Sides {
         ensures input_len { length self.new.input + 1 ≡ length self.old.input }
     {
         if self.is_separate {
-            deletion::delete_at_cursor(&mut self.out_info, &mut self.info, self.cursor, any_order);
+            delete_at(&mut self.out_info, &mut self.info, self.cursor, any_order);
             self.cursor += 1;
             return;
         }
         one_slice::delete_at_cursor(&mut self.info, self.placed, self.cursor, any_order);
         self.cursor += 1;
     }
+}
+
+/// Keeps the cluster of the glyph at the cursor, which then leaves the input: `info` from there on.
+#[inline(always)]
+#[tactic(auto, using(crate::proofs::Views::behind))]
+fn delete_at(
+    out: &mut [hb_glyph_info_t],
+    info: &mut [hb_glyph_info_t],
+    cursor: usize,
+    any_order: bool,
+)
+    requires { cursor < length info.old }
+    ensures out { out.new ≡ (deletion any_order out.old
+        (slice_index_or (drop cursor info.old) 0 zero_glyph) (drop 1 (drop cursor info.old))).out }
+    ensures rest { drop 1 (drop cursor info.new) ≡ (deletion any_order out.old
+        (slice_index_or (drop cursor info.old) 0 zero_glyph) (drop 1 (drop cursor info.old))).rest }
+{
+    deletion::delete_head(out, &mut info[cursor..], any_order);
 }

@@ -8,7 +8,7 @@ ghost use Rattle.glyph_sides.specs.TwoLists as lists;
 ghost use Rattle.glyph_sides.specs.TwoLists.{Makes, left};
 
 use super::Sides;
-use crate::moves::{close_gap, put_down};
+use crate::shifts::{close_gap, put_down};
 use rb_glyph::hb_glyph_info_t;
 use std::alloc::AllocError;
 use std::mem;
@@ -92,14 +92,14 @@ impl Sides {
         Ok(())
     }
 
-    /// Drops `n` glyphs at the cursor; with no output open the cursor moves over them. Requires as many glyphs there.
+    /// Drops `count` glyphs at the cursor; with no output open the cursor moves over them. Requires as many glyphs there.
     #[inline(always)]
     #[tactic(auto, using(crate::proofs::Views::left_after))]
-    pub fn skip(&mut self, n: usize)
-        requires { n ≤ left self.old }
-        ensures { self.new ≡ lists.skip n self.old }
+    pub fn skip(&mut self, count: usize)
+        requires { count ≤ left self.old }
+        ensures { self.new ≡ lists.skip count self.old }
     {
-        self.cursor += n;
+        self.cursor += count;
     }
 
     /// Puts a glyph out, and reads some. Requires an open output, and as many glyphs to read.

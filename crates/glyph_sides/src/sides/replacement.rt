@@ -7,7 +7,7 @@ ghost use Rattle.glyph_sides.specs.TwoLists.{Makes, replaced};
 
 use super::Sides;
 use crate::copies::{append_copies, write_copies};
-use crate::replacement;
+use crate::merged_copies;
 use glyph_lists::merged_head::{keeps_head, lowered_head};
 use rb_glyph::hb_glyph_info_t;
 use std::alloc::AllocError;
@@ -22,6 +22,10 @@ impl Sides {
         requires glyph { 0 < length self.old.input }
         requires within { count ≤ length self.old.input }
         ensures done { result ≡ true → self.new ≡ replaced any_order count ids.now self.old }
+        ensures out_len { result ≡ true
+            → length self.new.out ≡ length self.old.out + length ids.now }
+        ensures input_len { result ≡ true
+            → length self.new.input + count ≡ length self.old.input }
         ensures unmarked { result ≡ true → any_order ≡ true → count < 2 }
         ensures same { result ≡ false → self.new ≡ self.old }
     {
@@ -82,12 +86,7 @@ impl Sides {
 
     /// Merges, or marks, the first `count` glyphs of the input, and puts out copies of the first as it then stands in
     /// place of them, one under each id. Requires an open output, a glyph at the cursor and as many glyphs there.
-    pub fn replace(
-        &mut self,
-        count: usize,
-        ids: &[u32],
-        any_order: bool,
-    ) -> Result<(), AllocError>
+    pub fn replace(&mut self, count: usize, ids: &[u32], any_order: bool) -> Result<(), AllocError>
         requires opened { self.old.is_open ≡ true }
         requires glyph { 0 < length self.old.input }
         requires within { count ≤ length self.old.input }
@@ -144,7 +143,7 @@ impl Sides {
         ensures { Makes (replaced any_order count ids.now self.old) self.old result self.new }
     {
         self.out_info.reserve(ids.len())?;
-        replacement::replace_apart(
+        merged_copies::replace_apart(
             &mut self.out_info,
             &mut self.info,
             self.cursor,
@@ -164,7 +163,7 @@ impl Sides {
         requires room { length self.old.out + length ids.now ≤ self.old.idx + count }
         ensures { self.new ≡ replaced any_order count ids.now self.old }
     {
-        replacement::replace_in_place(
+        merged_copies::replace_in_place(
             &mut self.info,
             self.placed,
             self.cursor,
@@ -176,12 +175,7 @@ impl Sides {
         self.cursor += count;
     }
 
-    fn replace_away(
-        &mut self,
-        count: usize,
-        ids: &[u32],
-        any_order: bool,
-    ) -> Result<(), AllocError>
+    fn replace_away(&mut self, count: usize, ids: &[u32], any_order: bool) -> Result<(), AllocError>
         requires opened { self.old.is_open ≡ true }
         requires near { self.old.is_separate ≡ false }
         requires glyph { 0 < length self.old.input }
@@ -190,7 +184,7 @@ impl Sides {
         ensures { Makes (replaced any_order count ids.now self.old) self.old result self.new }
     {
         self.out_info.reserve(self.placed + ids.len())?;
-        replacement::replace_away(
+        merged_copies::replace_away(
             &mut self.out_info,
             &mut self.info,
             self.placed,

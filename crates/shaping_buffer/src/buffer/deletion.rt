@@ -19,7 +19,7 @@ impl hb_buffer_t {
         ensures { self.new ≡ step.delete_glyph self.old }
     {
         let any_order = self.any_order();
-        if any_order && deletion::merges_next(self.sides.out(), self.sides.input(), 0) {
+        if any_order && deletion::merges_next(self.sides.out(), self.sides.input()) {
             self.set_has_glyph_flags();
         }
         self.delete_head(any_order);

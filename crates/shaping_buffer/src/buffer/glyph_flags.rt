@@ -116,7 +116,6 @@ impl hb_buffer_t {
 
     /// The end of a flag call's range, cut to the length.
     #[inline]
-    #[tactic(auto, using(crate::proofs::Views::len_left))]
     fn range_end(&self, end: Option<usize>) -> usize
         ensures is { result ≡ range_end end self.now }
         ensures within { result ≤ len self.now }
@@ -127,7 +126,6 @@ impl hb_buffer_t {
 
     /// A scan of the input from `start` to `end`. It lies in the one slice, whatever stands on the out side.
     #[inline]
-    #[tactic(auto, using(crate::proofs::Views::len_left))]
     fn scan(&mut self, bits: u32, start: usize, end: usize)
         requires order { start ≤ end }
         requires within { end ≤ len self.old }
@@ -141,7 +139,6 @@ impl hb_buffer_t {
     }
 
     /// A scan of both sides from `from` to `to`, which is not in the out side, in two parts.
-    #[tactic(auto, using(crate::proofs::Views::sides))]
     fn scan_sides(&mut self, bits: u32, from: usize, to: usize)
         requires past_out { length self.old.out ≤ to }
         requires order { from ≤ to }
@@ -154,7 +151,6 @@ impl hb_buffer_t {
     }
 
     /// Adds the bits to all glyphs of both sides from `from` to `to`.
-    #[tactic(auto, using(crate::proofs::Views::sides))]
     fn flag_all(&mut self, bits: u32, from: usize, to: usize)
         requires order { from ≤ to }
         requires within { to ≤ length (step.both self.old) }

@@ -64,7 +64,11 @@ impl hb_buffer_t {
         if start >= self.sides.len() {
             return start;
         }
-        groups::group_end(self.sides.input(), start, &|a, b| a.syllable() == b.syllable())
+        groups::group_end(
+            self.sides.input(),
+            start,
+            &|a, b| a.syllable() == b.syllable(),
+        )
     }
 
     /// Puts the groups into reverse order, each in its own order, and the positions with their glyphs, where there are
@@ -120,7 +124,12 @@ impl hb_buffer_t {
         ensures others { step.KeepsOthers (record self.old { idx = 0 }) self.new }
     {
         let any_order = self.any_order();
-        let (kept, merges) = delete_in_place(self.sides.list_mut(), &mut self.pos, any_order, &filter);
+        let (kept, merges) = delete_in_place(
+            self.sides.list_mut(),
+            &mut self.pos,
+            any_order,
+            &filter,
+        );
         self.sides.truncate(kept);
         self.pos.truncate(kept);
         if merges {

@@ -22,6 +22,12 @@ impl hb_buffer_t {
         requires { self.old.have_output ≡ false }
         ensures { self.new ≡ step.set_masks value mask cluster_start cluster_end self.old }
     {
-        masks::set_masks(self.sides.list_mut(), value, mask, cluster_start, cluster_end);
+        masks::set_masks(
+            self.sides.list_mut(),
+            value,
+            mask,
+            cluster_start,
+            cluster_end,
+        );
     }
 }

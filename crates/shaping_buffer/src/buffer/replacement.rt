@@ -3,7 +3,6 @@
 
 ghost use Rattle.std.specs.Prelude.{◌≡◌, ◌<◌, ◌≤◌, true, length, take};
 ghost use Rattle.shaping_buffer.specs.State.{lookahead_len};
-ghost use Rattle.shaping_buffer.specs.ClusterStep.{any_order};
 ghost use Rattle.shaping_buffer.specs.Step as step;
 ghost use Rattle.shaping_buffer.specs.Step.{Meets};
 
@@ -36,24 +35,24 @@ impl hb_buffer_t {
         {
             return Ok(true);
         }
-        self.replace_any(num_in, ids, any_order)
+        self.replace_any(num_in, ids)
     }
 
     /// Does that in any case: where the copies are too many or have no room, and where the merge changes glyphs.
     #[inline(never)]
-    fn replace_any(&mut self, count: usize, ids: &[u32], marks: bool) -> Result<bool, AllocError>
+    fn replace_any(&mut self, count: usize, ids: &[u32]) -> Result<bool, AllocError>
         requires opened { self.old.have_output ≡ true }
         requires glyph { 0 < length self.old.input }
         requires within { count ≤ length self.old.input }
-        requires level { marks ≡ any_order self.old }
         ensures { Meets (step.replace_glyphs count ids.now self.old) self.old result self.new }
     {
         if ids.len() > self.max_len - self.sides.out_len() {
             self.successful = false;
             return Ok(false);
         }
-        self.sides.replace(count, ids, marks)?;
-        if marks && count >= 2 {
+        let any_order = self.any_order();
+        self.sides.replace(count, ids, any_order)?;
+        if any_order && count >= 2 {
             self.set_has_glyph_flags();
         }
         Ok(true)

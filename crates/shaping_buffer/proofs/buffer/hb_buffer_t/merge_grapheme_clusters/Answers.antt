@@ -6,14 +6,12 @@ use Rattle.shaping_buffer.proofs.MergingLemmas.{closed_sides}
 use Rattle.shaping_buffer.proofs.buffer.hb_buffer_t.merge_grapheme_clusters.Goals as goal
 
 -- no output is open
-pub returns-else-self : goal.returns-else-self
-returns-else-self c =
+pub returns-else-is_open : goal.returns-else-is_open
+returns-else-is_open c =
     let s = c.args.self.now in
-    let b = c.self.inside in
-    let shut = c.self.invariant.shut c.if-self.false in
-    let closed : s.have_output ≡ false = sym (ap (λ (t : State). t.have_output) c.self.view_is) ∙ c.if-self.false in
-    let none : s.out ≡ [] = sym (ap (λ (t : State). t.out) c.self.view_is) ∙ cond-false _ _ _ shut.0
-    ∙ ap (λ k. take k b.info.items) shut.1 in
+    let shut = sym c.is_open.ensures.is ∙ c.if-is_open.false in
+    let closed : s.have_output ≡ false = sym (ap (λ (t : State). t.have_output) c.self.view_is) ∙ shut in
+    let none : s.out ≡ [] = sym (ap (λ (t : State). t.out) c.self.view_is) ∙ (c.is_open.ensures.sides.shut shut).1 in
     let groups : groups_graphemes s.cluster_level ≡ true =
     sym c.groups_graphemes.ensures ∙ c.if-not-groups_graphemes.false in
     c.merge_closed.ensures ∙ closed_sides false c.args.start c.args.end s closed none refl

@@ -15,7 +15,7 @@ loop-start-init g c =
     let shut : b.sides.is_open ≡ false = ap (λ (s : State). s.have_output) c.self.view_is ∙ c.requires.closed in
     let list : b.sides.input ≡ old.input = ap (λ (s : State). s.input) c.self.view_is in
     let whole : len b.sides ≡ length old.input = cond-false _ _ _ shut ∙ ap length list in
-    let n : c.len-len.result ≡ length old.input = c.len-len.ensures.len ∙ whole in (
+    let n : c.len-len.result ≡ length old.input = c.len-len.ensures.is ∙ whole in (
       length old.input,
       omega arith,
       n,
@@ -37,7 +37,7 @@ loop-start-preserved g c =
     let view = c.self-in-loop-start.view_is in
     let shut : b.sides.is_open ≡ false =
     ap (λ (t : State). t.have_output) view ∙ ap (λ (t : State). t.have_output) inv.4 ∙ c.requires.closed in
-    let none : s.out ≡ [] = sym (ap (λ (t : State). t.out) view) ∙ c.input.ensures.shut shut in
+    let none : s.out ≡ [] = sym (ap (λ (t : State). t.out) view) ∙ (c.input.ensures.sides.shut shut).1 in
     let list : c.input.result.now ≡ s.input = c.input.ensures.is ∙ ap (λ (t : State). t.input) view in
     let up : start ≤ end = omega (arith, c.group_end-end.ensures.after) in
     let new = c.reverse_group.ensures in

@@ -1,0 +1,94 @@
+//! Glyphs that are moved in a list.
+
+ghost use Rattle.std.specs.Prelude.{◌≡◌, ◌+◌, ◌-◌, ◌≤◌, ◌++◌, length, take, drop, vec_len, vec_capacity, slice_range};
+
+use rb_glyph::hb_glyph_info_t;
+
+const BLANK: hb_glyph_info_t = hb_glyph_info_t {
+    glyph_id: 0,
+    mask: 0,
+    cluster: 0,
+    var1: 0,
+    var2: 0,
+};
+
+/// Moves the glyphs from a place on down, over those in between.
+#[tactic(auto, using(crate::proofs::ShiftLemmas::closed_already))]
+pub(crate) fn close_gap(info: &mut Vec<hb_glyph_info_t>, to: usize, from: usize)
+    requires down { to ≤ from }
+    requires within { from ≤ vec_len info.old }
+    ensures { info.new.items ≡ take to info.old.items ++ drop from info.old.items }
+{
+    if to < from {
+        let len = info.len();
+        info.as_mut_slice().copy_within(from..len, to);
+        info.truncate(to + (len - from));
+    }
+}
+
+/// Moves `count` glyphs down, over those in between.
+#[inline(always)]
+#[tactic(auto, using(crate::proofs::ShiftLemmas::down))]
+pub(crate) fn put_down(info: &mut Vec<hb_glyph_info_t>, to: usize, from: usize, count: usize)
+    requires down { to ≤ from }
+    requires within { from + count ≤ vec_len info.old }
+    ensures len { vec_len info.new ≡ vec_len info.old }
+    ensures put { take (to + count) info.new.items
+        ≡ take to info.old.items ++ take count (drop from info.old.items) }
+    ensures left { drop (from + count) info.new.items ≡ drop (from + count) info.old.items }
+{
+    if to < from {
+        info.copy_within(from..from + count, to);
+    }
+}
+
+/// Moves the glyphs from `start` to `end` up, so that they end at a place.
+#[tactic(auto, using(crate::proofs::ShiftLemmas::range_is))]
+pub(crate) fn shift_back(info: &mut Vec<hb_glyph_info_t>, start: usize, end: usize, at: usize)
+    requires order { start ≤ end }
+    requires up { end ≤ at }
+    requires within { at ≤ vec_len info.old }
+    ensures len { vec_len info.new ≡ vec_len info.old }
+    ensures out { take start info.new.items ≡ take start (take end info.old.items) }
+    ensures input { drop (at - (end - start)) info.new.items
+        ≡ drop start (take end info.old.items) ++ drop at info.old.items }
+{
+    shift_up(info, start, end, at);
+}
+
+/// The same, in words of ranges.
+fn shift_up(info: &mut Vec<hb_glyph_info_t>, start: usize, end: usize, at: usize)
+    requires order { start ≤ end }
+    requires up { end ≤ at }
+    requires within { at ≤ vec_len info.old }
+    ensures len { vec_len info.new ≡ vec_len info.old }
+    ensures front { take start info.new.items ≡ take start info.old.items }
+    ensures put { drop (at - (end - start)) info.new.items
+        ≡ slice_range info.old.items start end ++ drop at info.old.items }
+{
+    info.as_mut_slice()
+        .copy_within(start..end, at - (end - start));
+}
+
+/// Moves the glyphs from a place on up by `more`, where there is room.
+pub(crate) fn open_gap(info: &mut Vec<hb_glyph_info_t>, at: usize, more: usize)
+    requires within { at ≤ vec_len info.old }
+    requires room { vec_len info.old + more ≤ vec_capacity info.old }
+    ensures len { vec_len info.new ≡ vec_len info.old + more }
+    ensures moved { drop (at + more) info.new.items ≡ drop at info.old.items }
+{
+    let len = info.len();
+    info.resize(len + more, BLANK).unwrap();
+    info.as_mut_slice().copy_within(at..len, at + more);
+}
+
+/// Writes glyphs in front of a place.
+pub(crate) fn put_back(info: &mut Vec<hb_glyph_info_t>, at: usize, glyphs: &[hb_glyph_info_t])
+    requires within { at ≤ vec_len info.old }
+    requires fits { length glyphs.now ≤ at }
+    ensures len { vec_len info.new ≡ vec_len info.old }
+    ensures put { drop (at - length glyphs.now) info.new.items
+        ≡ glyphs.now ++ drop at info.old.items }
+{
+    info.as_mut_slice()[at - glyphs.len()..at].copy_from_slice(glyphs);
+}
