@@ -62,7 +62,7 @@ direction_of_letter letter =
     else if letter == small_b then Some BottomToTop
     else None
 
--- the one that a text's first byte names in either case: l, r, t or b
+-- the direction that the first byte of a text names, in either case: l, r, t or b
 abbrev pub direction_of_text : List ℕ → Option Direction
 direction_of_text [] = None
 direction_of_text (b ∷ bs) = direction_of_letter (to_ascii_lowercase b)

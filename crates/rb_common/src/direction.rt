@@ -1,4 +1,4 @@
-//! The direction in which a line of text runs: as a value, by its script and by HarfBuzz's name.
+//! The direction in which a line of text runs: the values, that of a script, and HarfBuzz's names.
 ghost use Rattle.std.specs.Prelude.{◌≡◌, ℕ, Option, not};
 ghost use Rattle.rb_common.specs.Direction.{is_horizontal, is_forward, reverse, direction_of};
 
@@ -122,8 +122,8 @@ impl FromStr for Direction {
     ghost from_str_gives = { λ text r. Answers (direction_of_text text) (codes "invalid direction") r };
 
     /// The direction that the first letter names, in either case: `l`, `r`, `t` or `b`, as in
-    /// HarfBuzz's `ltr`, `rtl`, `ttb` and `btt`. What follows it is not read. Any other text is
-    /// refused with `invalid direction`.
+    /// HarfBuzz's `ltr`, `rtl`, `ttb` and `btt`. The letters behind it are not read. Any other
+    /// text is refused with `invalid direction`.
     fn from_str(text: &str) -> Result<Direction, &'static str> {
         match text.as_bytes().first() {
             Some(b'l' | b'L') => Ok(Direction::LeftToRight),

@@ -57,7 +57,7 @@ impl Tag {
     }
 }
 
-/// The tags that OpenType layout itself names, and capital letters.
+/// The tags that OpenType layout itself names, and a tag in capitals.
 pub trait TagExt {
     /// The number that a tag stands for.
     ghost number: { Self → ℕ };

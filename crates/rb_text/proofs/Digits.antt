@@ -1,6 +1,6 @@
 use Rattle.std.proofs.Common.{◌≡◌, ℕ, ◌+◌, ◌*◌, ◌-◌, ◌<◌, ◌≤◌, ◌^◌, None, List, [], ◌∷◌, Bool, true, false, length}
 use Rattle.std.proofs.Common.{take}
-use Rattle.std.proofs.Common.{get_or, arith, refl, sym, subst, ◌∙◌}
+use Rattle.std.proofs.Common.{get_or, arith, refl, sym, ◌∙◌}
 use Rattle.std.specs.List.{take_while, prefix_len, AllPass}
 use Rattle.std.specs.Char.{is_ascii_digit}
 use Rattle.std.specs.Int.{IsInRange}
@@ -17,9 +17,6 @@ pub AllPass-take_while : (p : ℕ → Bool) (xs : List ℕ) → AllPass p (take_
 AllPass-take_while p xs k d h =
     let l : k < prefix_len p xs = omega (arith, length-prefix_len p xs) in
     rw (get_or-take (prefix_len p xs) xs k d l) (prefix_len_passes p xs k d l)
-
-pub front_passes : (p : ℕ → Bool) (xs part : List ℕ) → part ≡ take_while p xs → AllPass p part
-front_passes p xs part e = let P : List ℕ → Type 0 = λ l. AllPass p l in subst P (sym e) (AllPass-take_while p xs)
 
 too_wide : (b : Bool) (n : ℕ) → 2 ^ 32 ≤ n → None ≡ i32_of b n
 too_wide true n h = grind (arith, nat_tests)

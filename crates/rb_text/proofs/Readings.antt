@@ -122,9 +122,6 @@ not_begins : (q : ℕ) (l : List ℕ) → Stops (is_byte q) l → begins_with q 
 not_begins q [] h = refl
 not_begins q (b ∷ bs) h = rw h refl
 
-bracketed_closed : (from to : ℕ) (r : List ℕ) → range_in_brackets from to (close_bracket ∷ r) ≡ Some ((from, to), r)
-bracketed_closed from to r = refl
-
 one_separates : (s : ℕ) (l : List ℕ) → is_separator s ≡ true → is_some (first_if is_separator (s ∷ l)) ≡ true
 one_separates s l h = rw h refl
 

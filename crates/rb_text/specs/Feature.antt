@@ -20,18 +20,18 @@ start_of (Included n) = min n HB_FEATURE_GLOBAL_END
 start_of (Excluded n) = min (n + 1) HB_FEATURE_GLOBAL_END
 start_of Unbounded = HB_FEATURE_GLOBAL_START
 
--- its end; the number before 0 is 0
+-- the end of a range with this bound, with the same limit; the number before 0 is 0
 abbrev pub end_of : Bound ℕ → ℕ
 end_of (Included n) = min n HB_FEATURE_GLOBAL_END
 end_of (Excluded n) = min (n - 1) HB_FEATURE_GLOBAL_END
 end_of Unbounded = HB_FEATURE_GLOBAL_END
 
--- no byte, or a first one that fails
+-- no byte is left, or the next one fails the test
 abbrev pub Stops : (ℕ → Bool) → List ℕ → Type 0
 Stops p [] = Unit {0}
 Stops p (b ∷ bs) = p b ≡ false
 
--- text is part, the longest front of bytes that pass, and then rest
+-- text is part, the longest run of bytes at its front that pass the test, and then rest
 pub record Whole (p : ℕ → Bool) (text part rest : List ℕ) : Type 0 where
   pub cut : text ≡ part ++ rest
   pub passes : AllPass p part
@@ -71,7 +71,7 @@ pub record TagPart (text : List ℕ) (tag : ℕ) (rest : List ℕ) : Type 0 wher
   pub again : behind_word ≡ option_to_list quote ++ rest
   pub tag_is : tag ≡ lossy_tag_of word
 
--- it is this byte
+-- whether a byte is this one
 abbrev pub is_byte : ℕ → ℕ → Bool
 is_byte c b = b == c
 
@@ -90,7 +90,7 @@ end_after None = HB_FEATURE_GLOBAL_END
 end_after (Some z) =
     if cast_unsigned w32 z == HB_FEATURE_GLOBAL_END then HB_FEATURE_GLOBAL_END else cast_unsigned w32 z + 1
 
--- no `[` stands: the range is the whole text's
+-- no `[` stands: the range is that of the whole text
 pub record NoRange (text : List ℕ) (from to : ℕ) (rest : List ℕ) : Type 0 where
   pub cut : text ≡ rest
   pub stops : Stops (is_byte open_bracket) rest

@@ -14,7 +14,7 @@ use Rattle.rb_text.specs.declared.feature.Feature.{Feature}
 abbrev pub begins_with : ℕ → List ℕ → Bool
 begins_with c bytes = is_some (first_if (is_byte c) bytes)
 
--- the tag, once its quote is tag_in_quotes
+-- the tag, where the quote in front of it, if there is one, stands behind it too
 abbrev pub tag_in_quotes : Option ℕ → Option ℕ → List ℕ → Option (ℕ × List ℕ)
 tag_in_quotes quote None bytes = None
 tag_in_quotes None (Some tag) bytes = Some (tag, bytes)
@@ -26,7 +26,7 @@ tag_in bytes =
     let at_word : List ℕ = after_if is_quote at_quote in
     tag_in_quotes (first_if is_quote at_quote) (short_tag (take_while is_word at_word)) (skip_while is_word at_word)
 
--- the range, once its bracket is tag_in_quotes
+-- the range, where `]` stands behind its numbers
 abbrev pub range_in_brackets : ℕ → ℕ → List ℕ → Option ((ℕ × ℕ) × List ℕ)
 range_in_brackets from to bytes =
     if begins_with close_bracket bytes then Some ((from, to), after_if (is_byte close_bracket) bytes) else None

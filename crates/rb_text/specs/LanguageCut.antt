@@ -1,5 +1,5 @@
 -- How the text of a language is cut. A singleton is a byte with `-` on both sides. What the singleton `x` begins is for
--- private use, what stands before the first singleton is the prefix, and a table is asked for one subtag of the prefix.
+-- private use, what stands before the first singleton is the prefix, and one subtag of it is looked up in a table.
 use Rattle.std.specs.Prelude.{ℕ, ◌==◌, ◌&&◌, List, [], ◌∷◌, Option, Some, None, Bool, false, if◌then◌else◌, nat_le}
 use Rattle.std.specs.Prelude.{nat_eq, length, drop, option_map, codes}
 use Rattle.std.specs.List.{starts_with, before_first, after_first}
@@ -22,20 +22,20 @@ abbrev pub until_singleton : List ℕ → List ℕ
 until_singleton [] = []
 until_singleton (b ∷ bs) = if begins_with_singleton (b ∷ bs) then [] else b ∷ until_singleton bs
 
--- the same for the first singleton that leaves a byte
+-- the same, but a singleton whose `-` is the first byte does not count
 abbrev pub before_singleton : List ℕ → List ℕ
 before_singleton [] = []
 before_singleton (b ∷ bs) = b ∷ until_singleton bs
 
--- the prefix: none where all is for private use, and else what stands before the `-` of the first singleton that leaves
--- it a byte; an `x` that is the second byte leaves the `-` before it
+-- the prefix: none where the text begins with `x-`, `-` where it begins with `-x-`, and else what stands before the
+-- first singleton
 abbrev pub prefix_of : List ℕ → List ℕ
 prefix_of text =
     if starts_with nat_eq text (codes "x-") then []
     else if starts_with nat_eq text (codes "-x-") then codes "-"
     else before_singleton text
 
--- a text from the first place on where the mark stands
+-- what is left of a text from the first place on where the mark stands
 abbrev pub from_first : List ℕ → List ℕ → Option (List ℕ)
 from_first mark [] = None
 from_first mark (b ∷ bs) = if starts_with nat_eq (b ∷ bs) mark then Some (b ∷ bs) else from_first mark bs
@@ -58,8 +58,8 @@ is_extended (a ∷ b ∷ []) = false
 is_extended (a ∷ b ∷ c ∷ []) = is_ascii_alphabetic a
 is_extended (a ∷ b ∷ c ∷ d ∷ more) = false
 
--- the subtag of a prefix that a table is asked for: the first, or in its place the second where that is an extended
--- language and the prefix is long enough
+-- the subtag of a prefix that is looked up in a table: the second where that is an extended language and the prefix is
+-- long enough, and else the first
 abbrev pub key_of : List ℕ → List ℕ
 key_of prefix =
     if nat_le EXTENDED_PREFIX_MIN (length prefix) && is_extended (second_subtag prefix) then second_subtag prefix

@@ -22,7 +22,7 @@ is_key key = nat_lt 0 (length key) && list_all (λ b. is_ascii_lowercase b || is
 abbrev pub is_below : List ℕ → List ℕ → Bool
 is_below a b = is_lt (slice_cmp nat_cmp a b)
 
--- whether the first of the rows, if there is one, has no key below this one
+-- whether the key of the first row, if there is one, is not below this one
 abbrev pub is_followed_by : List ℕ → List (List ℕ × ℕ) → Bool
 is_followed_by key [] = true
 is_followed_by key (next ∷ rows) = not (is_below next.0 key)
@@ -40,7 +40,7 @@ rows_with key rows = filter (λ row. bytes_eq row.0 key) rows
 abbrev pub tags_before_null : List (List ℕ × ℕ) → List ℕ
 tags_before_null rows = before_first (λ tag. tag == 0) (map (λ row. row.1) rows)
 
--- as many of them as fit; none where there is no row
+-- the tags of rows up to a null tag and at most three; `None` where there is no row
 abbrev pub tags_of_rows : List (List ℕ × ℕ) → Option (List ℕ)
 tags_of_rows [] = None
 tags_of_rows (row ∷ rows) = Some (take MAX_TAGS (tags_before_null (row ∷ rows)))

@@ -40,7 +40,7 @@ old_tag script =
 abbrev pub third_tag : ℕ → ℕ
 third_tag tag = tag_of (take 3 (to_be_bytes w32 tag) ++ codes "3")
 
--- the third tag, which there is none of for Myanmar, and the new tag
+-- the third tag, except for Myanmar, which has none, and the new tag
 abbrev pub newer_tags : Option ℕ → List ℕ
 newer_tags None = []
 newer_tags (Some tag) = if tag == tag_of (codes "mym2") then tag ∷ [] else third_tag tag ∷ tag ∷ []

@@ -25,12 +25,12 @@ abbrev pub first_if : (ℕ → Bool) → List ℕ → Option ℕ
 first_if p [] = None
 first_if p (b ∷ bs) = if p b then Some b else None
 
--- what follows it
+-- what follows that byte, or all where it does not pass
 abbrev pub after_if : (ℕ → Bool) → List ℕ → List ℕ
 after_if p [] = []
 after_if p (b ∷ bs) = if p b then bs else b ∷ bs
 
--- what follows the longest front of bytes that pass
+-- what follows the longest run of bytes at the front that pass
 abbrev pub skip_while : (ℕ → Bool) → List ℕ → List ℕ
 skip_while p bytes = drop (prefix_len p bytes) bytes
 
@@ -51,7 +51,7 @@ abbrev pub is_minus : Option ℕ → Bool
 is_minus None = false
 is_minus (Some b) = b == hyphen
 
--- what digits behind a minus or none stand for, where there is a digit and the number fits 32 bits
+-- the number that digits write, negative or not, where there is a digit and the number fits 32 bits
 abbrev pub signed_number : Bool → List ℕ → Option ℤ
 signed_number is_negative [] = None
 signed_number is_negative (d ∷ ds) = i32_of is_negative (digits_value 10 (d ∷ ds))
@@ -75,6 +75,6 @@ toggle_of (a ∷ b ∷ c ∷ []) =
     else None
 toggle_of (a ∷ b ∷ c ∷ d ∷ more) = None
 
--- each answer that may be given at a byte is that of the test
+-- a function with these answers computes the test: what it answers at a byte is what the test does
 abbrev pub Computes : (ℕ → Bool → Type 0) → (ℕ → Bool) → Type 0
 Computes answers test = (b : ℕ) (r : Bool) → b < 2 ^ 8 → answers b r → r ≡ test b

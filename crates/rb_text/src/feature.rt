@@ -132,14 +132,14 @@ fn parse(text: &str) -> Option<Feature>
     if text.is_empty() {
         return None;
     }
-    let mut p = TextParser::new(text);
-    let prefix = prefix(&mut p);
-    let tag = tag(&mut p)?;
-    p.skip_spaces();
-    let (start, end) = range(&mut p)?;
-    let value = setting(&mut p, prefix)?;
-    p.skip_spaces();
-    if !p.at_end() {
+    let mut parser = TextParser::new(text);
+    let prefix = prefix(&mut parser);
+    let tag = tag(&mut parser)?;
+    parser.skip_spaces();
+    let (start, end) = range(&mut parser)?;
+    let value = setting(&mut parser, prefix)?;
+    parser.skip_spaces();
+    if !parser.at_end() {
         return None;
     }
     Some(Feature {
@@ -151,63 +151,63 @@ fn parse(text: &str) -> Option<Feature>
 }
 
 /// The value that a sign, or none, in front of the tag gives.
-fn prefix(p: &mut TextParser<'_>) -> u32
-    ensures value { result ≡ prefix_of (first_if is_sign p.old) }
-    ensures rest { p.new ≡ after_if is_sign p.old }
+fn prefix(parser: &mut TextParser<'_>) -> u32
+    ensures value { result ≡ prefix_of (first_if is_sign parser.old) }
+    ensures rest { parser.new ≡ after_if is_sign parser.old }
 {
-    if p.consume_byte(b'-').is_some() {
+    if parser.consume_byte(b'-').is_some() {
         return 0;
     }
-    p.consume_byte(b'+');
+    parser.consume_byte(b'+');
     1
 }
 
 /// The tag, with the quotes and the spaces before them.
 #[tactic(auto, unfolding(crate::specs::FeatureReading::tag_in))]
-fn tag(p: &mut TextParser<'_>) -> Option<Tag>
-    ensures { tag_in p.old ≡ option_map (λ t. (t.0, p.new)) result }
+fn tag(parser: &mut TextParser<'_>) -> Option<Tag>
+    ensures { tag_in parser.old ≡ option_map (λ t. (t.0, parser.new)) result }
 {
-    p.skip_spaces();
-    let Some(quote) = p.consume_quote() else {
-        return p.consume_tag();
+    parser.skip_spaces();
+    let Some(quote) = parser.consume_quote() else {
+        return parser.consume_tag();
     };
-    let quoted = p.consume_tag()?;
-    p.consume_byte(quote)?;
+    let quoted = parser.consume_tag()?;
+    parser.consume_byte(quote)?;
     Some(quoted)
 }
 
 /// The start and the end of the range in brackets, or of the whole text where no `[` stands.
 #[tactic(auto, unfolding(crate::specs::FeatureReading::range_in))]
-fn range(p: &mut TextParser<'_>) -> Option<(u32, u32)>
-    ensures { range_in p.old ≡ option_map (λ r. ((r.0, r.1), p.new)) result }
+fn range(parser: &mut TextParser<'_>) -> Option<(u32, u32)>
+    ensures { range_in parser.old ≡ option_map (λ r. ((r.0, r.1), parser.new)) result }
 {
-    if p.consume_byte(b'[').is_none() {
+    if parser.consume_byte(b'[').is_none() {
         return Some((HB_FEATURE_GLOBAL_START, HB_FEATURE_GLOBAL_END));
     }
-    let first = p.consume_i32();
+    let first = parser.consume_i32();
     let start = first.map_or(0, |n| n.cast_unsigned());
-    let end = if let Some(b':' | b';') = p.curr_byte() {
-        p.advance(1);
-        p.consume_i32().map_or(u32::MAX, |n| n.cast_unsigned())
+    let end = if let Some(b':' | b';') = parser.curr_byte() {
+        parser.advance(1);
+        parser.consume_i32().map_or(u32::MAX, |n| n.cast_unsigned())
     } else if first.is_some() && start != u32::MAX {
         start + 1
     } else {
         u32::MAX
     };
-    p.consume_byte(b']')?;
+    parser.consume_byte(b']')?;
     Some((start, end))
 }
 
 /// The value behind the range, or that of the prefix.
 #[tactic(auto, unfolding(crate::specs::FeatureReading::setting_in))]
-fn setting(p: &mut TextParser<'_>, prefix: u32) -> Option<u32>
-    ensures { setting_in prefix p.old ≡ option_map (λ v. (v, p.new)) result }
+fn setting(parser: &mut TextParser<'_>, prefix: u32) -> Option<u32>
+    ensures { setting_in prefix parser.old ≡ option_map (λ v. (v, parser.new)) result }
 {
-    let has_equals = p.consume_byte(b'=').is_some();
-    if let Some(value) = p.consume_i32() {
+    let has_equals = parser.consume_byte(b'=').is_some();
+    if let Some(value) = parser.consume_i32() {
         return Some(value.cast_unsigned());
     }
-    match p.consume_bool() {
+    match parser.consume_bool() {
         Some(value) => Some(u32::from(value)),
         None if has_equals => None,
         None => Some(prefix),

@@ -8,7 +8,7 @@ use std::marker::Model;
 use thiserror::Error;
 
 /// A language tag of BCP 47 (`en`, `zh-Hant`), with its ASCII letters made small. Nothing else of
-/// the tag's form is asked. A contract sees a language as its bytes.
+/// the tag's form is checked. A contract sees a language as its bytes.
 #[derive(Debug, Drop)]
 pub struct Language(String);
 
@@ -34,9 +34,9 @@ pub enum LanguageError {
 impl Language {
     /// The language of a text, with its ASCII letters made small.
     ///
-    /// The empty text is [`LanguageError::Invalid`], which is tested first, and
-    /// [`LanguageError::Memory`] says that there is no memory for a copy of any other; nothing of the
-    /// text is kept then.
+    /// The empty text is refused with [`LanguageError::Invalid`]. For any other,
+    /// [`LanguageError::Memory`] says that there is no memory for a copy; nothing of the text is kept
+    /// then.
     pub fn from_str(alloc: Global, text: &str) -> Result<Self, LanguageError>
         ensures value { IfOk result (λ language. language ≡ map to_ascii_lowercase text.now) }
         ensures invalid { IsErrOf result LanguageError.Invalid ↔ (text.now ≡ []) }

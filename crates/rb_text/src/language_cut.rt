@@ -1,14 +1,14 @@
 //! How the text of a language is cut: what is for private use, the prefix before it, and the subtag of the
-//! prefix that a table is asked for.
+//! prefix that is looked up in a table.
 ghost use Rattle.std.specs.Prelude.{◌≡◌, ◌<◌, ◌≤◌, length, option_map, take, IfSome};
 ghost use Rattle.std.specs.List.{before_first, position_or_len};
 ghost use Rattle.std.specs.Str.{IsCharBoundary};
 ghost use Rattle.rb_text.specs.LanguageCut.{before_singleton, from_first, is_hyphen, key_of, prefix_of, private_use_of};
 
-/// How long a prefix is at the least where its second subtag can be an extended language.
+/// The least length of a prefix whose second subtag can be an extended language.
 pub(crate) const EXTENDED_PREFIX_MIN: usize = 6;
 
-/// A text from the first place on where the mark stands.
+/// What is left of a text from the first place on where the mark stands.
 pub(crate) fn from_first<'a>(mark: &[u8], text: &'a [u8]) -> Option<&'a [u8]>
     ensures value { option_map (λ rest. rest.now) result ≡ from_first mark.now text.now }
     ensures some_byte { IfSome result (λ rest. 0 < length rest.now) }
@@ -24,7 +24,7 @@ pub(crate) fn from_first<'a>(mark: &[u8], text: &'a [u8]) -> Option<&'a [u8]>
     None
 }
 
-/// What of a language is for private use.
+/// The part of a language that is for private use.
 pub(crate) fn private_use(language: &[u8]) -> Option<&[u8]>
     ensures { option_map (λ rest. rest.now) result ≡ private_use_of language.now }
 {
@@ -49,7 +49,8 @@ pub(crate) fn prefix(language: &str) -> &str
     &language[..before_singleton(bytes)]
 }
 
-/// How many bytes stand before the `-` of the first singleton that leaves a byte.
+/// How many bytes stand before the `-` of the first singleton, or how many there are. A singleton whose `-` is
+/// the first byte does not count.
 fn before_singleton(text: &[u8]) -> usize
     ensures cut { take result text.now ≡ before_singleton text.now }
     ensures boundary { IsCharBoundary text.now result }
@@ -62,7 +63,7 @@ fn before_singleton(text: &[u8]) -> usize
     text.len()
 }
 
-/// The subtag of a prefix that a table is asked for.
+/// The subtag of a prefix that is looked up in a table.
 pub(crate) fn key(prefix: &[u8]) -> &[u8]
     ensures { result.now ≡ key_of prefix.now }
 {

@@ -14,9 +14,9 @@ use std::marker::Model;
 /// The OpenType tags of languages: rows of a key and a tag, borrowed as they stand.
 ///
 /// A key is the first subtag of languages of BCP 47 (`en`), or an extended language (`yue`). A key may
-/// have many rows, and each names a tag of the language system tags of OpenType's registry, the best
-/// first; the null tag says that there are no more. That the rows are OpenType's is not checked. A
-/// look-up is a bisection. A contract sees a table as its rows.
+/// have many rows, the best first, and the tag of each is one of OpenType's language system tags; the
+/// null tag says that there are no more. That the rows are OpenType's is not checked. A look-up is a
+/// bisection. A contract sees a table as its rows.
 #[derive(Debug, Drop)]
 pub struct LanguageTable<'a> {
     rows: &'a [(&'a str, Tag)],
@@ -65,7 +65,7 @@ impl<'a> LanguageTable<'a> {
     }
 }
 
-/// The rows from the first on whose key is not below this one.
+/// The rows from the first one on whose key is not below the one given.
 fn rows_from<'a, 'b>(rows: &'b [(&'a str, Tag)], key: &[u8]) -> &'b [(&'a str, Tag)]
     requires { is_table (rows_of rows.now) ≡ Bool.true }
     ensures same { rows_with key.now (rows_of result.now) ≡ rows_with key.now (rows_of rows.now) }
@@ -91,7 +91,7 @@ fn is_same(text: &str, key: &[u8]) -> bool
     text.as_bytes() == key
 }
 
-/// Adds the tags of the front rows, as long as their key is this one, up to a null tag and while there is room.
+/// Adds the tags of the rows at the front that have the key, up to a null tag and as far as there is room.
 fn push_front_tags(rows: &[(&str, Tag)], key: &[u8], tags: &mut ThreeTags)
     ensures { map (λ t. t.0) tags.new.items ≡ map (λ t. t.0) tags.old.items
         ++ take (MAX_TAGS - array_vec_len tags.old) (front_tags key.now (rows_of rows.now)) }

@@ -55,13 +55,13 @@ impl SmallVecExt for ThreeTags {
     }
 }
 
-/// Languages whose tags more than one subtag decides.
+/// Languages whose tags depend on more than one subtag.
 pub trait ComplexLanguages {
     // The numbers of the tags of a language's prefix, by the prefix's bytes.
     ghost cases: { Self → List ℕ → Option (List ℕ) };
 
-    /// The tags of a language's prefix, where it is a complex case, also where such a case has no tags;
-    /// `None` where it is none, and a table decides.
+    /// The tags of a language's prefix that is a complex case, which may have no tags; `None` where the
+    /// prefix is no such case, and a table decides.
     ///
     /// A prefix is what stands before the first singleton subtag (`zh-hant` of `zh-hant-u-co`), with its
     /// ASCII letters made small.
@@ -93,12 +93,14 @@ impl ComplexLanguages for NoComplexLanguages {
 /// first letter.
 ///
 /// Of the language, a singleton is a byte with `-` on both sides. From the first singleton `x` on, or all
-/// of it where it begins with `x-`, it is for private use. Its prefix is what stands before the first
-/// singleton that leaves a byte, or all of it. Then:
+/// of it where it begins with `x-`, it is for private use. Its prefix is what stands before the `-` of the
+/// first singleton, or all of it where there is none; a singleton whose `-` is the first byte does not
+/// count. But a language that begins with `x-` has no prefix, and the prefix of one that begins with
+/// `-x-` is `-`. Then:
 ///
-/// - Up to four letters or digits behind the first `-hbsc` for private use, made small, are the only
-///   script tag, and behind the first `-hbot`, made capital, the only language tag. `DFLT` stands for
-///   `dflt` there, and `dflt` for `DFLT`.
+/// - Where `-hbsc` stands in what is for private use, the letters and digits right behind the first one,
+///   four at most, are the only script tag, made small, if there are any. Those behind the first `-hbot`
+///   are the only language tag, made capital. A tag `dflt` becomes `DFLT` there, and `DFLT` becomes `dflt`.
 /// - Else the tags of the prefix are those of its case in `complex`.
 /// - Where it is no such case, they are those of the rows of `table` with the prefix's first subtag as
 ///   their key, up to a null tag and at most three. Where the prefix has six bytes or more and

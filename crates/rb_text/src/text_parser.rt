@@ -115,8 +115,8 @@ impl<'a> TextParser<'a> {
         front
     }
 
-    /// Skips the longest run of next bytes for which `f` answers true. Of `f` its contract says
-    /// what that of [`TextParser::consume_bytes`] says.
+    /// Skips the longest run of next bytes for which `f` answers true. As that of
+    /// [`TextParser::consume_bytes`], the contract speaks of every test that `f` computes.
     pub fn skip_bytes<F: Fn(u8) -> bool + Drop>(&mut self, f: F)
         requires { F.IsAlwaysCallable f }
         ensures { (test : ℕ → Bool) → Computes (F.post f) test

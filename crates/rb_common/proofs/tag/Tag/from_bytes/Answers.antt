@@ -1,5 +1,0 @@
-use Rattle.std.proofs.Common.{rules}
-use Rattle.rb_common.proofs.tag.Tag.from_bytes.Goals as goal
-
-pub returns : goal.returns
-returns c = search rules
