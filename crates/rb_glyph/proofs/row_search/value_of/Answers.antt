@@ -1,6 +1,6 @@
 use Rattle.std.proofs.Common.{rules, ℕ}
 use Rattle.std.proofs.lemmas.Fn.{always_returns_same}
-use Rattle.rb_glyph.proofs.lookup.value_of.Goals as goal
+use Rattle.rb_glyph.proofs.row_search.value_of.Goals as goal
 
 pub returns : goal.returns
 returns g c =

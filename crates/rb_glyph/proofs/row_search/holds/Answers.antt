@@ -4,7 +4,7 @@ use Rattle.std.specs.Option.{option_copied}
 use Rattle.std.proofs.lemmas.Fn.{always_returns_same}
 use Rattle.rb_glyph.specs.Search.{place_of}
 use Rattle.rb_glyph.proofs.RisingRows.{ranges_searchable, range_found}
-use Rattle.rb_glyph.proofs.lookup.holds.Goals as goal
+use Rattle.rb_glyph.proofs.row_search.holds.Goals as goal
 
 is_some_copied : {R : Type 0} (found : Option (Bor R)) → is_some found ≡ is_some (option_copied found)
 is_some_copied None = refl

@@ -2,7 +2,7 @@ use Rattle.std.proofs.Common.{sym, ◌∙◌}
 use Rattle.std.specs.Ordering.{nat_cmp}
 use Rattle.rb_glyph.proofs.Bisection.{found_at, found_none}
 use Rattle.rb_glyph.proofs.RisingRows.{keys_searchable, keys_found}
-use Rattle.rb_glyph.proofs.lookup.row_of.Goals as goal
+use Rattle.rb_glyph.proofs.row_search.row_of.Goals as goal
 
 pub returns-in-Ok : goal.returns-in-Ok
 returns-in-Ok g c =

@@ -1,6 +1,6 @@
 use Rattle.std.proofs.Common.{sym}
 use Rattle.rb_glyph.proofs.Bisection.{found_at, found_none}
-use Rattle.rb_glyph.proofs.lookup.row_at.Goals as goal
+use Rattle.rb_glyph.proofs.row_search.row_at.Goals as goal
 
 pub returns-in-Ok : goal.returns-in-Ok
 returns-in-Ok g c =
