@@ -33,7 +33,7 @@ pub const fn rb_flag64(x: u32) -> u64
     requires { x < 64 }
     ensures { result ≡ 2 ^ x }
 {
-    (1u32 << x) as u64
+    1u64 << x
 }
 
 /// The word of 64 bits whose only bit is bit `x`, and 0 where it has no such bit.
