@@ -1,4 +1,4 @@
-//! Searches of rows that rise.
+//! Searches of sorted rows, by bisection.
 ghost use Rattle.std.specs.Prelude.{◌≡◌, ◌==◌, ℕ, nat_lt, Bool, IsTrue, Option};
 ghost use Rattle.std.specs.List.{find};
 ghost use Rattle.std.specs.Option.{option_copied};

@@ -69,7 +69,7 @@ fn of_ignorable(c: char) -> (u16, hb_buffer_scratch_flags_t)
     )
 }
 
-/// The kind of an invisible character: whether it joins, parts or stays hidden.
+/// The kind of an invisible character: whether it joins its neighbours, keeps them apart or stays hidden.
 fn kind_of_ignorable(c: char) -> u16
     ensures { result ≡ kind_bits c }
 {
