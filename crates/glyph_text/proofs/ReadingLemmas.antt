@@ -1,4 +1,4 @@
--- A text is read one way: where texts that tell of numbers begin alike, and what follows cannot go on with them, the
+-- A text is read one way: where texts of numbers begin alike, and what follows cannot go on with them, the
 -- numbers are equal and what follows is equal.
 use Rattle.std.proofs.Common.{◌≡◌, ℕ, suc, ◌^◌, ◌<◌, ◌≤◌, Bool, true, false, cond, List, [], ◌∷◌, ◌++◌, length, drop}
 use Rattle.std.proofs.Common.{get_or, refl, ap, sym, subst, ◌∙◌, arith}

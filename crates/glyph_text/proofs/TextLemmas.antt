@@ -22,10 +22,10 @@ no_glyph = record { glyph_id = 0; mask = 0; cluster = 0; var1 = 0; var2 = 0 }
 abbrev pub no_position : GlyphPosition
 no_position = record { x_advance = pos 0; y_advance = pos 0; x_offset = pos 0; y_offset = pos 0; var = 0 }
 
--- the glyphs before i are written, and their advances summed where places are told
+-- the glyphs before i are written, and under `NO_ADVANCES` their advances are summed
 pub record Written (font : Font) (flags : SerializeFlags) (infos : List hb_glyph_info_t)
     (positions : List GlyphPosition) (i : ℕ) (text : List ℕ) (pen : Point) : Type 0 where
-  pub told : text ≡ glyphs_text font flags (take i (zip infos positions))
+  pub written : text ≡ glyphs_text font flags (take i (zip infos positions))
   pub x : has flags NO_ADVANCES ≡ true → pen.x ≡ x_advances (take i positions)
   pub y : has flags NO_ADVANCES ≡ true → pen.y ≡ y_advances (take i positions)
   pub x_near : nat_abs pen.x ≤ i * 2147483648
@@ -64,12 +64,12 @@ chosen : (b : Bool) (f : ℤ → ℤ → List ℕ) (other : List ℕ) (x y u v :
 chosen true f other x y u v e g = ap (λ x. f x y) (e refl) ∙ ap (λ y. f u y) (g refl)
 chosen false f other x y u v e g = refl
 
--- a place is told only under `NO_ADVANCES`
-pub position_told : (flags : SerializeFlags) (x y u v : ℤ) (p : GlyphPosition) → (has flags NO_ADVANCES ≡ true → x ≡ u)
+-- the sums of the advances are written only under `NO_ADVANCES`
+pub position_same : (flags : SerializeFlags) (x y u v : ℤ) (p : GlyphPosition) → (has flags NO_ADVANCES ≡ true → x ≡ u)
     → (has flags NO_ADVANCES ≡ true → y ≡ v)
     → position_text flags x y p ≡ position_text flags u v p
-position_told flags x y u v p e g =
-    ap (λ told. cond (has flags NO_POSITIONS) [] told)
+position_same flags x y u v p e g =
+    ap (λ text. cond (has flags NO_POSITIONS) [] text)
     (chosen (has flags NO_ADVANCES) (λ x y. offset_text (x +ℤ p.x_offset) (y +ℤ p.y_offset))
     (offset_text p.x_offset p.y_offset ++ advance_text p.x_advance p.y_advance) x y u v e g)
 

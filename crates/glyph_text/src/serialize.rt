@@ -48,7 +48,8 @@ impl Point {
         }
     }
 
-    /// The place behind a glyph. Only under `NO_ADVANCES` places are written, and positions read for them.
+    /// The place after a glyph's advance. It is written only under `NO_ADVANCES`: otherwise it stays, and no position
+    /// is read.
     #[inline(always)]
     fn place_behind(self, flags: SerializeFlags, position: &GlyphPosition) -> Point
         requires { IsNear self }
@@ -70,12 +71,16 @@ impl Point {
 /// The room that is made for each glyph's text at first. Where the texts are longer, they make more.
 const LIKELY_LENGTH: usize = 16;
 
-/// The texts of the glyphs, joined by `|`. A glyph's text is its name, or `gid` and its number where the font has no
-/// name for it; `=` and the cluster; `@x,y`, the offsets, unless both are 0; `+x`, the advance, and then `,y` unless
-/// that is 0; under `GLYPH_FLAGS` `#` and the glyph flags as a digit, unless they are 0; under `GLYPH_EXTENTS`
-/// `<x_bearing,y_bearing,width,height>`, zeros where the font has none. `NO_GLYPH_NAMES` writes the number alone,
-/// `NO_CLUSTERS` leaves the cluster out, `NO_POSITIONS` offsets and advances, and `NO_ADVANCES` the advances: then
-/// the sums of all earlier advances are added to the offsets.
+/// The texts of the glyphs, joined by `|`. The text of a glyph is, in this order:
+///
+/// - its name, or `gid` and its number where the font has no name for it; under `NO_GLYPH_NAMES` the number alone;
+/// - `=` and the cluster, except under `NO_CLUSTERS`;
+/// - `@x,y`, the offsets, unless both are 0, and except under `NO_POSITIONS`;
+/// - `+x`, the advance, and `,y` unless that is 0, except under `NO_POSITIONS` and `NO_ADVANCES`;
+/// - under `GLYPH_FLAGS` `#` and the glyph flags as a digit, unless they are 0;
+/// - under `GLYPH_EXTENTS` `<x_bearing,y_bearing,width,height>`, zeros where the font has none.
+///
+/// Under `NO_ADVANCES` the sums of all earlier advances are added to the offsets.
 ///
 /// Requires as many positions as glyphs, and numbers of at most 65535 where names or extents are written.
 /// `Err(AllocError)` where memory ran out: then there is no text.
@@ -168,7 +173,7 @@ fn write_numbers(
     text.push_str(numbers.as_str())
 }
 
-/// What stands before the piece at a place.
+/// The bar before each glyph except the first.
 fn write_bar(text: &mut String, i: usize) -> Result<(), AllocError>
     ensures { OnOk result (string_bytes text.new ≡ string_bytes text.old ++ bar_before i) }
 {
@@ -178,7 +183,7 @@ fn write_bar(text: &mut String, i: usize) -> Result<(), AllocError>
     Ok(())
 }
 
-/// A number, behind one character.
+/// A character, and then a number.
 #[inline]
 fn write_behind<I: Integer>(text: &mut String, before: char, number: I) -> Result<(), AllocError>
     requires { before < 128 }

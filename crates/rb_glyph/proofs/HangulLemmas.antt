@@ -3,7 +3,7 @@ use Rattle.std.proofs.Common.{◌≡◌, ◌+◌, ◌/◌, ◌%◌, ◌<◌, ◌
 use Rattle.std.proofs.Common.{◌∙◌, arith}
 use Rattle.rb_glyph.specs.Hangul.{HangulComposes, LeadingComposes, TrailingComposes, ComposesTo, DecomposesTo}
 
--- an answer is told exactly by a relation that has its value and no other
+-- an answer with a value is `Some s` exactly where the relation holds of s, if it holds of that value and of no other
 pub exactly : (C : ℕ → Type 0) (answer : Option ℕ) (v : ℕ) → answer ≡ Some v → C v → ((s : ℕ) → C s → s ≡ v) → (s : ℕ)
     → (answer ≡ Some s) ↔ C s
 exactly C answer v is has one s =
@@ -54,18 +54,18 @@ one_pair s a b c d (inr p) (inr q) = (omega arith, omega arith)
 -- the two ways to compose share no pair
 pub by_leading : (a b v : ℕ) → ((s : ℕ) → (Some v ≡ Some s) ↔ LeadingComposes s a b) → (s : ℕ)
     → (Some v ≡ Some s) ↔ HangulComposes s a b
-by_leading a b v told s = (λ e. inl ((told s).0 e), back) where
+by_leading a b v exact s = (λ e. inl ((exact s).0 e), back) where
   back : HangulComposes s a b → Some v ≡ Some s
-  back (inl p) = (told s).1 p
-  back (inr q) = let p : LeadingComposes v a b = (told v).0 refl in absurd (omega arith)
+  back (inl p) = (exact s).1 p
+  back (inr q) = let p : LeadingComposes v a b = (exact v).0 refl in absurd (omega arith)
 
 pub by_trailing : (a b : ℕ) (leading trailing : Option ℕ) → leading ≡ None
     → ((s : ℕ) → (leading ≡ Some s) ↔ LeadingComposes s a b)
     → ((s : ℕ) → (trailing ≡ Some s) ↔ TrailingComposes s a b) → (s : ℕ) → (trailing ≡ Some s) ↔ HangulComposes s a b
-by_trailing a b leading trailing none told_leading told s = (λ e. inr ((told s).0 e), back) where
+by_trailing a b leading trailing none exact_leading exact s = (λ e. inr ((exact s).0 e), back) where
   back : HangulComposes s a b → trailing ≡ Some s
-  back (inl p) = let e : leading ≡ Some s = (told_leading s).1 p in cc
-  back (inr q) = (told s).1 q
+  back (inl p) = let e : leading ≡ Some s = (exact_leading s).1 p in cc
+  back (inr q) = (exact s).1 q
 
 pub both_ways : (s a b : ℕ) (composed : Option ℕ) (decomposed : Option (ℕ × ℕ)) → ComposesTo a b composed
     → DecomposesTo s decomposed

@@ -11,7 +11,7 @@ use crate::category::hb_unicode_general_category_t;
 use crate::hb_unicode_funcs_t::*;
 use crate::modified_combining_class::*;
 use crate::tables::{CombiningClasses, Mirrors};
-use crate::{categories, lookup, ranges, scripts};
+use crate::{categories, ranges, row_search, scripts};
 use rb_common::Script;
 use unicode::properties::{GeneralCategory, Script as UnicodeScript};
 
@@ -106,15 +106,15 @@ impl CharExt for char {
     }
 
     fn is_emoji_extended_pictographic(self) -> bool {
-        lookup::holds(&ranges::EXTENDED_PICTOGRAPHICS, self)
+        row_search::holds(&ranges::EXTENDED_PICTOGRAPHICS, self)
     }
 
     fn is_default_ignorable(self) -> bool {
-        lookup::holds(&ranges::DEFAULT_IGNORABLES, self)
+        row_search::holds(&ranges::DEFAULT_IGNORABLES, self)
     }
 
     fn is_variation_selector(self) -> bool {
-        lookup::holds(&ranges::VARIATION_SELECTORS, self)
+        row_search::holds(&ranges::VARIATION_SELECTORS, self)
     }
 
     fn vertical(self) -> Option<char> {

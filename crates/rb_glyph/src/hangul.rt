@@ -20,7 +20,7 @@ const T_COUNT: u32 = 28;
 const S_COUNT: u32 = L_COUNT * V_COUNT * T_COUNT;
 
 /// The syllable that two characters make: a leading consonant and a vowel, or a syllable without a trailing consonant
-/// and such a consonant. U+11A7, which stands before the trailing consonants, is none.
+/// and such a consonant. The first trailing consonant is U+11A8: U+11A7 is none.
 pub fn compose_hangul(a: char, b: char) -> Option<char>
     ensures { ComposesTo a b result }
 {

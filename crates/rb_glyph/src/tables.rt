@@ -1,12 +1,12 @@
 //! Tables that a caller hands in: rows in the order of their keys, borrowed as they stand.
 //!
 //! The rows are meant to be those of the Unicode Character Database, which nothing checks. Nothing is
-//! copied, and a look-up is a bisection.
+//! copied, and a row is found by bisection.
 ghost use Rattle.std.specs.Prelude.{◌≡◌, Some, None, if◌then◌else◌};
 ghost use Rattle.rb_glyph.specs.Rows.{keys_rise, value_of};
 ghost use Rattle.rb_glyph.specs.Tables.{pairs_rise, composition_of, decompositions_rise, decomposition_of};
 
-use crate::lookup::{rises, row_at, row_of, value_of};
+use crate::row_search::{rises, row_at, row_of, value_of};
 use std::marker::Model;
 
 /// The canonical combining classes of characters (Unicode, field 3 of `UnicodeData.txt`).

@@ -16,7 +16,7 @@ use crate::scratch::{
     hb_buffer_scratch_flags_t,
 };
 use crate::tables::CombiningClasses;
-use crate::{lookup, ranges};
+use crate::{ranges, row_search};
 use bitflags::Flags;
 
 const GRAPHEME_JOINER: char = '\u{34f}';
@@ -69,7 +69,7 @@ fn of_ignorable(c: char) -> (u16, hb_buffer_scratch_flags_t)
     )
 }
 
-/// The kind of an invisible character: whether it joins, parts or stays hidden.
+/// The kind of an invisible character: whether it joins its neighbours, keeps them apart or stays hidden.
 fn kind_of_ignorable(c: char) -> u16
     ensures { result ≡ kind_bits c }
 {
@@ -77,7 +77,7 @@ fn kind_of_ignorable(c: char) -> u16
         UnicodeProps::CF_ZWNJ.bits()
     } else if c == '\u{200d}' {
         UnicodeProps::CF_ZWJ.bits()
-    } else if lookup::holds(&ranges::HIDDEN_IGNORABLES, c) {
+    } else if row_search::holds(&ranges::HIDDEN_IGNORABLES, c) {
         UnicodeProps::HIDDEN.bits()
     } else {
         0

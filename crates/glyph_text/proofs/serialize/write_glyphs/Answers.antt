@@ -8,12 +8,12 @@ use Rattle.rb_glyph.specs.declared.position.GlyphPosition.{GlyphPosition}
 use Rattle.glyph_text.specs.Text.{Font, bar_before, glyphs_text, x_advances, y_advances, name_text, cluster_text}
 use Rattle.glyph_text.specs.Text.{position_text, flags_text, extents_text}
 use Rattle.glyph_text.proofs.TextLemmas.{no_glyph, no_position, near, asks_for_name, asks_for_extents, text_more}
-use Rattle.glyph_text.proofs.TextLemmas.{pieces_more, position_told}
+use Rattle.glyph_text.proofs.TextLemmas.{pieces_more, position_same}
 use Rattle.glyph_text.proofs.serialize.write_glyphs.Goals as goal
 
 pub loop-i-init : goal.loop-i-init
 loop-i-init g c =
-    record { told = c.requires.empty; x = λ told. refl; y = λ told. refl; x_near = omega arith; y_near = omega arith }
+    record { written = c.requires.empty; x = λ h. refl; y = λ h. refl; x_near = omega arith; y_near = omega arith }
 
 pub loop-i-preserved : goal.loop-i-preserved
 loop-i-preserved g c =
@@ -30,20 +30,20 @@ loop-i-preserved g c =
     let place = c.loop-i.pen in
     let moved = c.place_behind-pen.ensures in
     record {
-      told = pieces_more (string_bytes c.loop-i.text) _ _ _ _ (bar_before i) _ _ _ _ _ c.in_ok-write_head.ensures
+      written = pieces_more (string_bytes c.loop-i.text) _ _ _ _ (bar_before i) _ _ _ _ _ c.in_ok-write_head.ensures
           c.in_ok-write_position.ensures c.in_ok-write_flags.ensures c.in_ok-write_extents.ensures
           ∙ ap (λ t. (t ++ bar_before i) ++ (name_text flags (font.name info.glyph_id) info.glyph_id
           ++ cluster_text flags info.cluster ++ position_text flags place.x place.y position
-          ++ flags_text flags info.mask ++ extents_text flags (font.extents info.glyph_id))) old.told
+          ++ flags_text flags info.mask ++ extents_text flags (font.extents info.glyph_id))) old.written
           ∙ ap (λ t. (glyphs_text font flags (take i (zip infos positions)) ++ bar_before i)
           ++ (name_text flags (font.name info.glyph_id) info.glyph_id ++ cluster_text flags info.cluster ++ t
           ++ flags_text flags info.mask ++ extents_text flags (font.extents info.glyph_id)))
-          (position_told flags place.x place.y (x_advances earlier) (y_advances earlier) position old.x old.y)
+          (position_same flags place.x place.y (x_advances earlier) (y_advances earlier) position old.x old.y)
           ∙ sym (text_more font flags infos positions i no_glyph no_position c.loop-i-test.true c.requires.as_many);
-      x = λ told. moved.x told ∙ ap (λ x. x +ℤ position.x_advance) (old.x told)
+      x = λ h. moved.x h ∙ ap (λ x. x +ℤ position.x_advance) (old.x h)
           ∙ sym (fold_more (λ sum p. sum +ℤ p.x_advance) (pos 0) positions i no_position
           (omega (arith, c.requires.as_many)));
-      y = λ told. moved.y told ∙ ap (λ y. y +ℤ position.y_advance) (old.y told)
+      y = λ h. moved.y h ∙ ap (λ y. y +ℤ position.y_advance) (old.y h)
           ∙ sym (fold_more (λ sum p. sum +ℤ p.y_advance) (pos 0) positions i no_position
           (omega (arith, c.requires.as_many)));
       x_near = omega (arith, moved.near_x, old.x_near);

@@ -11,7 +11,7 @@ returns-then-t-ne0 c =
     let a = c.in_ok-from_u32.field-0 in
     let b = c.in_ok-from_u32-2.field-0 in
     let a_is : a ≡ s - t = c.in_ok-from_u32.ensures.value.1 in
-    let b_is : b ≡ 0x11A7 + t = c.in_ok-from_u32-2.ensures.value.1 in
+    let b_is : b ≡ 0x11A7 + t = omega (arith, c.in_ok-from_u32-2.ensures.value.1) in
     let trailing : TrailingComposes s a b =
     of_trailing s a b (index - t) t (omega arith) b_is (omega arith) (omega arith) (omega arith) (omega arith)
     (omega arith) in

@@ -1,5 +1,0 @@
-use Rattle.std.proofs.Common.{rules}
-use Rattle.rb_glyph.proofs.algs.rb_flag64.Goals as goal
-
-pub returns : goal.returns
-returns c = search rules

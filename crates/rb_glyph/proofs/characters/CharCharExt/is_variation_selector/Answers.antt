@@ -1,5 +1,0 @@
-use Rattle.std.proofs.Common.{rules}
-use Rattle.rb_glyph.proofs.characters.CharCharExt.is_variation_selector.Goals as goal
-
-pub returns : goal.returns
-returns c = search rules
