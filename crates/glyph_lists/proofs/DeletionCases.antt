@@ -124,3 +124,16 @@ module _ (out : List hb_glyph_info_t) (x : hb_glyph_info_t) (rest : List hb_glyp
 
   pub merges_some : merges_next out x rest ≡ true → 0 < length rest
   merges_some h = length_some rest (merges_parts h).1
+
+pub ruleset trailing = (last_at, retold_from)
+
+pub ruleset cases = (
+  deletion_lowers,
+  deletion_merges,
+  deletion_drops,
+  lowers_some,
+  merges_none,
+  merges_some,
+  nothing_taken,
+  rest_merged,
+)

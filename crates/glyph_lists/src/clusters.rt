@@ -8,6 +8,7 @@ use rb_glyph::{glyph_flag, hb_glyph_info_t};
 
 /// Puts the glyph into a cluster. Where that changes its cluster, its glyph flags become those of `mask`.
 #[inline]
+#[tactic(auto, unfolding(crate::specs::Clusters::with_cluster))]
 pub fn set_cluster(info: &mut hb_glyph_info_t, cluster: u32, mask: u32)
     ensures { info.new ≡ with_cluster cluster mask info.old }
 {
@@ -30,7 +31,13 @@ fn set_clusters(info: &mut [hb_glyph_info_t], cluster: u32, mask: u32)
 
 /// Puts the glyphs of a range into a cluster, with the glyph flags of `mask` where that changes theirs.
 #[inline]
-pub fn set_range(info: &mut [hb_glyph_info_t], start: usize, end: usize, cluster: u32, mask: u32)
+pub(crate) fn set_range(
+    info: &mut [hb_glyph_info_t],
+    start: usize,
+    end: usize,
+    cluster: u32,
+    mask: u32,
+)
     requires order { start ≤ end }
     requires within { end ≤ length info.old }
     ensures { info.new ≡ map_range (with_cluster cluster mask) info.old start end }

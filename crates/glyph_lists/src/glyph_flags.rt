@@ -202,7 +202,7 @@ fn least_of_both(out: &[hb_glyph_info_t], input: &[hb_glyph_info_t]) -> u32
     least_of(out).min(least_of(input))
 }
 
-/// Scans one list in any order of clusters, out of the way of the scans that go by the ends.
+/// Scans one list in any order of clusters. It stands out of line, as most scans go by the ends.
 #[inline(never)]
 #[tactic(auto, unfolding(crate::specs::Marks::mark))]
 fn mark_outside_least(info: &mut [hb_glyph_info_t], bits: u32)
