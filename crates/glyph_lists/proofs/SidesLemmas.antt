@@ -1,4 +1,4 @@
--- Two lists, one after the other, of which the second begins at a cursor of a longer one.
+-- Two lists as one, the one behind the other.
 use Rattle.std.proofs.Common.{◌≡◌, ℕ, ◌+◌, ◌-◌, ◌≤◌, List, ◌++◌, length, take, drop, min, refl, sym, ap, ◌∙◌, arith}
 use Rattle.std.proofs.Common.{append_assoc, Bool, true, false, inl, inr}
 use Rattle.std.proofs.lemmas.List.{drop-drop}

@@ -1,8 +1,8 @@
-//! Glyphs that are put into a cluster, and the least cluster of a range.
+//! Glyphs that are put into a cluster.
 
-ghost use Rattle.std.specs.Prelude.{◌≡◌, ℕ, ◌+◌, ◌-◌, ◌<◌, ◌≤◌, ◌++◌, List, length, take, drop, map, slice_index};
+ghost use Rattle.std.specs.Prelude.{◌≡◌, ◌+◌, ◌≤◌, ◌++◌, length, take, drop, map};
 ghost use Rattle.glyph_lists.specs.Parts.{map_range};
-ghost use Rattle.glyph_lists.specs.Clusters.{clusters, range_least, with_cluster};
+ghost use Rattle.glyph_lists.specs.Clusters.{with_cluster};
 
 use rb_glyph::{glyph_flag, hb_glyph_info_t};
 

@@ -1,7 +1,7 @@
 //! A glyph that leaves the input, and its cluster, which is kept where it is lower than its neighbour's.
 
-ghost use Rattle.std.specs.Prelude.{not, ◌≡◌, ℕ, ◌+◌, ◌-◌, ◌<◌, ◌≤◌, ◌==◌, ◌&&◌, ◌||◌, ◌++◌, List, length, take, drop};
-ghost use Rattle.std.specs.Prelude.{nat_lt, slice_index_or};
+ghost use Rattle.std.specs.Prelude.{◌≡◌, ◌<◌, ◌≤◌, ◌==◌, ◌&&◌, length, drop};
+ghost use Rattle.std.specs.Prelude.{slice_index_or};
 ghost use Rattle.glyph_lists.specs.Clusters.{clusters, run_start, zero_glyph};
 ghost use Rattle.glyph_lists.specs.Deletion.{begins_with, is_not_empty, last_cluster, has_neighbour_in, lowers_run};
 ghost use Rattle.glyph_lists.specs.Deletion.{merges_next, with_trailing_run, deletion};

@@ -1,6 +1,6 @@
 //! Deletion of glyphs in the list itself: a walk that deletes some, and moves each of the others down at most once.
 
-ghost use Rattle.std.specs.Prelude.{◌≡◌, ℕ, ◌+◌, ◌++◌, ◌≤◌, ◌<◌, ◌&&◌, Bool, [], length, take, drop};
+ghost use Rattle.std.specs.Prelude.{◌≡◌, ◌+◌, ◌++◌, ◌≤◌, ◌<◌, ◌&&◌, Bool, length, take, drop};
 ghost use Rattle.rb_glyph.specs.declared.info.hb_glyph_info_t.{hb_glyph_info_t};
 ghost use Rattle.glyph_lists.specs.DeletingWalk.{sides_at, deletion_merges, after_deletion, left_by_walk, kept_beside};
 ghost use Rattle.glyph_lists.specs.DeletingWalk.{walk_merges};

@@ -1,6 +1,6 @@
 //! Groups of neighbours in a list.
 
-ghost use Rattle.std.specs.Prelude.{◌≡◌, ℕ, ◌+◌, ◌≤◌, ◌<◌, length};
+ghost use Rattle.std.specs.Prelude.{◌≡◌, ◌+◌, ◌≤◌, ◌<◌, length};
 ghost use Rattle.glyph_lists.specs.Groups as of;
 
 use rb_glyph::hb_glyph_info_t;

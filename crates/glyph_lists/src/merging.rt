@@ -1,6 +1,6 @@
 //! Merges: glyphs of several clusters become one cluster, or in any order of clusters are marked instead.
 
-ghost use Rattle.std.specs.Prelude.{◌≡◌, ℕ, ◌+◌, ◌-◌, ◌<◌, ◌≤◌, ◌++◌, true, false, List, length, take, drop};
+ghost use Rattle.std.specs.Prelude.{◌≡◌, ◌+◌, ◌<◌, ◌≤◌, ◌++◌, true, false, length, take, drop};
 ghost use Rattle.glyph_lists.specs.Clusters.{clusters, run_merge, with_cluster, NoRunCrosses};
 ghost use Rattle.glyph_lists.specs.Deletion.{merge_or_mark};
 ghost use Rattle.glyph_lists.specs.Parts.{map_range};
