@@ -94,7 +94,7 @@ fn a_pair_is_kerned(rt: &impl Abort, alloc: Global) {
 fn writes_land_at_their_places(rt: &impl Abort, alloc: Global) {
     let mut buffer = buffer_of(rt, alloc, "abc");
     assert!(rt; buffer.info().len() == 3);
-    mask_list(&mut buffer, 2);
+    write_mask_in_list(&mut buffer, 2);
     set_level(&mut buffer);
     forget_what_was_said(&mut buffer);
     buffer.clear_positions();

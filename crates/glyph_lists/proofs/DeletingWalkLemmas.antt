@@ -52,17 +52,17 @@ head_at i l = let n : i + 0 ≡ i = omega arith in get_or-drop i l 0 zero_glyph 
 
 -- ---- what each turn keeps
 
-told_deletion : (told any_order is merges later : Bool) → is ≡ true
-    → ((told || (any_order && merges)) || (any_order && later)) ≡ (told || (any_order && ((is && merges) || later)))
-told_deletion true any_order is merges later h = refl
-told_deletion false false is merges later h = refl
-told_deletion false true true merges later h = refl
-told_deletion false true false merges later h = cc
+merged_at_deletion : (merged any_order is merges later : Bool) → is ≡ true
+    → ((merged || (any_order && merges)) || (any_order && later)) ≡ (merged || (any_order && ((is && merges) || later)))
+merged_at_deletion true any_order is merges later h = refl
+merged_at_deletion false false is merges later h = refl
+merged_at_deletion false true true merges later h = refl
+merged_at_deletion false true false merges later h = cc
 
-told_next : (told any_order is merges later : Bool) → is ≡ false
-    → (told || (any_order && later)) ≡ (told || (any_order && ((is && merges) || later)))
-told_next told any_order false merges later h = refl
-told_next told any_order true merges later h = cc
+merged_at_next : (merged any_order is merges later : Bool) → is ≡ false
+    → (merged || (any_order && later)) ≡ (merged || (any_order && ((is && merges) || later)))
+merged_at_next merged any_order false merges later h = refl
+merged_at_next merged any_order true merges later h = cc
 
 module _ (any_order : Bool) (test : hb_glyph_info_t → Bool) where
   kept_deletion : {X : Type 0} (s s2 : Sides) (r : List X) → test (head_of s) ≡ true → s2 ≡ after_turn any_order test s
@@ -111,7 +111,7 @@ module _ (any_order : Bool) (test : hb_glyph_info_t → Bool) where
           let made : s2 ≡ after_turn any_order test now = e ∙ sym (cond-true _ _ _ h) in (
             ap (after_walk any_order test t) made ∙ sym (ap (λ n. after_walk any_order test n now) fewer) ∙ before.0,
             ap (λ b. b || (any_order && walk_merges any_order test t s2)) m
-                ∙ told_deletion merges any_order (test (head_of now)) (deletion_merges now)
+                ∙ merged_at_deletion merges any_order (test (head_of now)) (deletion_merges now)
                 (walk_merges any_order test t s2) h
                 ∙ ap (λ s. merges || (any_order
                 && ((test (head_of now) && deletion_merges now) || walk_merges any_order test t s))) made
@@ -134,7 +134,7 @@ module _ (any_order : Bool) (test : hb_glyph_info_t → Bool) where
           ∙ ap (λ ys. the_sides (take k l ++ take 1 (drop i l)) ys) rest in
           let made : s2 ≡ after_turn any_order test now = moved ∙ sym (cond-false _ _ _ h) in (
             ap (after_walk any_order test t) made ∙ sym (ap (λ n. after_walk any_order test n now) fewer) ∙ before.0,
-            told_next merges any_order (test (head_of now)) (deletion_merges now) (walk_merges any_order test t s2) h
+            merged_at_next merges any_order (test (head_of now)) (deletion_merges now) (walk_merges any_order test t s2) h
                 ∙ ap (λ s. merges || (any_order
                 && ((test (head_of now) && deletion_merges now) || walk_merges any_order test t s))) made
                 ∙ sym (ap (λ n. merges || (any_order && walk_merges any_order test n now)) fewer)
@@ -156,8 +156,8 @@ module _ (any_order : Bool) (test : hb_glyph_info_t → Bool) where
           ∙ ap (λ (s : Sides). s.out ++ s.rest) (sym (ap (λ n. after_walk any_order test n (sides_at k i l)) none)
           ∙ before.0)
 
-      pub merges_told : merges ≡ (any_order && walk_merges any_order test (length l0) (sides_at 0 0 l0))
-      merges_told = no_more merges any_order
+      pub merges_at_end : merges ≡ (any_order && walk_merges any_order test (length l0) (sides_at 0 0 l0))
+      merges_at_end = no_more merges any_order
           ∙ sym (ap (λ n. merges || (any_order && walk_merges any_order test n (sides_at k i l))) none) ∙ before.1
         where
           no_more : (m a : Bool) → m ≡ (m || (a && false))

@@ -57,11 +57,11 @@ pub ruleset neighbours = (begins_none, begins_some, not_empty_none, not_empty_so
 
 -- ---- the trailing run
 
-pub retold_from : (c w last a : ℕ) (l : List hb_glyph_info_t) → last ≡ last_cluster l
+pub trailing_run_from : (c w last a : ℕ) (l : List hb_glyph_info_t) → last ≡ last_cluster l
     → a ≡ run_start (clusters l) last 0 (length l) → map_range (with_cluster c w) l a (length l)
     ≡ with_trailing_run c w l
 unfolding with_trailing_run
-retold_from c w last a l e h =
+trailing_run_from c w last a l e h =
     ap (λ k. map_range (with_cluster c w) l k (length l))
     (h ∙ ap (λ k. run_start (clusters l) k 0 (length l)) e)
 
@@ -124,3 +124,16 @@ module _ (out : List hb_glyph_info_t) (x : hb_glyph_info_t) (rest : List hb_glyp
 
   pub merges_some : merges_next out x rest ≡ true → 0 < length rest
   merges_some h = length_some rest (merges_parts h).1
+
+pub ruleset trailing = (last_at, trailing_run_from)
+
+pub ruleset cases = (
+  deletion_lowers,
+  deletion_merges,
+  deletion_drops,
+  lowers_some,
+  merges_none,
+  merges_some,
+  nothing_taken,
+  rest_merged,
+)

@@ -515,3 +515,5 @@ module _ (l : List hb_glyph_info_t) (p q floor k : ℕ) (in_l : k < length l) wh
         | inl is ↦ subst P (sym is) (refl, refl, refl)
         | inr is ↦ subst P (sym is) (with_cluster_others (range_least (clusters l) p q) 0 (get_or l k zero_glyph))
       ]
+
+pub ruleset merges_of_two = (run_merge_rising, run_merge_falling, run_merge_level)

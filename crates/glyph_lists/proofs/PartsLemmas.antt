@@ -1,9 +1,9 @@
 -- Ranges of a list: what stands in one, and a list of which one range is mapped.
-use Rattle.std.proofs.Common.{All, suc, ◌⊎◌, inl, inr, ◌≡◌, ℕ, ◌+◌, ◌-◌, ◌<◌, ◌≤◌, List, [], ◌∷◌, ◌++◌, length, get_or}
+use Rattle.std.proofs.Common.{All, suc, inl, inr, ◌≡◌, ℕ, ◌+◌, ◌-◌, ◌<◌, ◌≤◌, List, [], ◌∷◌, ◌++◌, length, get_or}
 use Rattle.std.proofs.Common.{map, take, drop, set, min, refl, sym, ap, ◌∙◌, arith, length-append, length-drop}
 use Rattle.std.proofs.Common.{length-take}
 use Rattle.std.proofs.lemmas.Bool.{cases_lt}
-use Rattle.std.proofs.lemmas.List.{set-get_or, take_at, drop_at, length-take-le, same_lists, take_more, drop_more}
+use Rattle.std.proofs.lemmas.List.{set-get_or, drop_at, length-take-le, same_lists, take_more, drop_more}
 use Rattle.std.proofs.lemmas.List.{set_at, map_push, append-nil, take-append-drop, get_or_append_left}
 use Rattle.std.proofs.lemmas.List.{get_or-append_right, get_or-take, get_or-drop, get_or-map, length-map, map-append}
 use Rattle.std.proofs.lemmas.List.{map-id, append_assoc}
@@ -265,10 +265,10 @@ map_range_past f xs a b up past =
     same_lists _ _ (length-map_range f xs a b up) (λ k d in_xs. let n = length-map_range f xs a b up in
     map_range-before f xs a b up k d (omega arith) (omega arith))
 
--- ---- a range of one storage, read as its first o places and those from i on
+-- ---- what stands from a place on
 
 module _ {X : Type 0} (f : X → X) (l : List X) where
-  -- the storage cut at n
+  -- the list cut at n
   map_range-cut_at : (n a b : ℕ) → a ≤ b → n ≤ length l
       → map_range f l a b ≡ map_range f (take n l) a b ++ map_range f (drop n l) (a - n) (b - n)
   map_range-cut_at n a b up in_l =
@@ -276,88 +276,9 @@ module _ {X : Type 0} (f : X → X) (l : List X) where
       ap (λ x. map_range f x a b) (sym (take-append-drop n l)) ∙ map_range-append f (take n l) (drop n l) a b up
       ∙ ap (λ k. map_range f (take n l) a b ++ map_range f (drop n l) (a - k) (b - k)) e
 
-  -- the first n places
-  pub take-map_range : (n a b : ℕ) → a ≤ b → n ≤ length l → take n (map_range f l a b) ≡ map_range f (take n l) a b
-  take-map_range n a b up in_l =
-      ap (take n) (map_range-cut_at n a b up in_l)
-      ∙ take_at (map_range f (take n l) a b) _ n (length-map_range f (take n l) a b up ∙ length-take-le n l in_l)
-
   -- the places from n on
   pub drop-map_range : (n a b : ℕ) → a ≤ b → n ≤ length l
       → drop n (map_range f l a b) ≡ map_range f (drop n l) (a - n) (b - n)
   drop-map_range n a b up in_l =
       ap (drop n) (map_range-cut_at n a b up in_l)
       ∙ drop_at (map_range f (take n l) a b) _ n (length-map_range f (take n l) a b up ∙ length-take-le n l in_l)
-
-  -- a range of the first o places
-  pub sides_low : (o i a b : ℕ) → o ≤ i → i ≤ length l → a ≤ min b o
-      → take o (map_range f l a (min b o)) ++ drop i (map_range f l a (min b o))
-      ≡ map_range f (take o l) a b ++ drop i l
-  sides_low o i a b apart in_l up =
-      let e : length (take o l) ≡ o = length-take-le o l (omega arith) in
-      let z : a - i ≡ 0 = omega arith in
-      let z2 : min b o - i ≡ 0 = omega arith in
-      ap (λ x. x ++ drop i (map_range f l a (min b o)))
-      (take-map_range o a (min b o) up (omega arith) ∙ ap (λ k. map_range f (take o l) a (min b k)) (sym e)
-      ∙ map_range_cut f (take o l) a b (omega arith))
-      ∙ ap (λ x. map_range f (take o l) a b ++ x)
-      (drop-map_range i a (min b o) up in_l ∙ ap (λ k. map_range f (drop i l) k (min b o - i)) z
-      ∙ ap (λ k. map_range f (drop i l) 0 k) z2 ∙ map_range_none f (drop i l) 0)
-
-  -- a range of the places from i on
-  pub sides_high : (o i c d : ℕ) → o ≤ i → i ≤ length l → c ≤ d
-      → take o (map_range f l (i + c) (i + d)) ++ drop i (map_range f l (i + c) (i + d))
-      ≡ take o l ++ map_range f (drop i l) c d
-  sides_high o i c d apart in_l up =
-      let e : length (take o l) ≡ o = length-take-le o l (omega arith) in
-      let z : i + c - i ≡ c = omega arith in
-      let z2 : i + d - i ≡ d = omega arith in
-      ap (λ x. x ++ drop i (map_range f l (i + c) (i + d)))
-      (take-map_range o (i + c) (i + d) (omega arith) (omega arith)
-      ∙ map_range_past f (take o l) (i + c) (i + d) (omega arith) (omega arith))
-      ∙ ap (λ x. take o l ++ x)
-      (drop-map_range i (i + c) (i + d) (omega arith) in_l ∙ ap (λ k. map_range f (drop i l) k (i + d - i)) z
-      ∙ ap (λ k. map_range f (drop i l) c k) z2)
-
--- what a body does that writes the two parts one after the other: `l1` after the first, `l2` after both
-pub sides_set : {X : Type 0} (f : X → X) (l l1 l2 : List X) (o i a b : ℕ) → o ≤ i → i ≤ length l → a ≤ b
-    → ((a < o) × (l1 ≡ map_range f l a (min b o))) ⊎ ((o ≤ a) × (l1 ≡ l))
-    → ((o < b) × (l2 ≡ map_range f l1 (i + (a - o)) (i + (b - o)))) ⊎ ((b ≤ o) × (l2 ≡ l1))
-    → take o l2 ++ drop i l2 ≡ map_range f (take o l ++ drop i l) a b
-sides_set f l l1 l2 o i a b apart in_l up first second =
-    let e : length (take o l) ≡ o = length-take-le o l (omega arith) in
-    let rhs : map_range f (take o l ++ drop i l) a b ≡ map_range f (take o l) a b
-    ++ map_range f (drop i l) (a - o) (b - o) =
-    map_range-append f (take o l) (drop i l) a b up
-    ∙ ap (λ k. map_range f (take o l) a b ++ map_range f (drop i l) (a - k) (b - k)) e in
-    let n : length l1 ≡ length l = elim first [
-      | inl w ↦ ap length w.1 ∙ length-map_range f l a (min b o) (omega (arith, w.0))
-      | inr w ↦ ap length w.1
-    ] in
-    let low : take o l1 ≡ map_range f (take o l) a b = elim first [
-      | inl w ↦ ap (take o) w.1 ∙ take-map_range f l o a (min b o) (omega (arith, w.0)) (omega arith)
-          ∙ ap (λ k. map_range f (take o l) a (min b k)) (sym e) ∙ map_range_cut f (take o l) a b (omega (arith, w.0))
-      | inr w ↦ ap (take o) w.1 ∙ sym (map_range_past f (take o l) a b up (omega (arith, w.0)))
-    ] in
-    let high : drop i l1 ≡ drop i l = elim first [
-      | inl w ↦
-          let z : a - i ≡ 0 = omega (arith, w.0) in
-          let z2 : min b o - i ≡ 0 = omega arith in
-          ap (drop i) w.1 ∙ drop-map_range f l i a (min b o) (omega (arith, w.0)) in_l
-          ∙ ap (λ k. map_range f (drop i l) k (min b o - i)) z ∙ ap (λ k. map_range f (drop i l) 0 k) z2
-          ∙ map_range_none f (drop i l) 0
-      | inr w ↦ ap (drop i) w.1
-    ] in
-    elim second [
-      | inl w ↦ ap (λ x. take o x ++ drop i x) w.1
-          ∙ sides_high f l1 o i (a - o) (b - o) apart (omega arith) (omega arith)
-          ∙ ap (λ x. x ++ map_range f (drop i l1) (a - o) (b - o)) low
-          ∙ ap (λ x. map_range f (take o l) a b ++ map_range f x (a - o) (b - o)) high ∙ sym rhs
-      | inr w ↦
-          let z : a - o ≡ 0 = omega (arith, w.0) in
-          let z2 : b - o ≡ 0 = omega (arith, w.0) in
-          let same : map_range f (drop i l) (a - o) (b - o) ≡ drop i l = ap (λ k. map_range f (drop i l) k (b - o)) z
-          ∙ ap (λ k. map_range f (drop i l) 0 k) z2 ∙ map_range_none f (drop i l) 0 in
-          ap (λ x. take o x ++ drop i x) w.1
-          ∙ ap (λ x. x ++ drop i l1) low ∙ ap (λ x. map_range f (take o l) a b ++ x) (high ∙ sym same) ∙ sym rhs
-    ]

@@ -67,3 +67,5 @@ turned_all xs ys i e t =
         | inr past ↦ t.after k d past in_xs
       ]
     ] ∙ sym (get_or-reverse xs k d in_xs))
+
+pub ruleset turns = (turned_none, turned_more, turned_all)

@@ -61,11 +61,6 @@ pub run_start-le : (cs : List ℕ) (c floor p : ℕ) → run_start cs c floor p 
 unfolding run_start
 run_start-le cs c floor p = omega arith
 
-pub run_start-ge : (cs : List ℕ) (c floor p : ℕ) → floor ≤ p → p ≤ length cs → floor ≤ run_start cs c floor p
-unfolding run_start
-run_start-ge cs c floor p above in_cs =
-    omega (arith, suffix_len-le-length (λ d. eqb d c) (part cs floor p), length-part cs floor p in_cs)
-
 -- each place of the run has its number, and the one before it has another
 pub run_start-all : (cs : List ℕ) (c floor p k : ℕ) → p ≤ length cs → run_start cs c floor p ≤ k → k < p
     → get_or cs k 0 ≡ c
@@ -183,24 +178,6 @@ widened_end-le cs p q in_cs =
     (λ x. x ≤ length cs) (λ _. in_cs) (λ _. run_end-le cs (get_or cs (q - 1) 0) q in_cs)
 
 -- ---- the widened range, for a body that has read the least number and the ends
-
--- at the start, with m the least number and c the first
-pub widened_start_from : (cs : List ℕ) (p q floor m c : ℕ) → m ≡ range_least cs p q → c ≡ get_or cs p 0
-    → ((c ≡ m) → widened_start cs p q floor ≡ p) × ((c ≡ m → ⊥) → widened_start cs p q floor ≡ run_start cs c floor p)
-unfolding widened_start
-widened_start_from cs p q floor m c em ec = (
-  λ e. cond-true _ _ _ (eq-eqb _ _ (sym ec ∙ e ∙ em)),
-  λ e. cond-false _ _ _ (ne_eqb _ _ (λ x. e (ec ∙ x ∙ sym em))) ∙ ap (λ x. run_start cs x floor p) (sym ec),
-)
-
--- at the end, with m the least number and c the last
-pub widened_end_from : (cs : List ℕ) (p q m c : ℕ) → m ≡ range_least cs p q → c ≡ get_or cs (q - 1) 0
-    → ((c ≡ m) → widened_end cs p q ≡ q) × ((c ≡ m → ⊥) → widened_end cs p q ≡ run_end cs c q)
-unfolding widened_end
-widened_end_from cs p q m c em ec = (
-  λ e. cond-true _ _ _ (eq-eqb _ _ (sym ec ∙ e ∙ em)),
-  λ e. cond-false _ _ _ (ne_eqb _ _ (λ x. e (ec ∙ x ∙ sym em))) ∙ ap (λ x. run_end cs x q) (sym ec),
-)
 
 pub ruleset walks =
     (length_clusters-append, run_start_more, run_start_here, run_start_none, run_end_more, run_end_here, run_end_none)

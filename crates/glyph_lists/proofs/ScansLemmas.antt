@@ -49,6 +49,32 @@ two_part_scan-none true bits r = refl
 two_part_scan-none false bits r = ap (λ xs. xs ++ mark_part bits (least (ends (clusters r))) r)
     (part_nothing bits (least (ends (clusters r))) [] refl)
 
+-- ---- the end of a list
+
+-- what stands from place p on, in words of a slice that begins at the end where p is past it
+module _ {X : Type 0} (xs : List X) (p : ℕ) where
+  abbrev start : ℕ
+  start = min p (length xs)
+
+  pub slice_end : part xs start (length xs) ≡ drop p xs
+  slice_end = take_rest xs start ∙ elim (cases_lt p (length xs)) [
+    | inl lt ↦ let e : start ≡ p = omega arith in ap (λ k. drop k xs) e
+    | inr ge ↦ drop_all start xs (omega arith) ∙ sym (drop_all p xs ge)
+  ]
+
+  before_slice : take start xs ≡ take p xs
+  before_slice = elim (cases_lt p (length xs)) [
+    | inl lt ↦ let e : start ≡ p = omega arith in ap (λ k. take k xs) e
+    | inr ge ↦ take_all start xs (omega arith) ∙ sym (take_all p xs ge)
+  ]
+
+  pub on_slice_end : (g : List X → List X) → on_part g xs start (length xs) ≡ take p xs ++ g (drop p xs)
+  on_slice_end g =
+      ap (λ ys. take start xs ++ g (part xs start (length xs)) ++ ys) (drop_all (length xs) xs (omega arith))
+      ∙ append-nil (take start xs ++ g (part xs start (length xs)))
+      ∙ ap (λ ys. take start xs ++ g ys) slice_end
+      ∙ ap (λ ys. ys ++ g (drop p xs)) before_slice
+
 -- ---- two parts
 
 module _ (any_order : Bool) (bits : ℕ) where
@@ -131,36 +157,39 @@ module _ (any_order : Bool) (bits : ℕ) where
         let n = length-part_scan any_order bits (scan_least any_order in_out in_rest) in_out in
         omega (arith, length-append (take p out) (scanned_part in_out), length-take p out, length-drop p out)
 
-    pub scanned_out : take p out ++ scanned_part in_out
+    scanned_out : take p out ++ scanned_part in_out
         ≡ take (length out) (on_part (two_part_scan any_order bits (length out - p)) (out ++ rest) p q)
     scanned_out = cut_out out (take p out ++ scanned_part in_out)
         (on_part scanned_part rest (p - length out) (q - length out)) _ as_long two_sides
 
-    pub scanned_input : on_part scanned_part rest (p - length out) (q - length out)
+    scanned_input : on_part scanned_part rest (p - length out) (q - length out)
         ≡ drop (length out) (on_part (two_part_scan any_order bits (length out - p)) (out ++ rest) p q)
     scanned_input = cut_input out (take p out ++ scanned_part in_out)
         (on_part scanned_part rest (p - length out) (q - length out)) _ as_long two_sides
 
--- what stands from place p on, in words of a slice that begins at the end where p is past it
-module _ {X : Type 0} (xs : List X) (p : ℕ) where
-  abbrev start : ℕ
-  start = min p (length xs)
+    -- the two slices that a scan changes, m being the least cluster of both
+    module _ (seam from to m : ℕ) (es : seam ≡ min p (length out)) (ef : from ≡ p - length out)
+        (et : to ≡ q - length out) (em : m ≡ scan_least any_order (part out seam (length out)) (part rest from to)) where
+      least_is : m ≡ scan_least any_order in_out in_rest
+      least_is =
+          em ∙ ap (λ k. scan_least any_order (part out k (length out)) (part rest from to)) es
+          ∙ ap (λ xs. scan_least any_order xs (part rest from to)) (slice_end out p)
+          ∙ ap (λ k. scan_least any_order in_out (part rest k to)) ef
+          ∙ ap (λ k. scan_least any_order in_out (part rest (p - length out) k)) et
 
-  pub slice_end : part xs start (length xs) ≡ drop p xs
-  slice_end = take_rest xs start ∙ elim (cases_lt p (length xs)) [
-    | inl lt ↦ let e : start ≡ p = omega arith in ap (λ k. drop k xs) e
-    | inr ge ↦ drop_all start xs (omega arith) ∙ sym (drop_all p xs ge)
-  ]
+      pub slice_scanned_out : on_part (part_scan any_order bits m) out seam (length out)
+          ≡ take (length out) (on_part (two_part_scan any_order bits (length out - p)) (out ++ rest) p q)
+      slice_scanned_out =
+          ap (λ k. on_part (part_scan any_order bits m) out k (length out)) es
+          ∙ on_slice_end out p (part_scan any_order bits m)
+          ∙ ap (λ k. take p out ++ part_scan any_order bits k in_out) least_is ∙ scanned_out
 
-  before_slice : take start xs ≡ take p xs
-  before_slice = elim (cases_lt p (length xs)) [
-    | inl lt ↦ let e : start ≡ p = omega arith in ap (λ k. take k xs) e
-    | inr ge ↦ take_all start xs (omega arith) ∙ sym (take_all p xs ge)
-  ]
+      pub slice_scanned_input : on_part (part_scan any_order bits m) rest from to
+          ≡ drop (length out) (on_part (two_part_scan any_order bits (length out - p)) (out ++ rest) p q)
+      slice_scanned_input =
+          ap (λ k. on_part (part_scan any_order bits m) rest k to) ef
+          ∙ ap (λ k. on_part (part_scan any_order bits m) rest (p - length out) k) et
+          ∙ ap (λ k. on_part (part_scan any_order bits k) rest (p - length out) (q - length out)) least_is
+          ∙ scanned_input
 
-  pub on_slice_end : (g : List X → List X) → on_part g xs start (length xs) ≡ take p xs ++ g (drop p xs)
-  on_slice_end g =
-      ap (λ ys. take start xs ++ g (part xs start (length xs)) ++ ys) (drop_all (length xs) xs (omega arith))
-      ∙ append-nil (take start xs ++ g (part xs start (length xs)))
-      ∙ ap (λ ys. take start xs ++ g ys) slice_end
-      ∙ ap (λ ys. ys ++ g (drop p xs)) before_slice
+pub ruleset slices_scanned = (slice_scanned_out, slice_scanned_input)

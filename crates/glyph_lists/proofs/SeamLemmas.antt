@@ -9,6 +9,8 @@ use Rattle.rb_glyph.specs.declared.info.hb_glyph_info_t.{hb_glyph_info_t}
 use Rattle.glyph_lists.specs.Parts.{part, map_range}
 use Rattle.glyph_lists.specs.Clusters.{clusters, least, run_start, run_end, range_least, widened_start, widened_end}
 use Rattle.glyph_lists.specs.Clusters.{run_merge, with_cluster, NoRunCrosses}
+use Rattle.glyph_lists.proofs.MergesLemmas.{run_merge_short, length-run_merge}
+use Rattle.glyph_lists.proofs.SidesLemmas.{same_out, same_input, cut_out, cut_input}
 use Rattle.glyph_lists.proofs.PartsLemmas.{map_range-append, map_range_past, map_range_none}
 use Rattle.glyph_lists.proofs.ClustersLemmas.{clusters-append, length-clusters}
 use Rattle.glyph_lists.proofs.RunsLemmas.{run_start_more, run_start_here, run_start_none, run_end_more, run_end_here}
@@ -249,3 +251,5 @@ module _ (xs ys : List hb_glyph_info_t) (apart : NoRunCrosses (clusters xs) (clu
       ∙ ap (λ k. map_range f xs A B ++ map_range f ys 0 k) zb
       ∙ ap (λ zs. map_range f xs A B ++ zs) (map_range_none f ys 0)
       ∙ ap (λ zs. zs ++ ys) (sym (cond-false _ _ _ (lt-leb q p some)))
+
+pub ruleset seams = (run_merge_short, run_merge_left, run_merge_right, length-run_merge, same_out, same_input, cut_out, cut_input, length-append)

@@ -1,7 +1,7 @@
--- Two lists, one after the other, of which the second begins at a cursor of a longer one.
+-- Two lists as one, the one behind the other.
 use Rattle.std.proofs.Common.{◌≡◌, ℕ, ◌+◌, ◌-◌, ◌≤◌, List, ◌++◌, length, take, drop, min, refl, sym, ap, ◌∙◌, arith}
 use Rattle.std.proofs.Common.{append_assoc, Bool, true, false, inl, inr}
-use Rattle.std.proofs.lemmas.List.{take-append-drop, drop-drop}
+use Rattle.std.proofs.lemmas.List.{drop-drop}
 use Rattle.std.proofs.lemmas.Bool.{cond-true, cond-false, lt-ltb, le-ltb, cases_lt}
 use Rattle.std.proofs.Math.Seq.{take-append_seam, drop-append_seam, take-append-add, drop-append-add, take-add}
 use Rattle.glyph_lists.specs.Parts.{map_range, on_part, part}
@@ -10,7 +10,7 @@ use Rattle.glyph_lists.specs.Clusters.{run_merge}
 use Rattle.glyph_lists.specs.Marks.{mark}
 use Rattle.glyph_lists.specs.Deletion.{merge_or_mark}
 use Rattle.glyph_lists.specs.declared.glyph_flags.TheConstants.{BREAK_BITS}
-use Rattle.glyph_lists.proofs.PartsLemmas.{map_range-append, map_range_none, map_range_past, map_range_cut, sides_high}
+use Rattle.glyph_lists.proofs.PartsLemmas.{map_range-append, map_range_none, map_range_past, map_range_cut}
 use Rattle.glyph_lists.proofs.PartsLemmas.{length-map_range}
 
 -- what is left after one more glyph
@@ -21,18 +21,6 @@ next_left n xs = sym (drop-drop 1 n xs)
 pub range_cut : {X : Type 0} (f : X → X) (xs : List X) (a b n : ℕ) → length xs ≡ n → a ≤ b → a ≤ n
     → map_range f xs a (min b n) ≡ map_range f xs a b
 range_cut f xs a b n h up h2 = ap (λ k. map_range f xs a (min b k)) (sym h) ∙ map_range_cut f xs a b (omega arith)
-
--- a range from the cursor on
-pub range_at : {X : Type 0} (f : X → X) (xs : List X) (i c d : ℕ) → i ≤ length xs → c ≤ d
-    → map_range f xs (i + c) (i + d) ≡ take i xs ++ map_range f (drop i xs) c d
-range_at f xs i c d h up =
-    sym (take-append-drop i (map_range f xs (i + c) (i + d))) ∙ sides_high f xs i i c d (omega arith) h up
-
--- a range that is empty
-pub range_nothing : {X : Type 0} (f : X → X) (xs : List X) (i a b : ℕ) → b ≡ a
-    → take i xs ++ map_range f (drop i xs) a b ≡ xs
-range_nothing f xs i a b h = ap (λ k. take i xs ++ map_range f (drop i xs) a k) h
-    ∙ ap (λ ys. take i xs ++ ys) (map_range_none f (drop i xs) a) ∙ take-append-drop i xs
 
 -- ---- a list that is cut where the first of two ends
 
@@ -120,12 +108,6 @@ merge_or_mark_past any_order xs ys p q floor is h up =
           ∙ ap (λ zs. xs ++ zs) (sym (merge_or_mark_marks true ys (p - n) (q - n) 0 refl (omega arith)))
     ]
 
--- a part of the second list, seen from the longer one
-pub part-at : {X : Type 0} (l : List X) (i c d : ℕ) → part l (i + c) (i + d) ≡ part (drop i l) c d
-part-at l i c d =
-    let ed : i + d - (i + c) ≡ d - c = omega arith in
-    ap (λ k. take k (drop (i + c) l)) ed ∙ ap (take (d - c)) (sym (drop-drop c i l))
-
 pub on_part-at : {X : Type 0} (g : List X → List X) (l : List X) (i c d : ℕ) → c ≤ d
     → on_part g l (i + c) (i + d) ≡ take i l ++ on_part g (drop i l) c d
 on_part-at g l i c d up =
@@ -137,4 +119,13 @@ on_part-at g l i c d up =
     ∙ ap (λ zs. zs ++ drop d (drop i l)) (append_assoc (take i l) (take c (drop i l)) (g (part (drop i l) c d)))
     ∙ append_assoc (take i l) (take c (drop i l) ++ g (part (drop i l) c d)) (drop d (drop i l))
 
-pub ruleset sides = (range_cut, range_at, range_nothing, range_in_out, range_in_input, map_range_past)
+pub ruleset sides = (range_cut, range_in_out, range_in_input, map_range_none, map_range_past)
+
+pub ruleset marks = (
+  merge_or_mark_merges,
+  merge_or_mark_short,
+  merge_or_mark_marks,
+  merge_or_mark_past,
+  take-append_seam,
+  drop-append_seam,
+)

@@ -1,13 +1,14 @@
-//! Glyphs that are put into a cluster, and the least cluster of a range.
+//! Glyphs that are put into a cluster.
 
-ghost use Rattle.std.specs.Prelude.{◌≡◌, ℕ, ◌+◌, ◌-◌, ◌<◌, ◌≤◌, ◌++◌, List, length, take, drop, map, slice_index};
+ghost use Rattle.std.specs.Prelude.{◌≡◌, ◌+◌, ◌≤◌, ◌++◌, length, take, drop, map};
 ghost use Rattle.glyph_lists.specs.Parts.{map_range};
-ghost use Rattle.glyph_lists.specs.Clusters.{clusters, range_least, with_cluster};
+ghost use Rattle.glyph_lists.specs.Clusters.{with_cluster};
 
 use rb_glyph::{glyph_flag, hb_glyph_info_t};
 
 /// Puts the glyph into a cluster. Where that changes its cluster, its glyph flags become those of `mask`.
 #[inline]
+#[tactic(auto, unfolding(crate::specs::Clusters::with_cluster))]
 pub fn set_cluster(info: &mut hb_glyph_info_t, cluster: u32, mask: u32)
     ensures { info.new ≡ with_cluster cluster mask info.old }
 {
@@ -30,7 +31,13 @@ fn set_clusters(info: &mut [hb_glyph_info_t], cluster: u32, mask: u32)
 
 /// Puts the glyphs of a range into a cluster, with the glyph flags of `mask` where that changes theirs.
 #[inline]
-pub fn set_range(info: &mut [hb_glyph_info_t], start: usize, end: usize, cluster: u32, mask: u32)
+pub(crate) fn set_range(
+    info: &mut [hb_glyph_info_t],
+    start: usize,
+    end: usize,
+    cluster: u32,
+    mask: u32,
+)
     requires order { start ≤ end }
     requires within { end ≤ length info.old }
     ensures { info.new ≡ map_range (with_cluster cluster mask) info.old start end }

@@ -1,7 +1,7 @@
 //! A glyph that leaves the input, and its cluster, which is kept where it is lower than its neighbour's.
 
-ghost use Rattle.std.specs.Prelude.{not, ◌≡◌, ℕ, ◌+◌, ◌-◌, ◌<◌, ◌≤◌, ◌==◌, ◌&&◌, ◌||◌, ◌++◌, List, length, take, drop};
-ghost use Rattle.std.specs.Prelude.{nat_lt, slice_index_or};
+ghost use Rattle.std.specs.Prelude.{◌≡◌, ◌<◌, ◌≤◌, ◌==◌, ◌&&◌, length, drop};
+ghost use Rattle.std.specs.Prelude.{slice_index_or};
 ghost use Rattle.glyph_lists.specs.Clusters.{clusters, run_start, zero_glyph};
 ghost use Rattle.glyph_lists.specs.Deletion.{begins_with, is_not_empty, last_cluster, has_neighbour_in, lowers_run};
 ghost use Rattle.glyph_lists.specs.Deletion.{merges_next, with_trailing_run, deletion};
@@ -79,6 +79,7 @@ fn trailing_run_start(info: &[hb_glyph_info_t], cluster: u32) -> usize
 
 /// Puts the trailing run into a cluster, with the glyph flags of `mask` where that changes theirs.
 #[inline]
+#[tactic(auto, using(crate::proofs::DeletionCases::trailing))]
 pub fn set_trailing_run(out: &mut [hb_glyph_info_t], cluster: u32, mask: u32)
     requires { 0 < length out.old }
     ensures { out.new ≡ with_trailing_run cluster mask out.old }
@@ -91,6 +92,7 @@ pub fn set_trailing_run(out: &mut [hb_glyph_info_t], cluster: u32, mask: u32)
 
 /// Keeps the cluster of the first glyph of the input, which then leaves it: what stands there afterwards is left open.
 #[inline]
+#[tactic(auto, using(crate::proofs::DeletionCases::cases))]
 pub fn delete_head(out: &mut [hb_glyph_info_t], input: &mut [hb_glyph_info_t], any_order: bool)
     requires { 0 < length input.old }
     ensures out { out.new ≡ (deletion any_order

@@ -1,6 +1,6 @@
 //! Deletion of glyphs in the list itself: a walk that deletes some, and moves each of the others down at most once.
 
-ghost use Rattle.std.specs.Prelude.{◌≡◌, ℕ, ◌+◌, ◌++◌, ◌≤◌, ◌<◌, ◌&&◌, Bool, [], length, take, drop};
+ghost use Rattle.std.specs.Prelude.{◌≡◌, ◌+◌, ◌++◌, ◌≤◌, ◌<◌, ◌&&◌, Bool, length, take, drop};
 ghost use Rattle.rb_glyph.specs.declared.info.hb_glyph_info_t.{hb_glyph_info_t};
 ghost use Rattle.glyph_lists.specs.DeletingWalk.{sides_at, deletion_merges, after_deletion, left_by_walk, kept_beside};
 ghost use Rattle.glyph_lists.specs.DeletingWalk.{walk_merges};
@@ -50,6 +50,7 @@ pub fn delete_in_place<F: Fn(&hb_glyph_info_t) -> bool>(
 /// Deletes the glyph at `at` of a walk that kept the first `kept` glyphs. Returns whether it was merged with the next
 /// one, where merges mark.
 #[inline]
+#[tactic(auto, using(crate::proofs::DeletingWalkLemmas::deleted_in_place))]
 fn delete_at(info: &mut [hb_glyph_info_t], kept: usize, at: usize, any_order: bool) -> bool
     requires order { kept ≤ at }
     requires within { at < length info.old }

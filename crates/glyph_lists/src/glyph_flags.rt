@@ -4,10 +4,10 @@
 //! clusters it reads every cluster. Else it goes by the clusters at the ends, and stops at the first glyph of the
 //! least of these.
 
-ghost use Rattle.std.specs.Prelude.{◌≡◌, ℕ, ◌+◌, ◌-◌, ◌<◌, ◌≤◌, ◌==◌, ◌++◌, not, List, length, take, drop, map};
+ghost use Rattle.std.specs.Prelude.{◌≡◌, ◌+◌, ◌-◌, ◌<◌, ◌≤◌, ◌==◌, ◌++◌, not, length, take, drop, map};
 ghost use Rattle.std.specs.Prelude.{if◌then◌else◌};
 ghost use Rattle.std.specs.List.{prefix_len, suffix_len};
-ghost use Rattle.glyph_lists.specs.Parts.{part, on_part, map_range};
+ghost use Rattle.glyph_lists.specs.Parts.{on_part, map_range};
 ghost use Rattle.glyph_lists.specs.Clusters.{clusters, least};
 ghost use Rattle.glyph_lists.specs.Marks.{with_glyph_flags, mark, mark_others, mark_part, ends, ends_least};
 ghost use Rattle.glyph_lists.specs.Scans.{scan_of, part_scan, scan_least, two_part_scan};
@@ -202,7 +202,7 @@ fn least_of_both(out: &[hb_glyph_info_t], input: &[hb_glyph_info_t]) -> u32
     least_of(out).min(least_of(input))
 }
 
-/// Scans one list in any order of clusters, out of the way of the scans that go by the ends.
+/// Scans one list in any order of clusters. It stands out of line, as most scans go by the ends.
 #[inline(never)]
 #[tactic(auto, unfolding(crate::specs::Marks::mark))]
 fn mark_outside_least(info: &mut [hb_glyph_info_t], bits: u32)
@@ -285,6 +285,7 @@ fn least_for_scan(out: &[hb_glyph_info_t], input: &[hb_glyph_info_t], any_order:
 
 /// Scans the glyphs from `start` to `end` of the two sides as one list, `out` first, where `end` is not within `out`.
 /// What lies on either side is a part of its own.
+#[tactic(auto, using(crate::proofs::ScansLemmas::slices_scanned))]
 pub fn scan_two_parts(
     out: &mut [hb_glyph_info_t],
     input: &mut [hb_glyph_info_t],

@@ -1,6 +1,6 @@
 //! Groups of neighbours in a list.
 
-ghost use Rattle.std.specs.Prelude.{◌≡◌, ℕ, ◌+◌, ◌≤◌, ◌<◌, length};
+ghost use Rattle.std.specs.Prelude.{◌≡◌, ◌+◌, ◌≤◌, ◌<◌, length};
 ghost use Rattle.glyph_lists.specs.Groups as of;
 
 use rb_glyph::hb_glyph_info_t;
@@ -15,6 +15,7 @@ pub fn reverse_range<T>(items: &mut [T], start: usize, end: usize)
 }
 
 /// The end of the group that begins at `start`, where `group` says of two neighbours whether they are in one group.
+#[tactic(auto, using(crate::proofs::GroupsLemmas::group_of_last))]
 pub fn group_end<F: Fn(&hb_glyph_info_t, &hb_glyph_info_t) -> bool>(
     info: &[hb_glyph_info_t],
     start: usize,

@@ -1,6 +1,6 @@
 //! Masks of features, set over ranges of clusters.
 
-ghost use Rattle.std.specs.Prelude.{◌≡◌, ℕ, ◌-◌, ◌<◌, ◌≤◌, ◌==◌, ◌&&◌, ◌||◌, List, map, if◌then◌else◌};
+ghost use Rattle.std.specs.Prelude.{◌≡◌, if◌then◌else◌};
 ghost use Rattle.glyph_lists.specs.Masks.{with_mask, reset_masks, in_clusters, with_bits, set_masks};
 
 use rb_glyph::hb_glyph_info_t;

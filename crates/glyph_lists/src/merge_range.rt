@@ -1,6 +1,6 @@
 //! The range of glyphs that a merge changes, found by reading little more than that range.
 
-ghost use Rattle.std.specs.Prelude.{◌≡◌, ℕ, ◌+◌, ◌-◌, ◌*◌, ◌^◌, ◌<◌, ◌≤◌, List, length, slice_index};
+ghost use Rattle.std.specs.Prelude.{◌≡◌, ◌+◌, ◌-◌, ◌*◌, ◌^◌, ◌<◌, ◌≤◌, length, slice_index};
 ghost use Rattle.glyph_lists.specs.ClusterReads.{both_clusters, SameLists};
 ghost use Rattle.glyph_lists.specs.Clusters.{range_least, run_start, run_end, widened_start, widened_end};
 

@@ -1,6 +1,6 @@
 //! Merges: glyphs of several clusters become one cluster, or in any order of clusters are marked instead.
 
-ghost use Rattle.std.specs.Prelude.{◌≡◌, ℕ, ◌+◌, ◌-◌, ◌<◌, ◌≤◌, ◌++◌, true, false, List, length, take, drop};
+ghost use Rattle.std.specs.Prelude.{◌≡◌, ◌+◌, ◌<◌, ◌≤◌, ◌++◌, true, false, length, take, drop};
 ghost use Rattle.glyph_lists.specs.Clusters.{clusters, run_merge, with_cluster, NoRunCrosses};
 ghost use Rattle.glyph_lists.specs.Deletion.{merge_or_mark};
 ghost use Rattle.glyph_lists.specs.Parts.{map_range};
@@ -11,8 +11,9 @@ use crate::glyph_flags::{BREAK_BITS, scan_slice};
 use crate::merge_range::{merge_range, run_end_after, run_start_before};
 use rb_glyph::hb_glyph_info_t;
 
-/// Merges the glyphs from `start` to `end` of one list, out of the way of two glyphs.
+/// Merges the glyphs from `start` to `end` of one list. It stands out of line, as most merges are of two glyphs.
 #[inline(never)]
+#[tactic(auto, using(crate::proofs::MergesLemmas::run_merge_from))]
 fn merge_many(info: &mut [hb_glyph_info_t], start: usize, end: usize, floor: usize)
     requires some { start + 2 ≤ end }
     requires within { end ≤ length info.old }
@@ -39,6 +40,7 @@ fn set_run(info: &mut [hb_glyph_info_t], start: usize, end: usize, cluster: u32)
 
 /// Merges the two glyphs from `start` on. The one that is in their least cluster stays, and so do those next to it.
 #[inline(always)]
+#[tactic(auto, using(crate::proofs::MergesLemmas::merges_of_two))]
 fn merge_two(info: &mut [hb_glyph_info_t], start: usize, floor: usize)
     requires within { start + 2 ≤ length info.old }
     ensures { info.new ≡ run_merge info.old start (start + 2) floor }
@@ -59,6 +61,7 @@ fn merge_two(info: &mut [hb_glyph_info_t], start: usize, floor: usize)
 /// Merges the glyphs from `start` to `end` of one list, mostly two. The range is widened through the runs at its ends,
 /// its start not below `floor`.
 #[inline(always)]
+#[tactic(auto, using(crate::proofs::MergesLemmas::run_merge_short))]
 pub fn merge_slice(info: &mut [hb_glyph_info_t], start: usize, end: usize, floor: usize)
     requires order { start ≤ end }
     requires within { end ≤ length info.old }
@@ -74,7 +77,7 @@ pub fn merge_slice(info: &mut [hb_glyph_info_t], start: usize, end: usize, floor
     }
 }
 
-/// Merges the same, out of line.
+/// Merges the glyphs from `start` to `end` of one list, out of line.
 #[inline(never)]
 fn merge_list(info: &mut [hb_glyph_info_t], start: usize, end: usize, floor: usize)
     requires order { start ≤ end }
@@ -85,6 +88,7 @@ fn merge_list(info: &mut [hb_glyph_info_t], start: usize, end: usize, floor: usi
 }
 
 /// Merges the glyphs from `start` to `end` of the two sides as one list, `out` first.
+#[tactic(auto, using(crate::proofs::MergesLemmas::run_merge_from))]
 fn merge_sides(
     out: &mut [hb_glyph_info_t],
     input: &mut [hb_glyph_info_t],
@@ -112,8 +116,9 @@ fn run_crosses(out: &[hb_glyph_info_t], input: &[hb_glyph_info_t]) -> bool
     !out.is_empty() && !input.is_empty() && out[out.len() - 1].cluster == input[0].cluster
 }
 
-/// Merges the same, where the range lies in `out` or a run goes on from `out` into `input`.
+/// Merges as `run_merge` does, where the range begins in `out` or a run goes on from `out` into `input`.
 #[inline(never)]
+#[tactic(auto, using(crate::proofs::SeamLemmas::seams))]
 fn merge_across(
     out: &mut [hb_glyph_info_t],
     input: &mut [hb_glyph_info_t],
@@ -139,6 +144,7 @@ fn merge_across(
 /// runs at its ends, its start not below `floor`. A range on one side stays there, unless a run goes on from `out` into
 /// `input`.
 #[inline(always)]
+#[tactic(auto, using(crate::proofs::SeamLemmas::seams))]
 pub fn run_merge(
     out: &mut [hb_glyph_info_t],
     input: &mut [hb_glyph_info_t],
@@ -167,6 +173,7 @@ pub fn run_merge(
 /// Marks the glyphs from `start` to `end` of one list where they would be merged: in any order of clusters those outside
 /// the least cluster of the range get both break flags.
 #[inline(never)]
+#[tactic(auto, using(crate::proofs::SidesLemmas::marks), unfolding(crate::specs::Scans::scan_of))]
 fn mark_instead(info: &mut [hb_glyph_info_t], start: usize, end: usize)
     requires order { start ≤ end }
     requires within { end ≤ length info.old }
@@ -182,6 +189,7 @@ fn mark_instead(info: &mut [hb_glyph_info_t], start: usize, end: usize)
 /// any order of clusters those outside the least cluster of the range get both break flags instead, and keep their
 /// clusters.
 #[inline(always)]
+#[tactic(auto, using(crate::proofs::SidesLemmas::marks))]
 pub fn merge_or_mark(
     out: &mut [hb_glyph_info_t],
     input: &mut [hb_glyph_info_t],

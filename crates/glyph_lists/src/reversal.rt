@@ -39,6 +39,7 @@ impl Words for GlyphPosition {
 }
 
 /// Puts the items into reverse order.
+#[tactic(auto, using(crate::proofs::ReversalLemmas::turns))]
 pub fn reverse<T: Words>(items: &mut [T])
     ensures { items.new ≡ reverse items.old }
 {

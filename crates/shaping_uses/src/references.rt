@@ -27,7 +27,7 @@ pub fn mask_two_out(buffer: &mut hb_buffer_t, i: usize, j: usize)
 }
 
 /// Writes a mask in the list.
-pub fn mask_list(buffer: &mut hb_buffer_t, i: usize)
+pub fn write_mask_in_list(buffer: &mut hb_buffer_t, i: usize)
     requires closed { buffer.old.have_output ≡ false }
     requires within { i < length buffer.old.input }
     ensures { buffer.new ≡ mask_in_input i buffer.old }

@@ -1,4 +1,4 @@
-use Rattle.std.proofs.Common.{◌≡◌, ◌+◌, ◌*◌, ◌/◌, ◌%◌, ℕ, ◌<◌, ◌^◌, sym, ap, ◌∙◌, refl, arith, rules, tests, bit_and}
+use Rattle.std.proofs.Common.{◌≡◌, ◌+◌, ◌*◌, ◌/◌, ◌%◌, ℕ, ◌<◌, ◌^◌, sym, ap, ◌∙◌, refl, arith, bit_and}
 use Rattle.std.proofs.Common.{bit_or}
 use Rattle.std.proofs.lemmas.Grind.{and_high_numeral, and_numeral}
 use Rattle.std.proofs.lemmas.Nat.{or_shifted}
@@ -20,7 +20,3 @@ returns-then-info-cluster c =
     ap (λ m. record c.args.info.now { mask = m; cluster = c.args.cluster })
     (flags_set c.args.info.now.mask c.args.mask (omega arith))
     ∙ sym (cond-false _ _ _ (ne_eqb _ _ c.if-info-cluster.true))
-
-pub returns-else-info-cluster : goal.returns-else-info-cluster
-unfolding with_cluster
-returns-else-info-cluster c = search (rules, tests)

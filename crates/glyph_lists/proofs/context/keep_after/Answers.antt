@@ -9,6 +9,3 @@ loop-c-preserved c =
 
 pub returns : goal.returns
 returns c = read_all c.loop-c.invariant.2 (λ more. none_on _ (c.in-None.ensures.steps more).0.0)
-
-pub loop-c-init : goal.loop-c-init
-loop-c-init c = search rules

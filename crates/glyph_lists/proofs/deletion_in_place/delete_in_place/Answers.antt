@@ -1,7 +1,7 @@
 use Rattle.std.proofs.Common.{◌≡◌, ◌+◌, ◌-◌, ◌<◌, ◌∙◌, ◌||◌, true, false, suc, refl, sym, ap, length, get_or, arith}
 use Rattle.glyph_lists.specs.Clusters.{zero_glyph}
 use Rattle.glyph_lists.proofs.DeletingWalkLemmas.{leads_first, leads_same, leads_deletion, leads_next, walk_ends}
-use Rattle.glyph_lists.proofs.DeletingWalkLemmas.{merges_told, positions_kept}
+use Rattle.glyph_lists.proofs.DeletingWalkLemmas.{merges_at_end, positions_kept}
 use Rattle.glyph_lists.proofs.deletion_in_place.delete_in_place.Goals as goal
 use Rattle.glyph_lists.proofs.deletion_in_place.delete_in_place.Goals.{then-deletes, else-deletes}
 
@@ -85,5 +85,5 @@ pub returns-clause-merges : goal.returns-clause-merges
 returns-clause-merges g c = λ test by.
     let inv = c.loop-at.invariant in
     let l = c.loop-at in
-    merges_told c.args.any_order test c.args.info.now c.args.pos.now inv.0 l.kept l.at l.info l.pos l.merges
+    merges_at_end c.args.any_order test c.args.info.now c.args.pos.now inv.0 l.kept l.at l.info l.pos l.merges
     (omega (arith, inv.1)) (inv.3 test by)

@@ -1,5 +1,0 @@
-use Rattle.std.proofs.Common.{rules}
-use Rattle.glyph_lists.proofs.reversal.GlyphPositionWords.by_words.Goals as goal
-
-pub returns : goal.returns
-returns c = search rules
