@@ -10,7 +10,6 @@ from pathlib import Path
 
 HERE = Path(__file__).resolve().parent
 ROOT = HERE.parent.parent
-BELOW = ["rb_common", "rb_text", "rb_glyph", "glyph_lists", "glyph_text", "shaping_buffer"]
 UNASSIGNED = 2
 
 # What may differ, by the property and the number that is asked for. docs/DIFFERENCES.md has a line for each.
@@ -23,16 +22,26 @@ KNOWN = {
 }
 
 
+def rows_up_to(name):
+    """The rows of crates.txt for a crate and those of this repository that it stands on."""
+    rows = [row for row in (ROOT / "crates.txt").read_text().splitlines() if not row.startswith("#")]
+    below = {row.split(":")[0]: row.split(":")[1].split() for row in rows}
+    wanted = [name]
+    for crate in wanted:
+        wanted += [it for it in below[crate] if it in below and it not in wanted]
+    return {row.split(":")[0]: row for row in rows if row.split(":")[0] in wanted}
+
+
 def make_repository(root):
     """A repository of the crates that `properties.rattle` needs, and of that program."""
-    for name in BELOW:
+    rows = rows_up_to("shaping_buffer")
+    for name in rows:
         shutil.copytree(ROOT / "crates" / name, root / "crates" / name, ignore=shutil.ignore_patterns("out", "must-fail"))
     shutil.copy(ROOT / "HANDLES", root)
     source = root / "crates/properties/src"
     source.mkdir(parents=True)
     shutil.copy(HERE / "properties.rattle", source / "main.rt")
-    rows = [row for row in (ROOT / "crates.txt").read_text().splitlines() if row.split(":")[0] in BELOW]
-    (root / "crates.txt").write_text("\n".join([*rows, "properties: shaping_buffer rb_glyph rb_common", ""]))
+    (root / "crates.txt").write_text("\n".join([*rows.values(), "properties: shaping_buffer rb_glyph rb_common", ""]))
 
 
 def our_lines():
