@@ -11,8 +11,8 @@ use Rattle.shaping_runs.specs.declared.call.Call.TheVariants.{MergeClusters, Mer
 use Rattle.shaping_runs.specs.declared.call.Call.TheVariants.{MergeGraphemeClusters}
 use Rattle.shaping_runs.specs.declared.call.Call.TheVariants.{UnsafeToBreakFromOutbuffer, SafeToInsertTatweel}
 use Rattle.shaping_runs.specs.declared.call.Call.TheVariants.{UnsafeToConcat, UnsafeToConcatFromOutbuffer}
-use Rattle.shaping_session.specs.Words.{Left, next_character, next_language, next_place, next_script, next_u32, past_space}
-use Rattle.shaping_session.specs.Words.{past_first_word, first_word}
+use Rattle.shaping_session.specs.Words.{Left, first_word, past_first_word, past_space}
+use Rattle.shaping_session.specs.Words.{next_character, next_language, next_place, next_script, next_u32}
 use Rattle.shaping_session.specs.declared.command.TheConstants.{ALL_BUFFER_FLAGS, ALL_SERIALIZE_FLAGS}
 use Rattle.shaping_session.specs.declared.command.Command.{Command}
 use Rattle.shaping_session.specs.declared.command.Command.TheVariants.{Push, Add, Level, Flags, Limit, Make}

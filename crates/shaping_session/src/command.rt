@@ -3,9 +3,9 @@
 ghost use Rattle.std.specs.Prelude.{◌≡◌, ◌<◌, ◌≤◌, Some, None, MatchOption, IfOk};
 ghost use Rattle.shaping_buffer.specs.ClusterLevel as cluster_level;
 ghost use Rattle.shaping_session.specs.Commands.{request_in_bytes, request_in, request_named, replacement_in, ids_in};
-ghost use Rattle.shaping_session.specs.Commands.{command_in, treatment_in, question_in, query_in, call_in, edit_call_in};
-ghost use Rattle.shaping_session.specs.Commands.{merge_call_in};
-ghost use Rattle.shaping_session.specs.Commands.{flag_call_in, call_request, request_of, at_most};
+ghost use Rattle.shaping_session.specs.Commands.{command_in, treatment_in, question_in, query_in};
+ghost use Rattle.shaping_session.specs.Commands.{call_in, edit_call_in, merge_call_in, flag_call_in};
+ghost use Rattle.shaping_session.specs.Commands.{call_request, request_of, at_most};
 
 use crate::words::Words;
 use rb_text::Script;

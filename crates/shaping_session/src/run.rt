@@ -76,8 +76,8 @@ pub fn run_on<R: Read, W: Write>(
     finish(writer, &mut held, outcome)
 }
 
-/// Writes what is held, also if memory ran out, before it answers. A writer that failed gets no more. It is public for
-/// its test alone, which counts the flushes after each outcome.
+/// Writes what is held, also if memory ran out, before it answers. A writer that failed gets no more.
+/// It is public for its test alone, which counts the flushes after each outcome.
 pub fn finish<W: Write>(
     writer: &mut W,
     held: &mut Vec<u8>,

@@ -3,9 +3,9 @@
 ghost use Rattle.std.specs.Prelude.{◌≡◌, ◌^◌, ◌<◌, ◌↔◌, Some, None, IsTrue, SomeIff, option_copied, option_map};
 ghost use Rattle.std.specs.Char.{is_ascii_digit, is_ascii_hexdigit};
 ghost use Rattle.std.specs.List.{before_first, list_all};
-ghost use Rattle.shaping_session.specs.Words.{is_space, first_word, past_space, past_first_word, IsDecimal, decimal_value};
-ghost use Rattle.shaping_session.specs.Words.{next_u32, next_place, IsHexadecimal, hexadecimal_value, next_character};
-ghost use Rattle.shaping_session.specs.Words.{next_script, next_language};
+ghost use Rattle.shaping_session.specs.Words.{is_space, first_word, past_space, past_first_word};
+ghost use Rattle.shaping_session.specs.Words.{IsDecimal, decimal_value, IsHexadecimal, hexadecimal_value};
+ghost use Rattle.shaping_session.specs.Words.{next_u32, next_place, next_character, next_script, next_language};
 
 use rb_common::Script;
 use std::marker::Model;
