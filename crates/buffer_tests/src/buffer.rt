@@ -1,5 +1,5 @@
-use crate::lists::{assert_glyphs, buffer_of, glyph};
-use shaping_buffer::{UnicodeBuffer, hb_buffer_t};
+use crate::lists::{assert_glyphs, buffer_of};
+use shaping_buffer::{UnicodeBuffer, hb_buffer_t, hb_glyph_info_t};
 use std::test::Fail;
 
 #[test]
@@ -29,7 +29,13 @@ fn merges_and_flags_with_no_output(rt: HostRuntime) -> Result<(), Fail> {
     buffer.unsafe_to_break(None, Some(9));
     assert_glyphs(&rt, buffer.info(), &[(0, 0), (1, 3), (1, 3), (3, 3)]);
     assert!(rt; buffer.scratch_flags == 0x20);
-    let mut info = glyph(3, 31);
+    let mut info = hb_glyph_info_t {
+        glyph_id: 97,
+        mask: 31,
+        cluster: 3,
+        var1: 0,
+        var2: 0,
+    };
     hb_buffer_t::set_cluster(&mut info, 1, 10);
     assert_glyphs(&rt, &[info], &[(1, 26)]);
     Ok(())

@@ -6,22 +6,6 @@ use shaping_buffer::{UnicodeBuffer, hb_buffer_t, hb_glyph_info_t};
 use std::alloc::Global;
 use std::process::Abort;
 
-/// A glyph in the cluster, with the mask.
-pub(crate) fn glyph(cluster: u32, mask: u32) -> hb_glyph_info_t {
-    hb_glyph_info_t {
-        glyph_id: 97,
-        mask,
-        cluster,
-        var1: 0,
-        var2: 0,
-    }
-}
-
-/// Glyphs in the clusters, with masks of 0.
-pub(crate) fn glyphs<const N: usize>(clusters: [u32; N]) -> [hb_glyph_info_t; N] {
-    clusters.map(|cluster| glyph(cluster, 0))
-}
-
 /// Asserts the clusters and the masks of the glyphs.
 pub(crate) fn assert_glyphs(rt: &impl Abort, glyphs: &[hb_glyph_info_t], want: &[(u32, u32)]) {
     assert!(rt; glyphs.len() == want.len());

@@ -1,7 +1,7 @@
 //! The program of commands, over lines and a page in memory.
 
 use crate::scenario::{Lost, Scenario};
-use shaping_lines::run::{RunFault, run_on};
+use shaping_session::run::{RunFault, run_on};
 use std::alloc::Global;
 use std::io::{self, ErrorKind, Write};
 

@@ -21,6 +21,8 @@ mod deletion;
 #[cfg(test)]
 mod flag_sets;
 #[cfg(test)]
+mod font;
+#[cfg(test)]
 mod glyph_flags;
 #[cfg(test)]
 mod guess;

@@ -1,38 +1,10 @@
 ghost use Rattle.std.specs.Prelude.{IsTrue};
 ghost use Rattle.glyph_text.specs.Text.{AreGlyphs};
 
+use crate::font::Five;
 use glyph_text::serialize::*;
-use rb_glyph::{Flags, GlyphExtents, GlyphNames, GlyphPosition, SerializeFlags, hb_glyph_info_t};
-use rb_text::GlyphId;
+use rb_glyph::{Flags, GlyphPosition, SerializeFlags, hb_glyph_info_t};
 use std::test::Fail;
-
-/// A font that knows glyph 5 by name and extents, and nothing else.
-struct Five;
-
-impl GlyphNames for Five {
-    ghost use Rattle.std.specs.Prelude.{None, Some, codes, pos, negsuc, ◌==◌, if◌then◌else◌};
-
-    ghost name_of = { λ _ id. if id == 5 then Some (codes "five") else None };
-
-    ghost extents_of = { λ _ id. if id == 5
-        then Some (record { x_bearing = pos 1; y_bearing = negsuc 1; width = pos 3; height = negsuc 3 }) else None };
-
-    fn glyph_name(&self, glyph: GlyphId) -> Option<&str> {
-        if glyph.0 == 5 { Some("five") } else { None }
-    }
-
-    fn glyph_extents(&self, glyph: GlyphId) -> Option<GlyphExtents> {
-        if glyph.0 != 5 {
-            return None;
-        }
-        Some(GlyphExtents {
-            x_bearing: 1,
-            y_bearing: -2,
-            width: 3,
-            height: -4,
-        })
-    }
-}
 
 /// The texts of the glyphs 5 and 6 below, a line for each set of flags.
 const TEXTS: &str = "\

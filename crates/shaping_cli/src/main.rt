@@ -1,7 +1,7 @@
 //! A program that edits a shaping buffer: one command a line, one answer a line.
 #![tactic(auto)]
 
-use shaping_lines::ending::run_to_end;
+use shaping_session::ending::run_to_end;
 use std::process::ExitCode;
 
 fn main(rt: HostRuntime) -> ExitCode {

@@ -1,10 +1,10 @@
--- What the headline says of a call: the length that it holds, the range that it merges or marks, and when it reaches
--- both sides.
+-- What the headline says of a call: the length that it holds, the range that it merges or marks, when it reaches both
+-- sides, and which glyphs a merge joins.
 use Rattle.std.specs.Prelude.{◌≡◌, ℕ, ◌+◌, ◌-◌, ◌⊎◌, ◌&&◌, Bool, true, false, not, List, length, min, nat_le}
-use Rattle.std.specs.Prelude.{if◌then◌else◌}
+use Rattle.std.specs.Prelude.{if◌then◌else◌, slice_index}
 use Rattle.rb_glyph.specs.declared.info.hb_glyph_info_t.{hb_glyph_info_t}
 use Rattle.glyph_lists.specs.Parts.{part}
-use Rattle.glyph_lists.specs.Clusters.{IsMonotone}
+use Rattle.glyph_lists.specs.Clusters.{IsMonotone, clusters, occurs}
 use Rattle.shaping_buffer.specs.State.{State}
 use Rattle.shaping_buffer.specs.ClusterLevel.{groups_graphemes}
 use Rattle.shaping_buffer.specs.ClusterStep.{both, both_place, any_order, range_start, range_end}
@@ -90,3 +90,17 @@ to_place call s = 0
 -- the glyphs of the range
 abbrev pub range_of : Call → State → List hb_glyph_info_t
 range_of call s = part (both s) (from_place call s) (to_place call s)
+
+-- ---- which glyphs share a cluster
+
+-- the glyphs at two places of a list share a cluster
+abbrev pub ShareCluster : List hb_glyph_info_t → ℕ → ℕ → Type 0
+ShareCluster l i j = slice_index (clusters l) i ≡ slice_index (clusters l) j
+
+-- the cluster of the glyph at a place of both sides occurs in the range of the call
+abbrev pub HasClusterInRange : Call → State → ℕ → Type 0
+HasClusterInRange call s i = occurs (slice_index (clusters (both s)) i) (clusters (range_of call s)) ≡ true
+
+-- a merge leaves the glyphs at two places in one cluster: they shared one, or both their clusters occur in its range
+abbrev pub AreJoined : Call → State → ℕ → ℕ → Type 0
+AreJoined call s i j = ShareCluster (both s) i j ⊎ (HasClusterInRange call s i × HasClusterInRange call s j)

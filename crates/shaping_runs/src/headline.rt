@@ -6,7 +6,7 @@
 //! is a fact of `turn` and `after`, and holds for every call, every list of calls and every state. `both` is what was
 //! put out, and then what is left to read.
 
-ghost use Rattle.std.specs.Prelude.{◌≡◌, ◌⊎◌, ◌↔◌, ◌<◌, ℕ, true, false, List, length, slice_index, slice_index_or};
+ghost use Rattle.std.specs.Prelude.{◌≡◌, ◌↔◌, ◌<◌, ℕ, true, false, List, length, slice_index, slice_index_or};
 ghost use Rattle.glyph_lists.specs.Parts.{on_part};
 ghost use Rattle.glyph_lists.specs.Clusters.{clusters, least, occurs, zero_glyph, cluster_merge, IsMonotone, IsCoarse};
 ghost use Rattle.glyph_lists.specs.Marks.{mark};
@@ -19,6 +19,7 @@ ghost use Rattle.shaping_runs.specs.Exceptions.{brings_glyph, NoMergeStopsAtCurs
 ghost use Rattle.shaping_runs.specs.Replay.{after, may_be_made, turn};
 ghost use Rattle.shaping_runs.specs.Headline.{held, moves_or_syncs, awaits_clear, HasMonotoneClusters};
 ghost use Rattle.shaping_runs.specs.Headline.{ReachesBothSides, is_merge, is_break, from_place, to_place, range_of};
+ghost use Rattle.shaping_runs.specs.Headline.{ShareCluster, AreJoined};
 
 /// A call within its condition is refused for length exactly when the side it would fill would exceed `max_len`, unless
 /// it waits for `clear`, and a refusal changes nothing except `successful`. Then `move_to` and `sync` with an output
@@ -45,11 +46,8 @@ pub fn merges_are_least_coarsenings()
         → both (turn call s).state ≡ cluster_merge (both s) (range_of call s) }
     ensures shares { (call : Call) (s : State) → is_merge call s ≡ true → may_be_made call s ≡ true
         → HasMonotoneClusters s → ReachesBothSides s
-        → let old = clusters (both s) in let new = clusters (both (turn call s).state) in
-        (i j : ℕ) → i < length (both s) → j < length (both s)
-        → (slice_index new i ≡ slice_index new j) ↔ ((slice_index old i ≡ slice_index old j)
-        ⊎ ((occurs (slice_index old i) (clusters (range_of call s)) ≡ true)
-        × (occurs (slice_index old j) (clusters (range_of call s)) ≡ true))) }
+        → (i j : ℕ) → i < length (both s) → j < length (both s)
+        → ShareCluster (both (turn call s).state) i j ↔ AreJoined call s i j }
     ensures keeps { (call : Call) (s : State) → is_merge call s ≡ true → may_be_made call s ≡ true
         → HasMonotoneClusters s → ReachesBothSides s → (i : ℕ) → i < length (both s)
         → slice_index (clusters (both (turn call s).state)) i ≡ slice_index (clusters (both s)) i

@@ -1,0 +1,203 @@
+//! Readers and writers that are slow, fail or do not end.
+use shaping_session::run::{RunFault, finish, run, run_on};
+use std::alloc::Global;
+use std::io::{self, ErrorKind, Read, Write};
+use std::ops::Range;
+use std::test::Fail;
+
+const LINES: &[u8] = b"push ab\nclear_output\nnext_glyph\nsync\nserialize 4\n";
+
+const ANSWERS: &[u8] = b"true\ndone\ndone\ndone\n97=0+0|98=1+0\n";
+
+/// Gives one byte a read, but an error at a read that is picked out, and is interrupted at others. Behind its bytes
+/// it may give line feeds for ever.
+#[derive(Drop)]
+struct SlowReader<'a> {
+    bytes: &'a [u8],
+    is_endless: bool,
+    fails_at: usize,
+    interrupted: Range<usize>,
+    reads: usize,
+    largest: usize,
+}
+
+impl<'a> SlowReader<'a> {
+    fn new(bytes: &'a [u8]) -> Self {
+        SlowReader {
+            bytes,
+            is_endless: false,
+            fails_at: usize::MAX,
+            interrupted: 0..0,
+            reads: 0,
+            largest: 0,
+        }
+    }
+}
+
+impl Read for SlowReader<'_> {
+    fn read(&mut self, buf: &mut [u8]) -> io::Result<usize> {
+        let read = self.reads;
+        self.reads = read.wrapping_add(1);
+        self.largest = self.largest.max(buf.len());
+        if read == self.fails_at {
+            return Err(io::Error::from(ErrorKind::Other));
+        }
+        if self.interrupted.contains(&read) {
+            return Err(io::Error::from(ErrorKind::Interrupted));
+        }
+        match self.bytes.split_first() {
+            Some((first, others)) if !buf.is_empty() => {
+                buf[0] = *first;
+                self.bytes = others;
+                Ok(1)
+            }
+            None if self.is_endless && !buf.is_empty() => {
+                buf[0] = b'\n';
+                Ok(1)
+            }
+            _ => Ok(0),
+        }
+    }
+}
+
+/// Takes one byte a write, and fails at one of the writes.
+#[derive(Drop)]
+struct SlowWriter {
+    written: Vec<u8>,
+    writes: usize,
+    fails_at: usize,
+    flushes: usize,
+    flush_fails: bool,
+}
+
+impl SlowWriter {
+    fn new(alloc: Global, fails_at: usize) -> Self {
+        SlowWriter {
+            written: Vec::new(alloc),
+            writes: 0,
+            fails_at,
+            flushes: 0,
+            flush_fails: false,
+        }
+    }
+}
+
+impl Write for SlowWriter {
+    fn write(&mut self, buf: &[u8]) -> io::Result<usize> {
+        let write = self.writes;
+        self.writes = write.wrapping_add(1);
+        if write == self.fails_at || buf.is_empty() {
+            return Err(io::Error::from(ErrorKind::Other));
+        }
+        if self.written.push(buf[0]).is_err() {
+            return Err(io::Error::from(ErrorKind::OutOfMemory));
+        }
+        Ok(1)
+    }
+
+    fn flush(&mut self) -> io::Result<()> {
+        self.flushes = self.flushes.wrapping_add(1);
+        if self.flush_fails {
+            return Err(io::Error::from(ErrorKind::Other));
+        }
+        Ok(())
+    }
+}
+
+#[test]
+fn each_read_may_be_short_or_interrupted_or_fail(rt: HostRuntime) {
+    for read in 0..=LINES.len() {
+        let mut written = Vec::new(rt.alloc());
+        let mut reader = SlowReader::new(LINES);
+        reader.interrupted = read..read + 1;
+        let outcome = run(rt.alloc(), reader, &mut written);
+        assert!(rt; outcome == Ok(0), "at {read}");
+        assert!(rt; written.as_slice() == ANSWERS, "at {read}");
+        written.clear();
+        let mut reader = SlowReader::new(LINES);
+        reader.fails_at = read;
+        let outcome = run(rt.alloc(), reader, &mut written);
+        assert!(rt; outcome == Err(RunFault::Read), "at {read}");
+        assert!(rt; written.len() == 0, "at {read}");
+    }
+}
+
+#[test]
+fn no_more_than_65536_reads_are_made(rt: HostRuntime) -> Result<(), Fail> {
+    for interrupted_to in [0, usize::MAX] {
+        let mut written = Vec::new(rt.alloc());
+        let mut reader = SlowReader::new(b"");
+        reader.is_endless = true;
+        reader.interrupted = 0..interrupted_to;
+        let outcome = run(rt.alloc(), &mut reader, &mut written);
+        assert!(rt; outcome == Err(RunFault::Read));
+        assert!(rt; written.len() == 0);
+        assert!(rt; (reader.reads, reader.largest) == (65536, 65536));
+    }
+    let mut lines = vec![in rt.alloc(); b'a'; 65535]?;
+    lines.as_mut_slice()[..5].copy_from_slice(b"push ");
+    let mut written = Vec::new(rt.alloc());
+    let outcome = run(rt.alloc(), SlowReader::new(lines.as_slice()), &mut written);
+    assert!(rt; outcome == Ok(0));
+    assert!(rt; written.as_slice() == b"true\n".as_slice());
+    Ok(())
+}
+
+#[test]
+fn each_write_and_the_flush_may_fail(rt: HostRuntime) {
+    for fails_at in 0..ANSWERS.len() {
+        let mut writer = SlowWriter::new(rt.alloc(), fails_at);
+        let outcome = run(rt.alloc(), LINES, &mut writer);
+        assert!(rt; outcome == Err(RunFault::Write), "at {fails_at}");
+    }
+    let mut writer = SlowWriter::new(rt.alloc(), usize::MAX);
+    assert!(rt; run(rt.alloc(), LINES, &mut writer) == Ok(0));
+    assert!(rt; writer.written.as_slice() == ANSWERS);
+    writer.flush_fails = true;
+    let outcome = run(rt.alloc(), LINES, &mut writer);
+    assert!(rt; outcome == Err(RunFault::Write));
+}
+
+#[test]
+fn what_is_held_is_flushed_before_any_outcome_but_a_failed_write(
+    rt: HostRuntime,
+) -> Result<(), Fail> {
+    let rows = [
+        (Ok(0), 1),
+        (Ok(2), 1),
+        (Err(RunFault::Memory), 1),
+        (Err(RunFault::Write), 0),
+    ];
+    for (outcome, flushes) in rows {
+        let mut writer = SlowWriter::new(rt.alloc(), usize::MAX);
+        let mut held = Vec::new(rt.alloc());
+        held.extend_from_slice(b"true\n")?;
+        assert!(rt; finish(&mut writer, &mut held, outcome) == outcome);
+        assert!(rt; writer.flushes == flushes, "at {outcome:?}");
+        assert!(rt; writer.written.len() == 5 * flushes, "at {outcome:?}");
+    }
+    Ok(())
+}
+
+#[test]
+fn many_answers_and_a_long_one_are_written_in_order(rt: HostRuntime) -> Result<(), Fail> {
+    let mut lines = Vec::new(rt.alloc());
+    let mut answers = Vec::new(rt.alloc());
+    for _ in 0..9000 {
+        lines.extend_from_slice(b"push abcdefgh\n")?;
+        answers.extend_from_slice(b"true\n")?;
+    }
+    lines.extend_from_slice(b"serialize 6\nserialize 4\n")?;
+    for i in 0..9000 {
+        if i > 0 {
+            answers.push(b'|')?;
+        }
+        answers.extend_from_slice(b"97=0|98=1|99=2|100=3|101=4|102=5|103=6|104=7")?;
+    }
+    answers.extend_from_slice(b"\n\n")?;
+    let mut written = Vec::new(rt.alloc());
+    let outcome = run(rt.alloc(), lines.as_slice(), &mut written);
+    assert!(rt; outcome == Ok(0));
+    assert!(rt; written.as_slice() == answers.as_slice());
+    Ok(())
+}

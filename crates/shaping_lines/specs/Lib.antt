@@ -1,6 +1,0 @@
-pub mod Commands
-pub mod Queries
-pub mod Replies
-pub mod Session
-pub mod StateText
-pub mod Transcript

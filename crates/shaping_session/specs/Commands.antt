@@ -1,0 +1,248 @@
+-- Which line is which command: its name, and then what belongs to it, word by word, up to the end of the line.
+use Rattle.std.specs.Prelude.{ℕ, zero, suc, List, [], ◌∷◌, Option, Some, None, codes, nat_le, if◌then◌else◌}
+use Rattle.std.specs.Option.{option_copied}
+use Rattle.std.specs.Str.{bytes_eq, is_utf8}
+use Rattle.shaping_buffer.specs.ClusterLevel.{level_of}
+use Rattle.shaping_runs.specs.declared.call.Call.{Call}
+use Rattle.shaping_runs.specs.declared.call.Call.TheVariants.{ClearOutput, NextGlyph, NextGlyphs, SkipGlyph, MoveTo}
+use Rattle.shaping_runs.specs.declared.call.Call.TheVariants.{Sync}
+use Rattle.shaping_runs.specs.declared.call.Call.TheVariants.{ReplaceGlyph, OutputGlyph, CopyGlyph, DeleteGlyph}
+use Rattle.shaping_runs.specs.declared.call.Call.TheVariants.{MergeClusters, MergeOutClusters, UnsafeToBreak}
+use Rattle.shaping_runs.specs.declared.call.Call.TheVariants.{MergeGraphemeClusters}
+use Rattle.shaping_runs.specs.declared.call.Call.TheVariants.{UnsafeToBreakFromOutbuffer, SafeToInsertTatweel}
+use Rattle.shaping_runs.specs.declared.call.Call.TheVariants.{UnsafeToConcat, UnsafeToConcatFromOutbuffer}
+use Rattle.shaping_session.specs.Words.{Left, first_word, past_first_word, past_space}
+use Rattle.shaping_session.specs.Words.{next_character, next_language, next_place, next_script, next_u32}
+use Rattle.shaping_session.specs.declared.command.TheConstants.{ALL_BUFFER_FLAGS, ALL_SERIALIZE_FLAGS}
+use Rattle.shaping_session.specs.declared.command.Command.{Command}
+use Rattle.shaping_session.specs.declared.command.Command.TheVariants.{Push, Add, Level, Flags, Limit, Make}
+use Rattle.shaping_session.specs.declared.command.Command.TheVariants.{ReplaceGlyphs, State, Serialize, New, Feature}
+use Rattle.shaping_session.specs.declared.command.Command.TheVariants.{Tags, Compose, Decompose}
+
+-- What a line asks for: a command with its texts and its numbers.
+pub data Request : Type 0 where
+  push : (text : List ℕ) → Request
+  add : (character cluster : ℕ) → Request
+  level : (number : ℕ) → Request
+  flags : (number : ℕ) → Request
+  limit : (number : ℕ) → Request
+  call : (call : Call) → Request
+  replace_glyphs : (num_in : ℕ) (ids : List ℕ) → Request
+  state : Request
+  serialize : (flags : ℕ) → Request
+  new : Request
+  feature : (text : List ℕ) → Request
+  tags : (script : Option ℕ) (language : Option (List ℕ)) → Request
+  compose : (first second : ℕ) → Request
+  decompose : (character : ℕ) → Request
+
+-- what a command asks for
+abbrev pub request_of : Command → Request
+request_of (Push text) = push text.now
+request_of (Add character cluster) = add character cluster
+request_of (Level l) = level (level_of l)
+request_of (Flags number) = flags number
+request_of (Limit number) = limit number
+request_of (Make c) = call c
+request_of (ReplaceGlyphs num_in ids) = replace_glyphs num_in ids.items
+request_of State = state
+request_of (Serialize number) = serialize number
+request_of New = new
+request_of (Feature text) = feature text.now
+request_of (Tags script language) = tags script (option_copied language)
+request_of (Compose a b) = compose a b
+request_of (Decompose c) = decompose c
+
+-- what the next words write, and what is left of the line behind them
+abbrev pub Taken : Type 0 → Type 0
+Taken A = Option (A × Left)
+
+-- no word belongs to it
+abbrev pub alone : {A : Type 0} → A → Left → Taken A
+alone a left = Some (a, left)
+
+-- one word belongs to it, which writes a number
+abbrev pub with_word : {A : Type 0} → Option ℕ → (ℕ → A) → Left → Taken A
+with_word None make left = None
+with_word (Some a) make left = Some (make a, past_first_word left)
+
+-- two words belong to it, which write numbers
+abbrev pub with_words : {A : Type 0} → Option ℕ → Option ℕ → (ℕ → ℕ → A) → Left → Taken A
+with_words None b make left = None
+with_words (Some a) None make left = None
+with_words (Some a) (Some b) make left = Some (make a b, past_first_word (past_first_word left))
+
+-- the rest of the line belongs to it, from behind one space on
+abbrev pub with_text : {A : Type 0} → (List ℕ → A) → Left → Taken A
+with_text make None = None
+with_text make (Some text) = Some (make text, None)
+
+-- the number of a glyph belongs to it
+abbrev pub with_glyph : {A : Type 0} → (ℕ → A) → Left → Taken A
+with_glyph make left = with_word (next_u32 left) make left
+
+-- a place, or a number of glyphs, belongs to it
+abbrev pub with_place : {A : Type 0} → (ℕ → A) → Left → Taken A
+with_place make left = with_word (next_place left) make left
+
+-- a start and an end belong to it
+abbrev pub with_range : {A : Type 0} → (ℕ → ℕ → A) → Left → Taken A
+with_range make left = with_words (next_place left) (next_place (past_first_word left)) make left
+
+-- a number that is the highest at most
+abbrev pub at_most : ℕ → Option ℕ → Option ℕ
+at_most highest None = None
+at_most highest (Some n) = if nat_le n highest then Some n else None
+
+-- a number up to the highest belongs to it
+abbrev pub with_number_to : {A : Type 0} → ℕ → (ℕ → A) → Left → Taken A
+with_number_to highest make left = with_word (at_most highest (next_u32 left)) make left
+
+-- a character belongs to it; a character and a cluster; two characters
+abbrev pub with_character : (ℕ → Request) → Left → Taken Request
+with_character make left = with_word (next_character left) make left
+
+abbrev pub with_character_and_number : (ℕ → ℕ → Request) → Left → Taken Request
+with_character_and_number make left = with_words (next_character left) (next_u32 (past_first_word left)) make left
+
+abbrev pub with_characters : (ℕ → ℕ → Request) → Left → Taken Request
+with_characters make left = with_words (next_character left) (next_character (past_first_word left)) make left
+
+-- a script and a language belong to it
+abbrev pub with_names : Option (Option ℕ) → Option (Option (List ℕ)) → Left → Taken Request
+with_names None language left = None
+with_names (Some script) None left = None
+with_names (Some script) (Some language) left = Some (tags script language, past_first_word (past_first_word left))
+
+abbrev pub with_script_and_language : Left → Taken Request
+with_script_and_language left = with_names (next_script left) (next_language (past_first_word left)) left
+
+-- a range of a flag call, of which both ends are given
+abbrev pub with_flag_range : (Option ℕ → Option ℕ → Call) → Left → Taken Call
+with_flag_range make left = with_range (λ start end. make (Some start) (Some end)) left
+
+-- the calls that mark glyphs from a start to an end
+unfoldable pub flag_call_in : List ℕ → Left → Taken Call
+flag_call_in name left =
+    if bytes_eq name (codes "unsafe_to_break") then with_flag_range UnsafeToBreak left
+    else if bytes_eq name (codes "unsafe_to_break_from_outbuffer") then with_flag_range UnsafeToBreakFromOutbuffer left
+    else if bytes_eq name (codes "safe_to_insert_tatweel") then with_flag_range SafeToInsertTatweel left
+    else if bytes_eq name (codes "unsafe_to_concat") then with_flag_range UnsafeToConcat left
+    else if bytes_eq name (codes "unsafe_to_concat_from_outbuffer")
+    then with_flag_range UnsafeToConcatFromOutbuffer left
+    else None
+
+-- the calls that merge clusters
+unfoldable pub merge_call_in : List ℕ → Left → Taken Call
+merge_call_in name left =
+    if bytes_eq name (codes "merge_clusters") then with_range MergeClusters left
+    else if bytes_eq name (codes "merge_out_clusters") then with_range MergeOutClusters left
+    else if bytes_eq name (codes "merge_grapheme_clusters") then with_range MergeGraphemeClusters left
+    else flag_call_in name left
+
+-- the calls that put glyphs out in place of others, or drop one
+unfoldable pub edit_call_in : List ℕ → Left → Taken Call
+edit_call_in name left =
+    if bytes_eq name (codes "replace_glyph") then with_glyph ReplaceGlyph left
+    else if bytes_eq name (codes "output_glyph") then with_glyph OutputGlyph left
+    else if bytes_eq name (codes "copy_glyph") then alone CopyGlyph left
+    else if bytes_eq name (codes "delete_glyph") then alone DeleteGlyph left
+    else merge_call_in name left
+
+-- a call, by the name of its method: those that open an output, walk and close it come first
+unfoldable pub call_in : List ℕ → Left → Taken Call
+call_in name left =
+    if bytes_eq name (codes "clear_output") then alone ClearOutput left
+    else if bytes_eq name (codes "next_glyph") then alone NextGlyph left
+    else if bytes_eq name (codes "next_glyphs") then with_place NextGlyphs left
+    else if bytes_eq name (codes "skip_glyph") then alone SkipGlyph left
+    else if bytes_eq name (codes "move_to") then with_place MoveTo left
+    else if bytes_eq name (codes "sync") then alone Sync left
+    else edit_call_in name left
+
+-- a call is a request too
+abbrev pub call_request : Taken Call → Taken Request
+call_request None = None
+call_request (Some (c, left)) = Some (call c, left)
+
+-- what is asked of no text, by the name of the question, and else a call
+unfoldable pub query_in : List ℕ → Left → Taken Request
+query_in name left =
+    if bytes_eq name (codes "feature") then with_text feature left
+    else if bytes_eq name (codes "tags") then with_script_and_language left
+    else if bytes_eq name (codes "compose") then with_characters compose left
+    else if bytes_eq name (codes "decompose") then with_character decompose left
+    else call_request (call_in name left)
+
+-- those that print a text
+unfoldable pub question_in : List ℕ → Left → Taken Request
+question_in name left =
+    if bytes_eq name (codes "state") then alone state left
+    else if bytes_eq name (codes "serialize") then with_number_to ALL_SERIALIZE_FLAGS serialize left
+    else query_in name left
+
+-- those that say how the text is treated
+unfoldable pub treatment_in : List ℕ → Left → Taken Request
+treatment_in name left =
+    if bytes_eq name (codes "level") then with_number_to 3 level left
+    else if bytes_eq name (codes "flags") then with_number_to ALL_BUFFER_FLAGS flags left
+    else if bytes_eq name (codes "limit") then with_place limit left
+    else question_in name left
+
+-- the request of a name, from what is left of the line behind it: those that make the text come first
+unfoldable pub command_in : List ℕ → Left → Taken Request
+command_in name left =
+    if bytes_eq name (codes "push") then with_text push left
+    else if bytes_eq name (codes "add") then with_character_and_number add left
+    else if bytes_eq name (codes "new") then alone new left
+    else treatment_in name left
+
+-- an id before others
+abbrev pub id_before : Option ℕ → Taken (List ℕ) → Taken (List ℕ)
+id_before None taken = None
+id_before (Some id) None = None
+id_before (Some id) (Some (ids, left)) = Some (id ∷ ids, left)
+
+-- so many ids belong to it
+abbrev pub ids_in : ℕ → Left → Taken (List ℕ)
+ids_in zero left = Some ([], left)
+ids_in (suc count) left = id_before (next_u32 left) (ids_in count (past_first_word left))
+
+-- how many glyphs are replaced, and the ids of those that take their place
+abbrev pub replacement_by : ℕ → Taken (List ℕ) → Taken Request
+replacement_by num_in None = None
+replacement_by num_in (Some (ids, left)) = Some (replace_glyphs num_in ids, left)
+
+-- the same, with the number of ids before them
+abbrev pub with_ids : Option ℕ → Option ℕ → Left → Taken Request
+with_ids None num_out left = None
+with_ids (Some num_in) None left = None
+with_ids (Some num_in) (Some num_out) left = replacement_by num_in (ids_in num_out left)
+
+abbrev pub replacement_in : Left → Taken Request
+replacement_in left =
+    with_ids (next_place left) (next_place (past_first_word left)) (past_first_word (past_first_word left))
+
+-- the request of a name: a replacement, whose line may be long, or one of the others
+unfoldable pub request_named : List ℕ → Left → Taken Request
+request_named name left =
+    if bytes_eq name (codes "replace_glyphs") then replacement_in left else command_in name left
+
+-- nothing may be left of the line
+abbrev pub whole : Taken Request → Option Request
+whole None = None
+whole (Some (request, None)) = Some request
+whole (Some (request, Some text)) = None
+
+-- what the name and the rest of a line ask for
+abbrev pub request_behind : Option (List ℕ) → Left → Option Request
+request_behind None left = None
+request_behind (Some name) left = whole (request_named name left)
+
+-- what a line asks for: nothing where it is no command
+abbrev pub request_in : List ℕ → Option Request
+request_in line = request_behind (first_word (Some line)) (past_space line)
+
+-- the same of bytes, which have to be UTF-8
+abbrev pub request_in_bytes : List ℕ → Option Request
+request_in_bytes line = if is_utf8 line then request_in line else None
