@@ -23,12 +23,6 @@ pub set_left : {X : Type 0} (is : Bool) (n k : ℕ) (xs : List X) (x : X)
 set_left true n k xs x = drop-set-add n xs k x
 set_left false n k xs x = refl
 
--- the length of the input, seen from what is left of it
-pub len_left : {X : Type 0} (is : Bool) (n : ℕ) (xs : List X) → n ≤ length xs
-    → (if is then n + length (if is then drop n xs else xs) else length (if is then drop n xs else xs)) ≡ length xs
-len_left true n xs h = omega (arith, length-drop n xs)
-len_left false n xs h = refl
-
 -- ---- what an open output leaves to read, or the whole input
 
 -- seen from the vector

@@ -8,7 +8,7 @@ use Rattle.rb_glyph.specs.contracts.info.hb_glyph_info_t as glyph
 use Rattle.rb_glyph.specs.contracts.position.GlyphPosition as position
 use Rattle.shaping_buffer.specs.contracts.buffer.hb_buffer_t.{the_row}
 use Rattle.shaping_buffer.specs.State.{State, place_of}
-use Rattle.shaping_buffer.specs.LendingLists.{refilled}
+use Rattle.glyph_sides.specs.LendingLists.{refilled}
 
 -- another glyph k places after the cursor
 abbrev pub with_cur : State → ℕ → hb_glyph_info_t → State

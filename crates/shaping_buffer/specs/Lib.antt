@@ -5,7 +5,6 @@ pub mod Step
 pub mod Positions
 pub mod Pushed
 pub mod Text
-pub mod LendingLists
 pub mod Lending
 pub mod Properties
 pub mod ClusterLevel

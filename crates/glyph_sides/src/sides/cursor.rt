@@ -28,7 +28,9 @@ impl Sides {
         if self.is_separate {
             return self.next_apart(n);
         }
-        self.next_in_place(n);
+        put_down(&mut self.info, self.placed, self.cursor, n);
+        self.placed += n;
+        self.cursor += n;
         Ok(())
     }
 
@@ -65,18 +67,6 @@ impl Sides {
         self.out_info.push_reserved(self.info[self.cursor]);
         self.cursor += 1;
         Ok(())
-    }
-
-    #[inline(always)]
-    fn next_in_place(&mut self, n: usize)
-        requires opened { self.old.is_open ≡ true }
-        requires near { self.old.is_separate ≡ false }
-        requires within { n ≤ length self.old.input }
-        ensures { self.new ≡ lists.next n self.old }
-    {
-        put_down(&mut self.info, self.placed, self.cursor, n);
-        self.placed += n;
-        self.cursor += n;
     }
 
     #[inline(never)]
@@ -150,20 +140,11 @@ impl Sides {
         if self.is_separate {
             return self.close_apart();
         }
-        self.close_in_place();
-        Ok(())
-    }
-
-    #[inline(always)]
-    fn close_in_place(&mut self)
-        requires opened { self.old.is_open ≡ true }
-        requires near { self.old.is_separate ≡ false }
-        ensures { self.new ≡ lists.closed self.old }
-    {
         close_gap(&mut self.info, self.placed, self.cursor);
         self.placed = 0;
         self.cursor = 0;
         self.is_open = false;
+        Ok(())
     }
 
     #[inline(never)]

@@ -9,7 +9,8 @@ use crate::shifts::{open_gap, put_back, shift_back};
 use std::alloc::AllocError;
 
 impl Sides {
-    /// Leaves all but the first `i` glyphs that were put out to be read again. Requires that there are more than `i`.
+    /// Leaves all but the first `i` glyphs that were put out to be read again. In place they move up to the cursor, over
+    /// themselves where few were dropped. Requires that there are more than `i`.
     #[inline(always)]
     pub fn take_back(&mut self, i: usize) -> Result<(), AllocError>
         requires { i < length self.old.out }
@@ -18,19 +19,10 @@ impl Sides {
         if self.is_separate {
             return self.take_back_apart(i);
         }
-        self.take_back_in_place(i);
-        Ok(())
-    }
-
-    /// In place they move up to the cursor, over themselves where few were dropped.
-    fn take_back_in_place(&mut self, i: usize)
-        requires near { self.old.is_separate ≡ false }
-        requires behind { i < length self.old.out }
-        ensures { self.new ≡ lists.take_back i self.old }
-    {
         shift_back(&mut self.info, i, self.placed, self.cursor);
         self.cursor -= self.placed - i;
         self.placed = i;
+        Ok(())
     }
 
     /// Out of a separate output they go into the places before the cursor, where glyphs were read, or that stand free.

@@ -22,15 +22,6 @@ impl hb_buffer_t {
         if any_order && deletion::merges_next(self.sides.out(), self.sides.input()) {
             self.set_has_glyph_flags();
         }
-        self.delete_head(any_order);
-    }
-
-    /// Drops the glyph at the cursor by the rule of deletion.
-    fn delete_head(&mut self, any_order: bool)
-        requires opened { self.old.have_output ≡ true }
-        requires glyph { 0 < length self.old.input }
-        ensures { self.new ≡ step.delete_head any_order self.old }
-    {
         self.sides.delete_head(any_order);
     }
 }

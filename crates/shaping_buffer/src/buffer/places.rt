@@ -7,18 +7,6 @@ ghost use Rattle.shaping_buffer.specs.ClusterStep as step;
 use super::hb_buffer_t;
 
 impl hb_buffer_t {
-    /// Where the input's part of the one list begins: at the cursor while an output is open, and else at the start.
-    pub(super) fn input_start(&self) -> usize
-        ensures is { result ≡ step.input_start self.now }
-        ensures within { result ≤ len self.now }
-    {
-        if self.sides.is_open() {
-            self.sides.idx()
-        } else {
-            0
-        }
-    }
-
     /// Where glyph `k` of the input stands in the one list.
     pub(super) fn both_place(&self, k: usize) -> usize
         requires from_start { step.input_start self.now ≤ k }

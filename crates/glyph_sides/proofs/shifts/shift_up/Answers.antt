@@ -1,6 +1,0 @@
-use Rattle.std.proofs.Common.{arith}
-use Rattle.std.proofs.lemmas.Grind.{common_steps}
-use Rattle.glyph_sides.proofs.shifts.shift_up.Goals as goal
-
-pub returns-clause-put : goal.returns-clause-put
-returns-clause-put c = grind (arith, common_steps)

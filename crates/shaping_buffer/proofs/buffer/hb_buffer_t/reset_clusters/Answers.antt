@@ -1,6 +1,0 @@
-use Rattle.std.proofs.Common.{arith}
-use Rattle.std.proofs.lemmas.Grind.{common_steps}
-use Rattle.shaping_buffer.proofs.buffer.hb_buffer_t.reset_clusters.Goals as goal
-
-pub returns : goal.returns
-returns c = grind (arith, common_steps)

@@ -1,5 +1,0 @@
-use Rattle.std.proofs.Common.{rules}
-use Rattle.shaping_buffer.proofs.glyph_buffer.GlyphBuffer.from_buffer.Goals as goal
-
-pub returns-clause-is : goal.returns-clause-is
-returns-clause-is c = search rules

@@ -1,5 +1,0 @@
-use Rattle.std.proofs.Common.{rules}
-use Rattle.shaping_buffer.proofs.glyph_buffer.GlyphBuffer.is_empty.Goals as goal
-
-pub returns : goal.returns
-returns c = search rules

@@ -1,5 +1,0 @@
-use Rattle.std.proofs.Common.{rules}
-use Rattle.shaping_buffer.proofs.unicode_buffer.UnicodeBuffer.set_post_context.Goals as goal
-
-pub returns : goal.returns
-returns c = search rules
