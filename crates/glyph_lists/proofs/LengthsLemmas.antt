@@ -2,12 +2,14 @@
 use Rattle.std.proofs.Common.{◌≡◌, ℕ, ◌-◌, ◌≤◌, List, ◌∷◌, ◌++◌, length, take, drop, refl, arith, eqb, ltb, Bool, true}
 use Rattle.std.proofs.Common.{false, if◌then◌else◌, length-drop}
 use Rattle.std.proofs.lemmas.Bool.{cond_both, ltb-false}
+use Rattle.std.proofs.lemmas.List.{length-map}
 use Rattle.rb_glyph.specs.declared.info.hb_glyph_info_t.{hb_glyph_info_t}
 use Rattle.glyph_lists.specs.Parts.{part}
 use Rattle.glyph_lists.specs.Clusters.{clusters, least, with_cluster, run_start}
 use Rattle.glyph_lists.specs.Marks.{mark, with_glyph_flags}
 use Rattle.glyph_lists.specs.Deletion.{Sides, deletion, merge_or_mark, with_trailing_run, last_cluster, lowers_run}
 use Rattle.glyph_lists.specs.Deletion.{merges_next}
+use Rattle.glyph_lists.specs.Replacement.{copies}
 use Rattle.glyph_lists.specs.declared.glyph_flags.TheConstants.{BREAK_BITS}
 use Rattle.glyph_lists.proofs.PartsLemmas.{length-map_range}
 use Rattle.glyph_lists.proofs.RunsLemmas.{run_start-le}
@@ -53,3 +55,7 @@ length-deletion any_order out x rest =
         length-merge_or_mark any_order (x ∷ rest) 0 2 0,
       ),
     )) (λ _. (refl, refl)))
+
+-- there are as many copies as ids
+pub length_copies : (g : hb_glyph_info_t) (ids : List ℕ) → length (copies g ids) ≡ length ids
+length_copies g ids = length-map ids (λ id. record g { glyph_id = id })

@@ -1,5 +1,5 @@
 -- Copies that are written over a list, one after the other.
-use Rattle.std.proofs.Common.{◌≡◌, ℕ, suc, ◌+◌, ◌<◌, ◌≤◌, List, [], ◌∷◌, ◌++◌, take, drop, length, get_or, refl, sym, map}
+use Rattle.std.proofs.Common.{◌≡◌, ℕ, suc, ◌+◌, ◌<◌, ◌≤◌, List, [], ◌∷◌, ◌++◌, take, drop, length, get_or, refl, sym}
 use Rattle.std.proofs.Common.{ap, ◌∙◌, arith, append_assoc, length-append, add-one}
 use Rattle.std.proofs.Math.ListN.{set}
 use Rattle.std.proofs.Math.Seq.{drop-cons}
@@ -15,9 +15,6 @@ pub copied : (g : hb_glyph_info_t) (ids : List ℕ) (i d : ℕ) → i < length i
     → copies g (take (i + 1) ids) ≡ copies g (take i ids) ++ with_id (get_or ids i d) g ∷ []
 copied g ids i d h =
     ap (copies g) (take_more ids i d h) ∙ map-append (λ id. with_id id g) (take i ids) (get_or ids i d ∷ [])
-
-pub length_copies : (g : hb_glyph_info_t) (ids : List ℕ) → length (copies g ids) ≡ length ids
-length_copies g ids = length-map ids (λ id. with_id id g)
 
 set_at : {X : Type 0} (front rest : List X) (y a : X) → set (front ++ y ∷ rest) (length front) a ≡ front ++ a ∷ rest
 set_at [] rest y a = refl

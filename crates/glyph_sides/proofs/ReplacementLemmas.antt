@@ -1,15 +1,14 @@
 -- A replacement, in the words of the two sides.
-use Rattle.std.proofs.Common.{◌≡◌, ℕ, ◌+◌, ◌<◌, ◌≤◌, Bool, List, ◌++◌, length, take, drop, arith}
+use Rattle.std.proofs.Common.{◌≡◌, ℕ, ◌+◌, ◌≤◌, Bool, List, length, take, drop, arith}
 use Rattle.std.proofs.Common.{length-append, length-take, length-drop, subst, sym}
 use Rattle.std.specs.Prelude.{slice_index_or, Result, Ok, Err, OnOk}
 use Rattle.std.specs.declared.alloc.AllocError.{AllocError}
-use Rattle.rb_glyph.specs.declared.info.hb_glyph_info_t.{hb_glyph_info_t}
 use Rattle.glyph_lists.specs.Clusters.{zero_glyph}
 use Rattle.glyph_lists.specs.Deletion.{merge_or_mark}
 use Rattle.glyph_lists.specs.Replacement.{copies}
 use Rattle.glyph_lists.proofs.LengthsLemmas.{length-merge_or_mark}
 use Rattle.glyph_sides.specs.TwoLists.{TwoLists, Makes, both, replaced}
-use Rattle.glyph_sides.proofs.CopyLemmas.{length_copies}
+use Rattle.glyph_lists.proofs.LengthsLemmas.{length_copies}
 
 -- the out side becomes longer by the copies
 pub length_replaced : (level : Bool) (n : ℕ) (ids : List ℕ) (s : TwoLists)

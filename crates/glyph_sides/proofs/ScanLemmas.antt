@@ -1,6 +1,6 @@
 -- Scans of the input, seen from the vector that it lies in and from both sides.
-use Rattle.std.proofs.Common.{◌≡◌, ℕ, ◌+◌, ◌-◌, ◌≤◌, Bool, true, false, List, ◌++◌, length, take, drop, min, refl, sym, ap}
-use Rattle.std.proofs.Common.{◌∙◌, append_assoc, if◌then◌else◌, arith}
+use Rattle.std.proofs.Common.{◌≡◌, ℕ, ◌+◌, ◌-◌, ◌≤◌, Bool, true, false, List, ◌++◌, length, take, drop, refl, sym, ap}
+use Rattle.std.proofs.Common.{◌∙◌, if◌then◌else◌, arith}
 use Rattle.std.proofs.lemmas.Bool.{cases_Bool}
 use Rattle.std.proofs.lemmas.List.{take-take, take-append-le, length-take-le}
 use Rattle.std.proofs.Common.{length-append, length-drop, inl, inr}

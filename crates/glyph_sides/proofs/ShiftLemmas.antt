@@ -1,6 +1,6 @@
 -- A move of the cursor, in the words of the two lists.
-use Rattle.std.proofs.Common.{◌≡◌, ℕ, ◌+◌, ◌-◌, ◌<◌, ◌≤◌, true, false, List, [], ◌∷◌, ◌++◌, length, length-drop}
-use Rattle.std.proofs.Common.{slice_range, take, drop, arith, refl, sym, ap, ◌∙◌, leb}
+use Rattle.std.proofs.Common.{◌≡◌, ℕ, ◌+◌, ◌-◌, ◌≤◌, List, ◌++◌, length, length-drop}
+use Rattle.std.proofs.Common.{slice_range, take, drop, arith, sym, ap, ◌∙◌}
 use Rattle.std.proofs.lemmas.List.{take-append-drop, drop-drop, drop-take}
 use Rattle.std.proofs.lemmas.List.Edits.{drop-paste}
 use Rattle.std.specs.List.{copy_within}

@@ -1,16 +1,13 @@
 -- A move of the cursor, in the words of the two lists.
-use Rattle.std.proofs.Common.{◌≡◌, ℕ, ◌+◌, ◌-◌, ◌<◌, ◌≤◌, true, false, List, [], ◌∷◌, ◌++◌, length, length-drop}
-use Rattle.std.proofs.Common.{slice_range, take, drop, arith, refl, sym, ap, ◌∙◌, leb}
+use Rattle.std.proofs.Common.{◌≡◌, ℕ, ◌+◌, ◌-◌, ◌≤◌, true, List, ◌++◌, length}
+use Rattle.std.proofs.Common.{take, drop, arith, refl, ap, ◌∙◌, leb}
 use Rattle.std.proofs.lemmas.Bool.{cond_both, cond-true}
-use Rattle.std.proofs.lemmas.List.{take-append-drop, drop-drop, drop-take}
-use Rattle.std.proofs.lemmas.List.Edits.{drop-paste}
-use Rattle.std.specs.List.{copy_within}
-use Rattle.std.proofs.Math.Seq.{take-append-add, drop-append-add, take-add}
+use Rattle.std.proofs.lemmas.List.{take-append-drop}
+use Rattle.std.proofs.Math.Seq.{take-append-add, drop-append-add}
 use Rattle.std.proofs.lemmas.Grind.{common_steps}
 use Rattle.shaping_buffer.specs.State.{State}
 use Rattle.shaping_buffer.specs.ClusterStep.{both}
-use Rattle.rb_glyph.specs.declared.info.hb_glyph_info_t.{hb_glyph_info_t}
-use Rattle.shaping_buffer.specs.Step.{Outcome, move_to, next_glyphs, last_place, put_out, skip_glyph}
+use Rattle.shaping_buffer.specs.Step.{Outcome, move_to, next_glyphs, last_place}
 
 -- two lists, split in the second
 pub take_past : {X : Type 0} (i : ℕ) (xs ys : List X) → length xs ≤ i

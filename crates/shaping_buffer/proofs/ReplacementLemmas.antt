@@ -1,25 +1,18 @@
 -- A replacement, in the words of the two sides.
-use Rattle.std.proofs.Common.{◌≡◌, inl, inr, ℕ, ◌+◌, ◌-◌, ◌<◌, ◌≤◌, ◌&&◌, not, Bool, true, false, List, [], ◌∷◌, ◌++◌}
+use Rattle.std.proofs.Common.{◌≡◌, inl, inr, ℕ, ◌+◌, ◌-◌, ◌<◌, ◌≤◌, ◌&&◌, not, Bool, true, false, List, ◌++◌}
 use Rattle.std.proofs.Common.{length, take, drop, sym, ap, ◌∙◌, arith, length-append, get_or, leb, ltb}
-use Rattle.std.proofs.lemmas.Bool.{cond_both, cond-true, cond-false, cases_lt, false≢true, le-leb, lt-leb}
-use Rattle.std.proofs.lemmas.Grind.{common_steps}
-use Rattle.std.proofs.lemmas.List.{length-map, length-take-le, take_more, map-append, get_or-drop, drop-drop}
+use Rattle.std.proofs.lemmas.Bool.{cond-true, cond-false, cases_lt, false≢true, le-leb, lt-leb}
+use Rattle.std.proofs.lemmas.List.{get_or-drop, drop-drop}
 use Rattle.std.specs.Prelude.{slice_index_or}
 use Rattle.rb_glyph.specs.declared.info.hb_glyph_info_t.{hb_glyph_info_t}
 use Rattle.glyph_lists.specs.Clusters.{zero_glyph}
-use Rattle.glyph_lists.specs.Parts.{part}
-use Rattle.glyph_lists.specs.declared.glyph_flags.TheConstants.{BREAK_BITS}
-use Rattle.glyph_lists.specs.Marks.{mark}
 use Rattle.glyph_lists.specs.Deletion.{merge_or_mark}
 use Rattle.glyph_lists.specs.Replacement.{copies, replacement}
-use Rattle.glyph_lists.proofs.MergesLemmas.{length-run_merge}
+use Rattle.glyph_lists.proofs.LengthsLemmas.{length_copies}
 use Rattle.shaping_buffer.specs.State.{State}
 use Rattle.shaping_buffer.specs.ClusterStep.{both, any_order, flagged_if}
-use Rattle.shaping_buffer.specs.Step.{Outcome, MayWant, limited, settled, put_out, skip_glyphs, replace_front}
-use Rattle.shaping_buffer.specs.Step.{replace_glyphs, with_id}
-
-pub length_copies : (g : hb_glyph_info_t) (ids : List ℕ) → length (copies g ids) ≡ length ids
-length_copies g ids = length-map ids (λ id. with_id id g)
+use Rattle.shaping_buffer.specs.Step.{Outcome, limited, settled, replace_front}
+use Rattle.shaping_buffer.specs.Step.{replace_glyphs}
 
 -- both sides, the first n glyphs of the input merged
 abbrev pub front_merged : Bool → ℕ → State → List hb_glyph_info_t

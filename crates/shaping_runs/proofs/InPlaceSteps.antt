@@ -9,7 +9,7 @@ use Rattle.rb_glyph.specs.declared.glyph_flag.TheConstants.{UNSAFE_TO_CONCAT}
 use Rattle.rb_glyph.specs.declared.info.hb_glyph_info_t.{hb_glyph_info_t}
 use Rattle.glyph_lists.specs.Replacement.{copies}
 use Rattle.glyph_lists.proofs.LengthsLemmas.{length-deletion}
-use Rattle.shaping_buffer.proofs.ReplacementLemmas.{length_copies}
+use Rattle.glyph_lists.proofs.LengthsLemmas.{length_copies}
 use Rattle.shaping_buffer.specs.ClusterLevel.{groups_graphemes}
 use Rattle.shaping_buffer.specs.State.{State}
 use Rattle.shaping_buffer.specs.Step.{Outcome, limited, put_out, skip_glyph, skip_glyphs, next_glyphs, replace_glyphs}

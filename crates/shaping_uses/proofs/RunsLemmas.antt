@@ -5,7 +5,8 @@ use Rattle.std.proofs.lemmas.Bool.{cond_both, cond-false, and_parts, leb-true}
 use Rattle.std.specs.Str.{chars}
 use Rattle.shaping_buffer.specs.State.{State, len, empty_state}
 use Rattle.shaping_buffer.specs.Step.{Outcome}
-use Rattle.shaping_buffer.specs.Pushed.{glyphs_at, pushed}
+use Rattle.glyph_sides.specs.TextGlyphs.{glyphs_at}
+use Rattle.shaping_buffer.specs.Pushed.{pushed}
 use Rattle.shaping_buffer.specs.ClusterStep.{is_input_range}
 use Rattle.glyph_sides.proofs.CharactersLemmas.{length_glyphs_at}
 use Rattle.shaping_runs.specs.declared.call.Call.TheVariants.{MergeClusters}

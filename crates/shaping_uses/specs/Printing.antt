@@ -3,7 +3,7 @@ use Rattle.std.specs.Prelude.{ℕ, List, pos}
 use Rattle.rb_glyph.specs.declared.flag_sets.TheConstants.SerializeFlags.{NO_GLYPH_NAMES}
 use Rattle.std.specs.Str.{chars}
 use Rattle.shaping_buffer.specs.State.{State, empty_state}
-use Rattle.shaping_buffer.specs.Pushed.{glyphs_at}
+use Rattle.glyph_sides.specs.TextGlyphs.{glyphs_at}
 use Rattle.shaping_buffer.specs.Positions.{with_zero_positions}
 use Rattle.glyph_text.specs.Text.{nothing_known}
 use Rattle.shaping_buffer.specs.Text.{text_of}

@@ -1,6 +1,6 @@
 use Rattle.std.proofs.Common.{ap, sym, ◌∙◌, ◌++◌, get_or, arith}
 use Rattle.std.proofs.lemmas.List.{take_all}
-use Rattle.shaping_buffer.proofs.PushedLemmas.{glyph_at}
+use Rattle.glyph_sides.proofs.CharactersLemmas.{glyph_at}
 use Rattle.shaping_session.specs.StateText.{item_text, items_text, space_before}
 use Rattle.shaping_session.proofs.StateTextLemmas.{join_one_more}
 use Rattle.shaping_session.proofs.state_text.print_items.Goals as goal

@@ -1,6 +1,6 @@
 use Rattle.std.proofs.Common.{◌+◌, ◌≤◌, length, arith}
 use Rattle.std.proofs.lemmas.Grind.{common_steps}
-use Rattle.glyph_sides.proofs.CopyLemmas.{length_copies}
+use Rattle.glyph_lists.proofs.LengthsLemmas.{length_copies}
 use Rattle.glyph_sides.proofs.ShiftLemmas.{drop_further}
 use Rattle.glyph_sides.proofs.sides.Sides.copies_in_place.Goals as goal
 

@@ -1,6 +1,5 @@
 use Rattle.std.proofs.Common.{◌≡◌, ◌∙◌, false, [], sym, arith}
 use Rattle.std.proofs.lemmas.Grind.{common_steps}
-use Rattle.shaping_buffer.specs.State.{State}
 use Rattle.shaping_buffer.specs.ClusterStep.{any_order}
 use Rattle.shaping_buffer.proofs.MergingLemmas.{closed_merge}
 use Rattle.shaping_buffer.proofs.buffer.hb_buffer_t.merge_clusters.Goals as goal

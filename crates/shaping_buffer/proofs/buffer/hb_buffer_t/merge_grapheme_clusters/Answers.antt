@@ -1,5 +1,5 @@
-use Rattle.std.proofs.Common.{◌≡◌, ◌∙◌, true, false, [], refl, sym, ap, take}
-use Rattle.std.proofs.lemmas.Bool.{cond-true, cond-false}
+use Rattle.std.proofs.Common.{◌≡◌, ◌∙◌, true, false, [], refl, sym, ap}
+use Rattle.std.proofs.lemmas.Bool.{cond-true}
 use Rattle.shaping_buffer.specs.State.{State}
 use Rattle.shaping_buffer.specs.ClusterLevel.{groups_graphemes}
 use Rattle.shaping_buffer.proofs.MergingLemmas.{closed_sides}
