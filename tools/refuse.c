@@ -54,7 +54,7 @@ static void report(const char *call) {
     if (file < 0) return;
     syscall(SYS_write, file, call, strlen(call));
     syscall(SYS_write, file, " ", 1);
-    // A line that is ended tells of what is over.
+    // A line that is ended is of a scenario that is over.
     if (last_length && last_written[last_length - 1] != '\n') syscall(SYS_write, file, last_written, last_length);
     syscall(SYS_write, file, "\n", 1);
     syscall(SYS_close, file);
