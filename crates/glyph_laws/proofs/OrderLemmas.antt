@@ -306,14 +306,3 @@ run_merge_keeps_coarse l p q in_l co =
           }
       | inr none ↦ subst IsCoarse (sym (run_merge_short l p q 0 (omega arith) in_l)) co
     ]
-
--- ---- where coarse lists begin
-
--- monotone clusters that stand in the second words too
-pub IsCoarse-from_monotone : (l : List hb_glyph_info_t) → IsMonotone l
-    → ((i : ℕ) → i < length l → (get_or l i zero_glyph).var2 ≡ (get_or l i zero_glyph).cluster) → IsCoarse l
-IsCoarse-from_monotone l mono same = record {
-  ordered = mono;
-  low = λ i h. omega (arith, same i h);
-  alike = λ i j h h2 le. omega (arith, same i h, same j h2);
-}

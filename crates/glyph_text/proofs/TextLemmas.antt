@@ -1,18 +1,16 @@
 -- One more glyph, at the end of the written text.
-use Rattle.std.proofs.Common.{◌≡◌, ℕ, zero, suc, ◌+◌, ◌*◌, ◌^◌, ◌<◌, ◌≤◌, cond, List, [], ◌∷◌, ◌++◌, length, take, map}
+use Rattle.std.proofs.Common.{◌≡◌, ℕ, zero, suc, ◌+◌, ◌*◌, ◌<◌, ◌≤◌, cond, List, [], ◌∷◌, ◌++◌, length, take, map}
 use Rattle.std.proofs.Common.{get_or, refl, ap, sym, ◌∙◌, arith, append_assoc}
 use Rattle.std.proofs.lemmas.List.{take_more, length-take-le, take_all, append-nil}
 use Rattle.std.proofs.lemmas.Slice.Zip.{get_or-zip, length-zip}
-use Rattle.std.specs.Prelude.{ℤ, pos, ◌+ℤ◌, nat_abs, Bool, true, false, not, ◌||◌}
+use Rattle.std.specs.Prelude.{ℤ, pos, ◌+ℤ◌, nat_abs, Bool, true, false}
 use Rattle.std.specs.List.{zip, join_with_byte}
 use Rattle.rb_glyph.specs.declared.flag_sets.SerializeFlags.{SerializeFlags}
-use Rattle.rb_glyph.specs.declared.flag_sets.TheConstants.SerializeFlags.{NO_POSITIONS, NO_GLYPH_NAMES, GLYPH_EXTENTS}
-use Rattle.rb_glyph.specs.declared.flag_sets.TheConstants.SerializeFlags.{NO_ADVANCES}
+use Rattle.rb_glyph.specs.declared.flag_sets.TheConstants.SerializeFlags.{NO_POSITIONS, NO_ADVANCES}
 use Rattle.rb_glyph.specs.declared.info.hb_glyph_info_t.{hb_glyph_info_t}
 use Rattle.rb_glyph.specs.declared.position.GlyphPosition.{GlyphPosition}
 use Rattle.glyph_text.specs.declared.serialize.Point.{Point}
-use Rattle.glyph_text.specs.Point.{IsNear}
-use Rattle.glyph_text.specs.Text.{Font, has, asks_font, glyph_text, glyph_texts, glyphs_text, x_advances, y_advances}
+use Rattle.glyph_text.specs.Text.{Font, has, glyph_text, glyph_texts, glyphs_text, x_advances, y_advances}
 use Rattle.glyph_text.specs.Text.{bar_before, offset_text, advance_text, position_text}
 
 -- what stands for a glyph and for a position where there is none
@@ -30,21 +28,6 @@ pub record Written (font : Font) (flags : SerializeFlags) (infos : List hb_glyph
   pub y : has flags NO_ADVANCES ≡ true → pen.y ≡ y_advances (take i positions)
   pub x_near : nat_abs pen.x ≤ i * 2147483648
   pub y_near : nat_abs pen.y ≤ i * 2147483648
-
--- such a place is near, however long the list
-pub near : (p : Point) (i n : ℕ) → i < n → n < 2 ^ 64 → nat_abs p.x ≤ i * 2147483648 → nat_abs p.y ≤ i * 2147483648
-    → IsNear p
-near p i n h f x y = record { x = omega arith; y = omega arith }
-
-pub asks_for_name : (flags : SerializeFlags) → has flags NO_GLYPH_NAMES ≡ false → asks_font flags ≡ true
-asks_for_name flags e = rw e refl
-
-or_right : (a b : Bool) → b ≡ true → (a || b) ≡ true
-or_right true b e = refl
-or_right false b e = e
-
-pub asks_for_extents : (flags : SerializeFlags) → has flags GLYPH_EXTENTS ≡ true → asks_font flags ≡ true
-asks_for_extents flags e = or_right (not (has flags NO_GLYPH_NAMES)) (has flags GLYPH_EXTENTS) e
 
 -- a bar and the five pieces of a glyph, one after another
 pub pieces_more : (old headed placed flagged now bar name cluster position flags extents : List ℕ)

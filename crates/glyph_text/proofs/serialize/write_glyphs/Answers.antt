@@ -1,19 +1,12 @@
-use Rattle.std.proofs.Common.{ap, sym, ◌∙◌, ◌++◌, ◌+ℤ◌, get_or, take, length, refl, arith, rules, pos, string_bytes}
-use Rattle.std.specs.Prelude.{◌≤◌}
+use Rattle.std.proofs.Common.{ap, sym, ◌∙◌, ◌++◌, ◌+ℤ◌, get_or, take, arith, pos, string_bytes}
 use Rattle.std.specs.List.{zip}
-use Rattle.std.proofs.lemmas.List.Elements.{All-get_or}
 use Rattle.std.proofs.lemmas.List.Sums.{fold_more}
 use Rattle.rb_glyph.specs.declared.info.hb_glyph_info_t.{hb_glyph_info_t}
 use Rattle.rb_glyph.specs.declared.position.GlyphPosition.{GlyphPosition}
 use Rattle.glyph_text.specs.Text.{Font, bar_before, glyphs_text, x_advances, y_advances, name_text, cluster_text}
 use Rattle.glyph_text.specs.Text.{position_text, flags_text, extents_text}
-use Rattle.glyph_text.proofs.TextLemmas.{no_glyph, no_position, near, asks_for_name, asks_for_extents, text_more}
-use Rattle.glyph_text.proofs.TextLemmas.{pieces_more, position_same}
+use Rattle.glyph_text.proofs.TextLemmas.{no_glyph, no_position, text_more, pieces_more, position_same}
 use Rattle.glyph_text.proofs.serialize.write_glyphs.Goals as goal
-
-pub loop-i-init : goal.loop-i-init
-loop-i-init g c =
-    record { written = c.requires.empty; x = λ h. refl; y = λ h. refl; x_near = omega arith; y_near = omega arith }
 
 pub loop-i-preserved : goal.loop-i-preserved
 loop-i-preserved g c =
@@ -49,19 +42,3 @@ loop-i-preserved g c =
       x_near = omega (arith, moved.near_x, old.x_near);
       y_near = omega (arith, moved.near_y, old.y_near);
     }
-
-pub write_head-requires : goal.write_head-requires
-write_head-requires g c = λ named. All-get_or (λ (g : hb_glyph_info_t). g.glyph_id ≤ 65535) c.args.infos.now c.loop-i.i
-    no_glyph c.loop-i-test.true (c.requires.glyphs (asks_for_name c.args.flags named))
-
-pub write_position-requires : goal.write_position-requires
-write_position-requires g c = near c.loop-i.pen c.loop-i.i (length c.args.infos.now) c.loop-i-test.true (search rules)
-    c.loop-i.invariant.x_near c.loop-i.invariant.y_near
-
-pub place_behind-pen-requires : goal.place_behind-pen-requires
-place_behind-pen-requires g c = near c.loop-i.pen c.loop-i.i (length c.args.infos.now) c.loop-i-test.true (search rules)
-    c.loop-i.invariant.x_near c.loop-i.invariant.y_near
-
-pub write_extents-requires : goal.write_extents-requires
-write_extents-requires g c = λ wanted. All-get_or (λ (g : hb_glyph_info_t). g.glyph_id ≤ 65535) c.args.infos.now
-    c.loop-i.i no_glyph c.loop-i-test.true (c.requires.glyphs (asks_for_extents c.args.flags wanted))
