@@ -3,6 +3,8 @@
 #![tactic(auto)]
 
 #[cfg(test)]
+mod accessors;
+#[cfg(test)]
 mod buffer;
 #[cfg(test)]
 mod call_list;
@@ -24,8 +26,6 @@ mod levels;
 mod limits;
 #[cfg(test)]
 mod lists;
-#[cfg(test)]
-mod readers;
 #[cfg(test)]
 mod rendering;
 #[cfg(test)]

@@ -2,12 +2,12 @@ use crate::lists::buffer_of;
 use rb_glyph::NoGlyphNames;
 use shaping_buffer::{Feature, Flags, SerializeFlags, UnicodeBuffer, hb_buffer_t, hb_glyph_info_t};
 use shaping_runs::Answer;
+use shaping_uses::accessors::*;
 use shaping_uses::in_place::*;
 use shaping_uses::kerning::kern_pair;
 use shaping_uses::line_break::cut_of_line;
 use shaping_uses::merging::clusters_of_merged;
 use shaping_uses::printing::print_characters;
-use shaping_uses::readers::*;
 use shaping_uses::references::*;
 use shaping_uses::rendering::render_with_ligature;
 use shaping_uses::runs::{first_two_as_one, ligate_first_two};
@@ -30,7 +30,7 @@ fn uses_run(rt: HostRuntime) -> Result<(), Fail> {
     glyphs_are_dropped(&rt, rt.alloc());
     a_pair_is_kerned(&rt, rt.alloc());
     writes_land_at_their_places(&rt, rt.alloc());
-    readers_tell_what_stands(&rt, rt.alloc());
+    accessors_say_what_stands(&rt, rt.alloc());
     calls_in_place_are_done(&rt, rt.alloc());
     a_list_in_place_is_done(&rt, rt.alloc());
     a_text_is_rendered(&rt, rt.alloc())
@@ -125,7 +125,7 @@ fn writes_land_at_their_places(rt: &impl Abort, alloc: Global) {
     assert!(rt; buffer.cluster_level == 2);
 }
 
-fn readers_tell_what_stands(rt: &impl Abort, alloc: Global) {
+fn accessors_say_what_stands(rt: &impl Abort, alloc: Global) {
     assert!(rt; most_glyphs(alloc) == 0x3FFF_FFFF);
     assert!(rt; most_operations(alloc) == 0x1FFF_FFFF);
     let mut text = UnicodeBuffer::new(alloc);

@@ -39,7 +39,7 @@ impl Scenario for Made {
     }
 }
 
-/// A text is told its language.
+/// A text is given its language.
 pub struct Told;
 
 impl Scenario for Told {

@@ -129,7 +129,7 @@ module _ (P : List hb_glyph_info_t → Type 0)
       (reads _ _ (reading_dropped (map_range (with_cluster x.cluster 0) out a (length out)) (with_cluster x.cluster 0 x)
       rest) l2)
 
-  -- the head and the next glyph are merged, and the head then goes
+  -- the current glyph and the next one are merged, and the current glyph then goes
   next_keeps : (any_order : Bool) (out : List hb_glyph_info_t) (x : hb_glyph_info_t) (rest : List hb_glyph_info_t)
       → is_not_empty out ≡ false → is_not_empty rest ≡ true
       → P (out ++ x ∷ rest) → P (out ++ drop 1 (merge_or_mark any_order (x ∷ rest) 0 2 0))

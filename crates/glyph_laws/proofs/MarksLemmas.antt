@@ -222,7 +222,7 @@ module _ {Y : Type 0} (f : hb_glyph_info_t → Y) (bits : ℕ)
       (λ _. map-map_range f (with_glyph_flags bits) same r 0 (prefix_len p cs) (omega arith))
       (λ _. map-map_same f (other bits m) (same-other m) r))
 
--- ---- a part gives way to one that is the same but for its masks
+-- ---- a part gives way to one that is the same except for its masks
 
 module _ (l new : List hb_glyph_info_t) (p q : ℕ) (up : p ≤ q)
     (same : reset_masks 0 new ≡ reset_masks 0 (part l p q)) where

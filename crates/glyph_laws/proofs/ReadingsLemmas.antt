@@ -196,7 +196,7 @@ reading_by_fields xs ys c v =
     (λ j h. sym (get_or-map (λ g. g.var2) ys j zero_glyph 0 h) ∙ ap (λ vs. get_or vs j 0) v
     ∙ get_or-map (λ g. g.var2) xs j zero_glyph 0 (omega arith))
 
--- lists that are the same but for their masks
+-- lists that are the same except for their masks
 module _ (xs ys : List hb_glyph_info_t) (same : reset_masks 0 xs ≡ reset_masks 0 ys) where
   fields-but_masks : (f : hb_glyph_info_t → ℕ) → ((g : hb_glyph_info_t) → f (with_mask 0 g) ≡ f g) → map f xs ≡ map f ys
   unfolding reset_masks

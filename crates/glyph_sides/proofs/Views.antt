@@ -31,7 +31,7 @@ pub input_of : {X : Type 0} (is : Bool) (n : ℕ) (xs : List X)
 input_of true n xs = refl
 input_of false n xs = refl
 
--- other items in its stead
+-- other items in place of it
 pub new_input : {X : Type 0} (is : Bool) (n : ℕ) (xs ys : List X) → n ≤ length xs
     → (if is then drop n (take (if is then n else 0) xs ++ ys) else take (if is then n else 0) xs ++ ys) ≡ ys
 new_input true n xs ys h = drop_at (take n xs) ys n (length-take-le n xs h)

@@ -101,7 +101,8 @@ place k s = length s.out + (k - (if s.is_open then s.idx else 0))
 abbrev pub with_both : List hb_glyph_info_t → TwoLists → TwoLists
 with_both l s = record s { out = take (length s.out) l; input = drop (length s.out) l }
 
--- the first n glyphs of the input are merged, or marked, and copies of the head as it then stands put out in their stead
+-- the first n glyphs of the input are merged, or marked, and copies of the current glyph as it then is
+-- put out in place of them
 abbrev pub replaced : Bool → ℕ → List ℕ → TwoLists → TwoLists
 replaced any_order n ids s =
     let l = merge_or_mark any_order (both s) (length s.out) (length s.out + n) 0 in
@@ -111,7 +112,7 @@ replaced any_order n ids s =
       idx = s.idx + n;
     })
 
--- the head leaves the input, and its cluster stays where it may
+-- the current glyph goes by the rule of deletion
 abbrev pub head_deleted : Bool → TwoLists → TwoLists
 head_deleted any_order s =
     let d = deletion any_order s.out (slice_index_or s.input 0 zero_glyph) (drop 1 s.input) in

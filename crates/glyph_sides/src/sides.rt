@@ -1,4 +1,4 @@
-//! The type: its fields, what callers see of it, and its readers.
+//! The type: its fields, what callers see of it, and its accessors.
 
 ghost use Rattle.std.specs.Prelude.{◌≡◌, ◌+◌, ◌-◌, ◌<◌, ◌≤◌, [], ◌∷◌, ◌++◌, OnOk, OnErr, true, false, chars, length, if◌then◌else◌, take, drop};
 ghost use Rattle.glyph_sides.specs.TextGlyphs.{glyphs_at};

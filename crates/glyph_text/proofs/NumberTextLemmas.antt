@@ -1,4 +1,4 @@
--- A number of 32 bits has ten digits at the most, and its text is ASCII.
+-- A number of 32 bits has at most ten digits, and its text is ASCII.
 use Rattle.std.proofs.Common.{ℕ, ◌^◌, ◌<◌, ◌≤◌, List, ◌++◌, length, arith}
 use Rattle.std.specs.Fmt.{decimal}
 use Rattle.std.specs.Str.{IsAscii}

@@ -1,4 +1,4 @@
--- A call is refused for length exactly where the side that it holds would pass the limit.
+-- A call is refused for length exactly when the side it would fill would exceed the limit.
 use Rattle.std.proofs.Common.{◌≡◌, ◌↔◌, ℕ, ◌+◌, ◌-◌, ◌<◌, ◌≤◌, inl, inr, Bool, true, false, not, ◌&&◌, cond, List, []}
 use Rattle.std.proofs.Common.{◌∷◌, ◌++◌, length, map, take, drop, min, refl, sym, ap, ◌∙◌, subst, arith, eqb, leb}
 use Rattle.std.proofs.Common.{length-append, length-drop}

@@ -1,4 +1,4 @@
--- Where no output is separate along a list of calls, none of them stops for want of memory.
+-- Where no output is separate along a list of calls, none of them runs out of memory.
 use Rattle.std.proofs.Common.{◌≡◌, ℕ, zero, suc, ◌<◌, true, false, ◌||◌, List, [], ◌∷◌, length, take, sym, ap, ◌∙◌}
 use Rattle.std.proofs.Common.{subst, arith}
 use Rattle.std.specs.Prelude.{slice_get, IfSome}

@@ -32,7 +32,7 @@ reading_behind out input = record {
   var2 = λ j h. ap (λ g. g.var2) (sym (get_or-append-add out input j zero_glyph));
 }
 
--- the head of the second goes
+-- the first glyph of the second list goes
 reading_headless : (out input : List hb_glyph_info_t) → Reading (out ++ input) (out ++ drop 1 input)
 reading_headless out [] = reading_alike (out ++ []) (out ++ []) refl (λ j h. refl) (λ j h. refl)
 reading_headless out (x ∷ rest) = reading_dropped out x rest
@@ -109,13 +109,13 @@ module _ (P : List hb_glyph_info_t → Type 0) (Floor : ℕ → Type 0) (low : F
     (reads : (xs ys : List hb_glyph_info_t) → Reading xs ys → P xs → P ys)
     (merges : (floor : ℕ) → Floor floor → (l : List hb_glyph_info_t) (p q : ℕ) → q ≤ length l → P l
     → P (run_merge l p q floor)) where
-  -- a part gives way to one that is the same but for its masks
+  -- a part gives way to one that is the same except for its masks
   new_part_keeps : (l new : List hb_glyph_info_t) (p q : ℕ) → p ≤ q → reset_masks 0 new ≡ reset_masks 0 (part l p q)
       → P l → P (take p l ++ new ++ drop q l)
   new_part_keeps l new p q up same = reads l (take p l ++ new ++ drop q l)
       (reading_but_masks l (take p l ++ new ++ drop q l) (sym (reset_masks-new_part l new p q up same)))
 
-  -- a copy of the head is put out, and then the head may go
+  -- a copy of the current glyph is put out, and then that glyph may go
   copied_head : (id : ℕ) (out : List hb_glyph_info_t) (x : hb_glyph_info_t) (rest : List hb_glyph_info_t)
       → P (out ++ x ∷ rest) → P ((out ++ with_id id x ∷ []) ++ x ∷ rest)
   copied_head id out x rest h = subst P (sym (append_assoc out (with_id id x ∷ []) (x ∷ rest)))

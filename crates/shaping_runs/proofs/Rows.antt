@@ -101,7 +101,7 @@ two_are_put_out : step.next_glyphs 2 opened
     }
 two_are_put_out = refl
 
--- two glyphs are merged into the lower cluster, and two copies of the first stand in their stead
+-- two glyphs are merged into the lower cluster, and two copies of the first stand in place of them
 two_give_way_to_two : step.replace_glyphs 2 (7 ∷ 8 ∷ []) opened
     ≡ record {
       done = true;

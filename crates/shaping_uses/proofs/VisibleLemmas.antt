@@ -1,4 +1,4 @@
--- Deletion keeps every glyph but the head, clusters and masks aside.
+-- Deletion keeps every glyph except the current one; clusters and masks may change.
 use Rattle.std.proofs.Common.{◌≡◌, ℕ, ◌+◌, ◌≤◌, ◌<◌, ◌-◌, Bool, true, false, List, [], ◌∷◌, ◌++◌}
 use Rattle.std.proofs.Common.{length, take, drop, refl, sym, ap, ◌∙◌, arith, cond, ltb, leb, eqb, length-drop}
 use Rattle.std.proofs.lemmas.Bool.{cond_both, cond-false}

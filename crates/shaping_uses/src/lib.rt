@@ -1,12 +1,12 @@
 //! Callers of the shaping buffer, as a user would write them, each with the contract that a user would want.
 #![tactic(auto)]
 
+pub mod accessors;
 pub mod in_place;
 pub mod kerning;
 pub mod line_break;
 pub mod merging;
 pub mod printing;
-pub mod readers;
 pub mod references;
 pub mod rendering;
 pub mod runs;

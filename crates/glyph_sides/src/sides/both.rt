@@ -1,4 +1,4 @@
-//! Both sides as one list: merges, scans and flags over places in it, and deletion of the head.
+//! Both sides as one list: merges, scans and flags over places in it, and deletion of the current glyph.
 
 ghost use Rattle.std.specs.Prelude.{◌≡◌, ◌+◌, ◌-◌, ◌<◌, ◌≤◌, true, length, drop, slice_index_or};
 ghost use Rattle.glyph_lists.specs.Clusters.{run_merge};
@@ -123,7 +123,7 @@ impl Sides {
         one_slice::scan_two_parts(&mut self.info, self.placed, at, from, to, bits, any_order);
     }
 
-    /// Drops the head, and keeps its cluster.
+    /// Drops the current glyph, and keeps its cluster. Requires an open output, and a glyph at the cursor.
     #[inline(always)]
     pub fn delete_head(&mut self, any_order: bool)
         requires opened { self.old.is_open ≡ true }

@@ -75,7 +75,7 @@ fn a_new_buffer_is_empty(rt: HostRuntime) {
 }
 
 #[test]
-fn readers_and_references_show_what_stands(rt: HostRuntime) {
+fn accessors_and_references_show_what_stands(rt: HostRuntime) {
     let mut buffer = capitals(&rt, rt.alloc());
     assert_counts(&rt, &buffer, [3, 0, 0, 0, 3]);
     assert_states(&rt, &buffer, [false, false, true, true]);
