@@ -1,8 +1,7 @@
 //! Both sides as one list: merges, scans and flags over places in it, and deletion of the current glyph.
 
-ghost use Rattle.std.specs.Prelude.{◌≡◌, ◌+◌, ◌-◌, ◌<◌, ◌≤◌, true, length, drop, slice_index_or};
-ghost use Rattle.glyph_lists.specs.Clusters.{run_merge};
-ghost use Rattle.glyph_lists.specs.Clusters.{zero_glyph};
+ghost use Rattle.std.specs.Prelude.{◌≡◌, ◌+◌, ◌-◌, ◌<◌, ◌≤◌, true, false, length, drop, slice_index_or};
+ghost use Rattle.glyph_lists.specs.Clusters.{run_merge, zero_glyph};
 ghost use Rattle.glyph_lists.specs.Deletion.{deletion, merge_or_mark};
 ghost use Rattle.glyph_lists.specs.Marks.{with_glyph_flags};
 ghost use Rattle.glyph_lists.specs.Parts.{on_part, map_range};
@@ -14,6 +13,21 @@ use glyph_lists::{deletion, glyph_flags, merging, one_slice};
 use rb_glyph::hb_glyph_info_t;
 
 impl Sides {
+    /// Merges the glyphs of the list from `start` to `end`, where no output is open. The start is not widened past the
+    /// cursor.
+    #[inline(always)]
+    pub fn merge_list(&mut self, start: usize, end: usize)
+        requires closed { self.old.is_open ≡ false }
+        requires order { start ≤ end }
+        requires within { end ≤ length self.old.input }
+        ensures is { self.new ≡ record self.old {
+          input = run_merge self.old.input start end self.old.idx;
+        } }
+        ensures input_len { length self.new.input ≡ length self.old.input }
+    {
+        merging::merge_slice(&mut self.info, start, end, self.cursor);
+    }
+
     /// Merges the glyphs from place `from` to place `to`.
     #[inline(always)]
     #[tactic(auto, using(crate::proofs::Views::sides))]

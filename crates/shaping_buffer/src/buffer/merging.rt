@@ -10,7 +10,7 @@ ghost use Rattle.glyph_lists.specs.Clusters.{with_cluster, run_merge};
 ghost use Rattle.shaping_buffer.specs.ClusterStep as step;
 
 use super::hb_buffer_t;
-use glyph_lists::{clusters, merging};
+use glyph_lists::clusters;
 use rb_glyph::hb_glyph_info_t;
 
 impl hb_buffer_t {
@@ -69,8 +69,7 @@ impl hb_buffer_t {
           input = run_merge self.old.input start end self.old.idx;
         } }
     {
-        let floor = self.sides.idx();
-        merging::merge_slice(self.sides.list_mut(), start, end, floor);
+        self.sides.merge_list(start, end);
     }
 
     /// Merges the same, or marks it at levels 2 and 3, with an output open or none.
