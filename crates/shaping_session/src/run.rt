@@ -76,7 +76,9 @@ pub fn run_on<R: Read, W: Write>(
     finish(writer, &mut held, outcome)
 }
 
-/// Writes what is held, also if memory ran out, before it answers. A writer that failed gets no more.
+/// Writes what is held back and flushes, also after memory ran out, and then gives the outcome. After a failed write
+/// nothing more is written.
+///
 /// It is public for its test alone, which counts the flushes after each outcome.
 pub fn finish<W: Write>(
     writer: &mut W,
