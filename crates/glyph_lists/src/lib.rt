@@ -17,5 +17,4 @@ pub mod masks;
 pub mod merge_range;
 pub mod merged_head;
 pub mod merging;
-pub mod one_slice;
 pub mod reversal;

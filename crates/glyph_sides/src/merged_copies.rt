@@ -7,8 +7,8 @@ ghost use Rattle.glyph_lists.specs.Deletion.{merge_or_mark};
 ghost use Rattle.glyph_lists.specs.Replacement.{copies};
 
 use crate::copies::{append_copies, write_copies};
+use crate::one_slice;
 use glyph_lists::merging::merge_or_mark;
-use glyph_lists::one_slice;
 use rb_glyph::hb_glyph_info_t;
 
 /// Merges, or marks, the first `count` glyphs of the input, `info` from the cursor on, and puts copies of the first of

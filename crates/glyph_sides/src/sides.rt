@@ -1,6 +1,6 @@
 //! The type: its fields, what callers see of it, and its accessors.
 
-ghost use Rattle.std.specs.Prelude.{◌≡◌, ◌+◌, ◌-◌, ◌<◌, ◌≤◌, [], ◌∷◌, ◌++◌, OnOk, OnErr, true, false, chars, length, if◌then◌else◌, take, drop};
+ghost use Rattle.std.specs.Prelude.{◌≡◌, ◌+◌, ◌-◌, ◌<◌, ◌≤◌, ◌&&◌, [], ◌∷◌, ◌++◌, OnOk, OnErr, true, false, nat_lt, chars, length, if◌then◌else◌, take, drop};
 ghost use Rattle.glyph_sides.specs.TextGlyphs.{glyphs_at};
 ghost use Rattle.glyph_sides.specs.TwoLists.{IsSides, len, left, nothing, opened, place};
 
@@ -109,6 +109,19 @@ impl Sides {
         ensures sides { IsSides self.now }
     {
         self.is_separate
+    }
+
+    /// Whether the out side would hold more than `max_len` glyphs with `more` of those at the cursor put out. In place it
+    /// never would, since they were read. Requires as many glyphs at the cursor, and that neither side holds more than
+    /// `max_len`.
+    #[inline(always)]
+    pub fn next_exceeds(&self, more: usize, max_len: usize) -> bool
+        requires within { more ≤ left self.now }
+        requires out { length self.now.out ≤ max_len }
+        requires input { len self.now ≤ max_len }
+        ensures { result ≡ (self.now.is_open && nat_lt max_len (length self.now.out + more)) }
+    {
+        self.is_separate && more > max_len - self.out_info.len()
     }
 
     /// How many glyphs were put out.

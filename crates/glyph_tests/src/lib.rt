@@ -1,4 +1,4 @@
-//! Tests of `rb_glyph`, `glyph_lists`, `glyph_laws` and `glyph_text`, over what they make public, as in the `tests/`
+//! Tests of `rb_glyph`, `glyph_lists`, `glyph_sides`, `glyph_laws` and `glyph_text`, over what they make public, as in the `tests/`
 //! folder of a Rust crate.
 #![tactic(auto)]
 
@@ -47,13 +47,13 @@ mod names;
 #[cfg(test)]
 mod normalize;
 #[cfg(test)]
-mod one_slice;
-#[cfg(test)]
 mod position;
 #[cfg(test)]
 mod reversal;
 #[cfg(test)]
 mod serialize;
+#[cfg(test)]
+mod sides;
 #[cfg(test)]
 mod tables;
 #[cfg(test)]

@@ -9,7 +9,8 @@ ghost use Rattle.glyph_lists.specs.Scans.{scan_of, two_part_scan};
 ghost use Rattle.glyph_sides.specs.TwoLists.{both, with_both, place, len, head_deleted};
 
 use super::Sides;
-use glyph_lists::{deletion, glyph_flags, merging, one_slice};
+use crate::one_slice;
+use glyph_lists::{deletion, glyph_flags, merging};
 use rb_glyph::hb_glyph_info_t;
 
 impl Sides {

@@ -30,8 +30,7 @@ impl hb_buffer_t {
         requires { 0 < lookahead_len self.old }
         ensures { Meets (step.next_glyph self.old) self.old result self.new }
     {
-        // In place the out side has room for each glyph that is read.
-        if self.sides.is_separate() && self.sides.out_len() >= self.max_len {
+        if self.sides.next_exceeds(1, self.max_len) {
             self.successful = false;
             return Ok(false);
         }
@@ -47,7 +46,7 @@ impl hb_buffer_t {
         requires { n ≤ lookahead_len self.old }
         ensures { Meets (step.next_glyphs n self.old) self.old result self.new }
     {
-        if self.sides.is_separate() && n > self.max_len - self.sides.out_len() {
+        if self.sides.next_exceeds(n, self.max_len) {
             self.successful = false;
             return Ok(false);
         }

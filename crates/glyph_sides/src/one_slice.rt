@@ -8,11 +8,11 @@ ghost use Rattle.glyph_lists.specs.Marks.{with_glyph_flags};
 ghost use Rattle.glyph_lists.specs.Parts.{on_part, map_range};
 ghost use Rattle.glyph_lists.specs.Scans.{two_part_scan};
 
-use crate::{deletion, glyph_flags, merging};
+use glyph_lists::{deletion, glyph_flags, merging};
 use rb_glyph::hb_glyph_info_t;
 
 /// Merges the glyphs from `start` to `end` of the two sides as one list, as `merging::run_merge` does.
-pub fn run_merge(
+pub(crate) fn run_merge(
     info: &mut [hb_glyph_info_t],
     out_len: usize,
     cursor: usize,
@@ -35,7 +35,7 @@ pub fn run_merge(
 
 /// Merges the glyphs from `start`, which is not in the out side, to `end`, or marks them, as `merging::merge_or_mark`
 /// does.
-pub fn merge_or_mark(
+pub(crate) fn merge_or_mark(
     info: &mut [hb_glyph_info_t],
     out_len: usize,
     cursor: usize,
@@ -59,7 +59,7 @@ pub fn merge_or_mark(
 }
 
 /// Adds the bits to the mask of each glyph from `start` to `end`, as `glyph_flags::mark_range` does.
-pub fn mark_range(
+pub(crate) fn mark_range(
     info: &mut [hb_glyph_info_t],
     out_len: usize,
     cursor: usize,
@@ -84,7 +84,7 @@ pub fn mark_range(
 
 /// Scans the glyphs from `start` to `end`, which is not in the out side, in two parts, as
 /// `glyph_flags::scan_two_parts` does.
-pub fn scan_two_parts(
+pub(crate) fn scan_two_parts(
     info: &mut [hb_glyph_info_t],
     out_len: usize,
     cursor: usize,
@@ -110,8 +110,8 @@ pub fn scan_two_parts(
 }
 
 /// Keeps the cluster of the glyph at the cursor, which then leaves the input, as `deletion::delete_head` does.
-#[tactic(auto, using(crate::proofs::SidesLemmas::next_left))]
-pub fn delete_at_cursor(
+#[tactic(auto, using(crate::proofs::Views::next_left))]
+pub(crate) fn delete_at_cursor(
     info: &mut [hb_glyph_info_t],
     out_len: usize,
     cursor: usize,
