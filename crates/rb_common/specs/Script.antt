@@ -1,10 +1,13 @@
-use Rattle.std.specs.Prelude.{ℕ, Option, Some, None, unwrap_or, ◌==◌, if◌then◌else◌, bit_and, bit_or, codes}
+use Rattle.std.specs.Prelude.{ℕ, Bool, Option, Some, None, unwrap_or, ◌==◌, if◌then◌else◌, bit_and, bit_or, codes}
 use Rattle.rb_common.specs.Tag.{tag_of}
-use Rattle.rb_common.specs.declared.script.TheConstants.{CAPITALS, SMALL_TAIL, COLUMNS, LETTER_COLUMNS}
 
--- the tag with its first letter made capital and the others made small
+-- the tag with its first letter made capital and the others made small: bit 5 of a byte makes a letter small
 abbrev pub title_case : ℕ → ℕ
-title_case t = bit_or (bit_and t CAPITALS) SMALL_TAIL
+title_case t = bit_or (bit_and t 0xDFDFDFDF) 0x00202020
+
+-- whether a tag stands in the columns of the letters: its first byte from 0x40 to 0x5F, the others from 0x60 to 0x7F
+abbrev pub is_in_letter_columns : ℕ → Bool
+is_in_letter_columns t = bit_and t 0xE0E0E0E0 == 0x40606060
 
 -- the script that a tag in title case is another name of: codes that were private once, and variants of a script
 abbrev pub alias_of : ℕ → Option ℕ
@@ -28,7 +31,7 @@ alias_of t =
 -- letters, or the unknown script
 abbrev pub script_by_title_case : ℕ → ℕ
 script_by_title_case t =
-    unwrap_or (alias_of t) (if bit_and t COLUMNS == LETTER_COLUMNS then t else tag_of (codes "Zzzz"))
+    unwrap_or (alias_of t) (if is_in_letter_columns t then t else tag_of (codes "Zzzz"))
 
 -- the script of a tag in any case, as the script's own tag; the null tag has none
 abbrev pub script_of : ℕ → Option ℕ

@@ -6,10 +6,9 @@ use crate::script::{self, Script};
 use std::str::FromStr;
 
 /// The way in which a line of text runs.
-#[derive(Clone, Copy, PartialEq, Eq, Hash, Debug, Default)]
+#[derive(Clone, Copy, PartialEq, Eq, Hash, Debug)]
 pub enum Direction {
     /// Not known yet.
-    #[default]
     Invalid,
     /// A horizontal line from left to right.
     LeftToRight,
@@ -109,6 +108,17 @@ impl Direction {
             script::OLD_HUNGARIAN | script::OLD_ITALIC | script::RUNIC | script::TIFINAGH => None,
             _ => Some(Direction::LeftToRight),
         }
+    }
+}
+
+impl Default for Direction {
+    ghost use Rattle.rb_common.specs.declared.direction.Direction.TheVariants.{Invalid};
+
+    ghost is_default = { λ direction. direction ≡ Invalid };
+
+    /// [`Direction::Invalid`].
+    fn default() -> Self {
+        Direction::Invalid
     }
 }
 

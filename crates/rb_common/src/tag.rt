@@ -9,7 +9,7 @@ pub const TAG_LEN: usize = 4;
 /// A name of four bytes, as the OpenType tag registry gives to features, scripts, languages and
 /// tables. The number holds the bytes with the first as the most significant. The default is the
 /// null tag, whose number is 0.
-#[derive(Clone, Copy, PartialEq, Eq, PartialOrd, Ord, Hash, Debug, Default)]
+#[derive(Clone, Copy, PartialEq, Eq, PartialOrd, Ord, Hash, Debug)]
 pub struct Tag(pub u32);
 
 impl Tag {
@@ -54,6 +54,15 @@ impl Tag {
         ensures { IsTrue result ↔ (self.0 ≡ 0) }
     {
         self.0 == 0
+    }
+}
+
+impl Default for Tag {
+    ghost is_default = { λ tag. tag.0 ≡ 0 };
+
+    /// The null tag.
+    fn default() -> Self {
+        Tag(0)
     }
 }
 

@@ -14,7 +14,6 @@ use Rattle.std.specs.declared.cmp.Ordering.TheVariants.{Less, Equal, Greater}
 use Rattle.std.proofs.lemmas.Cmp.{nat_list_cmp_total}
 use Rattle.std.proofs.lemmas.Map.Text.{is_eq-slice_cmp}
 use Rattle.rb_common.specs.declared.tag.Tag.{Tag}
-use Rattle.rb_text.specs.declared.tags.TheConstants.{MAX_TAGS}
 use Rattle.rb_text.specs.LanguageTable.{tags_of_key, tags_before_null, front_tags, rows_of, is_below}
 use Rattle.rb_text.specs.LanguageTable.{is_followed_by, is_table, rows_with}
 
@@ -196,11 +195,11 @@ tags_none key (row ∷ rows) first some table from h =
 pub tags_some : (key : List ℕ) (rows : List (Bor (List ℕ) × Tag)) (first : Bor (List ℕ) × Tag) → 1 ≤ length rows
     → is_table (rows_of rows) ≡ true → is_followed_by key (rows_of rows) ≡ true
     → bytes_eq (get_or rows 0 first).0.now key ≡ true
-    → tags_of_key key (rows_of rows) ≡ Some (take MAX_TAGS (front_tags key (rows_of rows)))
+    → tags_of_key key (rows_of rows) ≡ Some (take 3 (front_tags key (rows_of rows)))
 tags_some key [] first some table from h = absurd (omega arith)
 tags_some key (row ∷ rows) first some table from h =
     rw (front_is_all key (rows_of (row ∷ rows)) table from) (some_front key (row.0.now, row.1.0) (rows_of rows) h)
   where
     some_front : (key : List ℕ) (row : List ℕ × ℕ) (rows : List (List ℕ × ℕ)) → bytes_eq row.0 key ≡ true
-        → tags_of_key key (row ∷ rows) ≡ Some (take MAX_TAGS (tags_before_null (rows_with key (row ∷ rows))))
+        → tags_of_key key (row ∷ rows) ≡ Some (take 3 (tags_before_null (rows_with key (row ∷ rows))))
     some_front key row rows h = rw h refl

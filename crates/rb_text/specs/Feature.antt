@@ -9,22 +9,24 @@ use Rattle.std.specs.declared.ops.Bound.{Bound}
 use Rattle.std.specs.declared.ops.Bound.TheVariants.{Included, Excluded, Unbounded}
 use Rattle.rb_common.specs.Ascii.{hyphen, open_bracket, close_bracket, equals_sign, colon, semicolon}
 use Rattle.rb_common.specs.Tag.{lossy_tag_of}
-use Rattle.rb_common.specs.declared.tag.TheConstants.{TAG_LEN}
-use Rattle.rb_text.specs.declared.feature.TheConstants.{HB_FEATURE_GLOBAL_START, HB_FEATURE_GLOBAL_END}
 use Rattle.rb_text.specs.TextParser.{is_sign, is_quote, is_word, is_minus, signed_number, toggle_of}
 use Rattle.rb_text.specs.declared.feature.Feature.{Feature}
 
+-- the end of a range that reaches to the end of the text: the largest number of 32 bits
+abbrev pub last_end : ℕ
+last_end = 0xFFFFFFFF
+
 -- the start of a range with this bound, at most the largest number of 32 bits
 abbrev pub start_of : Bound ℕ → ℕ
-start_of (Included n) = min n HB_FEATURE_GLOBAL_END
-start_of (Excluded n) = min (n + 1) HB_FEATURE_GLOBAL_END
-start_of Unbounded = HB_FEATURE_GLOBAL_START
+start_of (Included n) = min n last_end
+start_of (Excluded n) = min (n + 1) last_end
+start_of Unbounded = 0
 
 -- the end of a range with this bound, with the same limit; the number before 0 is 0
 abbrev pub end_of : Bound ℕ → ℕ
-end_of (Included n) = min n HB_FEATURE_GLOBAL_END
-end_of (Excluded n) = min (n - 1) HB_FEATURE_GLOBAL_END
-end_of Unbounded = HB_FEATURE_GLOBAL_END
+end_of (Included n) = min n last_end
+end_of (Excluded n) = min (n - 1) last_end
+end_of Unbounded = last_end
 
 -- no byte is left, or the next one fails the test
 abbrev pub Stops : (ℕ → Bool) → List ℕ → Type 0
@@ -67,7 +69,7 @@ pub record TagPart (text : List ℕ) (tag : ℕ) (rest : List ℕ) : Type 0 wher
   pub gap_is : Whole is_ascii_whitespace text gap behind_gap
   pub quote_is : Optional is_quote behind_gap quote behind_quote
   pub word_is : Whole is_word behind_quote word behind_word
-  pub short : length word ≤ TAG_LEN
+  pub short : length word ≤ 4
   pub again : behind_word ≡ option_to_list quote ++ rest
   pub tag_is : tag ≡ lossy_tag_of word
 
@@ -86,16 +88,16 @@ word_or default (Some z) = cast_unsigned w32 z
 
 -- the end behind a single number: the next one, but the largest number stays
 abbrev pub end_after : Option ℤ → ℕ
-end_after None = HB_FEATURE_GLOBAL_END
+end_after None = last_end
 end_after (Some z) =
-    if cast_unsigned w32 z == HB_FEATURE_GLOBAL_END then HB_FEATURE_GLOBAL_END else cast_unsigned w32 z + 1
+    if cast_unsigned w32 z == last_end then last_end else cast_unsigned w32 z + 1
 
 -- no `[` stands: the range is that of the whole text
 pub record NoRange (text : List ℕ) (from to : ℕ) (rest : List ℕ) : Type 0 where
   pub cut : text ≡ rest
   pub stops : Stops (is_byte open_bracket) rest
-  pub from_is : from ≡ HB_FEATURE_GLOBAL_START
-  pub to_is : to ≡ HB_FEATURE_GLOBAL_END
+  pub from_is : from ≡ 0
+  pub to_is : to ≡ last_end
 
 -- `[`, a number and `]`
 pub record OneNumber (text : List ℕ) (from to : ℕ) (rest : List ℕ) : Type 0 where
@@ -103,7 +105,7 @@ pub record OneNumber (text : List ℕ) (from to : ℕ) (rest : List ℕ) : Type 
   pub number : Option ℤ
   pub opened : text ≡ open_bracket ∷ inner
   pub number_is : Number inner number (close_bracket ∷ rest)
-  pub from_is : from ≡ word_or HB_FEATURE_GLOBAL_START number
+  pub from_is : from ≡ word_or 0 number
   pub to_is : to ≡ end_after number
 
 -- `[`, a number, `:` or `;`, a number and `]`
@@ -117,8 +119,8 @@ pub record TwoNumbers (text : List ℕ) (from to : ℕ) (rest : List ℕ) : Type
   pub first_is : Number inner first (separator ∷ behind)
   pub separates : is_separator separator ≡ true
   pub second_is : Number behind second (close_bracket ∷ rest)
-  pub from_is : from ≡ word_or HB_FEATURE_GLOBAL_START first
-  pub to_is : to ≡ word_or HB_FEATURE_GLOBAL_END second
+  pub from_is : from ≡ word_or 0 first
+  pub to_is : to ≡ word_or last_end second
 
 abbrev pub Range : List ℕ → ℕ → ℕ → List ℕ → Type 0
 Range text from to rest = NoRange text from to rest ⊎ (OneNumber text from to rest ⊎ TwoNumbers text from to rest)

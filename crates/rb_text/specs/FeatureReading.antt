@@ -7,8 +7,7 @@ use Rattle.std.specs.Int.{cast_unsigned, w32}
 use Rattle.rb_text.specs.TextParser.{is_sign, is_quote, is_word, first_if, after_if, skip_while, short_tag, number_in}
 use Rattle.rb_text.specs.TextParser.{after_number, toggle_of}
 use Rattle.rb_common.specs.Ascii.{open_bracket, close_bracket, equals_sign}
-use Rattle.rb_text.specs.declared.feature.TheConstants.{HB_FEATURE_GLOBAL_START, HB_FEATURE_GLOBAL_END}
-use Rattle.rb_text.specs.Feature.{prefix_of, is_byte, is_separator, word_or, end_after}
+use Rattle.rb_text.specs.Feature.{prefix_of, is_byte, is_separator, word_or, last_end, end_after}
 use Rattle.rb_text.specs.declared.feature.Feature.{Feature}
 
 abbrev pub begins_with : ℕ → List ℕ → Bool
@@ -35,15 +34,15 @@ abbrev pub numbers_in : List ℕ → Option ((ℕ × ℕ) × List ℕ)
 numbers_in bytes =
     let behind : List ℕ = after_if is_separator (after_number bytes) in
     if is_some (first_if is_separator (after_number bytes))
-    then range_in_brackets (word_or HB_FEATURE_GLOBAL_START (number_in bytes))
-    (word_or HB_FEATURE_GLOBAL_END (number_in behind)) (after_number behind)
-    else range_in_brackets (word_or HB_FEATURE_GLOBAL_START (number_in bytes)) (end_after (number_in bytes))
+    then range_in_brackets (word_or 0 (number_in bytes))
+    (word_or last_end (number_in behind)) (after_number behind)
+    else range_in_brackets (word_or 0 (number_in bytes)) (end_after (number_in bytes))
     (after_number bytes)
 
 unfoldable pub range_in : List ℕ → Option ((ℕ × ℕ) × List ℕ)
 range_in bytes =
     if begins_with open_bracket bytes then numbers_in (after_if (is_byte open_bracket) bytes)
-    else Some ((HB_FEATURE_GLOBAL_START, HB_FEATURE_GLOBAL_END), bytes)
+    else Some ((0, last_end), bytes)
 
 -- the value of `on`, `off` or the prefix
 abbrev pub value_of_toggle : Bool → ℕ → Option Bool → List ℕ → Option (ℕ × List ℕ)

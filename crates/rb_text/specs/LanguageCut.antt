@@ -5,7 +5,6 @@ use Rattle.std.specs.Prelude.{nat_eq, length, drop, option_map, codes}
 use Rattle.std.specs.List.{starts_with, before_first, after_first}
 use Rattle.std.specs.Char.{is_ascii_alphabetic}
 use Rattle.rb_common.specs.Ascii.{hyphen}
-use Rattle.rb_text.specs.declared.language_cut.TheConstants.{EXTENDED_PREFIX_MIN}
 
 abbrev pub is_hyphen : ℕ → Bool
 is_hyphen b = b == hyphen
@@ -58,9 +57,9 @@ is_extended (a ∷ b ∷ []) = false
 is_extended (a ∷ b ∷ c ∷ []) = is_ascii_alphabetic a
 is_extended (a ∷ b ∷ c ∷ d ∷ more) = false
 
--- the subtag of a prefix that is looked up in a table: the second where that is an extended language and the prefix is
--- long enough, and else the first
+-- the subtag of a prefix that is looked up in a table: the second where that is an extended language and the prefix has
+-- at least six bytes, and else the first
 abbrev pub key_of : List ℕ → List ℕ
 key_of prefix =
-    if nat_le EXTENDED_PREFIX_MIN (length prefix) && is_extended (second_subtag prefix) then second_subtag prefix
+    if nat_le 6 (length prefix) && is_extended (second_subtag prefix) then second_subtag prefix
     else before_first is_hyphen prefix

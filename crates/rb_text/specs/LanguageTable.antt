@@ -8,7 +8,6 @@ use Rattle.std.specs.Char.{is_ascii_lowercase, is_ascii_digit}
 use Rattle.std.specs.Borrow.{Bor}
 use Rattle.std.specs.Str.{bytes_eq}
 use Rattle.rb_common.specs.declared.tag.Tag.{Tag}
-use Rattle.rb_text.specs.declared.tags.TheConstants.{MAX_TAGS}
 
 -- the rows by the bytes of their keys and the numbers of their tags
 abbrev pub rows_of : List (Bor (List ℕ) × Tag) → List (List ℕ × ℕ)
@@ -43,7 +42,7 @@ tags_before_null rows = before_first (λ tag. tag == 0) (map (λ row. row.1) row
 -- the tags of rows up to a null tag and at most three; `None` where there is no row
 abbrev pub tags_of_rows : List (List ℕ × ℕ) → Option (List ℕ)
 tags_of_rows [] = None
-tags_of_rows (row ∷ rows) = Some (take MAX_TAGS (tags_before_null (row ∷ rows)))
+tags_of_rows (row ∷ rows) = Some (take 3 (tags_before_null (row ∷ rows)))
 
 -- the tags that a table has for a key
 abbrev pub tags_of_key : List ℕ → List (List ℕ × ℕ) → Option (List ℕ)

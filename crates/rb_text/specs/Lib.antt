@@ -5,3 +5,9 @@ pub mod LanguageCut
 pub mod LanguageTable
 pub mod Tags
 pub mod TextParser
+pub use Rattle.rb_common.specs.Ascii
+pub use Rattle.rb_common.specs.Direction
+pub use Rattle.rb_common.specs.Script
+pub use Rattle.rb_common.specs.Tag
+pub use Rattle.rb_common.specs.declared.direction
+pub use Rattle.rb_common.specs.declared.tag

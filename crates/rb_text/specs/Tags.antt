@@ -8,8 +8,6 @@ use Rattle.std.specs.Int.{to_be_bytes, w32}
 use Rattle.rb_common.specs.Tag.{tag_of, lossy_tag_of, uppercase_tag}
 use Rattle.rb_text.specs.LanguageCut.{prefix_of, private_use_of, from_first, key_of}
 use Rattle.rb_text.specs.LanguageTable.{tags_of_key}
-use Rattle.rb_text.specs.declared.tags.TheConstants.{SMALL_FIRST_LETTER}
-use Rattle.rb_common.specs.declared.tag.TheConstants.{TAG_LEN}
 
 -- the tag of the second shaping specification of a script, which some scripts of India and that of Myanmar have
 abbrev pub new_tag : ℕ → Option ℕ
@@ -34,7 +32,7 @@ old_tag script =
     else if script == tag_of (codes "Yiii") then tag_of (codes "yi  ")
     else if script == tag_of (codes "Nkoo") then tag_of (codes "nko ")
     else if script == tag_of (codes "Vaii") then tag_of (codes "vai ")
-    else bit_or script SMALL_FIRST_LETTER
+    else bit_or script 0x20000000
 
 -- the tag with `3` as its last byte
 abbrev pub third_tag : ℕ → ℕ
@@ -63,7 +61,7 @@ swap_dflt tag =
 
 -- the letters and digits behind a mark, four at most
 abbrev pub word_behind : List ℕ → List ℕ → List ℕ
-word_behind mark rest = take_while is_ascii_alphanumeric (take TAG_LEN (drop (length mark) rest))
+word_behind mark rest = take_while is_ascii_alphanumeric (take 4 (drop (length mark) rest))
 
 -- the tag of a word, where it has a byte
 abbrev pub word_tag : List ℕ → Option ℕ

@@ -6,7 +6,6 @@ use Rattle.std.specs.Char.{is_ascii_alphanumeric, is_ascii_digit, to_ascii_lower
 use Rattle.std.specs.Str.Parse.{digits_value}
 use Rattle.rb_common.specs.Ascii.{plus_sign, hyphen, single_quote, double_quote, low_line, small_o, small_n, small_f}
 use Rattle.rb_common.specs.Tag.{lossy_tag_of}
-use Rattle.rb_common.specs.declared.tag.TheConstants.{TAG_LEN}
 
 -- `+` or `-`
 abbrev pub is_sign : ℕ → Bool
@@ -34,9 +33,9 @@ after_if p (b ∷ bs) = if p b then bs else b ∷ bs
 abbrev pub skip_while : (ℕ → Bool) → List ℕ → List ℕ
 skip_while p bytes = drop (prefix_len p bytes) bytes
 
--- the tag of a word, where it has no more bytes than a tag
+-- the tag of a word, where it has no more than the four bytes of a tag
 abbrev pub short_tag : List ℕ → Option ℕ
-short_tag word = if nat_lt TAG_LEN (length word) then None else Some (lossy_tag_of word)
+short_tag word = if nat_lt 4 (length word) then None else Some (lossy_tag_of word)
 
 -- how many numbers of 32 bits with a sign are below 0
 abbrev pub i32_limit : ℕ

@@ -36,7 +36,7 @@ pub struct Feature {
 
 impl Feature {
     ghost use Rattle.std.specs.Prelude.{◌≡◌, ◌↔◌, IsTrue};
-    ghost use Rattle.rb_text.specs.Feature.{start_of, end_of};
+    ghost use Rattle.rb_text.specs.Feature.{start_of, end_of, last_end};
 
     /// A feature over the clusters between two bounds: the fields of HarfBuzz's `hb_feature_t`, with
     /// the bounds read as rustybuzz reads them.
@@ -70,8 +70,7 @@ impl Feature {
     /// Whether the feature reaches the whole text.
     pub fn is_global(&self) -> bool
         ensures { IsTrue result
-            ↔ ((self.now.start ≡ HB_FEATURE_GLOBAL_START)
-            × (self.now.end ≡ HB_FEATURE_GLOBAL_END)) }
+            ↔ ((self.now.start ≡ 0) × (self.now.end ≡ last_end)) }
     {
         self.start == HB_FEATURE_GLOBAL_START && self.end == HB_FEATURE_GLOBAL_END
     }

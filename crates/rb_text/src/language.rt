@@ -1,5 +1,5 @@
 //! Languages, named by tags of BCP 47.
-ghost use Rattle.std.specs.Prelude.{◌≡◌, ◌↔◌, [], map, IfOk, IsErrOf};
+ghost use Rattle.std.specs.Prelude.{◌≡◌, ◌↔◌, ◌<◌, [], length, map, IfOk, IsErrOf};
 ghost use Rattle.std.specs.Char.{to_ascii_lowercase};
 
 use std::alloc::Global;
@@ -40,6 +40,7 @@ impl Language {
     pub fn from_str(alloc: Global, text: &str) -> Result<Self, LanguageError>
         ensures value { IfOk result (λ language. language ≡ map to_ascii_lowercase text.now) }
         ensures invalid { IsErrOf result LanguageError.Invalid ↔ (text.now ≡ []) }
+        ensures memory { IsErrOf result LanguageError.Memory → 0 < length text.now }
     {
         if text.is_empty() {
             return Err(LanguageError::Invalid);

@@ -94,7 +94,7 @@ fn is_same(text: &str, key: &[u8]) -> bool
 /// Adds the tags of the rows at the front that have the key, up to a null tag and as far as there is room.
 fn push_front_tags(rows: &[(&str, Tag)], key: &[u8], tags: &mut ThreeTags)
     ensures { map (λ t. t.0) tags.new.items ≡ map (λ t. t.0) tags.old.items
-        ++ take (MAX_TAGS - array_vec_len tags.old) (front_tags key.now (rows_of rows.now)) }
+        ++ take (3 - array_vec_len tags.old) (front_tags key.now (rows_of rows.now)) }
 {
     let [(name, tag), rest @ ..] = rows else {
         return;

@@ -41,10 +41,9 @@ pub trait SmallVecExt {
 
 impl SmallVecExt for ThreeTags {
     ghost use Rattle.std.specs.Prelude.{◌-◌};
-    ghost use Rattle.rb_text.specs.declared.tags.TheConstants.{MAX_TAGS};
     ghost use Rattle.arrayvec.specs.ArrayVec.{array_vec_len};
 
-    ghost room = { λ tags. MAX_TAGS - array_vec_len tags };
+    ghost room = { λ tags. 3 - array_vec_len tags };
 
     fn left(&self) -> usize {
         MAX_TAGS - self.len()
@@ -232,7 +231,7 @@ fn tag_behind(mark: &[u8], private: &[u8]) -> Option<Tag>
 
 /// The letters and digits that stand at the front, four at most.
 fn word(rest: &[u8]) -> &[u8]
-    ensures { result.now ≡ take_while is_ascii_alphanumeric (take TAG_LEN rest.now) }
+    ensures { result.now ≡ take_while is_ascii_alphanumeric (take 4 rest.now) }
 {
     let front = &rest[..rest.len().min(TAG_LEN)];
     &front[..word_len(front)]

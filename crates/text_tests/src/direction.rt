@@ -43,6 +43,7 @@ fn each_direction_has_its_line_and_its_opposite(rt: HostRuntime) {
         let named = text.parse::<Direction>().unwrap_or_default();
         assert!(rt; (named, direction.reverse()) == (direction, reverse));
     }
+    assert!(rt; Direction::default() == Direction::Invalid);
     assert!(rt; " ltr".parse::<Direction>() == Err("invalid direction"));
 }
 

@@ -15,3 +15,11 @@ fn a_language_is_its_text_in_small_letters(rt: HostRuntime) -> Result<(), Fail> 
     assert!(rt; (LanguageError::Invalid as u8, LanguageError::Memory as u8) == (1, 2));
     Ok(())
 }
+
+#[test]
+fn a_language_of_three_hundred_bytes_is_kept_whole(rt: HostRuntime) -> Result<(), Fail> {
+    let text = "Zh-".repeat(rt.alloc(), 100)?;
+    let language = Language::from_str(rt.alloc(), text.as_str())?;
+    assert!(rt; language.as_str() == "zh-".repeat(rt.alloc(), 100)?.as_str());
+    Ok(())
+}

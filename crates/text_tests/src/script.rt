@@ -242,7 +242,7 @@ fn constants_from_t_to_z_have_the_codes_of_their_names(rt: HostRuntime) {
 }
 
 /// Texts, and the scripts that they name.
-static OTHER_NAMES: [(&str, &str); 16] = [
+static OTHER_NAMES: [(&str, &str); 17] = [
     ("Qaai", "Zinh"),
     ("Qaac", "Copt"),
     ("Aran", "Arab"),
@@ -259,6 +259,18 @@ static OTHER_NAMES: [(&str, &str); 16] = [
     ("wWyZ", "Wwyz"),
     ("1234", "Zzzz"),
     ("ab", "Zzzz"),
+    ("Abc", "Zzzz"),
+];
+
+/// Tags with other bytes than letters, and the tags of their scripts. In title case a tag is in the columns of the
+/// letters where its bits 0xE0E0E0E0 are 0x40606060; else it names the unknown script, `Zzzz`.
+static COLUMNS: [(u32, u32); 6] = [
+    (0x41626320, 0x5a7a7a7a),
+    (0x407b7e7f, 0x407b7e7f),
+    (0x1f626364, 0x5a7a7a7a),
+    (0x41206364, 0x5a7a7a7a),
+    (0xc1626364, 0x5a7a7a7a),
+    (0x416263e4, 0x5a7a7a7a),
 ];
 
 #[test]
@@ -269,4 +281,12 @@ fn texts_name_scripts_in_any_case_and_by_other_names(rt: HostRuntime) {
     let named = ["", "hANT", "1234"].map(|text| text.parse::<Script>());
     assert!(rt; named == [Err("invalid script"), Ok(HAN), Ok(UNKNOWN)]);
     assert!(rt; Script::from_iso15924_tag(Tag(0)).is_none());
+}
+
+#[test]
+fn tags_in_the_columns_of_the_letters_name_scripts_of_their_own(rt: HostRuntime) {
+    for &(number, script) in &COLUMNS {
+        let named = Script::from_iso15924_tag(Tag(number)).map(|found| found.tag());
+        assert!(rt; named == Some(Tag(script)));
+    }
 }

@@ -21,4 +21,5 @@ fn tags_are_four_bytes(rt: HostRuntime) {
     }
     let named = [Tag::default_language().0, Tag::default_script().0];
     assert!(rt; named == [0x64666c74, 0x44464c54]);
+    assert!(rt; Tag::default().is_null());
 }
