@@ -1,29 +1,30 @@
--- Hangul composition, after the Unicode Standard, section 3.12: which two characters make which syllable.
+-- Hangul composition, after the Unicode Standard, section 3.12: which two characters make which syllable. Syllables
+-- begin at U+AC00. There are 19 leading consonants from U+1100 on, 21 vowels from U+1161 on, and 28 choices of a trailing
+-- consonant: none, or one of those from U+11A8 on.
 use Rattle.std.specs.Prelude.{ℕ, ◌≡◌, ◌+◌, ◌*◌, ◌<◌, ◌≤◌, ◌⊎◌, ◌↔◌, Option, Some}
-use Rattle.rb_glyph.specs.declared.hangul.TheConstants.{S_BASE, L_BASE, V_BASE, T_BASE, L_COUNT, V_COUNT, T_COUNT}
 
 -- The i-th leading consonant and the j-th vowel make a syllable without a trailing consonant.
 pub record LeadingComposes (s a b : ℕ) : Type 0 where
   pub i : ℕ
   pub j : ℕ
-  pub leading : i < L_COUNT
-  pub vowel : j < V_COUNT
-  pub syllable : s ≡ S_BASE + (i * V_COUNT + j) * T_COUNT
-  pub first : a ≡ L_BASE + i
-  pub second : b ≡ V_BASE + j
+  pub leading : i < 19
+  pub vowel : j < 21
+  pub syllable : s ≡ 0xAC00 + (i * 21 + j) * 28
+  pub first : a ≡ 0x1100 + i
+  pub second : b ≡ 0x1161 + j
 
 -- Such a syllable and the t-th trailing consonant, from 1 on, make a syllable with it.
 pub record TrailingComposes (s a b : ℕ) : Type 0 where
   pub i : ℕ
   pub j : ℕ
   pub t : ℕ
-  pub leading : i < L_COUNT
-  pub vowel : j < V_COUNT
+  pub leading : i < 19
+  pub vowel : j < 21
   pub some : 1 ≤ t
-  pub trailing : t < T_COUNT
-  pub first : a ≡ S_BASE + (i * V_COUNT + j) * T_COUNT
+  pub trailing : t < 28
+  pub first : a ≡ 0xAC00 + (i * 21 + j) * 28
   pub syllable : s ≡ a + t
-  pub second : b ≡ T_BASE + t
+  pub second : b ≡ 0x11A7 + t
 
 -- The characters a and b make the syllable s.
 abbrev pub HangulComposes : ℕ → ℕ → ℕ → Type 0

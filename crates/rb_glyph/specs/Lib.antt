@@ -10,3 +10,5 @@ pub mod Scripts
 pub mod Search
 pub mod Tables
 pub mod UnicodeProps
+pub use Rattle.rb_common.specs.Script
+pub use Rattle.rb_common.specs.Tag
