@@ -13,3 +13,9 @@ pub mod ClusterNumbers
 pub mod Groups
 pub mod DeletingWalk
 pub mod ClusterReads
+-- what the public clauses name of the crates below
+pub use Rattle.rb_common.specs.Tag
+pub use Rattle.rb_common.specs.declared.direction.Direction
+pub use Rattle.rb_glyph.specs.Fields
+pub use Rattle.rb_glyph.specs.Scripts
+pub use Rattle.rb_glyph.specs.declared.info.hb_glyph_info_t

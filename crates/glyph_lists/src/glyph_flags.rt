@@ -17,6 +17,11 @@ use rb_glyph::{glyph_flag, hb_glyph_info_t};
 /// What `unsafe_to_break` adds, and a merge in any order of clusters: what is unsafe to break is unsafe to concatenate.
 pub const BREAK_BITS: u32 = glyph_flag::UNSAFE_TO_BREAK | glyph_flag::UNSAFE_TO_CONCAT;
 
+/// A law with no code: these are bit 0, unsafe to break, and bit 1, unsafe to concatenate.
+pub fn break_bits_have_their_number()
+    ensures { BREAK_BITS ≡ 3 }
+{}
+
 /// Adds the bits to the glyph's mask.
 #[inline]
 #[tactic(auto, unfolding(crate::specs::Marks::with_glyph_flags))]

@@ -107,6 +107,27 @@ fn placed() -> GlyphPosition {
     }
 }
 
+/// The text of the glyph 65535, the highest that a name may be asked of, and of no glyph.
+#[test]
+fn the_highest_glyph_is_named_by_its_number(rt: HostRuntime) -> Result<(), Fail> {
+    let info = hb_glyph_info_t {
+        glyph_id: 65535,
+        ..hb_glyph_info_t::default()
+    };
+    let flags = SerializeFlags::GLYPH_EXTENTS;
+    let text = glyphs_text(
+        rt.alloc(),
+        &Five,
+        flags,
+        &[info],
+        &[GlyphPosition::default()],
+    )?;
+    assert!(rt; text.as_str() == "gid65535=0+0<0,0,0,0>");
+    let nothing = glyphs_text(rt.alloc(), &Five, flags, &[], &[])?;
+    assert!(rt; nothing.is_empty());
+    Ok(())
+}
+
 /// The glyph 5 of cluster 0 has all of a mask's bits but one, an offset and advances below 0, and the glyph 6 of
 /// cluster 7 has none of these.
 #[test]

@@ -10,5 +10,6 @@ pub mod Scripts
 pub mod Search
 pub mod Tables
 pub mod UnicodeProps
+-- what the public clauses name of the crate below
 pub use Rattle.rb_common.specs.Script
 pub use Rattle.rb_common.specs.Tag

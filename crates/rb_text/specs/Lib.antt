@@ -5,6 +5,7 @@ pub mod LanguageCut
 pub mod LanguageTable
 pub mod Tags
 pub mod TextParser
+-- what the public clauses name of the crate below
 pub use Rattle.rb_common.specs.Ascii
 pub use Rattle.rb_common.specs.Direction
 pub use Rattle.rb_common.specs.Script
