@@ -93,6 +93,7 @@ fn languages_and_levels_are_told_again(rt: HostRuntime) -> Result<(), Fail> {
     assert!(rt; text.language().ok_or("no language")?.as_str() == "en");
     text.set_cluster_level(BufferClusterLevel::Characters);
     assert!(rt; text.cluster_level() == BufferClusterLevel::Characters);
+    assert!(rt; BufferClusterLevel::default() == BufferClusterLevel::MonotoneGraphemes);
     let printed = format!(in rt.alloc(); "{:?}", BufferClusterLevel::default())?;
     assert!(rt; printed.as_str() == "MonotoneGraphemes");
     Ok(())

@@ -12,7 +12,7 @@ use crate::cluster_level::{
     HB_BUFFER_CLUSTER_LEVEL_GRAPHEMES, HB_BUFFER_CLUSTER_LEVEL_MONOTONE_CHARACTERS,
     hb_buffer_cluster_level_t,
 };
-use glyph_lists::context::{CONTEXT_LENGTH, Context};
+use glyph_lists::context::Context;
 use glyph_sides::Sides;
 use rb_glyph::{
     BufferFlags, Flags, GlyphPosition, HB_BUFFER_SCRATCH_FLAG_DEFAULT,
@@ -261,7 +261,7 @@ impl hb_buffer_t {
         requires { side < 2 }
         ensures side { result.now
             ≡ (if side == 0 then self.now.pre_context else self.now.post_context) }
-        ensures at_most_five { length result.now ≤ CONTEXT_LENGTH }
+        ensures at_most_five { length result.now ≤ 5 }
     {
         if side == 0 {
             return self.pre_context.as_slice();

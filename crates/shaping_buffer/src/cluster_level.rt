@@ -26,11 +26,10 @@ pub const HB_BUFFER_CLUSTER_LEVEL_DEFAULT: hb_buffer_cluster_level_t =
     HB_BUFFER_CLUSTER_LEVEL_MONOTONE_GRAPHEMES;
 
 /// How far clusters are merged, by name.
-#[derive(Clone, Copy, PartialEq, Eq, Hash, Debug, Default)]
+#[derive(Clone, Copy, PartialEq, Eq, Hash, Debug)]
 pub enum BufferClusterLevel {
     /// Merges change clusters. A shaper that stands above first makes the characters of a grapheme one cluster; no
     /// call here does.
-    #[default]
     MonotoneGraphemes,
     /// Merges change clusters. A shaper that stands above leaves each character in its own cluster.
     MonotoneCharacters,
@@ -39,6 +38,17 @@ pub enum BufferClusterLevel {
     Characters,
     /// As `Characters`, except that `merge_grapheme_clusters` makes a grapheme one cluster.
     Graphemes,
+}
+
+impl Default for BufferClusterLevel {
+    ghost use Rattle.shaping_buffer.specs.declared.cluster_level.BufferClusterLevel.TheVariants.{MonotoneGraphemes};
+
+    ghost is_default = { λ level. level ≡ MonotoneGraphemes };
+
+    /// The level of a new buffer, [`BufferClusterLevel::MonotoneGraphemes`].
+    fn default() -> Self {
+        BufferClusterLevel::MonotoneGraphemes
+    }
 }
 
 impl BufferClusterLevel {
