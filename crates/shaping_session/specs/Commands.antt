@@ -13,7 +13,6 @@ use Rattle.shaping_runs.specs.declared.call.Call.TheVariants.{UnsafeToBreakFromO
 use Rattle.shaping_runs.specs.declared.call.Call.TheVariants.{UnsafeToConcat, UnsafeToConcatFromOutbuffer}
 use Rattle.shaping_session.specs.Words.{Left, first_word, past_first_word, past_space}
 use Rattle.shaping_session.specs.Words.{next_character, next_language, next_place, next_script, next_u32}
-use Rattle.shaping_session.specs.declared.command.TheConstants.{ALL_BUFFER_FLAGS, ALL_SERIALIZE_FLAGS}
 use Rattle.shaping_session.specs.declared.command.Command.{Command}
 use Rattle.shaping_session.specs.declared.command.Command.TheVariants.{Push, Add, Level, Flags, Limit, Make}
 use Rattle.shaping_session.specs.declared.command.Command.TheVariants.{ReplaceGlyphs, State, Serialize, New, Feature}
@@ -174,18 +173,18 @@ query_in name left =
     else if bytes_eq name (codes "decompose") then with_character decompose left
     else call_request (call_in name left)
 
--- those that print a text
+-- those that print a text; the six flags to print by are the bits of the numbers up to 63
 unfoldable pub question_in : List ℕ → Left → Taken Request
 question_in name left =
     if bytes_eq name (codes "state") then alone state left
-    else if bytes_eq name (codes "serialize") then with_number_to ALL_SERIALIZE_FLAGS serialize left
+    else if bytes_eq name (codes "serialize") then with_number_to 63 serialize left
     else query_in name left
 
--- those that say how the text is treated
+-- those that say how the text is treated; the eight flags of a buffer are the bits of the numbers up to 255
 unfoldable pub treatment_in : List ℕ → Left → Taken Request
 treatment_in name left =
     if bytes_eq name (codes "level") then with_number_to 3 level left
-    else if bytes_eq name (codes "flags") then with_number_to ALL_BUFFER_FLAGS flags left
+    else if bytes_eq name (codes "flags") then with_number_to 255 flags left
     else if bytes_eq name (codes "limit") then with_place limit left
     else question_in name left
 

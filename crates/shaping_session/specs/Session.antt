@@ -19,7 +19,6 @@ use Rattle.shaping_session.specs.Replies.{answer_text, truth_text}
 use Rattle.shaping_session.specs.StateText.{state_text}
 use Rattle.shaping_session.specs.Commands.{Request, push, add, level, flags, limit, call, replace_glyphs, state}
 use Rattle.shaping_session.specs.Commands.{serialize, new, feature, tags, compose, decompose}
-use Rattle.shaping_session.specs.declared.session.TheConstants.{LAST_GLYPH}
 use Rattle.shaping_session.specs.declared.session.Session.{Session}
 use Rattle.shaping_session.specs.declared.session.Session.TheVariants.{Text, Turned}
 
@@ -81,7 +80,7 @@ FollowsState before after answer = (after ≡ Turned (held_by before)) × (answe
 
 -- the number of a glyph has 16 bits
 abbrev pub is_glyph : hb_glyph_info_t → Bool
-is_glyph g = nat_le g.glyph_id LAST_GLYPH
+is_glyph g = nat_le g.glyph_id 65535
 
 -- whether glyphs may be printed under these flags: no output is open, and where the font is asked each id is a glyph's
 unfoldable pub may_be_printed : SerializeFlags → State → Bool

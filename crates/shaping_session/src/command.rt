@@ -288,7 +288,7 @@ fn level_of(number: u32) -> Option<BufferClusterLevel>
 
 /// A number that has none but flags of a buffer.
 fn flags_of(number: u32) -> Option<u32>
-    ensures { result ≡ at_most ALL_BUFFER_FLAGS (Some number) }
+    ensures { result ≡ at_most 255 (Some number) }
 {
     if number <= ALL_BUFFER_FLAGS {
         Some(number)
@@ -299,7 +299,7 @@ fn flags_of(number: u32) -> Option<u32>
 
 /// A number that has none but flags to print by.
 fn serialize_flags_of(number: u32) -> Option<u8>
-    ensures { result ≡ at_most ALL_SERIALIZE_FLAGS (Some number) }
+    ensures { result ≡ at_most 63 (Some number) }
 {
     let flags = u8::try_from(number).ok()?;
     if flags <= ALL_SERIALIZE_FLAGS {
