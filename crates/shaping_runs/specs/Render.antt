@@ -18,7 +18,6 @@ use Rattle.shaping_runs.specs.declared.call.Answer.TheVariants as answer
 use Rattle.shaping_runs.specs.declared.rendering.RenderFault.{RenderFault}
 use Rattle.shaping_runs.specs.declared.rendering.RenderFault.TheVariants.{Length, Refused, Memory, TooManyFeatures}
 use Rattle.shaping_runs.specs.declared.rendering.RenderFault.TheVariants.{OutputLeftOpen}
-use Rattle.shaping_runs.specs.declared.rendering.TheConstants.{MAX_FEATURES, FIRST_FEATURE_BIT}
 use Rattle.shaping_runs.specs.Replay.{turn, after, answers_of, StopsAt}
 
 -- ---- the text with its features
@@ -27,9 +26,9 @@ use Rattle.shaping_runs.specs.Replay.{turn, after, answers_of, StopsAt}
 abbrev pub pushed_text : BufferClusterLevel → List ℕ → Outcome
 pushed_text level text = pushed text (record (empty_state MAX_LEN_DEFAULT MAX_OPS_DEFAULT) { cluster_level = level_of level })
 
--- the mask bit of the feature at a place
+-- the mask bit of the feature at a place: bit 8 for the first, as the lower ones are for glyph flags
 abbrev pub feature_bit : ℕ → ℕ
-feature_bit i = 2 ^ (FIRST_FEATURE_BIT + i)
+feature_bit i = 2 ^ (8 + i)
 
 -- the bit of the feature at this place is set in its range, or cleared where its value is 0
 abbrev pub with_feature : ℕ → Feature → State → State
@@ -84,7 +83,7 @@ FailsOnText _ level text = ⊥
 
 -- the features are not too many and the text fits, so the calls are made
 pub record ComesToCalls (level : BufferClusterLevel) (text : List ℕ) (features : List Feature) : Type 0 where
-  pub few : length features ≤ MAX_FEATURES
+  pub few : length features ≤ 24
   pub fits : (pushed_text level text).done ≡ true
 
 -- Done: the glyphs are those of the text after its features and all calls, at positions of 0.
@@ -98,9 +97,9 @@ pub record RendersTo (level : BufferClusterLevel) (text : List ℕ) (features : 
 -- Not done: why, and what the answers hold.
 abbrev pub Fails : RenderFault → BufferClusterLevel → List ℕ → List Feature → List Call → List Answer → List Answer
     → Type 0
-Fails TooManyFeatures level text features calls before answers = (MAX_FEATURES < length features) × (answers ≡ before)
+Fails TooManyFeatures level text features calls before answers = (24 < length features) × (answers ≡ before)
 Fails Length level text features calls before answers =
-    (length features ≤ MAX_FEATURES) × ((pushed_text level text).done ≡ false) × (answers ≡ before)
+    (length features ≤ 24) × ((pushed_text level text).done ≡ false) × (answers ≡ before)
 Fails (Memory None) level text features calls before answers = ComesToCalls level text features × (answers ≡ before)
 Fails (Refused at) level text features calls before answers =
     ComesToCalls level text features × RefusedAt at calls (text_with_features level text features) before answers
