@@ -37,8 +37,6 @@ mod properties;
 mod references;
 mod replacement;
 
-pub use groups::_cluster_group_func;
-
 /// A text on its way through shaping: glyphs in reading order with a cursor, and while an output is open a second
 /// list, the out side, that calls put glyphs into while they read the first.
 #[derive(Drop)]

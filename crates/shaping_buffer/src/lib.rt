@@ -4,7 +4,8 @@
 //! [`GlyphBuffer`] and its text.
 #![tactic(auto)]
 
-pub use buffer::{_cluster_group_func, hb_buffer_t};
+pub use buffer::hb_buffer_t;
+pub use cluster_group::_cluster_group_func;
 pub use cluster_level::{
     BufferClusterLevel, HB_BUFFER_CLUSTER_LEVEL_CHARACTERS, HB_BUFFER_CLUSTER_LEVEL_DEFAULT,
     HB_BUFFER_CLUSTER_LEVEL_GRAPHEMES, HB_BUFFER_CLUSTER_LEVEL_MONOTONE_CHARACTERS,
@@ -33,6 +34,7 @@ pub use rb_text::{
 pub use unicode_buffer::UnicodeBuffer;
 
 mod buffer;
+pub mod cluster_group;
 pub mod cluster_level;
 mod glyph_buffer;
 pub mod laws;
