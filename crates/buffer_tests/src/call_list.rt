@@ -154,6 +154,32 @@ fn both_sides_stand_in_one_vector(rt: HostRuntime) -> Result<(), Fail> {
     Ok(())
 }
 
+/// Asserts that the storage has five glyphs, and these at their places.
+fn assert_places(rt: &impl Abort, buffer: &hb_buffer_t, want: &[(usize, u32)]) {
+    assert!(rt; !buffer.have_separate_output());
+    let storage = buffer.storage();
+    assert!(rt; storage.len() == 5);
+    for (place, id) in want {
+        assert!(rt; *place < storage.len());
+        assert!(rt; storage[*place].glyph_id == *id);
+    }
+}
+
+#[test]
+fn a_rewind_moves_glyphs_up_in_the_vector(rt: HostRuntime) {
+    let mut buffer = buffer_of(&rt, rt.alloc(), "ZABCD");
+    for call in [Call::ClearOutput, Call::SkipGlyph] {
+        make_one(&rt, &mut buffer, call, false);
+    }
+    for _ in 0..3 {
+        make_one(&rt, &mut buffer, Call::NextGlyph, false);
+    }
+    assert_places(&rt, &buffer, &[(0, 65), (1, 66), (2, 67), (4, 68)]);
+    make_one(&rt, &mut buffer, Call::MoveTo(0), false);
+    assert!(rt; (buffer.idx(), buffer.out_len()) == (1, 0));
+    assert_places(&rt, &buffer, &[(1, 65), (2, 66), (3, 67), (4, 68)]);
+}
+
 /// Makes a call, and asserts that it is done, and whether the output is separate behind it.
 fn make_one(rt: &impl Abort, buffer: &mut hb_buffer_t, call: Call<'_>, separate: bool) {
     let mut answers = [OUTSIDE];
@@ -261,7 +287,7 @@ fn answer_at(
 
 #[test]
 fn a_limit_is_met_and_one_below_is_refused(rt: HostRuntime) {
-    for level in 0..4 {
+    for level in [0, 1, 2, 3, 4, 4_294_967_295] {
         for held in &HELD {
             assert!(rt; answer_at(&rt, rt.alloc(), level, held, held.2) == DONE);
             assert!(rt;

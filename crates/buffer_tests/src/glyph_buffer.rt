@@ -1,6 +1,7 @@
 use crate::lists::buffer_of;
 use rb_glyph::NoGlyphNames;
 use shaping_buffer::{Flags, GlyphBuffer, SerializeFlags};
+use shaping_uses::comparing::equal_texts_mean_equal_glyphs;
 use std::alloc::Global;
 use std::process::Abort;
 use std::test::Fail;
@@ -44,5 +45,26 @@ fn glyphs_have_infos_and_positions(rt: HostRuntime) -> Result<(), Fail> {
     assert_written(&rt, rt.alloc(), &shaped, "97=0+0|98=1+0")?;
     let text = shaped.clear();
     assert!(rt; text.is_empty());
+    Ok(())
+}
+
+/// The text of glyphs by their numbers and with their flags.
+fn numbered(alloc: Global, shaped: &GlyphBuffer) -> Result<String, Fail> {
+    let flags = SerializeFlags::NO_GLYPH_NAMES.union(SerializeFlags::GLYPH_FLAGS);
+    Ok(shaped.serialize(alloc, &NoGlyphNames, flags)?)
+}
+
+#[test]
+fn equal_texts_are_of_equal_glyphs(rt: HostRuntime) -> Result<(), Fail> {
+    let texts = ["", "a", "ab", "ac", "abc"];
+    for one in texts {
+        for other in texts {
+            let first = glyphs(&rt, rt.alloc(), one);
+            let second = glyphs(&rt, rt.alloc(), other);
+            equal_texts_mean_equal_glyphs(&first, &second);
+            let equal = numbered(rt.alloc(), &first)? == numbered(rt.alloc(), &second)?;
+            assert!(rt; equal == (one == other));
+        }
+    }
     Ok(())
 }

@@ -1,4 +1,4 @@
-use shaping_buffer::{UnicodeBuffer, hb_buffer_t, hb_glyph_info_t};
+use shaping_buffer::{_cluster_group_func, UnicodeBuffer, hb_buffer_t, hb_glyph_info_t};
 use std::alloc::Global;
 use std::cell::Cell;
 use std::process::Abort;
@@ -50,7 +50,7 @@ fn reverse_range(rt: &impl Abort, buffer: &mut hb_buffer_t, start: usize, end: u
 
 fn reverse_clusters(rt: &impl Abort, buffer: &mut hb_buffer_t) {
     assert!(rt; !buffer.have_output());
-    buffer.reverse_groups(hb_buffer_t::_cluster_group_func, false);
+    buffer.reverse_groups(_cluster_group_func, false);
 }
 
 /// Reverses groups that go on at the glyph `id`, and nowhere else, merged.
@@ -206,7 +206,7 @@ fn glyphs_are_deleted_in_place(rt: HostRuntime) {
 /// Where the group and the syllable of a glyph end.
 fn assert_ends(rt: &impl Abort, buffer: &hb_buffer_t, start: usize, group: usize, syllable: usize) {
     assert!(rt; !buffer.have_output() && start < buffer.len());
-    let end = buffer.group_end(start, hb_buffer_t::_cluster_group_func);
+    let end = buffer.group_end(start, _cluster_group_func);
     assert!(rt; (end, buffer.next_syllable(start)) == (group, syllable));
 }
 

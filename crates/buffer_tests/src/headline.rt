@@ -3,6 +3,7 @@ use shaping_runs::headline::*;
 #[test]
 fn the_headline_stands(_rt: HostRuntime) {
     length_refuses();
+    calls_in_place_are_done();
     merges_are_least_coarsenings();
     breaks_are_marks();
     order_stays();

@@ -11,6 +11,8 @@ mod call_list;
 #[cfg(test)]
 mod cursor;
 #[cfg(test)]
+mod filled;
+#[cfg(test)]
 mod glyph_buffer;
 #[cfg(test)]
 mod groups;
@@ -26,6 +28,8 @@ mod levels;
 mod limits;
 #[cfg(test)]
 mod lists;
+#[cfg(test)]
+mod long_texts;
 #[cfg(test)]
 mod rendering;
 #[cfg(test)]

@@ -3,7 +3,7 @@
 ghost use Rattle.std.specs.Prelude.{◌≡◌, false};
 
 use shaping_buffer::{UnicodeBuffer, hb_buffer_t, hb_glyph_info_t};
-use std::alloc::Global;
+use std::alloc::{AllocError, Global};
 use std::process::Abort;
 
 /// Asserts the clusters and the masks of the glyphs.
@@ -38,4 +38,13 @@ pub(crate) fn read_one(rt: &impl Abort, buffer: &mut hb_buffer_t) {
     buffer.clear_output();
     assert!(rt; buffer.lookahead_len() > 0);
     assert!(rt; buffer.next_glyph() == Ok(true));
+}
+
+/// A text so many times.
+pub(crate) fn long_text(alloc: Global, part: &str, times: usize) -> Result<String, AllocError> {
+    let mut text = String::new(alloc);
+    for _ in 0..times {
+        text.push_str(part)?;
+    }
+    Ok(text)
 }

@@ -1,5 +1,6 @@
 -- The current glyph, once the first glyphs of the input are merged, where the merge changes no glyph behind them
--- and none that was put out.
+-- and none that was put out. The functions of `merged_head` alone speak of it, for the bodies that replace glyphs: no
+-- contract of a buffer's call does.
 use Rattle.std.specs.Prelude.{◌≡◌, ℕ, ◌+◌, ◌<◌, ◌++◌, Bool, true, List, length, take, drop, slice_index_or}
 use Rattle.rb_glyph.specs.declared.info.hb_glyph_info_t.{hb_glyph_info_t}
 use Rattle.glyph_lists.specs.Clusters.{zero_glyph}

@@ -13,7 +13,7 @@ use Rattle.rb_glyph.specs.declared.glyph_flag.TheConstants.{DEFINED}
 use Rattle.rb_glyph.specs.declared.info.hb_glyph_info_t.{hb_glyph_info_t}
 use Rattle.rb_glyph.specs.declared.position.GlyphPosition.{GlyphPosition}
 use Rattle.glyph_text.specs.Text.{Font, glyph_text, glyph_texts, glyphs_text}
-use Rattle.glyph_text.specs.TextReading.{numbers_and_flags, told_of, FitsItsFields}
+use Rattle.glyph_text.specs.TextReading.{Told, numbers_and_flags, told_of, FitsItsFields}
 use Rattle.glyph_text.proofs.ReadingLemmas.{is_digit, Stops, NotFirst, decimal_read, signed_read, optional_read}
 
 abbrev pub Glyph : Type 0
@@ -226,3 +226,24 @@ texts_read font other p q (a ∷ xs) (b ∷ ys) f g e =
 pub equal_texts_read : (font other : Font) (xs ys : List Glyph) → All FitsItsFields xs → All FitsItsFields ys
     → glyphs_text font numbers_and_flags xs ≡ glyphs_text other numbers_and_flags ys → map told_of xs ≡ map told_of ys
 equal_texts_read font other xs ys f g e = texts_read font other [] [] xs ys f g e
+
+-- ---- what is not read
+
+-- the text of what is told of a glyph
+abbrev text_of_told : Told → List ℕ
+text_of_told t =
+    decimal t.glyph_id ++ 61 ∷ decimal t.cluster
+    ++ (cond (int_eq t.x_offset (pos 0) && int_eq t.y_offset (pos 0)) [] (64 ∷ point_text (t.x_offset, t.y_offset))
+    ++ (43 ∷ signed_decimal t.x_advance ++ cond (int_eq t.y_advance (pos 0)) [] (44 ∷ signed_decimal t.y_advance)))
+    ++ cond (t.glyph_flags == 0) [] (35 ∷ decimal t.glyph_flags)
+    ++ []
+
+told_texts : (font : Font) (earlier : List GlyphPosition) (gs : List Glyph)
+    → glyph_texts font numbers_and_flags earlier gs ≡ map text_of_told (map told_of gs)
+told_texts font earlier [] = refl
+told_texts font earlier (g ∷ gs) = ap (λ l. text_of_told (told_of g) ∷ l) (told_texts font (earlier ++ g.1 ∷ []) gs)
+
+pub equal_glyphs_written : (font other : Font) (xs ys : List Glyph) → map told_of xs ≡ map told_of ys
+    → glyphs_text font numbers_and_flags xs ≡ glyphs_text other numbers_and_flags ys
+equal_glyphs_written font other xs ys e =
+    ap (join_with_byte 124) (told_texts font [] xs ∙ ap (map text_of_told) e ∙ sym (told_texts other [] ys))

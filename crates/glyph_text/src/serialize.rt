@@ -1,6 +1,6 @@
 //! Glyphs as a text.
 
-ghost use Rattle.std.specs.Prelude.{◌≡◌, ◌++◌, ◌∷◌, [], true, false, length, IfOk, OnOk, ◌+ℤ◌, ◌+◌, ◌<◌, ◌≤◌};
+ghost use Rattle.std.specs.Prelude.{◌≡◌, ◌++◌, ◌∷◌, [], true, false, length, IfOk, OnOk, OnErr, ◌+ℤ◌, ◌+◌, ◌<◌, ◌≤◌};
 ghost use Rattle.std.specs.Prelude.{codes, nat_abs, string_bytes, unwrap_or};
 ghost use Rattle.std.specs.Fmt.{decimal, signed_decimal};
 ghost use Rattle.std.specs.List.{zip};
@@ -83,7 +83,7 @@ const LIKELY_LENGTH: usize = 16;
 /// Under `NO_ADVANCES` the sums of all earlier advances are added to the offsets.
 ///
 /// Requires as many positions as glyphs, and numbers of at most 65535 where names or extents are written.
-/// `Err(AllocError)` where memory ran out: then there is no text.
+/// `Err(AllocError)` where memory ran out: then there is no text. With no glyph it never does.
 pub fn glyphs_text<F: GlyphNames>(
     alloc: Global,
     font: &F,
@@ -93,9 +93,10 @@ pub fn glyphs_text<F: GlyphNames>(
 ) -> Result<String, AllocError>
     requires as_many { length positions.now ≡ length infos.now }
     requires glyphs { asks_font flags ≡ true → AreGlyphs infos.now }
-    ensures { IfOk result (λ text. string_bytes text ≡ texts.glyphs_text
+    ensures is { IfOk result (λ text. string_bytes text ≡ texts.glyphs_text
         (record { name = F.name_of font.now; extents = F.extents_of font.now }) flags
         (zip infos.now positions.now)) }
+    ensures wants { OnErr result (0 < length infos.now) }
 {
     let mut text = String::with_capacity(alloc, infos.len().saturating_mul(LIKELY_LENGTH))?;
     write_glyphs(&mut text, font, flags, infos, positions)?;
@@ -114,9 +115,10 @@ fn write_glyphs<F: GlyphNames>(
     requires as_many { length positions.now ≡ length infos.now }
     requires glyphs { asks_font flags ≡ true → AreGlyphs infos.now }
     requires empty { string_bytes text.old ≡ [] }
-    ensures { OnOk result (string_bytes text.new ≡ texts.glyphs_text
+    ensures is { OnOk result (string_bytes text.new ≡ texts.glyphs_text
         (record { name = F.name_of font.now; extents = F.extents_of font.now }) flags
         (zip infos.now positions.now)) }
+    ensures wants { OnErr result (0 < length infos.now) }
 {
     let mut pen = Point { x: 0, y: 0 };
     for (i, info) in infos.iter().enumerate() {

@@ -2,7 +2,7 @@
 
 ghost use Rattle.std.specs.Prelude.{◌≡◌, false};
 
-use shaping_buffer::hb_buffer_t;
+use shaping_buffer::{_cluster_group_func, hb_buffer_t};
 
 /// Deletes each glyph whose number is a multiple of three.
 pub fn delete_third_inplace(buffer: &mut hb_buffer_t)
@@ -15,7 +15,7 @@ pub fn delete_third_inplace(buffer: &mut hb_buffer_t)
 pub fn reverse_groups(buffer: &mut hb_buffer_t)
     requires { buffer.old.have_output ≡ false }
 {
-    buffer.reverse_groups(|a, b| hb_buffer_t::_cluster_group_func(a, b), false);
+    buffer.reverse_groups(|a, b| _cluster_group_func(a, b), false);
 }
 
 /// Asks for the end of each cluster, and gives their sum.
@@ -26,7 +26,7 @@ pub fn group_ends(buffer: &hb_buffer_t) -> usize
     let mut start = 0;
     let mut sum = 0usize;
     while start < len {
-        start = buffer.group_end(start, |a, b| hb_buffer_t::_cluster_group_func(a, b));
+        start = buffer.group_end(start, |a, b| _cluster_group_func(a, b));
         sum = sum.wrapping_add(start);
     }
     sum

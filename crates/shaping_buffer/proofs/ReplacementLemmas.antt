@@ -11,16 +11,22 @@ use Rattle.glyph_lists.specs.Replacement.{copies, replacement}
 use Rattle.glyph_lists.proofs.LengthsLemmas.{length_copies}
 use Rattle.shaping_buffer.specs.State.{State}
 use Rattle.shaping_buffer.specs.ClusterStep.{both, any_order, flagged_if}
-use Rattle.shaping_buffer.specs.Step.{Outcome, limited, settled, replace_front}
-use Rattle.shaping_buffer.specs.Step.{replace_glyphs}
+use Rattle.shaping_buffer.specs.Step.{Outcome, limited, settled, replace_glyphs}
 
 -- both sides, the first n glyphs of the input merged
 abbrev pub front_merged : Bool → ℕ → State → List hb_glyph_info_t
 front_merged any_order n s = merge_or_mark any_order (both s) (length s.out) (length s.out + n) 0
 
+-- in place of them copies of the current glyph as it then is are put out
 abbrev pub front_replaced : ℕ → List ℕ → State → State
 front_replaced n ids s =
-    record (replace_front (any_order s) n ids s) { scratch_flags = flagged_if (any_order s && not (ltb n 2)) s }
+    let l = front_merged (any_order s) n s in
+    record s {
+      out = take (length s.out) l ++ copies (slice_index_or (drop (length s.out) l) 0 zero_glyph) ids;
+      input = drop n (drop (length s.out) l);
+      idx = s.idx + n;
+      scratch_flags = flagged_if (any_order s && not (ltb n 2)) s;
+    }
 
 pub replaced_sides : (n : ℕ) (ids : List ℕ) (s : State) → s.have_output ≡ true
     → replace_glyphs n ids s ≡ limited (length s.out + length ids) s (front_replaced n ids s)

@@ -10,3 +10,24 @@ pub mod Properties
 pub mod ClusterLevel
 pub mod Limits
 pub mod GroupStep
+-- what the public clauses name of the crates below
+pub use Rattle.glyph_lists.specs.ClusterNumbers
+pub use Rattle.glyph_lists.specs.ClusterReads
+pub use Rattle.glyph_lists.specs.Clusters
+pub use Rattle.glyph_lists.specs.Context
+pub use Rattle.glyph_lists.specs.DeletingWalk
+pub use Rattle.glyph_lists.specs.Deletion
+pub use Rattle.glyph_lists.specs.Groups
+pub use Rattle.glyph_lists.specs.Guess
+pub use Rattle.glyph_lists.specs.Marks
+pub use Rattle.glyph_lists.specs.Masks
+pub use Rattle.glyph_lists.specs.Parts
+pub use Rattle.glyph_lists.specs.Replacement
+pub use Rattle.glyph_lists.specs.Scans
+pub use Rattle.glyph_sides.specs.TextGlyphs
+pub use Rattle.glyph_text.specs.Text as GlyphText
+pub use Rattle.glyph_text.specs.TextReading
+pub use Rattle.rb_glyph.specs.declared.flag_sets.BufferFlags
+pub use Rattle.rb_glyph.specs.declared.flag_sets.SerializeFlags
+pub use Rattle.rb_glyph.specs.declared.info.hb_glyph_info_t
+pub use Rattle.rb_glyph.specs.declared.position.GlyphPosition

@@ -1,13 +1,11 @@
 -- A cursor call's step: what it makes of the two lists, and when it is refused for length.
 use Rattle.std.specs.Prelude.{◌≡◌, ℕ, ◌+◌, ◌-◌, ◌<◌, ◌==◌, ◌||◌, ◌⊎◌, Bool, true, false, List, [], ◌∷◌, ◌++◌, length}
-use Rattle.std.specs.Prelude.{take, drop, map, None, Result, Ok, Err, nat_le, nat_lt, slice_index_or, if◌then◌else◌}
+use Rattle.std.specs.Prelude.{take, drop, map, None, Result, Ok, Err, nat_le, nat_lt, if◌then◌else◌}
 use Rattle.std.specs.declared.alloc.AllocError.{AllocError}
 use Rattle.rb_glyph.specs.declared.info.hb_glyph_info_t.{hb_glyph_info_t}
-use Rattle.glyph_lists.specs.Clusters.{zero_glyph}
-use Rattle.glyph_lists.specs.Deletion.{merge_or_mark}
 use Rattle.glyph_lists.specs.Replacement.{copies}
 use Rattle.shaping_buffer.specs.State.{State, len}
-use Rattle.shaping_buffer.specs.ClusterStep.{both, any_order, merge_input, head_of}
+use Rattle.shaping_buffer.specs.ClusterStep.{any_order, merge_input, head_of}
 
 -- ---- the answer of a call
 
@@ -21,7 +19,8 @@ abbrev pub settled : State → State
 settled s = record s { have_separate_output = s.have_separate_output || nat_lt s.idx (length s.out) }
 
 -- The length rule: a call that would fill a side with `held` glyphs is refused exactly when they are more than max_len.
--- Then it only clears successful.
+-- Then it only clears successful. Where a call puts nothing out, as `ensure` or `push_str`, `settled` changes nothing:
+-- a buffer's output is separate already where it has more glyphs than were read.
 abbrev pub limited : ℕ → State → State → Outcome
 limited held before after =
     if nat_le held before.max_len then record { done = true; state = settled after }
@@ -109,17 +108,6 @@ replace_input any_order n ids s =
 -- `replace_glyphs`
 abbrev pub replace_glyphs : ℕ → List ℕ → State → Outcome
 replace_glyphs n ids s = replace_input (any_order s) n ids s
-
--- the first n glyphs of the input are merged, or marked, and copies of the current glyph as it then is
--- put out in place of them
-abbrev pub replace_front : Bool → ℕ → List ℕ → State → State
-replace_front any_order n ids s =
-    let l = merge_or_mark any_order (both s) (length s.out) (length s.out + n) 0 in
-    record s {
-      out = take (length s.out) l ++ copies (slice_index_or (drop (length s.out) l) 0 zero_glyph) ids;
-      input = drop n (drop (length s.out) l);
-      idx = s.idx + n;
-    }
 
 -- the glyph that a new one is a copy of: the current glyph, or the last that was put out where nothing is left
 abbrev pub glyph_to_copy : State → List hb_glyph_info_t

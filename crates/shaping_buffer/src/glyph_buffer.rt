@@ -1,6 +1,7 @@
 //! Shaped glyphs.
 
-ghost use Rattle.std.specs.Prelude.{◌≡◌, true, false, length, IsTrue, ◌↔◌, Some, IsSome, IfOk, string_bytes};
+ghost use Rattle.std.specs.Prelude.{◌≡◌, ◌<◌, true, false, length, IsTrue, ◌↔◌, Some, IsSome, IfOk, OnErr};
+ghost use Rattle.std.specs.Prelude.{string_bytes};
 ghost use Rattle.shaping_buffer.specs.State.{cleared, HasPositions};
 ghost use Rattle.glyph_text.specs.Text.{asks_font, AreGlyphs};
 ghost use Rattle.shaping_buffer.specs.Text.{text_of};
@@ -87,7 +88,7 @@ impl GlyphBuffer {
     /// advances, and `NO_ADVANCES` the advances: then the sums of all earlier advances are added to the offsets.
     ///
     /// Requires numbers of at most 65535 where names or extents are written. `Err(AllocError)` where memory ran out:
-    /// then there is no text.
+    /// then there is no text. With no glyph it never does.
     pub fn serialize<F: GlyphNames>(
         &self,
         alloc: Global,
@@ -95,9 +96,10 @@ impl GlyphBuffer {
         flags: SerializeFlags,
     ) -> Result<String, AllocError>
         requires { asks_font flags ≡ true → AreGlyphs self.now.input }
-        ensures { IfOk result (λ text. string_bytes text ≡ text_of
+        ensures is { IfOk result (λ text. string_bytes text ≡ text_of
             (record { name = F.name_of font.now; extents = F.extents_of font.now })
             flags self.now) }
+        ensures wants { OnErr result (0 < length self.now.input) }
     {
         glyphs_text(
             alloc,

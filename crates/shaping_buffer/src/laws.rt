@@ -64,11 +64,12 @@ pub fn two_reversals_are_none()
     ensures { (s : State) → reverse (reverse s) ≡ s }
 {}
 
-/// `delete_glyphs_inplace` leaves the glyphs that `clear_output`, a walk by `delete_glyph` and `next_glyph`, and `sync`
-/// leave, where no refusal stands: none of these calls is refused then.
+/// `delete_glyphs_inplace` leaves the glyphs and the scratch flags that `clear_output`, a walk by `delete_glyph` and
+/// `next_glyph`, and `sync` leave, where no refusal stands: none of these calls is refused then.
 pub fn deletion_in_place_is_deletion_by_calls()
     ensures { (test : hb_glyph_info_t → Bool) (s : State) → s.successful ≡ true
         → length s.input ≤ s.max_len
         → let closed = step.sync (walk_by_calls test (length s.input) (step.clear_output s)) in
-        (closed.done ≡ true) × (closed.state.input ≡ (delete_glyphs_inplace test s).input) }
+        (closed.done ≡ true) × (closed.state.input ≡ (delete_glyphs_inplace test s).input)
+        × (closed.state.scratch_flags ≡ (delete_glyphs_inplace test s).scratch_flags) }
 {}

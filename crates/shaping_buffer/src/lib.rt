@@ -5,7 +5,12 @@
 #![tactic(auto)]
 
 pub use buffer::hb_buffer_t;
-pub use cluster_level::BufferClusterLevel;
+pub use cluster_group::_cluster_group_func;
+pub use cluster_level::{
+    BufferClusterLevel, HB_BUFFER_CLUSTER_LEVEL_CHARACTERS, HB_BUFFER_CLUSTER_LEVEL_DEFAULT,
+    HB_BUFFER_CLUSTER_LEVEL_GRAPHEMES, HB_BUFFER_CLUSTER_LEVEL_MONOTONE_CHARACTERS,
+    HB_BUFFER_CLUSTER_LEVEL_MONOTONE_GRAPHEMES, hb_buffer_cluster_level_t,
+};
 pub use glyph_buffer::GlyphBuffer;
 pub use glyph_lists::cluster_reads::ClusterReads;
 pub use glyph_lists::merge_range::merge_range;
@@ -13,8 +18,13 @@ pub use rb_glyph;
 pub use rb_glyph::{
     BufferFlags, CharExt, CombiningClasses, Compositions, Decompositions, Flags,
     GeneralCategoryExt, GlyphExtents, GlyphInfo, GlyphNames, GlyphPosition, GlyphPropsFlags,
-    Mirrors, SerializeFlags, UnicodeProps, glyph_flag, hb_glyph_info_t,
-    hb_unicode_general_category_t,
+    HB_BUFFER_SCRATCH_FLAG_DEFAULT, HB_BUFFER_SCRATCH_FLAG_HAS_BROKEN_SYLLABLE,
+    HB_BUFFER_SCRATCH_FLAG_HAS_CGJ, HB_BUFFER_SCRATCH_FLAG_HAS_DEFAULT_IGNORABLES,
+    HB_BUFFER_SCRATCH_FLAG_HAS_GLYPH_FLAGS, HB_BUFFER_SCRATCH_FLAG_HAS_GPOS_ATTACHMENT,
+    HB_BUFFER_SCRATCH_FLAG_HAS_NON_ASCII, HB_BUFFER_SCRATCH_FLAG_HAS_SPACE_FALLBACK,
+    HB_BUFFER_SCRATCH_FLAG_HAS_VARIATION_SELECTOR_FALLBACK, HB_BUFFER_SCRATCH_FLAG_SHAPER0,
+    Mirrors, NoGlyphNames, SerializeFlags, UnicodeProps, glyph_flag, hb_buffer_scratch_flags_t,
+    hb_glyph_info_t, hb_unicode_general_category_t,
 };
 pub use rb_text;
 pub use rb_text::{
@@ -24,6 +34,7 @@ pub use rb_text::{
 pub use unicode_buffer::UnicodeBuffer;
 
 mod buffer;
+pub mod cluster_group;
 pub mod cluster_level;
 mod glyph_buffer;
 pub mod laws;

@@ -17,7 +17,7 @@ before_in_place : (calls : List Call) (s : State) → StaysInPlace calls s → s
 before_in_place [] s stays = stays
 before_in_place (call ∷ calls) s stays = stays.0
 
-call_never_stops : (call : Call) (s : State) → s.have_separate_output ≡ false
+pub call_never_stops : (call : Call) (s : State) → s.have_separate_output ≡ false
     → (turn call s).state.have_separate_output ≡ false → MayStop call s → ⊥
 call_never_stops call s old new stop =
     cond_both (may_be_made call s) _ _ (λ (t : Turn). t.state.have_separate_output ≡ false → t.answer ≡ Done → ⊥)

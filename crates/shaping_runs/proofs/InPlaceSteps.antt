@@ -181,7 +181,7 @@ module _ (s : State) (here : IsInPlace s) where
   outcome_stays (UnsafeToConcatFromOutbuffer start end) none may =
       flag_all_stays UNSAFE_TO_CONCAT (range_start start) (both_place s (range_end end s))
 
-  turn_stays : (call : Call) → adds_glyphs call s ≡ false → IsInPlace (turn call s).state
+  pub turn_stays : (call : Call) → adds_glyphs call s ≡ false → IsInPlace (turn call s).state
   turn_stays call none = cond_both (may_be_made call s) _ _ (λ (t : Turn). IsInPlace t.state)
       (λ may. outcome_stays call none may) (λ _. here)
 

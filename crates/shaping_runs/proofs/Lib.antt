@@ -12,3 +12,4 @@ pub mod InPlaceLaws
 pub mod HeldLemmas
 pub mod HeadlineLemmas
 pub mod OldRuns
+pub mod InPlaceCalls

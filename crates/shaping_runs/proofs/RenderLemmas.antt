@@ -1,19 +1,36 @@
 -- Features set one after another, and calls made one by one until one is refused.
 use Rattle.std.proofs.Common.{◌≡◌, ℕ, ◌+◌, ◌<◌, false, List, [], ◌∷◌, ◌++◌, length, take, get_or, refl, ap, sym, subst}
-use Rattle.std.proofs.Common.{◌∙◌, arith, length-take}
+use Rattle.std.proofs.Common.{◌∙◌, arith, leb, length-append, length-take}
 use Rattle.std.specs.Prelude.{◌≢◌}
+use Rattle.std.specs.Str.{chars}
 use Rattle.std.proofs.Math.ListN.{set}
+use Rattle.std.proofs.lemmas.Bool.{cond_both}
 use Rattle.std.proofs.lemmas.List.{take_more}
 use Rattle.std.proofs.lemmas.List.Elements.{All-same, All-push}
 use Rattle.std.proofs.lemmas.Option.{slice_get-get_or}
 use Rattle.rb_text.specs.declared.feature.Feature.{Feature}
+use Rattle.shaping_buffer.specs.Pushed.{pushed}
 use Rattle.shaping_buffer.specs.State.{State}
+use Rattle.shaping_buffer.specs.Step.{Outcome}
 use Rattle.shaping_runs.specs.declared.call.Call.{Call}
 use Rattle.shaping_runs.specs.declared.call.Answer.{Answer}
 use Rattle.shaping_runs.specs.declared.call.Answer.TheVariants as answer
 use Rattle.shaping_runs.specs.Replay.{turn, after, answers_of, MayStop}
 use Rattle.shaping_runs.specs.Render.{with_feature, with_features, NoneRefused, RefusedAt, WantsMemoryAt}
 use Rattle.shaping_runs.proofs.ReplayLemmas.{Told, told_more, answers_of-push}
+
+-- ---- the text
+
+-- a text that makes the list longer has a character
+pub text_grows : (text : List ℕ) (s : State) → length s.input < length (pushed text s).state.input → 0 < length text
+unfolding chars
+text_grows [] s h =
+    cond_both (leb (length (s.input ++ [])) s.max_len) _ _
+    (λ (o : Outcome). length s.input < length o.state.input → 0 < 0)
+    (λ _ longer. absurd (omega (arith, longer, length-append s.input [])))
+    (λ _ longer. absurd (omega (arith, longer)))
+    h
+text_grows (b ∷ bs) s h = omega arith
 
 -- ---- features
 

@@ -9,7 +9,8 @@ use Rattle.shaping_buffer.specs.State.{State}
 use Rattle.shaping_buffer.specs.ClusterLevel.{groups_graphemes}
 use Rattle.shaping_buffer.specs.ClusterStep.{both, both_place, any_order, range_start, range_end}
 use Rattle.shaping_runs.specs.declared.call.Call.{Call}
-use Rattle.shaping_runs.specs.declared.call.Call.TheVariants.{NextGlyph, NextGlyphs, ReplaceGlyph, ReplaceGlyphs}
+use Rattle.shaping_runs.specs.declared.call.Call.TheVariants.{NextGlyph, NextGlyphs, SkipGlyph, ReplaceGlyph}
+use Rattle.shaping_runs.specs.declared.call.Call.TheVariants.{ReplaceGlyphs, DeleteGlyph}
 use Rattle.shaping_runs.specs.declared.call.Call.TheVariants.{OutputGlyph, OutputInfo, CopyGlyph, MoveTo, Sync}
 use Rattle.shaping_runs.specs.declared.call.Call.TheVariants.{MergeClusters, MergeOutClusters, UnsafeToBreak}
 use Rattle.shaping_runs.specs.declared.call.Call.TheVariants.{UnsafeToBreakFromOutbuffer, MergeGraphemeClusters}
@@ -43,6 +44,17 @@ moves_or_syncs call = false
 -- the call is such a one, with an output open and after a refusal
 abbrev pub awaits_clear : Call → State → Bool
 awaits_clear call s = moves_or_syncs call && (s.have_output && not s.successful)
+
+-- ---- calls in place
+
+-- the calls that read glyphs, and put out these alone, or none
+abbrev pub goes_on : Call → Bool
+goes_on NextGlyph = true
+goes_on (NextGlyphs n) = true
+goes_on SkipGlyph = true
+goes_on (ReplaceGlyph id) = true
+goes_on DeleteGlyph = true
+goes_on call = false
 
 -- ---- merges and marks
 

@@ -4,3 +4,17 @@ pub mod Render
 pub mod Separation
 pub mod Headline
 pub mod ThreeLevels
+-- what the public clauses name of the crates below
+pub use Rattle.glyph_lists.specs.Clusters
+pub use Rattle.glyph_lists.specs.GlyphFlags
+pub use Rattle.glyph_lists.specs.Marks
+pub use Rattle.glyph_lists.specs.Parts
+pub use Rattle.rb_glyph.specs.declared.info.hb_glyph_info_t
+pub use Rattle.rb_text.specs.declared.feature.Feature
+pub use Rattle.shaping_buffer.specs.ClusterLevel
+pub use Rattle.shaping_buffer.specs.ClusterStep
+pub use Rattle.shaping_buffer.specs.Positions
+pub use Rattle.shaping_buffer.specs.Pushed
+pub use Rattle.shaping_buffer.specs.State
+pub use Rattle.shaping_buffer.specs.Step
+pub use Rattle.shaping_buffer.specs.declared.cluster_level.BufferClusterLevel

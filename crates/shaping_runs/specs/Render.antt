@@ -75,10 +75,10 @@ StopsWith _ calls old before answers = ⊥
 
 -- ---- the whole
 
--- why there is no buffer over the text: it is too long, or there is no memory for it
+-- why there is no buffer over the text: it is too long, or there is no memory for it; an empty text asks for none
 abbrev pub FailsOnText : RenderFault → BufferClusterLevel → List ℕ → Type 0
 FailsOnText Length level text = (pushed_text level text).done ≡ false
-FailsOnText (Memory None) level text = (pushed_text level text).done ≡ true
+FailsOnText (Memory None) level text = ((pushed_text level text).done ≡ true) × (0 < length text)
 FailsOnText _ level text = ⊥
 
 -- the features are not too many and the text fits, so the calls are made
@@ -100,7 +100,8 @@ abbrev pub Fails : RenderFault → BufferClusterLevel → List ℕ → List Feat
 Fails TooManyFeatures level text features calls before answers = (24 < length features) × (answers ≡ before)
 Fails Length level text features calls before answers =
     (length features ≤ 24) × ((pushed_text level text).done ≡ false) × (answers ≡ before)
-Fails (Memory None) level text features calls before answers = ComesToCalls level text features × (answers ≡ before)
+Fails (Memory None) level text features calls before answers =
+    ComesToCalls level text features × (0 < length text) × (answers ≡ before)
 Fails (Refused at) level text features calls before answers =
     ComesToCalls level text features × RefusedAt at calls (text_with_features level text features) before answers
 Fails (Memory (Some at)) level text features calls before answers =

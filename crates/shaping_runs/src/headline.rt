@@ -6,20 +6,21 @@
 //! is a fact of `turn` and `after`, and holds for every call, every list of calls and every state. `both` is what was
 //! put out, and then what is left to read.
 
-ghost use Rattle.std.specs.Prelude.{◌≡◌, ◌↔◌, ◌<◌, ℕ, true, false, List, length, slice_index, slice_index_or};
+ghost use Rattle.std.specs.Prelude.{◌≡◌, ◌↔◌, ◌<◌, ◌≤◌, ℕ, true, false, List, length, slice_index, slice_index_or};
 ghost use Rattle.glyph_lists.specs.Parts.{on_part};
 ghost use Rattle.glyph_lists.specs.Clusters.{clusters, least, occurs, zero_glyph, cluster_merge, IsMonotone, IsCoarse};
 ghost use Rattle.glyph_lists.specs.Marks.{mark};
 ghost use Rattle.glyph_lists.specs.declared.glyph_flags.TheConstants.{BREAK_BITS};
-ghost use Rattle.shaping_buffer.specs.State.{State};
+ghost use Rattle.shaping_buffer.specs.State.{State, len};
 ghost use Rattle.shaping_buffer.specs.ClusterStep.{both, any_order};
 ghost use Rattle.shaping_runs.specs.declared.call.Answer.{Answer};
 ghost use Rattle.shaping_runs.specs.declared.call.Call.{Call};
 ghost use Rattle.shaping_runs.specs.Exceptions.{brings_glyph, NoMergeStopsAtCursor, NoGlyphIsBrought};
-ghost use Rattle.shaping_runs.specs.Replay.{after, may_be_made, turn};
-ghost use Rattle.shaping_runs.specs.Headline.{held, moves_or_syncs, awaits_clear, HasMonotoneClusters};
+ghost use Rattle.shaping_runs.specs.Replay.{after, may_be_made, turn, MayStop};
+ghost use Rattle.shaping_runs.specs.Headline.{held, moves_or_syncs, awaits_clear, goes_on, HasMonotoneClusters};
 ghost use Rattle.shaping_runs.specs.Headline.{ReachesBothSides, is_merge, is_break, from_place, to_place, range_of};
 ghost use Rattle.shaping_runs.specs.Headline.{ShareCluster, AreJoined};
+ghost use Rattle.shaping_runs.specs.Separation.{IsInPlace};
 
 /// A call within its condition is refused for length exactly when the side it would fill would exceed `max_len`, unless
 /// it waits for `clear`, and a refusal changes nothing except `successful`. Then `move_to` and `sync` with an output
@@ -34,6 +35,16 @@ pub fn length_refuses()
         → moves_or_syncs call ≡ true → (after calls s).have_output ≡ true
         → may_be_made call (after calls s) ≡ true
         → turn call (after calls s) ≡ record { answer = Answer.Refused; state = after calls s } }
+{}
+
+/// Where the output is in place, or none is open, `next_glyph`, `next_glyphs`, `skip_glyph`, `replace_glyph` and
+/// `delete_glyph` are done wherever their conditions hold: they are never refused, and never run out of memory. The
+/// list is not longer than `max_len`, as in every buffer.
+pub fn calls_in_place_are_done()
+    ensures done { (call : Call) (s : State) → goes_on call ≡ true → may_be_made call s ≡ true
+        → IsInPlace s → len s ≤ s.max_len → (turn call s).answer ≡ Answer.Done }
+    ensures no_memory { (call : Call) (s : State) → goes_on call ≡ true → IsInPlace s
+        → MayStop call s → ⊥ }
 {}
 
 /// At the monotone levels, on monotone clusters, with an output open or the cursor at the start, `merge_clusters`,

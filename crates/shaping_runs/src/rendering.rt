@@ -33,7 +33,7 @@ pub enum RenderFault {
     },
     /// Memory ran out.
     Memory {
-        /// The place of the call that found none, or `None` where the text did not find it.
+        /// The place of the call that found none, or `None` where the text did not find it. An empty text asks for none.
         at: Option<usize>,
     },
     /// There are more than [`MAX_FEATURES`] features.
@@ -100,6 +100,7 @@ pub fn render_at(
 }
 
 /// The buffer over a text.
+#[tactic(auto, using(crate::proofs::RenderLemmas::text_grows))]
 fn buffer_of(
     alloc: Global,
     level: BufferClusterLevel,

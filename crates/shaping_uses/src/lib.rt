@@ -2,6 +2,7 @@
 #![tactic(auto)]
 
 pub mod accessors;
+pub mod comparing;
 pub mod in_place;
 pub mod kerning;
 pub mod line_break;

@@ -136,11 +136,4 @@ impl hb_buffer_t {
             self.set_has_glyph_flags();
         }
     }
-
-    /// Whether two glyphs are in one cluster, for the calls that take groups.
-    pub fn _cluster_group_func(a: &hb_glyph_info_t, b: &hb_glyph_info_t) -> bool
-        ensures { result ≡ groups_of.share_cluster a.now b.now }
-    {
-        a.cluster == b.cluster
-    }
 }

@@ -11,4 +11,4 @@ returns c = λ test s ok fits.
     let both_fit : 0 + length s.input ≤ s.max_len = omega (arith, fits) in
     let walk = walks_agree test (any_order s) (length s.input) (clear_output s) refl (refl, ok, both_fit) in
     let done = sync_is_done (walk_by_calls test (length s.input) (clear_output s)) walk.1 in
-    (done.0, done.1 ∙ ap (λ (s : Sides). s.out ++ s.rest) walk.0)
+    (done.0, done.1 ∙ ap (λ (s : Sides). s.out ++ s.rest) walk.0, done.2 ∙ walk.2)
