@@ -119,7 +119,8 @@ impl Sides {
         requires within { more ≤ left self.now }
         requires out { length self.now.out ≤ max_len }
         requires input { len self.now ≤ max_len }
-        ensures { result ≡ (self.now.is_open && nat_lt max_len (length self.now.out + more)) }
+        ensures is { result ≡ (self.now.is_open && nat_lt max_len (length self.now.out + more)) }
+        ensures in_place { self.now.is_separate ≡ false → result ≡ false }
     {
         self.is_separate && more > max_len - self.out_info.len()
     }

@@ -3,7 +3,7 @@
 //! An operation that may want memory answers `Err(AllocError)` where there was none: then nothing changed. That comes
 //! only where the output is separate before it or after it, and a side becomes longer.
 
-ghost use Rattle.std.specs.Prelude.{◌≡◌, ◌+◌, ◌<◌, ◌≤◌, ◌∷◌, [], true, false, length};
+ghost use Rattle.std.specs.Prelude.{◌≡◌, ◌+◌, ◌<◌, ◌≤◌, ◌∷◌, [], true, false, length, IsOk};
 ghost use Rattle.glyph_sides.specs.TwoLists as lists;
 ghost use Rattle.glyph_sides.specs.TwoLists.{Makes, left};
 
@@ -19,7 +19,8 @@ impl Sides {
     #[inline(always)]
     pub fn next(&mut self, n: usize) -> Result<(), AllocError>
         requires { n ≤ left self.old }
-        ensures { Makes (lists.next n self.old) self.old result self.new }
+        ensures makes { Makes (lists.next n self.old) self.old result self.new }
+        ensures in_place { self.old.is_separate ≡ false → IsOk result }
     {
         if !self.is_open {
             self.cursor += n;
@@ -38,7 +39,8 @@ impl Sides {
     #[inline(always)]
     pub fn next_one(&mut self) -> Result<(), AllocError>
         requires { 0 < left self.old }
-        ensures { Makes (lists.next 1 self.old) self.old result self.new }
+        ensures makes { Makes (lists.next 1 self.old) self.old result self.new }
+        ensures in_place { self.old.is_separate ≡ false → IsOk result }
     {
         if !self.is_open {
             self.cursor += 1;

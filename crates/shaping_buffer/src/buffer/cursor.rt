@@ -3,7 +3,7 @@
 //! A call that allocates answers `Err(AllocError)` when memory runs out: then nothing changed. That happens only
 //! where the output is separate before the call, or would be after it, and a side would become longer.
 
-ghost use Rattle.std.specs.Prelude.{◌≡◌, ◌<◌, ◌≤◌, ◌∷◌, [], true, false, length};
+ghost use Rattle.std.specs.Prelude.{◌≡◌, ◌<◌, ◌≤◌, ◌∷◌, [], true, false, length, Ok};
 ghost use Rattle.shaping_buffer.specs.State.{lookahead_len};
 ghost use Rattle.shaping_buffer.specs.Step as step;
 ghost use Rattle.shaping_buffer.specs.Step.{Meets};
@@ -28,7 +28,8 @@ impl hb_buffer_t {
     /// Requires a glyph at the cursor. `Ok(false)` where the out side is full: then only `successful` changes.
     pub fn next_glyph(&mut self) -> Result<bool, AllocError>
         requires { 0 < lookahead_len self.old }
-        ensures { Meets (step.next_glyph self.old) self.old result self.new }
+        ensures meets { Meets (step.next_glyph self.old) self.old result self.new }
+        ensures in_place { self.old.have_separate_output ≡ false → result ≡ Ok true }
     {
         if self.sides.next_exceeds(1, self.max_len) {
             self.successful = false;
@@ -44,7 +45,8 @@ impl hb_buffer_t {
     #[inline]
     pub fn next_glyphs(&mut self, n: usize) -> Result<bool, AllocError>
         requires { n ≤ lookahead_len self.old }
-        ensures { Meets (step.next_glyphs n self.old) self.old result self.new }
+        ensures meets { Meets (step.next_glyphs n self.old) self.old result self.new }
+        ensures in_place { self.old.have_separate_output ≡ false → result ≡ Ok true }
     {
         if self.sides.next_exceeds(n, self.max_len) {
             self.successful = false;
@@ -67,7 +69,8 @@ impl hb_buffer_t {
     pub fn replace_glyph(&mut self, glyph_index: u32) -> Result<bool, AllocError>
         requires opened { self.old.have_output ≡ true }
         requires glyph { 0 < lookahead_len self.old }
-        ensures { Meets (step.replace_glyph glyph_index self.old) self.old result self.new }
+        ensures meets { Meets (step.replace_glyph glyph_index self.old) self.old result self.new }
+        ensures in_place { self.old.have_separate_output ≡ false → result ≡ Ok true }
     {
         let glyph = self.sides.head();
         self.put(
@@ -129,7 +132,8 @@ impl hb_buffer_t {
     #[inline]
     pub fn sync(&mut self) -> Result<bool, AllocError>
         requires { self.old.have_output ≡ true }
-        ensures { Meets (step.sync self.old) self.old result self.new }
+        ensures meets { Meets (step.sync self.old) self.old result self.new }
+        ensures in_place { self.old.have_separate_output ≡ false → result ≡ Ok self.old.successful }
     {
         if !self.successful {
             return Ok(false);
@@ -153,8 +157,10 @@ impl hb_buffer_t {
     fn put(&mut self, glyph: hb_glyph_info_t, read: usize) -> Result<bool, AllocError>
         requires opened { self.old.have_output ≡ true }
         requires within { read ≤ length self.old.input }
-        ensures { Meets (step.put_out (glyph ∷ []) self.old (step.skip_glyphs read self.old))
+        ensures meets { Meets (step.put_out (glyph ∷ []) self.old (step.skip_glyphs read self.old))
             self.old result self.new }
+        ensures in_place { self.old.have_separate_output ≡ false → 0 < read
+            → result ≡ Ok true }
     {
         if self.sides.out_len() >= self.max_len {
             self.successful = false;

@@ -1,7 +1,7 @@
 //! Moves of the cursor over both sides, as HarfBuzz's `hb_buffer_t` makes them: glyphs are put out as they are, or
 //! taken back to be read again.
 
-ghost use Rattle.std.specs.Prelude.{◌≡◌, ◌+◌, ◌-◌, ◌<◌, ◌≤◌, true, false, length};
+ghost use Rattle.std.specs.Prelude.{◌≡◌, ◌+◌, ◌-◌, ◌<◌, ◌≤◌, ◌||◌, true, false, not, length, Ok};
 ghost use Rattle.shaping_buffer.specs.Step as step;
 ghost use Rattle.shaping_buffer.specs.Step.{Meets};
 
@@ -16,7 +16,9 @@ impl hb_buffer_t {
     /// long: then only `successful` changes. `Err(AllocError)` where memory ran out: then nothing changed.
     pub fn move_to(&mut self, i: usize) -> Result<bool, AllocError>
         requires { i ≤ step.last_place self.old }
-        ensures { Meets (step.move_to i self.old) self.old result self.new }
+        ensures meets { Meets (step.move_to i self.old) self.old result self.new }
+        ensures in_place { self.old.have_separate_output ≡ false
+            → result ≡ Ok (self.old.successful || not self.old.have_output) }
     {
         if !self.sides.is_open() {
             self.sides.go_to(i);
