@@ -242,7 +242,8 @@ impl Sides {
     /// How many glyphs each side may hold without asking for memory.
     #[inline(always)]
     pub fn room(&self) -> usize
-        ensures { result ≡ self.now.room }
+        ensures is { result ≡ self.now.room }
+        ensures sides { IsSides self.now }
     {
         self.room
     }

@@ -12,3 +12,5 @@ pub mod InPlaceLaws
 pub mod HeldLemmas
 pub mod HeadlineLemmas
 pub mod OldRuns
+pub mod Settings
+pub mod RoomLaws

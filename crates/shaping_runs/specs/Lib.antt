@@ -4,3 +4,4 @@ pub mod Render
 pub mod Separation
 pub mod Headline
 pub mod ThreeLevels
+pub mod Room

@@ -1,2 +1,3 @@
 pub mod VisibleLemmas
 pub mod RunsLemmas
+pub mod RoomLemmas
