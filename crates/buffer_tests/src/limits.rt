@@ -14,10 +14,13 @@ fn room_is_made_up_to_the_limit(rt: HostRuntime) {
     set_max_len(&rt, &mut buffer, 8);
     assert!(rt; buffer.ensure(8) == Ok(true));
     assert!(rt; buffer.ensure(9) == Ok(false));
-    assert!(rt; !buffer.successful());
+    assert!(rt; (buffer.room(), buffer.successful()) == (8, false));
     let mut buffer = buffer_of(&rt, rt.alloc(), "abc");
-    assert!(rt; (buffer.ensure(2), buffer.ensure(5)) == (Ok(true), Ok(true)));
-    assert!(rt; buffer.len() == 3);
+    assert!(rt; buffer.room() == 0);
+    assert!(rt; (buffer.ensure(5), buffer.ensure(2)) == (Ok(true), Ok(true)));
+    assert!(rt; (buffer.len(), buffer.room()) == (3, 5));
+    buffer.clear();
+    assert!(rt; (buffer.len(), buffer.room()) == (0, 5));
 }
 
 #[test]

@@ -10,6 +10,7 @@ use shaping_uses::merging::clusters_of_merged;
 use shaping_uses::printing::print_characters;
 use shaping_uses::references::*;
 use shaping_uses::rendering::render_with_ligature;
+use shaping_uses::room::{put_marks, put_marks_within_room};
 use shaping_uses::runs::{first_two_as_one, ligate_first_two};
 use shaping_uses::visible::hide_ignorables;
 use std::alloc::Global;
@@ -33,6 +34,7 @@ fn uses_run(rt: HostRuntime) -> Result<(), Fail> {
     accessors_say_what_stands(&rt, rt.alloc());
     calls_in_place_are_done(&rt, rt.alloc());
     a_list_in_place_is_done(&rt, rt.alloc());
+    marks_are_put_in(&rt, rt.alloc());
     a_text_is_rendered(&rt, rt.alloc())
 }
 
@@ -171,6 +173,26 @@ fn a_list_in_place_is_done(rt: &impl Abort, alloc: Global) {
     assert!(rt; !buffer.have_output() && buffer.idx() == 0);
     assert!(rt; buffer.info().len() == 4);
     for (glyph, id) in buffer.info().iter().zip(&[98, 99, 100, 101]) {
+        assert!(rt; glyph.glyph_id == *id);
+    }
+}
+
+fn marks_are_put_in(rt: &impl Abort, alloc: Global) {
+    let mut buffer = buffer_of(rt, alloc, "ab");
+    assert!(rt; !buffer.have_output() && buffer.successful());
+    assert!(rt; put_marks(&mut buffer, 9) == Ok(true));
+    assert!(rt; buffer.room() == 4);
+    assert_ids(rt, buffer.info(), &[9, 97, 9, 98]);
+    assert!(rt; buffer.ensure(8) == Ok(true));
+    assert!(rt; !buffer.have_output() && buffer.successful());
+    assert!(rt; buffer.info().len() == 4 && buffer.room() >= 8 && buffer.max_len() >= 8);
+    assert!(rt; put_marks_within_room(&mut buffer, 8) == Ok(true));
+    assert_ids(rt, buffer.info(), &[8, 9, 8, 97, 8, 9, 8, 98]);
+}
+
+fn assert_ids(rt: &impl Abort, glyphs: &[hb_glyph_info_t], want: &[u32]) {
+    assert!(rt; glyphs.len() == want.len());
+    for (glyph, id) in glyphs.iter().zip(want) {
         assert!(rt; glyph.glyph_id == *id);
     }
 }

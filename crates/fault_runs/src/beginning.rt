@@ -2,7 +2,7 @@
 
 use crate::scenario::Lost;
 use rb_text::{Direction, GlyphId, Language, script};
-use shaping_buffer::{BufferFlags, Flags, UnicodeBuffer, hb_buffer_t};
+use shaping_buffer::{BufferFlags, Flags, GlyphBuffer, UnicodeBuffer, hb_buffer_t};
 use std::alloc::Global;
 
 /// Flags that have glyphs marked as unsafe to concatenate, and as safe for a tatweel.
@@ -10,7 +10,12 @@ const FLAGS: u32 = 0xC0;
 
 /// An empty text of which everything was said.
 pub fn begun_text(alloc: Global) -> Result<UnicodeBuffer, Lost> {
-    let mut text = UnicodeBuffer::new(alloc);
+    begun_text_with_room(alloc, 0)
+}
+
+/// The same with room for so many glyphs.
+pub fn begun_text_with_room(alloc: Global, room: usize) -> Result<UnicodeBuffer, Lost> {
+    let mut text = empty_text(alloc, room)?;
     text.set_language(Language::from_str(alloc, "he-IL")?);
     text.set_script(script::HEBREW);
     text.set_direction(Direction::RightToLeft);
@@ -19,6 +24,16 @@ pub fn begun_text(alloc: Global) -> Result<UnicodeBuffer, Lost> {
     text.set_post_context("after");
     text.set_not_found_variation_selector_glyph(4);
     Ok(text)
+}
+
+/// An empty text with room for so many glyphs.
+fn empty_text(alloc: Global, room: usize) -> Result<UnicodeBuffer, Lost> {
+    let mut buffer = hb_buffer_t::new(alloc);
+    if !buffer.ensure(room)? {
+        return Err(Lost::Refusal);
+    }
+    buffer.clear_positions();
+    Ok(GlyphBuffer::from_buffer(buffer).clear())
 }
 
 /// A buffer over a text, at a cluster level, of which everything was said. Each glyph has a mask and numbers of its

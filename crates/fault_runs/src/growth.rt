@@ -1,6 +1,6 @@
 //! Texts that grow step by step.
 
-use crate::beginning::begun_text;
+use crate::beginning::begun_text_with_room;
 use crate::scenario::{Lost, Scenario};
 use crate::seen::{same_buffers, same_texts};
 use shaping_buffer::{UnicodeBuffer, hb_buffer_t};
@@ -18,6 +18,8 @@ pub enum Step<'a> {
 pub struct Growth<'a> {
     pub name: &'a str,
     pub least: u32,
+    /// For how many glyphs room is made before.
+    pub room: usize,
     pub steps: &'a [Step<'a>],
     /// Whether the text is looked into where a step runs out of memory, in place of going on.
     pub stops: bool,
@@ -36,7 +38,10 @@ impl Scenario for Growth<'_> {
 
     fn prepare(&self, alloc: Global) -> Result<(UnicodeBuffer, hb_buffer_t), Lost> {
         let whole = self.text_after(alloc, self.steps)?;
-        Ok((begun_text(alloc)?, whole.into_buffer()))
+        Ok((
+            begun_text_with_room(alloc, self.room)?,
+            whole.into_buffer(),
+        ))
     }
 
     fn watch(&self, alloc: Global, ready: (UnicodeBuffer, hb_buffer_t)) -> Result<(), Lost> {
@@ -45,6 +50,7 @@ impl Scenario for Growth<'_> {
             match grow(&mut text, step) {
                 Ok(true) => {}
                 Ok(false) => return Err(Lost::Refusal),
+                Err(_) if self.least == 0 => return Err(Lost::Memory),
                 Err(_) => {
                     let twin = self.text_after(alloc, &self.steps[..i])?;
                     if self.stops {
@@ -64,7 +70,7 @@ impl Scenario for Growth<'_> {
 impl Growth<'_> {
     /// The text after these steps.
     fn text_after(&self, alloc: Global, steps: &[Step<'_>]) -> Result<UnicodeBuffer, Lost> {
-        let mut text = begun_text(alloc)?;
+        let mut text = begun_text_with_room(alloc, self.room)?;
         for step in steps {
             if !grow(&mut text, step)? {
                 return Err(Lost::Refusal);
@@ -122,29 +128,47 @@ const ADDED: &[Step<'static>] = &[
     Step::Add('j', 4_294_967_295),
 ];
 
-pub static GROWTHS: [Growth<'static>; 4] = [
+pub static GROWTHS: [Growth<'static>; 6] = [
     Growth {
         name: "push_str, again and again",
         least: 6,
+        room: 0,
         steps: PUSHES,
         stops: false,
     },
     Growth {
         name: "push_str, up to the one that runs out of memory",
         least: 6,
+        room: 0,
         steps: PUSHES,
         stops: true,
     },
     Growth {
         name: "add, again and again",
         least: 4,
+        room: 0,
         steps: ADDED,
         stops: false,
     },
     Growth {
         name: "add, up to the one that runs out of memory",
         least: 4,
+        room: 0,
         steps: ADDED,
         stops: true,
+    },
+    Growth {
+        name: "push_str within the room that ensure made",
+        least: 0,
+        room: 60,
+        steps: PUSHES,
+        stops: false,
+    },
+    Growth {
+        name: "add within the room that ensure made",
+        least: 0,
+        room: 10,
+        steps: ADDED,
+        stops: false,
     },
 ];

@@ -10,6 +10,7 @@ use rendered::RENDERED;
 use runs::apart::{APART_RUNS, BECOMING};
 use runs::in_place::IN_PLACE;
 use runs::whole::WHOLE;
+use runs::within_room::WITHIN_ROOM;
 use said::{Made, Tags, Told};
 use scenario::{Scenario, tell};
 use std::alloc::Global;
@@ -40,6 +41,7 @@ fn main(rt: HostRuntime) -> io::Result<()> {
     tell_all(&rt, rt.alloc(), &IN_PLACE)?;
     tell_all(&rt, rt.alloc(), &BECOMING)?;
     tell_all(&rt, rt.alloc(), &APART_RUNS)?;
+    tell_all(&rt, rt.alloc(), &WITHIN_ROOM)?;
     tell_all(&rt, rt.alloc(), &WHOLE)?;
     tell_all(&rt, rt.alloc(), &RENDERED)?;
     tell(&rt, rt.alloc(), &Written)?;

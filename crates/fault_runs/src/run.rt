@@ -24,6 +24,8 @@ pub struct Run<'a> {
     pub text: &'a str,
     /// How many glyphs each side may hold.
     pub max_len: usize,
+    /// For how many glyphs room is made in the preparation.
+    pub ensured: usize,
     pub before: &'a [Call<'a>],
     /// For how many glyphs room is made, step by step, before the calls.
     pub rooms: &'a [usize],
@@ -38,6 +40,7 @@ pub const PLAIN: Run<'static> = Run {
     least: 0,
     text: "abcdefghij",
     max_len: 99,
+    ensured: 0,
     before: &[],
     rooms: &[],
     calls: &[],
@@ -101,6 +104,7 @@ impl Run<'_> {
         let mut buffer = begun_buffer(alloc, self.text, level)?;
         let mut answers = [NONE_YET; MOST];
         limit(&mut buffer, self.max_len)?;
+        make_rooms(&mut buffer, &[self.ensured])?;
         make(&mut buffer, self.before, &mut answers)?;
         Ok(buffer)
     }

@@ -3,3 +3,4 @@
 pub mod apart;
 pub mod in_place;
 pub mod whole;
+pub mod within_room;

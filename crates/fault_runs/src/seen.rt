@@ -16,7 +16,7 @@ pub fn same_buffers(a: &hb_buffer_t, b: &hb_buffer_t) -> bool {
 
 fn same_places(a: &hb_buffer_t, b: &hb_buffer_t) -> bool {
     (a.idx(), a.len(), a.out_len()) == (b.idx(), b.len(), b.out_len())
-        && (a.max_len(), a.successful()) == (b.max_len(), b.successful())
+        && (a.max_len(), a.room(), a.successful()) == (b.max_len(), b.room(), b.successful())
         && a.have_output() == b.have_output()
         && a.have_separate_output() == b.have_separate_output()
         && (a.backtrack_len(), a.lookahead_len()) == (b.backtrack_len(), b.lookahead_len())

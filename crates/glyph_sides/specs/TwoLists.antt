@@ -17,10 +17,12 @@ pub record TwoLists : Type 0 where
   pub input : List hb_glyph_info_t
   -- how many glyphs were read
   pub idx : ℕ
+  -- how many glyphs each side may hold without asking for memory
+  pub room : ℕ
 
 -- no glyph, and no output open
-abbrev pub nothing : TwoLists
-nothing = record { is_open = false; is_separate = false; out = []; input = []; idx = 0 }
+abbrev pub nothing : ℕ → TwoLists
+nothing room = record { is_open = false; is_separate = false; out = []; input = []; idx = 0; room = room }
 
 -- how many glyphs the input has, those before the cursor among them
 abbrev pub len : TwoLists → ℕ
@@ -39,11 +41,15 @@ pub record IsSides (s : TwoLists) : Type 0 where
 
 -- ---- the answer of an operation
 
--- one side becomes longer
-abbrev pub Grows : TwoLists → TwoLists → Type 0
-Grows before after = (length before.out < length after.out) ⊎ (length before.input < length after.input)
+-- a side becomes longer, and there is no room for it
+abbrev pub Outgrows : ℕ → List hb_glyph_info_t → List hb_glyph_info_t → Type 0
+Outgrows room before after = (length before < length after) × (room < length after)
 
--- memory may be wanted where the output is separate before or after, and a side becomes longer
+-- one side does so
+abbrev pub Grows : TwoLists → TwoLists → Type 0
+Grows before after = Outgrows before.room before.out after.out ⊎ Outgrows before.room before.input after.input
+
+-- memory may be wanted where the output is separate before or after, and a side becomes longer than there is room for
 abbrev pub MayWant : TwoLists → TwoLists → Type 0
 MayWant before after = (before.is_separate || after.is_separate ≡ true) × Grows before after
 

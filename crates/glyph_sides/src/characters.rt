@@ -7,7 +7,8 @@ use rb_glyph::hb_glyph_info_t;
 
 pub(crate) fn append_characters(info: &mut Vec<hb_glyph_info_t>, text: &str)
     requires { vec_len info.old + length (chars text.now) ≤ vec_capacity info.old }
-    ensures { info.new.items ≡ info.old.items ++ glyphs_at 0 (chars text.now) }
+    ensures is { info.new.items ≡ info.old.items ++ glyphs_at 0 (chars text.now) }
+    ensures capacity { vec_capacity info.new ≡ vec_capacity info.old }
 {
     for (i, c) in text.char_indices() {
         info.push_reserved(hb_glyph_info_t {

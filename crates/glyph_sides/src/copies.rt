@@ -10,7 +10,8 @@ use rb_glyph::hb_glyph_info_t;
 #[tactic(auto, using(crate::proofs::CopyLemmas::copied))]
 pub(crate) fn append_copies(out: &mut Vec<hb_glyph_info_t>, glyph: hb_glyph_info_t, ids: &[u32])
     requires { length out.old.items + length ids.now ≤ vec_capacity out.old }
-    ensures { out.new.items ≡ out.old.items ++ copies glyph ids.now }
+    ensures is { out.new.items ≡ out.old.items ++ copies glyph ids.now }
+    ensures capacity { vec_capacity out.new ≡ vec_capacity out.old }
 {
     for id in ids {
         out.push_reserved(hb_glyph_info_t {
@@ -35,6 +36,7 @@ pub(crate) fn write_copies(
         ≡ take at info.old.items ++ copies glyph ids.now }
     ensures left { drop (at + length ids.now) info.new.items
         ≡ drop (at + length ids.now) info.old.items }
+    ensures capacity { vec_capacity info.new ≡ vec_capacity info.old }
 {
     for (i, id) in ids.iter().enumerate() {
         info[at + i] = hb_glyph_info_t {

@@ -33,6 +33,8 @@ pub(crate) fn replace_apart(
         let l = merge_or_mark any_order (out.old.items ++ drop cursor info.old.items)
         k (k + count) 0 in
         drop (cursor + count) info.new.items ≡ drop count (drop k l) }
+    ensures out_capacity { vec_capacity out.new ≡ vec_capacity out.old }
+    ensures capacity { vec_capacity info.new ≡ vec_capacity info.old }
 {
     let len = out.len();
     merge_front(out, info, cursor, len + count, any_order);
@@ -63,6 +65,7 @@ pub(crate) fn replace_in_place(
         let l = merge_or_mark any_order (take k info.old.items ++ drop cursor info.old.items)
         k (k + count) 0 in
         drop (cursor + count) info.new.items ≡ drop count (drop k l) }
+    ensures capacity { vec_capacity info.new ≡ vec_capacity info.old }
 {
     one_slice::merge_or_mark(info, placed, cursor, placed, placed + count, 0, any_order);
     let glyph = info[cursor];
@@ -93,6 +96,8 @@ pub(crate) fn replace_away(
         let l = merge_or_mark any_order (take k info.old.items ++ drop cursor info.old.items)
         k (k + count) 0 in
         drop (cursor + count) info.new.items ≡ drop count (drop k l) }
+    ensures out_capacity { vec_capacity out.old ≤ vec_capacity out.new }
+    ensures capacity { vec_capacity info.new ≡ vec_capacity info.old }
 {
     one_slice::merge_or_mark(info, placed, cursor, placed, placed + count, 0, any_order);
     out.extend_from_slice(&info[..placed]).unwrap();

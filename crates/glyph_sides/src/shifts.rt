@@ -1,8 +1,9 @@
 //! Glyphs that are moved in a list.
 
-ghost use Rattle.std.specs.Prelude.{◌≡◌, ◌+◌, ◌-◌, ◌≤◌, ◌++◌, length, take, drop, vec_len, vec_capacity, slice_range};
+ghost use Rattle.std.specs.Prelude.{◌≡◌, ◌+◌, ◌-◌, ◌<◌, ◌≤◌, ◌++◌, length, take, drop, vec_len, vec_capacity, slice_range, IfOk, OnErr};
 
 use rb_glyph::hb_glyph_info_t;
+use std::alloc::AllocError;
 
 const BLANK: hb_glyph_info_t = hb_glyph_info_t {
     glyph_id: 0,
@@ -17,7 +18,8 @@ const BLANK: hb_glyph_info_t = hb_glyph_info_t {
 pub(crate) fn close_gap(info: &mut Vec<hb_glyph_info_t>, to: usize, from: usize)
     requires down { to ≤ from }
     requires within { from ≤ vec_len info.old }
-    ensures { info.new.items ≡ take to info.old.items ++ drop from info.old.items }
+    ensures is { info.new.items ≡ take to info.old.items ++ drop from info.old.items }
+    ensures capacity { vec_capacity info.new ≡ vec_capacity info.old }
 {
     if to < from {
         let len = info.len();
@@ -36,6 +38,7 @@ pub(crate) fn put_down(info: &mut Vec<hb_glyph_info_t>, to: usize, from: usize, 
     ensures put { take (to + count) info.new.items
         ≡ take to info.old.items ++ take count (drop from info.old.items) }
     ensures left { drop (from + count) info.new.items ≡ drop (from + count) info.old.items }
+    ensures capacity { vec_capacity info.new ≡ vec_capacity info.old }
 {
     if to < from {
         info.copy_within(from..from + count, to);
@@ -52,6 +55,7 @@ pub(crate) fn shift_back(info: &mut Vec<hb_glyph_info_t>, start: usize, end: usi
     ensures out { take start info.new.items ≡ take start (take end info.old.items) }
     ensures input { drop (at - (end - start)) info.new.items
         ≡ drop start (take end info.old.items) ++ drop at info.old.items }
+    ensures capacity { vec_capacity info.new ≡ vec_capacity info.old }
 {
     shift_up(info, start, end, at);
 }
@@ -65,9 +69,30 @@ fn shift_up(info: &mut Vec<hb_glyph_info_t>, start: usize, end: usize, at: usize
     ensures front { take start info.new.items ≡ take start info.old.items }
     ensures put { drop (at - (end - start)) info.new.items
         ≡ slice_range info.old.items start end ++ drop at info.old.items }
+    ensures capacity { vec_capacity info.new ≡ vec_capacity info.old }
 {
     info.as_mut_slice()
         .copy_within(start..end, at - (end - start));
+}
+
+/// Makes room for `ample` glyphs more, or where there is no memory for that, for `least`. Answers for how many.
+pub(crate) fn reserve_ample(
+    info: &mut Vec<hb_glyph_info_t>,
+    least: usize,
+    ample: usize,
+) -> Result<usize, AllocError>
+    requires { least ≤ ample }
+    ensures items { info.new.items ≡ info.old.items }
+    ensures capacity { vec_capacity info.old ≤ vec_capacity info.new }
+    ensures least { IfOk result (λ more. least ≤ more) }
+    ensures room { IfOk result (λ more. vec_len info.new + more ≤ vec_capacity info.new) }
+    ensures wants { OnErr result (vec_capacity info.old < vec_len info.old + least) }
+{
+    if info.reserve(ample).is_ok() {
+        return Ok(ample);
+    }
+    info.reserve(least)?;
+    Ok(least)
 }
 
 /// Moves the glyphs from a place on up by `more`, where there is room.
@@ -76,6 +101,7 @@ pub(crate) fn open_gap(info: &mut Vec<hb_glyph_info_t>, at: usize, more: usize)
     requires room { vec_len info.old + more ≤ vec_capacity info.old }
     ensures len { vec_len info.new ≡ vec_len info.old + more }
     ensures moved { drop (at + more) info.new.items ≡ drop at info.old.items }
+    ensures capacity { vec_capacity info.old ≤ vec_capacity info.new }
 {
     let len = info.len();
     info.resize(len + more, BLANK).unwrap();
@@ -89,6 +115,7 @@ pub(crate) fn put_back(info: &mut Vec<hb_glyph_info_t>, at: usize, glyphs: &[hb_
     ensures len { vec_len info.new ≡ vec_len info.old }
     ensures put { drop (at - length glyphs.now) info.new.items
         ≡ glyphs.now ++ drop at info.old.items }
+    ensures capacity { vec_capacity info.new ≡ vec_capacity info.old }
 {
     info.as_mut_slice()[at - glyphs.len()..at].copy_from_slice(glyphs);
 }

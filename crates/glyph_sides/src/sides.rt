@@ -1,6 +1,6 @@
 //! The type: its fields, what callers see of it, and its accessors.
 
-ghost use Rattle.std.specs.Prelude.{◌≡◌, ◌+◌, ◌-◌, ◌<◌, ◌≤◌, ◌&&◌, [], ◌∷◌, ◌++◌, OnOk, OnErr, true, false, nat_lt, chars, length, if◌then◌else◌, take, drop};
+ghost use Rattle.std.specs.Prelude.{◌≡◌, ◌+◌, ◌-◌, ◌<◌, ◌≤◌, ◌&&◌, [], ◌∷◌, ◌++◌, max, OnOk, OnErr, true, false, nat_lt, chars, length, if◌then◌else◌, take, drop};
 ghost use Rattle.glyph_sides.specs.TextGlyphs.{glyphs_at};
 ghost use Rattle.glyph_sides.specs.TwoLists.{IsSides, len, left, nothing, opened, place};
 
@@ -31,6 +31,8 @@ pub struct Sides {
     front: usize,
     /// The place of the cursor in `info`.
     cursor: usize,
+    /// For how many glyphs each of the two vectors has room, at least.
+    room: usize,
     is_open: bool,
     is_separate: bool,
 }
@@ -49,6 +51,7 @@ impl Model for Sides {
       out = if b.is_separate then b.out_info.items else take b.placed b.info.items;
       input = if b.is_open then drop b.cursor b.info.items else b.info.items;
       idx = b.cursor - b.front;
+      room = b.room;
     } };
 
     ghost invariant = { IsStored };
@@ -57,7 +60,7 @@ impl Model for Sides {
 impl Sides {
     /// No glyphs, and no output. Memory is taken from `alloc` later.
     pub fn new(alloc: Global) -> Self
-        ensures { result ≡ nothing }
+        ensures { result ≡ nothing 0 }
     {
         Sides {
             info: Vec::new(alloc),
@@ -65,14 +68,15 @@ impl Sides {
             placed: 0,
             front: 0,
             cursor: 0,
+            room: 0,
             is_open: false,
             is_separate: false,
         }
     }
 
-    /// Empties both sides.
+    /// Empties both sides. Their room stays.
     pub fn clear(&mut self)
-        ensures { self.new ≡ nothing }
+        ensures { self.new ≡ nothing self.old.room }
     {
         self.info.clear();
         self.out_info.clear();
@@ -221,12 +225,28 @@ impl Sides {
         self.info.as_slice()
     }
 
-    /// Makes room for more glyphs of the input.
-    pub fn reserve(&mut self, more: usize) -> Result<(), AllocError>
-        ensures same { self.new ≡ self.old }
-        ensures wants { OnErr result (0 < more) }
+    /// Makes room for so many glyphs on each side.
+    pub fn reserve(&mut self, size: usize) -> Result<(), AllocError>
+        ensures done { OnOk result (self.new ≡ record self.old { room = max self.old.room size }) }
+        ensures same { OnErr result (self.new ≡ self.old) }
+        ensures wants { OnErr result (self.old.room < size) }
     {
-        self.info.reserve(more)
+        if size > self.room {
+            self.info.reserve(size.saturating_sub(self.info.len()))?;
+            self.out_info
+                .reserve(size.saturating_sub(self.out_info.len()))?;
+            self.room = size;
+        }
+        Ok(())
+    }
+
+    /// How many glyphs each side may hold without asking for memory.
+    #[inline(always)]
+    pub fn room(&self) -> usize
+        ensures is { result ≡ self.now.room }
+        ensures sides { IsSides self.now }
+    {
+        self.room
     }
 
     /// Puts a glyph at the end of the list. Requires that no output is open.
@@ -234,6 +254,7 @@ impl Sides {
         requires { self.old.is_open ≡ false }
         ensures done { OnOk result (self.new ≡ record self.old { input = self.old.input ++ glyph ∷ [] }) }
         ensures same { OnErr result (self.new ≡ self.old) }
+        ensures wants { OnErr result (self.old.room ≤ length self.old.input) }
     {
         self.info.push(glyph)?;
         Ok(())
@@ -273,7 +294,7 @@ impl Sides {
           input = self.old.input ++ glyphs_at 0 (chars text.now);
         }) }
         ensures same { OnErr result (self.new ≡ self.old) }
-        ensures wants { OnErr result (0 < count) }
+        ensures wants { OnErr result ((0 < count) × (self.old.room < length self.old.input + count)) }
     {
         self.info.reserve(count)?;
         append_characters(&mut self.info, text);

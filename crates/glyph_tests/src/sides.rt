@@ -164,7 +164,11 @@ fn single_glyphs_are_read_and_written(rt: HostRuntime) {
 #[test]
 fn a_list_is_cut_and_merged(rt: HostRuntime) {
     let mut sides = list(&rt, rt.alloc(), &[3, 3, 2, 1]);
+    assert!(rt; sides.room() == 0);
     assert!(rt; sides.reserve(5).is_ok());
+    assert!(rt; sides.room() == 5);
+    assert!(rt; sides.reserve(3).is_ok());
+    assert!(rt; sides.room() == 5);
     assert!(rt; !sides.is_open());
     assert!(rt; sides.input().len() >= 3);
     sides.go_to(1);

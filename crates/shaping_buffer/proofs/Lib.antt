@@ -1,4 +1,5 @@
 pub mod MoveLemmas
+pub mod RoomLemmas
 pub mod ReplacementLemmas
 pub mod CharactersLemmas
 pub mod MergingLemmas

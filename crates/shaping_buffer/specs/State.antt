@@ -22,6 +22,8 @@ pub record State : Type 0 where
   pub successful : Bool
   -- how many glyphs a side may hold
   pub max_len : ℕ
+  -- how many glyphs a side may hold without asking for memory
+  pub room : ℕ
   -- the positions, while they are on
   pub positions : Option (List GlyphPosition)
   -- the characters next to the text, before it and after it, nearest first
@@ -56,7 +58,7 @@ place_of s k = if s.have_output then k else s.idx + k
 abbrev pub no_flags : BufferFlags
 no_flags = record { 0 = 0 }
 
--- nothing is held
+-- nothing is held, and there is no room
 abbrev pub empty_state : ℕ → ℤ → State
 empty_state max_len max_ops = record {
   have_output = false;
@@ -66,6 +68,7 @@ empty_state max_len max_ops = record {
   idx = 0;
   successful = true;
   max_len = max_len;
+  room = 0;
   positions = None;
   pre_context = [];
   post_context = [];
@@ -82,9 +85,10 @@ empty_state max_len max_ops = record {
   max_ops = max_ops;
 }
 
--- emptied for the next text: the limits, the flags, the invisible glyph and whether shaping failed stay
+-- emptied for the next text: the limits, the room, the flags, the invisible glyph and whether shaping failed stay
 abbrev pub cleared : State → State
 cleared s = record (empty_state s.max_len s.max_ops) {
+  room = s.room;
   flags = s.flags;
   invisible = s.invisible;
   shaping_failed = s.shaping_failed;

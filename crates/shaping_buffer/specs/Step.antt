@@ -1,9 +1,10 @@
 -- A cursor call's step: what it makes of the two lists, and when it is refused for length.
 use Rattle.std.specs.Prelude.{◌≡◌, ℕ, ◌+◌, ◌-◌, ◌<◌, ◌==◌, ◌||◌, ◌⊎◌, Bool, true, false, List, [], ◌∷◌, ◌++◌, length}
-use Rattle.std.specs.Prelude.{take, drop, map, None, Result, Ok, Err, nat_le, nat_lt, if◌then◌else◌}
+use Rattle.std.specs.Prelude.{take, drop, map, None, Result, Ok, Err, max, nat_le, nat_lt, if◌then◌else◌}
 use Rattle.std.specs.declared.alloc.AllocError.{AllocError}
 use Rattle.rb_glyph.specs.declared.info.hb_glyph_info_t.{hb_glyph_info_t}
 use Rattle.glyph_lists.specs.Replacement.{copies}
+use Rattle.glyph_sides.specs.TwoLists.{Outgrows}
 use Rattle.shaping_buffer.specs.State.{State, len}
 use Rattle.shaping_buffer.specs.ClusterStep.{any_order, merge_input, head_of}
 
@@ -34,9 +35,9 @@ unlimited after = record { done = true; state = after }
 abbrev pub refused : State → Outcome
 refused s = record { done = false; state = s }
 
--- one side becomes longer
+-- one side becomes longer than there is room for
 abbrev pub Grows : State → State → Type 0
-Grows before after = (length before.out < length after.out) ⊎ (length before.input < length after.input)
+Grows before after = Outgrows before.room before.out after.out ⊎ Outgrows before.room before.input after.input
 
 -- What came of a call: its outcome, or running out of memory, which comes where the call may allocate, hides no
 -- refusal and changes nothing.
@@ -45,7 +46,7 @@ MeetsOrWants may_want outcome old (Ok done) new = (done ≡ outcome.done) × (ne
 MeetsOrWants may_want outcome old (Err e) new = may_want × (outcome.done ≡ true) × (new ≡ old)
 
 -- a cursor call may allocate where an output is open, which is separate before the call or after it, and a side
--- becomes longer
+-- becomes longer than there is room for
 abbrev pub MayWant : State → State → Type 0
 MayWant before after =
     (before.have_output ≡ true) × (before.have_separate_output || after.have_separate_output ≡ true)
@@ -55,13 +56,14 @@ MayWant before after =
 abbrev pub Meets : Outcome → State → Result Bool AllocError → State → Type 0
 Meets outcome old result new = MeetsOrWants (MayWant old outcome.state) outcome old result new
 
--- of a call that grows the list: it may allocate where the list becomes longer
+-- of a call that grows the list: it may allocate where the list becomes longer than there is room for
 abbrev pub GrowthMeets : Outcome → State → Result Bool AllocError → State → Type 0
-GrowthMeets outcome old result new = MeetsOrWants (length old.input < length outcome.state.input) outcome old result new
+GrowthMeets outcome old result new =
+    MeetsOrWants (Outgrows old.room old.input outcome.state.input) outcome old result new
 
--- of `ensure`: it may allocate where there is to be more room than the list takes
+-- of `ensure`: it may allocate where there is to be more room than there is
 abbrev pub RoomMeets : ℕ → Outcome → State → Result Bool AllocError → State → Type 0
-RoomMeets size outcome old result new = MeetsOrWants (len old < size) outcome old result new
+RoomMeets size outcome old result new = MeetsOrWants (old.room < size) outcome old result new
 
 -- ---- the steps
 
@@ -158,9 +160,9 @@ sync s =
     if s.successful then limited (length l) s after
     else refused s
 
--- `ensure`: room alone is made
+-- `ensure`: room is made for n glyphs on each side, and nothing else changes
 abbrev pub ensure : ℕ → State → Outcome
-ensure n s = limited n s s
+ensure n s = limited n s (record s { room = max s.room n })
 
 -- ---- the storage
 

@@ -89,6 +89,7 @@ impl Model for hb_buffer_t {
       idx = b.sides.idx;
       successful = b.successful;
       max_len = b.max_len;
+      room = b.sides.room;
       positions = if b.have_positions then Some b.pos.items else None;
       pre_context = b.pre_context.items;
       post_context = b.post_context.items;
@@ -173,6 +174,13 @@ impl hb_buffer_t {
         ensures { result ≡ self.now.max_len }
     {
         self.max_len
+    }
+
+    /// How many glyphs each side may hold without asking for memory: as many as a done `ensure` has made room for.
+    pub fn room(&self) -> usize
+        ensures { result ≡ self.now.room }
+    {
+        self.sides.room()
     }
 
     /// Whether no call was refused for length since the buffer was made or cleared.
@@ -270,7 +278,7 @@ impl hb_buffer_t {
     }
 
     /// Empties the buffer for the next text: both sides, the contexts and what was said of the text. `max_len`,
-    /// `max_ops`, `flags`, `invisible` and `shaping_failed` stay, and all else is as in a new buffer: no output, no
+    /// `max_ops`, `flags`, `invisible`, `shaping_failed` and the room stay, and all else is as in a new buffer: no output, no
     /// positions, and `successful`.
     pub fn clear(&mut self)
         ensures { self.new ≡ cleared self.old }

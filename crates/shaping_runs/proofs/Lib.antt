@@ -13,3 +13,5 @@ pub mod HeldLemmas
 pub mod HeadlineLemmas
 pub mod OldRuns
 pub mod InPlaceCalls
+pub mod Settings
+pub mod RoomLaws

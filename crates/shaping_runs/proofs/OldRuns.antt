@@ -27,6 +27,7 @@ use Rattle.shaping_runs.specs.declared.call.Call.TheVariants.{MergeGraphemeClust
 use Rattle.shaping_runs.specs.declared.call.Answer.TheVariants.{Outside}
 use Rattle.shaping_runs.specs.Replay.{Turn, turn, after, answers_of, answer_of, may_be_made, outcome_of}
 use Rattle.shaping_runs.specs.ThreeLevels.{any_order, old_outcome_of, old_turn, old_after, old_answers_of, is_new, AreOld}
+use Rattle.shaping_runs.proofs.Settings.{same_level}
 
 -- ---- one call
 
@@ -66,61 +67,6 @@ same_outcome (UnsafeToConcatFromOutbuffer start end) s old n = refl
 pub same_turn : (call : Call) (s : State) → is_new call ≡ false → s.cluster_level ≢ 3 → turn call s ≡ old_turn call s
 same_turn call s old n = ap (λ (o : Outcome). cond (may_be_made call s) (record { answer = answer_of o.done; state = o.state })
     (record { answer = Outside; state = s })) (same_outcome call s old n)
-
--- ---- the level stays
-
-abbrev SameLevel : State → State → Type 0
-SameLevel s t = t.cluster_level ≡ s.cluster_level
-
-limited_level : (held : ℕ) (s new : State) → SameLevel s new → SameLevel s (limited held s new).state
-limited_level held s new e =
-    cond_both (leb held s.max_len) _ _ (λ (o : Outcome). SameLevel s o.state) (λ _. e) (λ _. refl)
-
-put_out_level : (xs : List hb_glyph_info_t) (s after : State) → SameLevel s after → SameLevel s (put_out xs s after).state
-put_out_level xs s after e = limited_level (length (s.out ++ xs)) s (record after { out = after.out ++ xs }) e
-
-next_level : (n : ℕ) (s : State) → SameLevel s (next_glyphs n s).state
-next_level n s = cond_both s.have_output _ _ (λ (o : Outcome). SameLevel s o.state)
-    (λ _. put_out_level (take n s.input) s (skip_glyphs n s) refl) (λ _. refl)
-
-plain_scan_level : (any : Bool) (bits start end : ℕ) (s : State) → SameLevel s (plain_scan any bits start end s)
-plain_scan_level any bits start end s = cond_both (ltb _ 2) _ _ (SameLevel s) (λ _. refl) (λ _. refl)
-
-outcome_level : (call : Call) (s : State) → SameLevel s (outcome_of call s).state
-outcome_level ClearOutput s = refl
-outcome_level NextGlyph s = next_level 1 s
-outcome_level (NextGlyphs n) s = next_level n s
-outcome_level SkipGlyph s = refl
-outcome_level (ReplaceGlyph id) s = put_out_level (map (with_id id) (take 1 s.input)) s (skip_glyph s) refl
-outcome_level (ReplaceGlyphs num_in num_out ids) s =
-    let m = merge_clusters s.idx (s.idx + num_in) s in
-    put_out_level (copies (head_of m) (take num_out ids.now)) s (skip_glyphs num_in m) refl
-outcome_level (OutputGlyph id) s = put_out_level (map (with_id id) (glyph_to_copy s)) s s refl
-outcome_level (OutputInfo g) s = put_out_level (g ∷ []) s s refl
-outcome_level CopyGlyph s = put_out_level (take 1 s.input) s s refl
-outcome_level (MoveTo place) s = cond_both s.have_output _ _ (λ (o : Outcome). SameLevel s o.state)
-    (λ _. cond_both s.successful _ _ (λ (o : Outcome). SameLevel s o.state)
-    (λ _. limited_level _ s (split_at place s) refl) (λ _. refl)) (λ _. refl)
-outcome_level Sync s = cond_both s.successful _ _ (λ (o : Outcome). SameLevel s o.state)
-    (λ _. limited_level (length (s.out ++ s.input)) s
-    (record s { have_output = false; have_separate_output = false; out = []; input = s.out ++ s.input; idx = 0 }) refl)
-    (λ _. refl)
-outcome_level DeleteGlyph s = refl
-outcome_level (MergeClusters start end) s = refl
-outcome_level (MergeOutClusters start end) s = refl
-outcome_level (MergeGraphemeClusters start end) s =
-    cond_both (groups_graphemes s.cluster_level) _ _ (SameLevel s) (λ _. refl) (λ _. plain_scan_level _ _ _ _ s)
-outcome_level (UnsafeToBreak start end) s = plain_scan_level _ _ _ _ s
-outcome_level (UnsafeToBreakFromOutbuffer start end) s = refl
-outcome_level (SafeToInsertTatweel start end) s = plain_scan_level _ _ _ _ s
-outcome_level (UnsafeToConcat start end) s =
-    cond_both (asks PRODUCE_UNSAFE_TO_CONCAT s) _ _ (SameLevel s) (λ _. refl) (λ _. refl)
-outcome_level (UnsafeToConcatFromOutbuffer start end) s =
-    cond_both (asks PRODUCE_UNSAFE_TO_CONCAT s) _ _ (SameLevel s) (λ _. refl) (λ _. refl)
-
-pub same_level : (call : Call) (s : State) → (turn call s).state.cluster_level ≡ s.cluster_level
-same_level call s =
-    cond_both (may_be_made call s) _ _ (λ (t : Turn). SameLevel s t.state) (λ _. outcome_level call s) (λ _. refl)
 
 -- ---- lists of calls
 

@@ -7,7 +7,7 @@ use Rattle.glyph_lists.specs.Deletion.{merge_or_mark}
 use Rattle.glyph_lists.specs.Marks.{mark_part, end_mark, with_glyph_flags, ends}
 use Rattle.glyph_lists.specs.Scans.{scan_of}
 use Rattle.std.specs.Prelude.{None, Some}
-use Rattle.shaping_buffer.specs.State.{State, empty_state}
+use Rattle.shaping_buffer.specs.State.{State, empty_state, cleared}
 use Rattle.shaping_buffer.specs.Step.{with_id}
 use Rattle.shaping_buffer.specs.Step as step
 use Rattle.shaping_buffer.specs.Limits as limits
@@ -218,6 +218,18 @@ break_before_the_least = refl
 held_is_too_long : held (NextGlyphs 4) falling ∷ held (MoveTo 3) falling ∷ held Sync falling ∷ held SkipGlyph falling
     ∷ [] ≡ 4 ∷ 3 ∷ 4 ∷ 0 ∷ []
 held_is_too_long = refl
+
+-- ---- room
+
+-- room is made up to the limit, never taken away, and asked for past the limit it is refused
+room_is_made : step.ensure 4 opened ∷ step.ensure 3 (record opened { room = 4 }) ∷ step.ensure 5 opened ∷ []
+    ≡ record { done = true; state = record opened { room = 4 } }
+    ∷ record { done = true; state = record opened { room = 4 } }
+    ∷ record { done = false; state = record opened { successful = false } } ∷ []
+room_is_made = refl
+
+room_stays : (limits.leave (record opened { room = 2 })).room ∷ (cleared (record opened { room = 3 })).room ∷ [] ≡ 2 ∷ 3 ∷ []
+room_stays = refl
 
 -- ---- limits and the numbers of ligatures
 

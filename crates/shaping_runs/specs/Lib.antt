@@ -4,6 +4,7 @@ pub mod Render
 pub mod Separation
 pub mod Headline
 pub mod ThreeLevels
+pub mod Room
 -- what the public clauses name of the crates below
 pub use Rattle.glyph_lists.specs.Clusters
 pub use Rattle.glyph_lists.specs.GlyphFlags

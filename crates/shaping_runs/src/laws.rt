@@ -3,14 +3,16 @@
 //! Each function here is empty. Its contract is a fact of the definitions that the contract of
 //! [`replay`](crate::replay) names, and holds for every list of calls and every state.
 
-ghost use Rattle.std.specs.Prelude.{◌≡◌, ◌≢◌, ℕ, true, false, List};
+ghost use Rattle.std.specs.Prelude.{◌≡◌, ◌≢◌, ◌≤◌, ℕ, true, false, List};
 ghost use Rattle.glyph_lists.specs.GlyphFlags.{FlagsAgree};
 ghost use Rattle.shaping_buffer.specs.State.{State};
 ghost use Rattle.shaping_buffer.specs.ClusterStep.{both};
+ghost use Rattle.shaping_buffer.specs.Step as step;
 ghost use Rattle.shaping_runs.specs.declared.call.Answer.{Answer};
 ghost use Rattle.shaping_runs.specs.declared.call.Call.{Call};
 ghost use Rattle.shaping_runs.specs.Exceptions.{NoGlyphIsBrought, NoGlyphIsAdded};
 ghost use Rattle.shaping_runs.specs.Replay.{after, answers_of, turn, StopsAt};
+ghost use Rattle.shaping_runs.specs.Room.{StaysWithin};
 ghost use Rattle.shaping_runs.specs.ThreeLevels.{old_turn, old_after, old_answers_of, is_new, AreOld};
 ghost use Rattle.shaping_runs.specs.Separation.{IsNear, Follows, IsInPlace, StaysInPlace};
 
@@ -41,6 +43,20 @@ pub fn lists_in_place_never_stop()
     ensures { (calls : List Call) (s : State) → StaysInPlace calls s
         → (at : ℕ) (before : List Answer) (new : State) (answers : List Answer)
         → StopsAt at calls s before new answers → ⊥ }
+{}
+
+/// After a done `ensure(n)`, no call whose sides stay within n glyphs runs out of memory, separate outputs among them:
+/// where both sides have at most n glyphs before a list of calls, between them and after them, `replay` stops at none
+/// of them. It is so wherever there is room for n glyphs, and no call takes room away.
+pub fn lists_within_room_never_stop()
+    ensures ensured { (n : ℕ) (calls : List Call) (s : State) → (step.ensure n s).done ≡ true
+        → StaysWithin n calls (step.ensure n s).state
+        → (at : ℕ) (before : List Answer) (new : State) (answers : List Answer)
+        → StopsAt at calls (step.ensure n s).state before new answers → ⊥ }
+    ensures room { (n : ℕ) (calls : List Call) (s : State) → n ≤ s.room → StaysWithin n calls s
+        → (at : ℕ) (before : List Answer) (new : State) (answers : List Answer)
+        → StopsAt at calls s before new answers → ⊥ }
+    ensures kept { (calls : List Call) (s : State) → (after calls s).room ≡ s.room }
 {}
 
 /// Runs from before level 3 came are kept. In a state whose level is not 3, each call except

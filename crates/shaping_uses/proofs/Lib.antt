@@ -1,3 +1,4 @@
 pub mod VisibleLemmas
 pub mod RunsLemmas
 pub mod ComparingLemmas
+pub mod RoomLemmas

@@ -10,5 +10,6 @@ pub mod merging;
 pub mod printing;
 pub mod references;
 pub mod rendering;
+pub mod room;
 pub mod runs;
 pub mod visible;

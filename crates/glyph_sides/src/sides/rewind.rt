@@ -5,7 +5,7 @@ ghost use Rattle.glyph_sides.specs.TwoLists as lists;
 ghost use Rattle.glyph_sides.specs.TwoLists.{Makes};
 
 use super::Sides;
-use crate::shifts::{open_gap, put_back, shift_back};
+use crate::shifts::{open_gap, put_back, reserve_ample, shift_back};
 use std::alloc::AllocError;
 
 impl Sides {
@@ -26,6 +26,9 @@ impl Sides {
     }
 
     /// Out of a separate output they go into the places before the cursor, where glyphs were read, or that stand free.
+    /// Where these are too few, the input first moves up, by as many places as it has glyphs, or as it takes back, so that
+    /// many such moves together take no longer than the glyphs that they take back. Where there is no memory for so many,
+    /// it moves up by those that are missing.
     fn take_back_apart(&mut self, i: usize) -> Result<(), AllocError>
         requires apart { self.old.is_separate ≡ true }
         requires behind { i < length self.old.out }
@@ -33,30 +36,18 @@ impl Sides {
     {
         let count = self.out_info.len() - i;
         if count > self.cursor {
-            return self.take_back_past_front(i);
+            let ample = count.max(self.info.len() - self.cursor);
+            let more = reserve_ample(&mut self.info, count - self.cursor, ample)?;
+            open_gap(&mut self.info, self.cursor, more);
+            self.cursor += more;
+            put_back(&mut self.info, self.cursor, &self.out_info[i..]);
+            self.cursor -= count;
+            self.front = self.cursor;
+        } else {
+            put_back(&mut self.info, self.cursor, &self.out_info[i..]);
+            self.cursor -= count;
+            self.front = self.front.min(self.cursor);
         }
-        put_back(&mut self.info, self.cursor, &self.out_info[i..]);
-        self.cursor -= count;
-        self.front = self.front.min(self.cursor);
-        self.out_info.truncate(i);
-        Ok(())
-    }
-
-    /// The same where these places are too few: the input first moves up, by as many places as are missing, or as it
-    /// has glyphs, so that many such moves together take no longer than the glyphs that they take back.
-    fn take_back_past_front(&mut self, i: usize) -> Result<(), AllocError>
-        requires apart { self.old.is_separate ≡ true }
-        requires past { i + self.old.idx < length self.old.out }
-        ensures { Makes (lists.take_back i self.old) self.old result self.new }
-    {
-        let count = self.out_info.len() - i;
-        let more = count.max(self.info.len() - self.cursor);
-        self.info.reserve(more)?;
-        open_gap(&mut self.info, self.cursor, more);
-        self.cursor += more;
-        put_back(&mut self.info, self.cursor, &self.out_info[i..]);
-        self.cursor -= count;
-        self.front = self.cursor;
         self.out_info.truncate(i);
         Ok(())
     }

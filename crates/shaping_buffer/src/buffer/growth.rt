@@ -32,8 +32,9 @@ impl hb_buffer_t {
         Ok(true)
     }
 
-    /// Makes room for `size` glyphs, and as many positions. `Ok(false)` where these are more than `max_len`: then only
-    /// `successful` changes. `Err(AllocError)` where memory ran out: then nothing changed.
+    /// Makes room for `size` glyphs on each side, and as many positions: no call whose sides stay within them asks for
+    /// memory then. `Ok(false)` where these are more than `max_len`: then only `successful` changes. `Err(AllocError)`
+    /// where memory ran out: then nothing changed.
     pub fn ensure(&mut self, size: usize) -> Result<bool, AllocError>
         ensures { RoomMeets size (step.ensure size self.old) self.old result self.new }
     {
@@ -41,10 +42,9 @@ impl hb_buffer_t {
             self.successful = false;
             return Ok(false);
         }
-        let len = self.sides.len();
-        if size > len {
-            self.sides.reserve(size - len)?;
-            self.pos.reserve(size - self.pos.len())?;
+        if size > self.sides.room() {
+            self.pos.reserve(size.saturating_sub(self.pos.len()))?;
+            self.sides.reserve(size)?;
         }
         Ok(true)
     }

@@ -1,4 +1,4 @@
-use Rattle.std.proofs.Common.{◌++◌, vec_capacity, chars}
+use Rattle.std.proofs.Common.{◌≡◌, ◌++◌, vec_capacity, chars}
 use Rattle.std.specs.Str.Iter.{char_indices_rest, char_indices_offset}
 use Rattle.glyph_sides.specs.TextGlyphs.{glyphs_at}
 use Rattle.glyph_sides.proofs.CharactersLemmas.{Filling}
@@ -9,3 +9,4 @@ invariant-loop-i l =
     (goal.iterator-loop-i).can_next l.i-iterator × (goal.iterator-loop-i).is_finite l.i-iterator
     × Filling (l.fn.info.items ++ glyphs_at 0 (chars l.fn.text)) l.info.items (char_indices_offset l.i-iterator)
     (char_indices_rest l.i-iterator) (vec_capacity l.info)
+    × (vec_capacity l.info ≡ vec_capacity l.fn.info)

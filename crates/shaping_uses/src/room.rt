@@ -1,0 +1,46 @@
+//! Memory that is taken once: after one `ensure` a pass that puts out more than it reads asks for none, so it never runs
+//! out of it.
+
+ghost use Rattle.std.specs.Prelude.{◌≡◌, ◌*◌, ◌<◌, ◌≤◌, true, false, Ok, OnErr, length};
+
+use shaping_buffer::hb_buffer_t;
+use std::alloc::AllocError;
+
+/// Puts a copy of each glyph under the id of a mark before it, so that the list becomes twice as long. `Ok(false)` where
+/// it would be longer than `max_len`. Memory is asked for once, before the pass: where there is none, or where the list
+/// would be too long, nothing changes. Requires that no output is open and no refusal stands.
+#[tactic(auto, using(crate::proofs::RoomLemmas::ensured_is))]
+pub fn put_marks(buffer: &mut hb_buffer_t, mark: u32) -> Result<bool, AllocError>
+    requires closed { buffer.old.have_output ≡ false }
+    requires successful { buffer.old.successful ≡ true }
+    ensures twice { result ≡ Ok true → length buffer.new.input ≡ 2 * length buffer.old.input }
+    ensures long { result ≡ Ok false → buffer.old.max_len < 2 * length buffer.old.input }
+    ensures refused { result ≡ Ok false → buffer.new ≡ buffer.old }
+    ensures wants { OnErr result (buffer.old.room < 2 * length buffer.old.input) }
+    ensures same { OnErr result (buffer.new ≡ buffer.old) }
+{
+    let len = buffer.len();
+    if len > buffer.max_len() - len {
+        return Ok(false);
+    }
+    buffer.ensure(len + len)?;
+    put_marks_within_room(buffer, mark)
+}
+
+/// The same where there is room for it: it asks for no memory. Requires that twice as many glyphs fit the room, and
+/// `max_len`.
+pub fn put_marks_within_room(buffer: &mut hb_buffer_t, mark: u32) -> Result<bool, AllocError>
+    requires closed { buffer.old.have_output ≡ false }
+    requires successful { buffer.old.successful ≡ true }
+    requires room { 2 * length buffer.old.input ≤ buffer.old.room }
+    requires fits { 2 * length buffer.old.input ≤ buffer.old.max_len }
+    ensures done { result ≡ Ok true }
+    ensures twice { length buffer.new.input ≡ 2 * length buffer.old.input }
+{
+    buffer.clear_output();
+    while buffer.lookahead_len() > 0 {
+        buffer.output_glyph(mark)?;
+        buffer.next_glyph()?;
+    }
+    buffer.sync()
+}
