@@ -152,7 +152,7 @@ impl Sides {
             self.cursor += 1;
             return;
         }
-        one_slice::delete_at_cursor(&mut self.info, self.placed, self.cursor, any_order);
+        one_slice::delete_head(&mut self.info, self.placed, self.cursor, any_order);
         self.cursor += 1;
     }
 }

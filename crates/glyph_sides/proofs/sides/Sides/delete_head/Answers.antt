@@ -7,3 +7,8 @@ pub returns-then-self-clause-is : goal.returns-then-self-clause-is
 returns-then-self-clause-is c =
     let rest = next_left c.self.inside.cursor c.delete_at.new.info ∙ c.delete_at.ensures.rest in
     grind (arith, common_steps, rest)
+
+pub returns-clause-is : goal.returns-clause-is
+returns-clause-is c =
+    let rest = next_left c.self.inside.cursor c.delete_head.new.info ∙ c.delete_head.ensures.rest in
+    grind (arith, common_steps, rest)
