@@ -16,7 +16,8 @@ use Rattle.glyph_lists.proofs.PartsLemmas.{map_range_cut}
 use Rattle.glyph_lists.proofs.ClustersLemmas.{length-clusters, range_least_more, range_least_one}
 use Rattle.glyph_lists.proofs.RunsLemmas.{run_start-le, run_start_more, run_start-append, widened_start_run}
 use Rattle.glyph_lists.proofs.RunsLemmas.{widened_end_plain}
-use Rattle.glyph_lists.proofs.MergesLemmas.{cluster-with_cluster, with_cluster_others, run_merge_from}
+use Rattle.glyph_lists.proofs.MergesLemmas.{cluster-with_cluster, with_cluster_others}
+use Rattle.glyph_lists.proofs.RunMergeLemmas.{run_merge_from}
 use Rattle.glyph_lists.proofs.LengthsLemmas.{length-merge_or_mark}
 use Rattle.glyph_laws.proofs.OrderLemmas.{run_merge_keeps_order, run_merge_keeps_coarse}
 use Rattle.glyph_laws.proofs.ReadingsLemmas.{Reading, at, reading_dropped, reading_alike, monotone_reading}

@@ -3,6 +3,7 @@ pub mod ReversalLemmas
 pub mod ClustersLemmas
 pub mod RunsLemmas
 pub mod MergesLemmas
+pub mod RunMergeLemmas
 pub mod MapLemmas
 pub mod MergeRangeLemmas
 pub mod SidesLemmas

@@ -13,7 +13,8 @@ use Rattle.glyph_lists.proofs.ClustersLemmas.{length_clusters-append, get_or-clu
 use Rattle.glyph_lists.proofs.ClustersLemmas.{range_least_last}
 use Rattle.glyph_lists.proofs.RunsLemmas.{run_start_here, run_start_none, run_end_here, run_end_none}
 use Rattle.glyph_lists.proofs.RunsLemmas.{widened_start_plain, widened_start_run, widened_end_plain, widened_end_run}
-use Rattle.glyph_lists.proofs.MergesLemmas.{run_merge_from, run_merge_short, with_cluster-same}
+use Rattle.glyph_lists.proofs.MergesLemmas.{run_merge_short, with_cluster-same}
+use Rattle.glyph_lists.proofs.RunMergeLemmas.{run_merge_from}
 use Rattle.glyph_lists.proofs.SidesLemmas.{range_in_out, range_in_input, merge_or_mark_merges, merge_or_mark_short}
 
 -- ---- fewer than two glyphs

@@ -10,7 +10,9 @@ use rb_glyph::{GlyphPosition, hb_glyph_info_t};
 
 /// Deletes the glyphs for which `deletes` holds as they stand when the walk comes to them, and moves the others down,
 /// and the items of `pos` with them, where there is one for each glyph. Returns how many glyphs are left, and whether a
-/// deleted one was merged with the next, where merges mark.
+/// deleted one was merged with the next, where merges mark. It stands out of line: a walk of many moves needs registers
+/// of its own.
+#[inline(never)]
 pub fn delete_in_place<F: Fn(&hb_glyph_info_t) -> bool>(
     info: &mut [hb_glyph_info_t],
     pos: &mut [GlyphPosition],

@@ -5,7 +5,7 @@
 //! least of these.
 
 ghost use Rattle.std.specs.Prelude.{◌≡◌, ◌+◌, ◌-◌, ◌<◌, ◌≤◌, ◌==◌, ◌++◌, not, length, take, drop, map};
-ghost use Rattle.std.specs.Prelude.{if◌then◌else◌};
+ghost use Rattle.std.specs.Prelude.{slice_index, if◌then◌else◌};
 ghost use Rattle.std.specs.List.{prefix_len, suffix_len};
 ghost use Rattle.glyph_lists.specs.Parts.{on_part, map_range};
 ghost use Rattle.glyph_lists.specs.Clusters.{clusters, least};
@@ -100,31 +100,36 @@ fn mark_others(info: &mut [hb_glyph_info_t], bits: u32, cluster: u32)
     }
 }
 
-/// Adds the bits to the glyphs before the first one of the cluster, from the start on.
+/// Adds the bits to the glyphs before the first one of the cluster, from the start on. The walk stops at the last glyph,
+/// which is in the cluster.
 #[inline]
 #[tactic(auto, using(crate::proofs::ScanEndsLemmas::walks_up))]
 fn mark_before_first(info: &mut [hb_glyph_info_t], bits: u32, cluster: u32)
+    requires some { 0 < length info.old }
+    requires last { slice_index (clusters info.old) (length info.old - 1) ≡ cluster }
     ensures { info.new ≡ map_range (with_glyph_flags bits) info.old
         0 (prefix_len (λ c. not (c == cluster)) (clusters info.old)) }
 {
-    let len = info.len();
     let mut end = 0;
-    while end < len && info[end].cluster != cluster {
+    while info[end].cluster != cluster {
         mark(&mut info[end], bits);
         end += 1;
     }
 }
 
-/// Adds the bits to the glyphs after the last one of the cluster, from the end down.
+/// Adds the bits to the glyphs after the last one of the cluster, from the end down. The walk stops at the first glyph,
+/// which is in the cluster.
 #[inline]
 #[tactic(auto, using(crate::proofs::ScanEndsLemmas::walks_down))]
 fn mark_after_last(info: &mut [hb_glyph_info_t], bits: u32, cluster: u32)
+    requires some { 0 < length info.old }
+    requires first { slice_index (clusters info.old) 0 ≡ cluster }
     ensures { info.new ≡ map_range (with_glyph_flags bits) info.old
         (length info.old - suffix_len (λ c. not (c == cluster)) (clusters info.old))
         (length info.old) }
 {
     let mut start = info.len();
-    while start > 0 && info[start - 1].cluster != cluster {
+    while info[start - 1].cluster != cluster {
         start -= 1;
         mark(&mut info[start], bits);
     }

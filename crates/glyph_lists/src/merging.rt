@@ -13,7 +13,7 @@ use rb_glyph::hb_glyph_info_t;
 
 /// Merges the glyphs from `start` to `end` of one list. It stands out of line, as most merges are of two glyphs.
 #[inline(never)]
-#[tactic(auto, using(crate::proofs::MergesLemmas::run_merge_from))]
+#[tactic(auto, using(crate::proofs::RunMergeLemmas::run_merge_from))]
 fn merge_many(info: &mut [hb_glyph_info_t], start: usize, end: usize, floor: usize)
     requires some { start + 2 ≤ end }
     requires within { end ≤ length info.old }
@@ -40,7 +40,7 @@ fn set_run(info: &mut [hb_glyph_info_t], start: usize, end: usize, cluster: u32)
 
 /// Merges the two glyphs from `start` on. The one that is in their least cluster stays, and so do those next to it.
 #[inline(always)]
-#[tactic(auto, using(crate::proofs::MergesLemmas::merges_of_two))]
+#[tactic(auto, using(crate::proofs::RunMergeLemmas::merges_of_two))]
 fn merge_two(info: &mut [hb_glyph_info_t], start: usize, floor: usize)
     requires within { start + 2 ≤ length info.old }
     ensures { info.new ≡ run_merge info.old start (start + 2) floor }
@@ -88,7 +88,7 @@ fn merge_list(info: &mut [hb_glyph_info_t], start: usize, end: usize, floor: usi
 }
 
 /// Merges the glyphs from `start` to `end` of the two sides as one list, `out` first.
-#[tactic(auto, using(crate::proofs::MergesLemmas::run_merge_from))]
+#[tactic(auto, using(crate::proofs::RunMergeLemmas::run_merge_from))]
 fn merge_sides(
     out: &mut [hb_glyph_info_t],
     input: &mut [hb_glyph_info_t],

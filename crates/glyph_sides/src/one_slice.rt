@@ -110,25 +110,12 @@ pub(crate) fn scan_two_parts(
 }
 
 /// Keeps the cluster of the glyph at the cursor, which then leaves the input, as `deletion::delete_head` does.
-#[tactic(auto, using(crate::proofs::Views::next_left))]
-pub(crate) fn delete_at_cursor(
+pub(crate) fn delete_head(
     info: &mut [hb_glyph_info_t],
     out_len: usize,
     cursor: usize,
     any_order: bool,
 )
-    requires near { out_len ≤ cursor }
-    requires glyph { cursor < length info.old }
-    ensures out { take out_len info.new ≡ (deletion any_order (take out_len info.old)
-        (slice_index_or (drop cursor info.old) 0 zero_glyph) (drop 1 (drop cursor info.old))).out }
-    ensures rest { drop (cursor + 1) info.new ≡ (deletion any_order (take out_len info.old)
-        (slice_index_or (drop cursor info.old) 0 zero_glyph) (drop 1 (drop cursor info.old))).rest }
-{
-    delete_head(info, out_len, cursor, any_order);
-}
-
-/// The same, in words of what stands from the cursor on.
-fn delete_head(info: &mut [hb_glyph_info_t], out_len: usize, cursor: usize, any_order: bool)
     requires near { out_len ≤ cursor }
     requires glyph { cursor < length info.old }
     ensures out { take out_len info.new ≡ (deletion any_order (take out_len info.old)

@@ -1,8 +1,8 @@
 //! Both sides as one list: merges, scans and flags over places in it, and deletion of the current glyph.
 
-ghost use Rattle.std.specs.Prelude.{◌≡◌, ◌+◌, ◌-◌, ◌<◌, ◌≤◌, true, false, length, drop, slice_index_or};
-ghost use Rattle.glyph_lists.specs.Clusters.{run_merge, zero_glyph};
-ghost use Rattle.glyph_lists.specs.Deletion.{deletion, merge_or_mark};
+ghost use Rattle.std.specs.Prelude.{◌≡◌, ◌+◌, ◌-◌, ◌<◌, ◌≤◌, true, false, length, drop};
+ghost use Rattle.glyph_lists.specs.Clusters.{run_merge};
+ghost use Rattle.glyph_lists.specs.Deletion.{merge_or_mark};
 ghost use Rattle.glyph_lists.specs.Marks.{with_glyph_flags};
 ghost use Rattle.glyph_lists.specs.Parts.{on_part, map_range};
 ghost use Rattle.glyph_lists.specs.Scans.{scan_of, two_part_scan};
@@ -11,7 +11,6 @@ ghost use Rattle.glyph_sides.specs.TwoLists.{both, with_both, place, len, head_d
 use super::Sides;
 use crate::one_slice;
 use glyph_lists::{deletion, glyph_flags, merging};
-use rb_glyph::hb_glyph_info_t;
 
 impl Sides {
     /// Merges the glyphs of the list from `start` to `end`, where no output is open. The start is not widened past the
@@ -148,29 +147,12 @@ impl Sides {
         ensures input_len { length self.new.input + 1 ≡ length self.old.input }
     {
         if self.is_separate {
-            delete_at(&mut self.out_info, &mut self.info, self.cursor, any_order);
+            let at = self.cursor;
+            deletion::delete_head(&mut self.out_info, &mut self.info[at..], any_order);
             self.cursor += 1;
             return;
         }
-        one_slice::delete_at_cursor(&mut self.info, self.placed, self.cursor, any_order);
+        one_slice::delete_head(&mut self.info, self.placed, self.cursor, any_order);
         self.cursor += 1;
     }
-}
-
-/// Keeps the cluster of the glyph at the cursor, which then leaves the input: `info` from there on.
-#[inline(always)]
-#[tactic(auto, using(crate::proofs::Views::behind))]
-fn delete_at(
-    out: &mut [hb_glyph_info_t],
-    info: &mut [hb_glyph_info_t],
-    cursor: usize,
-    any_order: bool,
-)
-    requires { cursor < length info.old }
-    ensures out { out.new ≡ (deletion any_order out.old
-        (slice_index_or (drop cursor info.old) 0 zero_glyph) (drop 1 (drop cursor info.old))).out }
-    ensures rest { drop 1 (drop cursor info.new) ≡ (deletion any_order out.old
-        (slice_index_or (drop cursor info.old) 0 zero_glyph) (drop 1 (drop cursor info.old))).rest }
-{
-    deletion::delete_head(out, &mut info[cursor..], any_order);
 }

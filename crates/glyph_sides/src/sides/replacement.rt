@@ -3,7 +3,7 @@
 ghost use Rattle.std.specs.Prelude.{◌≡◌, ◌+◌, ◌<◌, ◌≤◌, true, false, length, OnOk};
 ghost use Rattle.glyph_lists.specs.Replacement.{copies};
 ghost use Rattle.glyph_sides.specs.TwoLists as lists;
-ghost use Rattle.glyph_sides.specs.TwoLists.{Makes, replaced};
+ghost use Rattle.glyph_sides.specs.TwoLists.{Makes, len, replaced};
 
 use super::Sides;
 use crate::copies::{append_copies, write_copies};
@@ -15,23 +15,39 @@ use std::alloc::AllocError;
 impl Sides {
     /// Puts copies of the current glyph out in place of the first `count` glyphs of the input, one under each id, where
     /// the merge of these glyphs leaves it as it is and the copies have room. Answers whether it did: else nothing
-    /// changes. Requires an open output, a glyph at the cursor and as many glyphs there.
+    /// changes. The out side then holds at most `max_len` glyphs: in place it has no more than were read. Requires an
+    /// open output, a glyph at the cursor and as many glyphs there, and that neither side holds more than `max_len`.
     #[inline(always)]
-    pub fn replace_kept(&mut self, count: usize, ids: &[u32], any_order: bool) -> bool
+    pub fn replace_kept(
+        &mut self,
+        count: usize,
+        ids: &[u32],
+        any_order: bool,
+        max_len: usize,
+    ) -> bool
         requires opened { self.old.is_open ≡ true }
         requires glyph { 0 < length self.old.input }
         requires within { count ≤ length self.old.input }
+        requires out { length self.old.out ≤ max_len }
+        requires input { len self.old ≤ max_len }
         ensures done { result ≡ true → self.new ≡ replaced any_order count ids.now self.old }
         ensures out_len { result ≡ true
             → length self.new.out ≡ length self.old.out + length ids.now }
         ensures input_len { result ≡ true
             → length self.new.input + count ≡ length self.old.input }
+        ensures fits { result ≡ true → length self.old.out + length ids.now ≤ max_len }
         ensures unmarked { result ≡ true → any_order ≡ true → count < 2 }
         ensures same { result ≡ false → self.new ≡ self.old }
     {
         // Read before the test, the glyph is kept in one piece for the copies.
         let head = self.info[self.cursor];
-        keeps_head(&self.info[self.cursor..], count, any_order) && self.put_copies(head, ids, count)
+        if !keeps_head(&self.info[self.cursor..], count, any_order) {
+            return false;
+        }
+        if self.is_separate && ids.len() > max_len - self.out_info.len() {
+            return false;
+        }
+        self.put_copies(head, ids, count)
     }
 
     /// Puts a copy of a glyph out under each id, where they have room, and reads some. Answers whether it did: else
@@ -42,46 +58,25 @@ impl Sides {
         requires within { read ≤ length self.old.input }
         ensures done { result ≡ true
             → self.new ≡ lists.put (copies glyph ids.now) (lists.skip read self.old) }
+        ensures near { result ≡ true → self.old.is_separate ≡ false
+            → length self.old.out + length ids.now ≤ self.old.idx + read }
         ensures same { result ≡ false → self.new ≡ self.old }
     {
         if self.is_separate {
-            return self.copies_apart(glyph, ids, read);
+            if ids.len() > self.out_info.capacity() - self.out_info.len() {
+                return false;
+            }
+            append_copies(&mut self.out_info, glyph, ids);
+            self.cursor += read;
+            return true;
         }
         if self.placed + ids.len() > self.cursor + read {
             return false;
         }
-        self.copies_in_place(glyph, ids, read);
-        true
-    }
-
-    #[inline(always)]
-    fn copies_apart(&mut self, glyph: hb_glyph_info_t, ids: &[u32], read: usize) -> bool
-        requires opened { self.old.is_open ≡ true }
-        requires apart { self.old.is_separate ≡ true }
-        requires within { read ≤ length self.old.input }
-        ensures done { result ≡ true
-            → self.new ≡ lists.put (copies glyph ids.now) (lists.skip read self.old) }
-        ensures same { result ≡ false → self.new ≡ self.old }
-    {
-        if ids.len() > self.out_info.capacity() - self.out_info.len() {
-            return false;
-        }
-        append_copies(&mut self.out_info, glyph, ids);
-        self.cursor += read;
-        true
-    }
-
-    #[inline(always)]
-    fn copies_in_place(&mut self, glyph: hb_glyph_info_t, ids: &[u32], read: usize)
-        requires opened { self.old.is_open ≡ true }
-        requires near { self.old.is_separate ≡ false }
-        requires within { read ≤ length self.old.input }
-        requires room { length self.old.out + length ids.now ≤ self.old.idx + read }
-        ensures { self.new ≡ lists.put (copies glyph ids.now) (lists.skip read self.old) }
-    {
         write_copies(&mut self.info, self.placed, glyph, ids);
         self.placed += ids.len();
         self.cursor += read;
+        true
     }
 
     /// Merges, or marks, the first `count` glyphs of the input, and puts out copies of the first as it then stands in

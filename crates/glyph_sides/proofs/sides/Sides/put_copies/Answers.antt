@@ -2,10 +2,10 @@ use Rattle.std.proofs.Common.{◌+◌, ◌≤◌, length, arith}
 use Rattle.std.proofs.lemmas.Grind.{common_steps}
 use Rattle.glyph_lists.proofs.LengthsLemmas.{length_copies}
 use Rattle.glyph_sides.proofs.ShiftLemmas.{drop_further}
-use Rattle.glyph_sides.proofs.sides.Sides.copies_in_place.Goals as goal
+use Rattle.glyph_sides.proofs.sides.Sides.put_copies.Goals as goal
 
-pub returns : goal.returns
-returns c =
+pub returns-clause-done : goal.returns-clause-done
+returns-clause-done c =
     let a = c.args in
     let b = c.self.inside in
     let room : b.placed + length a.ids.now ≤ b.cursor + a.read = grind (arith, common_steps) in
