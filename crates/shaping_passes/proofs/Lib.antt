@@ -1,0 +1,2 @@
+pub mod NormalizationPartsLemmas
+pub mod NormalizationDecompositionLemmas

@@ -1,0 +1,7 @@
+//! HarfBuzz's steps of normalization, on a buffer of characters: each is taken apart, marks are put in order, and
+//! pairs are composed. An id that is no character stays as it is.
+
+pub use decomposition::decompose_all;
+
+mod decomposition;
+mod parts;
