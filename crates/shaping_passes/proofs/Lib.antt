@@ -1,2 +1,4 @@
 pub mod NormalizationPartsLemmas
 pub mod NormalizationDecompositionLemmas
+pub mod NormalizationOrderLemmas
+pub mod NormalizationGlyphsLemmas

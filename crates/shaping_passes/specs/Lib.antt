@@ -1,3 +1,4 @@
 pub mod NormalizationGlyphs
 pub mod NormalizationParts
 pub mod NormalizationDecomposition
+pub mod NormalizationOrder

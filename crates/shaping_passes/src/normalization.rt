@@ -2,6 +2,8 @@
 //! pairs are composed. An id that is no character stays as it is.
 
 pub use decomposition::decompose_all;
+pub use ordering::order_marks;
 
 mod decomposition;
+mod ordering;
 mod parts;
