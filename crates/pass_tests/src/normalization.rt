@@ -2,8 +2,8 @@
 
 ghost use Rattle.std.specs.Prelude.{◌≡◌, false};
 
-use shaping_buffer::{CombiningClasses, Decompositions, UnicodeBuffer, hb_buffer_t};
-use shaping_passes::{decompose_all, order_marks};
+use shaping_buffer::{CombiningClasses, Compositions, Decompositions, UnicodeBuffer, hb_buffer_t};
+use shaping_passes::{compose_marks, decompose_all, order_marks};
 use std::alloc::Global;
 use std::process::Abort;
 use std::test::Fail;
@@ -18,25 +18,42 @@ static DECOMPOSITIONS: [(char, char, Option<char>); 7] = [
     ('\u{212b}', '\u{c5}', None),
 ];
 
-static CLASSES: [(char, u8); 5] = [
+static COMPOSITIONS: [((char, char), char); 8] = [
+    (('A', '\u{30a}'), '\u{c5}'),
+    (('D', '\u{307}'), '\u{1e0a}'),
+    (('D', '\u{323}'), '\u{1e0c}'),
+    (('a', '\u{300}'), '\u{e0}'),
+    (('s', '\u{323}'), '\u{1e63}'),
+    (('\u{3b1}', '\u{313}'), '\u{1f00}'),
+    (('\u{1e63}', '\u{307}'), '\u{1e69}'),
+    (('\u{1f00}', '\u{300}'), '\u{1f02}'),
+];
+
+static CLASSES: [(char, u8); 8] = [
     ('\u{300}', 230),
+    ('\u{301}', 230),
     ('\u{307}', 230),
+    ('\u{30a}', 230),
+    ('\u{313}', 230),
     ('\u{315}', 232),
     ('\u{323}', 220),
     ('\u{5ae}', 228),
 ];
 
-/// Texts, and what stands in their place: each character taken apart, and marks in order.
-static TEXTS: [(&str, &str); 6] = [
-    ("\u{1e69}", "s\u{323}\u{307}"),
-    ("\u{1e0a}\u{323}", "D\u{323}\u{307}"),
-    ("\u{1f02}", "\u{3b1}\u{313}\u{300}"),
-    ("\u{212b}", "A\u{30a}"),
-    ("\u{d7a3}", "\u{1112}\u{1175}\u{11c2}"),
+/// Texts, what stands in their place once each character is taken apart and the marks are in order, and what that
+/// composes to.
+static TEXTS: [(&str, &str, &str); 7] = [
+    ("\u{1e69}", "s\u{323}\u{307}", "\u{1e69}"),
+    ("\u{1e0a}\u{323}", "D\u{323}\u{307}", "\u{1e0c}\u{307}"),
+    ("\u{1f02}", "\u{3b1}\u{313}\u{300}", "\u{1f02}"),
+    ("\u{212b}", "A\u{30a}", "\u{c5}"),
+    ("\u{d7a3}", "\u{1112}\u{1175}\u{11c2}", "\u{d7a3}"),
     (
         "a\u{315}\u{300}\u{5ae}\u{300}b",
         "a\u{5ae}\u{300}\u{300}\u{315}b",
+        "\u{e0}\u{5ae}\u{300}\u{315}b",
     ),
+    ("D\u{301}\u{307}", "D\u{301}\u{307}", "D\u{301}\u{307}"),
 ];
 
 /// A buffer over a text, with no output open.
@@ -68,15 +85,29 @@ fn order(rt: &impl Abort, buffer: &mut hb_buffer_t, classes: &CombiningClasses) 
     order_marks(buffer, classes);
 }
 
+/// Composes its pairs.
+fn compose(
+    rt: &impl Abort,
+    buffer: &mut hb_buffer_t,
+    compositions: &Compositions,
+    classes: &CombiningClasses,
+) {
+    assert!(rt; !buffer.have_output());
+    assert!(rt; compose_marks(buffer, compositions, classes) == Ok(true));
+}
+
 #[test]
-fn texts_are_taken_apart(rt: HostRuntime) -> Result<(), Fail> {
+fn texts_are_normalized(rt: HostRuntime) -> Result<(), Fail> {
     let decompositions = Decompositions::new(&DECOMPOSITIONS).ok_or("rows that rise")?;
+    let compositions = Compositions::new(&COMPOSITIONS).ok_or("rows that rise")?;
     let classes = CombiningClasses::new(&CLASSES).ok_or("rows that rise")?;
-    for (text, want) in &TEXTS {
+    for (text, apart, composed) in &TEXTS {
         let mut buffer = buffer_of(&rt, rt.alloc(), text);
         decompose(&rt, &mut buffer, &decompositions);
         order(&rt, &mut buffer, &classes);
-        assert_characters(&rt, &buffer, want);
+        assert_characters(&rt, &buffer, apart);
+        compose(&rt, &mut buffer, &compositions, &classes);
+        assert_characters(&rt, &buffer, composed);
     }
     Ok(())
 }
@@ -100,6 +131,20 @@ fn clusters_merge(rt: HostRuntime) -> Result<(), Fail> {
     order(&rt, &mut buffer, &classes);
     assert_characters(&rt, &buffer, "s\u{323}\u{307}s\u{323}");
     for (glyph, cluster) in buffer.info().iter().zip(&[0, 1, 1, 5, 6]) {
+        assert!(rt; glyph.cluster == *cluster);
+    }
+    Ok(())
+}
+
+/// A composed character has the cluster of both of its parts, and a mark between them goes with them.
+#[test]
+fn clusters_of_pairs_merge(rt: HostRuntime) -> Result<(), Fail> {
+    let compositions = Compositions::new(&COMPOSITIONS).ok_or("rows that rise")?;
+    let classes = CombiningClasses::new(&CLASSES).ok_or("rows that rise")?;
+    let mut buffer = buffer_of(&rt, rt.alloc(), "ba\u{5ae}\u{300}b");
+    compose(&rt, &mut buffer, &compositions, &classes);
+    assert_characters(&rt, &buffer, "b\u{e0}\u{5ae}b");
+    for (glyph, cluster) in buffer.info().iter().zip(&[0, 1, 1, 6]) {
         assert!(rt; glyph.cluster == *cluster);
     }
     Ok(())

@@ -2,3 +2,4 @@ pub mod NormalizationPartsLemmas
 pub mod NormalizationDecompositionLemmas
 pub mod NormalizationOrderLemmas
 pub mod NormalizationGlyphsLemmas
+pub mod NormalizationCompositionLemmas

@@ -2,3 +2,4 @@ pub mod NormalizationGlyphs
 pub mod NormalizationParts
 pub mod NormalizationDecomposition
 pub mod NormalizationOrder
+pub mod NormalizationComposition
