@@ -3,3 +3,4 @@ pub mod NormalizationDecompositionLemmas
 pub mod NormalizationOrderLemmas
 pub mod NormalizationGlyphsLemmas
 pub mod NormalizationCompositionLemmas
+mod NormalizationRows

@@ -1,14 +1,14 @@
 -- Each turn of the composition keeps what the text becomes, and stays in the storage of the input.
-use Rattle.std.proofs.Common.{◌≡◌, ℕ, zero, suc, ◌+◌, ◌-◌, ◌<◌, ◌≤◌, ◌⊎◌, inl, inr, Bool, true, false, List, [], ◌∷◌}
-use Rattle.std.proofs.Common.{◌++◌, ◌||◌, ◌&&◌, length, get_or, take, drop, map, set, refl, sym, ap, ◌∙◌, subst, cond, ltb}
+use Rattle.std.proofs.Common.{◌≡◌, ℕ, ◌+◌, ◌-◌, ◌<◌, ◌≤◌, inl, inr, Bool, true, false, List, [], ◌∷◌}
+use Rattle.std.proofs.Common.{◌++◌, ◌||◌, length, get_or, take, drop, set, refl, sym, ap, ◌∙◌, subst, cond, ltb}
 use Rattle.std.proofs.Common.{leb, eqb, Option, Some, None, Result, Ok, Err, arith, length-append, length-drop, length-take}
 use Rattle.std.proofs.Common.{append_assoc, length-set}
-use Rattle.std.proofs.lemmas.Bool.{cond_both, cond-true, cond-false, cases_Bool, cases_lt, cases_eq, false≢true, le-leb}
-use Rattle.std.proofs.lemmas.Bool.{lt-leb, lt-ltb, le-ltb, or_from, or_cases, eq-eqb, ne_eqb, and_from, and_left, and_right}
-use Rattle.std.proofs.lemmas.List.{take-append-drop, drop-drop, take_at, drop_at, drop_more, take_more, append-nil, take-take}
+use Rattle.std.proofs.lemmas.Bool.{cond_both, cond-true, cond-false, cases_eq, false≢true, le-leb}
+use Rattle.std.proofs.lemmas.Bool.{lt-leb, lt-ltb, le-ltb, or_from, eq-eqb, ne_eqb, and_from, and_left, and_right}
+use Rattle.std.proofs.lemmas.List.{take-append-drop, drop-drop, take_at, drop_at, drop_more, append-nil}
 use Rattle.std.proofs.lemmas.List.{get_or-map, get_or-drop, map-append, take-map, drop-map, length-map, map-set, take-set}
 use Rattle.std.proofs.lemmas.List.{get_or-set_same, get_or-set_other, drop-set-lt, set-append_left, take-append-le}
-use Rattle.std.proofs.lemmas.List.{get_or_append_left, get_or-append_right, drop-append-le, length-take-le, drop_all}
+use Rattle.std.proofs.lemmas.List.{get_or_append_left, drop-append-le, length-take-le, drop_all}
 use Rattle.std.proofs.lemmas.List.{get_or_at, nil_from_length, get_or_default}
 use Rattle.std.specs.declared.alloc.AllocError.{AllocError}
 use Rattle.rb_glyph.specs.declared.info.hb_glyph_info_t.{hb_glyph_info_t}
@@ -16,7 +16,7 @@ use Rattle.glyph_lists.specs.Clusters.{zero_glyph, run_merge, IsCoarse}
 use Rattle.glyph_lists.proofs.MergesLemmas.{length-run_merge}
 use Rattle.glyph_laws.proofs.ReadingsLemmas.{coarse_reading, reading_dropped, reading_alike}
 use Rattle.glyph_laws.proofs.OrderLemmas.{run_merge_keeps_coarse}
-use Rattle.shaping_buffer.specs.State.{State, len, lookahead_len}
+use Rattle.shaping_buffer.specs.State.{State, lookahead_len}
 use Rattle.shaping_buffer.specs.ClusterStep.{any_order, both, head_of, merge_out_clusters}
 use Rattle.shaping_buffer.specs.Step.{Outcome, Meets, settled, next_glyph, move_to, skip_glyph, split_at, sync, with_id, last_place}
 use Rattle.shaping_buffer.specs.Step.{clear_output}
@@ -60,11 +60,14 @@ module _ (s : State) (ready : IsReady s) (some : 0 < length s.input) where
   next_kept =
       cond-true _ _ _ ready.opened
       ∙ cond-true _ _ _ (le-leb (length (s.out ++ take 1 s.input)) s.max_len
-          (omega (arith, held-kept, ready.near, ready.within)))
-      ∙ ap (λ b. record { done = true; state = record (kept_one s) {
+      (omega (arith, held-kept, ready.near, ready.within)))
+      ∙ ap (λ b. record {
+        done = true;
+        state = record (kept_one s) {
           have_separate_output = s.have_separate_output || ltb (s.idx + 1) (length (s.out ++ take 1 s.input));
           input = cond b (drop 1 s.input) s.input;
-        } }) ready.opened
+        };
+      }) ready.opened
       ∙ ap (λ b. record { done = true; state = record (kept_one s) { have_separate_output = b } }) settled-kept
 
   pub kept : (r : Result Bool AllocError) (new : State) → Meets (next_glyph s) s r new → new ≡ kept_one s
@@ -120,7 +123,7 @@ module _ (s : State) (ready : IsReady s) (some : 0 < length s.input) where
     coarse-merged level co =
         cond_both (any_order s) _ _ IsCoarse (λ t. absurd (false≢true (sym level ∙ t)))
         (λ _. run_merge_keeps_coarse (both (kept_one s)) at (n + 1)
-            (omega (arith, ap length both_kept, length-both)) (subst IsCoarse (sym both_kept) co))
+        (omega (arith, ap length both_kept, length-both)) (subst IsCoarse (sym both_kept) co))
 
     -- the character leaves the list
     abbrev pub after_pair : State
@@ -151,8 +154,8 @@ module _ (s : State) (ready : IsReady s) (some : 0 < length s.input) where
         or_from _ _ ready.in_place (le-ltb s.idx (length (take n merged))
         (omega (arith, length-take n merged, ready.near))) ∙ sym ready.in_place in
         ap (λ l. F l (s.idx + 1 + (n - length two.out) - (length two.out - n))
-            (s.have_separate_output || ltb (s.idx + 1 + (n - length two.out) - (length two.out - n)) (length (take n l))))
-            joined
+        (s.have_separate_output || ltb (s.idx + 1 + (n - length two.out) - (length two.out - n)) (length (take n l))))
+        joined
         ∙ ap (λ k. F merged k (s.have_separate_output || ltb k (length (take n merged)))) i
         ∙ ap (F merged s.idx) b
 
@@ -162,8 +165,8 @@ module _ (s : State) (ready : IsReady s) (some : 0 < length s.input) where
         omega (arith, ap (λ l. length (drop n l)) joined, length-drop n merged, length-merged, ready.within) in
         cond-true _ _ _ ready.opened ∙ cond-true _ _ _ ready.successful
         ∙ ap (λ k. cond (leb k s.max_len) (record { done = true; state = settled back })
-            (record { done = false; state = record two { successful = false } }))
-            (cond-false _ _ _ (lt-leb (length two.out) n (omega (arith, out_long))))
+        (record { done = false; state = record two { successful = false } }))
+        (cond-false _ _ _ (lt-leb (length two.out) n (omega (arith, out_long))))
         ∙ cond-true _ _ _ (le-leb (length back.input) s.max_len held)
         ∙ ap (λ (t : State). record { done = true; state = t }) back_is
 
@@ -326,9 +329,9 @@ module _ (pairs : List ((ℕ × ℕ) × ℕ)) (classes : List (ℕ × ℕ)) wher
         let none : length out + 1 ≡ length more = omega arith in
         let past : drop (length out + 1) more ≡ [] = drop_all (length out + 1) more (omega arith) in
         ap (λ l. l ++ composed_from pairs classes (get_or more (length out) zero_glyph) (drop (length out + 1) more) rest)
-            (take_at out (h ∷ []) (length out) refl)
+        (take_at out (h ∷ []) (length out) refl)
         ∙ ap (λ g. out ++ composed_from pairs classes g (drop (length out + 1) more) rest)
-            (get_or_at out h [] zero_glyph (length out) refl)
+        (get_or_at out h [] zero_glyph (length out) refl)
         ∙ ap (λ l. out ++ composed_from pairs classes h l rest) past
 
     pub first_starter : class_at classes h ≡ 0
@@ -363,9 +366,9 @@ module _ (pairs : List ((ℕ × ℕ) × ℕ)) (classes : List (ℕ × ℕ)) wher
       paired id e =
           let g = with_id id starter in
           ap (λ l. l ++ composed_from pairs classes (get_or (set out at g) at zero_glyph) (drop (at + 1) (set out at g)) rest)
-              (take-set out at g)
+          (take-set out at g)
           ∙ ap (λ x. take at out ++ composed_from pairs classes x (drop (at + 1) (set out at g)) rest)
-              (get_or-set_same out at g zero_glyph place)
+          (get_or-set_same out at g zero_glyph place)
           ∙ ap (λ l. take at out ++ composed_from pairs classes g l rest) (drop-set-lt (at + 1) out at g (omega arith))
           ∙ ap (λ l. take at out ++ l) (sym (from_paired starter between h rest id e))
           ∙ ap (λ l. take at out ++ composed_from pairs classes starter between l) (sym opened_input)
@@ -378,7 +381,7 @@ module _ (pairs : List ((ℕ × ℕ) × ℕ)) (classes : List (ℕ × ℕ)) wher
           ∙ ap (λ l. l ++ composed_from pairs classes h [] rest) (sym cut)
           ∙ append_assoc (take at out) (starter ∷ between) (composed_from pairs classes h [] rest)
           ∙ ap (λ l. take at out ++ l) (sym (cond-true _ _ _ (eq-eqb (class_at classes h) 0 e))
-              ∙ sym (from_kept starter between h rest none))
+          ∙ sym (from_kept starter between h rest none))
           ∙ ap (λ l. take at out ++ composed_from pairs classes starter between l) (sym opened_input)
 
       pub mark_kept : pair_of pairs classes starter between h ≡ None → (class_at classes h ≡ 0 → ⊥)
@@ -386,13 +389,13 @@ module _ (pairs : List ((ℕ × ℕ) × ℕ)) (classes : List (ℕ × ℕ)) wher
       unfolding so_far
       mark_kept none ne =
           ap (λ l. l ++ composed_from pairs classes (get_or more at zero_glyph) (drop (at + 1) more) rest)
-              (take-append-le at out (h ∷ []) (omega arith))
+          (take-append-le at out (h ∷ []) (omega arith))
           ∙ ap (λ x. take at out ++ composed_from pairs classes x (drop (at + 1) more) rest)
-              (get_or_append_left out (h ∷ []) zero_glyph at place)
+          (get_or_append_left out (h ∷ []) zero_glyph at place)
           ∙ ap (λ l. take at out ++ composed_from pairs classes starter l rest)
-              (drop-append-le (at + 1) out (h ∷ []) (omega arith))
+          (drop-append-le (at + 1) out (h ∷ []) (omega arith))
           ∙ ap (λ l. take at out ++ l) (sym (cond-false _ _ _ (ne_eqb (class_at classes h) 0 ne))
-              ∙ sym (from_kept starter between h rest none))
+          ∙ sym (from_kept starter between h rest none))
           ∙ ap (λ l. take at out ++ composed_from pairs classes starter between l) (sym opened_input)
 
   -- ---- a character that is kept
@@ -411,8 +414,8 @@ module _ (pairs : List ((ℕ × ℕ) × ℕ)) (classes : List (ℕ × ℕ)) wher
         ≡ so_far pairs classes o (O ++ get_or I 0 zero_glyph ∷ []) (drop 1 I)
     kept_lists o =
         ap (λ l. so_far pairs classes o l (cores (drop 1 s.input)))
-            (map-append core s.out (take 1 s.input)
-            ∙ ap (λ l. O ++ l) (sym (take-map core 1 s.input) ∙ take_first I some_core))
+        (map-append core s.out (take 1 s.input)
+        ∙ ap (λ l. O ++ l) (sym (take-map core 1 s.input) ∙ take_first I some_core))
         ∙ ap (λ l. so_far pairs classes o (O ++ get_or I 0 zero_glyph ∷ []) l) (sym (drop-map core 1 s.input))
 
     class_head : class_at classes (get_or I 0 zero_glyph) ≡ class_at classes (head_of s)
@@ -428,12 +431,12 @@ module _ (pairs : List ((ℕ × ℕ) × ℕ)) (classes : List (ℕ × ℕ)) wher
         (cores (kept_one s).out) (cores (kept_one s).input) ≡ so_far pairs classes None O I
     kept_first = elim (cases_eq (class_at classes (head_of s)) 0) [
       | inl e ↦ ap (λ o. so_far pairs classes o (cores (kept_one s).out) (cores (kept_one s).input))
-              (cond-true _ _ _ (eq-eqb _ 0 e))
+          (cond-true _ _ _ (eq-eqb _ 0 e))
           ∙ kept_lists (Some (length s.out))
           ∙ ap (λ n. so_far pairs classes (Some n) (O ++ get_or I 0 zero_glyph ∷ []) (drop 1 I)) out_length
           ∙ first_starter O I some_core (class_head ∙ e)
       | inr ne ↦ ap (λ o. so_far pairs classes o (cores (kept_one s).out) (cores (kept_one s).input))
-              (cond-false _ _ _ (ne_eqb _ 0 ne))
+          (cond-false _ _ _ (ne_eqb _ 0 ne))
           ∙ kept_lists None ∙ mark_first O I some_core (λ e. ne (sym class_head ∙ e))
     ]
 
@@ -446,12 +449,12 @@ module _ (pairs : List ((ℕ × ℕ) × ℕ)) (classes : List (ℕ × ℕ)) wher
         let none_core = ap (pair_of pairs classes (get_or O at zero_glyph) (drop (at + 1) O)) head_core ∙ none in
         elim (cases_eq (class_at classes (head_of s)) 0) [
           | inl e ↦ ap (λ o. so_far pairs classes o (cores (kept_one s).out) (cores (kept_one s).input))
-                  (cond-true _ _ _ (eq-eqb _ 0 e))
+              (cond-true _ _ _ (eq-eqb _ 0 e))
               ∙ kept_lists (Some (length s.out))
               ∙ ap (λ n. so_far pairs classes (Some n) (O ++ get_or I 0 zero_glyph ∷ []) (drop 1 I)) out_length
               ∙ next_starter O I some_core at at_core none_core (class_head ∙ e)
           | inr ne ↦ ap (λ o. so_far pairs classes o (cores (kept_one s).out) (cores (kept_one s).input))
-                  (cond-false _ _ _ (ne_eqb _ 0 ne))
+              (cond-false _ _ _ (ne_eqb _ 0 ne))
               ∙ kept_lists (Some at) ∙ mark_kept O I some_core at at_core none_core (λ e. ne (sym class_head ∙ e))
         ]
 
@@ -498,7 +501,7 @@ module _ (pairs : List ((ℕ × ℕ) × ℕ)) (classes : List (ℕ × ℕ)) wher
     pair_free free =
         cond-false _ _ _ free
         ∙ ap (λ (g : hb_glyph_info_t). composed_of pairs g.glyph_id h.glyph_id)
-            (get_or-map core out at zero_glyph zero_glyph place)
+        (get_or-map core out at zero_glyph zero_glyph place)
 
     pub pair_next : length out ≤ at + 1
         → pair_of pairs classes (get_or (cores out) at zero_glyph) behind (core h)
@@ -572,9 +575,9 @@ module _ (pairs : List ((ℕ × ℕ) × ℕ)) (classes : List (ℕ × ℕ)) wher
     synced =
         cond-true _ _ _ k.ready.successful
         ∙ cond-true _ _ _ (le-leb (length (t.out ++ t.input)) t.max_len
-            (omega (arith, length-append t.out t.input, k.ready.near, k.ready.within)))
+        (omega (arith, length-append t.out t.input, k.ready.near, k.ready.within)))
         ∙ ap (λ p. record { done = true; state = record (closed_over (t.out ++ t.input) t) { positions = p } })
-            (ap (λ (x : State). x.positions) k.others)
+        (ap (λ (x : State). x.positions) k.others)
 
     pub last_result : (r : Result Bool AllocError) (new : State) → Meets (sync t) t r new → r ≡ Ok true
     last_result (Ok done) new meets = ap (λ b. Ok b) (meets.0 ∙ ap (λ (o : Outcome). o.done) synced)

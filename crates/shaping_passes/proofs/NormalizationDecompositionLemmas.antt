@@ -1,11 +1,11 @@
 -- A character's decomposition is put out, and so are those of a list, one by one.
-use Rattle.std.proofs.Common.{◌≡◌, ℕ, zero, suc, ◌+◌, ◌-◌, ◌<◌, ◌≤◌, ◌⊎◌, inl, inr, Bool, true, false, List, [], ◌∷◌}
-use Rattle.std.proofs.Common.{◌++◌, ◌||◌, ◌&&◌, length, get_or, take, drop, map, refl, sym, ap, ◌∙◌, subst, cond, ltb, leb}
+use Rattle.std.proofs.Common.{◌≡◌, ℕ, zero, suc, ◌+◌, ◌-◌, ◌<◌, ◌≤◌, inl, inr, Bool, true, false, List, [], ◌∷◌}
+use Rattle.std.proofs.Common.{◌++◌, ◌||◌, length, get_or, take, drop, refl, sym, ap, ◌∙◌, subst, cond, ltb, leb}
 use Rattle.std.proofs.Common.{eqb, Option, Some, None, Result, Ok, Err, arith, length-append, length-drop, append_assoc}
 use Rattle.std.proofs.lemmas.Bool.{cond_both, cond-true, cond-false, cases_Bool, false≢true, leb-true, leb-false, lt-ltb}
-use Rattle.std.proofs.lemmas.Bool.{cases_lt, or_left, ltb-true, ltb-false, le-ltb, and_right, or_cases, le-leb, eq-eqb, ne_eqb}
+use Rattle.std.proofs.lemmas.Bool.{cases_lt, or_left, ltb-true, and_right, or_cases, le-leb, eq-eqb, ne_eqb}
 use Rattle.std.proofs.lemmas.List.{take_more, take_all, drop-drop, get_or-drop, drop_all, append-nil, take-append-drop}
-use Rattle.std.proofs.lemmas.List.{length-take-le, get_or_default}
+use Rattle.std.proofs.lemmas.List.{get_or_default}
 use Rattle.glyph_lists.specs.Deletion.{merge_or_mark}
 use Rattle.std.proofs.lemmas.List.Concat.{flat_map-append}
 use Rattle.std.specs.declared.alloc.AllocError.{AllocError}
@@ -18,11 +18,11 @@ use Rattle.glyph_lists.proofs.MergedHeadLemmas.{short_leaves}
 use Rattle.shaping_buffer.specs.State.{State, lookahead_len}
 use Rattle.shaping_buffer.specs.ClusterStep.{any_order, head_of, flagged_if}
 use Rattle.shaping_buffer.specs.Step.{Outcome, limited, settled, put_out, skip_glyph, next_glyph, replace_glyphs, sync}
-use Rattle.shaping_buffer.specs.Step.{Meets, MayWant, clear_output}
+use Rattle.shaping_buffer.specs.Step.{Meets, clear_output}
 use Rattle.shaping_buffer.proofs.ReplacementLemmas.{replaced_sides}
 use Rattle.shaping_passes.specs.NormalizationParts.{parts_of}
 use Rattle.shaping_passes.specs.NormalizationDecomposition.{some_part, decomposition, most_steps, decomposed, closed_over}
-use Rattle.shaping_passes.specs.NormalizationDecomposition.{stopped_at, IsTooLongAt, Decomposes}
+use Rattle.shaping_passes.specs.NormalizationDecomposition.{stopped_at, Decomposes}
 
 abbrev Rows : Type 0
 Rows = List (ℕ × ℕ × Option ℕ)

@@ -1,4 +1,4 @@
-use Rattle.std.proofs.Common.{◌≡◌, ◌+◌, ◌-◌, ◌<◌, ◌++◌, List, length, get_or, take, drop, set, sym, ap, ◌∙◌, subst, arith}
+use Rattle.std.proofs.Common.{◌+◌, ◌++◌, List, length, get_or, take, drop, set, sym, ap, ◌∙◌, subst, arith}
 use Rattle.rb_glyph.specs.declared.info.hb_glyph_info_t.{hb_glyph_info_t}
 use Rattle.glyph_lists.specs.Clusters.{IsCoarse, zero_glyph}
 use Rattle.shaping_buffer.specs.State.{State}
@@ -6,7 +6,7 @@ use Rattle.shaping_buffer.specs.ClusterStep.{both}
 use Rattle.shaping_buffer.specs.Step.{with_id}
 use Rattle.shaping_passes.specs.NormalizationGlyphs.{cores}
 use Rattle.shaping_passes.proofs.NormalizationCompositionLemmas.{merged, two_is, end_is, three_is, four_is, left_back}
-use Rattle.shaping_passes.proofs.NormalizationCompositionLemmas.{after_pair, goes_back, out_left, out_cores, input_cores}
+use Rattle.shaping_passes.proofs.NormalizationCompositionLemmas.{goes_back, out_left, out_cores, input_cores}
 use Rattle.shaping_passes.proofs.NormalizationCompositionLemmas.{coarse_pair, coarse_renamed, renamed_cores, framed}
 use Rattle.shaping_passes.proofs.normalization.composition.compose_pair.Goals as goal
 
@@ -63,10 +63,13 @@ returns-clause-out c =
     let l = take (length s.out) (merged s ready some at place) in
     ap (λ (t : State). cores t.out) c.set_id.ensures
     ∙ ap (λ (t : State). cores (set t.out at (with_id c.args.id (get_or t.out at zero_glyph)))) is
-    ∙ renamed_cores l at c.args.id (omega (arith, out_left s ready some at place c.skip_glyph.new.self is,
-        ap (λ (t : State). length t.out) is))
+    ∙ renamed_cores l at c.args.id (omega (
+      arith,
+      out_left s ready some at place c.skip_glyph.new.self is,
+      ap (λ (t : State). length t.out) is,
+    ))
     ∙ ap (λ (x : List hb_glyph_info_t). set x at (with_id c.args.id (get_or x at zero_glyph)))
-        (out_cores s ready some at place)
+    (out_cores s ready some at place)
 
 pub returns-clause-input : goal.returns-clause-input
 returns-clause-input c =

@@ -1,4 +1,4 @@
-use Rattle.std.proofs.Common.{◌≡◌, ℕ, ◌+◌, ◌<◌, List, length, get_or, drop, set, cond, eqb, Option, Some, None, sym, ap, ◌∙◌}
+use Rattle.std.proofs.Common.{ℕ, ◌+◌, ◌<◌, List, length, get_or, drop, set, cond, eqb, Option, Some, None, sym, ap, ◌∙◌}
 use Rattle.std.proofs.Common.{subst, arith}
 use Rattle.std.proofs.lemmas.List.{length-map}
 use Rattle.rb_glyph.specs.declared.info.hb_glyph_info_t.{hb_glyph_info_t}
@@ -27,9 +27,9 @@ returns-in-Some-pair_at-clause-same c =
     ∙ sym c.in-Some-pair_at.ensures in
     ap (λ (l : List hb_glyph_info_t). so_far pairs classes (Some at) l (cores new.input)) c.compose_pair.ensures.out
     ∙ ap (λ (l : List hb_glyph_info_t). so_far pairs classes (Some at)
-        (set out at (with_id id (get_or out at zero_glyph))) l) c.compose_pair.ensures.input
+    (set out at (with_id id (get_or out at zero_glyph))) l) c.compose_pair.ensures.input
     ∙ paired pairs classes out (cores s.input) (omega (arith, length-map s.input core)) at
-        (omega (arith, length-map s.out core)) id made
+    (omega (arith, length-map s.out core)) id made
     ∙ ap (λ (o : Option ℕ). so_far pairs classes o out (cores s.input)) (sym c.in-Some.is)
 
 pub returns-in-None-pair_at-clause-same : goal.returns-in-None-pair_at-clause-same
@@ -42,8 +42,8 @@ returns-in-None-pair_at-clause-same c =
     let place : at < length s.out = subst (λ (o : Option ℕ). IsPlace o s) c.in-Some.is c.requires.place in
     ap (λ (o : Option ℕ). so_far pairs classes o (cores new.out) (cores new.input)) c.keep_behind.ensures.starter
     ∙ ap (λ (t : State). so_far pairs classes
-        (cond (eqb (class_at classes (head_of s)) 0) (Some (length s.out)) (Some at)) (cores t.out) (cores t.input))
-        c.keep_behind.ensures.kept
+    (cond (eqb (class_at classes (head_of s)) 0) (Some (length s.out)) (Some at)) (cores t.out) (cores t.input))
+    c.keep_behind.ensures.kept
     ∙ kept_behind pairs classes s c.requires.some at place (sym c.in-None-pair_at.ensures)
     ∙ ap (λ (o : Option ℕ). so_far pairs classes o (cores s.out) (cores s.input)) (sym c.in-Some.is)
 
@@ -54,9 +54,9 @@ returns-in-None-clause-same c =
     let pairs = c.args.compositions.now in
     let classes = c.args.classes.now in
     ap (λ (o : Option ℕ). so_far pairs classes o (cores new.out) (cores new.input))
-        c.keep_behind-in-None.ensures.starter
+    c.keep_behind-in-None.ensures.starter
     ∙ ap (λ (t : State). so_far pairs classes
-        (cond (eqb (class_at classes (head_of s)) 0) (Some (length s.out)) None) (cores t.out) (cores t.input))
-        c.keep_behind-in-None.ensures.kept
+    (cond (eqb (class_at classes (head_of s)) 0) (Some (length s.out)) None) (cores t.out) (cores t.input))
+    c.keep_behind-in-None.ensures.kept
     ∙ kept_first pairs classes s c.requires.some
     ∙ ap (λ (o : Option ℕ). so_far pairs classes o (cores s.out) (cores s.input)) (sym c.in-None.is)

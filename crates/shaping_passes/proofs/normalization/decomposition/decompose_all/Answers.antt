@@ -1,4 +1,4 @@
-use Rattle.std.proofs.Common.{◌≡◌, Bool, Result, Ok, ap, ◌∙◌, subst, rules, arith}
+use Rattle.std.proofs.Common.{Bool, Result, Ok, ap, ◌∙◌, subst, rules, arith}
 use Rattle.std.specs.declared.alloc.AllocError.{AllocError}
 use Rattle.shaping_buffer.specs.Step.{Meets}
 use Rattle.shaping_passes.proofs.NormalizationDecompositionLemmas.{began, turn_of, turn_done, turn_refused, turn_gave_up}
