@@ -1,0 +1,5 @@
+//! Tests of `shaping_passes`, over what it makes public, as in the `tests/` folder of a Rust crate.
+#![tactic(auto)]
+
+#[cfg(test)]
+mod normalization;

@@ -1,0 +1,151 @@
+//! The rows are those of the Unicode Character Database, and the texts those of its `NormalizationTest.txt`.
+
+ghost use Rattle.std.specs.Prelude.{◌≡◌, false};
+
+use shaping_buffer::{CombiningClasses, Compositions, Decompositions, UnicodeBuffer, hb_buffer_t};
+use shaping_passes::{compose_marks, decompose_all, order_marks};
+use std::alloc::Global;
+use std::process::Abort;
+use std::test::Fail;
+
+static DECOMPOSITIONS: [(char, char, Option<char>); 7] = [
+    ('\u{c5}', 'A', Some('\u{30a}')),
+    ('\u{1e0a}', 'D', Some('\u{307}')),
+    ('\u{1e63}', 's', Some('\u{323}')),
+    ('\u{1e69}', '\u{1e63}', Some('\u{307}')),
+    ('\u{1f00}', '\u{3b1}', Some('\u{313}')),
+    ('\u{1f02}', '\u{1f00}', Some('\u{300}')),
+    ('\u{212b}', '\u{c5}', None),
+];
+
+static COMPOSITIONS: [((char, char), char); 8] = [
+    (('A', '\u{30a}'), '\u{c5}'),
+    (('D', '\u{307}'), '\u{1e0a}'),
+    (('D', '\u{323}'), '\u{1e0c}'),
+    (('a', '\u{300}'), '\u{e0}'),
+    (('s', '\u{323}'), '\u{1e63}'),
+    (('\u{3b1}', '\u{313}'), '\u{1f00}'),
+    (('\u{1e63}', '\u{307}'), '\u{1e69}'),
+    (('\u{1f00}', '\u{300}'), '\u{1f02}'),
+];
+
+static CLASSES: [(char, u8); 8] = [
+    ('\u{300}', 230),
+    ('\u{301}', 230),
+    ('\u{307}', 230),
+    ('\u{30a}', 230),
+    ('\u{313}', 230),
+    ('\u{315}', 232),
+    ('\u{323}', 220),
+    ('\u{5ae}', 228),
+];
+
+/// Texts, what stands in their place once each character is taken apart and the marks are in order, and what that
+/// composes to.
+static TEXTS: [(&str, &str, &str); 7] = [
+    ("\u{1e69}", "s\u{323}\u{307}", "\u{1e69}"),
+    ("\u{1e0a}\u{323}", "D\u{323}\u{307}", "\u{1e0c}\u{307}"),
+    ("\u{1f02}", "\u{3b1}\u{313}\u{300}", "\u{1f02}"),
+    ("\u{212b}", "A\u{30a}", "\u{c5}"),
+    ("\u{d7a3}", "\u{1112}\u{1175}\u{11c2}", "\u{d7a3}"),
+    (
+        "a\u{315}\u{300}\u{5ae}\u{300}b",
+        "a\u{5ae}\u{300}\u{300}\u{315}b",
+        "\u{e0}\u{5ae}\u{300}\u{315}b",
+    ),
+    ("D\u{301}\u{307}", "D\u{301}\u{307}", "D\u{301}\u{307}"),
+];
+
+/// A buffer over a text, with no output open.
+fn buffer_of(rt: &impl Abort, alloc: Global, text: &str) -> hb_buffer_t
+    ensures { result.have_output ≡ false }
+{
+    let mut characters = UnicodeBuffer::new(alloc);
+    assert!(rt; characters.push_str(text) == Ok(true));
+    characters.into_buffer()
+}
+
+/// Asserts which characters stand in the list.
+fn assert_characters(rt: &impl Abort, buffer: &hb_buffer_t, want: &str) {
+    assert!(rt; buffer.info().len() == want.chars().count());
+    for (glyph, c) in buffer.info().iter().zip(want.chars()) {
+        assert!(rt; glyph.glyph_id == c as u32);
+    }
+}
+
+/// Takes a text apart.
+fn decompose(rt: &impl Abort, buffer: &mut hb_buffer_t, decompositions: &Decompositions) {
+    assert!(rt; !buffer.have_output());
+    assert!(rt; decompose_all(buffer, decompositions) == Ok(true));
+}
+
+/// Puts its marks in order.
+fn order(rt: &impl Abort, buffer: &mut hb_buffer_t, classes: &CombiningClasses) {
+    assert!(rt; !buffer.have_output());
+    order_marks(buffer, classes);
+}
+
+/// Composes its pairs.
+fn compose(
+    rt: &impl Abort,
+    buffer: &mut hb_buffer_t,
+    compositions: &Compositions,
+    classes: &CombiningClasses,
+) {
+    assert!(rt; !buffer.have_output());
+    assert!(rt; compose_marks(buffer, compositions, classes) == Ok(true));
+}
+
+#[test]
+fn texts_are_normalized(rt: HostRuntime) -> Result<(), Fail> {
+    let decompositions = Decompositions::new(&DECOMPOSITIONS).ok_or("rows that rise")?;
+    let compositions = Compositions::new(&COMPOSITIONS).ok_or("rows that rise")?;
+    let classes = CombiningClasses::new(&CLASSES).ok_or("rows that rise")?;
+    for (text, apart, composed) in &TEXTS {
+        let mut buffer = buffer_of(&rt, rt.alloc(), text);
+        decompose(&rt, &mut buffer, &decompositions);
+        order(&rt, &mut buffer, &classes);
+        assert_characters(&rt, &buffer, apart);
+        compose(&rt, &mut buffer, &compositions, &classes);
+        assert_characters(&rt, &buffer, composed);
+    }
+    Ok(())
+}
+
+/// A table that goes in circles ends after eight steps.
+#[test]
+fn circles_end(rt: HostRuntime) -> Result<(), Fail> {
+    let rows = [('a', 'b', Some('x')), ('b', 'a', Some('y'))];
+    let decompositions = Decompositions::new(&rows).ok_or("rows that rise")?;
+    let mut buffer = buffer_of(&rt, rt.alloc(), "a");
+    decompose(&rt, &mut buffer, &decompositions);
+    assert_characters(&rt, &buffer, "ayxyxyxyx");
+    Ok(())
+}
+
+/// A mark takes the cluster of the one that it passes, and no starter is passed.
+#[test]
+fn clusters_merge(rt: HostRuntime) -> Result<(), Fail> {
+    let classes = CombiningClasses::new(&CLASSES).ok_or("rows that rise")?;
+    let mut buffer = buffer_of(&rt, rt.alloc(), "s\u{307}\u{323}s\u{323}");
+    order(&rt, &mut buffer, &classes);
+    assert_characters(&rt, &buffer, "s\u{323}\u{307}s\u{323}");
+    for (glyph, cluster) in buffer.info().iter().zip(&[0, 1, 1, 5, 6]) {
+        assert!(rt; glyph.cluster == *cluster);
+    }
+    Ok(())
+}
+
+/// A composed character has the cluster of both of its parts, and a mark between them goes with them.
+#[test]
+fn clusters_of_pairs_merge(rt: HostRuntime) -> Result<(), Fail> {
+    let compositions = Compositions::new(&COMPOSITIONS).ok_or("rows that rise")?;
+    let classes = CombiningClasses::new(&CLASSES).ok_or("rows that rise")?;
+    let mut buffer = buffer_of(&rt, rt.alloc(), "ba\u{5ae}\u{300}b");
+    compose(&rt, &mut buffer, &compositions, &classes);
+    assert_characters(&rt, &buffer, "b\u{e0}\u{5ae}b");
+    for (glyph, cluster) in buffer.info().iter().zip(&[0, 1, 1, 6]) {
+        assert!(rt; glyph.cluster == *cluster);
+    }
+    Ok(())
+}

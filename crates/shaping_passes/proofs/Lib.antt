@@ -1,0 +1,6 @@
+pub mod NormalizationPartsLemmas
+pub mod NormalizationDecompositionLemmas
+pub mod NormalizationOrderLemmas
+pub mod NormalizationGlyphsLemmas
+pub mod NormalizationCompositionLemmas
+mod NormalizationRows

@@ -1,0 +1,377 @@
+-- A character's decomposition is put out, and so are those of a list, one by one.
+use Rattle.std.proofs.Common.{◌≡◌, ℕ, zero, suc, ◌+◌, ◌-◌, ◌<◌, ◌≤◌, inl, inr, Bool, true, false, List, [], ◌∷◌}
+use Rattle.std.proofs.Common.{◌++◌, ◌||◌, length, get_or, take, drop, refl, sym, ap, ◌∙◌, subst, cond, ltb, leb}
+use Rattle.std.proofs.Common.{eqb, Option, Some, None, Result, Ok, Err, arith, length-append, length-drop, append_assoc}
+use Rattle.std.proofs.lemmas.Bool.{cond_both, cond-true, cond-false, cases_Bool, false≢true, leb-true, leb-false, lt-ltb}
+use Rattle.std.proofs.lemmas.Bool.{cases_lt, or_left, ltb-true, and_right, or_cases, le-leb, eq-eqb, ne_eqb}
+use Rattle.std.proofs.lemmas.List.{take_more, take_all, drop-drop, get_or-drop, drop_all, append-nil, take-append-drop}
+use Rattle.std.proofs.lemmas.List.{get_or_default}
+use Rattle.glyph_lists.specs.Deletion.{merge_or_mark}
+use Rattle.std.proofs.lemmas.List.Concat.{flat_map-append}
+use Rattle.std.specs.declared.alloc.AllocError.{AllocError}
+use Rattle.std.specs.Result.{IsErr}
+use Rattle.rb_glyph.specs.declared.info.hb_glyph_info_t.{hb_glyph_info_t}
+use Rattle.glyph_lists.specs.Clusters.{zero_glyph}
+use Rattle.glyph_lists.specs.Replacement.{copies}
+use Rattle.glyph_lists.proofs.LengthsLemmas.{length_copies}
+use Rattle.glyph_lists.proofs.MergedHeadLemmas.{short_leaves}
+use Rattle.shaping_buffer.specs.State.{State, lookahead_len}
+use Rattle.shaping_buffer.specs.ClusterStep.{any_order, head_of, flagged_if}
+use Rattle.shaping_buffer.specs.Step.{Outcome, limited, settled, put_out, skip_glyph, next_glyph, replace_glyphs, sync}
+use Rattle.shaping_buffer.specs.Step.{Meets, clear_output}
+use Rattle.shaping_buffer.proofs.ReplacementLemmas.{replaced_sides}
+use Rattle.shaping_passes.specs.NormalizationParts.{parts_of}
+use Rattle.shaping_passes.specs.NormalizationDecomposition.{some_part, decomposition, most_steps, decomposed, closed_over}
+use Rattle.shaping_passes.specs.NormalizationDecomposition.{stopped_at, Decomposes}
+
+abbrev Rows : Type 0
+Rows = List (ℕ × ℕ × Option ℕ)
+
+-- ---- one character
+
+pub decomposition_none : (n : ℕ) (rows : Rows) (c : ℕ) → parts_of rows c ≡ None → decomposition n rows c ≡ c ∷ []
+unfolding decomposition
+decomposition_none zero rows c e = refl
+decomposition_none (suc n) rows c e =
+    ap (λ (p : Option (ℕ × ℕ)). elim p [ None ↦ c ∷ [] | Some p ↦ decomposition n rows p.0 ++ some_part p.1 ]) e
+
+pub decomposition_last : (n : ℕ) (rows : Rows) (c : ℕ) → n ≡ 0 → decomposition n rows c ≡ c ∷ []
+unfolding decomposition
+decomposition_last zero rows c e = refl
+decomposition_last (suc n) rows c e = absurd (omega arith)
+
+pub decomposition_more : (n m : ℕ) (rows : Rows) (c a b : ℕ) → n ≡ m + 1 → parts_of rows c ≡ Some (a, b)
+    → decomposition n rows c ≡ decomposition m rows a ++ some_part b
+unfolding decomposition
+decomposition_more zero m rows c a b n_is e = absurd (omega arith)
+decomposition_more (suc n) m rows c a b n_is e =
+    let same : n ≡ m = omega arith in
+    ap (λ (p : Option (ℕ × ℕ)). elim p [ None ↦ c ∷ [] | Some p ↦ decomposition n rows p.0 ++ some_part p.1 ]) e
+    ∙ ap (λ k. decomposition k rows a ++ some_part b) same
+
+length_some_part : (c : ℕ) → length (some_part c) ≤ 1
+length_some_part c = cond_both (eqb c 0) _ _ (λ (l : List ℕ). length l ≤ 1) (λ _. omega arith) (λ _. omega arith)
+
+pub length_decomposition : (n : ℕ) (rows : Rows) (c : ℕ)
+    → (1 ≤ length (decomposition n rows c)) × (length (decomposition n rows c) ≤ n + 1)
+unfolding decomposition
+length_decomposition zero rows c = (omega arith, omega arith)
+length_decomposition (suc n) rows c = taken (parts_of rows c) (λ a. length_decomposition n rows a) where
+  taken : (p : Option (ℕ × ℕ))
+      → ((a : ℕ) → (1 ≤ length (decomposition n rows a)) × (length (decomposition n rows a) ≤ n + 1))
+      → let l : List ℕ = elim p [ None ↦ c ∷ [] | Some q ↦ decomposition n rows q.0 ++ some_part q.1 ] in
+      (1 ≤ length l) × (length l ≤ suc n + 1)
+  taken None front = (omega arith, omega arith)
+  taken (Some q) front =
+      let both = length-append (decomposition n rows q.0) (some_part q.1) in
+      (omega (arith, front q.0), omega (arith, front q.0, length_some_part q.1))
+
+pub some_part_none : (b : ℕ) → b ≡ 0 → some_part b ≡ []
+some_part_none b e = cond-true _ _ _ (eq-eqb b 0 e)
+
+pub some_part_some : (b : ℕ) → (b ≡ 0 → ⊥) → some_part b ≡ b ∷ []
+some_part_some b ne = cond-false _ _ _ (ne_eqb b 0 ne)
+
+-- the second part behind the decomposition of the first
+pub added : (old made : List ℕ) (n m : ℕ) (rows : Rows) (c a b : ℕ) → n ≡ m + 1 → Some (a, b) ≡ parts_of rows c
+    → made ≡ old ++ decomposition m rows a → made ++ some_part b ≡ old ++ decomposition n rows c
+added old made n m rows c a b n_is e first =
+    ap (λ (l : List ℕ). l ++ some_part b) first
+    ∙ append_assoc old (decomposition m rows a) (some_part b)
+    ∙ ap (λ (l : List ℕ). old ++ l) (sym (decomposition_more n m rows c a b n_is (sym e)))
+
+-- ---- the calls
+
+-- one glyph gives way to copies of it
+pub replaced_one : (ids : List ℕ) (s : State) → s.have_output ≡ true → 0 < length s.input
+    → replace_glyphs 1 ids s ≡ put_out (copies (head_of s) ids) s (skip_glyph s)
+replaced_one ids s opened some =
+    let leaves = short_leaves (any_order s) 1 s.out s.input (omega arith) (omega arith) in
+    let held : length s.out + length ids ≡ length (s.out ++ copies (head_of s) ids) =
+    omega (arith, length-append s.out (copies (head_of s) ids), length_copies (head_of s) ids) in
+    let F : Bool → List hb_glyph_info_t → hb_glyph_info_t → List hb_glyph_info_t → State = λ b o g r. record s {
+      out = o ++ copies g ids;
+      input = r;
+      idx = s.idx + 1;
+      scratch_flags = flagged_if b s;
+    } in
+    let G : State → Outcome = λ after. limited (length s.out + length ids) s after in
+    let l = merged in
+    replaced_sides 1 ids s opened
+    ∙ ap (λ b. G (F b (take (length s.out) l) (get_or (drop (length s.out) l) 0 zero_glyph)
+    (drop 1 (drop (length s.out) l)))) (and_right (any_order s) false refl)
+    ∙ ap (λ o. G (F false o (get_or (drop (length s.out) l) 0 zero_glyph) (drop 1 (drop (length s.out) l)))) leaves.before
+    ∙ ap (λ g. G (F false s.out g (drop 1 (drop (length s.out) l)))) leaves.head
+    ∙ ap (λ r. G (F false s.out (head_of s) r)) leaves.behind
+    ∙ ap (λ n. limited n s (F false s.out (head_of s) (drop 1 s.input))) held
+    ∙ ap (λ b. limited (length (s.out ++ copies (head_of s) ids)) s
+    (record s { out = s.out ++ copies (head_of s) ids; input = cond b (drop 1 s.input) s.input; idx = s.idx + 1 }))
+    (sym opened)
+  where
+    merged : List hb_glyph_info_t
+    merged = merge_or_mark (any_order s) (s.out ++ s.input) (length s.out) (length s.out + 1) 0
+
+take_one : (l : List hb_glyph_info_t) → 0 < length l → take 1 l ≡ get_or l 0 zero_glyph ∷ []
+take_one [] some = absurd (omega arith)
+take_one (g ∷ l) some = refl
+
+-- one glyph is put out as it is
+pub next_one : (s : State) → s.have_output ≡ true → 0 < length s.input
+    → next_glyph s ≡ put_out (copies (head_of s) ((head_of s).glyph_id ∷ [])) s (skip_glyph s)
+next_one s opened some =
+    cond-true _ _ _ opened ∙ ap (λ l. put_out l s (skip_glyph s)) (take_one s.input some)
+
+pub left : (s : State) → s.have_output ≡ true → 0 < lookahead_len s → 0 < length s.input
+left s opened some =
+    let e : lookahead_len s ≡ s.idx + length s.input - s.idx = ap (λ n. n - s.idx) (cond-true _ _ _ opened) in
+    omega arith
+
+pub head_is : (s : State) (g : hb_glyph_info_t) → s.have_output ≡ true → 0 < lookahead_len s
+    → g ≡ get_or s.input (cond s.have_output 0 (s.idx + 0)) g → g ≡ head_of s
+head_is s g opened some at =
+    at ∙ ap (λ k. get_or s.input k g) (cond-true _ _ _ opened) ∙ get_or_default s.input 0 g zero_glyph (left s opened some)
+
+-- ---- what came of a call
+
+limited_done : (held : ℕ) (before after : State) → (limited held before after).done ≡ true
+    → (held ≤ before.max_len) × ((limited held before after).state ≡ settled after)
+limited_done held before after e =
+    elim (cases_Bool (leb held before.max_len)) [
+      | inl t ↦ (leb-true held before.max_len t, ap (λ (o : Outcome). o.state) (cond-true _ _ _ t))
+      | inr f ↦ absurd (false≢true (sym (ap (λ (o : Outcome). o.done) (cond-false _ _ _ f)) ∙ e))
+    ]
+
+limited_refused : (held : ℕ) (before after : State) → (limited held before after).done ≡ false
+    → (before.max_len < held) × ((limited held before after).state ≡ record before { successful = false })
+limited_refused held before after e =
+    elim (cases_Bool (leb held before.max_len)) [
+      | inl t ↦ absurd (false≢true (sym e ∙ ap (λ (o : Outcome). o.done) (cond-true _ _ _ t)))
+      | inr f ↦ (leb-false held before.max_len f, ap (λ (o : Outcome). o.state) (cond-false _ _ _ f))
+    ]
+
+-- ---- along the list
+
+length_replaced : (rows : Rows) (g : hb_glyph_info_t) → 1 ≤ length (copies g (decomposition most_steps rows g.glyph_id))
+length_replaced rows g =
+    let ids = decomposition most_steps rows g.glyph_id in
+    omega (arith, length_copies g ids, (length_decomposition most_steps rows g.glyph_id).0)
+
+-- a list does not become shorter
+decomposed-longer : (rows : Rows) (l : List hb_glyph_info_t) → length l ≤ length (decomposed rows l)
+unfolding decomposed
+decomposed-longer rows [] = omega arith
+decomposed-longer rows (g ∷ l) =
+    let ids = decomposition most_steps rows g.glyph_id in
+    omega (arith, length-append (copies g ids) (decomposed rows l), length_replaced rows g, decomposed-longer rows l)
+
+decomposed-append : (rows : Rows) (l r : List hb_glyph_info_t)
+    → decomposed rows (l ++ r) ≡ decomposed rows l ++ decomposed rows r
+unfolding decomposed
+decomposed-append rows l r = flat_map-append _ l r
+
+-- one character more
+decomposed_more : (rows : Rows) (l : List hb_glyph_info_t) (k : ℕ) → k < length l
+    → decomposed rows (take (k + 1) l)
+    ≡ decomposed rows (take k l) ++ copies (get_or l k zero_glyph) (decomposition most_steps rows (get_or l k zero_glyph).glyph_id)
+unfolding decomposed
+decomposed_more rows l k some =
+    let g = get_or l k zero_glyph in
+    ap (decomposed rows) (take_more l k zero_glyph some) ∙ decomposed-append rows (take k l) (g ∷ [])
+    ∙ ap (λ (x : List hb_glyph_info_t). decomposed rows (take k l) ++ x)
+    (append-nil (copies g (decomposition most_steps rows g.glyph_id)))
+
+-- where a beginning becomes longer, so does the list
+grown : (rows : Rows) (l : List hb_glyph_info_t) (k : ℕ) → k ≤ length l → k < length (decomposed rows (take k l))
+    → length l < length (decomposed rows l)
+grown rows l k in_l more =
+    let whole = ap (λ (x : List hb_glyph_info_t). length (decomposed rows x)) (take-append-drop k l) in
+    let parts = ap length (decomposed-append rows (take k l) (drop k l)) in
+    let both = length-append (decomposed rows (take k l)) (decomposed rows (drop k l)) in
+    omega (arith, whole, parts, both, decomposed-longer rows (drop k l), length-drop k l)
+
+-- the pass has come to character k, and what it put out is within the limit
+pub record IsAt (rows : Rows) (s now : State) : Type 0 where
+  pub k : ℕ
+  pub is : now ≡ stopped_at k rows s
+  pub le : k ≤ length s.input
+  pub within : length (decomposed rows (take k s.input)) ≤ s.max_len
+
+module _ (rows : Rows) (s : State) (k : ℕ) (some : k < length s.input) where
+  abbrev now : State
+  now = stopped_at k rows s
+
+  abbrev next : Outcome
+  next = put_out (copies (head_of now) (decomposition most_steps rows (head_of now).glyph_id)) now (skip_glyph now)
+
+  head_at : head_of now ≡ get_or s.input k zero_glyph
+  head_at =
+      let e : k + 0 ≡ k = omega arith in
+      get_or-drop k s.input 0 zero_glyph ∙ ap (λ i. get_or s.input i zero_glyph) e
+
+  out_at : now.out ++ copies (head_of now) (decomposition most_steps rows (head_of now).glyph_id)
+      ≡ decomposed rows (take (k + 1) s.input)
+  out_at =
+      ap (λ g. now.out ++ copies g (decomposition most_steps rows g.glyph_id)) head_at
+      ∙ sym (decomposed_more rows s.input k some)
+
+  separate_at : (ltb k (length now.out) || ltb (k + 1) (length (decomposed rows (take (k + 1) s.input))))
+      ≡ ltb (k + 1) (length (decomposed rows (take (k + 1) s.input)))
+  separate_at =
+      let m = length (decomposed rows (take (k + 1) s.input)) in
+      elim (cases_Bool (ltb k (length now.out))) [
+        | inl t ↦
+            let longer = ap length (decomposed_more rows s.input k some) in
+            let g = get_or s.input k zero_glyph in
+            let both = length-append now.out (copies g (decomposition most_steps rows g.glyph_id)) in
+            let one = length_replaced rows g in
+            let before = ltb-true k (length now.out) t in
+            let after : k + 1 < m = omega (arith, longer, both, one) in
+            or_left _ (ltb (k + 1) m) t ∙ sym (lt-ltb (k + 1) m after)
+        | inr f ↦ ap (λ b. b || ltb (k + 1) m) f
+      ]
+
+  pub next_at : settled (record (skip_glyph now) {
+    out = now.out ++ copies (head_of now) (decomposition most_steps rows (head_of now).glyph_id);
+  })
+      ≡ stopped_at (k + 1) rows s
+  next_at =
+      let F : List hb_glyph_info_t → List hb_glyph_info_t → Bool → State = λ o r b. record now {
+        out = o;
+        input = r;
+        idx = k + 1;
+        have_separate_output = b;
+      } in
+      ap (λ o. F o (drop 1 (drop k s.input)) (ltb k (length now.out) || ltb (k + 1) (length o))) out_at
+      ∙ ap (λ r. F (decomposed rows (take (k + 1) s.input)) r
+      (ltb k (length now.out) || ltb (k + 1) (length (decomposed rows (take (k + 1) s.input)))))
+      (drop-drop 1 k s.input)
+      ∙ ap (λ b. F (decomposed rows (take (k + 1) s.input)) (drop (k + 1) s.input) b) separate_at
+
+  abbrev after : State
+  after = record (skip_glyph now) {
+    out = now.out ++ copies (head_of now) (decomposition most_steps rows (head_of now).glyph_id);
+  }
+
+  abbrev held : ℕ
+  held = length (now.out ++ copies (head_of now) (decomposition most_steps rows (head_of now).glyph_id))
+
+  pub step_done : (new : State) → Meets next now (Ok true) new → IsAt rows s new
+  step_done new meets =
+      let parts = limited_done held now after (sym meets.0) in
+      record {
+        k = k + 1;
+        is = meets.1 ∙ parts.1 ∙ next_at;
+        le = omega arith;
+        within = omega (arith, parts.0, ap length out_at);
+      }
+
+  pub step_refused : (new : State) → s.successful ≡ true → length (decomposed rows (take k s.input)) ≤ s.max_len
+      → Meets next now (Ok false) new → Decomposes rows s (Ok false) new
+  step_refused new successful within meets =
+      let parts = limited_refused held now after (sym meets.0) in
+      inr (
+        successful,
+        (
+          k,
+          record { some = some; within = within; exceeds = omega (arith, parts.0, ap length out_at) },
+          meets.1 ∙ parts.1,
+        ),
+      )
+
+  pub step_failed : (e : AllocError) (new : State) → Meets next now (Err e) new → Decomposes rows s (Err e) new
+  step_failed e new meets =
+      let state = (limited_done held now after meets.1).1 ∙ next_at in
+      let separate = ap (λ (t : State). ltb k (length now.out) || t.have_separate_output) (sym state) ∙ meets.0.1 in
+      let longer : length s.input < length (decomposed rows s.input) =
+      elim (or_cases (ltb k (length now.out)) _ separate) [
+        | inl t ↦ grown rows s.input k (omega arith) (ltb-true k (length now.out) t)
+        | inr t ↦ grown rows s.input (k + 1) (omega arith) (ltb-true (k + 1) _ t)
+      ] in
+      (longer, (k, omega arith, meets.2))
+
+-- ---- the beginning and the end
+
+pub began : (rows : Rows) (s now : State) → now ≡ clear_output s → IsAt rows s now
+unfolding decomposed
+began rows s now e = record { k = 0; is = e; le = omega arith; within = omega arith }
+
+module _ (rows : Rows) (s : State) (k : ℕ) (le : k ≤ length s.input) (none : length s.input ≤ k)
+    (within : length (decomposed rows (take k s.input)) ≤ s.max_len) (successful : s.successful ≡ true) where
+  abbrev last : State
+  last = stopped_at k rows s
+
+  whole : last.out ++ last.input ≡ decomposed rows s.input
+  whole =
+      ap (λ (l : List hb_glyph_info_t). last.out ++ l) (drop_all k s.input none) ∙ append-nil last.out
+      ∙ ap (decomposed rows) (take_all k s.input none)
+
+  fits : length (last.out ++ last.input) ≤ s.max_len
+  fits = omega (arith, ap length whole, ap (λ (l : List hb_glyph_info_t). length (decomposed rows l)) (take_all k s.input none))
+
+  synced : sync last ≡ record { done = true; state = closed_over (decomposed rows s.input) s }
+  synced =
+      cond-true _ _ _ successful ∙ cond-true _ _ _ (le-leb _ _ fits)
+      ∙ ap (λ (l : List hb_glyph_info_t). record { done = true; state = closed_over l s }) whole
+
+  pub ended : (r : Result Bool AllocError) (new : State) → Meets (sync last) last r new → Decomposes rows s r new
+  ended (Ok true) new meets =
+      (successful, omega (arith, ap length whole, fits), meets.1 ∙ ap (λ (o : Outcome). o.state) synced)
+  ended (Ok false) new meets = absurd (false≢true (meets.0 ∙ ap (λ (o : Outcome). o.done) synced))
+  ended (Err e) new meets =
+      let after = ap (λ (o : Outcome). o.state.have_separate_output) synced in
+      let separate : (ltb k (length last.out) || false) ≡ true =
+      ap (λ b. ltb k (length last.out) || b) (sym after) ∙ meets.0.1 in
+      elim (or_cases (ltb k (length last.out)) false separate) [
+        | inl t ↦ (grown rows s.input k le (ltb-true k (length last.out) t), (k, le, meets.2))
+        | inr f ↦ absurd (false≢true f)
+      ]
+
+-- ---- a turn of the pass
+
+abbrev pub turn_of : Rows → State → Outcome
+turn_of rows t =
+    put_out (copies (head_of t) (decomposition most_steps rows (head_of t).glyph_id)) t (skip_glyph t)
+
+some_at : (rows : Rows) (s : State) (k : ℕ) → 0 < lookahead_len (stopped_at k rows s) → k < length s.input
+some_at rows s k some = omega (arith, some, length-drop k s.input)
+
+none_at : (rows : Rows) (s : State) (k : ℕ) → (0 < lookahead_len (stopped_at k rows s) → ⊥) → length s.input ≤ k
+none_at rows s k none =
+    elim (cases_lt k (length s.input)) [
+      | inl some ↦ absurd (none (omega (arith, length-drop k s.input)))
+      | inr h ↦ h
+    ]
+
+pub turn_done : (rows : Rows) (s now new : State) → IsAt rows s now → 0 < lookahead_len now
+    → Meets (turn_of rows now) now (Ok true) new → IsAt rows s new
+turn_done rows s now new a some meets =
+    let P : State → Type 0 = λ t. 0 < lookahead_len t → Meets (turn_of rows t) t (Ok true) new → IsAt rows s new in
+    subst P (sym a.is) (λ h m. step_done rows s a.k (some_at rows s a.k h) new m) some meets
+
+pub turn_refused : (rows : Rows) (s now new : State) → IsAt rows s now → 0 < lookahead_len now → s.successful ≡ true
+    → Meets (turn_of rows now) now (Ok false) new → Decomposes rows s (Ok false) new
+turn_refused rows s now new a some successful meets =
+    let P : State → Type 0 = λ t. 0 < lookahead_len t → Meets (turn_of rows t) t (Ok false) new
+    → Decomposes rows s (Ok false) new in
+    subst P (sym a.is) (λ h m. step_refused rows s a.k (some_at rows s a.k h) new successful a.within m) some meets
+
+pub turn_failed : (rows : Rows) (s now new : State) (e : AllocError) → IsAt rows s now → 0 < lookahead_len now
+    → Meets (turn_of rows now) now (Err e) new → Decomposes rows s (Err e) new
+turn_failed rows s now new e a some meets =
+    let P : State → Type 0 = λ t. 0 < lookahead_len t → Meets (turn_of rows t) t (Err e) new
+    → Decomposes rows s (Err e) new in
+    subst P (sym a.is) (λ h m. step_failed rows s a.k (some_at rows s a.k h) e new m) some meets
+
+pub last_turn : (rows : Rows) (s now new : State) (r : Result Bool AllocError) → IsAt rows s now
+    → (0 < lookahead_len now → ⊥) → s.successful ≡ true → Meets (sync now) now r new → Decomposes rows s r new
+last_turn rows s now new r a none successful meets =
+    let P : State → Type 0 = λ t. (0 < lookahead_len t → ⊥) → Meets (sync t) t r new → Decomposes rows s r new in
+    subst P (sym a.is) (λ h m. ended rows s a.k a.le (none_at rows s a.k h) a.within successful r new m) none meets
+
+-- the same under another result that says so
+pub turn_gave_up : (rows : Rows) (s now new : State) (e : AllocError) (told r : Result Bool AllocError) → IsAt rows s now
+    → 0 < lookahead_len now → told ≡ Err e → Meets (turn_of rows now) now told new → IsErr r → Decomposes rows s r new
+turn_gave_up rows s now new e told (Ok b) a some is meets gave_up = absurd (false≢true gave_up)
+turn_gave_up rows s now new e told (Err e2) a some is meets gave_up =
+    let P : Result Bool AllocError → Type 0 = λ x. Meets (turn_of rows now) now x new in
+    turn_failed rows s now new e a some (subst P is meets)

@@ -1,0 +1,118 @@
+use Rattle.std.proofs.Common.{◌+◌, ◌++◌, List, length, get_or, take, drop, set, sym, ap, ◌∙◌, subst, arith}
+use Rattle.rb_glyph.specs.declared.info.hb_glyph_info_t.{hb_glyph_info_t}
+use Rattle.glyph_lists.specs.Clusters.{IsCoarse, zero_glyph}
+use Rattle.shaping_buffer.specs.State.{State}
+use Rattle.shaping_buffer.specs.ClusterStep.{both}
+use Rattle.shaping_buffer.specs.Step.{with_id}
+use Rattle.shaping_passes.specs.NormalizationGlyphs.{cores}
+use Rattle.shaping_passes.proofs.NormalizationCompositionLemmas.{merged, two_is, end_is, three_is, four_is, left_back}
+use Rattle.shaping_passes.proofs.NormalizationCompositionLemmas.{goes_back, out_left, out_cores, input_cores}
+use Rattle.shaping_passes.proofs.NormalizationCompositionLemmas.{coarse_pair, coarse_renamed, renamed_cores, framed}
+use Rattle.shaping_passes.proofs.normalization.composition.compose_pair.Goals as goal
+
+pub move_to-requires : goal.move_to-requires
+move_to-requires c =
+    let s = c.args.buffer.now in
+    let ready = c.requires.ready in
+    let some = c.requires.some in
+    let at = c.args.at in
+    let place = c.requires.place in
+    let end = c.out_len-end.result in
+    omega (
+      arith,
+      end_is s ready some at place end c.keep_one.new.buffer c.keep_one.ensures c.out_len-end.ensures.out_len,
+      goes_back s ready some at place c.merge_out_clusters.new.self
+          (two_is s ready some at place end c.keep_one.new.buffer c.merge_out_clusters.new.self c.keep_one.ensures
+          c.out_len-end.ensures.out_len c.merge_out_clusters.ensures),
+    )
+
+pub skip_glyph-requires : goal.skip_glyph-requires
+skip_glyph-requires c =
+    let s = c.args.buffer.now in
+    let ready = c.requires.ready in
+    let some = c.requires.some in
+    let at = c.args.at in
+    let place = c.requires.place in
+    left_back s ready some at place c.move_to.new.self
+    (three_is s ready some at place c.out_len-end.result c.keep_one.new.buffer c.merge_out_clusters.new.self
+    c.move_to.new.self c.move_to.result c.keep_one.ensures c.out_len-end.ensures.out_len c.merge_out_clusters.ensures
+    c.move_to.ensures)
+
+pub set_id-requires : goal.set_id-requires
+set_id-requires c =
+    let s = c.args.buffer.now in
+    let ready = c.requires.ready in
+    let some = c.requires.some in
+    let at = c.args.at in
+    let place = c.requires.place in
+    let is = four_is s ready some at place c.out_len-end.result c.keep_one.new.buffer c.merge_out_clusters.new.self
+    c.move_to.new.self c.skip_glyph.new.self c.move_to.result c.keep_one.ensures c.out_len-end.ensures.out_len
+    c.merge_out_clusters.ensures c.move_to.ensures c.skip_glyph.ensures in
+    omega (arith, out_left s ready some at place c.skip_glyph.new.self is)
+
+pub returns-clause-out : goal.returns-clause-out
+returns-clause-out c =
+    let s = c.args.buffer.now in
+    let ready = c.requires.ready in
+    let some = c.requires.some in
+    let at = c.args.at in
+    let place = c.requires.place in
+    let is = four_is s ready some at place c.out_len-end.result c.keep_one.new.buffer c.merge_out_clusters.new.self
+    c.move_to.new.self c.skip_glyph.new.self c.move_to.result c.keep_one.ensures c.out_len-end.ensures.out_len
+    c.merge_out_clusters.ensures c.move_to.ensures c.skip_glyph.ensures in
+    let l = take (length s.out) (merged s ready some at place) in
+    ap (λ (t : State). cores t.out) c.set_id.ensures
+    ∙ ap (λ (t : State). cores (set t.out at (with_id c.args.id (get_or t.out at zero_glyph)))) is
+    ∙ renamed_cores l at c.args.id (omega (
+      arith,
+      out_left s ready some at place c.skip_glyph.new.self is,
+      ap (λ (t : State). length t.out) is,
+    ))
+    ∙ ap (λ (x : List hb_glyph_info_t). set x at (with_id c.args.id (get_or x at zero_glyph)))
+    (out_cores s ready some at place)
+
+pub returns-clause-input : goal.returns-clause-input
+returns-clause-input c =
+    let s = c.args.buffer.now in
+    let ready = c.requires.ready in
+    let some = c.requires.some in
+    let at = c.args.at in
+    let place = c.requires.place in
+    let is = four_is s ready some at place c.out_len-end.result c.keep_one.new.buffer c.merge_out_clusters.new.self
+    c.move_to.new.self c.skip_glyph.new.self c.move_to.result c.keep_one.ensures c.out_len-end.ensures.out_len
+    c.merge_out_clusters.ensures c.move_to.ensures c.skip_glyph.ensures in
+    ap (λ (t : State). cores t.input) c.set_id.ensures ∙ ap (λ (t : State). cores t.input) is
+    ∙ input_cores s ready some at place
+
+pub returns-clause-merges : goal.returns-clause-merges
+returns-clause-merges c = λ level coarse.
+    let s = c.args.buffer.now in
+    let ready = c.requires.ready in
+    let some = c.requires.some in
+    let at = c.args.at in
+    let place = c.requires.place in
+    let is = four_is s ready some at place c.out_len-end.result c.keep_one.new.buffer c.merge_out_clusters.new.self
+    c.move_to.new.self c.skip_glyph.new.self c.move_to.result c.keep_one.ensures c.out_len-end.ensures.out_len
+    c.merge_out_clusters.ensures c.move_to.ensures c.skip_glyph.ensures in
+    let m = merged s ready some at place in
+    let n = length s.out in
+    subst IsCoarse
+    (sym (ap both c.set_id.ensures
+    ∙ ap (λ (t : State). set t.out at (with_id c.args.id (get_or t.out at zero_glyph)) ++ t.input) is))
+    (coarse_renamed (take n m) (drop (n + 1) m) at c.args.id
+    (omega (arith, out_left s ready some at place c.skip_glyph.new.self is, ap (λ (t : State). length t.out) is))
+    (coarse_pair s ready some at place level coarse))
+
+pub returns-clause-others : goal.returns-clause-others
+returns-clause-others c =
+    let s = c.args.buffer.now in
+    let ready = c.requires.ready in
+    let some = c.requires.some in
+    let at = c.args.at in
+    let place = c.requires.place in
+    let is = four_is s ready some at place c.out_len-end.result c.keep_one.new.buffer c.merge_out_clusters.new.self
+    c.move_to.new.self c.skip_glyph.new.self c.move_to.result c.keep_one.ensures c.out_len-end.ensures.out_len
+    c.merge_out_clusters.ensures c.move_to.ensures c.skip_glyph.ensures in
+    framed s c.set_id.new.buffer _ _
+    (c.set_id.ensures
+    ∙ ap (λ (t : State). record t { out = set t.out at (with_id c.args.id (get_or t.out at zero_glyph)) }) is)

@@ -1,0 +1,62 @@
+use Rattle.std.proofs.Common.{ℕ, ◌+◌, ◌<◌, List, length, get_or, drop, set, cond, eqb, Option, Some, None, sym, ap, ◌∙◌}
+use Rattle.std.proofs.Common.{subst, arith}
+use Rattle.std.proofs.lemmas.List.{length-map}
+use Rattle.rb_glyph.specs.declared.info.hb_glyph_info_t.{hb_glyph_info_t}
+use Rattle.glyph_lists.specs.Clusters.{zero_glyph}
+use Rattle.shaping_buffer.specs.State.{State}
+use Rattle.shaping_buffer.specs.ClusterStep.{head_of}
+use Rattle.shaping_buffer.specs.Step.{with_id}
+use Rattle.shaping_passes.specs.NormalizationGlyphs.{core, cores}
+use Rattle.shaping_passes.specs.NormalizationOrder.{class_at}
+use Rattle.shaping_passes.specs.NormalizationComposition.{so_far, pair_of, IsPlace}
+use Rattle.shaping_passes.proofs.NormalizationCompositionLemmas.{paired, head_core, kept_behind, kept_first}
+use Rattle.shaping_passes.proofs.normalization.composition.next_turn.Goals as goal
+
+pub returns-in-Some-pair_at-clause-same : goal.returns-in-Some-pair_at-clause-same
+returns-in-Some-pair_at-clause-same c =
+    let s = c.args.buffer.now in
+    let new = c.compose_pair.new.buffer in
+    let pairs = c.args.compositions.now in
+    let classes = c.args.classes.now in
+    let at = c.in-Some.at in
+    let id = c.in-Some-pair_at.id in
+    let out = cores s.out in
+    let place : at < length s.out = subst (λ (o : Option ℕ). IsPlace o s) c.in-Some.is c.requires.place in
+    let some = c.requires.some in
+    let made = ap (pair_of pairs classes (get_or out at zero_glyph) (drop (at + 1) out)) (head_core pairs classes s some)
+    ∙ sym c.in-Some-pair_at.ensures in
+    ap (λ (l : List hb_glyph_info_t). so_far pairs classes (Some at) l (cores new.input)) c.compose_pair.ensures.out
+    ∙ ap (λ (l : List hb_glyph_info_t). so_far pairs classes (Some at)
+    (set out at (with_id id (get_or out at zero_glyph))) l) c.compose_pair.ensures.input
+    ∙ paired pairs classes out (cores s.input) (omega (arith, length-map s.input core)) at
+    (omega (arith, length-map s.out core)) id made
+    ∙ ap (λ (o : Option ℕ). so_far pairs classes o out (cores s.input)) (sym c.in-Some.is)
+
+pub returns-in-None-pair_at-clause-same : goal.returns-in-None-pair_at-clause-same
+returns-in-None-pair_at-clause-same c =
+    let s = c.args.buffer.now in
+    let new = c.keep_behind.new.buffer in
+    let pairs = c.args.compositions.now in
+    let classes = c.args.classes.now in
+    let at = c.in-Some.at in
+    let place : at < length s.out = subst (λ (o : Option ℕ). IsPlace o s) c.in-Some.is c.requires.place in
+    ap (λ (o : Option ℕ). so_far pairs classes o (cores new.out) (cores new.input)) c.keep_behind.ensures.starter
+    ∙ ap (λ (t : State). so_far pairs classes
+    (cond (eqb (class_at classes (head_of s)) 0) (Some (length s.out)) (Some at)) (cores t.out) (cores t.input))
+    c.keep_behind.ensures.kept
+    ∙ kept_behind pairs classes s c.requires.some at place (sym c.in-None-pair_at.ensures)
+    ∙ ap (λ (o : Option ℕ). so_far pairs classes o (cores s.out) (cores s.input)) (sym c.in-Some.is)
+
+pub returns-in-None-clause-same : goal.returns-in-None-clause-same
+returns-in-None-clause-same c =
+    let s = c.args.buffer.now in
+    let new = c.keep_behind-in-None.new.buffer in
+    let pairs = c.args.compositions.now in
+    let classes = c.args.classes.now in
+    ap (λ (o : Option ℕ). so_far pairs classes o (cores new.out) (cores new.input))
+    c.keep_behind-in-None.ensures.starter
+    ∙ ap (λ (t : State). so_far pairs classes
+    (cond (eqb (class_at classes (head_of s)) 0) (Some (length s.out)) None) (cores t.out) (cores t.input))
+    c.keep_behind-in-None.ensures.kept
+    ∙ kept_first pairs classes s c.requires.some
+    ∙ ap (λ (o : Option ℕ). so_far pairs classes o (cores s.out) (cores s.input)) (sym c.in-None.is)

@@ -1,0 +1,5 @@
+pub mod NormalizationGlyphs
+pub mod NormalizationParts
+pub mod NormalizationDecomposition
+pub mod NormalizationOrder
+pub mod NormalizationComposition
