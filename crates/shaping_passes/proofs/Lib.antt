@@ -1,0 +1,4 @@
+pub mod PairRowsLemmas
+pub mod KerningLemmas
+pub mod KerningPassLemmas
+pub mod KerningSeamLemmas

@@ -1,0 +1,3 @@
+pub mod PairRows
+pub mod Kerning
+pub mod Seams

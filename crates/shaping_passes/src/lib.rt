@@ -1,0 +1,7 @@
+//! Passes of a shaper over the shaping buffer, each with a contract that gives its exact result.
+#![tactic(auto)]
+
+pub use kerning::{KerningTable, kern};
+
+pub mod kerning;
+mod rows;
