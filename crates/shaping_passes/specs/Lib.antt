@@ -1,3 +1,4 @@
 pub mod PairRows
 pub mod Kerning
 pub mod Seams
+pub mod Ignorables

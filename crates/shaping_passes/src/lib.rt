@@ -2,6 +2,8 @@
 #![tactic(auto)]
 
 pub use kerning::{KerningTable, kern};
+pub use visible::hide_default_ignorables;
 
 pub mod kerning;
 mod rows;
+pub mod visible;
