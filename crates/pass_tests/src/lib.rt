@@ -1,0 +1,7 @@
+//! Tests of `shaping_passes`, over what it makes public, as in the `tests/` folder of a Rust crate.
+#![tactic(auto)]
+
+#[cfg(test)]
+mod kerning;
+#[cfg(test)]
+mod visible;
