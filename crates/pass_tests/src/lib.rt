@@ -3,3 +3,7 @@
 
 #[cfg(test)]
 mod normalization;
+#[cfg(test)]
+mod kerning;
+#[cfg(test)]
+mod visible;

@@ -4,3 +4,7 @@ pub mod NormalizationOrderLemmas
 pub mod NormalizationGlyphsLemmas
 pub mod NormalizationCompositionLemmas
 mod NormalizationRows
+pub mod PairRowsLemmas
+pub mod KerningLemmas
+pub mod KerningPassLemmas
+pub mod KerningSeamLemmas

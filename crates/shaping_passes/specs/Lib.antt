@@ -3,3 +3,7 @@ pub mod NormalizationParts
 pub mod NormalizationDecomposition
 pub mod NormalizationOrder
 pub mod NormalizationComposition
+pub mod PairRows
+pub mod Kerning
+pub mod Seams
+pub mod Ignorables

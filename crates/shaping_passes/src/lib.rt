@@ -1,6 +1,11 @@
-//! Passes of a shaper over a buffer, each with the contract that a user would want.
+//! Passes of a shaper over the shaping buffer, each with a contract that gives its exact result.
 #![tactic(auto)]
 
+pub use kerning::{KerningTable, kern};
 pub use normalization::{compose_marks, decompose_all, order_marks};
+pub use visible::hide_default_ignorables;
 
+pub mod kerning;
 pub mod normalization;
+mod rows;
+pub mod visible;
