@@ -1,0 +1,3 @@
+pub mod Below
+pub mod Found
+pub mod Whole
