@@ -7,4 +7,4 @@
 mod mapping;
 mod rows;
 
-pub use rows::{combining_classes, decompositions};
+pub use rows::{combining_classes, compositions, decompositions};

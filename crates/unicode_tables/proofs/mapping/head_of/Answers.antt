@@ -1,4 +1,4 @@
-use Rattle.std.proofs.Common.{sym, ◌∙◌, rules}
+use Rattle.std.proofs.Common.{sym, ◌∙◌}
 use Rattle.ucd_normal.specs.Composition.{composite}
 use Rattle.ucd_normal.specs.Decomposition.{canonical_decomposition}
 use Rattle.unicode_tables.proofs.Whole.{head_whole, head_listed}

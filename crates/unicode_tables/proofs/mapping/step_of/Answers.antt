@@ -1,4 +1,4 @@
-use Rattle.std.proofs.Common.{sym, ◌∙◌, ◌≡◌, [], ◌<◌, length, ne_eqb, eqb-true, eq-eqb, arith}
+use Rattle.std.proofs.Common.{sym, ◌∙◌, ◌<◌, length, ne_eqb, eqb-true, eq-eqb, arith}
 use Rattle.std.proofs.lemmas.Bool.Decides.{nat_tests}
 use Rattle.std.proofs.lemmas.List.{nil_from_length}
 use Rattle.ucd_normal.specs.Composition.{composite}

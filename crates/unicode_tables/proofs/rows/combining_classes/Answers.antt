@@ -1,5 +1,5 @@
 -- A row is pushed where the character has one, and nothing else changes.
-use Rattle.std.proofs.Common.{◌≡◌, ◌==◌, ℕ, Bool, true, false, if◌then◌else◌, List, Option, Some, None, sym, ap, subst, ◌∙◌, ◌+◌}
+use Rattle.std.proofs.Common.{◌≡◌, ◌==◌, ℕ, Bool, true, false, if◌then◌else◌, List, Some, None, sym, ap, subst, ◌∙◌, ◌+◌}
 use Rattle.ucd_normal.specs.CanonicalCombiningClass.{canonical_combining_class}
 use Rattle.unicode_tables.specs.Rows.{class_row}
 use Rattle.unicode_tables.proofs.Below.{AreRowsBelow, rows_kept, rows_pushed}
