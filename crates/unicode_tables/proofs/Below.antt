@@ -26,7 +26,8 @@ module _ {R : Type 0} (key : R → ℕ) where
       let parts = and_parts (nat_lt (key row) n) (low n rows) all in
       and_from _ _ (grind (arith, nat_tests, parts.0)) (low_raised n rows parts.1)
 
-  low_pushed : (n : ℕ) (rows : List R) (row : R) → low n rows ≡ true → key row ≡ n → low (n + 1) (rows ++ row ∷ []) ≡ true
+  low_pushed : (n : ℕ) (rows : List R) (row : R) → low n rows ≡ true → key row ≡ n
+      → low (n + 1) (rows ++ row ∷ []) ≡ true
   low_pushed n [] row all here = and_from _ _ (grind (arith, nat_tests)) refl
   low_pushed n (r ∷ rows) row all here =
       let parts = and_parts (nat_lt (key r) n) (low n rows) all in
@@ -36,7 +37,8 @@ module _ {R : Type 0} (key : R → ℕ) where
       → rise up (rows ++ row ∷ []) ≡ true
   rise_pushed n [] row all rises here = refl
   rise_pushed n (a ∷ []) row all rises here =
-      let parts = and_parts (nat_lt (key a) n) true all in and_from _ _ (subst (λ k. nat_lt (key a) k ≡ true) (sym here) parts.0) refl
+      let parts = and_parts (nat_lt (key a) n) true all in
+      and_from _ _ (subst (λ k. nat_lt (key a) k ≡ true) (sym here) parts.0) refl
   rise_pushed n (a ∷ (b ∷ rows)) row all rises here =
       let parts = and_parts (nat_lt (key a) n) (low n (b ∷ rows)) all in
       let rest = and_parts (up a b) (rise up (b ∷ rows)) rises in
@@ -63,7 +65,8 @@ module _ {R : Type 0} (key : R → ℕ) where
     none_below = record { rises = refl; all_low = refl; exact = λ c is below. absurd (omega arith) }
 
     -- nothing is pushed where n has no row
-    pub rows_kept : (n : ℕ) (rows : List R) → AreRowsBelow n rows → (IsScalar n → row_of n ≡ None) → AreRowsBelow (n + 1) rows
+    pub rows_kept : (n : ℕ) (rows : List R) → AreRowsBelow n rows → (IsScalar n → row_of n ≡ None)
+        → AreRowsBelow (n + 1) rows
     rows_kept n rows are none = record {
       rises = are.rises;
       all_low = low_raised n rows are.all_low;
@@ -87,7 +90,8 @@ module _ {R : Type 0} (key : R → ℕ) where
             | inl less ↦
                 let other : (key row == c) ≡ false = grind (arith, nat_tests) in
                 let last : at c (row ∷ []) ≡ None = rw other refl in
-                find-append _ rows (row ∷ []) ∙ ap (option_or (at c rows)) last ∙ or_none (at c rows) ∙ are.exact c is less
+                find-append _ rows (row ∷ []) ∙ ap (option_or (at c rows)) last
+                ∙ or_none (at c rows) ∙ are.exact c is less
             | inr from ↦
                 let same : c ≡ n = omega arith in
                 let this : (key row == c) ≡ true = grind (arith, nat_tests) in

@@ -1,5 +1,6 @@
 -- What is found from the full decomposition is the mapping of the database, as a computation over its rows shows.
-use Rattle.std.proofs.Common.{◌≡◌, ℕ, Bool, true, false, ◌&&◌, List, [], ◌∷◌, Option, Some, None, refl, sym, ap, ◌∙◌, inl, inr}
+use Rattle.std.proofs.Common.{◌≡◌, ℕ, Bool, true, false, ◌&&◌, List, [], ◌∷◌, Option, Some, None}
+use Rattle.std.proofs.Common.{refl, sym, ap, ◌∙◌, inl, inr}
 use lib.Utf8.{scalar}
 use Rattle.std.proofs.lemmas.Bool.{cases_Bool, and_parts}
 use Rattle.ucd_table.proofs.Facts.{tree_value, tree_of, tree_value-tree_of}
@@ -8,7 +9,8 @@ use Rattle.ucd_table.proofs.RangedFacts.{points_ok, Stepped-at_points}
 use Rattle.ucd_table.proofs.Computing.{tables}
 use Rattle.ucd_normal.specs.Composition.{composite, paired_with}
 use Rattle.ucd_normal.specs.Compositions.{compositions}
-use Rattle.ucd_normal.specs.Decomposition.{decomposition, if_canonical, expand, canonical_mapping, canonical_decomposition}
+use Rattle.ucd_normal.specs.Decomposition.{decomposition, if_canonical, expand}
+use Rattle.ucd_normal.specs.Decomposition.{canonical_mapping, canonical_decomposition}
 use Rattle.ucd_normal.specs.DecompositionRows.{Tag}
 use Rattle.ucd_normal.proofs.CompositionLemmas.{is_empty, composite-paired_with}
 use Rattle.ucd_normal.proofs.CompositionsLemmas.{compositions_stepped}
@@ -33,7 +35,10 @@ by_trees = (
 same_tables : by_rows ≡ by_trees
 unfolding by_trees
 same_tables =
-    λ i. (tree_value-tree_of decomposition decomposition_stepped i, tree_value-tree_of compositions compositions_stepped i)
+    λ i. (
+      tree_value-tree_of decomposition decomposition_stepped i,
+      tree_value-tree_of compositions compositions_stepped i,
+    )
 
 abbrev joins : Tables → ℕ → ℕ → Option ℕ
 joins t a b = paired_with b (t.1 a)
@@ -57,7 +62,8 @@ each_is_found : (c : ℕ) → is_empty (canonical_mapping c) ≡ false → is_fo
 unfolding by_trees
 each_is_found c some =
     ap (λ t. is_found t c (decomposition c)) same_tables
-    ∙ Stepped-at_points decomposition decomposition_stepped (λ e. is_empty (if_canonical e)) (is_found by_trees) refl c some
+    ∙ Stepped-at_points decomposition decomposition_stepped (λ e. is_empty (if_canonical e)) (is_found by_trees) refl
+    c some
 
 parts_of-listed : (o : Option (ℕ × Option ℕ)) → parts_of (listed o) ≡ o
 parts_of-listed None = refl

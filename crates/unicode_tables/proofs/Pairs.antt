@@ -1,6 +1,7 @@
 -- The pairs below a number that compose, as they come one by one.
 use Rattle.std.proofs.Common.{◌≡◌, ◌≢◌, ℕ, ◌+◌, ◌<◌, Bool, true, false, cond, ◌&&◌, ◌==◌, nat_eq, nat_lt, List, [], ◌∷◌}
-use Rattle.std.proofs.Common.{Option, Some, None, find, option_map, if◌then◌else◌, refl, sym, ap, ap₂, ◌∙◌, arith, inl, inr}
+use Rattle.std.proofs.Common.{Option, Some, None, find, option_map, if◌then◌else◌, refl, sym, ap, ap₂, ◌∙◌}
+use Rattle.std.proofs.Common.{arith, inl, inr}
 use Rattle.std.proofs.Common.{eqb-true, eq-eqb, lt-ltb}
 use lib.Utf8.{scalar, scalar_cases}
 use Rattle.std.specs.BTreeMap.{is_at}
@@ -100,7 +101,8 @@ put n a b x old is was =
           let other : composite a b ≡ Some n → ⊥ =
           λ h.
           let same : x ≡ (a, b) = some_pair x (a, b) (sym is ∙ pair_of_composite a b n h) in
-          let clash : true ≡ false = sym (is_eq_itself (a, b)) ∙ ap (λ y. is_eq (pair_cmp y (a, b))) (sym same) ∙ apart in
+          let clash : true ≡ false =
+          sym (is_eq_itself (a, b)) ∙ ap (λ y. is_eq (pair_cmp y (a, b))) (sym same) ∙ apart in
           cc in
           cond-false _ _ _ apart ∙ was ∙ sym (below_kept n (composite a b) other)
     ]
@@ -123,7 +125,8 @@ scalar_low p h = elim (scalar_cases p h) [ inl low ↦ omega arith | inr high �
 
 below_all : (o : Option ℕ) → ((p : ℕ) → o ≡ Some p → p < 0x11_0000) → below 0x11_0000 o ≡ o
 below_all None low = refl
-below_all (Some p) low = let test : nat_lt p 0x11_0000 ≡ true = lt-ltb p 0x11_0000 (low p refl) in ap (λ t. if_some t p) test
+below_all (Some p) low =
+    let test : nat_lt p 0x11_0000 ≡ true = lt-ltb p 0x11_0000 (low p refl) in ap (λ t. if_some t p) test
 
 -- in the end each composite is there
 pub all_below : (a b : ℕ) → below 0x11_0000 (composite a b) ≡ composite a b
@@ -140,7 +143,8 @@ value_if : (t : Bool) (row : (ℕ × ℕ) × ℕ) (rows : List ((ℕ × ℕ) × 
 value_if true row rows a b = refl
 value_if false row rows a b = refl
 
-pub found_in_entries : (a b : ℕ) (rows : List ((ℕ × ℕ) × ℕ)) → composition_of a b rows ≡ lookup (is_at (pair_cmp (a, b))) rows
+pub found_in_entries : (a b : ℕ) (rows : List ((ℕ × ℕ) × ℕ))
+    → composition_of a b rows ≡ lookup (is_at (pair_cmp (a, b))) rows
 found_in_entries a b [] = refl
 found_in_entries a b (row ∷ rows) =
     sym (value_if (row.0.0 == a && row.0.1 == b) row rows a b)

@@ -32,7 +32,8 @@ module _ (join : ℕ → ℕ → Option ℕ) where
     whole_end after = ap (whole_from join a) (drop_of_length-le bs after)
 
   module _ (full : ℕ → List ℕ) where
-    pub head_whole : (chars : List ℕ) (whole : ℕ) → whole_of join chars ≡ Some whole → head_of join full chars ≡ Some whole
+    pub head_whole : (chars : List ℕ) (whole : ℕ) → whole_of join chars ≡ Some whole
+        → head_of join full chars ≡ Some whole
     unfolding head_of
     head_whole chars whole h = rw (h, head_of)
 

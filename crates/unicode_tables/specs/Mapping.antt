@@ -1,4 +1,4 @@
--- The canonical decomposition of a character in one step (Unicode, field 5 of `UnicodeData.txt`), found from the full one.
+-- The canonical decomposition of a character in one step (field 5 of `UnicodeData.txt`), found from the full one.
 use Rattle.std.specs.Prelude.{ℕ, ◌-◌, ◌==◌, List, [], ◌∷◌, Option, Some, None, find, option_map, length, slice_index}
 use Rattle.std.specs.Prelude.{slice_range, nat_eq, if◌then◌else◌}
 use Rattle.std.specs.Cmp.Lexicographic.{pointwise}

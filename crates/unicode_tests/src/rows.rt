@@ -4,8 +4,8 @@ use rb_glyph::{CombiningClasses, Compositions, Decompositions, compose, decompos
 use std::test::Fail;
 use unicode_tables::{combining_classes, compositions, decompositions};
 
-/// Characters and their mappings in field 5 of `UnicodeData.txt`: singletons, pairs, pairs of more than two characters in
-/// all, pairs that are excluded from composition, and a Hangul syllable by the rule of section 3.12.
+/// Characters and their mappings in field 5 of `UnicodeData.txt`: singletons, pairs, pairs of more than two characters
+/// in all, pairs that are excluded from composition, and a Hangul syllable by the rule of section 3.12.
 static MAPPINGS: [(char, char, char); 14] = [
     ('\u{e9}', 'e', '\u{301}'),
     ('\u{1e69}', '\u{1e63}', '\u{307}'),

@@ -1,10 +1,12 @@
 -- A row is pushed where the character has one, and nothing else changes.
-use Rattle.std.proofs.Common.{◌≡◌, ◌==◌, ℕ, Bool, true, false, if◌then◌else◌, List, Some, None, sym, ap, subst, ◌∙◌, ◌+◌}
+use Rattle.std.proofs.Common.{◌≡◌, ◌==◌, ℕ, Bool, true, false, if◌then◌else◌, List, Some, None}
+use Rattle.std.proofs.Common.{sym, ap, subst, ◌∙◌, ◌+◌}
 use Rattle.ucd_normal.specs.CanonicalCombiningClass.{canonical_combining_class}
 use Rattle.unicode_tables.specs.Rows.{class_row}
 use Rattle.unicode_tables.proofs.Below.{AreRowsBelow, rows_kept, rows_pushed}
 use Rattle.unicode_tables.proofs.rows.combining_classes.Goals as goal
-use Rattle.unicode_tables.proofs.rows.combining_classes.Goals.{in-Some+in-Some-class_row+in_ok-push, in-Some+in_default-class_row, in_default}
+use Rattle.unicode_tables.proofs.rows.combining_classes.Goals.{in-Some+in-Some-class_row+in_ok-push}
+use Rattle.unicode_tables.proofs.rows.combining_classes.Goals.{in-Some+in_default-class_row, in_default}
 
 key_of_choice : (b : Bool) (n v : ℕ) (row : ℕ × ℕ) → (if b then None else Some (n, v)) ≡ Some row → row.0 ≡ n
 key_of_choice true n v row h = cc

@@ -8,7 +8,8 @@ use Rattle.ucd_normal.specs.Composition.{composite}
 use Rattle.unicode_tables.specs.Rows.{pair_of}
 use Rattle.unicode_tables.proofs.Pairs.{put, kept, kept_apart, below, all_below, found_in_entries, entries_rise}
 use Rattle.unicode_tables.proofs.rows.compositions.Goals as goal
-use Rattle.unicode_tables.proofs.rows.compositions.Goals.{in-Some+in-Some-pair_of+in_ok-insert, in-Some+in_default-pair_of, in_default}
+use Rattle.unicode_tables.proofs.rows.compositions.Goals.{in-Some+in-Some-pair_of+in_ok-insert}
+use Rattle.unicode_tables.proofs.rows.compositions.Goals.{in-Some+in_default-pair_of, in_default}
 
 pub loop-code-preserved : goal.loop-code-preserved
 loop-code-preserved c =
@@ -19,7 +20,8 @@ loop-code-preserved c =
           let is = sym (w.in-Some-pair_of.ensures ∙ ap pair_of w.in-Some.ensures.value.1) in
           λ a b.
           let old = tree.get pair_cmp c.loop-code.pairs (a, b) in
-          let now : tree.get pair_cmp w.insert.new.self (a, b) ≡ cond (is_eq (pair_cmp pair (a, b))) (Some w.in-Some.c) old =
+          let now : tree.get pair_cmp w.insert.new.self (a, b)
+          ≡ cond (is_eq (pair_cmp pair (a, b))) (Some w.in-Some.c) old =
           w.in_ok-insert.ensures.updates.0 (a, b) in
           ap (λ m. tree.get pair_cmp m (a, b)) w.pairs-is ∙ now
           ∙ ap (λ v. cond (is_eq (pair_cmp pair (a, b))) (Some v) old) w.in-Some.ensures.value.1

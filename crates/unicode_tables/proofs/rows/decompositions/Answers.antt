@@ -5,7 +5,8 @@ use Rattle.unicode_tables.specs.Mapping.{parts_of}
 use Rattle.unicode_tables.specs.Rows.{decomposition_row}
 use Rattle.unicode_tables.proofs.Below.{AreRowsBelow, rows_kept, rows_pushed}
 use Rattle.unicode_tables.proofs.rows.decompositions.Goals as goal
-use Rattle.unicode_tables.proofs.rows.decompositions.Goals.{in-Some+in-Some-decomposition_row+in_ok-push, in-Some+in_default-decomposition_row, in_default}
+use Rattle.unicode_tables.proofs.rows.decompositions.Goals.{in-Some+in-Some-decomposition_row+in_ok-push}
+use Rattle.unicode_tables.proofs.rows.decompositions.Goals.{in-Some+in_default-decomposition_row, in_default}
 
 key_of_parts : (n : ℕ) (o : Option (ℕ × Option ℕ)) (row : ℕ × ℕ × Option ℕ)
     → option_map (λ parts. (n, parts.0, parts.1)) o ≡ Some row → row.0 ≡ n
