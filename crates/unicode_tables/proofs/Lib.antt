@@ -1,0 +1,4 @@
+pub mod Below
+pub mod Found
+pub mod Pairs
+pub mod Whole
