@@ -1,7 +1,7 @@
 -- Kerning of lists: the pass from left to right makes of each glyph what its neighbours ask for, and a text that is cut
 -- where that is safe is kerned part by part.
-use Rattle.std.proofs.Common.{◌≡◌, ℕ, zero, suc, ◌+◌, ◌-◌, ◌<◌, ◌≤◌, ◌&&◌, ◌||◌, Bool, true, false, not, List, [], ◌∷◌}
-use Rattle.std.proofs.Common.{◌++◌, length, take, drop, set, get_or, bit_or, bit_and, eqb, ltb, cond, refl, sym, ap, ◌∙◌}
+use Rattle.std.proofs.Common.{◌≡◌, ℕ, zero, suc, ◌+◌, ◌<◌, ◌≤◌, ◌&&◌, ◌||◌, Bool, true, false, List, [], ◌∷◌}
+use Rattle.std.proofs.Common.{◌++◌, length, take, drop, set, get_or, bit_or, cond, refl, sym, ap, ◌∙◌}
 use Rattle.std.proofs.Common.{arith, Some, None}
 use Rattle.std.specs.Prelude.{Option, ℤ}
 use Rattle.std.specs.Int.Bits.{or_add_and}
@@ -13,7 +13,7 @@ use Rattle.glyph_lists.specs.Clusters.{zero_glyph}
 use Rattle.glyph_lists.specs.Marks.{with_glyph_flags}
 use Rattle.shaping_buffer.specs.Positions.{zero_position}
 use Rattle.shaping_passes.specs.Kerning.{Rows, pair_value, is_kerned, marks_first, marks_second, is_marked_behind}
-use Rattle.shaping_passes.specs.Kerning.{is_marked_before, marked_if, kerned_after, kerned_glyphs, some_kerned}
+use Rattle.shaping_passes.specs.Kerning.{marked_if, kerned_after, kerned_glyphs, some_kerned}
 use Rattle.shaping_passes.specs.Kerning.{with_more_advance, kerned_position, kerned_positions}
 
 -- ---- a glyph that is marked twice

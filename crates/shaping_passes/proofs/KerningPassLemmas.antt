@@ -1,7 +1,7 @@
 -- The pass over a buffer: each pair in turn, and what is left to kern from a place on.
 use Rattle.std.proofs.Common.{◌≡◌, ℕ, zero, suc, ◌+◌, ◌-◌, ◌<◌, ◌≤◌, ◌&&◌, Bool, true, false, not, List, [], ◌∷◌}
 use Rattle.std.proofs.Common.{◌++◌, length, take, drop, set, get_or, bit_or, min, eqb, ltb, cond, refl, sym, ap, ◌∙◌}
-use Rattle.std.proofs.Common.{subst, inl, inr, arith, Some, None, is_some, add-one}
+use Rattle.std.proofs.Common.{subst, inl, inr, arith, Some, None}
 use Rattle.std.specs.Prelude.{Option, option_map, ℤ, pos, IsSome}
 use Rattle.std.specs.Ordering.{int_eq}
 use Rattle.std.proofs.lemmas.Bool.{cases_lt, cond-false}
@@ -12,7 +12,7 @@ use Rattle.rb_glyph.specs.declared.position.GlyphPosition.{GlyphPosition}
 use Rattle.glyph_lists.specs.declared.glyph_flags.TheConstants.{BREAK_BITS}
 use Rattle.glyph_lists.specs.Parts.{on_part}
 use Rattle.glyph_lists.specs.Clusters.{zero_glyph, least, IsMonotone}
-use Rattle.glyph_lists.specs.Marks.{with_glyph_flags, mark, end_mark}
+use Rattle.glyph_lists.specs.Marks.{with_glyph_flags, mark}
 use Rattle.glyph_lists.specs.Scans.{scan_of}
 use Rattle.glyph_laws.proofs.MarksLemmas.{end_mark_is_mark}
 use Rattle.shaping_buffer.specs.Positions.{zero_position}

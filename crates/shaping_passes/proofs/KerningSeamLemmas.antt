@@ -1,9 +1,8 @@
 -- Where a kerned text may be cut, its parts are those of the text cut first and kerned then.
-use Rattle.std.proofs.Common.{◌≡◌, ℕ, zero, suc, ◌+◌, ◌-◌, ◌<◌, ◌≤◌, ◌*◌, ◌/◌, ◌%◌, ◌&&◌, ◌||◌, Bool, true, false, not, List}
-use Rattle.std.proofs.Common.{[], ◌∷◌, ◌++◌, length, take, drop, get_or, bit_or, bit_and, eqb, ltb, cond, refl, sym, ap}
-use Rattle.std.proofs.Common.{◌∙◌, subst, arith, Some, None}
-use Rattle.std.specs.Prelude.{Option, option_map, ℤ}
-use Rattle.std.specs.Int.{bit_at}
+use Rattle.std.proofs.Common.{◌≡◌, ℕ, zero, suc, ◌+◌, ◌-◌, ◌<◌, ◌&&◌, ◌||◌, Bool, true, false, not, List}
+use Rattle.std.proofs.Common.{[], ◌∷◌, ◌++◌, length, take, drop, get_or, bit_or, eqb, ltb, cond, refl, sym, ap}
+use Rattle.std.proofs.Common.{subst, arith, Some, None}
+use Rattle.std.specs.Prelude.{Option, option_map}
 use Rattle.std.proofs.lemmas.Nat.Bits.{bit_at_or, bit_at-lt}
 use Rattle.std.proofs.lemmas.Bool.Decides.{nat_tests}
 use Rattle.rb_glyph.specs.declared.info.hb_glyph_info_t.{hb_glyph_info_t}
@@ -14,7 +13,7 @@ use Rattle.glyph_lists.specs.Clusters.{zero_glyph}
 use Rattle.glyph_lists.specs.Marks.{with_glyph_flags}
 use Rattle.shaping_buffer.specs.State.{State}
 use Rattle.shaping_passes.specs.Seams.{may_be_parted, may_be_cut, is_unsafe}
-use Rattle.shaping_passes.specs.Kerning.{Rows, pair_value, is_kerned, marks_first, marks_second, is_marked_behind}
+use Rattle.shaping_passes.specs.Kerning.{Rows, pair_value, is_kerned, marks_first, is_marked_behind}
 use Rattle.shaping_passes.specs.Kerning.{is_marked_before, marked_if, kerned_after, kerned_glyphs, kerned_positions}
 use Rattle.shaping_passes.specs.Kerning.{kerned_position, kerned, IsKernedApart}
 use Rattle.shaping_passes.proofs.KerningLemmas.{no_positions, unmoved}

@@ -1,5 +1,5 @@
 -- Characters that are invisible by default, in glyphs.
-use Rattle.std.specs.Prelude.{ℕ, ◌==◌, ◌&&◌, Bool, not, List, map, Some, None, bit_and, if◌then◌else◌}
+use Rattle.std.specs.Prelude.{◌==◌, ◌&&◌, Bool, not, List, map, Some, None, bit_and, if◌then◌else◌}
 use Rattle.rb_common.specs.declared.glyph_id.GlyphId.{GlyphId}
 use Rattle.std.specs.Prelude.{Option}
 use Rattle.rb_glyph.specs.declared.info.hb_glyph_info_t.{hb_glyph_info_t}

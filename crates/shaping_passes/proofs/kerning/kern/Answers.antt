@@ -1,4 +1,4 @@
-use Rattle.std.proofs.Common.{◌≡◌, ◌+◌, ◌<◌, ◌≤◌, length, arith, ap, sym, subst, ◌∙◌, w32, to_z, of_z, rules, FitsSigned}
+use Rattle.std.proofs.Common.{◌≡◌, ◌+◌, ◌<◌, length, arith, ap, sym, subst, ◌∙◌, w32, to_z, of_z, rules, FitsSigned}
 use Rattle.std.proofs.lemmas.Int.{to_z-of_z}
 use Rattle.shaping_buffer.specs.State.{State}
 use Rattle.shaping_passes.specs.Kerning.{pair_kerned}
