@@ -93,7 +93,8 @@ fn glyphs_give_way_to_copies(rt: HostRuntime) {
     let mut sides = opened(&rt, rt.alloc(), &[0, 0, 3, 2, 5]);
     assert!(rt; sides.is_open());
     assert!(rt; sides.input().len() >= 2);
-    assert!(rt; sides.replace_kept(2, &[50], false));
+    assert!(rt; sides.out_len() <= 9 && sides.len() <= 9);
+    assert!(rt; sides.replace_kept(2, &[50], false, 9));
     assert!(rt; sides.is_open());
     assert!(rt; sides.input().len() >= 2);
     assert!(rt; sides.replace(2, &[51, 52, 53], false).is_ok());

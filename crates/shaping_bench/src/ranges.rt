@@ -42,10 +42,11 @@ pub fn unsafe_sliding(buffer: &mut hb_buffer_t)
     requires { buffer.old.have_output ≡ false }
 {
     for i in 0..buffer.len().saturating_sub(3) {
-        if i >= buffer.len() {
+        let end = i + 4;
+        if end > buffer.len() {
             break;
         }
-        buffer.unsafe_to_break(Some(i), Some(i + 4));
+        buffer.unsafe_to_break(Some(i), Some(end));
     }
 }
 
@@ -54,10 +55,10 @@ pub fn unsafe_windows(buffer: &mut hb_buffer_t)
     requires { buffer.old.have_output ≡ false }
 {
     for window in 0..buffer.len() / 4 {
-        let start = 4 * window;
-        if start >= buffer.len() {
+        let end = 4 * window + 4;
+        if end > buffer.len() {
             break;
         }
-        buffer.unsafe_to_break(Some(start), Some(start + 4));
+        buffer.unsafe_to_break(Some(4 * window), Some(end));
     }
 }

@@ -30,9 +30,8 @@ impl hb_buffer_t {
     {
         let ids = &glyph_data[..num_out];
         let any_order = self.any_order();
-        if num_out <= self.max_len - self.sides.out_len()
-            && self.sides.replace_kept(num_in, ids, any_order)
-        {
+        let max_len = self.max_len;
+        if self.sides.replace_kept(num_in, ids, any_order, max_len) {
             return Ok(true);
         }
         self.replace_any(num_in, ids)
