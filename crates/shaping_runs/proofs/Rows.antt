@@ -169,7 +169,7 @@ moved_while_closed : step.move_to 2 (record opened { have_output = false; out = 
     ≡ record { done = true; state = record opened { have_output = false; out = []; idx = 2 } }
 moved_while_closed = refl
 
-room_for_four : step.ensure 4 opened ≡ record { done = true; state = opened }
+room_for_four : step.ensure 4 opened ≡ record { done = true; state = record opened { room = 4 } }
 room_for_four = refl
 
 no_room_for_five : step.ensure 5 opened ≡ record { done = false; state = record opened { successful = false } }

@@ -30,8 +30,6 @@ use Rattle.shaping_runs.specs.Replay.{Turn, turn, after, answers_of, answer_of, 
 abbrev pub Keeps : State → State → Type 0
 Keeps s t = (t.cluster_level ≡ s.cluster_level) × (t.room ≡ s.room)
 
-
-
 limited_keeps : (held : ℕ) (s new : State) → Keeps s new → Keeps s (limited held s new).state
 limited_keeps held s new e =
     cond_both (leb held s.max_len) _ _ (λ (o : Outcome). Keeps s o.state) (λ _. e) (λ _. (refl, refl))

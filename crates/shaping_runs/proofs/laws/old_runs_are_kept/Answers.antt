@@ -1,4 +1,5 @@
-use Rattle.shaping_runs.proofs.OldRuns.{same_turn, same_level, same_runs}
+use Rattle.shaping_runs.proofs.OldRuns.{same_turn, same_runs}
+use Rattle.shaping_runs.proofs.Settings.{same_level}
 use Rattle.shaping_runs.proofs.laws.old_runs_are_kept.Goals as goal
 
 pub returns-clause-turn : goal.returns-clause-turn
