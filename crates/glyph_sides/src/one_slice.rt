@@ -120,7 +120,7 @@ pub(crate) fn delete_head(
     requires glyph { cursor < length info.old }
     ensures out { take out_len info.new ≡ (deletion any_order (take out_len info.old)
         (slice_index_or (drop cursor info.old) 0 zero_glyph) (drop 1 (drop cursor info.old))).out }
-    ensures rest { drop 1 (drop cursor info.new) ≡ (deletion any_order (take out_len info.old)
+    ensures rest { drop (cursor + 1) info.new ≡ (deletion any_order (take out_len info.old)
         (slice_index_or (drop cursor info.old) 0 zero_glyph) (drop 1 (drop cursor info.old))).rest }
 {
     let (front, input) = info.split_at_mut(cursor);

@@ -10,8 +10,3 @@ returns-then-self-clause-is c =
     let rest = next_left b.cursor (take b.cursor b.info.items ++ input)
     ∙ ap (drop 1) (behind b.cursor b.info.items input c.self.invariant.cursor_within) ∙ c.delete_head.ensures.rest in
     grind (arith, common_steps, rest)
-
-pub returns-clause-is : goal.returns-clause-is
-returns-clause-is c =
-    let rest = next_left c.self.inside.cursor c.delete_head-2.new.info ∙ c.delete_head-2.ensures.rest in
-    grind (arith, common_steps, rest)

@@ -1,0 +1,13 @@
+use Rattle.std.proofs.Common.{List, ◌++◌, drop, arith}
+use Rattle.std.proofs.lemmas.Grind.{common_steps}
+use Rattle.rb_glyph.specs.declared.info.hb_glyph_info_t.{hb_glyph_info_t}
+use Rattle.glyph_sides.proofs.Views.{next_left}
+use Rattle.glyph_sides.proofs.one_slice.delete_head.Goals as goal
+
+pub returns-clause-rest : goal.returns-clause-rest
+returns-clause-rest c =
+    let a = c.args in
+    let read = drop a.out_len c.split_at_mut-front.result.0.now in
+    let info : List hb_glyph_info_t = c.delete_head.new.out ++ read ++ c.delete_head.new.input in
+    let left = next_left a.cursor info in
+    grind (arith, common_steps, left)
