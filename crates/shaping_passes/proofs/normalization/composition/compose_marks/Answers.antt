@@ -21,5 +21,5 @@ returns-clause-composed c = λ _.
     let none : length t.input ≡ 0 = omega (arith, e, c.lookahead_len.ensures) in
     ap (λ (x : State). cores x.input)
     (last_state c.args.compositions.now c.args.classes.now s t c.loop-starter.starter k none c.sync.result c.sync.new.self
-    c.sync.ensures)
+    c.sync.ensures.meets)
     ∙ last_cores c.args.compositions.now c.args.classes.now s t c.loop-starter.starter k none

@@ -39,4 +39,4 @@ pub returns : goal.returns
 returns c =
     last_turn c.args.decompositions.now c.args.buffer.now c.loop-buffer.buffer c.sync.new.self c.sync.result
     c.loop-buffer.invariant.1 (λ some. omega (arith, c.lookahead_len.ensures, some)) c.loop-buffer.invariant.0
-    c.sync.ensures
+    c.sync.ensures.meets

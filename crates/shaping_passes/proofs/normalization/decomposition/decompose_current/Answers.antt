@@ -21,7 +21,7 @@ returns-in-None c =
     subst P
     (next_one s c.requires.opened (left s c.requires.opened c.requires.some)
     ∙ ap (λ ids. put_out (copies (head_of s) ids) s (skip_glyph s)) (sym whole))
-    c.next_glyph.ensures
+    c.next_glyph.ensures.meets
 
 pub returns-in-Some : goal.returns-in-Some
 returns-in-Some c =
