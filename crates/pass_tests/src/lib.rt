@@ -7,3 +7,5 @@ mod normalization;
 mod kerning;
 #[cfg(test)]
 mod visible;
+#[cfg(test)]
+mod substitution;

@@ -8,3 +8,7 @@ pub mod PairRowsLemmas
 pub mod KerningLemmas
 pub mod KerningPassLemmas
 pub mod KerningSeamLemmas
+mod KerningRows
+pub mod SubstitutionLemmas
+pub mod SubstitutionStepLemmas
+mod SubstitutionRows

@@ -7,3 +7,4 @@ pub mod PairRows
 pub mod Kerning
 pub mod Seams
 pub mod Ignorables
+pub mod Substitution

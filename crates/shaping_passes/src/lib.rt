@@ -3,9 +3,11 @@
 
 pub use kerning::{KerningTable, kern};
 pub use normalization::{compose_marks, decompose_all, order_marks};
+pub use substitution::{Lookup, Substitution, substitute};
 pub use visible::hide_default_ignorables;
 
 pub mod kerning;
 pub mod normalization;
 mod rows;
+pub mod substitution;
 pub mod visible;

@@ -1,0 +1,103 @@
+ghost use Rattle.std.specs.Prelude.{◌≡◌, false};
+
+use shaping_buffer::{UnicodeBuffer, hb_buffer_t};
+use shaping_passes::{Lookup, Substitution, substitute};
+use std::alloc::Global;
+use std::process::Abort;
+use std::test::Fail;
+
+/// f f i, f f and f i are ligatures, a joiner goes, and ij is two glyphs.
+static RULES: [Substitution; 5] = [
+    Substitution {
+        components: &[102, 102, 105],
+        substitutes: &[0xFB03],
+    },
+    Substitution {
+        components: &[102, 102],
+        substitutes: &[0xFB00],
+    },
+    Substitution {
+        components: &[102, 105],
+        substitutes: &[0xFB01],
+    },
+    Substitution {
+        components: &[0x133],
+        substitutes: &[105, 106],
+    },
+    Substitution {
+        components: &[0x200D],
+        substitutes: &[],
+    },
+];
+
+/// A text, and then the ids and the clusters of its glyphs.
+static CASES: [(&str, &[u32], &[u32]); 5] = [
+    ("", &[], &[]),
+    ("office", &[111, 0xFB03, 99, 101], &[0, 1, 4, 5]),
+    ("fffi", &[0xFB00, 0xFB01], &[0, 2]),
+    ("xĳ", &[120, 105, 106], &[0, 1, 1]),
+    ("f\u{200D}i", &[102, 105], &[0, 4]),
+];
+
+#[test]
+fn glyphs_are_substituted(rt: HostRuntime) -> Result<(), Fail> {
+    let lookup = Lookup::new(&RULES).ok_or("the rules are in order")?;
+    for (text, ids, clusters) in &CASES {
+        let mut buffer = text_buffer(&rt, rt.alloc(), text);
+        assert!(rt; substitute(&mut buffer, &lookup) == Ok(true));
+        assert!(rt; buffer.info().len() == ids.len());
+        for (glyph, id) in buffer.info().iter().zip(*ids) {
+            assert!(rt; glyph.glyph_id == *id);
+        }
+        for (glyph, cluster) in buffer.info().iter().zip(*clusters) {
+            assert!(rt; glyph.cluster == *cluster);
+        }
+    }
+    Ok(())
+}
+
+/// Single and multiple substitutions have one component, and a longer ligature stands before a shorter one.
+#[test]
+fn rules_are_refused(rt: HostRuntime) -> Result<(), Fail> {
+    let ([f_f_i, f_f, ..], two_for_two, none_for_none) = (
+        RULES,
+        rule(&[102, 105], &[1, 2]),
+        rule(&[], &[]),
+    );
+    assert!(rt; Lookup::new(&RULES).is_some());
+    assert!(rt; Lookup::new(&[f_f_i, f_f]).is_some());
+    assert!(rt; Lookup::new(&[f_f, f_f_i]).is_none());
+    assert!(rt; Lookup::new(&[two_for_two]).is_none());
+    assert!(rt; Lookup::new(&[none_for_none]).is_none());
+    Ok(())
+}
+
+/// The list may have three glyphs, and the pass would make four.
+#[test]
+fn a_refusal_ends_the_pass(rt: HostRuntime) -> Result<(), Fail> {
+    let lookup = Lookup::new(&RULES).ok_or("the rules are in order")?;
+    let mut buffer = text_buffer(&rt, rt.alloc(), "xĳx");
+    assert!(rt; buffer.len() == 3);
+    assert!(rt; buffer.out_len() == 0);
+    buffer.set_max_len(3);
+    assert!(rt; substitute(&mut buffer, &lookup) == Ok(false));
+    assert!(rt; !buffer.successful());
+    assert!(rt; buffer.out_len() == 3);
+    assert!(rt; buffer.lookahead_len() == 1);
+    Ok(())
+}
+
+fn rule<'a>(components: &'a [u32], substitutes: &'a [u32]) -> Substitution<'a> {
+    Substitution {
+        components,
+        substitutes,
+    }
+}
+
+fn text_buffer(rt: &impl Abort, alloc: Global, text: &str) -> hb_buffer_t
+    ensures { result.have_output ≡ false }
+{
+    let mut characters = UnicodeBuffer::new(alloc);
+    assert!(rt; characters.push_str(text) == Ok(true));
+    characters.into_buffer()
+}
