@@ -1,3 +1,4 @@
+use crate::streams::SlowReader;
 use shaping_session::ending::{conclude, run_to_end};
 use shaping_session::run::RunFault;
 use std::alloc::Global;
@@ -74,6 +75,14 @@ fn a_fault_is_told_and_ends_with_3(rt: HostRuntime) -> Result<(), Fail> {
         assert!(rt; conclude(&error, Err(fault)) == ExitCode::from(3));
         assert!(rt; error.heard.into_inner().as_str() == line);
     }
+    let mut reader = SlowReader::new(b"push a\n");
+    reader.fails_at = 1;
+    let mut written = Vec::new(rt.alloc());
+    let error = Listener::new(rt.alloc(), false);
+    let end = run_to_end(rt.alloc(), &mut reader, &mut written, &error);
+    assert!(rt; end == ExitCode::from(3));
+    assert!(rt; error.heard.into_inner().as_str() == "read failed\n");
+    assert!(rt; written.len() == 0);
     // Also where standard error fails.
     let error = Listener::new(rt.alloc(), true);
     let mut lines: &[u8] = b"push a\n";

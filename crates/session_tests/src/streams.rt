@@ -1,32 +1,44 @@
 //! Readers and writers that are slow, fail or do not end.
+
 use shaping_session::run::{RunFault, finish, run, run_on};
 use std::alloc::Global;
 use std::io::{self, ErrorKind, Read, Write};
 use std::ops::Range;
+use std::process::Abort;
 use std::test::Fail;
 
 const LINES: &[u8] = b"push ab\nclear_output\nnext_glyph\nsync\nserialize 4\n";
+
+/// How a read or a write may fail. Only one that was interrupted is made again.
+const FAILURES: [ErrorKind; 4] = [
+    ErrorKind::Other,
+    ErrorKind::WouldBlock,
+    ErrorKind::TimedOut,
+    ErrorKind::BrokenPipe,
+];
 
 const ANSWERS: &[u8] = b"true\ndone\ndone\ndone\n97=0+0|98=1+0\n";
 
 /// Gives one byte a read, but an error at a read that is picked out, and is interrupted at others. Behind its bytes
 /// it may give line feeds for ever.
 #[derive(Drop)]
-struct SlowReader<'a> {
+pub struct SlowReader<'a> {
     bytes: &'a [u8],
     is_endless: bool,
-    fails_at: usize,
+    pub fails_at: usize,
+    failure: ErrorKind,
     interrupted: Range<usize>,
     reads: usize,
     largest: usize,
 }
 
 impl<'a> SlowReader<'a> {
-    fn new(bytes: &'a [u8]) -> Self {
+    pub fn new(bytes: &'a [u8]) -> Self {
         SlowReader {
             bytes,
             is_endless: false,
             fails_at: usize::MAX,
+            failure: ErrorKind::Other,
             interrupted: 0..0,
             reads: 0,
             largest: 0,
@@ -40,7 +52,7 @@ impl Read for SlowReader<'_> {
         self.reads = read.wrapping_add(1);
         self.largest = self.largest.max(buf.len());
         if read == self.fails_at {
-            return Err(io::Error::from(ErrorKind::Other));
+            return Err(io::Error::from(self.failure));
         }
         if self.interrupted.contains(&read) {
             return Err(io::Error::from(ErrorKind::Interrupted));
@@ -60,12 +72,13 @@ impl Read for SlowReader<'_> {
     }
 }
 
-/// Takes one byte a write, and fails at one of the writes.
+/// Takes one byte a write, but fails at one of the writes, or takes nothing there.
 #[derive(Drop)]
 struct SlowWriter {
     written: Vec<u8>,
     writes: usize,
     fails_at: usize,
+    failure: Option<ErrorKind>,
     flushes: usize,
     flush_fails: bool,
 }
@@ -76,6 +89,7 @@ impl SlowWriter {
             written: Vec::new(alloc),
             writes: 0,
             fails_at,
+            failure: Some(ErrorKind::Other),
             flushes: 0,
             flush_fails: false,
         }
@@ -87,7 +101,10 @@ impl Write for SlowWriter {
         let write = self.writes;
         self.writes = write.wrapping_add(1);
         if write == self.fails_at || buf.is_empty() {
-            return Err(io::Error::from(ErrorKind::Other));
+            return match self.failure {
+                Some(kind) => Err(io::Error::from(kind)),
+                None => Ok(0),
+            };
         }
         if self.written.push(buf[0]).is_err() {
             return Err(io::Error::from(ErrorKind::OutOfMemory));
@@ -110,16 +127,28 @@ fn each_read_may_be_short_or_interrupted_or_fail(rt: HostRuntime) {
         let mut written = Vec::new(rt.alloc());
         let mut reader = SlowReader::new(LINES);
         reader.interrupted = read..read + 1;
-        let outcome = run(rt.alloc(), reader, &mut written);
+        let outcome = run_on(rt.alloc(), &mut reader, &mut written);
         assert!(rt; outcome == Ok(0), "at {read}");
         assert!(rt; written.as_slice() == ANSWERS, "at {read}");
-        written.clear();
-        let mut reader = SlowReader::new(LINES);
-        reader.fails_at = read;
-        let outcome = run(rt.alloc(), reader, &mut written);
-        assert!(rt; outcome == Err(RunFault::Read), "at {read}");
-        assert!(rt; written.len() == 0, "at {read}");
+        for failure in FAILURES {
+            written.clear();
+            let mut reader = SlowReader::new(LINES);
+            reader.fails_at = read;
+            reader.failure = failure;
+            let outcome = run_on(rt.alloc(), &mut reader, &mut written);
+            assert!(rt; outcome == Err(RunFault::Read), "at {read}");
+            assert!(rt; written.len() == 0, "at {read}");
+            assert!(rt; reader.reads.wrapping_sub(1) == read, "at {read}");
+        }
     }
+}
+
+#[test]
+fn a_run_takes_its_reader_and_writer(rt: HostRuntime) {
+    let mut written = Vec::new(rt.alloc());
+    assert!(rt; run(rt.alloc(), LINES, &mut written) == Ok(0));
+    assert!(rt; written.as_slice() == ANSWERS);
+    assert!(rt; run(rt.alloc(), b"none\n".as_slice(), &mut written) == Ok(2));
 }
 
 #[test]
@@ -129,7 +158,7 @@ fn no_more_than_65536_reads_are_made(rt: HostRuntime) -> Result<(), Fail> {
         let mut reader = SlowReader::new(b"");
         reader.is_endless = true;
         reader.interrupted = 0..interrupted_to;
-        let outcome = run(rt.alloc(), &mut reader, &mut written);
+        let outcome = run_on(rt.alloc(), &mut reader, &mut written);
         assert!(rt; outcome == Err(RunFault::Read));
         assert!(rt; written.len() == 0);
         assert!(rt; (reader.reads, reader.largest) == (65536, 65536));
@@ -137,25 +166,56 @@ fn no_more_than_65536_reads_are_made(rt: HostRuntime) -> Result<(), Fail> {
     let mut lines = vec![in rt.alloc(); b'a'; 65535]?;
     lines.as_mut_slice()[..5].copy_from_slice(b"push ");
     let mut written = Vec::new(rt.alloc());
-    let outcome = run(rt.alloc(), SlowReader::new(lines.as_slice()), &mut written);
+    let mut reader = SlowReader::new(lines.as_slice());
+    let outcome = run_on(rt.alloc(), &mut reader, &mut written);
     assert!(rt; outcome == Ok(0));
     assert!(rt; written.as_slice() == b"true\n".as_slice());
     Ok(())
 }
 
+/// What was taken is a beginning of the answers, and after the failure nothing more is written.
 #[test]
-fn each_write_and_the_flush_may_fail(rt: HostRuntime) {
+fn each_write_may_fail_or_take_nothing(rt: HostRuntime) {
     for fails_at in 0..ANSWERS.len() {
-        let mut writer = SlowWriter::new(rt.alloc(), fails_at);
-        let outcome = run(rt.alloc(), LINES, &mut writer);
-        assert!(rt; outcome == Err(RunFault::Write), "at {fails_at}");
+        for failure in FAILURES {
+            cut_at(&rt, rt.alloc(), fails_at, Some(failure));
+        }
+        cut_at(&rt, rt.alloc(), fails_at, None);
+    }
+}
+
+fn cut_at(rt: &impl Abort, alloc: Global, fails_at: usize, failure: Option<ErrorKind>) {
+    let mut writer = SlowWriter::new(alloc, fails_at);
+    writer.failure = failure;
+    let mut lines = LINES;
+    let outcome = run_on(alloc, &mut lines, &mut writer);
+    assert!(rt; outcome == Err(RunFault::Write), "at {fails_at}");
+    assert!(rt; writer.written.len() == fails_at, "at {fails_at}");
+    assert!(rt;
+        ANSWERS.starts_with(writer.written.as_slice()),
+        "at {fails_at}"
+    );
+    assert!(rt; writer.writes.wrapping_sub(1) == fails_at, "at {fails_at}");
+    assert!(rt; writer.flushes == 0, "at {fails_at}");
+}
+
+/// The run then fails at no write that did not, and at the flush alone.
+#[test]
+fn a_write_may_be_interrupted_and_the_flush_may_fail(rt: HostRuntime) {
+    for write in 0..=ANSWERS.len() {
+        let mut writer = SlowWriter::new(rt.alloc(), write);
+        writer.failure = Some(ErrorKind::Interrupted);
+        let mut lines = LINES;
+        assert!(rt; run_on(rt.alloc(), &mut lines, &mut writer) == Ok(0));
+        assert!(rt; writer.written.as_slice() == ANSWERS, "at {write}");
+        assert!(rt; writer.flushes == 1, "at {write}");
     }
     let mut writer = SlowWriter::new(rt.alloc(), usize::MAX);
-    assert!(rt; run(rt.alloc(), LINES, &mut writer) == Ok(0));
-    assert!(rt; writer.written.as_slice() == ANSWERS);
     writer.flush_fails = true;
-    let outcome = run(rt.alloc(), LINES, &mut writer);
+    let mut lines = LINES;
+    let outcome = run_on(rt.alloc(), &mut lines, &mut writer);
     assert!(rt; outcome == Err(RunFault::Write));
+    assert!(rt; writer.written.as_slice() == ANSWERS);
 }
 
 #[test]
@@ -196,7 +256,8 @@ fn many_answers_and_a_long_one_are_written_in_order(rt: HostRuntime) -> Result<(
     }
     answers.extend_from_slice(b"\n\n")?;
     let mut written = Vec::new(rt.alloc());
-    let outcome = run(rt.alloc(), lines.as_slice(), &mut written);
+    let mut rest = lines.as_slice();
+    let outcome = run_on(rt.alloc(), &mut rest, &mut written);
     assert!(rt; outcome == Ok(0));
     assert!(rt; written.as_slice() == answers.as_slice());
     Ok(())

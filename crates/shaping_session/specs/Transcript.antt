@@ -1,7 +1,7 @@
 -- What a run reads and writes.
-use Rattle.std.specs.Prelude.{ℕ, ◌≡◌, ◌++◌, ◌⊎◌, ⊤, List, [], ◌∷◌, flat_map, codes, Option, Some, None, Result}
+use Rattle.std.specs.Prelude.{ℕ, ◌≡◌, ◌++◌, ◌⊎◌, List, [], ◌∷◌, flat_map, codes, Option, Some, None, Result}
 use Rattle.std.specs.Prelude.{if◌then◌else◌, Ok, Err}
-use Rattle.std.specs.Io.KnownBytes.{append_known, Keeps, Appends, Consumes, IsAtEnd}
+use Rattle.std.specs.Io.KnownBytes.{Keeps, Appends, Consumes, IsAtEnd}
 use Rattle.shaping_session.specs.Commands.{Request, request_in_bytes}
 use Rattle.shaping_session.specs.Replies.{is_line_feed, IsOneLine}
 use Rattle.shaping_session.specs.Session.{Follows, fresh}
@@ -49,19 +49,15 @@ AnswersLines before (line ∷ lines) (answer ∷ answers) after =
 AnswersLines before [] (answer ∷ answers) after = ⊥
 AnswersLines before (line ∷ lines) [] after = ⊥
 
--- the bytes that a writer holds, with those that are held back from it
-abbrev pub with_held : Option (List ℕ) → List ℕ → Option (List ℕ)
-with_held contents held = append_known contents held
-
 -- Every line of an input is answered, in turn and in a new session.
-pub record AnswersAll (input : List ℕ) (before after : Option (List ℕ)) : Type 0 where
+pub record AnswersAll (input text : List ℕ) : Type 0 where
   pub answers : List (List ℕ)
   pub session : Session
   pub chain : AnswersLines fresh (lines_of input) answers session
-  pub written : Appends before after (transcript answers)
+  pub told : text ≡ transcript answers
 
 -- The lines before the first that is no command are answered, and that line is answered as unknown.
-pub record AnswersToUnknown (input : List ℕ) (before after : Option (List ℕ)) : Type 0 where
+pub record AnswersToUnknown (input text : List ℕ) : Type 0 where
   pub earlier : List (List ℕ)
   pub unknown : List ℕ
   pub later : List (List ℕ)
@@ -70,45 +66,80 @@ pub record AnswersToUnknown (input : List ℕ) (before after : Option (List ℕ)
   pub answers : List (List ℕ)
   pub session : Session
   pub chain : AnswersLines fresh earlier answers session
-  pub written : Appends before after (transcript (answers ++ codes "unknown command" ∷ []))
+  pub told : text ≡ transcript (answers ++ codes "unknown command" ∷ [])
 
 -- Some lines at the beginning of an input are answered.
-pub record AnswersBeginning (input : List ℕ) (before after : Option (List ℕ)) : Type 0 where
+pub record AnswersBeginning (input text : List ℕ) : Type 0 where
   pub earlier : List (List ℕ)
   pub later : List (List ℕ)
   pub lines : lines_of input ≡ earlier ++ later
   pub answers : List (List ℕ)
   pub session : Session
   pub chain : AnswersLines fresh earlier answers session
-  pub written : Appends before after (transcript answers)
+  pub told : text ≡ transcript answers
 
--- what is written over an input: status 0 says that each line was a command, and status 2 that a line was none.
--- Where a command found no memory, those before it are answered
+-- the text that answers an input: status 0 says that each line was a command, and status 2 that a line was none. Where
+-- a command found no memory, those before it are answered; where the writer failed, the lines before some line, or
+-- those up to one that is no command
+abbrev pub Answered : List ℕ → Result ℕ RunFault → List ℕ → Type 0
+Answered input (Ok status) text =
+    ((status ≡ 0) × AnswersAll input text) ⊎ ((status ≡ 2) × AnswersToUnknown input text)
+Answered input (Err Memory) text = AnswersBeginning input text
+Answered input (Err Write) text = AnswersBeginning input text ⊎ AnswersToUnknown input text
+Answered input (Err Read) text = ⊥
+
+-- Of a text a beginning is written, and this is left of it.
+pub record Leaves (before after : Option (List ℕ)) (text left : List ℕ) : Type 0 where
+  pub sent : List ℕ
+  pub parts : sent ++ left ≡ text
+  pub written : Appends before after sent
+
+-- a beginning of a text is written: the whole of it, nothing, or what stands before some byte
+abbrev pub WritesBeginning : Option (List ℕ) → Option (List ℕ) → List ℕ → Type 0
+WritesBeginning before after text = (left : List ℕ) × Leaves before after text left
+
+-- a text is written; where the writer failed a beginning of it
+abbrev pub WritesText : Option (List ℕ) → Option (List ℕ) → Result ℕ RunFault → List ℕ → Type 0
+WritesText before after (Err Write) text = WritesBeginning before after text
+WritesText before after outcome text = Appends before after text
+
+-- what is written over an input: the text that answers it
 abbrev pub Writes : List ℕ → Option (List ℕ) → Option (List ℕ) → Result ℕ RunFault → Type 0
-Writes input before after (Ok status) =
-    ((status ≡ 0) × AnswersAll input before after) ⊎ ((status ≡ 2) × AnswersToUnknown input before after)
-Writes input before after (Err Memory) = AnswersBeginning input before after
-Writes input before after (Err Read) = ⊥
-Writes input before after (Err Write) = ⊤
+Writes input before after outcome = (text : List ℕ) × Answered input outcome text × WritesText before after outcome text
 
--- what is held is written before the run ends, unless the writer fails
+-- the same while some of the text is held back from the writer: this is left of it; where the writer failed, nothing is
+-- known of what is held
+abbrev pub LeavesText : Option (List ℕ) → Option (List ℕ) → List ℕ → Result ℕ RunFault → List ℕ → Type 0
+LeavesText before after held (Err Write) text = WritesBeginning before after text
+LeavesText before after held outcome text = Leaves before after text held
+
+abbrev pub WritesAndHolds : List ℕ → Option (List ℕ) → Option (List ℕ) → List ℕ → Result ℕ RunFault → Type 0
+WritesAndHolds input before after held outcome =
+    (text : List ℕ) × Answered input outcome text × LeavesText before after held outcome text
+
+-- What is held is written before the run ends, and the outcome stays; where the writer then fails, a beginning of it is
+-- written. After a failed write nothing more is written.
 abbrev pub Finishes : Option (List ℕ) → Option (List ℕ) → List ℕ → Result ℕ RunFault → Result ℕ RunFault → Type 0
-Finishes before after held outcome result = (result ≡ Err Write) ⊎ ((result ≡ outcome) × Appends before after held)
+Finishes before after held (Err Write) result = (result ≡ Err Write) × Keeps before after
+Finishes before after held outcome result =
+    ((result ≡ outcome) × Appends before after held) ⊎ ((result ≡ Err Write) × WritesBeginning before after held)
 
 -- new is old with what was read behind it
 abbrev pub IsReadTo : Option (List ℕ) → Option (List ℕ) → List ℕ → List ℕ → Type 0
 IsReadTo before after old new = (piece : List ℕ) × Consumes before after piece × (new ≡ old ++ piece)
 
--- what a run reads and writes: all of the input, and what answers it. Where there was no memory for the input, nothing
--- was written; nothing is said of what a writer that failed took
+-- all of the input is read, and what answers it is written
+abbrev pub ReadsAndWrites : Option (List ℕ) → Option (List ℕ) → Option (List ℕ) → Option (List ℕ) → Result ℕ RunFault
+    → Type 0
+ReadsAndWrites unread rest before after outcome =
+    (input : List ℕ) × Consumes unread rest input × IsAtEnd rest × Writes input before after outcome
+
+-- what a run reads and writes: nothing is written where a read failed, or where there was no memory for the input
 abbrev pub Answers : Option (List ℕ) → Option (List ℕ) → Option (List ℕ) → Option (List ℕ) → Result ℕ RunFault → Type 0
-Answers unread rest before after (Ok status) =
-    (input : List ℕ) × Consumes unread rest input × IsAtEnd rest × Writes input before after (Ok status)
 Answers unread rest before after (Err Read) = Keeps before after
 Answers unread rest before after (Err Memory) =
-    Keeps before after
-    ⊎ ((input : List ℕ) × Consumes unread rest input × IsAtEnd rest × Writes input before after (Err Memory))
-Answers unread rest before after (Err Write) = ⊤
+    Keeps before after ⊎ ReadsAndWrites unread rest before after (Err Memory)
+Answers unread rest before after outcome = ReadsAndWrites unread rest before after outcome
 
 -- the status that a program ends with says what it read and wrote: it is that of an outcome, and `Answers` says of
 -- that outcome what was read and written

@@ -5,7 +5,8 @@ ghost use Rattle.std.specs.Prelude.{position, IfOk, OnOk, IfErr, Err};
 ghost use Rattle.std.specs.List.{before_first, after_first};
 ghost use Rattle.std.specs.Io.KnownBytes.{Appends, Consumes, IsAtEnd};
 ghost use Rattle.shaping_session.specs.Replies.{is_line_feed};
-ghost use Rattle.shaping_session.specs.Transcript.{fault_text, with_held, Finishes, IsReadTo, Writes, Answers};
+ghost use Rattle.shaping_session.specs.Transcript.{fault_text, Finishes, IsReadTo, Leaves, WritesBeginning};
+ghost use Rattle.shaping_session.specs.Transcript.{WritesAndHolds, Answers};
 
 use crate::command::parse_bytes;
 use crate::session::Session;
@@ -17,7 +18,7 @@ use std::io::{ErrorKind, Read, Write};
 pub enum RunFault {
     /// The reader failed, or did not end. Nothing was written.
     Read = 1,
-    /// The writer failed. What it took is not known.
+    /// The writer failed: a write, or the flush. It took a beginning of the answers.
     Write = 2,
     /// There was no memory. The commands before were answered; while the input was read, nothing was written.
     Memory = 3,
@@ -45,8 +46,8 @@ const READS: u32 = 65536;
 /// Reads all there is, and then answers each line with one line. The status is 0, or 2 after an
 /// unknown command, which is answered as such and ends the run.
 ///
-/// A line feed ends a line, and the last line may lack it. A read that was interrupted is made
-/// again. An input of which 65536 reads meet no end is a fault.
+/// A line feed ends a line, and the last line may lack it. A read or a write that was interrupted is made again, and
+/// one that failed otherwise is not. An input of which 65536 reads meet no end is a fault.
 pub fn run<R: Read + Drop, W: Write + Drop>(
     alloc: Global,
     mut reader: R,
@@ -154,8 +155,9 @@ fn answer_lines<W: Write>(
     writer: &mut W,
     held: &mut Vec<u8>,
 ) -> Result<u8, RunFault>
-    ensures { Writes input.now (with_held (W.contents writer.old) held.old.items)
-        (with_held (W.contents writer.new) held.new.items) result }
+    requires { held.old.items ≡ [] }
+    ensures { WritesAndHolds input.now (W.contents writer.old) (W.contents writer.new)
+        held.new.items result }
 {
     let mut session = Session::new(alloc);
     let mut rest = input;
@@ -199,9 +201,10 @@ fn line_feed(bytes: &[u8]) -> Option<usize>
 
 /// Writes a line, or holds it back.
 fn put_line<W: Write>(writer: &mut W, held: &mut Vec<u8>, line: &str) -> Result<(), RunFault>
-    ensures ok { OnOk result (Appends (with_held (W.contents writer.old) held.old.items)
-        (with_held (W.contents writer.new) held.new.items) (line.now ++ 10 ∷ [])) }
-    ensures err { IfErr result (λ fault. fault ≡ RunFault.Write) }
+    ensures ok { OnOk result (Leaves (W.contents writer.old) (W.contents writer.new)
+        (held.old.items ++ (line.now ++ 10 ∷ [])) held.new.items) }
+    ensures err { IfErr result (λ fault. (fault ≡ RunFault.Write)
+        × WritesBeginning (W.contents writer.old) (W.contents writer.new) (held.old.items ++ (line.now ++ 10 ∷ []))) }
 {
     put(writer, held, line.as_bytes())?;
     put(writer, held, b"\n")
@@ -209,9 +212,10 @@ fn put_line<W: Write>(writer: &mut W, held: &mut Vec<u8>, line: &str) -> Result<
 
 /// Holds bytes back where there is room for them, and else writes what is held first.
 fn put<W: Write>(writer: &mut W, held: &mut Vec<u8>, bytes: &[u8]) -> Result<(), RunFault>
-    ensures ok { OnOk result (Appends (with_held (W.contents writer.old) held.old.items)
-        (with_held (W.contents writer.new) held.new.items) bytes.now) }
-    ensures err { IfErr result (λ fault. fault ≡ RunFault.Write) }
+    ensures ok { OnOk result (Leaves (W.contents writer.old) (W.contents writer.new)
+        (held.old.items ++ bytes.now) held.new.items) }
+    ensures err { IfErr result (λ fault. (fault ≡ RunFault.Write)
+        × WritesBeginning (W.contents writer.old) (W.contents writer.new) (held.old.items ++ bytes.now)) }
 {
     if bytes.len() <= held.capacity() - held.len() {
         hold(held, bytes);
@@ -222,7 +226,7 @@ fn put<W: Write>(writer: &mut W, held: &mut Vec<u8>, bytes: &[u8]) -> Result<(),
         hold(held, bytes);
         return Ok(());
     }
-    writer.write_all(bytes).map_err(|_| RunFault::Write)
+    write_whole(writer, bytes)
 }
 
 /// Holds bytes back. There is room for them.
@@ -239,11 +243,44 @@ fn write_held<W: Write>(writer: &mut W, held: &mut Vec<u8>) -> Result<(), RunFau
         held.old.items) }
     ensures items { OnOk result (held.new.items ≡ []) }
     ensures len { OnOk result (vec_len held.new ≡ 0) }
-    ensures err { IfErr result (λ fault. fault ≡ RunFault.Write) }
+    ensures err { IfErr result (λ fault. (fault ≡ RunFault.Write)
+        × WritesBeginning (W.contents writer.old) (W.contents writer.new) held.old.items) }
 {
-    writer
-        .write_all(held.as_slice())
-        .map_err(|_| RunFault::Write)?;
+    write_whole(writer, held.as_slice())?;
     held.clear();
     Ok(())
+}
+
+/// Makes writes until all of these bytes are taken. After a write that failed the writer has a beginning of them.
+#[tactic(auto, using(crate::proofs::TranscriptLemmas::leaves_twice))]
+fn write_whole<W: Write>(writer: &mut W, bytes: &[u8]) -> Result<(), RunFault>
+    ensures ok { OnOk result (Appends (W.contents writer.old) (W.contents writer.new) bytes.now) }
+    ensures err { IfErr result (λ fault. (fault ≡ RunFault.Write)
+        × WritesBeginning (W.contents writer.old) (W.contents writer.new) bytes.now) }
+{
+    let mut rest = bytes;
+    for _ in 0..u64::MAX {
+        if rest.is_empty() {
+            return Ok(());
+        }
+        rest = write_some(writer, rest)?;
+    }
+    Err(RunFault::Write)
+}
+
+/// Makes one write, and gives the bytes that are left: all of them where it was interrupted. A write that takes nothing
+/// is a fault, as is any other error.
+#[tactic(auto, using(crate::proofs::TranscriptLemmas::one_write))]
+fn write_some<'a, W: Write>(writer: &mut W, bytes: &'a [u8]) -> Result<&'a [u8], RunFault>
+    ensures ok { IfOk result (λ rest.
+        Leaves (W.contents writer.old) (W.contents writer.new) bytes.now rest.now) }
+    ensures err { IfErr result (λ fault. (fault ≡ RunFault.Write)
+        × Leaves (W.contents writer.old) (W.contents writer.new) bytes.now bytes.now) }
+{
+    match writer.write(bytes) {
+        Ok(0) => Err(RunFault::Write),
+        Ok(n) => Ok(&bytes[n..]),
+        Err(e) if e.kind() == ErrorKind::Interrupted => Ok(bytes),
+        Err(_) => Err(RunFault::Write),
+    }
 }

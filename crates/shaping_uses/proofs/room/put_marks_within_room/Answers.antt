@@ -24,24 +24,24 @@ pub returns-in_err-next_glyph : goal.returns-in_err-next_glyph
 returns-in_err-next_glyph c =
     let m = 2 * length c.args.buffer.now.input in
     let mid = mark_done m _ _ _ _ c.loop-buffer.invariant (search rules) c.in_ok-output_glyph.ensures in
-    absurd (next_fails m _ _ _ mid.0 mid.1 c.in_err-next_glyph.ensures)
+    absurd (next_fails m _ _ _ mid.0 mid.1 c.in_err-next_glyph.ensures.meets)
 
 pub loop-buffer-preserved : goal.loop-buffer-preserved
 loop-buffer-preserved c =
     let m = 2 * length c.args.buffer.now.input in
     let mid = mark_done m _ _ _ _ c.loop-buffer.invariant (search rules) c.in_ok-output_glyph.ensures in
-    (next_done m _ _ _ mid.0 mid.1 c.in_ok-next_glyph.ensures).0
+    (next_done m _ _ _ mid.0 mid.1 c.in_ok-next_glyph.ensures.meets).0
 
 pub loop-buffer-smaller : goal.loop-buffer-smaller
 loop-buffer-smaller c =
     let m = 2 * length c.args.buffer.now.input in
     let mid = mark_done m _ _ _ _ c.loop-buffer.invariant (search rules) c.in_ok-output_glyph.ensures in
     subst (λ n. length c.next_glyph.new.self.input < n) mid.2
-    (next_done m _ _ _ mid.0 mid.1 c.in_ok-next_glyph.ensures).1
+    (next_done m _ _ _ mid.0 mid.1 c.in_ok-next_glyph.ensures.meets).1
 
 pub returns : goal.returns
 returns c =
     let m = 2 * length c.args.buffer.now.input in
     let none : lookahead_len c.loop-buffer.buffer ≡ 0 = search rules in
-    let done = sync_done m _ _ _ c.loop-buffer.invariant none c.sync.ensures in
+    let done = sync_done m _ _ _ c.loop-buffer.invariant none c.sync.ensures.meets in
     record { done = done.0; twice = done.1 }
