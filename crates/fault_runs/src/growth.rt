@@ -38,10 +38,7 @@ impl Scenario for Growth<'_> {
 
     fn prepare(&self, alloc: Global) -> Result<(UnicodeBuffer, hb_buffer_t), Lost> {
         let whole = self.text_after(alloc, self.steps)?;
-        Ok((
-            begun_text_with_room(alloc, self.room)?,
-            whole.into_buffer(),
-        ))
+        Ok((begun_text_with_room(alloc, self.room)?, whole.into_buffer()))
     }
 
     fn watch(&self, alloc: Global, ready: (UnicodeBuffer, hb_buffer_t)) -> Result<(), Lost> {

@@ -2,10 +2,10 @@
 #![tactic(auto)]
 
 #[cfg(test)]
-mod normalization;
-#[cfg(test)]
 mod kerning;
 #[cfg(test)]
-mod visible;
+mod normalization;
 #[cfg(test)]
 mod substitution;
+#[cfg(test)]
+mod visible;

@@ -1,7 +1,6 @@
 -- A pass that puts two glyphs out for each that it reads, within its room.
 use Rattle.std.proofs.Common.{◌≡◌, ℕ, ◌+◌, ◌-◌, ◌*◌, ◌<◌, ◌≤◌, true, List, [], ◌∷◌, ◌++◌, length, map, take, drop, refl, sym, ap}
 use Rattle.std.proofs.Common.{◌∙◌, subst, inl, inr, arith, cond, leb, eqb, length-append, length-take, length-drop}
-
 use Rattle.std.specs.Prelude.{max, false, Bool, Result, Ok, Err}
 use Rattle.std.specs.declared.alloc.AllocError.{AllocError}
 use Rattle.std.proofs.lemmas.Bool.{cond-true, cond-false, le-leb, ne_eqb}
@@ -18,7 +17,7 @@ pub record Marking (m whole : ℕ) (s : State) : Type 0 where
   pub successful : s.successful ≡ true
   pub room : m ≤ s.room
   pub fits : m ≤ s.max_len
-  pub whole : length s.out + 2 * length s.input ≡ whole
+  pub total : length s.out + 2 * length s.input ≡ whole
 
 -- one glyph is put out, which leaves no more than m
 put_one : (m : ℕ) (xs : List hb_glyph_info_t) (s after : State) → length xs ≡ 1 → m ≤ s.max_len → length s.out + 1 ≤ m
@@ -38,7 +37,7 @@ pub marked_is : (m : ℕ) (id : ℕ) (s : State) → Marking m m s → 0 < lengt
     → output_glyph id s
     ≡ record { done = true; state = settled (record s { out = s.out ++ map (with_id id) (glyph_to_copy s) }) }
 marked_is m id s before some =
-    put_one m _ s s (one_mark id s some) before.fits (omega (arith, before.whole, some))
+    put_one m _ s s (one_mark id s some) before.fits (omega (arith, before.total, some))
 
 pub next_is : (m : ℕ) (s : State) → Marking m (m + 1) s → 0 < length s.input
     → next_glyph s
@@ -46,16 +45,24 @@ pub next_is : (m : ℕ) (s : State) → Marking m (m + 1) s → 0 < length s.inp
 next_is m s before some =
     cond-true s.have_output _ _ before.opened
     ∙ put_one m (take 1 s.input) s (skip_glyph s) (omega (arith, length-take 1 s.input)) before.fits
-    (omega (arith, before.whole, some))
+    (omega (arith, before.total, some))
 
 pub sync_is : (m : ℕ) (s : State) → Marking m m s → length s.input ≡ 0
     → sync s
-    ≡ record { done = true; state = settled (record s {
-      have_output = false; have_separate_output = false; out = []; input = s.out ++ s.input; idx = 0 }) }
+    ≡ record {
+      done = true;
+      state = settled (record s {
+        have_output = false;
+        have_separate_output = false;
+        out = [];
+        input = s.out ++ s.input;
+        idx = 0;
+      });
+    }
 sync_is m s before none =
     cond-true s.successful _ _ before.successful
     ∙ cond-true (leb (length (s.out ++ s.input)) s.max_len) _ _
-    (le-leb (length (s.out ++ s.input)) s.max_len (omega (arith, length-append s.out s.input, before.whole, before.fits)))
+    (le-leb (length (s.out ++ s.input)) s.max_len (omega (arith, length-append s.out s.input, before.total, before.fits)))
 
 -- ---- what a call leaves
 
@@ -74,7 +81,7 @@ marked m id s new before some is =
         successful = before.successful;
         room = before.room;
         fits = before.fits;
-        whole = omega (arith, length-append s.out (map (with_id id) (glyph_to_copy s)), one_mark id s some, before.whole);
+        total = omega (arith, length-append s.out (map (with_id id) (glyph_to_copy s)), one_mark id s some, before.total);
       },
       refl,
     )
@@ -84,14 +91,14 @@ pub nexted : (m : ℕ) (s new : State) → Marking m (m + 1) s → 0 < length s.
 nexted m s new before some is =
     let P : State → Type 0 = λ t. Marking m m t × (length t.input < length s.input) in
     let rest : length (skip_glyph s).input ≡ length s.input - 1 =
-        ap length (cond-true s.have_output (drop 1 s.input) s.input before.opened) ∙ length-drop 1 s.input in
+    ap length (cond-true s.have_output (drop 1 s.input) s.input before.opened) ∙ length-drop 1 s.input in
     subst P (sym (is ∙ ap (λ (o : Outcome). o.state) (next_is m s before some))) (
       record {
         opened = before.opened;
         successful = before.successful;
         room = before.room;
         fits = before.fits;
-        whole = omega (arith, rest, length-append s.out (take 1 s.input), length-take 1 s.input, before.whole, some);
+        total = omega (arith, rest, length-append s.out (take 1 s.input), length-take 1 s.input, before.total, some);
       },
       omega (arith, rest, some),
     )
@@ -100,7 +107,7 @@ pub synced : (m : ℕ) (s new : State) → Marking m m s → length s.input ≡ 
     → length new.input ≡ m
 synced m s new before none is =
     ap (λ (t : State). length t.input) (is ∙ ap (λ (o : Outcome). o.state) (sync_is m s before none))
-    ∙ omega (arith, length-append s.out s.input, before.whole, none)
+    ∙ omega (arith, length-append s.out s.input, before.total, none)
 
 -- ---- none of them wants memory
 
@@ -114,8 +121,8 @@ mark_wants_none m id s before some want =
     let is = ap (λ (o : Outcome). o.state) (marked_is m id s before some) in
     no_growth m s (output_glyph id s).state before.room
     (subst (λ (t : State). length t.out ≤ m) (sym is)
-    (omega (arith, length-append s.out (map (with_id id) (glyph_to_copy s)), one_mark id s some, before.whole, some)))
-    (subst (λ (t : State). length t.input ≤ m) (sym is) (omega (arith, before.whole, some)))
+    (omega (arith, length-append s.out (map (with_id id) (glyph_to_copy s)), one_mark id s some, before.total, some)))
+    (subst (λ (t : State). length t.input ≤ m) (sym is) (omega (arith, before.total, some)))
     want.2
 
 pub next_wants_none : (m : ℕ) (s : State) → Marking m (m + 1) s → 0 < length s.input
@@ -123,11 +130,11 @@ pub next_wants_none : (m : ℕ) (s : State) → Marking m (m + 1) s → 0 < leng
 next_wants_none m s before some want =
     let is = ap (λ (o : Outcome). o.state) (next_is m s before some) in
     let rest : length (skip_glyph s).input ≡ length s.input - 1 =
-        ap length (cond-true s.have_output (drop 1 s.input) s.input before.opened) ∙ length-drop 1 s.input in
+    ap length (cond-true s.have_output (drop 1 s.input) s.input before.opened) ∙ length-drop 1 s.input in
     no_growth m s (next_glyph s).state before.room
     (subst (λ (t : State). length t.out ≤ m) (sym is)
-    (omega (arith, length-append s.out (take 1 s.input), length-take 1 s.input, before.whole, some)))
-    (subst (λ (t : State). length t.input ≤ m) (sym is) (omega (arith, rest, before.whole, some)))
+    (omega (arith, length-append s.out (take 1 s.input), length-take 1 s.input, before.total, some)))
+    (subst (λ (t : State). length t.input ≤ m) (sym is) (omega (arith, rest, before.total, some)))
     want.2
 
 pub sync_wants_none : (m : ℕ) (s : State) → Marking m m s → length s.input ≡ 0 → MayWant s (sync s).state → ⊥
@@ -136,7 +143,7 @@ sync_wants_none m s before none want =
     no_growth m s (sync s).state before.room
     (subst (λ (t : State). length t.out ≤ m) (sym is) (omega arith))
     (subst (λ (t : State). length t.input ≤ m) (sym is)
-    (omega (arith, length-append s.out s.input, before.whole, none)))
+    (omega (arith, length-append s.out s.input, before.total, none)))
     want.2
 
 -- ---- before the pass
@@ -149,7 +156,7 @@ pub begins : (s : State) → s.have_output ≡ false → s.successful ≡ true �
     → 2 * length s.input ≤ s.max_len
     → Marking (2 * length s.input) (2 * length s.input) (clear_output s)
 begins s closed good room fits =
-    record { opened = refl; successful = good; room = room; fits = fits; whole = omega arith }
+    record { opened = refl; successful = good; room = room; fits = fits; total = omega arith }
 
 -- ---- what the calls give
 
