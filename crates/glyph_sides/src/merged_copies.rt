@@ -72,39 +72,6 @@ pub(crate) fn replace_in_place(
     write_copies(info, placed, glyph, ids);
 }
 
-/// Does the same where the out side, the first `placed` glyphs of the same list, leaves it for `out`, which has room.
-pub(crate) fn replace_away(
-    out: &mut Vec<hb_glyph_info_t>,
-    info: &mut Vec<hb_glyph_info_t>,
-    placed: usize,
-    cursor: usize,
-    count: usize,
-    ids: &[u32],
-    any_order: bool,
-)
-    requires empty { out.old.items ≡ [] }
-    requires near { placed ≤ cursor }
-    requires glyph { cursor < length info.old.items }
-    requires within { count ≤ length info.old.items - cursor }
-    requires room { placed + length ids.now ≤ vec_capacity out.old }
-    ensures len { length info.new.items ≡ length info.old.items }
-    ensures out { let k = placed in
-        let l = merge_or_mark any_order (take k info.old.items ++ drop cursor info.old.items)
-        k (k + count) 0 in
-        out.new.items ≡ take k l ++ copies (slice_index_or (drop k l) 0 zero_glyph) ids.now }
-    ensures input { let k = placed in
-        let l = merge_or_mark any_order (take k info.old.items ++ drop cursor info.old.items)
-        k (k + count) 0 in
-        drop (cursor + count) info.new.items ≡ drop count (drop k l) }
-    ensures out_capacity { vec_capacity out.old ≤ vec_capacity out.new }
-    ensures capacity { vec_capacity info.new ≡ vec_capacity info.old }
-{
-    one_slice::merge_or_mark(info, placed, cursor, placed, placed + count, 0, any_order);
-    out.extend_from_slice(&info[..placed]).unwrap();
-    let glyph = info[cursor];
-    append_copies(out, glyph, ids);
-}
-
 /// Merges, or marks, the glyphs of the input up to place `end` of both sides.
 #[tactic(auto, using(crate::proofs::Views::behind))]
 fn merge_front(

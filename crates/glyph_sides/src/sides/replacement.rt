@@ -179,10 +179,12 @@ impl Sides {
         ensures { Makes (replaced any_order count ids.now self.old) self.old result self.new }
     {
         self.out_info.reserve(self.placed + ids.len())?;
-        merged_copies::replace_away(
+        self.out_info
+            .extend_from_slice(&self.info[..self.placed])
+            .unwrap();
+        merged_copies::replace_apart(
             &mut self.out_info,
             &mut self.info,
-            self.placed,
             self.cursor,
             count,
             ids,
