@@ -37,7 +37,7 @@ pub(crate) fn replace_apart(
     ensures capacity { vec_capacity info.new ≡ vec_capacity info.old }
 {
     let len = out.len();
-    merge_front(out, info, cursor, len + count, any_order);
+    merge_or_mark(out, &mut info[cursor..], len, len + count, 0, any_order);
     let glyph = info[cursor];
     append_copies(out, glyph, ids);
 }
@@ -70,27 +70,4 @@ pub(crate) fn replace_in_place(
     one_slice::merge_or_mark(info, placed, cursor, placed, placed + count, 0, any_order);
     let glyph = info[cursor];
     write_copies(info, placed, glyph, ids);
-}
-
-/// Merges, or marks, the glyphs of the input up to place `end` of both sides.
-#[tactic(auto, using(crate::proofs::Views::behind))]
-fn merge_front(
-    out: &mut [hb_glyph_info_t],
-    info: &mut [hb_glyph_info_t],
-    cursor: usize,
-    end: usize,
-    any_order: bool,
-)
-    requires cursor_within { cursor ≤ length info.old }
-    requires order { length out.old ≤ end }
-    requires within { end ≤ length out.old + (length info.old - cursor) }
-    ensures out { out.new
-        ≡ take (length out.old) (merge_or_mark any_order (out.old ++ drop cursor info.old)
-        (length out.old) end 0) }
-    ensures input { drop cursor info.new
-        ≡ drop (length out.old) (merge_or_mark any_order (out.old ++ drop cursor info.old)
-        (length out.old) end 0) }
-{
-    let start = out.len();
-    merge_or_mark(out, &mut info[cursor..], start, end, 0, any_order);
 }
