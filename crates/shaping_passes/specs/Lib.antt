@@ -8,3 +8,4 @@ pub mod Kerning
 pub mod Seams
 pub mod Ignorables
 pub mod Substitution
+pub mod Lines
