@@ -14,6 +14,8 @@ pub mod KerningSeamLemmas
 mod KerningRows
 pub mod SubstitutionLemmas
 pub mod SubstitutionStepLemmas
+pub mod SubstitutionCallsLemmas
+pub mod SubstitutionTurnLemmas
 mod SubstitutionRows
 pub mod LinesLemmas
 mod LinesRows
