@@ -1,4 +1,5 @@
 use shaping_buffer::{GlyphPosition, UnicodeBuffer, hb_glyph_info_t};
+use shaping_passes::lines::cuts_of_monotone_clusters;
 use shaping_passes::{KerningTable, kern, line_ends};
 use std::alloc::{AllocError, Global};
 use std::test::Fail;
@@ -130,6 +131,12 @@ fn lines_end_where_the_text_may_be_cut(rt: HostRuntime) -> Result<(), Fail> {
         assert!(rt; ends_of(rt.alloc(), case)?.as_slice() == case.ends);
     }
     Ok(())
+}
+
+/// The law is a function with nothing to do.
+#[test]
+fn laws_may_be_cited() {
+    cuts_of_monotone_clusters();
 }
 
 fn ends_of(alloc: Global, case: &Case) -> Result<Vec<usize>, AllocError> {

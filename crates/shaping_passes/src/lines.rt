@@ -4,7 +4,7 @@ ghost use Rattle.std.specs.Prelude.{◌≡◌, ◌<◌, ◌≤◌, true, length,
 ghost use Rattle.std.specs.List.{list_all};
 ghost use Rattle.rb_glyph.specs.Rows.{rise};
 ghost use Rattle.shaping_passes.specs.Lines as places;
-ghost use Rattle.shaping_passes.specs.Seams.{may_be_parted};
+ghost use Rattle.shaping_passes.specs.Seams.{may_be_parted, CutsAreSimple};
 
 use shaping_buffer::{GlyphPosition, hb_glyph_info_t};
 use std::alloc::{AllocError, Global};
@@ -94,3 +94,9 @@ fn widths_after(widths: &[i64]) -> &[i64]
         _ => widths,
     }
 }
+
+/// Where clusters rise, two neighbours may be parted exactly where the second begins another cluster and is safe to break
+/// before; where they fall, exactly where the first is in another cluster and is safe to break before.
+pub fn cuts_of_monotone_clusters()
+    ensures { CutsAreSimple }
+{}
