@@ -4,6 +4,8 @@
 #[cfg(test)]
 mod kerning;
 #[cfg(test)]
+mod lines;
+#[cfg(test)]
 mod normalization;
 #[cfg(test)]
 mod substitution;

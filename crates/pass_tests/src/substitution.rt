@@ -1,7 +1,7 @@
 ghost use Rattle.std.specs.Prelude.{◌≡◌, false};
 
-use shaping_buffer::{UnicodeBuffer, hb_buffer_t};
-use shaping_passes::{Lookup, Substitution, substitute};
+use shaping_buffer::{Flags, GlyphPropsFlags, UnicodeBuffer, hb_buffer_t};
+use shaping_passes::{Lookup, Substitution, substitute, substitute_next};
 use std::alloc::Global;
 use std::process::Abort;
 use std::test::Fail;
@@ -53,6 +53,89 @@ fn glyphs_are_substituted(rt: HostRuntime) -> Result<(), Fail> {
             assert!(rt; glyph.cluster == *cluster);
         }
     }
+    Ok(())
+}
+
+/// Lam and alef are a ligature, and lam with fatha and alef above a tatweel another glyph.
+static ARABIC: [Substitution; 2] = [
+    Substitution {
+        components: &[0x640],
+        substitutes: &[],
+    },
+    Substitution {
+        components: &[0x644, 0x627],
+        substitutes: &[0xFEFB],
+    },
+];
+
+/// A text, and then the ids and the clusters of its glyphs where marks are skipped, and where they are not.
+struct Marked {
+    text: &'static str,
+    skipped: &'static [(u32, u32)],
+    seen: &'static [(u32, u32)],
+}
+
+/// Fatha and shadda are marks.
+static MARKED: [Marked; 4] = [
+    Marked {
+        text: "لا",
+        skipped: &[(0xFEFB, 0)],
+        seen: &[(0xFEFB, 0)],
+    },
+    Marked {
+        text: "لَا",
+        skipped: &[(0xFEFB, 0), (0x64E, 0)],
+        seen: &[(0x644, 0), (0x64E, 2), (0x627, 4)],
+    },
+    Marked {
+        text: "لَّاَ",
+        skipped: &[(0xFEFB, 0), (0x64E, 0), (0x651, 0), (0x64E, 8)],
+        seen: &[(0x644, 0), (0x64E, 2), (0x651, 4), (0x627, 6), (0x64E, 8)],
+    },
+    // a match does not end in a mark
+    Marked {
+        text: "لَ",
+        skipped: &[(0x644, 0), (0x64E, 2)],
+        seen: &[(0x644, 0), (0x64E, 2)],
+    },
+];
+
+#[test]
+fn marks_are_skipped(rt: HostRuntime) -> Result<(), Fail> {
+    let skipping = Lookup::skipping_marks(&ARABIC).ok_or("the rules are in order")?;
+    let plain = Lookup::new(&ARABIC).ok_or("the rules are in order")?;
+    for case in &MARKED {
+        becomes(&rt, rt.alloc(), &skipping, case.text, case.skipped);
+        becomes(&rt, rt.alloc(), &plain, case.text, case.seen);
+    }
+    Ok(())
+}
+
+fn becomes(rt: &impl Abort, alloc: Global, lookup: &Lookup, text: &str, glyphs: &[(u32, u32)]) {
+    let mut buffer = text_buffer(rt, alloc, text);
+    for glyph in buffer.info_slice_mut().iter_mut() {
+        if glyph.glyph_id == 0x64E || glyph.glyph_id == 0x651 {
+            glyph.set_glyph_props(GlyphPropsFlags::MARK.bits());
+        }
+    }
+    assert!(rt; substitute(&mut buffer, lookup) == Ok(true));
+    assert!(rt; buffer.info().len() == glyphs.len());
+    for (glyph, (id, cluster)) in buffer.info().iter().zip(glyphs) {
+        assert!(rt; glyph.glyph_id == *id);
+        assert!(rt; glyph.cluster == *cluster);
+    }
+}
+
+/// One turn replaces what a rule takes, and the next one reads on behind it.
+#[test]
+fn turns_are_taken_one_by_one(rt: HostRuntime) -> Result<(), Fail> {
+    let lookup = Lookup::new(&RULES).ok_or("the rules are in order")?;
+    let mut buffer = text_buffer(&rt, rt.alloc(), "ffix");
+    buffer.clear_output();
+    assert!(rt; buffer.lookahead_len() == 4);
+    assert!(rt; substitute_next(&mut buffer, &lookup) == Ok(true));
+    assert!(rt; buffer.out_len() == 1);
+    assert!(rt; buffer.lookahead_len() == 1);
     Ok(())
 }
 

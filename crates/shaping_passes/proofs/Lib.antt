@@ -1,7 +1,10 @@
 pub mod NormalizationPartsLemmas
 pub mod NormalizationDecompositionLemmas
+pub mod NormalizationSortLemmas
 pub mod NormalizationOrderLemmas
 pub mod NormalizationGlyphsLemmas
+pub mod NormalizationPairLemmas
+pub mod NormalizationMergesLemmas
 pub mod NormalizationCompositionLemmas
 mod NormalizationRows
 pub mod PairRowsLemmas
@@ -11,4 +14,8 @@ pub mod KerningSeamLemmas
 mod KerningRows
 pub mod SubstitutionLemmas
 pub mod SubstitutionStepLemmas
+pub mod SubstitutionCallsLemmas
+pub mod SubstitutionTurnLemmas
 mod SubstitutionRows
+pub mod LinesLemmas
+mod LinesRows

@@ -1,85 +1,93 @@
--- Searches of rules, and the substitution of a list from a place on.
+-- Searches of rules, and the span of a rule's components.
 use Rattle.std.proofs.Common.{◌≡◌, ℕ, zero, suc, ◌+◌, ◌<◌, ◌≤◌, ◌&&◌, ◌||◌, Bool, true, false, List, []}
-use Rattle.std.proofs.Common.{◌∷◌, ◌++◌, length, take, drop, get_or, cond, eqb, ltb, refl, sym, ap, ◌∙◌, subst}
+use Rattle.std.proofs.Common.{◌∷◌, length, take, drop, get_or, cond, eqb, ltb, refl, sym, ap, ◌∙◌, subst}
 use Rattle.std.proofs.Common.{arith, rules, Some, None, length-drop}
-use Rattle.std.specs.Prelude.{Option, IfSome}
+use Rattle.std.specs.Prelude.{Option, option_map, is_some, IfSome}
 use Rattle.std.specs.List.{find, list_all}
 use Rattle.std.specs.List.Sorted.{IsPartitionedBy}
-use Rattle.std.proofs.lemmas.Bool.{eq-eqb, ne_eqb}
-use Rattle.std.proofs.lemmas.List.{get_or-drop}
+use Rattle.std.proofs.lemmas.Bool.{cond-true, cond-false, eq-eqb, ne_eqb}
+use Rattle.std.proofs.lemmas.List.{get_or-drop, drop_more, drop_all}
 use Rattle.std.proofs.lemmas.Bool.Decides.{nat_tests}
 use Rattle.rb_glyph.specs.declared.info.hb_glyph_info_t.{hb_glyph_info_t}
 use Rattle.rb_glyph.specs.Rows.{rise}
 use Rattle.rb_glyph.proofs.Bisection.{both}
 use Rattle.glyph_lists.specs.Clusters.{zero_glyph}
 use Rattle.shaping_passes.specs.declared.substitution.Substitution.{Substitution}
-use Rattle.shaping_passes.specs.Substitution.{ids, first_of, stands_before, is_lookup, is_rule, begins_with, rule_at}
-use Rattle.shaping_passes.specs.Substitution.{substitutes_of, more_taken, substituted_past, substituted}
-use Rattle.shaping_passes.specs.Substitution.{rules_past, rules_along}
+use Rattle.shaping_passes.specs.Substitution.{Rules, Item, items, is_mark, first_of, stands_before, is_lookup, is_rule}
+use Rattle.shaping_passes.specs.Substitution.{passes_over, span_of, rule_at, first_item, IsFit}
 
--- ---- ids
+-- ---- items
 
-pub id_at : (l : List hb_glyph_info_t) (i : ℕ) → get_or (ids l) i 0 ≡ (get_or l i zero_glyph).glyph_id
-id_at [] i = refl
-id_at (g ∷ l) zero = refl
-id_at (g ∷ l) (suc i) = id_at l i
+abbrev pub item : hb_glyph_info_t → Item
+item g = (g.glyph_id, is_mark g)
 
-pub length-ids : (l : List hb_glyph_info_t) → length (ids l) ≡ length l
-length-ids [] = refl
-length-ids (g ∷ l) = ap (λ n. suc n) (length-ids l)
+pub item_at : (l : List hb_glyph_info_t) (i : ℕ) → i < length l → get_or (items l) i (0, false) ≡ item (get_or l i zero_glyph)
+item_at [] i some = absurd (omega arith)
+item_at (g ∷ l) zero some = refl
+item_at (g ∷ l) (suc i) some = item_at l i (omega arith)
 
--- ---- a list that begins with these
+pub length-items : (l : List hb_glyph_info_t) → length (items l) ≡ length l
+length-items [] = refl
+length-items (g ∷ l) = ap (λ n. suc n) (length-items l)
 
-from_left : (b c : Bool) → b ≡ true → (b && c) ≡ c
-from_left true c e = refl
-from_left false c e = cc
+-- ---- the span, counted on from a place
 
-none_from_left : (b c : Bool) → b ≡ false → (b && c) ≡ false
-none_from_left true c e = cc
-none_from_left false c e = refl
+abbrev pub counted : ℕ → Option ℕ → Option ℕ
+counted k o = option_map (λ n. k + n) o
 
-pub begins_more : (cs l : List ℕ) (i : ℕ) → i < length cs → i < length l → get_or l i 0 ≡ get_or cs i 0
-    → begins_with (drop i cs) (drop i l) ≡ begins_with (drop (i + 1) cs) (drop (i + 1) l)
-begins_more cs l i in_cs in_l e =
-    at cs l i in_cs in_l e
-    ∙ ap (λ k. begins_with (drop k cs) (drop k l)) {x = suc i} {y = i + 1} (omega arith) where
-      at : (cs l : List ℕ) (i : ℕ) → i < length cs → i < length l → get_or l i 0 ≡ get_or cs i 0
-          → begins_with (drop i cs) (drop i l) ≡ begins_with (drop (suc i) cs) (drop (suc i) l)
-      at [] l i in_cs in_l e = absurd (omega arith)
-      at (c ∷ cs) [] i in_cs in_l e = absurd (omega arith)
-      at (c ∷ cs) (g ∷ l) zero in_cs in_l e = from_left (eqb c g) (begins_with cs l) (eq-eqb c g (sym e))
-      at (c ∷ cs) (g ∷ l) (suc i) in_cs in_l e = at cs l i (omega arith) (omega arith) e
+pub counted_none : (o : Option ℕ) → o ≡ counted 0 o
+counted_none None = refl
+counted_none (Some n) = ap (λ (k : ℕ). Some k) (omega arith)
 
-pub begins_short : (cs l : List ℕ) (i : ℕ) → i < length cs → length l ≤ i → begins_with (drop i cs) (drop i l) ≡ false
-begins_short [] l i in_cs past = absurd (omega arith)
-begins_short (c ∷ cs) [] zero in_cs past = refl
-begins_short (c ∷ cs) (g ∷ l) zero in_cs past = absurd (omega arith)
-begins_short (c ∷ cs) [] (suc i) in_cs past = begins_nothing cs i (omega arith) where
-  begins_nothing : (cs : List ℕ) (i : ℕ) → i < length cs → begins_with (drop i cs) [] ≡ false
-  begins_nothing [] i in_cs = absurd (omega arith)
-  begins_nothing (c ∷ cs) zero in_cs = refl
-  begins_nothing (c ∷ cs) (suc i) in_cs = begins_nothing cs i (omega arith)
-begins_short (c ∷ cs) (g ∷ l) (suc i) in_cs past = begins_short cs l i (omega arith) (omega arith)
+counted_more : (k : ℕ) (o : Option ℕ) → counted k (option_map (λ n. suc n) o) ≡ counted (k + 1) o
+counted_more k None = refl
+counted_more k (Some n) = ap (λ (k : ℕ). Some k) (omega arith)
 
-pub begins_other : (cs l : List ℕ) (i : ℕ) → i < length cs → i < length l → (get_or l i 0 ≡ get_or cs i 0 → ⊥)
-    → begins_with (drop i cs) (drop i l) ≡ false
-begins_other [] l i in_cs in_l e = absurd (omega arith)
-begins_other (c ∷ cs) [] i in_cs in_l e = absurd (omega arith)
-begins_other (c ∷ cs) (g ∷ l) zero in_cs in_l e =
-    none_from_left (eqb c g) (begins_with cs l) (ne_eqb c g (λ same. e (sym same)))
-begins_other (c ∷ cs) (g ∷ l) (suc i) in_cs in_l e = begins_other cs l i (omega arith) (omega arith) e
+module _ (t : Rules) (cs : List ℕ) (l : List Item) (found place : ℕ) where
+  abbrev rest : Option ℕ
+  rest = span_of t (drop found cs) (drop place l)
 
-pub begins_all : (cs l : List ℕ) (i : ℕ) → length cs ≤ i → begins_with (drop i cs) (drop i l) ≡ true
-begins_all [] l zero past = refl
-begins_all [] l (suc i) past = refl
-begins_all (c ∷ cs) l zero past = absurd (omega arith)
-begins_all (c ∷ cs) [] (suc i) past = begins_past cs i (omega arith) where
-  begins_past : (cs : List ℕ) (i : ℕ) → length cs ≤ i → begins_with (drop i cs) [] ≡ true
-  begins_past [] zero past = refl
-  begins_past [] (suc i) past = refl
-  begins_past (c ∷ cs) zero past = absurd (omega arith)
-  begins_past (c ∷ cs) (suc i) past = begins_past cs i (omega arith)
-begins_all (c ∷ cs) (g ∷ l) (suc i) past = begins_all cs l i (omega arith)
+  module _ (in_l : place < length l) where
+    abbrev g : Item
+    g = get_or l place (0, false)
+
+    opened : (d : ℕ) → found < length cs
+        → rest ≡ option_map (λ n. suc n) (cond (passes_over t g) (span_of t (drop found cs) (drop (place + 1) l))
+        (cond (eqb (get_or cs found 0) g.0) (span_of t (drop (found + 1) cs) (drop (place + 1) l)) None))
+    opened d in_cs =
+        let c = drop_more cs found 0 in_cs in
+        ap (λ x. span_of t x (drop place l)) c
+        ∙ ap (λ x. span_of t (get_or cs found 0 ∷ drop (found + 1) cs) x) (drop_more l place (0, false) in_l)
+        ∙ ap (λ x. option_map (λ n. suc n) (cond (passes_over t g) (span_of t x (drop (place + 1) l))
+        (cond (eqb (get_or cs found 0) g.0) (span_of t (drop (found + 1) cs) (drop (place + 1) l)) None))) (sym c)
+
+    pub span_over : found < length cs → passes_over t g ≡ true
+        → counted place rest ≡ counted (place + 1) (span_of t (drop found cs) (drop (place + 1) l))
+    span_over in_cs over =
+        ap (counted place) (opened 0 in_cs ∙ ap (option_map (λ n. suc n)) (cond-true (passes_over t g) _ _ over))
+        ∙ counted_more place _
+
+    pub span_on : found < length cs → passes_over t g ≡ false → get_or cs found 0 ≡ g.0
+        → counted place rest ≡ counted (place + 1) (span_of t (drop (found + 1) cs) (drop (place + 1) l))
+    span_on in_cs over same =
+        ap (counted place) (opened 0 in_cs ∙ ap (option_map (λ n. suc n)) (cond-false (passes_over t g) _ _ over
+        ∙ cond-true (eqb (get_or cs found 0) g.0) _ _ (eq-eqb _ _ same)))
+        ∙ counted_more place _
+
+    pub span_ends : found < length cs → passes_over t g ≡ false → (get_or cs found 0 ≡ g.0 → ⊥) → counted place rest ≡ None
+    span_ends in_cs over other =
+        ap (counted place) (opened 0 in_cs ∙ ap (option_map (λ n. suc n)) (cond-false (passes_over t g) _ _ over
+        ∙ cond-false (eqb (get_or cs found 0) g.0) _ _ (ne_eqb _ _ other)))
+
+  pub span_full : length cs ≤ found → counted place rest ≡ Some place
+  span_full past =
+      ap (λ x. counted place (span_of t x (drop place l))) (drop_all found cs past)
+      ∙ ap (λ (k : ℕ). Some k) (omega arith)
+
+  pub span_short : found < length cs → length l ≤ place → counted place rest ≡ None
+  span_short in_cs past =
+      ap (λ x. counted place (span_of t (drop found cs) x)) (drop_all place l past)
+      ∙ ap (λ x. counted place (span_of t x [])) (drop_more cs found 0 in_cs)
 
 -- ---- searches
 
@@ -152,22 +160,12 @@ each_holds q (x ∷ rows) all (suc k) d some = each_holds q rows (both _ _ all).
 
 -- ---- rules
 
-begins_fits : (cs l : List ℕ) → begins_with cs l ≡ true → length cs ≤ length l
-begins_fits [] l e = omega arith
-begins_fits (c ∷ cs) [] e = cc
-begins_fits (c ∷ cs) (g ∷ l) e = let n = begins_fits cs l (both (eqb c g) (begins_with cs l) e).1 in omega arith
-
 some_components : (cs : List ℕ) (k : Bool) → (eqb (length cs) 1 || (ltb 1 (length cs) && k)) ≡ true → 0 < length cs
 some_components [] k e = cc
 some_components (c ∷ cs) k e = omega arith
 
-pub rule_fits : (rows : List Substitution) (l : List ℕ) (r : Substitution) → is_lookup rows ≡ true
-    → rule_at l rows ≡ Some r → (0 < length r.components.now) × (length r.components.now ≤ length l)
-rule_fits rows l r up found = (
-  some_components r.components.now (eqb (length r.substitutes.now) 1)
-      (found_holds (λ x. begins_with x.components.now l) is_rule rows r (both _ _ up).0 found),
-  begins_fits r.components.now l (found_passes (λ x. begins_with x.components.now l) rows r found),
-)
+pub rule_some : (r : Substitution) → is_rule r ≡ true → 0 < length r.components.now
+rule_some r is = some_components r.components.now (eqb (length r.substitutes.now) 1) is
 
 stands_le : (x y : ℕ) (k : Bool) → (ltb x y || (eqb x y && k)) ≡ true → x ≤ y
 stands_le x y true e = grind (arith, nat_tests)
@@ -211,60 +209,130 @@ module _ (rows : List Substitution) (first : ℕ) (up : is_lookup rows ≡ true)
       let eb : first_of (get_or (drop start rows) j d) ≡ first_of (get_or rows (start + j) d) = ap first_of b in
       grind (arith, nat_tests)
 
-  other_first : (l : List ℕ) → 0 < length l → get_or l 0 0 ≡ first → (r : Substitution) → is_rule r ≡ true
-      → (first_of r ≡ first → ⊥) → begins_with r.components.now l ≡ false
-  other_first l some at r is other =
-      begins_other r.components.now l 0 (some_components r.components.now _ is) some
-      (λ same. other (sym same ∙ at))
+  module _ (t : Rules) (l : List Item) (some : 0 < length l) (over : passes_over t (first_item l) ≡ false)
+      (at : (first_item l).0 ≡ first) where
+    abbrev fits : Substitution → Bool
+    fits r = is_some (span_of t r.components.now l)
 
-  pub search_is_whole : (start count : ℕ) → start ≤ length rows
-      → ((k : ℕ) (d : Substitution) → 0 ≤ k → k < start → ltb (first_of (get_or rows k d)) first ≡ true)
-      → ((k : ℕ) (d : Substitution) → count ≤ k → k < length (drop start rows)
-      → eqb (first_of (get_or (drop start rows) k d)) first ≡ false)
-      → (l : List ℕ) → 0 < length l → get_or l 0 0 ≡ first → rule_at l rows ≡ rule_at l (take count (drop start rows))
-  search_is_whole start count within before after l some at =
-      let p = λ (r : Substitution). begins_with r.components.now l in
-      find_from p rows start within
-      (λ k d less. other_first l some at (get_or rows k d) (each_holds is_rule rows (both _ _ up).0 k d (omega arith))
-      (λ same. let t = before k d (omega arith) less in absurd (grind (arith, nat_tests))))
-      ∙ find_up_to p (drop start rows) count
-      (λ k d more less.
-      let a = get_or-drop start rows k d in
-      let len = length-drop start rows in
-      let is : is_rule (get_or (drop start rows) k d) ≡ true = ap is_rule a
-      ∙ each_holds is_rule rows (both _ _ up).0 (start + k) d (omega arith) in
-      other_first l some at (get_or (drop start rows) k d) is
-      (λ same. let t = after k d more less in absurd (grind (arith, nat_tests))))
+    other_components : (cs : List ℕ) → 0 < length cs → (get_or cs 0 0 ≡ first → ⊥) → is_some (span_of t cs l) ≡ false
+    other_components cs in_cs other =
+        ap (λ o. is_some o) (counted_none (span_of t cs l)
+        ∙ span_ends t cs l 0 0 some in_cs over (λ same. other (same ∙ at)))
 
--- ---- the substitution of a list
+    other_first : (r : Substitution) → is_rule r ≡ true → (first_of r ≡ first → ⊥) → fits r ≡ false
+    other_first r is other = other_components r.components.now (rule_some r is) other
 
-pub past_is_dropped : (rows : List Substitution) (n : ℕ) (l : List ℕ)
-    → substituted_past rows n l ≡ substituted rows (drop n l)
-past_is_dropped rows zero l = refl
-past_is_dropped rows (suc n) [] = refl
-past_is_dropped rows (suc n) (g ∷ l) = past_is_dropped rows n l
+    pub search_is_whole : (start count : ℕ) → start ≤ length rows
+        → ((k : ℕ) (d : Substitution) → 0 ≤ k → k < start → ltb (first_of (get_or rows k d)) first ≡ true)
+        → ((k : ℕ) (d : Substitution) → count ≤ k → k < length (drop start rows)
+        → eqb (first_of (get_or (drop start rows) k d)) first ≡ false)
+        → find fits rows ≡ find fits (take count (drop start rows))
+    search_is_whole start count within before after =
+        find_from fits rows start within
+        (λ k d less. other_first (get_or rows k d) (each_holds is_rule rows (both _ _ up).0 k d (omega arith))
+        (λ same. let t = before k d (omega arith) less in absurd (grind (arith, nat_tests))))
+        ∙ find_up_to fits (drop start rows) count
+        (λ k d more less.
+        let a = get_or-drop start rows k d in
+        let len = length-drop start rows in
+        let is : is_rule (get_or (drop start rows) k d) ≡ true = ap is_rule a
+        ∙ each_holds is_rule rows (both _ _ up).0 (start + k) d (omega arith) in
+        other_first (get_or (drop start rows) k d) is
+        (λ same. let t = after k d more less in absurd (grind (arith, nat_tests))))
 
-pub substituted_first : (rows : List Substitution) (l : List ℕ) → 0 < length l
-    → substituted rows l ≡ substitutes_of (rule_at l rows) (get_or l 0 0)
-    ++ substituted rows (drop (suc (more_taken (rule_at l rows))) l)
-substituted_first rows [] some = absurd (omega arith)
-substituted_first rows (g ∷ l) some =
-    ap (λ t. substitutes_of (rule_at (g ∷ l) rows) g ++ t) (past_is_dropped rows (more_taken (rule_at (g ∷ l) rows)) l)
+-- the rule at a glyph that is not passed over
+pub rule_is_first : (t : Rules) (l : List Item) → 0 < length l → passes_over t (first_item l) ≡ false
+    → rule_at t l ≡ find (λ r. is_some (span_of t r.components.now l)) t.rows
+rule_is_first t [] some over = absurd (omega arith)
+rule_is_first t (g ∷ l) some over = cond-false (passes_over t g) _ _ over
 
-pub rules_past_dropped : (rows : List Substitution) (n : ℕ) (l : List ℕ) → rules_past rows n l ≡ rules_along rows (drop n l)
-rules_past_dropped rows zero l = refl
-rules_past_dropped rows (suc n) [] = refl
-rules_past_dropped rows (suc n) (g ∷ l) = rules_past_dropped rows n l
+pub none_over : (t : Rules) (l : List Item) → 0 < length l → passes_over t (first_item l) ≡ true → rule_at t l ≡ None
+none_over t [] some over = absurd (omega arith)
+none_over t (g ∷ l) some over = cond-true (passes_over t g) _ _ over
 
-pub rules_first : (rows : List Substitution) (l : List ℕ) → 0 < length l
-    → rules_along rows l ≡ rule_at l rows ∷ rules_along rows (drop (suc (more_taken (rule_at l rows))) l)
-rules_first rows [] some = absurd (omega arith)
-rules_first rows (g ∷ l) some =
-    ap (λ t. rule_at (g ∷ l) rows ∷ t) (rules_past_dropped rows (more_taken (rule_at (g ∷ l) rows)) l)
+-- ---- how long a span is
 
--- what is found for the first glyph of a list
-pub if_found : (rows : List Substitution) (l : List ℕ) (result : Option Substitution) → is_lookup rows ≡ true
-    → result ≡ rule_at l rows
-    → IfSome result (λ r. 0 < length r.components.now) × IfSome result (λ r. length r.components.now ≤ length l)
-if_found rows l None up is = (search rules, search rules)
-if_found rows l (Some r) up is = let f = rule_fits rows l r up (sym is) in (f.0, f.1)
+pub suc_of : (o : Option ℕ) (n : ℕ) → option_map (λ k. suc k) o ≡ Some n → (m : ℕ) × (o ≡ Some m) × (n ≡ suc m)
+suc_of None n e = cc
+suc_of (Some m) n e = (m, refl, cc)
+
+module _ (t : Rules) where
+  pub span_bounds : (cs : List ℕ) (l : List Item) (n : ℕ) → span_of t cs l ≡ Some n
+      → (n ≤ length l) × (length cs ≤ n)
+  span_bounds [] l n e = let z : 0 ≡ n = cc in (omega arith, omega arith)
+  span_bounds (c ∷ cs) [] n e = cc
+  span_bounds (c ∷ cs) (g ∷ l) n e =
+      at (passes_over t g) (eqb c g.0) e (λ m k. span_bounds (c ∷ cs) l m k) (λ m k. span_bounds cs l m k) where
+        at : (over same : Bool)
+            → option_map (λ k. suc k) (cond over (span_of t (c ∷ cs) l) (cond same (span_of t cs l) None)) ≡ Some n
+            → ((m : ℕ) → span_of t (c ∷ cs) l ≡ Some m → (m ≤ length l) × (suc (length cs) ≤ m))
+            → ((m : ℕ) → span_of t cs l ≡ Some m → (m ≤ length l) × (length cs ≤ m))
+            → (n ≤ suc (length l)) × (suc (length cs) ≤ n)
+        at true same e stay on =
+            let m = suc_of (span_of t (c ∷ cs) l) n e in
+            let b = stay m.0 m.1 in (omega (arith, m.2, b.0), omega (arith, m.2, b.1))
+        at false true e stay on =
+            let m = suc_of (span_of t cs l) n e in
+            let b = on m.0 m.1 in (omega (arith, m.2, b.0), omega (arith, m.2, b.1))
+        at false false e stay on = cc
+
+  pub span_plain : (cs : List ℕ) (l : List Item) (n : ℕ) → t.skips_marks ≡ false → span_of t cs l ≡ Some n → n ≡ length cs
+  span_plain [] l n plain e = cc
+  span_plain (c ∷ cs) [] n plain e = cc
+  span_plain (c ∷ cs) (x ∷ l) n plain e =
+      at (passes_over t x) (eqb c x.0) (ap (λ b. b && x.1) plain) e (λ m k. span_plain cs l m plain k) where
+        at : (over same : Bool) → over ≡ false
+            → option_map (λ k. suc k) (cond over (span_of t (c ∷ cs) l) (cond same (span_of t cs l) None)) ≡ Some n
+            → ((m : ℕ) → span_of t cs l ≡ Some m → m ≡ length cs) → n ≡ suc (length cs)
+        at true same is e on = cc
+        at false true is e on =
+            let m = suc_of (span_of t cs l) n e in let b = on m.0 m.1 in omega (arith, m.2, b)
+        at false false is e on = cc
+
+  one_alone : (c : ℕ) (l : List Item) (n : ℕ) → 0 < length l → passes_over t (first_item l) ≡ false
+      → span_of t (c ∷ []) l ≡ Some n → n ≡ 1
+  one_alone c [] n some over e = absurd (omega arith)
+  one_alone c (x ∷ l) n some over e = at (passes_over t x) (eqb c x.0) over e where
+    at : (over same : Bool) → over ≡ false
+        → option_map (λ k. suc k) (cond over (span_of t (c ∷ []) l) (cond same (Some 0) None)) ≡ Some n → n ≡ 1
+    at true same is e = cc
+    at false true is e = let m = suc_of (Some 0) n e in let z : 0 ≡ m.0 = cc (m.1) in omega (arith, m.2, z)
+    at false false is e = cc
+
+  test_true : (n m : ℕ) → (eqb (suc (suc n)) 1 || (ltb 1 (suc (suc n)) && eqb m 1)) ≡ true → m ≡ 1
+  test_true n m e = grind (arith, nat_tests)
+
+  -- a rule with marks between its components is a ligature
+  pub ligature : (r : Substitution) (l : List Item) (n : ℕ) → is_rule r ≡ true → 0 < length l
+      → passes_over t (first_item l) ≡ false → span_of t r.components.now l ≡ Some n
+      → (n ≡ length r.components.now → ⊥) → length r.substitutes.now ≡ 1
+  ligature r l n is some over e apart = at r.components.now is e apart where
+    at : (cs : List ℕ) → (eqb (length cs) 1 || (ltb 1 (length cs) && eqb (length r.substitutes.now) 1)) ≡ true
+        → span_of t cs l ≡ Some n → (n ≡ length cs → ⊥) → length r.substitutes.now ≡ 1
+    at [] is e apart = cc
+    at (c ∷ []) is e apart = absurd (apart (one_alone c l n some over e))
+    at (c ∷ (c2 ∷ cs)) is e apart = test_true (length cs) (length r.substitutes.now) is
+
+  -- what is found
+  pub fit_of : (l : List Item) (result : Option (Substitution × ℕ)) → is_lookup t.rows ≡ true → 0 < length l
+      → passes_over t (first_item l) ≡ false → option_map (λ f. f.0) result ≡ rule_at t l
+      → IfSome result (λ f. span_of t f.0.components.now l ≡ Some f.1) → IfSome result (λ f. IsFit t f.0 f.1 l)
+  fit_of l None up some over is span = search rules
+  fit_of l (Some f) up some over is span =
+      let found : rule_at t l ≡ Some f.0 = sym is in
+      let rule = found_holds (λ r. is_some (span_of t r.components.now l)) is_rule t.rows f.0 (both _ _ up).0
+      (sym (rule_is_first t l some over) ∙ found) in
+      let b = span_bounds f.0.components.now l f.1 span in
+      record {
+        read = over;
+        found = found;
+        span = span;
+        some = rule_some f.0 rule;
+        within = b.0;
+        longer = b.1;
+        ligature = ligature f.0 l f.1 rule some over span;
+        skips = λ apart. by_test t.skips_marks refl apart;
+      } where
+        by_test : (b : Bool) → t.skips_marks ≡ b → (f.1 ≡ length f.0.components.now → ⊥) → t.skips_marks ≡ true
+        by_test true e apart = e
+        by_test false e apart = absurd (apart (span_plain f.0.components.now l f.1 e span))

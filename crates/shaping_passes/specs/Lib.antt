@@ -8,3 +8,5 @@ pub mod Kerning
 pub mod Seams
 pub mod Ignorables
 pub mod Substitution
+pub mod SubstitutionCalls
+pub mod Lines

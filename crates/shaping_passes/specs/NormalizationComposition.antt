@@ -1,9 +1,11 @@
 -- The canonical composition of a text, after the Unicode Standard Annex 15: each character that is not blocked is tried
 -- with the last starter before it.
+use Rattle.std.proofs.Common.{zero, suc}
 use Rattle.std.specs.Prelude.{◌≡◌, ℕ, ◌+◌, ◌-◌, ◌<◌, ◌≤◌, ◌==◌, ◌&&◌, Bool, true, false, List, [], ◌∷◌, ◌++◌, length}
-use Rattle.std.specs.Prelude.{take, drop, slice_index_or, nat_lt, nat_le, Option, Some, None, if◌then◌else◌}
+use Rattle.std.specs.Prelude.{take, drop, slice_index_or, slice_set, nat_lt, nat_le, Option, Some, None, if◌then◌else◌}
 use Rattle.rb_glyph.specs.declared.info.hb_glyph_info_t.{hb_glyph_info_t}
-use Rattle.glyph_lists.specs.Clusters.{zero_glyph}
+use Rattle.glyph_lists.specs.Clusters.{zero_glyph, run_merge}
+use Rattle.glyph_lists.specs.Parts.{part}
 use Rattle.shaping_buffer.specs.State.{State}
 use Rattle.shaping_buffer.specs.Step.{with_id}
 use Rattle.shaping_passes.specs.NormalizationParts.{composed_of}
@@ -38,6 +40,37 @@ unfoldable pub composed : List ((ℕ × ℕ) × ℕ) → List (ℕ × ℕ) → L
 composed pairs classes [] = []
 composed pairs classes (g ∷ l) =
     if class_at classes g == 0 then composed_from pairs classes g [] l else g ∷ composed pairs classes l
+
+-- ---- with its clusters
+
+-- Two characters are composed, the starter at this place and the one at place n: the clusters from one to the other are
+-- merged, except in any order of clusters. Then the starter has the new id, and the other is gone.
+abbrev pub pair_composed : Bool → ℕ → ℕ → ℕ → List hb_glyph_info_t → List hb_glyph_info_t
+pair_composed any_order starter n id l =
+    let merged = if any_order then l else run_merge l starter (n + 1) 0 in
+    slice_set (take n merged) starter (with_id id (slice_index_or merged starter zero_glyph)) ++ drop (n + 1) merged
+
+-- the last starter, once the character at place n was read and stays
+abbrev pub starter_behind : List (ℕ × ℕ) → Option ℕ → ℕ → List hb_glyph_info_t → Option ℕ
+starter_behind classes starter n l =
+    if class_at classes (slice_index_or l n zero_glyph) == 0 then Some n else starter
+
+-- The characters with their clusters, where those from place n on are left, so many of them, and the last starter before
+-- them, if any, stands at this place.
+unfoldable pub composed_at : Bool → List ((ℕ × ℕ) × ℕ) → List (ℕ × ℕ) → Option ℕ → ℕ → ℕ → List hb_glyph_info_t
+    → List hb_glyph_info_t
+composed_at any_order pairs classes starter n zero l = l
+composed_at any_order pairs classes None n (suc more) l =
+    composed_at any_order pairs classes (starter_behind classes None n l) (n + 1) more l
+composed_at any_order pairs classes (Some at) n (suc more) l =
+    elim (pair_of pairs classes (slice_index_or l at zero_glyph) (part l (at + 1) n) (slice_index_or l n zero_glyph)) [
+      | Some id ↦ composed_at any_order pairs classes (Some at) n more (pair_composed any_order at n id l)
+      | None ↦ composed_at any_order pairs classes (starter_behind classes (Some at) n l) (n + 1) more l
+    ]
+
+-- the text with its clusters
+abbrev pub composed_glyphs : Bool → List ((ℕ × ℕ) × ℕ) → List (ℕ × ℕ) → List hb_glyph_info_t → List hb_glyph_info_t
+composed_glyphs any_order pairs classes l = composed_at any_order pairs classes None 0 (length l) l
 
 -- ---- on a buffer
 

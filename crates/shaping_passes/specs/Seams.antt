@@ -1,5 +1,5 @@
 -- Seams: where a text may be cut.
-use Rattle.std.specs.Prelude.{ℕ, ◌-◌, ◌==◌, ◌&&◌, Bool, not, nat_lt, List, slice_index_or, if◌then◌else◌}
+use Rattle.std.specs.Prelude.{◌≡◌, ◌≤◌, ℕ, ◌-◌, ◌==◌, ◌&&◌, Bool, not, nat_lt, List, slice_index_or, if◌then◌else◌}
 use Rattle.rb_glyph.specs.declared.info.hb_glyph_info_t.{hb_glyph_info_t}
 use Rattle.rb_glyph.specs.Fields.{field}
 use Rattle.glyph_lists.specs.Clusters.{zero_glyph}
@@ -21,3 +21,10 @@ may_be_parted g h =
 -- a text may be cut before the glyph at this place
 abbrev pub may_be_cut : List hb_glyph_info_t → ℕ → Bool
 may_be_cut l k = may_be_parted (glyph_at l (k - 1)) (glyph_at l k)
+
+-- neighbours whose clusters rise are parted by the flag of the second, and those whose clusters fall by that of the first
+pub record CutsAreSimple : Type 0 where
+  pub rising : (g h : hb_glyph_info_t) → g.cluster ≤ h.cluster
+      → may_be_parted g h ≡ (not (g.cluster == h.cluster) && not (is_unsafe h))
+  pub falling : (g h : hb_glyph_info_t) → h.cluster ≤ g.cluster
+      → may_be_parted g h ≡ (not (g.cluster == h.cluster) && not (is_unsafe g))

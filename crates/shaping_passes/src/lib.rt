@@ -2,11 +2,13 @@
 #![tactic(auto)]
 
 pub use kerning::{KerningTable, kern};
+pub use lines::line_ends;
 pub use normalization::{compose_marks, decompose_all, order_marks};
-pub use substitution::{Lookup, Substitution, substitute};
+pub use substitution::{Lookup, Substitution, substitute, substitute_next};
 pub use visible::hide_default_ignorables;
 
 pub mod kerning;
+pub mod lines;
 pub mod normalization;
 mod rows;
 pub mod substitution;

@@ -7,7 +7,8 @@ ghost use Rattle.shaping_buffer.specs.ClusterStep.{any_order, both, head_of};
 ghost use Rattle.shaping_buffer.specs.State.{lookahead_len};
 ghost use Rattle.shaping_buffer.specs.Step.{with_id};
 ghost use Rattle.shaping_passes.specs.NormalizationGlyphs.{core, cores};
-ghost use Rattle.shaping_passes.specs.NormalizationComposition.{composed, so_far, pair_of, IsReady, IsPlace, kept_one};
+ghost use Rattle.shaping_passes.specs.NormalizationComposition.{composed, composed_at, composed_glyphs, pair_composed};
+ghost use Rattle.shaping_passes.specs.NormalizationComposition.{so_far, pair_of, IsReady, IsPlace, kept_one};
 ghost use Rattle.shaping_passes.specs.NormalizationDecomposition.{closed_over};
 ghost use Rattle.shaping_passes.specs.NormalizationOrder.{class_at};
 
@@ -31,6 +32,8 @@ pub fn compose_marks(
     ensures refused { buffer.old.successful ≡ false → buffer.new ≡ buffer.old }
     ensures composed { buffer.old.successful ≡ true → cores buffer.new.input
         ≡ composed compositions.now classes.now (cores buffer.old.input) }
+    ensures glyphs { buffer.old.successful ≡ true → buffer.new.input
+        ≡ composed_glyphs (any_order buffer.old) compositions.now classes.now buffer.old.input }
     ensures merges { any_order buffer.old ≡ false → IsCoarse buffer.old.input
         → IsCoarse buffer.new.input }
     ensures others { buffer.old.successful ≡ true
@@ -63,6 +66,10 @@ fn next_turn(
     ensures place { IsPlace result buffer.new }
     ensures same { so_far compositions.now classes.now result (cores buffer.new.out) (cores buffer.new.input)
         ≡ so_far compositions.now classes.now starter (cores buffer.old.out) (cores buffer.old.input) }
+    ensures glyphs { composed_at (any_order buffer.old) compositions.now classes.now result (length buffer.new.out)
+        (length buffer.new.input) (both buffer.new)
+        ≡ composed_at (any_order buffer.old) compositions.now classes.now starter (length buffer.old.out)
+        (length buffer.old.input) (both buffer.old) }
     ensures merges { any_order buffer.old ≡ false → IsCoarse (both buffer.old)
         → IsCoarse (both buffer.new) }
     ensures others { buffer.new ≡ record buffer.old {
@@ -133,6 +140,8 @@ fn compose_pair(buffer: &mut hb_buffer_t, at: usize, id: u32)
     ensures out { cores buffer.new.out ≡ slice_set (cores buffer.old.out) at
         (with_id id (slice_index_or (cores buffer.old.out) at zero_glyph)) }
     ensures input { cores buffer.new.input ≡ drop 1 (cores buffer.old.input) }
+    ensures glyphs { both buffer.new
+        ≡ pair_composed (any_order buffer.old) at (length buffer.old.out) id (both buffer.old) }
     ensures merges { any_order buffer.old ≡ false → IsCoarse (both buffer.old)
         → IsCoarse (both buffer.new) }
     ensures others { buffer.new ≡ record buffer.old {

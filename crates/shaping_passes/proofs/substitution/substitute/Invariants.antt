@@ -1,13 +1,17 @@
-use Rattle.std.proofs.Common.{◌≡◌, length}
+use Rattle.std.proofs.Common.{[], length}
 use Rattle.shaping_buffer.specs.Step.{clear_output}
-use Rattle.shaping_passes.specs.Substitution.{IsOnItsWay, use_along}
+use Rattle.shaping_passes.specs.Substitution.{items}
+use Rattle.shaping_passes.specs.SubstitutionCalls.{IsOnItsWay, calls_along}
+use Rattle.shaping_passes.proofs.SubstitutionCallsLemmas.{IsReached}
 use Rattle.shaping_passes.proofs.substitution.substitute.Given as goal
 
--- the rules that are left give what all of them give
+-- some turns were made, and the calls along what is left are left
 abbrev pub invariant-loop-buffer : goal.invariant-loop-buffer
-invariant-loop-buffer l =
-    IsOnItsWay l.lookup l.initial.buffer l.buffer
-    × (use_along l.lookup l.buffer ≡ use_along l.lookup (clear_output l.initial.buffer))
+invariant-loop-buffer l = record {
+  way : IsOnItsWay l.lookup [] 0 l.fn.buffer l.buffer;
+  reached : IsReached (calls_along l.lookup (items l.fn.buffer.input)) (calls_along l.lookup (items l.buffer.input))
+      (clear_output l.fn.buffer) l.buffer;
+}
 
 abbrev pub decreases-loop-buffer : goal.decreases-loop-buffer
 decreases-loop-buffer l = length l.buffer.input

@@ -1,26 +1,22 @@
-use Rattle.std.proofs.Common.{◌≡◌, ◌∙◌, length, sym, ap, arith, Some}
-use Rattle.shaping_passes.specs.Substitution.{ids, rule_at}
-use Rattle.shaping_passes.proofs.SubstitutionLemmas.{length-ids}
-use Rattle.shaping_passes.proofs.SubstitutionStepLemmas.{turn_answers, rule_steps, left_answers}
+use Rattle.std.proofs.Common.{◌≡◌, ◌<◌, ◌∙◌, ◌++◌, drop, length, sym, subst, arith}
+use Rattle.shaping_passes.specs.Substitution.{items, IsFit, substituted}
+use Rattle.shaping_passes.proofs.SubstitutionLemmas.{length-items}
+use Rattle.shaping_passes.proofs.SubstitutionTurnLemmas.{put_turns, becomes_plain, taken_is}
 use Rattle.shaping_passes.proofs.substitution.substitute_next.Goals as goal
 
-found : (c : goal.After-replace_by) → rule_at (ids c.args.buffer.now.input) c.args.lookup.now ≡ Some c.in-Some.rule
-found c =
-    ap (λ l. rule_at (ids l) c.args.lookup.now) (sym c.info.ensures) ∙ sym c.in-Some.ensures.is
-
-pub returns-clause-turn : goal.returns-clause-turn
-returns-clause-turn c =
+pub returns-then-span-rule-clause-glyphs : goal.returns-then-span-rule-clause-glyphs
+returns-then-span-rule-clause-glyphs c =
     let s = c.args.buffer.now in
+    let t = c.args.lookup.now in
     let r = c.in-Some.rule in
-    turn_answers c.args.lookup.now r.substitutes.now (length r.components.now) s c.replace_by.new.buffer
-    c.replace_by.result c.requires.opened c.in-Some.ensures.some c.requires.glyph
-    (rule_steps c.args.lookup.now (ids s.input) r (omega (arith, length-ids s.input, c.requires.glyph)) (found c)
-    c.in-Some.ensures.some)
+    let n = c.in-Some.span in
+    let l = items s.input in
+    let some : 0 < length l = omega (arith, length-items s.input, c.requires.glyph) in
+    let fit = subst (λ x. IsFit t r n (items x)) c.info.ensures c.in-Some.ensures.fit in
+    let same = c.if-span-rule.true in
+    put_turns t r.substitutes.now (length r.components.now) _ s c.replace_by.new.buffer c.replace_by.result
+    c.requires.opened fit.some
+    (subst (λ k. substituted t l ≡ r.substitutes.now ++ substituted t (drop k l)) same
+    (becomes_plain t l r n fit some same))
     c.replace_by.ensures.put
-
-pub returns-clause-left : goal.returns-clause-left
-returns-clause-left c =
-    let r = c.in-Some.rule in
-    left_answers c.args.lookup.now (Some r) r.substitutes.now (length r.components.now) c.args.buffer.now
-    c.replace_by.new.buffer c.replace_by.result c.requires.glyph (found c) (omega (arith, c.in-Some.ensures.some))
-    c.replace_by.ensures.step c.replace_by.ensures.put
+    (sym same ∙ sym (taken_is t l r n fit some))

@@ -2,7 +2,7 @@ use Rattle.std.proofs.Common.{◌≡◌, ◌+◌, ◌-◌, length, ap, ◌∙◌
 use Rattle.std.proofs.lemmas.Bool.{cond-true, cond-false}
 use Rattle.shaping_buffer.specs.State.{State, len, lookahead_len}
 use Rattle.shaping_passes.specs.NormalizationGlyphs.{cores}
-use Rattle.shaping_passes.proofs.NormalizationCompositionLemmas.{turns_begun, last_state, last_cores}
+use Rattle.shaping_passes.proofs.NormalizationCompositionLemmas.{turns_begun, last_state, last_cores, last_glyphs}
 use Rattle.shaping_passes.proofs.normalization.composition.compose_marks.Goals as goal
 
 pub loop-starter-init : goal.loop-starter-init
@@ -23,3 +23,15 @@ returns-clause-composed c = λ _.
     (last_state c.args.compositions.now c.args.classes.now s t c.loop-starter.starter k none c.sync.result c.sync.new.self
     c.sync.ensures.meets)
     ∙ last_cores c.args.compositions.now c.args.classes.now s t c.loop-starter.starter k none
+
+pub returns-clause-glyphs : goal.returns-clause-glyphs
+returns-clause-glyphs c = λ _.
+    let s = c.args.buffer.now in
+    let t = c.loop-starter.buffer in
+    let k = c.loop-starter.invariant in
+    let e : lookahead_len t ≡ t.idx + length t.input - t.idx = ap (λ n. n - t.idx) (cond-true _ _ _ k.ready.opened) in
+    let none : length t.input ≡ 0 = omega (arith, e, c.lookahead_len.ensures) in
+    ap (λ (x : State). x.input)
+    (last_state c.args.compositions.now c.args.classes.now s t c.loop-starter.starter k none c.sync.result c.sync.new.self
+    c.sync.ensures.meets)
+    ∙ last_glyphs c.args.compositions.now c.args.classes.now s t c.loop-starter.starter k none

@@ -5,9 +5,9 @@ use Rattle.shaping_buffer.specs.State.{State}
 use Rattle.shaping_buffer.specs.ClusterStep.{both}
 use Rattle.shaping_buffer.specs.Step.{with_id}
 use Rattle.shaping_passes.specs.NormalizationGlyphs.{cores}
-use Rattle.shaping_passes.proofs.NormalizationCompositionLemmas.{merged, two_is, end_is, three_is, four_is, left_back}
-use Rattle.shaping_passes.proofs.NormalizationCompositionLemmas.{goes_back, out_left, out_cores, input_cores}
-use Rattle.shaping_passes.proofs.NormalizationCompositionLemmas.{coarse_pair, coarse_renamed, renamed_cores, framed}
+use Rattle.shaping_passes.proofs.NormalizationPairLemmas.{merged, two_is, end_is, three_is, four_is, left_back}
+use Rattle.shaping_passes.proofs.NormalizationPairLemmas.{goes_back, out_left, out_cores, input_cores, coarse_pair}
+use Rattle.shaping_passes.proofs.NormalizationPairLemmas.{coarse_renamed, renamed_cores, framed, both_pair}
 use Rattle.shaping_passes.proofs.normalization.composition.compose_pair.Goals as goal
 
 pub move_to-requires : goal.move_to-requires
@@ -116,3 +116,17 @@ returns-clause-others c =
     framed s c.set_id.new.buffer _ _
     (c.set_id.ensures
     ∙ ap (λ (t : State). record t { out = set t.out at (with_id c.args.id (get_or t.out at zero_glyph)) }) is)
+
+pub returns-clause-glyphs : goal.returns-clause-glyphs
+returns-clause-glyphs c =
+    let s = c.args.buffer.now in
+    let ready = c.requires.ready in
+    let some = c.requires.some in
+    let at = c.args.at in
+    let place = c.requires.place in
+    let is = four_is s ready some at place c.out_len-end.result c.keep_one.new.buffer c.merge_out_clusters.new.self
+    c.move_to.new.self c.skip_glyph.new.self c.move_to.result c.keep_one.ensures c.out_len-end.ensures.out_len
+    c.merge_out_clusters.ensures c.move_to.ensures.meets c.skip_glyph.ensures in
+    ap both c.set_id.ensures
+    ∙ ap (λ (t : State). set t.out at (with_id c.args.id (get_or t.out at zero_glyph)) ++ t.input) is
+    ∙ both_pair s ready some at place c.args.id

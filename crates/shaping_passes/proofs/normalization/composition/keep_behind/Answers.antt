@@ -2,7 +2,7 @@ use Rattle.std.proofs.Common.{◌≡◌, Some, sym, ap, ◌∙◌}
 use Rattle.std.proofs.lemmas.Bool.{cond-true, cond-false, eq-eqb, ne_eqb}
 use Rattle.shaping_buffer.specs.ClusterStep.{head_of}
 use Rattle.shaping_passes.specs.NormalizationOrder.{class_at}
-use Rattle.shaping_passes.proofs.NormalizationCompositionLemmas.{head_now}
+use Rattle.shaping_passes.proofs.NormalizationPairLemmas.{head_now}
 use Rattle.shaping_passes.proofs.normalization.composition.keep_behind.Goals as goal
 
 pub returns-then-class-eq0-clause-starter : goal.returns-then-class-eq0-clause-starter

@@ -1,4 +1,4 @@
-use Rattle.shaping_passes.proofs.NormalizationCompositionLemmas.{kept}
+use Rattle.shaping_passes.proofs.NormalizationPairLemmas.{kept}
 use Rattle.shaping_passes.proofs.normalization.composition.keep_one.Goals as goal
 
 pub returns : goal.returns

@@ -1,15 +1,16 @@
-use Rattle.std.proofs.Common.{ℕ, ◌+◌, ◌<◌, List, length, get_or, drop, set, cond, eqb, Option, Some, None, sym, ap, ◌∙◌}
-use Rattle.std.proofs.Common.{subst, arith}
+use Rattle.std.proofs.Common.{◌≡◌, ℕ, ◌+◌, ◌-◌, ◌<◌, List, length, get_or, drop, set, cond, eqb, Option, Some, None, sym, ap, ◌∙◌}
+use Rattle.std.proofs.Common.{subst, arith, length-drop, length-set}
 use Rattle.std.proofs.lemmas.List.{length-map}
 use Rattle.rb_glyph.specs.declared.info.hb_glyph_info_t.{hb_glyph_info_t}
 use Rattle.glyph_lists.specs.Clusters.{zero_glyph}
 use Rattle.shaping_buffer.specs.State.{State}
-use Rattle.shaping_buffer.specs.ClusterStep.{head_of}
+use Rattle.shaping_buffer.specs.ClusterStep.{any_order, both, head_of}
 use Rattle.shaping_buffer.specs.Step.{with_id}
 use Rattle.shaping_passes.specs.NormalizationGlyphs.{core, cores}
 use Rattle.shaping_passes.specs.NormalizationOrder.{class_at}
-use Rattle.shaping_passes.specs.NormalizationComposition.{so_far, pair_of, IsPlace}
+use Rattle.shaping_passes.specs.NormalizationComposition.{so_far, pair_of, composed_at, IsPlace}
 use Rattle.shaping_passes.proofs.NormalizationCompositionLemmas.{paired, head_core, kept_behind, kept_first}
+use Rattle.shaping_passes.proofs.NormalizationMergesLemmas.{glyphs_paired, glyphs_kept, glyphs_first}
 use Rattle.shaping_passes.proofs.normalization.composition.next_turn.Goals as goal
 
 pub returns-in-Some-pair_at-clause-same : goal.returns-in-Some-pair_at-clause-same
@@ -60,3 +61,64 @@ returns-in-None-clause-same c =
     c.keep_behind-in-None.ensures.kept
     ∙ kept_first pairs classes s c.requires.some
     ∙ ap (λ (o : Option ℕ). so_far pairs classes o (cores s.out) (cores s.input)) (sym c.in-None.is)
+
+pub returns-in-Some-pair_at-clause-glyphs : goal.returns-in-Some-pair_at-clause-glyphs
+returns-in-Some-pair_at-clause-glyphs c =
+    let s = c.args.buffer.now in
+    let new = c.compose_pair.new.buffer in
+    let pairs = c.args.compositions.now in
+    let classes = c.args.classes.now in
+    let at = c.in-Some.at in
+    let id = c.in-Some-pair_at.id in
+    let out = cores s.out in
+    let place : at < length s.out = subst (λ (o : Option ℕ). IsPlace o s) c.in-Some.is c.requires.place in
+    let out_long : length new.out ≡ length s.out = omega (
+      arith,
+      ap length c.compose_pair.ensures.out,
+      length-map new.out core,
+      length-map s.out core,
+      length-set out at (with_id id (get_or out at zero_glyph)),
+    ) in
+    let in_long : length new.input ≡ length s.input - 1 = omega (
+      arith,
+      ap length c.compose_pair.ensures.input,
+      length-map new.input core,
+      length-map s.input core,
+      length-drop 1 (cores s.input),
+    ) in
+    glyphs_paired pairs classes (any_order s) s c.requires.some at place id new (sym c.in-Some-pair_at.ensures) out_long in_long
+    c.compose_pair.ensures.glyphs
+    ∙ ap (λ (o : Option ℕ). composed_at (any_order s) pairs classes o (length s.out) (length s.input) (both s))
+    (sym c.in-Some.is)
+
+pub returns-in-None-pair_at-clause-glyphs : goal.returns-in-None-pair_at-clause-glyphs
+returns-in-None-pair_at-clause-glyphs c =
+    let s = c.args.buffer.now in
+    let new = c.keep_behind.new.buffer in
+    let pairs = c.args.compositions.now in
+    let classes = c.args.classes.now in
+    let at = c.in-Some.at in
+    let any = any_order s in
+    let place : at < length s.out = subst (λ (o : Option ℕ). IsPlace o s) c.in-Some.is c.requires.place in
+    ap (λ (o : Option ℕ). composed_at any pairs classes o (length new.out) (length new.input) (both new))
+    c.keep_behind.ensures.starter
+    ∙ ap (λ (t : State). composed_at any pairs classes
+    (cond (eqb (class_at classes (head_of s)) 0) (Some (length s.out)) (Some at)) (length t.out) (length t.input) (both t))
+    c.keep_behind.ensures.kept
+    ∙ glyphs_kept pairs classes any s c.requires.some at place (sym c.in-None-pair_at.ensures)
+    ∙ ap (λ (o : Option ℕ). composed_at any pairs classes o (length s.out) (length s.input) (both s)) (sym c.in-Some.is)
+
+pub returns-in-None-clause-glyphs : goal.returns-in-None-clause-glyphs
+returns-in-None-clause-glyphs c =
+    let s = c.args.buffer.now in
+    let new = c.keep_behind-in-None.new.buffer in
+    let pairs = c.args.compositions.now in
+    let classes = c.args.classes.now in
+    let any = any_order s in
+    ap (λ (o : Option ℕ). composed_at any pairs classes o (length new.out) (length new.input) (both new))
+    c.keep_behind-in-None.ensures.starter
+    ∙ ap (λ (t : State). composed_at any pairs classes
+    (cond (eqb (class_at classes (head_of s)) 0) (Some (length s.out)) None) (length t.out) (length t.input) (both t))
+    c.keep_behind-in-None.ensures.kept
+    ∙ glyphs_first pairs classes any s c.requires.some
+    ∙ ap (λ (o : Option ℕ). composed_at any pairs classes o (length s.out) (length s.input) (both s)) (sym c.in-None.is)

@@ -4,7 +4,8 @@ use Rattle.glyph_lists.specs.Clusters.{zero_glyph}
 use Rattle.shaping_buffer.specs.ClusterStep.{head_of}
 use Rattle.shaping_passes.specs.NormalizationParts.{composed_of}
 use Rattle.shaping_passes.specs.NormalizationOrder.{class_at}
-use Rattle.shaping_passes.proofs.NormalizationCompositionLemmas.{head_now, pair_blocked, pair_next, pair_low}
+use Rattle.shaping_passes.proofs.NormalizationPairLemmas.{head_now}
+use Rattle.shaping_passes.proofs.NormalizationCompositionLemmas.{pair_blocked, pair_next, pair_low}
 use Rattle.shaping_passes.proofs.normalization.composition.pair_at.Goals as goal
 use Rattle.shaping_passes.proofs.normalization.composition.pair_at.Goals.{else-at-last-via-then-at-last+else-class_of}
 use Rattle.shaping_passes.proofs.normalization.composition.pair_at.Goals.{else-at-last-via-else-at-last}

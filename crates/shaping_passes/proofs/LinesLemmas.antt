@@ -1,0 +1,308 @@
+-- The lines of a text, from a place on.
+use Rattle.std.proofs.Common.{◌≡◌, ℕ, zero, suc, ◌+◌, ◌-◌, ◌*◌, ◌<◌, ◌≤◌, Bool, true, false, List, [], ◌∷◌, ◌++◌, ◌&&◌}
+use Rattle.std.proofs.Common.{length, take, drop, get_or, cond, ltb, refl, sym, ap, ◌∙◌, subst, arith}
+use Rattle.std.proofs.lemmas.Bool.{cond_both, cond-true, cond-false}
+use Rattle.std.proofs.lemmas.Bool.Decides.{nat_tests}
+use Rattle.std.proofs.Common.{w32, to_z, of_z, ◌^◌}
+use Rattle.std.specs.Int.{w128}
+use Rattle.std.specs.Prelude.{ℤ, pos, negsuc, ◌+ℤ◌, nat_abs, FitsSigned, if◌then◌else◌}
+use Rattle.std.proofs.lemmas.Int.{ints, to_z-of_z}
+use Rattle.std.proofs.lemmas.List.{drop_more, drop-drop, append_assoc}
+use Rattle.std.proofs.Math.Seq.{take-add}
+use Rattle.std.specs.List.{list_all}
+use Rattle.rb_glyph.specs.Rows.{rise}
+use Rattle.rb_glyph.proofs.Bisection.{both}
+use Rattle.rb_glyph.specs.declared.info.hb_glyph_info_t.{hb_glyph_info_t}
+use Rattle.rb_glyph.specs.declared.position.GlyphPosition.{GlyphPosition}
+use Rattle.shaping_buffer.specs.Positions.{zero_position}
+use Rattle.shaping_passes.specs.Lines.{may_end, ends_from, all_ends, advance_of, width_of, is_within, widths_after}
+use Rattle.shaping_passes.specs.Lines.{lines_from, line_ends}
+
+-- ---- widths
+
+add_assoc : (a b c : ℤ) → (a +ℤ b) +ℤ c ≡ a +ℤ (b +ℤ c)
+add_assoc a b c = omega (arith, ints)
+
+advance-append : (xs ys : List GlyphPosition) → advance_of (xs ++ ys) ≡ advance_of xs +ℤ advance_of ys
+advance-append [] ys = omega (arith, ints)
+advance-append (p ∷ xs) ys =
+    ap (λ z. p.x_advance +ℤ z) (advance-append xs ys) ∙ sym (add_assoc p.x_advance (advance_of xs) (advance_of ys))
+
+-- two parts of a line, one after the other
+pub width-parts : (ps : List GlyphPosition) (a b c : ℕ) → a ≤ b → b ≤ c
+    → width_of ps a b +ℤ width_of ps b c ≡ width_of ps a c
+width-parts ps a b c ab bc =
+    let n : a + (b - a) ≡ b = omega arith in
+    let m : (b - a) + (c - b) ≡ c - a = omega arith in
+    sym (ap (λ k. advance_of (take k (drop a ps))) (sym m)
+    ∙ ap advance_of (take-add (b - a) (c - b) (drop a ps))
+    ∙ ap (λ l. advance_of (take (b - a) (drop a ps) ++ take (c - b) l)) (drop-drop (b - a) a ps ∙ ap (λ k. drop k ps) n)
+    ∙ advance-append (take (b - a) (drop a ps)) (take (c - b) (drop b ps)))
+
+pub width-none : (ps : List GlyphPosition) (a : ℕ) → width_of ps a a ≡ pos 0
+width-none ps a = let n : a - a ≡ 0 = omega arith in rw n refl
+
+pub width-one : (ps : List GlyphPosition) (a : ℕ) (d : GlyphPosition) → a < length ps
+    → width_of ps a (a + 1) ≡ (get_or ps a d).x_advance
+width-one ps a d some =
+    let n : (a + 1) - a ≡ 1 = omega arith in
+    ap (λ k. advance_of (take k (drop a ps))) n
+    ∙ ap (λ l. advance_of (take 1 l)) (drop_more ps a d some)
+    ∙ zero_right (get_or ps a d).x_advance where
+      zero_right : (z : ℤ) → z +ℤ pos 0 ≡ z
+      zero_right z = omega (arith, ints)
+
+-- ---- ends
+
+-- the ends of the lines that are left, where the line from the start has come to this end and the next place at which it
+-- could end is not before k + 1
+abbrev pub ends_left : List hb_glyph_info_t → List GlyphPosition → List ℤ → ℕ → ℕ → ℕ → List ℕ
+ends_left l ps widths start end k =
+    let later = ends_from l (k + 1) (length l - k) in
+    lines_from ps widths start (if ltb start end then end ∷ later else later)
+
+later : List hb_glyph_info_t → ℕ → List ℕ
+later l k = ends_from l (k + 1) (length l - k)
+
+module _ (l : List hb_glyph_info_t) (k : ℕ) (some : k < length l) where
+  later_by : later l k ≡ cond (may_end l (k + 1)) ((k + 1) ∷ later l (k + 1)) (later l (k + 1))
+  unfolding later
+  later_by = let n : length l - k ≡ suc (length l - (k + 1)) = omega arith in ap (λ m. ends_from l (k + 1) m) n
+
+  later_here : may_end l (k + 1) ≡ true → later l k ≡ (k + 1) ∷ later l (k + 1)
+  later_here e = later_by ∙ cond-true (may_end l (k + 1)) _ _ e
+
+  later_past : may_end l (k + 1) ≡ false → later l k ≡ later l (k + 1)
+  later_past e = later_by ∙ cond-false (may_end l (k + 1)) _ _ e
+
+left_is : (l : List hb_glyph_info_t) (ps : List GlyphPosition) (ws : List ℤ) (start end k : ℕ)
+    → ends_left l ps ws start end k ≡ lines_from ps ws start (cond (ltb start end) (end ∷ later l k) (later l k))
+unfolding later
+left_is l ps ws start end k = refl
+
+module _ (l : List hb_glyph_info_t) (ps : List GlyphPosition) (ws : List ℤ) (start end k : ℕ) (some : k < length l) where
+  -- no line may end behind the glyph
+  pub none_ends : may_end l (k + 1) ≡ false → ends_left l ps ws start end k ≡ ends_left l ps ws start end (k + 1)
+  none_ends e =
+      left_is l ps ws start end k
+      ∙ ap (λ m. lines_from ps ws start (cond (ltb start end) (end ∷ m) m)) (later_past l k some e)
+      ∙ sym (left_is l ps ws start end (k + 1))
+
+  here : start ≤ k → ends_left l ps ws start (k + 1) (k + 1) ≡ lines_from ps ws start ((k + 1) ∷ later l (k + 1))
+  here before =
+      let more : ltb start (k + 1) ≡ true = grind (arith, nat_tests) in
+      left_is l ps ws start (k + 1) (k + 1) ∙ ap (lines_from ps ws start) (cond-true (ltb start (k + 1)) _ _ more)
+
+  -- the line goes on to here
+  pub goes_on : may_end l (k + 1) ≡ true → start ≤ k
+      → (start < end → is_within (width_of ps start (k + 1)) ws ≡ true)
+      → ends_left l ps ws start end k ≡ ends_left l ps ws start (k + 1) (k + 1)
+  goes_on e before fits =
+      left_is l ps ws start end k
+      ∙ ap (λ m. lines_from ps ws start (cond (ltb start end) (end ∷ m) m)) (later_here l k some e)
+      ∙ cond_both (ltb start end) (end ∷ (k + 1) ∷ later l (k + 1)) ((k + 1) ∷ later l (k + 1))
+      (λ m. lines_from ps ws start m ≡ lines_from ps ws start ((k + 1) ∷ later l (k + 1)))
+      (λ less. cond-true (is_within (width_of ps start (k + 1)) ws) _ _ (fits (grind (arith, nat_tests))))
+      (λ none. refl)
+      ∙ sym (here before)
+
+  -- the line has ended, and the next one goes on to here
+  pub ended : may_end l (k + 1) ≡ true → start < end → end ≤ k → is_within (width_of ps start (k + 1)) ws ≡ false
+      → ends_left l ps ws start end k ≡ end ∷ ends_left l ps (widths_after ws) end (k + 1) (k + 1)
+  ended e less before wide =
+      let is_less : ltb start end ≡ true = grind (arith, nat_tests) in
+      let more : ltb end (k + 1) ≡ true = grind (arith, nat_tests) in
+      left_is l ps ws start end k
+      ∙ ap (λ m. lines_from ps ws start (cond (ltb start end) (end ∷ m) m)) (later_here l k some e)
+      ∙ ap (lines_from ps ws start) (cond-true (ltb start end) _ _ is_less)
+      ∙ cond-false (is_within (width_of ps start (k + 1)) ws) _ _ wide
+      ∙ ap (λ m. end ∷ m) (sym (left_is l ps (widths_after ws) end (k + 1) (k + 1)
+      ∙ ap (lines_from ps (widths_after ws) end) (cond-true (ltb end (k + 1)) _ _ more)))
+
+-- no glyph is left
+pub none_left : (l : List hb_glyph_info_t) (ps : List GlyphPosition) (ws : List ℤ) (start end : ℕ)
+    → ends_left l ps ws start end (length l) ≡ (if ltb start end then end ∷ [] else [])
+none_left l ps ws start end =
+    let n : length l - length l ≡ 0 = omega arith in
+    ap (λ m. lines_from ps ws start (cond (ltb start end) (end ∷ ends_from l (length l + 1) m) (ends_from l (length l + 1) m)))
+    n
+    ∙ cond_both (ltb start end) (end ∷ []) [] (λ m. lines_from ps ws start m ≡ m) (λ e. refl) (λ e. refl)
+
+-- ---- laws of the ends
+
+and_true : (b c : Bool) → b ≡ true → c ≡ true → (b && c) ≡ true
+and_true true c e f = f
+and_true false c e f = cc
+
+module _ (p : ℕ → Bool) where
+  lines_all : (ps : List GlyphPosition) (ws : List ℤ) (start : ℕ) (ends : List ℕ) → list_all p ends ≡ true
+      → list_all p (lines_from ps ws start ends) ≡ true
+  lines_all ps ws start [] all = all
+  lines_all ps ws start (end ∷ []) all = all
+  lines_all ps ws start (end ∷ next ∷ ends) all =
+      cond_both (is_within (width_of ps start next) ws) _ _ (λ (x : List ℕ). list_all p x ≡ true)
+      (λ _. lines_all ps ws start (next ∷ ends) (both _ _ all).1)
+      (λ _. and_true _ _ (both _ _ all).0 (lines_all ps (widths_after ws) end (next ∷ ends) (both _ _ all).1))
+
+all_may_end : (l : List hb_glyph_info_t) (k n : ℕ) → list_all (may_end l) (ends_from l k n) ≡ true
+all_may_end l k zero = refl
+all_may_end l k (suc n) =
+    cond_both (may_end l k) _ _ (λ (x : List ℕ). list_all (may_end l) x ≡ true)
+    (λ e. and_true _ _ e (all_may_end l (k + 1) n))
+    (λ _. all_may_end l (k + 1) n)
+
+pub lines_may_end : (l : List hb_glyph_info_t) (ps : List GlyphPosition) (ws : List ℤ)
+    → list_all (may_end l) (line_ends l ps ws) ≡ true
+lines_may_end l ps ws = lines_all (may_end l) ps ws 0 (all_ends l) (all_may_end l 1 (length l))
+
+less : (a b : ℕ) → a < b → ltb a b ≡ true
+less a b h = grind (arith, nat_tests)
+
+ends_rise : (l : List hb_glyph_info_t) (a k n : ℕ) → a < k → rise ltb (a ∷ ends_from l k n) ≡ true
+ends_rise l a k zero a_k = refl
+ends_rise l a k (suc n) a_k =
+    cond_both (may_end l k) _ _ (λ (x : List ℕ). rise ltb (a ∷ x) ≡ true)
+    (λ _. and_true _ _ (less a k a_k) (ends_rise l k (k + 1) n (omega arith)))
+    (λ _. ends_rise l a (k + 1) n (omega arith))
+
+lines_rise_from : (ps : List GlyphPosition) (ws : List ℤ) (start a : ℕ) (ends : List ℕ) → rise ltb (a ∷ ends) ≡ true
+    → rise ltb (a ∷ lines_from ps ws start ends) ≡ true
+lines_rise_from ps ws start a [] up = up
+lines_rise_from ps ws start a (end ∷ []) up = up
+lines_rise_from ps ws start a (end ∷ next ∷ ends) up =
+    let first = both (ltb a end) _ up in
+    let second = both (ltb end next) _ first.1 in
+    let far : ltb a next ≡ true = less a next (joined a end next first.0 second.0) in
+    cond_both (is_within (width_of ps start next) ws) _ _ (λ (x : List ℕ). rise ltb (a ∷ x) ≡ true)
+    (λ _. lines_rise_from ps ws start a (next ∷ ends) (and_true _ _ far second.1))
+    (λ _. and_true _ _ first.0 (lines_rise_from ps (widths_after ws) end end (next ∷ ends) first.1)) where
+      joined : (a b c : ℕ) → ltb a b ≡ true → ltb b c ≡ true → a < c
+      joined a b c p q = grind (arith, nat_tests)
+
+rise_tail : (a : ℕ) (l : List ℕ) → rise ltb (a ∷ l) ≡ true → rise ltb l ≡ true
+rise_tail a [] up = refl
+rise_tail a (b ∷ l) up = (both (ltb a b) _ up).1
+
+pub lines_rise : (l : List hb_glyph_info_t) (ps : List GlyphPosition) (ws : List ℤ)
+    → rise ltb (line_ends l ps ws) ≡ true
+lines_rise l ps ws =
+    rise_tail 0 (line_ends l ps ws)
+    (lines_rise_from ps ws 0 0 (all_ends l) (ends_rise l 0 1 (length l) (omega arith)))
+
+-- ---- how large a width is
+
+pub abs-add : (a b : ℤ) → nat_abs (a +ℤ b) ≤ nat_abs a + nat_abs b
+abs-add a b = grind (arith, ints)
+
+pub abs-fits : (z : ℤ) → FitsSigned w32 z → nat_abs z ≤ 2 ^ 31
+abs-fits (pos n) f = let m = f.sfits in omega arith
+abs-fits (negsuc n) f = let m = f.sfits in omega arith
+
+pub fits-abs : (z : ℤ) → nat_abs z < 2 ^ 100 → FitsSigned w128 z
+fits-abs (pos n) small = record { sfits = omega arith }
+fits-abs (negsuc n) small = record { sfits = omega arith }
+
+-- a part of a line, and one glyph more
+pub width-more : (ps : List GlyphPosition) (a k : ℕ) → a ≤ k → k < length ps
+    → width_of ps a (k + 1) ≡ width_of ps a k +ℤ (get_or ps k zero_position).x_advance
+width-more ps a k before some =
+    sym (width-parts ps a k (k + 1) before (omega arith))
+    ∙ ap (λ z. width_of ps a k +ℤ z) (width-one ps k zero_position some)
+
+-- ---- the step of the walk
+
+-- two parts of a line, so many glyphs each, fit the sum that is computed
+pub sum-fits : (a b : ℤ) (n m : ℕ) → nat_abs a ≤ n * 2 ^ 31 → nat_abs b ≤ m * 2 ^ 31 → n + m < 2 ^ 66
+    → FitsSigned w128 (a +ℤ b)
+sum-fits a b n m p q small = fits-abs (a +ℤ b) (omega (arith, abs-add a b))
+
+-- the advance of one glyph more
+pub record OneMore (old xa computed : ℤ) (n : ℕ) : Type 0 where
+  pub is : computed ≡ old +ℤ xa
+  pub bound : nat_abs computed ≤ (n + 1) * 2 ^ 31
+
+pub one_more : (old x xa : ℤ) (n : ℕ) → FitsSigned w128 x → FitsSigned w32 xa → x ≡ to_z w32 (of_z w32 xa)
+    → nat_abs old ≤ n * 2 ^ 31 → n < 2 ^ 65
+    → OneMore old xa (to_z w128 (of_z w128 (old +ℤ to_z w128 (of_z w128 x)))) n
+one_more old x xa n fx fa e bound few =
+    let same : to_z w128 (of_z w128 x) ≡ xa = to_z-of_z w128 x fx ∙ e ∙ to_z-of_z w32 xa fa in
+    let small = abs-fits xa fa in
+    let fits = sum-fits old xa n 1 bound (omega arith) (omega arith) in
+    let all : to_z w128 (of_z w128 (old +ℤ to_z w128 (of_z w128 x))) ≡ old +ℤ xa =
+    ap (λ z. to_z w128 (of_z w128 (old +ℤ z))) same ∙ to_z-of_z w128 (old +ℤ xa) fits in
+    record { is = all; bound = omega (arith, ap nat_abs all, abs-add old xa) }
+
+-- a line of this start has come to `end`, and goes on behind the glyph at place k
+pub record Joined (l : List hb_glyph_info_t) (ps : List GlyphPosition) (whole : List ℕ) (k end start : ℕ)
+    (ends : List ℕ) (ws : List ℤ) (t : ℤ) : Type 0 where
+  pub order : start ≤ end
+  pub taken : t ≡ width_of ps start end
+  pub bound : nat_abs t ≤ (end - start) * 2 ^ 31
+  pub all : ends ++ ends_left l ps ws start (k + 1) (k + 1) ≡ whole
+
+module _ (l : List hb_glyph_info_t) (ps : List GlyphPosition) (whole : List ℕ) (k end start : ℕ) (ends : List ℕ)
+    (ws : List ℤ) (t p sum : ℤ) (some : k < length l) (may : may_end l (k + 1) ≡ true) (order : start ≤ end)
+    (before : end ≤ k) (is : t ≡ width_of ps start end) (piece : p ≡ width_of ps end (k + 1))
+    (bound : nat_abs t ≤ (end - start) * 2 ^ 31) (all : ends ++ ends_left l ps ws start end k ≡ whole) where
+  line_is : sum ≡ t +ℤ p → sum ≡ width_of ps start (k + 1)
+  line_is e =
+      e ∙ ap (λ z. z +ℤ p) is ∙ ap (λ z. width_of ps start end +ℤ z) piece
+      ∙ width-parts ps start end (k + 1) order (omega arith)
+
+  pub joined_on : (start < end → (sum ≡ t +ℤ p) × (is_within sum ws ≡ true)) → Joined l ps whole k end start ends ws t
+  joined_on fits = record {
+    order = order;
+    taken = is;
+    bound = bound;
+    all = ap (λ x. ends ++ x) (sym (goes_on l ps ws start end k some may (omega arith)
+        (λ less. ap (λ z. is_within z ws) (sym (line_is (fits less).0)) ∙ (fits less).1)))
+        ∙ all;
+  }
+
+  pub joined_next : start < end → sum ≡ t +ℤ p → is_within sum ws ≡ false
+      → Joined l ps whole k end end (ends ++ end ∷ []) (widths_after ws) (pos 0)
+  joined_next less e wide = record {
+    order = omega arith;
+    taken = sym (width-none ps end);
+    bound = omega arith;
+    all = append_assoc ends (end ∷ []) (ends_left l ps (widths_after ws) end (k + 1) (k + 1))
+        ∙ ap (λ x. ends ++ x) (sym (ended l ps ws start end k some may less before
+        (ap (λ z. is_within z ws) (sym (line_is e)) ∙ wide)))
+        ∙ all;
+  }
+
+  -- the sum of both parts
+  pub line_sum : end - start + (k + 1 - end) < 2 ^ 66 → nat_abs p ≤ (k + 1 - end) * 2 ^ 31
+      → to_z w128 (of_z w128 (t +ℤ p)) ≡ t +ℤ p
+  line_sum few small = to_z-of_z w128 (t +ℤ p) (sum-fits t p (end - start) (k + 1 - end) bound small few)
+
+-- the same, by other names
+pub moved : (l : List hb_glyph_info_t) (ps : List GlyphPosition) (whole : List ℕ) (k end start start2 : ℕ)
+    (ends ends2 : List ℕ) (ws ws2 : List ℤ) (t t2 : ℤ) → start2 ≡ start → ends2 ≡ ends → ws2 ≡ ws → t2 ≡ t
+    → Joined l ps whole k end start ends ws t → Joined l ps whole k end start2 ends2 ws2 t2
+moved l ps whole k end start start2 ends ends2 ws ws2 t t2 e1 e2 e3 e4 j =
+    subst (λ x. Joined l ps whole k end x ends2 ws2 t2) (sym e1)
+    (subst (λ x. Joined l ps whole k end start x ws2 t2) (sym e2)
+    (subst (λ x. Joined l ps whole k end start ends x t2) (sym e3)
+    (subst (λ x. Joined l ps whole k end start ends ws x) (sym e4) j)))
+
+-- what a turn of the walk keeps
+pub record Stands (l : List hb_glyph_info_t) (ps : List GlyphPosition) (whole : List ℕ) (k start : ℕ) (ends : List ℕ)
+    (ws : List ℤ) (t : ℤ) : Type 0 where
+  pub taken : t ≡ width_of ps start (k + 1)
+  pub piece : pos 0 ≡ width_of ps (k + 1) (k + 1)
+  pub bound : nat_abs t ≤ (k + 1 - start) * 2 ^ 31
+
+pub stands : (l : List hb_glyph_info_t) (ps : List GlyphPosition) (whole : List ℕ) (k end start : ℕ) (ends : List ℕ)
+    (ws : List ℤ) (t p : ℤ) → end ≤ k → p ≡ width_of ps end (k + 1) → nat_abs p ≤ (k + 1 - end) * 2 ^ 31
+    → k < 2 ^ 64 → Joined l ps whole k end start ends ws t
+    → Stands l ps whole k start ends ws (to_z w128 (of_z w128 (t +ℤ p)))
+stands l ps whole k end start ends ws t p before piece small few j =
+    let e : to_z w128 (of_z w128 (t +ℤ p)) ≡ t +ℤ p =
+    to_z-of_z w128 (t +ℤ p) (sum-fits t p (end - start) (k + 1 - end) j.bound small (omega (arith, j.order))) in
+    record {
+      taken = e ∙ ap (λ z. z +ℤ p) j.taken ∙ ap (λ z. width_of ps start end +ℤ z) piece
+          ∙ width-parts ps start end (k + 1) j.order (omega arith);
+      piece = sym (width-none ps (k + 1));
+      bound = omega (arith, ap nat_abs e, abs-add t p, j.bound, j.order);
+    }
