@@ -1,6 +1,6 @@
 //! Lists of calls, made by `replay`.
 
-ghost use Rattle.std.specs.Prelude.{◌≡◌, ◌<◌, ◌≤◌, ◌↔◌, ◌⊎◌, ℕ, true, false, length, chars, take, Ok, IfOk, IfErr, OnOk, OnErr, IsTrue};
+ghost use Rattle.std.specs.Prelude.{◌≡◌, ◌<◌, ◌≤◌, ◌↔◌, ℕ, true, false, length, chars, take, Ok, IfOk, IfErr, OnOk, OnErr, IsTrue};
 ghost use Rattle.glyph_lists.specs.Clusters.{clusters, occurs};
 ghost use Rattle.shaping_buffer.specs.ClusterStep.{both};
 ghost use Rattle.shaping_runs.specs.Replay.{after, answers_of};

@@ -1,6 +1,6 @@
 //! Passes over the glyphs that delete what is invisible by default: one by calls, and one in place.
 
-ghost use Rattle.std.specs.Prelude.{◌≡◌, true, false, not, Ok};
+ghost use Rattle.std.specs.Prelude.{◌≡◌, true, false, Ok};
 ghost use Rattle.shaping_buffer.specs.GroupStep.{delete_glyphs_inplace};
 ghost use Rattle.shaping_buffer.specs.Step as step;
 ghost use Rattle.shaping_uses.specs.Visible.{cores, is_invisible, visible, walked};
