@@ -65,11 +65,12 @@ fn assert_rendered(
 ) -> Result<(), Fail> {
     let kern = Feature::from_str("kern[2:]").map_err(|_| "no feature")?;
     match render_with_ligature(alloc, text, kern, 9) {
-        Ok((glyphs, given)) => {
+        Ok(rendered) => {
+            let glyphs = &rendered.0;
             let line = glyphs.serialize(alloc, &NoGlyphNames, SerializeFlags::NO_GLYPH_NAMES)?;
             assert!(rt; line.as_str() == want);
             assert_masks(rt, glyphs.glyph_infos(), masks);
-            assert!(rt; given == answers);
+            assert!(rt; rendered.1 == answers);
         }
         Err(_) => panic!(rt; "not rendered"),
     }

@@ -28,7 +28,7 @@ use Rattle.shaping_runs.specs.declared.rendering.RenderFault.{RenderFault}
 use Rattle.shaping_runs.specs.declared.rendering.RenderFault.TheVariants as fault
 use Rattle.shaping_runs.specs.Render.{pushed_text, with_feature, text_with_features, FailsOnText, Fails}
 use Rattle.shaping_runs.specs.Render.{RefusedAt, feature_bit}
-use Rattle.shaping_runs.specs.Replay.{Turn, after, answers_of, turn, may_be_made, outcome_of}
+use Rattle.shaping_runs.specs.Replay.{answer_of, Turn, after, answers_of, turn, may_be_made, outcome_of}
 use Rattle.shaping_runs.specs.Separation.{IsInPlace}
 use Rattle.shaping_runs.proofs.InPlaceLaws.{never_stops}
 use Rattle.shaping_runs.proofs.InPlaceSteps.{stays_in_place}
@@ -147,7 +147,7 @@ ligated ids s ready =
     let two : 2 ≤ length s.input = omega (arith, leb-true 2 (lookahead_len t) (and_parts (nat_le 2 (lookahead_len t)) _ parts.1).0) in
     let one : length (take 1 ids.now) ≤ 1 = omega (arith, length-take 1 ids.now) in
     let is = replaced_done 2 (take 1 ids.now) t refl (omega (arith, one, two, ready.fits)) in
-    subst (λ (o : Outcome). GoesOn (record { answer = Rattle.shaping_runs.specs.Replay.answer_of o.done; state = o.state })) (sym is)
+    subst (λ (o : Outcome). GoesOn (record { answer = answer_of o.done; state = o.state })) (sym is)
     ((λ e. cc), replaced_open (take 1 ids.now) t refl ready.successful refl one two ready.fits))
     (λ _. ((λ e. cc), (refl, ready.successful, omega (arith, ready.fits))))
 
@@ -166,7 +166,7 @@ closes s under =
     (le-leb _ _ (omega (arith, length-append s.out s.input, under.2))) in
     let turned : turn Sync s ≡ record { answer = Done; state = settled after } =
     cond-true s.have_output _ _ under.0
-    ∙ ap (λ (o : Outcome). record { answer = Rattle.shaping_runs.specs.Replay.answer_of o.done; state = o.state }) is in
+    ∙ ap (λ (o : Outcome). record { answer = answer_of o.done; state = o.state }) is in
     subst (λ (t : Turn). (t.answer ≢ Refused) × (t.state.have_output ≡ false)) (sym turned) ((λ e. cc), refl)
 
 -- none is refused, and the output is closed

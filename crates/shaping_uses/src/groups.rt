@@ -7,8 +7,8 @@ ghost use Rattle.shaping_uses.specs.Groups.{goes_on_at};
 
 use shaping_buffer::{_cluster_group_func, hb_buffer_t};
 
-/// Puts the clusters of a line into reverse order, as a line from right to left asks for, each cluster in its own order,
-/// with their positions, where there are any. Requires that no output is open.
+/// Puts the clusters of a line into reverse order, as a line from right to left asks for, each cluster in its own
+/// order, with their positions, where there are any. Requires that no output is open.
 pub fn reverse_clusters(buffer: &mut hb_buffer_t)
     requires { buffer.old.have_output ≡ false }
     ensures { buffer.new ≡ step.groups_in_reverse share_cluster buffer.old }
@@ -17,8 +17,8 @@ pub fn reverse_clusters(buffer: &mut hb_buffer_t)
 }
 
 /// Puts the glyphs of a line into reverse order, except that each glyph with one of the ids of `marks` stays behind the
-/// glyph before it. Each such group is merged into one cluster before, where `merge` says so. Requires that no output is
-/// open.
+/// glyph before it. Each such group is merged into one cluster before, where `merge` says so. Requires that no output
+/// is open.
 pub fn reverse_with_marks(buffer: &mut hb_buffer_t, marks: &[u32], merge: bool)
     requires { buffer.old.have_output ≡ false }
     ensures { buffer.new ≡ step.reverse_groups (goes_on_at marks.now) merge buffer.old }

@@ -8,8 +8,9 @@ ghost use Rattle.shaping_uses.specs.Printing.{text_buffer};
 use shaping_buffer::{UnicodeBuffer, hb_glyph_info_t};
 use std::alloc::{AllocError, Global};
 
-/// The cluster numbers of a text after its first two characters became one cluster. `Ok(None)` exactly where the text has
-/// fewer than two characters, or more than a buffer may hold. `Err(AllocError)` comes only where the text is not empty.
+/// The cluster numbers of a text after its first two characters became one cluster. `Ok(None)` exactly where the text
+/// has fewer than two characters, or more than a buffer may hold. `Err(AllocError)` comes only where the text is not
+/// empty.
 pub fn clusters_of_merged(alloc: Global, text: &str) -> Result<Option<Vec<u32>>, AllocError>
     ensures is { IfOk result (λ numbers. MatchOption numbers
         ((length (chars text.now) < 2) ⊎ (0x3FFF_FFFF < length (chars text.now)))

@@ -7,8 +7,8 @@ use rb_glyph::NoGlyphNames;
 use shaping_buffer::{Flags, GlyphBuffer, SerializeFlags, UnicodeBuffer};
 use std::alloc::{AllocError, Global};
 
-/// The characters of a text with their clusters, before any font gave them glyphs. `Ok(None)` exactly where a buffer may
-/// not hold so many. `Err(AllocError)` comes only where the text is not empty.
+/// The characters of a text with their clusters, before any font gave them glyphs. `Ok(None)` exactly where a buffer
+/// may not hold so many. `Err(AllocError)` comes only where the text is not empty.
 pub fn print_characters(alloc: Global, text: &str) -> Result<Option<String>, AllocError>
     ensures is { IfOk result (λ printed. MatchOption printed
         (0x3FFF_FFFF < length (chars text.now))

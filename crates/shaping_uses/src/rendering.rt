@@ -12,8 +12,9 @@ use shaping_runs::{Answer, Call, RenderFault, render};
 use std::alloc::Global;
 
 /// Renders a text with a feature, and with a ligature in place of its first two glyphs, and answers each of the three
-/// calls: `Outside` for the second where there are no two glyphs. None is refused, and none asks for memory. So `Err` is
-/// `Length` where the text is longer than a buffer may be, or `Memory { at: None }` where there was no memory for it.
+/// calls: `Outside` for the second where there are no two glyphs. None is refused, and none asks for memory. So `Err`
+/// is `Length` where the text is longer than a buffer may be, or `Memory { at: None }` where there was no memory for
+/// it.
 #[tactic(auto, using(crate::proofs::RenderingLemmas::fails_on_text))]
 pub fn render_with_ligature(
     alloc: Global,

@@ -1,6 +1,7 @@
 //! Lists of calls, made by `replay`.
 
-ghost use Rattle.std.specs.Prelude.{◌≡◌, ◌<◌, ◌≤◌, ◌↔◌, ℕ, true, false, length, chars, take, Ok, IfOk, IfErr, OnOk, OnErr, IsTrue};
+ghost use Rattle.std.specs.Prelude.{◌≡◌, ◌<◌, ◌≤◌, ◌↔◌, ℕ, true, length, chars, take};
+ghost use Rattle.std.specs.Prelude.{IfOk, IfErr, OnOk, OnErr, IsTrue};
 ghost use Rattle.glyph_lists.specs.Clusters.{clusters, occurs};
 ghost use Rattle.shaping_buffer.specs.ClusterStep.{both};
 ghost use Rattle.shaping_runs.specs.Replay.{after, answers_of};
@@ -29,8 +30,8 @@ pub fn first_two_as_one(alloc: Global, text: &str) -> Result<bool, AllocError>
     Ok(answers[0] == Answer::Done)
 }
 
-/// Makes the first two glyphs one ligature, and answers each of its three calls: `Outside` for the second where there are
-/// no two glyphs. No cluster number comes in that was not there. `Err(Stopped)` comes only where an output was open
+/// Makes the first two glyphs one ligature, and answers each of its three calls: `Outside` for the second where there
+/// are no two glyphs. No cluster number comes in that was not there. `Err(Stopped)` comes only where an output was open
 /// before: then the calls before the one that stopped stand.
 pub fn ligate_first_two(buffer: &mut hb_buffer_t, ligature: u32) -> Result<[Answer; 3], Stopped>
     ensures answers { IfOk result (λ answers.
