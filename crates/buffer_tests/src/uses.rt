@@ -1,18 +1,19 @@
-use crate::lists::buffer_of;
+use crate::lists::{assert_ids, buffer_of, read_one};
 use rb_glyph::NoGlyphNames;
 use shaping_buffer::{Feature, Flags, SerializeFlags, UnicodeBuffer, hb_buffer_t, hb_glyph_info_t};
 use shaping_runs::Answer;
-use shaping_uses::accessors::*;
+use shaping_uses::groups::{count_clusters, reverse_clusters, reverse_with_marks};
 use shaping_uses::in_place::*;
 use shaping_uses::kerning::kern_pair;
 use shaping_uses::line_break::cut_of_line;
-use shaping_uses::merging::clusters_of_merged;
+use shaping_uses::merging::{cluster_numbers, clusters_of_merged};
 use shaping_uses::printing::print_characters;
-use shaping_uses::references::*;
+use shaping_uses::probes::accessors::*;
+use shaping_uses::probes::references::*;
 use shaping_uses::rendering::render_with_ligature;
 use shaping_uses::room::{put_marks, put_marks_within_room};
 use shaping_uses::runs::{first_two_as_one, ligate_first_two};
-use shaping_uses::visible::hide_ignorables;
+use shaping_uses::visible::{delete_ignorables, hide_ignorables};
 use std::alloc::Global;
 use std::process::Abort;
 use std::str::FromStr;
@@ -28,23 +29,48 @@ fn assert_masks(rt: &impl Abort, glyphs: &[hb_glyph_info_t], want: &[u32]) {
 #[test]
 fn uses_run(rt: HostRuntime) -> Result<(), Fail> {
     texts_are_printed_and_merged(&rt, rt.alloc())?;
-    glyphs_are_dropped(&rt, rt.alloc());
+    ligatures_are_made(&rt, rt.alloc());
+    a_refused_ligature_stays_open(&rt, rt.alloc());
+    invisible_glyphs_go(&rt, rt.alloc());
+    a_refused_pass_stays_open(&rt, rt.alloc());
+    invisible_glyphs_go_in_place(&rt, rt.alloc());
+    clusters_change_places(&rt, rt.alloc());
+    marks_stay_behind_their_bases(&rt, rt.alloc());
     a_pair_is_kerned(&rt, rt.alloc());
     writes_land_at_their_places(&rt, rt.alloc());
     accessors_say_what_stands(&rt, rt.alloc());
     calls_in_place_are_done(&rt, rt.alloc());
     a_list_in_place_is_done(&rt, rt.alloc());
     marks_are_put_in(&rt, rt.alloc());
-    a_text_is_rendered(&rt, rt.alloc())
+    texts_are_rendered(&rt, rt.alloc())
 }
 
-fn a_text_is_rendered(rt: &impl Abort, alloc: Global) -> Result<(), Fail> {
+/// With one character or none there are no two glyphs.
+fn texts_are_rendered(rt: &impl Abort, alloc: Global) -> Result<(), Fail> {
+    let all = [Answer::Done; 3];
+    assert_rendered(rt, alloc, "fib", "9=0+0|98=2+0", &[0, 256], all)?;
+    let alone = [Answer::Done, Answer::Outside, Answer::Done];
+    assert_rendered(rt, alloc, "f", "102=0+0", &[0], alone)?;
+    assert_rendered(rt, alloc, "", "", &[], alone)
+}
+
+/// The line of a text after a ligature, with a feature from its third byte on, and the answers to the calls.
+fn assert_rendered(
+    rt: &impl Abort,
+    alloc: Global,
+    text: &str,
+    want: &str,
+    masks: &[u32],
+    answers: [Answer; 3],
+) -> Result<(), Fail> {
     let kern = Feature::from_str("kern[2:]").map_err(|_| "no feature")?;
-    match render_with_ligature(alloc, "fib", kern, 9) {
-        Ok(glyphs) => {
+    match render_with_ligature(alloc, text, kern, 9) {
+        Ok(rendered) => {
+            let glyphs = &rendered.0;
             let line = glyphs.serialize(alloc, &NoGlyphNames, SerializeFlags::NO_GLYPH_NAMES)?;
-            assert!(rt; line.as_str() == "9=0+0|98=2+0");
-            assert_masks(rt, glyphs.glyph_infos(), &[0, 256]);
+            assert!(rt; line.as_str() == want);
+            assert_masks(rt, glyphs.glyph_infos(), masks);
+            assert!(rt; rendered.1 == answers);
         }
         Err(_) => panic!(rt; "not rendered"),
     }
@@ -54,25 +80,151 @@ fn a_text_is_rendered(rt: &impl Abort, alloc: Global) -> Result<(), Fail> {
 fn texts_are_printed_and_merged(rt: &impl Abort, alloc: Global) -> Result<(), Fail> {
     let line = print_characters(alloc, "éa")?.ok_or("short")?;
     assert!(rt; line.as_str() == "233=0+0|97=2+0");
+    let empty = print_characters(alloc, "")?.ok_or("short")?;
+    assert!(rt; empty.as_str() == "");
     let numbers = clusters_of_merged(alloc, "abc")?.ok_or("two characters")?;
     assert!(rt; numbers.as_slice() == [0, 0, 2].as_slice());
     assert!(rt; clusters_of_merged(alloc, "a")?.is_none());
+    let numbers = cluster_numbers(alloc, buffer_of(rt, alloc, "éa").info())?;
+    assert!(rt; numbers.as_slice() == [0, 2].as_slice());
     assert!(rt; first_two_as_one(alloc, "ab") == Ok(true));
     assert!(rt; first_two_as_one(alloc, "a") == Ok(false));
     Ok(())
 }
 
-fn glyphs_are_dropped(rt: &impl Abort, alloc: Global) {
+/// A ligature has the lower cluster. With one glyph there is none; and in an output that is open it is put out at the
+/// cursor.
+fn ligatures_are_made(rt: &impl Abort, alloc: Global) {
     let mut buffer = buffer_of(rt, alloc, "abc");
-    assert!(rt; ligate_first_two(&mut buffer, 7).is_ok());
-    assert!(rt; buffer.info().len() == 2);
-    let mut buffer = buffer_of(rt, alloc, "a\u{ad}b");
+    assert!(rt; ligate_first_two(&mut buffer, 7) == Ok([Answer::Done; 3]));
+    assert_ids(rt, buffer.info(), &[7, 99]);
+    assert_clusters(rt, buffer.info(), &[0, 2]);
+    let mut buffer = buffer_of(rt, alloc, "a");
+    let alone = [Answer::Done, Answer::Outside, Answer::Done];
+    assert!(rt; ligate_first_two(&mut buffer, 7) == Ok(alone));
+    assert_ids(rt, buffer.info(), &[97]);
+    let mut buffer = buffer_of(rt, alloc, "abc");
+    read_one(rt, &mut buffer);
+    let opened = [Answer::Outside, Answer::Done, Answer::Done];
+    assert!(rt; ligate_first_two(&mut buffer, 7) == Ok(opened));
+    assert_ids(rt, buffer.info(), &[97, 7]);
+    assert_clusters(rt, buffer.info(), &[0, 1]);
+}
+
+/// After a refusal the ligature is put out, and the output stays open.
+fn a_refused_ligature_stays_open(rt: &impl Abort, alloc: Global) {
+    let mut buffer = refused(rt, alloc, "abc");
+    let refused = [Answer::Done, Answer::Done, Answer::Refused];
+    assert!(rt; ligate_first_two(&mut buffer, 7) == Ok(refused));
+    assert!(rt; buffer.have_output() && !buffer.successful());
+    assert_ids(rt, buffer.out_info(), &[7]);
+    assert_ids(rt, buffer.info(), &[99]);
+}
+
+/// A text of which a call was refused: it may not become longer.
+fn refused(rt: &impl Abort, alloc: Global, text: &str) -> hb_buffer_t {
+    let mut buffer = buffer_of(rt, alloc, text);
+    let len = buffer.len();
+    assert!(rt; buffer.out_len() <= len);
+    buffer.set_max_len(len);
+    assert!(rt; len < 9 && buffer.ensure(9) == Ok(false));
+    buffer
+}
+
+/// The soft hyphen is invisible by default, as a shaper says it in the properties.
+fn set_properties(rt: &impl Abort, buffer: &mut hb_buffer_t) {
+    assert!(rt; !buffer.have_output());
     for glyph in buffer.info_slice_mut() {
         glyph.set_unicode_props(if glyph.glyph_id == 0xad { 0x21 } else { 5 });
     }
+}
+
+fn invisible_glyphs_go(rt: &impl Abort, alloc: Global) {
+    let mut buffer = buffer_of(rt, alloc, "a\u{ad}b");
+    set_properties(rt, &mut buffer);
     assert!(rt; !buffer.have_output());
     assert!(rt; hide_ignorables(&mut buffer) == Ok(true));
-    assert!(rt; buffer.info().len() == 2);
+    assert_ids(rt, buffer.info(), &[97, 98]);
+    assert_clusters(rt, buffer.info(), &[0, 3]);
+}
+
+/// After a refusal the visible glyphs are put out, and the output stays open.
+fn a_refused_pass_stays_open(rt: &impl Abort, alloc: Global) {
+    let mut buffer = refused(rt, alloc, "a\u{ad}b");
+    set_properties(rt, &mut buffer);
+    assert!(rt; !buffer.have_output());
+    assert!(rt; hide_ignorables(&mut buffer) == Ok(false));
+    assert!(rt; buffer.have_output() && buffer.lookahead_len() == 0);
+    assert_ids(rt, buffer.out_info(), &[97, 98]);
+}
+
+/// In one call their positions go too, also after a refusal.
+fn invisible_glyphs_go_in_place(rt: &impl Abort, alloc: Global) {
+    let mut buffer = refused(rt, alloc, "a\u{ad}b");
+    set_properties(rt, &mut buffer);
+    place(rt, &mut buffer);
+    assert!(rt; !buffer.have_output());
+    delete_ignorables(&mut buffer);
+    assert_ids(rt, buffer.info(), &[97, 98]);
+    assert_clusters(rt, buffer.info(), &[0, 3]);
+    assert_advances(rt, &buffer, &[10, 30]);
+}
+
+/// Advances of 10, 20 and so on.
+fn place(rt: &impl Abort, buffer: &mut hb_buffer_t) {
+    assert!(rt; !buffer.have_output());
+    buffer.clear_positions();
+    for (position, advance) in buffer.pos_mut().iter_mut().zip([10, 20, 30, 40, 50]) {
+        position.x_advance = advance;
+    }
+}
+
+/// The second and third glyph share a cluster.
+fn clusters_change_places(rt: &impl Abort, alloc: Global) {
+    let mut buffer = buffer_of(rt, alloc, "abcd");
+    assert!(rt; !buffer.have_output() && buffer.len() == 4);
+    buffer.merge_clusters(1, 3);
+    place(rt, &mut buffer);
+    assert!(rt; !buffer.have_output());
+    assert!(rt; count_clusters(&buffer) == 3);
+    reverse_clusters(&mut buffer);
+    assert_ids(rt, buffer.info(), &[100, 98, 99, 97]);
+    assert_clusters(rt, buffer.info(), &[3, 1, 1, 0]);
+    assert_advances(rt, &buffer, &[40, 20, 30, 10]);
+    let empty = hb_buffer_t::new(alloc);
+    assert!(rt; !empty.have_output());
+    assert!(rt; count_clusters(&empty) == 0);
+}
+
+/// A combining acute accent stays behind its base, and where groups are merged it is in the base's cluster.
+fn marks_stay_behind_their_bases(rt: &impl Abort, alloc: Global) {
+    let mut buffer = buffer_of(rt, alloc, "ae\u{301}b");
+    place(rt, &mut buffer);
+    assert!(rt; !buffer.have_output());
+    reverse_with_marks(&mut buffer, &[0x300, 0x301], false);
+    assert_ids(rt, buffer.info(), &[98, 101, 0x301, 97]);
+    assert_clusters(rt, buffer.info(), &[4, 1, 2, 0]);
+    assert_advances(rt, &buffer, &[40, 20, 30, 10]);
+    let mut buffer = buffer_of(rt, alloc, "ae\u{301}b");
+    assert!(rt; !buffer.have_output());
+    reverse_with_marks(&mut buffer, &[0x300, 0x301], true);
+    assert_ids(rt, buffer.info(), &[98, 101, 0x301, 97]);
+    assert_clusters(rt, buffer.info(), &[4, 1, 1, 0]);
+}
+
+fn assert_clusters(rt: &impl Abort, glyphs: &[hb_glyph_info_t], want: &[u32]) {
+    assert!(rt; glyphs.len() == want.len());
+    for (glyph, cluster) in glyphs.iter().zip(want) {
+        assert!(rt; glyph.cluster == *cluster);
+    }
+}
+
+fn assert_advances(rt: &impl Abort, buffer: &hb_buffer_t, want: &[i32]) {
+    assert!(rt; buffer.have_positions());
+    assert!(rt; buffer.pos().len() == want.len());
+    for (position, advance) in buffer.pos().iter().zip(want) {
+        assert!(rt; position.x_advance == *advance);
+    }
 }
 
 /// A line is cut where the pair is not.
@@ -128,8 +280,8 @@ fn writes_land_at_their_places(rt: &impl Abort, alloc: Global) {
 }
 
 fn accessors_say_what_stands(rt: &impl Abort, alloc: Global) {
-    assert!(rt; most_glyphs(alloc) == 0x3FFF_FFFF);
-    assert!(rt; most_operations(alloc) == 0x1FFF_FFFF);
+    assert!(rt; default_glyph_limit(alloc) == 0x3FFF_FFFF);
+    assert!(rt; default_operation_limit(alloc) == 0x1FFF_FFFF);
     let mut text = UnicodeBuffer::new(alloc);
     text.set_pre_context("abcdefg");
     text.set_post_context("ab");
@@ -165,16 +317,17 @@ fn calls_in_place_are_done(rt: &impl Abort, alloc: Global) {
     assert!(rt; buffer.info().len() == 4);
 }
 
-/// One is dropped, three are put out and taken back, and the output is closed.
+/// One is dropped, three are put out and taken back, and the output is closed. Of three glyphs none is touched.
 fn a_list_in_place_is_done(rt: &impl Abort, alloc: Global) {
     let mut buffer = buffer_of(rt, alloc, "abcde");
-    assert!(rt; !buffer.have_output() && buffer.successful() && buffer.len() >= 4);
-    assert!(rt; rewind_in_place(&mut buffer) == [Answer::Done; 7]);
+    assert!(rt; !buffer.have_output() && buffer.successful());
+    assert!(rt; rewind_in_place(&mut buffer) == Some([Answer::Done; 7]));
     assert!(rt; !buffer.have_output() && buffer.idx() == 0);
-    assert!(rt; buffer.info().len() == 4);
-    for (glyph, id) in buffer.info().iter().zip(&[98, 99, 100, 101]) {
-        assert!(rt; glyph.glyph_id == *id);
-    }
+    assert_ids(rt, buffer.info(), &[98, 99, 100, 101]);
+    let mut buffer = buffer_of(rt, alloc, "abc");
+    assert!(rt; !buffer.have_output() && buffer.successful());
+    assert!(rt; rewind_in_place(&mut buffer).is_none());
+    assert_ids(rt, buffer.info(), &[97, 98, 99]);
 }
 
 fn marks_are_put_in(rt: &impl Abort, alloc: Global) {
@@ -188,11 +341,4 @@ fn marks_are_put_in(rt: &impl Abort, alloc: Global) {
     assert!(rt; buffer.info().len() == 4 && buffer.room() >= 8 && buffer.max_len() >= 8);
     assert!(rt; put_marks_within_room(&mut buffer, 8) == Ok(true));
     assert_ids(rt, buffer.info(), &[8, 9, 8, 97, 8, 9, 8, 98]);
-}
-
-fn assert_ids(rt: &impl Abort, glyphs: &[hb_glyph_info_t], want: &[u32]) {
-    assert!(rt; glyphs.len() == want.len());
-    for (glyph, id) in glyphs.iter().zip(want) {
-        assert!(rt; glyph.glyph_id == *id);
-    }
 }

@@ -1,39 +1,111 @@
--- A merge of the first two glyphs of a text, as one call.
-use Rattle.std.proofs.Common.{◌≡◌, ℕ, ℤ, ◌≤◌, true, false, List, [], ◌∷◌, ◌++◌}
-use Rattle.std.proofs.Common.{length, get_or, sym, ap, ◌∙◌, arith, leb}
-use Rattle.std.proofs.lemmas.Bool.{cond_both, cond-false, and_parts, leb-true}
-use Rattle.std.specs.Str.{chars}
-use Rattle.shaping_buffer.specs.State.{State, len, empty_state}
-use Rattle.shaping_buffer.specs.Step.{Outcome}
-use Rattle.glyph_sides.specs.TextGlyphs.{glyphs_at}
-use Rattle.shaping_buffer.specs.Pushed.{pushed}
+-- Lists of calls: a merge of the first two glyphs of a text, and a ligature of them.
+use Rattle.std.proofs.Common.{◌≡◌, ℕ, zero, suc, ◌≤◌, ◌<◌, true, false, List, [], ◌∷◌, ◌++◌, take}
+use Rattle.std.proofs.Common.{length, drop, not, inl, inr, refl, sym, ap, subst, ◌∙◌, arith}
+use Rattle.std.specs.Borrow.{Bor}
+use Rattle.std.proofs.lemmas.Bool.{cases_Bool, cond-true, cond-false, false≢true}
+use Rattle.std.proofs.lemmas.Bool.{le-leb, lt-leb, not_from_false}
+use Rattle.shaping_buffer.specs.State.{State}
+use Rattle.shaping_buffer.specs.Step.{clear_output}
 use Rattle.shaping_buffer.specs.ClusterStep.{is_input_range}
-use Rattle.glyph_sides.proofs.CharactersLemmas.{length_glyphs_at}
-use Rattle.shaping_runs.specs.declared.call.Call.TheVariants.{MergeClusters}
+use Rattle.shaping_runs.specs.declared.call.Call.{Call}
+use Rattle.shaping_runs.specs.declared.call.Call.TheVariants.{ClearOutput, MergeClusters, ReplaceGlyphs, Sync}
 use Rattle.shaping_runs.specs.declared.call.Answer.{Answer}
 use Rattle.shaping_runs.specs.declared.call.Answer.TheVariants.{Outside, Done}
-use Rattle.shaping_runs.specs.Replay.{Turn, answers_of}
+use Rattle.shaping_runs.specs.Exceptions.{NoGlyphIsBrought, NoGlyphIsAdded}
+use Rattle.shaping_runs.specs.Replay.{Turn, after, answers_of, turn, StopsAt}
+use Rattle.shaping_runs.specs.Separation.{IsInPlace}
+use Rattle.shaping_runs.proofs.InPlaceLaws.{never_stops}
+use Rattle.shaping_runs.proofs.InPlaceSteps.{stays_in_place}
+use Rattle.shaping_uses.specs.Runs.{ligature_calls}
 
-pushed-len : (text : List ℕ) (m : ℕ) (ops : ℤ) → len (pushed text (empty_state m ops)).state ≤ length (chars text)
-pushed-len text m ops =
-    cond_both (leb (length ([] ++ glyphs_at 0 (chars text))) m) _ _
-    (λ (o : Outcome). len o.state ≤ length (chars text))
-    (λ _. omega (arith, length_glyphs_at 0 (chars text))) (λ _. omega arith)
+-- ---- a ligature
 
--- where the merge is within its condition, the text has two characters
-pub two_characters : (text : List ℕ) (m : ℕ) (ops : ℤ) (s : State) → s ≡ (pushed text (empty_state m ops)).state
-    → is_input_range 0 2 s ≡ true → 2 ≤ length (chars text)
-two_characters text m ops s is within =
-    let two = leb-true 2 (len s) (and_parts (leb 2 (len s)) _ (and_parts (leb 0 2) _ within).1).0 in
-    let same = ap len is in
-    omega (arith, two, same, pushed-len text m ops)
+-- the calls with a slice that holds the ligature
+abbrev pub calls_with : Bor (List ℕ) → List Call
+calls_with ids = ClearOutput ∷ ReplaceGlyphs 2 1 ids ∷ Sync ∷ []
 
--- and where it is not, it is answered so
-pub answered_outside : (s : State) (answers : List Answer) → answers ≡ answers_of (MergeClusters 0 2 ∷ []) s
-    → is_input_range 0 2 s ≡ false → answers ≡ Outside ∷ []
-answered_outside s answers told off =
-    told ∙ ap (λ (t : Turn). t.answer ∷ []) (cond-false (is_input_range 0 2 s) _ _ off)
+-- it is read for what it holds
+abbrev held_by : Bor (List ℕ) → Bor (List ℕ)
+held_by ids = record { ref_ptr = (0, 0); now = ids.now }
 
-pub outside_is_not_done : (answers : List Answer) (d : Answer) → answers ≡ Outside ∷ [] → get_or answers 0 d ≡ Done → ⊥
-outside_is_not_done answers d outside done =
-    let same : Outside ≡ Done = sym (ap (λ (l : List Answer). get_or l 0 d) outside) ∙ done in cc
+after_held : (ids : Bor (List ℕ)) (at : ℕ) (s : State)
+    → after (take at (calls_with ids)) s ≡ after (take at (calls_with (held_by ids))) s
+after_held ids zero s = refl
+after_held ids (suc zero) s = refl
+after_held ids (suc (suc zero)) s = refl
+after_held ids (suc (suc (suc n))) s = refl
+
+pub after_first : (ids : Bor (List ℕ)) (ligature at : ℕ) (s : State) → ids.now ≡ ligature ∷ []
+    → after (take at (calls_with ids)) s ≡ after (take at (ligature_calls ligature)) s
+after_first ids ligature at s is =
+    after_held ids at s ∙ ap (λ l. after (take at (calls_with (record { ref_ptr = (0, 0); now = l }))) s) is
+
+pub after_all : (ids : Bor (List ℕ)) (ligature : ℕ) (s : State) → ids.now ≡ ligature ∷ []
+    → after (calls_with ids) s ≡ after (ligature_calls ligature) s
+after_all ids ligature s is = after_first ids ligature 3 s is
+
+pub answers_all : (ids : Bor (List ℕ)) (ligature : ℕ) (s : State) → ids.now ≡ ligature ∷ []
+    → answers_of (calls_with ids) s ≡ answers_of (ligature_calls ligature) s
+answers_all ids ligature s is =
+    ap (λ l. answers_of (calls_with (record { ref_ptr = (0, 0); now = l })) s) is
+
+none_left : (n : ℕ) (s : State) → NoGlyphIsBrought (take n []) s
+none_left zero s = tt
+none_left (suc n) s = tt
+
+-- none of them brings a glyph of the caller's
+pub none_is_brought : (ids : Bor (List ℕ)) (at : ℕ) (s : State) → NoGlyphIsBrought (take at (calls_with ids)) s
+none_is_brought ids zero s = tt
+none_is_brought ids (suc zero) s = (refl, tt)
+none_is_brought ids (suc (suc zero)) s = (refl, (refl, tt))
+none_is_brought ids (suc (suc (suc n))) s = (refl, (refl, (refl, none_left n _)))
+
+-- ---- where they stop
+
+opened_is : (s : State) → s.have_output ≡ false → (turn ClearOutput s).state ≡ clear_output s
+opened_is s closed =
+    ap (λ (t : Turn). t.state) (cond-true (not s.have_output) _ _ (not_from_false s.have_output closed))
+
+opened_in_place : (s : State) → IsInPlace (clear_output s)
+opened_in_place s = record { together = refl; near = omega arith; closed = λ e. cc }
+
+-- in an output that was just opened no list of calls stops in which none puts out more than it reads
+pub opened_never_stops : (calls : List Call) (s : State) → s.have_output ≡ false
+    → ((t : State) → NoGlyphIsAdded calls t) → (at : ℕ) (before : List Answer) (new : State) (answers : List Answer)
+    → StopsAt at (ClearOutput ∷ calls) s before new answers → ⊥
+opened_never_stops calls s closed none zero before new answers stop =
+    absurd (false≢true (sym closed ∙ ap (λ (t : State). t.have_output) (sym stop.state) ∙ stop.due.0.0))
+opened_never_stops calls s closed none (suc at) before new answers stop =
+    let first = (turn ClearOutput s).state in
+    let here : IsInPlace first = subst IsInPlace (sym (opened_is s closed)) (opened_in_place s) in
+    never_stops calls first (stays_in_place calls first (none first) here) at [] new
+    (answers_of (take at calls) first ++ drop at []) (record {
+      within = omega (arith, stop.within);
+      due = stop.due;
+      state = stop.state;
+      told = refl;
+    })
+
+-- so these stop only in one that was open
+pub stops_open : (ids : Bor (List ℕ)) (s : State) (at : ℕ) (before : List Answer) (new : State)
+    (answers : List Answer) → StopsAt at (calls_with ids) s before new answers → s.have_output ≡ true
+stops_open ids s at before new answers stop =
+    elim (cases_Bool s.have_output) [
+      | inl opened ↦ opened
+      | inr closed ↦ absurd (opened_never_stops (ReplaceGlyphs 2 1 ids ∷ Sync ∷ []) s closed
+          (λ t. (refl, (refl, tt))) at before new answers stop)
+    ]
+
+-- ---- a merge of the first two characters of a text
+
+pub merge_told : (s : State) → s.have_output ≡ false → 2 ≤ length s.input
+    → answers_of (MergeClusters 0 2 ∷ []) s ≡ Done ∷ []
+merge_told s closed two =
+    ap (λ (t : Turn). t.answer ∷ [])
+    (cond-true (is_input_range 0 2 s) _ _ (rw (closed, le-leb 2 (length s.input) two) refl))
+
+pub merge_outside : (s : State) → s.have_output ≡ false → length s.input < 2
+    → answers_of (MergeClusters 0 2 ∷ []) s ≡ Outside ∷ []
+merge_outside s closed few =
+    ap (λ (t : Turn). t.answer ∷ [])
+    (cond-false (is_input_range 0 2 s) _ _ (rw (closed, lt-leb 2 (length s.input) few) refl))

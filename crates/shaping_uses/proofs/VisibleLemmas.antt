@@ -1,8 +1,8 @@
 -- Deletion keeps every glyph except the current one; clusters and masks may change.
-use Rattle.std.proofs.Common.{◌≡◌, ℕ, ◌+◌, ◌≤◌, ◌<◌, ◌-◌, Bool, true, false, List, [], ◌∷◌, ◌++◌}
+use Rattle.std.proofs.Common.{◌≡◌, ℕ, zero, suc, ◌+◌, ◌≤◌, ◌<◌, ◌-◌, Bool, true, false, List, [], ◌∷◌, ◌++◌}
 use Rattle.std.proofs.Common.{length, take, drop, refl, sym, ap, ◌∙◌, arith, cond, ltb, leb, eqb, length-drop}
-use Rattle.std.proofs.lemmas.Bool.{cond_both, cond-false}
-use Rattle.std.proofs.lemmas.List.{length-map}
+use Rattle.std.proofs.lemmas.Bool.{cond_both, cond-true, cond-false, not-true, not-false}
+use Rattle.std.proofs.lemmas.List.{map-append, append_assoc}
 use Rattle.std.specs.Prelude.{slice_index_or, filter}
 use Rattle.rb_glyph.specs.declared.info.hb_glyph_info_t.{hb_glyph_info_t}
 use Rattle.glyph_lists.specs.Parts.{part, map_range}
@@ -11,13 +11,14 @@ use Rattle.glyph_lists.specs.Clusters.{widened_start, widened_end, zero_glyph}
 use Rattle.glyph_lists.specs.Marks.{with_glyph_flags, mark}
 use Rattle.glyph_lists.specs.Deletion.{Sides, deletion, merge_or_mark, with_trailing_run, last_cluster, lowers_run}
 use Rattle.glyph_lists.specs.Deletion.{merges_next}
-use Rattle.glyph_lists.specs.Deletion.{Sides, deletion, merge_or_mark, with_trailing_run, last_cluster, lowers_run}
-use Rattle.glyph_lists.specs.Deletion.{merges_next}
 use Rattle.glyph_lists.proofs.PartsLemmas.{map-map_range, map-new_part, map-map_same}
+use Rattle.glyph_lists.proofs.LengthsLemmas.{length-deletion}
 use Rattle.glyph_lists.proofs.RunsLemmas.{run_start-le, widened_start-le, widened_end-ge}
-use Rattle.shaping_buffer.specs.State.{State, lookahead_len, place_of}
-use Rattle.shaping_buffer.specs.ClusterStep.{delete_glyph, any_order, head_of}
-use Rattle.shaping_uses.specs.Visible.{core, cores, is_visible, visible}
+use Rattle.glyph_lists.specs.DeletingWalk.{head_of, after_next, after_deletion, after_turn, after_walk, left_by_walk}
+use Rattle.shaping_buffer.specs.State.{State}
+use Rattle.shaping_buffer.specs.ClusterStep.{any_order}
+use Rattle.shaping_buffer.specs.GroupStep.{delete_glyphs_inplace}
+use Rattle.shaping_uses.specs.Visible.{core, cores, is_visible, is_invisible, visible}
 
 core-with_cluster : (c w : ℕ) (g : hb_glyph_info_t) → core (with_cluster c w g) ≡ core g
 unfolding with_cluster
@@ -82,8 +83,8 @@ deletion_same level out x rest =
     ))
     (λ _. (refl, refl)))
 
--- an invisible head is deleted
-visible_deleted : (level : Bool) (out input : List hb_glyph_info_t) → 0 < length input
+-- an invisible current glyph is deleted
+pub visible_deleted : (level : Bool) (out input : List hb_glyph_info_t) → 0 < length input
     → is_visible (slice_index_or input 0 zero_glyph) ≡ false
     → cores (deletion level out (slice_index_or input 0 zero_glyph) (drop 1 input)).out
     ++ visible (deletion level out (slice_index_or input 0 zero_glyph) (drop 1 input)).rest
@@ -97,33 +98,52 @@ visible_deleted level out (x ∷ rest) some e =
     ∙ ap (λ (l : List hb_glyph_info_t). cores out ++ l)
     (sym (cond-false (is_visible x) (core x ∷ visible rest) (visible rest) e))
 
--- ---- along the pass
+-- a visible one is put out
+pub visible_next : (out input : List hb_glyph_info_t) → 0 < length input
+    → is_visible (slice_index_or input 0 zero_glyph) ≡ true
+    → cores (out ++ take 1 input) ++ visible (drop 1 input) ≡ cores out ++ visible input
+visible_next out [] some e = absurd (omega arith)
+visible_next out (x ∷ rest) some e =
+    ap (λ (l : List hb_glyph_info_t). l ++ visible rest) (map-append core out (x ∷ []))
+    ∙ append_assoc (cores out) (core x ∷ []) (visible rest)
+    ∙ ap (λ (l : List hb_glyph_info_t). cores out ++ l)
+    (sym (cond-true (is_visible x) (core x ∷ visible rest) (visible rest) e))
 
--- a glyph is left, and it is the one at the cursor
-some_left : (have_output : Bool) (idx n : ℕ) → have_output ≡ true → 0 < cond have_output (idx + n) n - idx → 0 < n
-some_left true idx n e some = omega arith
-some_left false idx n e some = cc
+-- where nothing is left to read, what was put out is all
+pub visible_none : (out input : List hb_glyph_info_t) → length input ≡ 0
+    → cores (out ++ input) ≡ cores out ++ visible input
+visible_none out [] none = map-append core out []
+visible_none out (x ∷ rest) none = absurd (omega (arith, none))
 
-head_is : (have_output : Bool) (idx : ℕ) (input : List hb_glyph_info_t) (g : hb_glyph_info_t) → have_output ≡ true
-    → 0 < length input → g ≡ slice_index_or input (cond have_output 0 (idx + 0)) g
-    → g ≡ slice_index_or input 0 zero_glyph
-head_is true idx [] g e some at = absurd (omega arith)
-head_is true idx (x ∷ rest) g e some at = at
-head_is false idx input g e some at = cc
+-- ---- the walk over a list
 
-pub deleted_keeps : (s : State) (g : hb_glyph_info_t) (l : List hb_glyph_info_t) → s.have_output ≡ true
-    → 0 < lookahead_len s → g ≡ slice_index_or s.input (place_of s 0) g → is_visible g ≡ false
-    → cores s.out ++ visible s.input ≡ l
-    → ((delete_glyph s).have_output ≡ true) × (cores (delete_glyph s).out ++ visible (delete_glyph s).input ≡ l)
-deleted_keeps s g l e some at hidden kept =
-    let n = some_left s.have_output s.idx (length s.input) e some in
-    let head = head_is s.have_output s.idx s.input g e n at in
-    (e, visible_deleted (any_order s) s.out s.input n (ap is_visible (sym head) ∙ hidden) ∙ kept)
+abbrev Shows : Sides → Sides → Type 0
+Shows s t =
+    (cores t.out ++ visible t.rest ≡ cores s.out ++ visible s.rest) × (length t.rest + 1 ≡ length s.rest)
 
-pub deleted_smaller : (s : State) → s.have_output ≡ true → 0 < lookahead_len s
-    → length (delete_glyph s).input < length s.input
-deleted_smaller s e some =
-    let n = some_left s.have_output s.idx (length s.input) e some in
-    let d = delete_glyph s in
-    let same = ap length (deletion_same (any_order s) s.out (head_of s) (drop 1 s.input)).1 in
-    omega (arith, same, length-map d.input core, length-map (drop 1 s.input) core, length-drop 1 s.input)
+turn_shows : (level : Bool) (s : Sides) → 0 < length s.rest → Shows s (after_turn level is_invisible s)
+turn_shows level s some =
+    let x = head_of s in
+    let less : length (drop 1 s.rest) + 1 ≡ length s.rest = omega (arith, length-drop 1 s.rest, some) in
+    cond_both (is_invisible x) (after_deletion level s) (after_next s) (Shows s)
+    (λ hidden. (
+      visible_deleted level s.out s.rest some (not-true (is_visible x) hidden),
+      omega (arith, less, (length-deletion level s.out x (drop 1 s.rest)).1),
+    ))
+    (λ seen. (visible_next s.out s.rest some (not-false (is_visible x) seen), less))
+
+walk_shows : (level : Bool) (turns : ℕ) (s : Sides) → turns ≡ length s.rest
+    → cores ((after_walk level is_invisible turns s).out ++ (after_walk level is_invisible turns s).rest)
+    ≡ cores s.out ++ visible s.rest
+walk_shows level zero s none = visible_none s.out s.rest (sym none)
+walk_shows level (suc turns) s all =
+    let one = turn_shows level s (omega (arith, all)) in
+    walk_shows level turns (after_turn level is_invisible s) (omega (arith, one.1, all)) ∙ one.0
+
+-- it leaves the visible glyphs
+left_shows : (level : Bool) (l : List hb_glyph_info_t) → cores (left_by_walk level is_invisible l) ≡ visible l
+left_shows level l = walk_shows level (length l) (record { out = []; rest = l }) refl
+
+pub deletion_shows : (s new : State) → new ≡ delete_glyphs_inplace is_invisible s
+    → cores new.input ≡ visible s.input
+deletion_shows s new is = ap (λ (t : State). cores t.input) is ∙ left_shows (any_order s) s.input

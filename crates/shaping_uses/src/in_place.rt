@@ -1,13 +1,13 @@
 //! Calls while the output is in place, in the storage of the input. They take no memory, so they never run out of it.
 //! It is so of single calls, and of a list of them.
 
-ghost use Rattle.std.specs.Prelude.{◌≡◌, ◌<◌, ◌≤◌, true, false, None, Ok, drop, replicate};
+ghost use Rattle.std.specs.Prelude.{◌≡◌, ◌<◌, ◌≤◌, true, false, None, Ok, [], drop, replicate, IfNone, IfSome, IsSome};
 ghost use Rattle.shaping_buffer.specs.State.{len, lookahead_len};
 ghost use Rattle.shaping_buffer.specs.Step.{last_place};
 ghost use Rattle.shaping_runs.specs.declared.call.Answer.TheVariants as answer;
 
 use shaping_buffer::hb_buffer_t;
-use shaping_runs::{Answer, Call, laws, replay};
+use shaping_runs::{Answer, Call, replay};
 use std::alloc::AllocError;
 
 /// Puts the glyph at the cursor out.
@@ -16,7 +16,6 @@ pub fn next_in_place(buffer: &mut hb_buffer_t) -> Result<bool, AllocError>
     requires in_place { buffer.old.have_separate_output ≡ false }
     ensures { result ≡ Ok true }
 {
-    let _ = (buffer.have_separate_output(), buffer.len());
     buffer.next_glyph()
 }
 
@@ -26,7 +25,6 @@ pub fn next_glyphs_in_place(buffer: &mut hb_buffer_t, n: usize) -> Result<bool, 
     requires in_place { buffer.old.have_separate_output ≡ false }
     ensures { result ≡ Ok true }
 {
-    let _ = (buffer.have_separate_output(), buffer.len());
     buffer.next_glyphs(n)
 }
 
@@ -37,7 +35,6 @@ pub fn replace_in_place(buffer: &mut hb_buffer_t, id: u32) -> Result<bool, Alloc
     requires in_place { buffer.old.have_separate_output ≡ false }
     ensures { result ≡ Ok true }
 {
-    let _ = (buffer.have_separate_output(), buffer.len());
     buffer.replace_glyph(id)
 }
 
@@ -48,7 +45,6 @@ pub fn move_in_place(buffer: &mut hb_buffer_t, i: usize) -> Result<bool, AllocEr
     requires in_place { buffer.old.have_separate_output ≡ false }
     ensures { result ≡ Ok true }
 {
-    let _ = (buffer.have_separate_output(), buffer.len());
     buffer.move_to(i)
 }
 
@@ -59,26 +55,28 @@ pub fn sync_in_place(buffer: &mut hb_buffer_t) -> Result<bool, AllocError>
     requires in_place { buffer.old.have_separate_output ≡ false }
     ensures { result ≡ Ok true }
 {
-    let _ = (buffer.have_separate_output(), buffer.len());
     buffer.sync()
 }
 
 /// Drops the first glyph, puts three out, takes them back, and closes, in the storage of the input. With memory gone
 /// after the text was pushed, these calls are done all the same: none puts out more glyphs than it reads, so `replay`
-/// stops at none of them.
-pub fn rewind_in_place(buffer: &mut hb_buffer_t) -> [Answer; 7]
+/// stops at none of them. `None` where there are fewer than four glyphs: then nothing changes.
+pub fn rewind_in_place(buffer: &mut hb_buffer_t) -> Option<[Answer; 7]>
     requires closed { buffer.old.have_output ≡ false }
     requires successful { buffer.old.successful ≡ true }
-    requires glyphs { 4 ≤ len buffer.old }
-    ensures answers { result ≡ replicate 7 answer.Done }
-    ensures left { buffer.new
-        ≡ record buffer.old { input = drop 1 buffer.old.input; idx = 0; positions = None } }
+    ensures few { IfNone result ((len buffer.old < 4) × (buffer.new ≡ buffer.old)) }
+    ensures answers { IfSome result (λ answers. answers ≡ replicate 7 answer.Done) }
+    ensures left { IsSome result → buffer.new ≡ record buffer.old {
+      have_separate_output = false;
+      out = [];
+      input = drop 1 buffer.old.input;
+      idx = 0;
+      positions = None;
+    } }
 {
-    let _ = (
-        buffer.have_separate_output(),
-        buffer.out_len(),
-        buffer.len(),
-    );
+    if buffer.len() < 4 {
+        return None;
+    }
     let calls = [
         Call::ClearOutput,
         Call::SkipGlyph,
@@ -89,10 +87,8 @@ pub fn rewind_in_place(buffer: &mut hb_buffer_t) -> [Answer; 7]
         Call::Sync,
     ];
     let mut answers = [Answer::Outside; 7];
-    laws::what_is_put_out_stays_in_place();
-    laws::lists_in_place_never_stop();
     match replay(buffer, &calls, &mut answers) {
-        Ok(()) => answers,
+        Ok(()) => Some(answers),
         Err(_) => unreachable!(),
     }
 }

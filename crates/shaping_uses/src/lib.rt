@@ -1,14 +1,14 @@
 //! Callers of the shaping buffer, as a user would write them, each with the contract that a user would want.
 #![tactic(auto)]
 
-pub mod accessors;
 pub mod comparing;
+pub mod groups;
 pub mod in_place;
 pub mod kerning;
 pub mod line_break;
 pub mod merging;
 pub mod printing;
-pub mod references;
+pub mod probes;
 pub mod rendering;
 pub mod room;
 pub mod runs;

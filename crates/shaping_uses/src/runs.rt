@@ -1,17 +1,22 @@
 //! Lists of calls, made by `replay`.
 
-ghost use Rattle.std.specs.Prelude.{◌≡◌, ◌≤◌, ◌↔◌, ℕ, true, length, chars, IfOk, IsTrue, OnOk};
+ghost use Rattle.std.specs.Prelude.{◌≡◌, ◌<◌, ◌≤◌, ◌↔◌, ℕ, true, length, chars, take};
+ghost use Rattle.std.specs.Prelude.{IfOk, IfErr, OnOk, OnErr, IsTrue};
 ghost use Rattle.glyph_lists.specs.Clusters.{clusters, occurs};
 ghost use Rattle.shaping_buffer.specs.ClusterStep.{both};
-ghost use Rattle.shaping_runs.specs.Replay.{after};
+ghost use Rattle.shaping_runs.specs.Replay.{after, answers_of};
+ghost use Rattle.shaping_uses.specs.Runs.{ligature_calls};
 
 use shaping_buffer::{UnicodeBuffer, hb_buffer_t};
 use shaping_runs::{Answer, Call, Stopped, headline, replay};
 use std::alloc::{AllocError, Global};
 
-/// Puts the first two characters of a text into one cluster. `Ok(false)` where there are no two.
+/// Puts the first two characters of a text into one cluster. `Ok(false)` where it has no two, or more than a buffer may
+/// hold. `Err(AllocError)` comes only where the text is not empty.
 pub fn first_two_as_one(alloc: Global, text: &str) -> Result<bool, AllocError>
-    ensures { IfOk result (λ done. IsTrue done → 2 ≤ length (chars text.now)) }
+    ensures is { IfOk result (λ done. IsTrue done
+        ↔ ((2 ≤ length (chars text.now)) × (length (chars text.now) ≤ 0x3FFF_FFFF))) }
+    ensures wants { OnErr result (0 < length (chars text.now)) }
 {
     let mut characters = UnicodeBuffer::new(alloc);
     if !characters.push_str(text)? {
@@ -22,23 +27,30 @@ pub fn first_two_as_one(alloc: Global, text: &str) -> Result<bool, AllocError>
     let Ok(()) = replay(&mut buffer, &[Call::MergeClusters(0, 2)], &mut answers) else {
         return Err(AllocError);
     };
-    Ok(matches!(answers[0], Answer::Done))
+    Ok(answers[0] == Answer::Done)
 }
 
-/// Makes the first two glyphs one ligature. No cluster number comes in that was not there.
-pub fn ligate_first_two(buffer: &mut hb_buffer_t, ligature: u32) -> Result<(), Stopped>
-    ensures { OnOk result ((c : ℕ) → occurs c (clusters (both buffer.new)) ≡ true
-        → occurs c (clusters (both buffer.old)) ≡ true) }
+/// Makes the first two glyphs one ligature, and answers each of its three calls: `Outside` for the second where there
+/// are no two glyphs. No cluster number comes in that was not there. `Err(Stopped)` comes only where an output was open
+/// before: then the calls before the one that stopped stand.
+pub fn ligate_first_two(buffer: &mut hb_buffer_t, ligature: u32) -> Result<[Answer; 3], Stopped>
+    ensures answers { IfOk result (λ answers.
+        answers ≡ answers_of (ligature_calls ligature) buffer.old) }
+    ensures state { OnOk result (buffer.new ≡ after (ligature_calls ligature) buffer.old) }
+    ensures stopped { IfErr result (λ stop.
+        buffer.new ≡ after (take stop.at (ligature_calls ligature)) buffer.old) }
+    ensures opened { OnErr result (buffer.old.have_output ≡ true) }
+    ensures clusters { (c : ℕ) → occurs c (clusters (both buffer.new)) ≡ true
+        → occurs c (clusters (both buffer.old)) ≡ true }
 {
+    let ids = [ligature];
     let calls = [
         Call::ClearOutput,
-        Call::MergeClusters(0, 2),
-        Call::ReplaceGlyph(ligature),
-        Call::SkipGlyph,
+        Call::ReplaceGlyphs(2, 1, &ids),
         Call::Sync,
     ];
-    let mut answers = [Answer::Outside; 5];
-    replay(buffer, &calls, &mut answers)?;
+    let mut answers = [Answer::Outside; 3];
     headline::no_cluster_is_new();
-    Ok(())
+    replay(buffer, &calls, &mut answers)?;
+    Ok(answers)
 }

@@ -1,7 +1,9 @@
-//! A pass over the glyphs that deletes what is invisible by default.
+//! Passes over the glyphs that delete what is invisible by default: one by calls, and one in place.
 
-ghost use Rattle.std.specs.Prelude.{◌≡◌, false, IfOk, IsTrue};
-ghost use Rattle.shaping_uses.specs.Visible.{cores, visible};
+ghost use Rattle.std.specs.Prelude.{◌≡◌, true, false, Ok};
+ghost use Rattle.shaping_buffer.specs.GroupStep.{delete_glyphs_inplace};
+ghost use Rattle.shaping_buffer.specs.Step as step;
+ghost use Rattle.shaping_uses.specs.Visible.{cores, is_invisible, visible, walked};
 
 use shaping_buffer::{hb_buffer_t, hb_glyph_info_t};
 use std::alloc::AllocError;
@@ -10,22 +12,38 @@ use std::alloc::AllocError;
 const IGNORABLE: u16 = 0x20;
 
 /// Deletes each glyph whose properties say that it is invisible by default. What is left are the visible glyphs, in
-/// their order; only their clusters and masks may have changed. `Ok(false)` where the buffer refused a call for length.
-/// Requires that no output is open.
+/// their order; only their clusters and masks may have changed. The pass stays in place, so it asks for no memory, and
+/// `Ok(false)` comes only where the buffer had refused a call before it: then the output stays open, with the visible
+/// glyphs put out and nothing left to read. Requires that no output is open.
 pub fn hide_ignorables(buffer: &mut hb_buffer_t) -> Result<bool, AllocError>
     requires { buffer.old.have_output ≡ false }
-    ensures { IfOk result (λ done. IsTrue done
-        → cores buffer.new.input ≡ visible buffer.old.input) }
+    ensures answer { result ≡ Ok buffer.old.successful }
+    ensures done { buffer.old.successful ≡ true
+        → cores buffer.new.input ≡ visible buffer.old.input }
+    ensures refused { buffer.old.successful ≡ false → (buffer.new ≡ walked buffer.old)
+        × (cores buffer.new.out ≡ visible buffer.old.input) }
+    ensures exactly { buffer.new ≡ (step.sync (walked buffer.old)).state }
 {
     buffer.clear_output();
     while buffer.lookahead_len() > 0 {
-        if !is_visible(buffer.cur(0)) {
+        if is_visible(buffer.cur(0)) {
+            buffer.next_glyph()?;
+        } else {
             buffer.delete_glyph();
-        } else if !buffer.next_glyph()? {
-            return Ok(false);
         }
     }
     buffer.sync()
+}
+
+/// The same in one call, which opens no output and is never refused. Positions go with the glyphs that are left, where
+/// there are any. Requires that no output is open.
+#[tactic(auto, using(crate::proofs::VisibleLemmas::deletion_shows))]
+pub fn delete_ignorables(buffer: &mut hb_buffer_t)
+    requires { buffer.old.have_output ≡ false }
+    ensures exactly { buffer.new ≡ delete_glyphs_inplace is_invisible buffer.old }
+    ensures left { cores buffer.new.input ≡ visible buffer.old.input }
+{
+    buffer.delete_glyphs_inplace(|glyph| !is_visible(glyph));
 }
 
 /// Whether a glyph is not invisible by default.

@@ -1,4 +1,4 @@
-use Rattle.std.proofs.Common.{◌≡◌, ◌*◌, ◌<◌, ℕ, length, rules, sym, subst}
+use Rattle.std.proofs.Common.{◌≡◌, ◌*◌, ◌<◌, length, rules, sym, subst}
 use Rattle.shaping_buffer.specs.State.{State, lookahead_len}
 use Rattle.shaping_uses.proofs.RoomLemmas.{Marking, begins, mark_done, mark_fails, next_done, next_fails, sync_done}
 use Rattle.shaping_uses.proofs.room.put_marks_within_room.Goals as goal

@@ -29,14 +29,14 @@ pub fn context_len(buffer: &hb_buffer_t) -> usize
 }
 
 /// How many glyphs a new buffer may hold.
-pub fn most_glyphs(alloc: Global) -> usize
+pub fn default_glyph_limit(alloc: Global) -> usize
     ensures { result ≡ 0x3FFF_FFFF }
 {
     hb_buffer_t::new(alloc).max_len()
 }
 
 /// A new text may hold as many, and its shaper may make so many operations.
-pub fn most_operations(alloc: Global) -> i32
+pub fn default_operation_limit(alloc: Global) -> i32
     ensures { result ≡ pos 0x1FFF_FFFF }
 {
     UnicodeBuffer::new(alloc).into_buffer().max_ops
