@@ -3,7 +3,7 @@
 
 pub use kerning::{KerningTable, kern};
 pub use normalization::{compose_marks, decompose_all, order_marks};
-pub use substitution::{Lookup, Substitution, substitute};
+pub use substitution::{Lookup, Substitution, substitute, substitute_next};
 pub use visible::hide_default_ignorables;
 
 pub mod kerning;

@@ -164,7 +164,7 @@ pub fn substitute(buffer: &mut hb_buffer_t, lookup: &Lookup) -> Result<bool, All
 }
 
 /// One turn of the walk: a rule is used at the cursor, or the current glyph is put out.
-fn substitute_next(buffer: &mut hb_buffer_t, lookup: &Lookup) -> Result<bool, AllocError>
+pub fn substitute_next(buffer: &mut hb_buffer_t, lookup: &Lookup) -> Result<bool, AllocError>
     requires opened { buffer.old.have_output ≡ true }
     requires glyph { 0 < length buffer.old.input }
     ensures turn { MatchResult result (λ done. rules.IsTurn lookup.now done buffer.old buffer.new)
