@@ -1,0 +1,2 @@
+mod RulesLemmas
+mod ShapeLemmas
