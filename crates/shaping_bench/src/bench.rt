@@ -3,6 +3,8 @@
 use crate::item::{PassItem, TextItem};
 use crate::measuring::{Item, Measured, measure};
 use crate::pass::Pass;
+use crate::shaper_passes::{ShaperItem, ShaperPass};
+use crate::shaper_tables::{TableRows, Tables};
 use crate::tags::{TagsItem, long_keys, pairs, rows};
 use crate::texts::{FEATURES, FeaturesItem, NewTextItem, ReusedTextItem, mixed_text};
 use crate::workload::{WORKLOADS, Workload};
@@ -89,6 +91,7 @@ fn measure_workload<R: Clock>(
         Workload::ReusedText => measure_reused_text(rt, alloc, size),
         Workload::Calls(pass) => measure_pass(rt, alloc, pass, size),
         Workload::Serialized { positions } => measure_text(rt, alloc, positions, size),
+        Workload::Shaping(pass) => measure_shaper_pass(rt, alloc, pass, size),
         Workload::Features => measure_features(rt, alloc, size),
         Workload::Tags { is_long: false } => measure_tags(rt, alloc, &ONE_ROW, size),
         Workload::Tags { is_long: true } => measure_long_table(rt, alloc, size),
@@ -135,6 +138,21 @@ fn measure_text<R: Clock>(
     let mut items = Vec::new(alloc);
     for _ in 0..batch(size) {
         items.push(TextItem::new(alloc, size, has_positions)?)?;
+    }
+    measure(rt, alloc, &mut items)
+}
+
+fn measure_shaper_pass<R: Clock>(
+    rt: &R,
+    alloc: Global,
+    pass: ShaperPass,
+    size: usize,
+) -> anyhow::Result<Measured> {
+    let rows = TableRows::new(alloc)?;
+    let tables = Tables::new(&rows)?;
+    let mut items = Vec::new(alloc);
+    for _ in 0..batch(size) {
+        items.push(ShaperItem::new(alloc, pass, &tables, size))?;
     }
     measure(rt, alloc, &mut items)
 }

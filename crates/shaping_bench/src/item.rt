@@ -113,11 +113,11 @@ fn filled(
 }
 
 /// A number modulo 2^32.
-fn low_bits(number: usize) -> u32 {
+pub fn low_bits(number: usize) -> u32 {
     (number % 0x1_0000_0000) as u32
 }
 
 /// The id of the last glyph, or 0.
-fn last_id(buffer: &hb_buffer_t) -> u32 {
+pub fn last_id(buffer: &hb_buffer_t) -> u32 {
     buffer.info().last().map_or(0, |glyph| glyph.glyph_id)
 }

@@ -10,6 +10,8 @@ mod lists;
 mod measuring;
 mod pass;
 mod ranges;
+mod shaper_passes;
+mod shaper_tables;
 mod tags;
 mod texts;
 mod walks;

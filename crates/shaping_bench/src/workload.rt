@@ -1,6 +1,7 @@
 //! The workloads by name.
 
 use crate::pass::Pass;
+use crate::shaper_passes::ShaperPass;
 
 /// What is measured.
 #[derive(Clone, Copy)]
@@ -13,6 +14,8 @@ pub enum Workload {
     Calls(Pass),
     /// The text of glyphs by their numbers, with clusters, and with positions or without.
     Serialized { positions: bool },
+    /// A pass of a shaper over a list of glyphs.
+    Shaping(ShaperPass),
     /// Texts of features.
     Features,
     /// Tags of scripts and languages, by a table with one row or a long one.
@@ -30,7 +33,7 @@ impl Workload {
 }
 
 /// Every workload with its name.
-pub const WORKLOADS: [(&str, Workload); 28] = [
+pub const WORKLOADS: [(&str, Workload); 35] = [
     ("push_str_new", Workload::NewText),
     ("push_str_reused", Workload::ReusedText),
     ("next_glyph_sync", Workload::Calls(Pass::NextGlyphSync)),
@@ -89,6 +92,16 @@ pub const WORKLOADS: [(&str, Workload); 28] = [
         "serialize_ids_clusters",
         Workload::Serialized { positions: false },
     ),
+    ("decompose_all", Workload::Shaping(ShaperPass::DecomposeAll)),
+    ("order_marks", Workload::Shaping(ShaperPass::OrderMarks)),
+    ("compose_marks", Workload::Shaping(ShaperPass::ComposeMarks)),
+    ("substitute", Workload::Shaping(ShaperPass::Substitute)),
+    (
+        "hide_default_ignorables",
+        Workload::Shaping(ShaperPass::HideDefaultIgnorables),
+    ),
+    ("kern", Workload::Shaping(ShaperPass::Kern)),
+    ("line_ends", Workload::Shaping(ShaperPass::LineEnds)),
     ("features", Workload::Features),
     ("tags_1_row", Workload::Tags { is_long: false }),
     ("tags_long_table", Workload::Tags { is_long: true }),
