@@ -2,6 +2,7 @@ use shaping_buffer::{GlyphPosition, UnicodeBuffer, hb_glyph_info_t};
 use shaping_passes::lines::cuts_of_monotone_clusters;
 use shaping_passes::{KerningTable, kern, line_ends};
 use std::alloc::{AllocError, Global};
+use std::process::Abort;
 use std::test::Fail;
 
 /// The cluster, the mask and the advance of each glyph, the widths of the lines, and where the lines end.
@@ -120,7 +121,7 @@ static BY_FLAGS: [Case; 5] = [
 #[test]
 fn lines_end_by_their_widths(rt: HostRuntime) -> Result<(), Fail> {
     for case in &BY_WIDTH {
-        assert!(rt; ends_of(rt.alloc(), case)?.as_slice() == case.ends);
+        assert!(rt; ends_of(&rt, rt.alloc(), case)?.as_slice() == case.ends);
     }
     Ok(())
 }
@@ -128,7 +129,7 @@ fn lines_end_by_their_widths(rt: HostRuntime) -> Result<(), Fail> {
 #[test]
 fn lines_end_where_the_text_may_be_cut(rt: HostRuntime) -> Result<(), Fail> {
     for case in &BY_FLAGS {
-        assert!(rt; ends_of(rt.alloc(), case)?.as_slice() == case.ends);
+        assert!(rt; ends_of(&rt, rt.alloc(), case)?.as_slice() == case.ends);
     }
     Ok(())
 }
@@ -139,7 +140,7 @@ fn laws_may_be_cited() {
     cuts_of_monotone_clusters();
 }
 
-fn ends_of(alloc: Global, case: &Case) -> Result<Vec<usize>, AllocError> {
+fn ends_of(rt: &impl Abort, alloc: Global, case: &Case) -> Result<Vec<usize>, AllocError> {
     let mut glyphs = Vec::new(alloc);
     let mut positions = Vec::new(alloc);
     for (cluster, mask, x_advance) in case.glyphs {
@@ -153,6 +154,7 @@ fn ends_of(alloc: Global, case: &Case) -> Result<Vec<usize>, AllocError> {
             ..GlyphPosition::default()
         })?;
     }
+    assert!(rt; glyphs.len() == positions.len());
     line_ends(alloc, &glyphs, &positions, case.widths)
 }
 
