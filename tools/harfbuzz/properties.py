@@ -12,6 +12,8 @@ HERE = Path(__file__).resolve().parent
 ROOT = HERE.parent.parent
 UNASSIGNED = 2
 NO_CHARACTERS = range(0xD800, 0xE000)
+# Syllables of Hangul are compared by a property of their own.
+HANGUL = range(0xAC00, 0xD7A4)
 # The program is too long for the interpreter of `rt try`, which gives up after so many steps. The compiled one has so many seconds.
 TRY = ["rt", "try", "--steps", "1000", "--seconds", "600"]
 
@@ -124,7 +126,7 @@ def compare_property(name, ours, theirs, unassigned, asked):
 def pairs_of(ranges):
     """The pairs that characters decompose to."""
     firsts, seconds = answers_of(ranges["first_part"]), answers_of(ranges["second_part"])
-    taken = [c for c, first in firsts.items() if first != "0" and c not in NO_CHARACTERS]
+    taken = [c for c, first in firsts.items() if first != "0" and c not in NO_CHARACTERS and c not in HANGUL]
     return {(int(firsts[c], 16), int(seconds[c], 16)) for c in taken}
 
 
