@@ -1,10 +1,12 @@
-// Properties of characters, directions of scripts, Hangul, and reversals, as lines: `properties.rattle` prints the same of ours.
+// Properties of characters, directions of scripts, Hangul, tables, and reversals, as lines: `properties.rattle` prints the same of ours.
 //
 // A property is printed as ranges of code points with one value, in hexadecimal digits.
 #include <cstdint>
 #include <cstdio>
 #include <iostream>
+#include <map>
 #include <string>
+#include <vector>
 
 static const unsigned NO_CHARACTER = 0xFFFF, REVERSALS = 5000;
 static const uint64_t SEED = 1;
@@ -54,6 +56,28 @@ static void print_hangul (hb_unicode_funcs_t *unicode)
   print_ranges ("trailing", 0, 11174 * 30, [&] (unsigned i) { return composed (unicode, 0xABFF + i / 30, 0x11A6 + i % 30); });
 }
 
+// ---- the tables: canonical combining classes, decompositions in one step, and what pairs compose to
+
+using Characters = std::vector<unsigned>;
+
+static void print_composed (hb_unicode_funcs_t *unicode, const Characters &firsts, const Characters &seconds)
+{
+  hb_codepoint_t both;
+  unsigned n = seconds.size ();
+  print_ranges ("composed", 0, firsts.size () * n, [&] (unsigned i) {
+    return hb_unicode_compose (unicode, firsts[i / n], seconds[i % n], &both) ? both : 0;
+  });
+}
+
+static void print_tables (hb_unicode_funcs_t *unicode)
+{
+  hb_codepoint_t a, b;
+  print_property ("combining_class", [&] (unsigned c) { return (unsigned) hb_unicode_combining_class (unicode, c); });
+  print_property ("modified_class", [&] (unsigned c) { return (unsigned) unicode->modified_combining_class (c); });
+  print_property ("first_part", [&] (unsigned c) { return hb_unicode_decompose (unicode, c, &a, &b) ? a : 0; });
+  print_property ("second_part", [&] (unsigned c) { return hb_unicode_decompose (unicode, c, &a, &b) ? b : 0; });
+}
+
 // ---- reversals of random lists
 
 static unsigned random_below (uint64_t &state, unsigned n)
@@ -86,16 +110,21 @@ static void print_reversal (uint64_t &state)
   hb_buffer_destroy (b);
 }
 
-// ---- all; the tags of the scripts are read from standard input, as numbers
+// ---- all; the tags of the scripts, and the characters of the pairs, are read from standard input: a name and a number a line
 
 static int print_all ()
 {
   uint64_t state = SEED;
   hb_unicode_funcs_t *unicode = hb_unicode_funcs_get_default ();
-  for (unsigned tag; std::cin >> std::hex >> tag;)
+  std::map<std::string, Characters> asked;
+  std::string name;
+  for (unsigned number; std::cin >> name >> std::hex >> number;) asked[name].push_back (number);
+  for (unsigned tag : asked["direction"])
     printf ("direction %x %x\n", tag, (unsigned) hb_script_get_horizontal_direction ((hb_script_t) tag));
   print_characters (unicode);
   print_hangul (unicode);
+  print_tables (unicode);
+  print_composed (unicode, asked["asked_first"], asked["asked_second"]);
   for (unsigned i = 0; i < REVERSALS; i++) print_reversal (state);
   return 0;
 }

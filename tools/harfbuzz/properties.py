@@ -1,4 +1,4 @@
-"""What `properties.rattle` prints of ours, beside what HarfBuzz prints: values of all code points, scripts, Hangul, reversals."""
+"""What `properties.rattle` prints of ours, beside what HarfBuzz prints: values of all code points, pairs, scripts, Hangul, reversals."""
 
 import collections
 import re
@@ -11,22 +11,31 @@ from pathlib import Path
 HERE = Path(__file__).resolve().parent
 ROOT = HERE.parent.parent
 UNASSIGNED = 2
+NO_CHARACTERS = range(0xD800, 0xE000)
+# Syllables of Hangul are compared by a property of their own.
+HANGUL = range(0xAC00, 0xD7A4)
+# The program is too long for the interpreter of `rt try`, which gives up after so many steps. The compiled one has so many seconds.
+TRY = ["rt", "try", "--steps", "1000", "--seconds", "600"]
 
 # What may differ, by the property and the number that is asked for. docs/DIFFERENCES.md has a line for each.
 NEWER = "unassigned in Unicode 16, which HarfBuzz has, and not in Unicode 18, which the kit has"
+OF_CHARACTERS = ["category", "script", "combining_class", "modified_class", "first_part", "second_part", "composed"]
+TELUGU = "the class of the Telugu length marks"
 KNOWN = {
-    ("category", "295"): "a letter of another category in Unicode 18",
-    ("direction", "47617261"): "the direction of Garay",
-    ("changed_class", "54"): "the class of the Telugu length marks",
-    ("changed_class", "5b"): "the class of the Telugu length marks",
+    ("category", 0x295): "a letter of another category in Unicode 18",
+    ("direction", 0x47617261): "the direction of Garay",
+    ("changed_class", 84): TELUGU,
+    ("changed_class", 91): TELUGU,
+    ("modified_class", 0xC55): TELUGU,
+    ("modified_class", 0xC56): TELUGU,
 }
 
 
-def rows_up_to(name):
-    """The rows of crates.txt for a crate and those of this repository that it stands on."""
+def rows_up_to(*names):
+    """The rows of crates.txt for some crates and those of this repository that they stand on."""
     rows = [row for row in (ROOT / "crates.txt").read_text().splitlines() if not row.startswith("#")]
     below = {row.split(":")[0]: row.split(":")[1].split() for row in rows}
-    wanted = [name]
+    wanted = [*names]
     for crate in wanted:
         wanted += [it for it in below[crate] if it in below and it not in wanted]
     return {row.split(":")[0]: row for row in rows if row.split(":")[0] in wanted}
@@ -34,67 +43,111 @@ def rows_up_to(name):
 
 def make_repository(root):
     """A repository of the crates that `properties.rattle` needs, and of that program."""
-    rows = rows_up_to("shaping_buffer")
+    rows = rows_up_to("shaping_buffer", "unicode_tables")
     for name in rows:
         shutil.copytree(ROOT / "crates" / name, root / "crates" / name, ignore=shutil.ignore_patterns("out", "must-fail"))
     shutil.copy(ROOT / "HANDLES", root)
     source = root / "crates/properties/src"
     source.mkdir(parents=True)
     shutil.copy(HERE / "properties.rattle", source / "main.rt")
-    (root / "crates.txt").write_text("\n".join([*rows.values(), "properties: shaping_buffer rb_glyph rb_common", ""]))
+    program = "properties: shaping_buffer unicode_tables rb_glyph rb_common"
+    (root / "crates.txt").write_text("\n".join([*rows.values(), program, ""]))
 
 
 def our_lines():
     with tempfile.TemporaryDirectory(prefix="vukhaso-properties") as folder:
         make_repository(Path(folder))
         print("running properties.rattle ..", file=sys.stderr)
-        done = subprocess.run(["rt", "try"], cwd=Path(folder, "crates/properties"), capture_output=True, text=True)
+        done = subprocess.run(TRY, cwd=Path(folder, "crates/properties"), capture_output=True, text=True)
     if done.returncode or "ended status=0" not in done.stdout + done.stderr:
         sys.exit(f"{done.stdout[-2000:]}{done.stderr[-2000:]}properties.rattle did not run")
-    return [line for line in done.stdout.splitlines() if re.match(r"[a-z_]+ [0-9a-f]+ ", line)]
+    return [line for line in done.stdout.splitlines() if re.match(r"[a-z_]+ [0-9a-f]+( |$)", line)]
 
 
-def answers_of(lines):
-    """The answer to each question, by the property; a range is one question a number."""
-    answers = collections.defaultdict(dict)
+def ranges_of(lines):
+    """The ranges of each property: the first number that is asked for, the last, and the answer to all of them."""
+    ranges = collections.defaultdict(list)
     for line in lines:
         name, *words = line.split(" ")
-        if name == "reversal":
-            answers[name][str(len(answers[name]))] = " ".join(words)
+        if name in ("reversal", "asked_first", "asked_second"):
+            first = last = len(ranges[name])
+            words = [" ".join(words)]
         elif name == "direction":
-            answers[name][words[0]] = words[1]
+            first = last = int(words[0], 16)
         else:
-            for number in range(int(words[0], 16), int(words[1], 16) + 1):
-                answers[name][f"{number:x}"] = words[2]
-    return answers
+            first, last = int(words[0], 16), int(words[1], 16)
+        ranges[name].append((first, last, words[-1]))
+    return ranges
 
 
-def kind_of(name, question, theirs):
-    if name in ("category", "script") and int(theirs["category"][question], 16) == UNASSIGNED:
-        return NEWER
-    return KNOWN.get((name, question))
+def answers_of(ranges):
+    return {number: answer for first, last, answer in ranges for number in range(first, last + 1)}
 
 
-def compare_property(name, ours, theirs):
+def differing(left, right):
+    """The two answers to each question to which they differ. A range of both sides needs no look."""
+    both = set(left) & set(right)
+    ours, theirs = (answers_of(it for it in side if it not in both) for side in (left, right))
+    pairs = {number: (ours.get(number), theirs.get(number)) for number in ours.keys() | theirs.keys()}
+    return {number: pair for number, pair in pairs.items() if pair[0] != pair[1]}
+
+
+def characters_with(category, ranges):
+    return {number for number, value in answers_of(ranges).items() if int(value, 16) == category}
+
+
+def kind_of(name, number, answers, unassigned):
+    """Why an answer differs. A pair's reason is that of the character that it composes to here."""
+    character = int(answers[0] or "0", 16) if name == "composed" else number
+    return NEWER if name in OF_CHARACTERS and character in unassigned else KNOWN.get((name, number))
+
+
+def question(name, number, asked):
+    if name != "composed":
+        return f"{number:x}"
+    first, second = divmod(number, len(asked[1]))
+    return f"{asked[0][first]:x} {asked[1][second]:x}"
+
+
+def compare_property(name, ours, theirs, unassigned, asked):
     """Prints how many answers were compared, and what differs by its kind. Whether one differs for no known reason."""
-    left, right = ours[name], theirs[name]
     by_kind = collections.defaultdict(list)
-    for question in left.keys() | right.keys():
-        if left.get(question) != right.get(question):
-            by_kind[kind_of(name, question, theirs)].append(question)
-    print(f"{name}: {len(left)} compared, {sum(map(len, by_kind.values()))} differ")
-    for kind, questions in by_kind.items():
-        first = min(questions, key=lambda text: int(text, 16))
-        print(f"    {len(questions)}: {kind or 'for no known reason'}\n"
-              f"    first {first}: ours {left.get(first)}, theirs {right.get(first)}")
+    found = differing(ours, theirs)
+    for number in sorted(found):
+        by_kind[kind_of(name, number, found[number], unassigned)].append(number)
+    print(f"{name}: {sum(last + 1 - first for first, last, _ in ours)} compared, {len(found)} differ")
+    for kind, numbers in by_kind.items():
+        left, right = found[numbers[0]]
+        print(f"    {len(numbers)}: {kind or 'for no known reason'}\n"
+              f"    first {question(name, numbers[0], asked)}: ours {left}, theirs {right}")
     return None in by_kind
+
+
+def pairs_of(ranges):
+    """The pairs that characters decompose to."""
+    firsts, seconds = answers_of(ranges["first_part"]), answers_of(ranges["second_part"])
+    taken = [c for c, first in firsts.items() if first != "0" and c not in NO_CHARACTERS and c not in HANGUL]
+    return {(int(firsts[c], 16), int(seconds[c], 16)) for c in taken}
+
+
+def missed_pairs(theirs, asked):
+    """Whether HarfBuzz decomposes a character to a pair that was not asked for. The pairs that were asked for are all of ours."""
+    firsts, seconds = map(set, asked)
+    pairs = pairs_of(theirs)
+    missed = [pair for pair in pairs if pair[0] not in firsts or pair[1] not in seconds]
+    print(f"{len(pairs)} pairs that HarfBuzz decomposes to, of which {len(missed)} are not among those that were composed")
+    return bool(missed)
 
 
 def compare(program):
     lines = our_lines()
-    tags = "".join(line.split()[1] + "\n" for line in lines if line.startswith("direction "))
-    done = subprocess.run([program, "properties"], input=tags, stdout=subprocess.PIPE, text=True, check=True)
-    ours, theirs = answers_of(lines), answers_of(done.stdout.splitlines())
+    words = [line.split()[:2] for line in lines if line.startswith(("direction ", "asked_"))]
+    text = "".join(f"{name} {number}\n" for name, number in words)
+    done = subprocess.run([program, "properties"], input=text, stdout=subprocess.PIPE, text=True, check=True)
+    ours, theirs = ranges_of(lines), ranges_of(done.stdout.splitlines())
+    asked = [[int(answer, 16) for _, _, answer in ours.pop(name, [])] for name in ("asked_first", "asked_second")]
     if not ours.keys() == theirs.keys():
         sys.exit("the two programs print other properties")
-    return any([compare_property(name, ours, theirs) for name in ours])
+    unassigned = characters_with(UNASSIGNED, theirs["category"])
+    differ = [compare_property(name, ours[name], theirs[name], unassigned, asked) for name in ours]
+    return any([*differ, missed_pairs(theirs, asked)])
