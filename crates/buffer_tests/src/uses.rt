@@ -41,6 +41,7 @@ fn uses_run(rt: HostRuntime) -> Result<(), Fail> {
     accessors_say_what_stands(&rt, rt.alloc());
     calls_in_place_are_done(&rt, rt.alloc());
     a_list_in_place_is_done(&rt, rt.alloc());
+    a_short_list_stays(&rt, rt.alloc());
     marks_are_put_in(&rt, rt.alloc());
     texts_are_rendered(&rt, rt.alloc())
 }
@@ -96,19 +97,27 @@ fn texts_are_printed_and_merged(rt: &impl Abort, alloc: Global) -> Result<(), Fa
 /// cursor.
 fn ligatures_are_made(rt: &impl Abort, alloc: Global) {
     let mut buffer = buffer_of(rt, alloc, "abc");
-    assert!(rt; ligate_first_two(&mut buffer, 7) == Ok([Answer::Done; 3]));
-    assert_ids(rt, buffer.info(), &[7, 99]);
-    assert_clusters(rt, buffer.info(), &[0, 2]);
+    assert_ligated(rt, &mut buffer, [Answer::Done; 3], &[7, 99], &[0, 2]);
     let mut buffer = buffer_of(rt, alloc, "a");
     let alone = [Answer::Done, Answer::Outside, Answer::Done];
-    assert!(rt; ligate_first_two(&mut buffer, 7) == Ok(alone));
-    assert_ids(rt, buffer.info(), &[97]);
+    assert_ligated(rt, &mut buffer, alone, &[97], &[0]);
     let mut buffer = buffer_of(rt, alloc, "abc");
     read_one(rt, &mut buffer);
     let opened = [Answer::Outside, Answer::Done, Answer::Done];
-    assert!(rt; ligate_first_two(&mut buffer, 7) == Ok(opened));
-    assert_ids(rt, buffer.info(), &[97, 7]);
-    assert_clusters(rt, buffer.info(), &[0, 1]);
+    assert_ligated(rt, &mut buffer, opened, &[97, 7], &[0, 1]);
+}
+
+/// The answers to the calls of a ligature, and the glyphs and clusters that they leave.
+fn assert_ligated(
+    rt: &impl Abort,
+    buffer: &mut hb_buffer_t,
+    answers: [Answer; 3],
+    ids: &[u32],
+    clusters: &[u32],
+) {
+    assert!(rt; ligate_first_two(buffer, 7) == Ok(answers));
+    assert_ids(rt, buffer.info(), ids);
+    assert_clusters(rt, buffer.info(), clusters);
 }
 
 /// After a refusal the ligature is put out, and the output stays open.
@@ -182,34 +191,41 @@ fn place(rt: &impl Abort, buffer: &mut hb_buffer_t) {
 /// The second and third glyph share a cluster.
 fn clusters_change_places(rt: &impl Abort, alloc: Global) {
     let mut buffer = buffer_of(rt, alloc, "abcd");
-    assert!(rt; !buffer.have_output() && buffer.len() == 4);
-    buffer.merge_clusters(1, 3);
+    merge_middle(rt, &mut buffer);
     place(rt, &mut buffer);
+    assert_cluster_count(rt, &buffer, 3);
     assert!(rt; !buffer.have_output());
-    assert!(rt; count_clusters(&buffer) == 3);
     reverse_clusters(&mut buffer);
     assert_ids(rt, buffer.info(), &[100, 98, 99, 97]);
     assert_clusters(rt, buffer.info(), &[3, 1, 1, 0]);
     assert_advances(rt, &buffer, &[40, 20, 30, 10]);
-    let empty = hb_buffer_t::new(alloc);
-    assert!(rt; !empty.have_output());
-    assert!(rt; count_clusters(&empty) == 0);
+    assert_cluster_count(rt, &hb_buffer_t::new(alloc), 0);
+}
+
+fn merge_middle(rt: &impl Abort, buffer: &mut hb_buffer_t) {
+    assert!(rt; !buffer.have_output() && buffer.len() == 4);
+    buffer.merge_clusters(1, 3);
+}
+
+fn assert_cluster_count(rt: &impl Abort, buffer: &hb_buffer_t, want: usize) {
+    assert!(rt; !buffer.have_output());
+    assert!(rt; count_clusters(buffer) == want);
 }
 
 /// A combining acute accent stays behind its base, and where groups are merged it is in the base's cluster.
 fn marks_stay_behind_their_bases(rt: &impl Abort, alloc: Global) {
+    assert_reversed(rt, alloc, false, &[4, 1, 2, 0]);
+    assert_reversed(rt, alloc, true, &[4, 1, 1, 0]);
+}
+
+fn assert_reversed(rt: &impl Abort, alloc: Global, merge: bool, clusters: &[u32]) {
     let mut buffer = buffer_of(rt, alloc, "ae\u{301}b");
     place(rt, &mut buffer);
     assert!(rt; !buffer.have_output());
-    reverse_with_marks(&mut buffer, &[0x300, 0x301], false);
+    reverse_with_marks(&mut buffer, &[0x300, 0x301], merge);
     assert_ids(rt, buffer.info(), &[98, 101, 0x301, 97]);
-    assert_clusters(rt, buffer.info(), &[4, 1, 2, 0]);
+    assert_clusters(rt, buffer.info(), clusters);
     assert_advances(rt, &buffer, &[40, 20, 30, 10]);
-    let mut buffer = buffer_of(rt, alloc, "ae\u{301}b");
-    assert!(rt; !buffer.have_output());
-    reverse_with_marks(&mut buffer, &[0x300, 0x301], true);
-    assert_ids(rt, buffer.info(), &[98, 101, 0x301, 97]);
-    assert_clusters(rt, buffer.info(), &[4, 1, 1, 0]);
 }
 
 fn assert_clusters(rt: &impl Abort, glyphs: &[hb_glyph_info_t], want: &[u32]) {
@@ -317,13 +333,17 @@ fn calls_in_place_are_done(rt: &impl Abort, alloc: Global) {
     assert!(rt; buffer.info().len() == 4);
 }
 
-/// One is dropped, three are put out and taken back, and the output is closed. Of three glyphs none is touched.
+/// One is dropped, three are put out and taken back, and the output is closed.
 fn a_list_in_place_is_done(rt: &impl Abort, alloc: Global) {
     let mut buffer = buffer_of(rt, alloc, "abcde");
     assert!(rt; !buffer.have_output() && buffer.successful());
     assert!(rt; rewind_in_place(&mut buffer) == Some([Answer::Done; 7]));
     assert!(rt; !buffer.have_output() && buffer.idx() == 0);
     assert_ids(rt, buffer.info(), &[98, 99, 100, 101]);
+}
+
+/// Of three glyphs none is touched.
+fn a_short_list_stays(rt: &impl Abort, alloc: Global) {
     let mut buffer = buffer_of(rt, alloc, "abc");
     assert!(rt; !buffer.have_output() && buffer.successful());
     assert!(rt; rewind_in_place(&mut buffer).is_none());

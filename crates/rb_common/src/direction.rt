@@ -56,11 +56,11 @@ impl Direction {
         ensures { result ≡ reverse self }
     {
         match self {
-            Direction::Invalid => Direction::Invalid,
-            Direction::LeftToRight => Direction::RightToLeft,
-            Direction::RightToLeft => Direction::LeftToRight,
-            Direction::TopToBottom => Direction::BottomToTop,
-            Direction::BottomToTop => Direction::TopToBottom,
+            Self::Invalid => Self::Invalid,
+            Self::LeftToRight => Self::RightToLeft,
+            Self::RightToLeft => Self::LeftToRight,
+            Self::TopToBottom => Self::BottomToTop,
+            Self::BottomToTop => Self::TopToBottom,
         }
     }
 

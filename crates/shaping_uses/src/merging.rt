@@ -27,9 +27,13 @@ pub fn clusters_of_merged(alloc: Global, text: &str) -> Result<Option<Vec<u32>>,
     Ok(Some(cluster_numbers(alloc, buffer.info())?))
 }
 
-/// The cluster number of each glyph.
+/// The cluster number of each glyph. `Err(AllocError)` comes only where there is a glyph.
 pub fn cluster_numbers(alloc: Global, glyphs: &[hb_glyph_info_t]) -> Result<Vec<u32>, AllocError>
-    ensures { IfOk result (λ each. each.items ≡ clusters glyphs.now) }
+    ensures is { IfOk result (λ each. each.items ≡ clusters glyphs.now) }
+    ensures wants { OnErr result (0 < length glyphs.now) }
 {
+    if glyphs.is_empty() {
+        return Ok(Vec::new(alloc));
+    }
     glyphs.iter().map(|glyph| glyph.cluster).collect(alloc)
 }
