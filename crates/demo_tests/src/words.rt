@@ -5,8 +5,9 @@
 //! pairs, for which such a font has no tables, are as in OpenType's `GSUB` and `kern`. Normal forms and classes of marks
 //! are those of Python's `unicodedata`.
 
+use shaping_buffer::{Flags, NoGlyphNames, SerializeFlags};
 use simple_shaper::{Rules, Shaper, Shaping, Step};
-use std::alloc::Global;
+use std::alloc::{AllocError, Global};
 use std::process::Abort;
 use std::test::Fail;
 
@@ -49,7 +50,7 @@ fn words_are_shaped(rt: HostRuntime) -> Result<(), Fail> {
     let shaper = shaper_of(&rt, rt.alloc())?;
     for (word, glyphs) in &WORDS {
         let shaping = shaper.shape(rt.alloc(), word)?;
-        assert_eq!(rt; shaping.glyph_text(rt.alloc())?.as_str(), *glyphs);
+        assert_eq!(rt; glyph_text(rt.alloc(), &shaping)?.as_str(), *glyphs);
     }
     Ok(())
 }
@@ -87,7 +88,7 @@ fn turns_are_seen(rt: HostRuntime) -> Result<(), Fail> {
 fn joiners_are_hidden(rt: HostRuntime) -> Result<(), Fail> {
     let shaping = shaper_of(&rt, rt.alloc())?.shape(rt.alloc(), "f\u{200C}i")?;
     assert_eq!(rt;
-        shaping.glyph_text(rt.alloc())?.as_str(),
+        glyph_text(rt.alloc(), &shaping)?.as_str(),
         "102=0+600|105=4+600"
     );
     Ok(())
@@ -96,6 +97,12 @@ fn joiners_are_hidden(rt: HostRuntime) -> Result<(), Fail> {
 fn shaper_of(rt: &impl Abort, alloc: Global) -> Result<Shaper, Fail> {
     let rules = Rules::parse(alloc, RULES)?;
     Ok(Shaper::new(alloc, rules)?)
+}
+
+/// The number of each glyph, its cluster, its advance, and its flags.
+fn glyph_text(alloc: Global, shaping: &Shaping) -> Result<String, AllocError> {
+    let flags = SerializeFlags::NO_GLYPH_NAMES.union(SerializeFlags::GLYPH_FLAGS);
+    shaping.glyphs.serialize(alloc, &NoGlyphNames, flags)
 }
 
 /// Asserts the name of a step, and what stands on both sides after it.

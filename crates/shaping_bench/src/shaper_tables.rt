@@ -4,7 +4,7 @@ use anyhow::anyhow;
 use shaping_buffer::{CombiningClasses, Compositions, Decompositions};
 use shaping_passes::{KerningTable, Lookup, Substitution};
 use std::alloc::{AllocError, Global};
-use unicode_tables::{combining_classes, compositions, decompositions};
+use unicode_tables::UnicodeRows;
 
 /// The ligatures `ffi`, `ff`, `fi`, `fl` and `st` (Unicode, Alphabetic Presentation Forms).
 static LIGATURES: [Substitution; 5] = [
@@ -36,24 +36,16 @@ const KERNING: i32 = -40;
 /// The rows of the tables.
 #[derive(Drop)]
 pub struct TableRows {
-    classes: Vec<(char, u8)>,
-    decompositions: Vec<(char, char, Option<char>)>,
-    compositions: Vec<((char, char), char)>,
+    unicode: UnicodeRows,
     kerning: Vec<((u32, u32), i32)>,
 }
 
 impl TableRows {
     /// The rows of the Unicode Character Database, and kerning of each capital with each small letter.
     pub fn new(alloc: Global) -> Result<Self, AllocError> {
-        let classes = combining_classes(alloc)?;
-        let decompositions = decompositions(alloc)?;
-        let compositions = compositions(alloc)?;
-        let kerning = kerning_rows(alloc)?;
         Ok(TableRows {
-            classes,
-            decompositions,
-            compositions,
-            kerning,
+            unicode: UnicodeRows::new(alloc)?,
+            kerning: kerning_rows(alloc)?,
         })
     }
 }
@@ -85,25 +77,16 @@ pub struct Tables<'a> {
 
 impl<'a> Tables<'a> {
     pub fn new(rows: &'a TableRows) -> anyhow::Result<Self> {
-        let (
-            Some(classes),
-            Some(decompositions),
-            Some(compositions),
-            Some(ligatures),
-            Some(kerning),
-        ) = (
-            CombiningClasses::new(rows.classes.as_slice()),
-            Decompositions::new(rows.decompositions.as_slice()),
-            Compositions::new(rows.compositions.as_slice()),
+        let (Some(ligatures), Some(kerning)) = (
             Lookup::new(&LIGATURES),
             KerningTable::new(rows.kerning.as_slice()),
         ) else {
             return Err(anyhow!("the rows are no table"));
         };
         Ok(Tables {
-            classes,
-            decompositions,
-            compositions,
+            classes: rows.unicode.classes(),
+            decompositions: rows.unicode.decompositions(),
+            compositions: rows.unicode.compositions(),
             ligatures,
             kerning,
         })

@@ -3,6 +3,7 @@
 
 use anyhow::{Context, Result};
 use clap::{Arg, ArgAction, ArgMatches, Command};
+use shaping_buffer::{Flags, NoGlyphNames, SerializeFlags};
 use simple_shaper::{Rules, Shaper, draw_steps};
 use std::alloc::Global;
 use std::fs;
@@ -35,7 +36,8 @@ fn main(rt: HostRuntime) -> Result<ExitCode> {
         let svg = draw_steps(alloc, shaping.steps.as_slice())?;
         print!(rt; "{svg}")?;
     } else {
-        let glyphs = shaping.glyph_text(alloc)?;
+        let flags = SerializeFlags::NO_GLYPH_NAMES.union(SerializeFlags::GLYPH_FLAGS);
+        let glyphs = shaping.glyphs.serialize(alloc, &NoGlyphNames, flags)?;
         println!(rt; "{glyphs}")?;
     }
     Ok(ExitCode::SUCCESS)

@@ -127,7 +127,7 @@ module _ (P : List hb_glyph_info_t → Type 0) (Floor : ℕ → Type 0) (steps :
       → P (both (put_out xs s after).state)
   put_out_keeps xs s after h h2 = limited_keeps (length (s.out ++ xs)) s (record after { out = after.out ++ xs }) h h2
 
-  -- glyphs are put out in the stead of the first n
+  -- glyphs are put out in place of the first n
   put_for_keeps : (n : ℕ) (xs : List hb_glyph_info_t) (s : State) → s.have_output ≡ true → P (both s)
       → P ((s.out ++ xs) ++ drop n s.input)
       → P (both (put_out xs s (skip_glyphs n s)).state)

@@ -14,4 +14,3 @@ pub mod picture;
 pub mod rules;
 pub mod shape;
 pub mod step;
-mod unicode;

@@ -1,17 +1,13 @@
 //! The passes, one after the other, as a shaper calls them.
 
-ghost use Rattle.std.specs.Prelude.{◌≡◌, ◌<◌, false, IsSome, IfOk, string_bytes};
-ghost use Rattle.shaping_buffer.specs.GlyphText.{nothing_known};
+ghost use Rattle.std.specs.Prelude.{◌≡◌, ◌<◌, false, IsSome, IfOk};
 ghost use Rattle.shaping_buffer.specs.State.{len};
-ghost use Rattle.shaping_buffer.specs.Text.{text_of};
-ghost use Rattle.shaping_buffer.specs.TextReading.{numbers_and_flags};
 
 use crate::rules::Rules;
 use crate::step::{Step, record};
-use crate::unicode::UnicodeRows;
 use shaping_buffer::{
     _cluster_group_func, CharExt, CombiningClasses, Direction, Flags, GeneralCategoryExt,
-    GlyphBuffer, NoGlyphNames, SerializeFlags, UnicodeBuffer, UnicodeProps, hb_buffer_t,
+    GlyphBuffer, UnicodeBuffer, UnicodeProps, hb_buffer_t,
     hb_glyph_info_t,
 };
 use shaping_passes::{
@@ -20,6 +16,7 @@ use shaping_passes::{
 };
 use std::alloc::{AllocError, AllocFailed, Global};
 use thiserror::Error;
+use unicode_tables::UnicodeRows;
 
 /// How far a glyph moves the pen where no rule says it, in font units. A mark does not move it.
 const ADVANCE: i32 = 600;
@@ -57,17 +54,6 @@ pub struct Shaping {
     pub steps: Vec<Step>,
     /// The glyphs.
     pub glyphs: GlyphBuffer,
-}
-
-impl Shaping {
-    /// The glyphs as a text: the number of each, its cluster, its advance, and its flags.
-    pub fn glyph_text(&self, alloc: Global) -> Result<String, AllocError>
-        ensures { IfOk result (λ text. string_bytes text
-            ≡ text_of nothing_known numbers_and_flags self.now.glyphs) }
-    {
-        let flags = SerializeFlags::NO_GLYPH_NAMES.union(SerializeFlags::GLYPH_FLAGS);
-        self.glyphs.serialize(alloc, &NoGlyphNames, flags)
-    }
 }
 
 /// The rules, and the tables of Unicode.

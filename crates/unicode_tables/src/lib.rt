@@ -6,5 +6,7 @@
 //! Its rows rise, so the table's `new` takes them, and what the table then answers is that crate's own word.
 mod mapping;
 mod rows;
+mod unicode_rows;
 
 pub use rows::{combining_classes, compositions, decompositions};
+pub use unicode_rows::UnicodeRows;
