@@ -7,8 +7,7 @@ use crate::rules::Rules;
 use crate::step::{Step, record};
 use shaping_buffer::{
     _cluster_group_func, CharExt, CombiningClasses, Direction, Flags, GeneralCategoryExt,
-    GlyphBuffer, UnicodeBuffer, UnicodeProps, hb_buffer_t,
-    hb_glyph_info_t,
+    GlyphBuffer, UnicodeBuffer, UnicodeProps, hb_buffer_t, hb_glyph_info_t,
 };
 use shaping_passes::{
     Lookup, compose_marks, decompose_all, hide_default_ignorables, kern, order_marks,
