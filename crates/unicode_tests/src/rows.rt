@@ -1,8 +1,8 @@
 //! Rows as the Unicode Character Database writes them.
 
-use rb_glyph::{CombiningClasses, Compositions, Decompositions, compose, decompose};
+use rb_glyph::{CharExt, CombiningClasses, Compositions, Decompositions, compose, decompose};
 use std::test::Fail;
-use unicode_tables::{combining_classes, compositions, decompositions};
+use unicode_tables::{UnicodeRows, combining_classes, compositions, decompositions};
 
 /// Characters and their mappings in field 5 of `UnicodeData.txt`: singletons, pairs, pairs of more than two characters
 /// in all, pairs that are excluded from composition, and a Hangul syllable by the rule of section 3.12.
@@ -63,5 +63,20 @@ fn classes(rt: HostRuntime) -> Result<(), Fail> {
     let acute = rows.iter().find(|row| row.0 == '\u{301}').copied();
     assert!(rt; acute == Some(('\u{301}', 230)));
     assert!(rt; !rows.iter().any(|row| row.0 == 'a'));
+    Ok(())
+}
+
+#[test]
+fn tables_of_all_rows(rt: HostRuntime) -> Result<(), Fail> {
+    let rows = UnicodeRows::new(rt.alloc())?;
+    for &(c, first, second) in &MAPPINGS {
+        assert!(rt; decompose(&rows.decompositions(), c) == Some((first, second)));
+    }
+    for &(a, b, composite) in &PAIRS {
+        assert!(rt; compose(&rows.compositions(), a, b) == composite);
+    }
+    for (c, class) in [('a', 0), ('\u{94d}', 9), ('\u{301}', 230)] {
+        assert!(rt; c.modified_combining_class(&rows.classes()) == class);
+    }
     Ok(())
 }
