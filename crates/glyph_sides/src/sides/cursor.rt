@@ -50,11 +50,13 @@ impl Sides {
         if self.is_separate {
             return self.one_apart();
         }
-        if self.placed < self.cursor {
-            self.info[self.placed] = glyph;
-        }
+        // The places are set first: once a glyph is written they would be read from memory again.
+        let (placed, cursor) = (self.placed, self.cursor);
         self.placed += 1;
         self.cursor += 1;
+        if placed < cursor {
+            self.info[placed] = glyph;
+        }
         Ok(())
     }
 
