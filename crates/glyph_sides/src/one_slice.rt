@@ -110,7 +110,6 @@ pub(crate) fn scan_two_parts(
 }
 
 /// Keeps the cluster of the glyph at the cursor, which then leaves the input, as `deletion::delete_head` does.
-#[inline(always)]
 pub(crate) fn delete_head(
     info: &mut [hb_glyph_info_t],
     out_len: usize,

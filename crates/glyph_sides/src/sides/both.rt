@@ -146,13 +146,13 @@ impl Sides {
         ensures out_len { length self.new.out ≡ length self.old.out }
         ensures input_len { length self.new.input + 1 ≡ length self.old.input }
     {
-        let at = self.cursor;
         if self.is_separate {
+            let at = self.cursor;
             deletion::delete_head(&mut self.out_info, &mut self.info[at..], any_order);
-            self.cursor = at + 1;
+            self.cursor += 1;
             return;
         }
-        one_slice::delete_head(&mut self.info, self.placed, at, any_order);
-        self.cursor = at + 1;
+        one_slice::delete_head(&mut self.info, self.placed, self.cursor, any_order);
+        self.cursor += 1;
     }
 }

@@ -50,13 +50,11 @@ impl Sides {
         if self.is_separate {
             return self.one_apart();
         }
-        // The places are set first: once a glyph is written they would be read from memory again.
-        let (placed, cursor) = (self.placed, self.cursor);
+        if self.placed < self.cursor {
+            self.info[self.placed] = glyph;
+        }
         self.placed += 1;
         self.cursor += 1;
-        if placed < cursor {
-            self.info[placed] = glyph;
-        }
         Ok(())
     }
 
