@@ -3,7 +3,8 @@
 
 ghost use Rattle.std.specs.Prelude.{◌≡◌, ◌<◌, ◌≤◌, true, false, None, Ok, [], drop, replicate, IfNone, IfSome, IsSome};
 ghost use Rattle.shaping_buffer.specs.State.{len, lookahead_len};
-ghost use Rattle.shaping_buffer.specs.Step.{last_place};
+ghost use Rattle.shaping_buffer.specs.Step as step;
+ghost use Rattle.shaping_buffer.specs.Step.{Meets, last_place};
 ghost use Rattle.shaping_runs.specs.declared.call.Answer.TheVariants as answer;
 
 use shaping_buffer::hb_buffer_t;
@@ -14,7 +15,8 @@ use std::alloc::AllocError;
 pub fn next_in_place(buffer: &mut hb_buffer_t) -> Result<bool, AllocError>
     requires glyph { 0 < lookahead_len buffer.old }
     requires in_place { buffer.old.have_separate_output ≡ false }
-    ensures { result ≡ Ok true }
+    ensures done { result ≡ Ok true }
+    ensures meets { Meets (step.next_glyph buffer.old) buffer.old result buffer.new }
 {
     buffer.next_glyph()
 }
@@ -23,7 +25,8 @@ pub fn next_in_place(buffer: &mut hb_buffer_t) -> Result<bool, AllocError>
 pub fn next_glyphs_in_place(buffer: &mut hb_buffer_t, n: usize) -> Result<bool, AllocError>
     requires glyphs { n ≤ lookahead_len buffer.old }
     requires in_place { buffer.old.have_separate_output ≡ false }
-    ensures { result ≡ Ok true }
+    ensures done { result ≡ Ok true }
+    ensures meets { Meets (step.next_glyphs n buffer.old) buffer.old result buffer.new }
 {
     buffer.next_glyphs(n)
 }
@@ -33,7 +36,8 @@ pub fn replace_in_place(buffer: &mut hb_buffer_t, id: u32) -> Result<bool, Alloc
     requires opened { buffer.old.have_output ≡ true }
     requires glyph { 0 < lookahead_len buffer.old }
     requires in_place { buffer.old.have_separate_output ≡ false }
-    ensures { result ≡ Ok true }
+    ensures done { result ≡ Ok true }
+    ensures meets { Meets (step.replace_glyph id buffer.old) buffer.old result buffer.new }
 {
     buffer.replace_glyph(id)
 }
@@ -43,7 +47,8 @@ pub fn move_in_place(buffer: &mut hb_buffer_t, i: usize) -> Result<bool, AllocEr
     requires within { i ≤ last_place buffer.old }
     requires successful { buffer.old.successful ≡ true }
     requires in_place { buffer.old.have_separate_output ≡ false }
-    ensures { result ≡ Ok true }
+    ensures done { result ≡ Ok true }
+    ensures meets { Meets (step.move_to i buffer.old) buffer.old result buffer.new }
 {
     buffer.move_to(i)
 }
@@ -53,7 +58,8 @@ pub fn sync_in_place(buffer: &mut hb_buffer_t) -> Result<bool, AllocError>
     requires opened { buffer.old.have_output ≡ true }
     requires successful { buffer.old.successful ≡ true }
     requires in_place { buffer.old.have_separate_output ≡ false }
-    ensures { result ≡ Ok true }
+    ensures done { result ≡ Ok true }
+    ensures meets { Meets (step.sync buffer.old) buffer.old result buffer.new }
 {
     buffer.sync()
 }
