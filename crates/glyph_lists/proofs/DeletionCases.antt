@@ -1,9 +1,9 @@
 -- Deletion, case by case.
 use Rattle.std.proofs.Common.{◌≡◌, ℕ, ◌-◌, ◌<◌, List, [], ◌∷◌, ◌++◌, length, get_or, take, drop, refl, sym, ap}
-use Rattle.std.proofs.Common.{◌∙◌, arith, eqb, true, false, Bool}
-use Rattle.std.specs.Prelude.{not, nat_lt}
+use Rattle.std.proofs.Common.{◌∙◌, ◌≤◌, arith, eqb, true, false, Bool}
+use Rattle.std.specs.Prelude.{◌&&◌, not, nat_lt}
 use Rattle.std.proofs.lemmas.List.{drop_more}
-use Rattle.std.proofs.lemmas.Bool.{cond-true, cond-false, and_parts}
+use Rattle.std.proofs.lemmas.Bool.{cond-true, cond-false, and_parts, le-ltb}
 use Rattle.rb_glyph.specs.declared.info.hb_glyph_info_t.{hb_glyph_info_t}
 use Rattle.glyph_lists.specs.Parts.{map_range}
 use Rattle.glyph_lists.specs.Clusters.{clusters, with_cluster, run_start, zero_glyph}
@@ -86,6 +86,24 @@ rest_merged any_order out l l2 h none e =
 
 -- ---- the cases
 
+and_false : (a : Bool) → (a && false) ≡ false
+and_false true = refl
+and_false false = refl
+
+module _ (out : List hb_glyph_info_t) (x : hb_glyph_info_t) (rest : List hb_glyph_info_t) where
+  not_lowered : last_cluster out ≤ x.cluster → lowers_run out x rest ≡ false
+  unfolding lowers_run
+  not_lowered h =
+      ap (λ b. not (has_neighbour_in x.cluster out rest) && (is_not_empty out && b)) (le-ltb _ _ h)
+      ∙ ap (λ b. not (has_neighbour_in x.cluster out rest) && b) (and_false (is_not_empty out))
+      ∙ and_false (not (has_neighbour_in x.cluster out rest))
+
+  not_merged : is_not_empty out ≡ true → merges_next out x rest ≡ false
+  unfolding merges_next
+  not_merged h =
+      ap (λ b. not (has_neighbour_in x.cluster out rest) && (not b && is_not_empty rest)) h
+      ∙ and_false (not (has_neighbour_in x.cluster out rest))
+
 module _ (any_order : Bool) (out : List hb_glyph_info_t) (x : hb_glyph_info_t) (rest : List hb_glyph_info_t) where
   pub deletion_lowers : lowers_run out x rest ≡ true
       → deletion any_order out x rest ≡ record { out = with_trailing_run x.cluster x.mask out; rest = rest }
@@ -101,6 +119,11 @@ module _ (any_order : Bool) (out : List hb_glyph_info_t) (x : hb_glyph_info_t) (
       → deletion any_order out x rest ≡ record { out = out; rest = rest }
   unfolding deletion
   deletion_drops h h2 = cond-false _ _ _ h ∙ cond-false _ _ _ h2
+
+  -- a last glyph whose cluster is no higher
+  pub deletion_keeps : 0 < length out → last_cluster out ≤ x.cluster
+      → deletion any_order out x rest ≡ record { out = out; rest = rest }
+  deletion_keeps h h2 = deletion_drops (not_lowered out x rest h2) (not_merged out x rest (not_empty_some out h))
 
 -- what either case says of the lists
 module _ (out : List hb_glyph_info_t) (x : hb_glyph_info_t) (rest : List hb_glyph_info_t) where
@@ -126,6 +149,8 @@ module _ (out : List hb_glyph_info_t) (x : hb_glyph_info_t) (rest : List hb_glyp
   merges_some h = length_some rest (merges_parts h).1
 
 pub ruleset trailing = (last_at, trailing_run_from)
+
+pub ruleset kept = (deletion_keeps, last_at)
 
 pub ruleset cases = (
   deletion_lowers,

@@ -5,7 +5,7 @@ use Rattle.std.specs.List.{prefix_len, suffix_len}
 use Rattle.std.proofs.lemmas.List.{take_all, append-nil}
 use Rattle.std.proofs.lemmas.List.Sums.{prefix_len-drop_yes, prefix_len-drop_no, prefix_len-drop_all}
 use Rattle.std.proofs.lemmas.List.Sums.{suffix_len-take_yes, suffix_len-take_no}
-use Rattle.std.proofs.lemmas.Bool.{eq-eqb, ne_eqb, cond-true, cond-false, cases_Bool, cases_lt}
+use Rattle.std.proofs.lemmas.Bool.{eq-eqb, ne_eqb, cond-true, cond-false, cases_Bool}
 use Rattle.rb_glyph.specs.declared.info.hb_glyph_info_t.{hb_glyph_info_t}
 use Rattle.glyph_lists.specs.Parts.{map_range}
 use Rattle.glyph_lists.specs.Clusters.{clusters, least}
@@ -58,22 +58,16 @@ pub last_is : (c : ℕ) (cs : List ℕ) (q : ℕ) → length cs ≤ q
 unfolding last_before
 last_is c cs q h = ap (λ xs. q - suffix_len (λ d. not (eqb d c)) xs) (take_all q cs h)
 
--- a walk down passes the first number only where that is not c, and a walk up the last
-pub not_at_first : (c : ℕ) (cs : List ℕ) (q : ℕ) → 0 < q → get_or cs 0 0 ≡ c → (get_or cs (q - 1) 0 ≡ c → ⊥) → 0 < q - 1
-not_at_first c cs q h is off =
-    elim (cases_lt 1 q) [
-      | inl more ↦ omega arith
-      | inr one ↦ let e : q - 1 ≡ 0 = omega arith in absurd (off (ap (λ k. get_or cs k 0) e ∙ is))
-    ]
+-- a walk down that came to the first number, and a walk up that came to the last
+pub last_at_first : (c : ℕ) (cs : List ℕ) (q : ℕ) → 0 < length cs → get_or cs 0 0 ≡ c → q ≡ 1 → last_before c cs q ≡ q
+last_at_first c cs q h is e =
+    last_here c cs q (omega arith) (omega arith) (ap (λ k. get_or cs (k - 1) 0) e ∙ is)
 
-pub not_at_last : (c : ℕ) (cs : List ℕ) (q : ℕ) → q < length cs → get_or cs (length cs - 1) 0 ≡ c
-    → (get_or cs q 0 ≡ c → ⊥)
-    → q + 1 < length cs
-not_at_last c cs q h is off =
-    elim (cases_lt (q + 1) (length cs)) [
-      | inl more ↦ more
-      | inr last ↦ let e : q ≡ length cs - 1 = omega arith in absurd (off (ap (λ k. get_or cs k 0) e ∙ is))
-    ]
+pub first_at_last : (c : ℕ) (cs : List ℕ) (q : ℕ) → q + 1 ≡ length cs → get_or cs (length cs - 1) 0 ≡ c
+    → first_from c cs q ≡ q
+first_at_last c cs q e is =
+    let z : q ≡ length cs - 1 = omega arith in
+    first_here c cs q (omega arith) (ap (λ k. get_or cs k 0) z ∙ is)
 
 pub ruleset walks_up = (
   length-clusters,
@@ -86,7 +80,7 @@ pub ruleset walks_up = (
   first_here,
   first_none,
   first_is,
-  not_at_last,
+  first_at_last,
 )
 
 pub ruleset walks_down = (
@@ -100,7 +94,7 @@ pub ruleset walks_down = (
   last_here,
   last_none,
   last_is,
-  not_at_first,
+  last_at_first,
 )
 
 -- ---- one part

@@ -3,6 +3,7 @@ pub mod Clusters
 pub mod Marks
 pub mod Scans
 pub mod Deletion
+pub mod RangeChange
 pub mod Masks
 pub mod GlyphFlags
 pub mod Replacement

@@ -91,9 +91,27 @@ pub fn set_trailing_run(out: &mut [hb_glyph_info_t], cluster: u32, mask: u32)
 }
 
 /// Keeps the cluster of the first glyph of the input, which then leaves it: what stands there afterwards is left open.
-#[inline]
-#[tactic(auto, using(crate::proofs::DeletionCases::cases))]
+#[inline(always)]
+#[tactic(auto, using(crate::proofs::DeletionCases::kept))]
 pub fn delete_head(out: &mut [hb_glyph_info_t], input: &mut [hb_glyph_info_t], any_order: bool)
+    requires { 0 < length input.old }
+    ensures out { out.new ≡ (deletion any_order
+        out.old (slice_index_or input.old 0 zero_glyph) (drop 1 input.old)).out }
+    ensures rest { drop 1 input.new ≡ (deletion any_order
+        out.old (slice_index_or input.old 0 zero_glyph) (drop 1 input.old)).rest }
+{
+    // A glyph before it whose cluster is no higher is what most deletions find, and nothing changes then.
+    if !out.is_empty() && out[out.len() - 1].cluster <= input[0].cluster {
+        return;
+    }
+    keep_cluster(out, input, any_order);
+}
+
+/// Keeps the cluster of the first glyph of the input as `delete_head` does, whatever stands before it. It stands out of
+/// line, as most deletions need no more than one test.
+#[inline(never)]
+#[tactic(auto, using(crate::proofs::DeletionCases::cases))]
+fn keep_cluster(out: &mut [hb_glyph_info_t], input: &mut [hb_glyph_info_t], any_order: bool)
     requires { 0 < length input.old }
     ensures out { out.new ≡ (deletion any_order
         out.old (slice_index_or input.old 0 zero_glyph) (drop 1 input.old)).out }

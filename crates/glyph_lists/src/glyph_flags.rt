@@ -66,7 +66,7 @@ fn mark_slice(info: &mut [hb_glyph_info_t], start: usize, end: usize, bits: u32)
 /// Adds the bits to the mask of each glyph from `start` to `end` of the two sides as one list, `out` first.
 #[inline]
 #[tactic(auto, using(crate::proofs::SidesLemmas::sides))]
-pub fn mark_range(
+pub(crate) fn mark_range(
     out: &mut [hb_glyph_info_t],
     input: &mut [hb_glyph_info_t],
     start: usize,
@@ -100,8 +100,8 @@ fn mark_others(info: &mut [hb_glyph_info_t], bits: u32, cluster: u32)
     }
 }
 
-/// Adds the bits to the glyphs before the first one of the cluster, from the start on. The walk stops at the last glyph,
-/// which is in the cluster.
+/// Adds the bits to the glyphs before the first one of the cluster, from the start on. The last glyph is in the cluster,
+/// and is not read.
 #[inline]
 #[tactic(auto, using(crate::proofs::ScanEndsLemmas::walks_up))]
 fn mark_before_first(info: &mut [hb_glyph_info_t], bits: u32, cluster: u32)
@@ -111,14 +111,14 @@ fn mark_before_first(info: &mut [hb_glyph_info_t], bits: u32, cluster: u32)
         0 (prefix_len (λ c. not (c == cluster)) (clusters info.old)) }
 {
     let mut end = 0;
-    while info[end].cluster != cluster {
+    while end + 1 < info.len() && info[end].cluster != cluster {
         mark(&mut info[end], bits);
         end += 1;
     }
 }
 
-/// Adds the bits to the glyphs after the last one of the cluster, from the end down. The walk stops at the first glyph,
-/// which is in the cluster.
+/// Adds the bits to the glyphs after the last one of the cluster, from the end down. The first glyph is in the cluster,
+/// and is not read.
 #[inline]
 #[tactic(auto, using(crate::proofs::ScanEndsLemmas::walks_down))]
 fn mark_after_last(info: &mut [hb_glyph_info_t], bits: u32, cluster: u32)
@@ -129,7 +129,7 @@ fn mark_after_last(info: &mut [hb_glyph_info_t], bits: u32, cluster: u32)
         (length info.old) }
 {
     let mut start = info.len();
-    while info[start - 1].cluster != cluster {
+    while start > 1 && info[start - 1].cluster != cluster {
         start -= 1;
         mark(&mut info[start], bits);
     }
@@ -296,7 +296,7 @@ fn least_for_scan(out: &[hb_glyph_info_t], input: &[hb_glyph_info_t], any_order:
 /// Scans the glyphs from `start` to `end` of the two sides as one list, `out` first, where `end` is not within `out`.
 /// What lies on either side is a part of its own.
 #[tactic(auto, using(crate::proofs::ScansLemmas::slices_scanned))]
-pub fn scan_two_parts(
+pub(crate) fn scan_two_parts(
     out: &mut [hb_glyph_info_t],
     input: &mut [hb_glyph_info_t],
     start: usize,

@@ -17,4 +17,5 @@ pub mod masks;
 pub mod merge_range;
 pub mod merged_head;
 pub mod merging;
+pub mod range_change;
 pub mod reversal;

@@ -145,7 +145,7 @@ fn merge_across(
 /// `input`.
 #[inline(always)]
 #[tactic(auto, using(crate::proofs::SeamLemmas::seams))]
-pub fn run_merge(
+fn run_merge(
     out: &mut [hb_glyph_info_t],
     input: &mut [hb_glyph_info_t],
     start: usize,
@@ -185,8 +185,8 @@ fn mark_instead(info: &mut [hb_glyph_info_t], start: usize, end: usize)
     scan_slice(info, start, end, BREAK_BITS, true);
 }
 
-/// Merges the glyphs from `start` to `end` of the two sides as one list, `out` first, where `start` is not in `out`. In
-/// any order of clusters those outside the least cluster of the range get both break flags instead, and keep their
+/// Merges the glyphs from `start` to `end` of the two sides as one list, `out` first. In any order of clusters, where
+/// `start` is not in `out`, those outside the least cluster of the range get both break flags instead, and keep their
 /// clusters.
 #[inline(always)]
 #[tactic(auto, using(crate::proofs::SidesLemmas::marks))]
@@ -198,7 +198,7 @@ pub fn merge_or_mark(
     floor: usize,
     any_order: bool,
 )
-    requires past_out { length out.old ≤ start }
+    requires past_out { any_order ≡ true → length out.old ≤ start }
     requires order { start ≤ end }
     requires within { end ≤ length out.old + length input.old }
     ensures out { out.new ≡ take (length out.old)

@@ -1,6 +1,6 @@
 -- A replacement, in the words of the two sides.
 use Rattle.std.proofs.Common.{◌≡◌, ℕ, ◌+◌, ◌≤◌, Bool, List, length, take, drop, arith}
-use Rattle.std.proofs.Common.{length-append, length-take, length-drop, subst, sym}
+use Rattle.std.proofs.Common.{length-append, length-take, length-drop, ap, ◌∙◌}
 use Rattle.std.specs.Prelude.{slice_index_or, Result, Ok, Err, OnOk}
 use Rattle.std.specs.declared.alloc.AllocError.{AllocError}
 use Rattle.glyph_lists.specs.Clusters.{zero_glyph}
@@ -38,8 +38,16 @@ left_replaced level n ids s within =
       length-drop n (drop (length s.out) l),
     )
 
--- what is true of what an operation makes is true where it was done
-pub made_then : {T : Type 0} (P : TwoLists → Type 0) (after old new : TwoLists) (r : Result T AllocError)
-    → Makes after old r new → P after → OnOk r (P new)
-made_then P after old new (Ok v) made p = subst P (sym made) p
-made_then P after old new (Err e) made p = tt
+-- so it is where the replacement was done
+pub done_out : {T : Type 0} (level : Bool) (n : ℕ) (ids : List ℕ) (s new : TwoLists) (r : Result T AllocError)
+    → Makes (replaced level n ids s) s r new → OnOk r (length new.out ≡ length s.out + length ids)
+done_out level n ids s new (Ok v) made = ap (λ (t : TwoLists). length t.out) made ∙ length_replaced level n ids s
+done_out level n ids s new (Err e) made = tt
+
+pub done_left : {T : Type 0} (level : Bool) (n : ℕ) (ids : List ℕ) (s new : TwoLists) (r : Result T AllocError)
+    → n ≤ length s.input → Makes (replaced level n ids s) s r new → OnOk r (length new.input + n ≡ length s.input)
+done_left level n ids s new (Ok v) within made =
+    ap (λ (t : TwoLists). length t.input + n) made ∙ left_replaced level n ids s within
+done_left level n ids s new (Err e) within made = tt
+
+pub ruleset lengths = (done_out, done_left)

@@ -6,8 +6,8 @@ pub mod Lending
 -- what the public clauses name of the crates below
 pub use Rattle.glyph_lists.specs.Clusters
 pub use Rattle.glyph_lists.specs.Deletion
-pub use Rattle.glyph_lists.specs.Marks
 pub use Rattle.glyph_lists.specs.Parts
+pub use Rattle.glyph_lists.specs.RangeChange
 pub use Rattle.glyph_lists.specs.Replacement
 pub use Rattle.glyph_lists.specs.Scans
 pub use Rattle.rb_glyph.specs.declared.info.hb_glyph_info_t

@@ -9,6 +9,7 @@ ghost use Rattle.glyph_lists.specs.Replacement.{copies};
 use crate::copies::{append_copies, write_copies};
 use crate::one_slice;
 use glyph_lists::merging::merge_or_mark;
+use glyph_lists::range_change::RangeChange;
 use rb_glyph::hb_glyph_info_t;
 
 /// Merges, or marks, the first `count` glyphs of the input, `info` from the cursor on, and puts copies of the first of
@@ -67,7 +68,11 @@ pub(crate) fn replace_in_place(
         drop (cursor + count) info.new.items ≡ drop count (drop k l) }
     ensures capacity { vec_capacity info.new ≡ vec_capacity info.old }
 {
-    one_slice::merge_or_mark(info, placed, cursor, placed, placed + count, 0, any_order);
+    let merge = RangeChange::Merge {
+        floor: 0,
+        any_order,
+    };
+    one_slice::change_range(info, placed, cursor, placed, placed + count, merge);
     let glyph = info[cursor];
     write_copies(info, placed, glyph, ids);
 }

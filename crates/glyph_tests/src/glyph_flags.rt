@@ -1,5 +1,6 @@
 use crate::lists::{assert_masks, glyph, glyphs};
-use glyph_lists::glyph_flags::{mark_range, scan_slice, scan_two_parts};
+use glyph_lists::glyph_flags::scan_slice;
+use glyph_lists::range_change::{RangeChange, change_range};
 
 /// Clusters, a range, whether they are in any order, and the masks after the scan.
 static SCANS: [([u32; 4], usize, usize, bool, [u32; 4]); 6] = [
@@ -42,7 +43,8 @@ fn a_scan_of_two_parts_goes_by_the_least_of_both(rt: HostRuntime) {
         let mut list = glyphs(clusters);
         assert!(rt; cut <= end && start <= end && end <= 4);
         let (out, input) = list.split_at_mut(cut);
-        scan_two_parts(out, input, start, end, 3, any_order);
+        let scan = RangeChange::Scan { bits: 3, any_order };
+        change_range(out, input, start, end, scan);
         assert_masks(&rt, out, &masks[..cut]);
         assert_masks(&rt, input, &masks[cut..]);
     }
@@ -52,7 +54,7 @@ fn a_scan_of_two_parts_goes_by_the_least_of_both(rt: HostRuntime) {
 fn a_range_is_marked_on_both_sides(rt: HostRuntime) {
     let mut out = glyphs([0, 1]);
     let mut input = [glyph(2, 1), glyph(3, 0)];
-    mark_range(&mut out, &mut input, 1, 3, 2);
+    change_range(&mut out, &mut input, 1, 3, RangeChange::Mark { bits: 2 });
     assert_masks(&rt, &out, &[0, 2]);
     assert_masks(&rt, &input, &[3, 0]);
 }

@@ -1,5 +1,6 @@
 use crate::lists::{assert_clusters, assert_glyphs, glyph, glyphs};
-use glyph_lists::merging::{merge_or_mark, merge_slice, run_merge};
+use glyph_lists::merging::{merge_or_mark, merge_slice};
+use glyph_lists::range_change::{RangeChange, change_range};
 
 /// How many were put out, clusters, a range and a floor, and the clusters after the merge.
 static MERGES: [(usize, [u32; 4], usize, usize, usize, [u32; 4]); 13] = [
@@ -25,7 +26,11 @@ fn a_merge_takes_in_the_runs_at_its_ends(rt: HostRuntime) {
         let mut list = glyphs(before);
         assert!(rt; cut <= 4 && start <= end && end <= 4);
         let (out, input) = list.split_at_mut(cut);
-        run_merge(out, input, start, end, floor);
+        let merge = RangeChange::Merge {
+            floor,
+            any_order: false,
+        };
+        change_range(out, input, start, end, merge);
         assert_clusters(&rt, out, &after[..cut]);
         assert_clusters(&rt, input, &after[cut..]);
     }

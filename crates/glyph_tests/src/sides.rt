@@ -1,5 +1,6 @@
 use crate::lists::{assert_clusters, assert_masks, glyph};
 use glyph_lists::glyph_flags::BREAK_BITS;
+use glyph_lists::range_change::RangeChange;
 use glyph_sides::Sides;
 use std::alloc::Global;
 use std::process::Abort;
@@ -108,14 +109,22 @@ fn both_sides_are_merged_and_marked_as_one_list(rt: HostRuntime) {
     next(&rt, &mut sides, 1);
     skip(&rt, &mut sides, 1);
     assert!(rt; sides.out().len() + sides.input().len() >= 4);
-    sides.run_merge(1, 3, 0);
+    let merge = RangeChange::Merge {
+        floor: 0,
+        any_order: false,
+    };
+    sides.change_range(1, 3, merge);
     assert_sides(&rt, &sides, &[2], &[2, 2, 1], false);
     assert!(rt; sides.out().len() + sides.input().len() >= 4);
     assert!(rt; sides.out().len() <= 1);
-    sides.merge_or_mark(2, 4, 0, true);
+    let mark_instead = RangeChange::Merge {
+        floor: 0,
+        any_order: true,
+    };
+    sides.change_range(2, 4, mark_instead);
     assert_masks(&rt, sides.input(), &[0, 3, 0]);
     assert!(rt; sides.out().len() + sides.input().len() >= 4);
-    sides.mark_range(0, 2, 4);
+    sides.change_range(0, 2, RangeChange::Mark { bits: 4 });
     assert_masks(&rt, sides.out(), &[4]);
     assert_masks(&rt, sides.input(), &[4, 3, 0]);
     assert!(rt; sides.is_open());
@@ -135,7 +144,11 @@ fn scans_mark_outside_the_least_cluster(rt: HostRuntime) {
     assert_masks(&rt, sides.input(), &[0, 0, 0]);
     assert!(rt; sides.out().len() <= 4);
     assert!(rt; sides.out().len() + sides.input().len() >= 4);
-    sides.scan_two_parts(0, 4, BREAK_BITS, false);
+    let scan = RangeChange::Scan {
+        bits: BREAK_BITS,
+        any_order: false,
+    };
+    sides.change_range(0, 4, scan);
     assert_masks(&rt, sides.out(), &[3]);
     assert_masks(&rt, sides.input(), &[3, 3, 0]);
 }

@@ -1,10 +1,12 @@
-//! Calls that go over a whole list with no output open, as each function requires.
+//! Calls that go over a whole list with no output open, as each function requires. Each stands out of line, so that its
+//! time does not depend on what stands beside it.
 
 ghost use Rattle.std.specs.Prelude.{◌≡◌, false};
 
 use shaping_buffer::{_cluster_group_func, hb_buffer_t};
 
 /// Deletes each glyph whose number is a multiple of three.
+#[inline(never)]
 pub fn delete_third_inplace(buffer: &mut hb_buffer_t)
     requires { buffer.old.have_output ≡ false }
 {
@@ -12,6 +14,7 @@ pub fn delete_third_inplace(buffer: &mut hb_buffer_t)
 }
 
 /// Puts the clusters into reverse order.
+#[inline(never)]
 pub fn reverse_groups(buffer: &mut hb_buffer_t)
     requires { buffer.old.have_output ≡ false }
 {
@@ -19,6 +22,7 @@ pub fn reverse_groups(buffer: &mut hb_buffer_t)
 }
 
 /// Asks for the end of each cluster, and gives their sum.
+#[inline(never)]
 pub fn group_ends(buffer: &hb_buffer_t) -> usize
     requires { buffer.now.have_output ≡ false }
 {
@@ -33,6 +37,7 @@ pub fn group_ends(buffer: &hb_buffer_t) -> usize
 }
 
 /// Sets ten masks, each other one over all clusters, and the others over half of them.
+#[inline(never)]
 pub fn ten_masks(buffer: &mut hb_buffer_t)
     requires { buffer.old.have_output ≡ false }
 {

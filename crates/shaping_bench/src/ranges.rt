@@ -1,10 +1,12 @@
-//! Merges and break flags over ranges of a list with no output open, as each function requires.
+//! Merges and break flags over ranges of a list with no output open, as each function requires. Each stands out of line,
+//! so that its time does not depend on what stands beside it.
 
 ghost use Rattle.std.specs.Prelude.{◌≡◌, false};
 
 use shaping_buffer::hb_buffer_t;
 
 /// Merges each glyph with the next.
+#[inline(never)]
 #[tactic(auto, using(shaping_buffer::proofs::GroupStepLemmas::length_merged))]
 pub fn merge_sliding(buffer: &mut hb_buffer_t)
     requires { buffer.old.have_output ≡ false }
@@ -15,6 +17,7 @@ pub fn merge_sliding(buffer: &mut hb_buffer_t)
 }
 
 /// Merges two glyphs, and then the next two.
+#[inline(never)]
 #[tactic(auto, using(shaping_buffer::proofs::GroupStepLemmas::length_merged))]
 pub fn merge_pairs(buffer: &mut hb_buffer_t)
     requires { buffer.old.have_output ≡ false }
@@ -25,6 +28,7 @@ pub fn merge_pairs(buffer: &mut hb_buffer_t)
 }
 
 /// Makes one cluster of two glyphs that share a grapheme, and then of the next two.
+#[inline(never)]
 pub fn merge_graphemes(buffer: &mut hb_buffer_t)
     requires { buffer.old.have_output ≡ false }
 {
@@ -38,6 +42,7 @@ pub fn merge_graphemes(buffer: &mut hb_buffer_t)
 }
 
 /// Marks four glyphs from each on.
+#[inline(never)]
 pub fn unsafe_sliding(buffer: &mut hb_buffer_t)
     requires { buffer.old.have_output ≡ false }
 {
@@ -51,6 +56,7 @@ pub fn unsafe_sliding(buffer: &mut hb_buffer_t)
 }
 
 /// Marks four glyphs, and then the next four.
+#[inline(never)]
 pub fn unsafe_windows(buffer: &mut hb_buffer_t)
     requires { buffer.old.have_output ≡ false }
 {

@@ -1,6 +1,7 @@
 //! Walks of the cursor over a list, each with an output open from its start to its end.
 //!
-//! Each answers `Ok(false)` where a call was refused. They require that no output is open.
+//! Each answers `Ok(false)` where a call was refused. They require that no output is open. Each stands out of line, so
+//! that its time does not depend on what stands beside it.
 
 ghost use Rattle.std.specs.Prelude.{◌≡◌, ◌≤◌, true, false, IfOk};
 ghost use Rattle.shaping_buffer.specs.State.{lookahead_len};
@@ -17,6 +18,7 @@ const TAKEN_BACK: usize = 4;
 pub const BULK_PASSES: usize = 100;
 
 /// Puts out one glyph after another.
+#[inline(never)]
 pub fn next_glyph_sync(buffer: &mut hb_buffer_t) -> Result<bool, AllocError>
     requires { buffer.old.have_output ≡ false }
 {
@@ -25,6 +27,7 @@ pub fn next_glyph_sync(buffer: &mut hb_buffer_t) -> Result<bool, AllocError>
 }
 
 /// Puts all glyphs out at once, again and again.
+#[inline(never)]
 pub fn next_glyphs_sync(buffer: &mut hb_buffer_t) -> Result<bool, AllocError>
     requires { buffer.old.have_output ≡ false }
 {
@@ -49,6 +52,7 @@ fn put_all_out(buffer: &mut hb_buffer_t) -> Result<bool, AllocError>
 }
 
 /// Makes one glyph of each two.
+#[inline(never)]
 pub fn ligatures(buffer: &mut hb_buffer_t) -> Result<bool, AllocError>
     requires { buffer.old.have_output ≡ false }
 {
@@ -65,6 +69,7 @@ pub fn ligatures(buffer: &mut hb_buffer_t) -> Result<bool, AllocError>
 }
 
 /// Makes two glyphs of each.
+#[inline(never)]
 pub fn decompositions(buffer: &mut hb_buffer_t) -> Result<bool, AllocError>
     requires { buffer.old.have_output ≡ false }
 {
@@ -81,6 +86,7 @@ pub fn decompositions(buffer: &mut hb_buffer_t) -> Result<bool, AllocError>
 }
 
 /// Goes eight glyphs forward and four back.
+#[inline(never)]
 pub fn rewinds(buffer: &mut hb_buffer_t) -> Result<bool, AllocError>
     requires { buffer.old.have_output ≡ false }
 {
@@ -89,6 +95,7 @@ pub fn rewinds(buffer: &mut hb_buffer_t) -> Result<bool, AllocError>
 }
 
 /// The same with the out side eight glyphs behind.
+#[inline(never)]
 pub fn rewinds_behind(buffer: &mut hb_buffer_t) -> Result<bool, AllocError>
     requires { buffer.old.have_output ≡ false }
 {
@@ -102,6 +109,7 @@ pub fn rewinds_behind(buffer: &mut hb_buffer_t) -> Result<bool, AllocError>
 }
 
 /// The same with the out side one glyph ahead.
+#[inline(never)]
 pub fn rewinds_separate(buffer: &mut hb_buffer_t) -> Result<bool, AllocError>
     requires { buffer.old.have_output ≡ false }
 {
@@ -113,6 +121,7 @@ pub fn rewinds_separate(buffer: &mut hb_buffer_t) -> Result<bool, AllocError>
 }
 
 /// Puts out one glyph ahead of the cursor, and then for each glyph of the list a new one, which it takes back.
+#[inline(never)]
 pub fn rewinds_past_cursor(buffer: &mut hb_buffer_t) -> Result<bool, AllocError>
     requires { buffer.old.have_output ≡ false }
 {
@@ -131,6 +140,7 @@ pub fn rewinds_past_cursor(buffer: &mut hb_buffer_t) -> Result<bool, AllocError>
 }
 
 /// Deletes each third glyph.
+#[inline(never)]
 pub fn delete_third(buffer: &mut hb_buffer_t) -> Result<bool, AllocError>
     requires { buffer.old.have_output ≡ false }
 {

@@ -46,15 +46,17 @@ impl Sides {
             self.cursor += 1;
             return Ok(());
         }
-        let glyph = self.info[self.cursor];
+        // Once a glyph is written, the places would be read from memory again.
+        let (placed, cursor) = (self.placed, self.cursor);
+        let glyph = self.info[cursor];
         if self.is_separate {
             return self.one_apart();
         }
-        if self.placed < self.cursor {
-            self.info[self.placed] = glyph;
+        if placed < cursor {
+            self.info[placed] = glyph;
         }
-        self.placed += 1;
-        self.cursor += 1;
+        self.placed = placed + 1;
+        self.cursor = cursor + 1;
         Ok(())
     }
 

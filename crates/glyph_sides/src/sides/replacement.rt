@@ -81,6 +81,7 @@ impl Sides {
 
     /// Merges, or marks, the first `count` glyphs of the input, and puts out copies of the first as it then stands in
     /// place of them, one under each id. Requires an open output, a glyph at the cursor and as many glyphs there.
+    #[tactic(auto, using(crate::proofs::ReplacementLemmas::lengths))]
     pub fn replace(&mut self, count: usize, ids: &[u32], any_order: bool) -> Result<(), AllocError>
         requires opened { self.old.is_open ≡ true }
         requires glyph { 0 < length self.old.input }
@@ -109,11 +110,7 @@ impl Sides {
         requires opened { self.old.is_open ≡ true }
         requires glyph { 0 < length self.old.input }
         requires within { count ≤ length self.old.input }
-        ensures made { Makes (replaced any_order count ids.now self.old) self.old result self.new }
-        ensures out_len { OnOk result
-            (length self.new.out ≡ length self.old.out + length ids.now) }
-        ensures input_len { OnOk result
-            (length self.new.input + count ≡ length self.old.input) }
+        ensures { Makes (replaced any_order count ids.now self.old) self.old result self.new }
     {
         if self.is_separate {
             return self.replace_apart(count, ids, any_order);

@@ -7,14 +7,21 @@
 //! of the out side. No call changes a cluster. A call that may have marked glyphs also sets the scratch flag
 //! `HB_BUFFER_SCRATCH_FLAG_HAS_GLYPH_FLAGS`: each says when.
 
-ghost use Rattle.std.specs.Prelude.{◌≡◌, ◌-◌, ◌≤◌, true, false, length};
+ghost use Rattle.std.specs.Prelude.{◌≡◌, ◌≤◌, true, false, length};
+ghost use Rattle.glyph_lists.specs.RangeChange.{changed, MayChange};
 ghost use Rattle.shaping_buffer.specs.State.{len};
 ghost use Rattle.shaping_buffer.specs.ClusterStep as step;
-ghost use Rattle.shaping_buffer.specs.ClusterStep.{any_order, both_place, range_start, range_end};
+ghost use Rattle.shaping_buffer.specs.ClusterStep.{any_order, range_start, range_end};
 
 use super::hb_buffer_t;
 use glyph_lists::glyph_flags::BREAK_BITS;
+use glyph_lists::range_change::RangeChange;
 use rb_glyph::{BufferFlags, Flags, glyph_flag};
+
+/// What the calls named for it add: all glyphs of the range are unsafe to concatenate.
+const ALL_UNSAFE_TO_CONCAT: RangeChange = RangeChange::Mark {
+    bits: glyph_flag::UNSAFE_TO_CONCAT,
+};
 
 impl hb_buffer_t {
     /// Marks the input's glyphs from `start` (the origin) to `end` (the length, to which it is cut) that are not in
@@ -41,7 +48,11 @@ impl hb_buffer_t {
         ensures { self.new ≡ step.unsafe_to_break_from_outbuffer start end self.old }
     {
         let to = self.both_place(self.range_end(end));
-        self.scan_sides(BREAK_BITS, start.unwrap_or(0), to);
+        let scan = RangeChange::Scan {
+            bits: BREAK_BITS,
+            any_order: self.any_order(),
+        };
+        self.flag_range(start.unwrap_or(0), to, scan);
     }
 
     /// Marks the glyphs that `unsafe_to_break` would mark: as places where a tatweel may be put in, if the flag
@@ -73,7 +84,7 @@ impl hb_buffer_t {
         }
         let from = self.both_place(start.unwrap_or(0));
         let to = self.both_place(self.range_end(end));
-        self.flag_all(glyph_flag::UNSAFE_TO_CONCAT, from, to);
+        self.flag_range(from, to, ALL_UNSAFE_TO_CONCAT);
     }
 
     /// Marks as `unsafe_to_concat` does, over both sides while an output is open: the out side from `start`, and the
@@ -88,7 +99,7 @@ impl hb_buffer_t {
             return;
         }
         let to = self.both_place(self.range_end(end));
-        self.flag_all(glyph_flag::UNSAFE_TO_CONCAT, start.unwrap_or(0), to);
+        self.flag_range(start.unwrap_or(0), to, ALL_UNSAFE_TO_CONCAT);
     }
 
     /// Whether the buffer's flags ask for this.
@@ -98,7 +109,8 @@ impl hb_buffer_t {
         self.flags.contains(flag)
     }
 
-    /// A scan of the input from `start` to `end`, unless there are fewer than two glyphs.
+    /// A scan of the input from `start` to `end`, unless there are fewer than two glyphs. It lies in the one slice,
+    /// whatever stands on the out side.
     #[inline]
     fn plain_scan(&mut self, bits: u32, start: Option<usize>, end: Option<usize>)
         requires order { range_start start ≤ range_end end self.old }
@@ -111,7 +123,9 @@ impl hb_buffer_t {
         if to - from < 2 {
             return;
         }
-        self.scan(bits, from, to);
+        let any_order = self.any_order();
+        self.set_has_glyph_flags();
+        self.sides.scan_input(from, to, bits, any_order);
     }
 
     /// The end of a flag call's range, cut to the length.
@@ -124,39 +138,16 @@ impl hb_buffer_t {
         end.unwrap_or(len).min(len)
     }
 
-    /// A scan of the input from `start` to `end`. It lies in the one slice, whatever stands on the out side.
-    #[inline]
-    fn scan(&mut self, bits: u32, start: usize, end: usize)
-        requires order { start ≤ end }
-        requires within { end ≤ len self.old }
-        requires past_cursor { self.old.have_output ≡ true → self.old.idx ≤ start }
-        ensures { self.new ≡ step.scan (any_order self.old) bits (both_place self.old start)
-            (both_place self.old end) self.old }
-    {
-        let any_order = self.any_order();
-        self.set_has_glyph_flags();
-        self.sides.scan_input(start, end, bits, any_order);
-    }
-
-    /// A scan of both sides from `from` to `to`, which is not in the out side, in two parts.
-    fn scan_sides(&mut self, bits: u32, from: usize, to: usize)
-        requires past_out { length self.old.out ≤ to }
+    /// A change of the glyphs of both sides from `from` to `to` that leaves glyph flags. A scan requires that `to` is in
+    /// the input.
+    fn flag_range(&mut self, from: usize, to: usize, change: RangeChange)
+        requires may { MayChange change (length self.old.out) from to }
         requires order { from ≤ to }
         requires within { to ≤ length (step.both self.old) }
-        ensures { self.new ≡ step.scan_sides (any_order self.old) bits from to self.old }
-    {
-        let any_order = self.any_order();
-        self.set_has_glyph_flags();
-        self.sides.scan_two_parts(from, to, bits, any_order);
-    }
-
-    /// Adds the bits to all glyphs of both sides from `from` to `to`.
-    fn flag_all(&mut self, bits: u32, from: usize, to: usize)
-        requires order { from ≤ to }
-        requires within { to ≤ length (step.both self.old) }
-        ensures { self.new ≡ step.flag_all bits from to self.old }
+        ensures { self.new ≡ step.flagged (step.with_both
+            (changed change (length self.old.out) (step.both self.old) from to) self.old) }
     {
         self.set_has_glyph_flags();
-        self.sides.mark_range(from, to, bits);
+        self.sides.change_range(from, to, change);
     }
 }

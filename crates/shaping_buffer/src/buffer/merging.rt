@@ -11,6 +11,7 @@ ghost use Rattle.shaping_buffer.specs.ClusterStep as step;
 
 use super::hb_buffer_t;
 use glyph_lists::clusters;
+use glyph_lists::range_change::RangeChange;
 use rb_glyph::hb_glyph_info_t;
 
 impl hb_buffer_t {
@@ -99,12 +100,14 @@ impl hb_buffer_t {
         } else {
             self.sides.idx()
         };
-        self.sides.merge_or_mark(from, to, floor, any_order);
+        let merge = RangeChange::Merge { floor, any_order };
+        self.sides.change_range(from, to, merge);
     }
 
     /// Merges the clusters of the out side's glyphs from `start` to `end`, and of the runs at its ends, also into the
     /// input, into the least of them; a glyph that changes its cluster loses its glyph flags. At levels 2 and 3 nothing
     /// changes, and fewer than two glyphs stay as they are. Requires an open output, and `start <= end <= out_len`.
+    #[tactic(auto, using(glyph_lists::proofs::SidesLemmas::merge_or_mark_merges))]
     pub fn merge_out_clusters(&mut self, start: usize, end: usize)
         requires opened { self.old.have_output ≡ true }
         requires order { start ≤ end }
@@ -114,6 +117,10 @@ impl hb_buffer_t {
         if self.any_order() {
             return;
         }
-        self.sides.run_merge(start, end, 0);
+        let merge = RangeChange::Merge {
+            floor: 0,
+            any_order: false,
+        };
+        self.sides.change_range(start, end, merge);
     }
 }
