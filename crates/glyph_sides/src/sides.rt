@@ -240,6 +240,16 @@ impl Sides {
         Ok(())
     }
 
+    /// Takes memory for so many more glyphs in the list, and changes nothing else: the room stays what it was promised to
+    /// be. So a caller may take all memory for an operation before it begins.
+    pub fn reserve_more(&mut self, more: usize) -> Result<(), AllocError>
+        requires { self.old.is_open ≡ false }
+        ensures same { self.new ≡ self.old }
+        ensures wants { OnErr result ((0 < more) × (self.old.room < length self.old.input + more)) }
+    {
+        self.info.reserve(more)
+    }
+
     /// How many glyphs each side may hold without asking for memory.
     #[inline(always)]
     pub fn room(&self) -> usize

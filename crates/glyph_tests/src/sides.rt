@@ -184,6 +184,10 @@ fn a_list_is_cut_and_merged(rt: HostRuntime) {
     assert!(rt; sides.reserve(3).is_ok());
     assert!(rt; sides.room() == 5);
     assert!(rt; !sides.is_open());
+    assert!(rt; sides.reserve_more(9).is_ok());
+    assert!(rt; sides.room() == 5);
+    assert_clusters(&rt, sides.input(), &[3, 3, 2, 1]);
+    assert!(rt; !sides.is_open());
     assert!(rt; sides.input().len() >= 3);
     sides.go_to(1);
     assert!(rt; !sides.is_open());

@@ -27,6 +27,8 @@ impl hb_buffer_t {
             self.successful = false;
             return Ok(false);
         }
+        // The glyphs come first: where the allocator gives memory back from its end, theirs is what it keeps.
+        self.sides.reserve_more(more)?;
         self.pos.reserve(self.sides.len() + more)?;
         self.sides.append(text, more)?;
         Ok(true)
