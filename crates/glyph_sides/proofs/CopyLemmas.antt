@@ -1,6 +1,6 @@
 -- Copies that are written over a list, one after the other.
 use Rattle.std.proofs.Common.{◌≡◌, ℕ, suc, ◌+◌, ◌<◌, ◌≤◌, List, [], ◌∷◌, ◌++◌, take, drop, length, get_or, refl, sym}
-use Rattle.std.proofs.Common.{ap, ◌∙◌, arith, append_assoc, length-append, add-one}
+use Rattle.std.proofs.Common.{ap, ◌∙◌, arith, append_assoc, add-one}
 use Rattle.std.proofs.Math.ListN.{set}
 use Rattle.std.proofs.Math.Seq.{drop-cons}
 use Rattle.std.proofs.lemmas.List.{length-take-le, length-map, take_more, map-append}
@@ -30,22 +30,12 @@ set_next front before n a d long h =
     ∙ sym (append_assoc front (a ∷ []) (drop (suc n) before))
     ∙ ap (λ k. (front ++ a ∷ []) ++ drop k before) (sym (add-one n))
 
-pub copied_over : (x : hb_glyph_info_t) (ids : List ℕ) (old : List hb_glyph_info_t) (at i d : ℕ) → i < length ids
-    → at + length ids ≤ length old
-    → set ((take at old ++ copies x (take i ids)) ++ drop (at + i) old) (at + i) (with_id (get_or ids i d) x)
-    ≡ (take at old ++ copies x (take (i + 1) ids)) ++ drop (at + (i + 1)) old
-copied_over x ids old at i d h within =
-    let front : List hb_glyph_info_t = take at old ++ copies x (take i ids) in
-    let long : length front ≡ at + i = grind (
-      arith,
-      length-append (take at old) (copies x (take i ids)),
-      length-take-le at old,
-      length-map (take i ids) (λ g. with_id g x),
-      length-take-le i ids,
-    ) in
-    let next : at + i + 1 ≡ at + (i + 1) = omega arith in
-    set_next front old (at + i) (with_id (get_or ids i d) x) x long (omega arith)
-    ∙ ap (λ l. l ++ drop (at + i + 1) old)
-    (append_assoc (take at old) (copies x (take i ids)) (with_id (get_or ids i d) x ∷ [])
-    ∙ ap (λ l. take at old ++ l) (sym (copied x ids i d h)))
-    ∙ ap (λ k. (take at old ++ copies x (take (i + 1) ids)) ++ drop k old) next
+pub copied_over : (x : hb_glyph_info_t) (ids : List ℕ) (old : List hb_glyph_info_t) (i d : ℕ) → i < length ids
+    → length ids ≤ length old
+    → set (copies x (take i ids) ++ drop i old) i (with_id (get_or ids i d) x)
+    ≡ copies x (take (i + 1) ids) ++ drop (i + 1) old
+copied_over x ids old i d h within =
+    let long : length (copies x (take i ids)) ≡ i =
+    omega (arith, length-map (take i ids) (λ g. with_id g x), length-take-le i ids (omega arith)) in
+    set_next (copies x (take i ids)) old i (with_id (get_or ids i d) x) x long (omega arith)
+    ∙ ap (λ l. l ++ drop (i + 1) old) (sym (copied x ids i d h))

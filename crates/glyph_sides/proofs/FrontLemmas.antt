@@ -56,20 +56,22 @@ pub set_kept : {X : Type 0} (is : Bool) (ys xs : List X) (n i : ℕ) (x : X) →
 set_kept true ys xs n i x h = refl
 set_kept false ys xs n i x h = take-set-le n xs i x (h refl)
 
--- the last glyph that was put out, written
-pub last_written : {X : Type 0} (xs : List X) (n : ℕ) (x : X) → 0 < n → n ≤ length xs
-    → take n (set xs (n - 1) x) ≡ set (take n xs) (length (take n xs) - 1) x
-last_written xs n x some within =
-    let e : n - 1 ≡ length (take n xs) - 1 = grind (arith, length-take-le n xs within) in
-    take-set-lt n xs (n - 1) x (omega arith) ∙ ap (λ k. set (take n xs) k x) e
+-- the last glyph that was put out in place, written
+module _ {X : Type 0} (apart : Bool) (ys xs : List X) (n : ℕ) (x : X) (near : apart ≡ false)
+    (some : 0 < length (if apart then ys else take n xs)) where
+  abbrev last : ℕ
+  last = length (if apart then ys else take n xs) - 1
 
-pub last_input : {X : Type 0} (is : Bool) (xs : List X) (n m : ℕ) (x : X) → 0 < n → n ≤ m → (is ≡ false → n ≡ 0)
-    → (if is then drop m (set xs (n - 1) x) else set xs (n - 1) x) ≡ (if is then drop m xs else xs)
-last_input true xs n m x some after none = drop-set-lt m xs (n - 1) x (omega arith)
-last_input false xs n m x some after none = let e = none refl in absurd (omega arith)
+  pub last_written : take n (set xs last x) ≡ set (take n xs) last x
+  last_written = take-set-lt n xs last x (grind (arith, near, some, length-take n xs))
 
--- something was put out in place
-pub some_placed : {X : Type 0} (is : Bool) (ys xs : List X) (n : ℕ) → is ≡ false
-    → 0 < length (if is then ys else take n xs) → 0 < n
-some_placed true ys xs n h some = cc
-some_placed false ys xs n h some = grind (arith, length-take n xs)
+  pub last_input : (is : Bool) (m : ℕ) → n ≤ m → (is ≡ false → n ≡ 0)
+      → (if is then drop m (set xs last x) else set xs last x) ≡ (if is then drop m xs else xs)
+  last_input true m after none = drop-set-lt m xs last x (grind (arith, near, some, length-take n xs))
+  last_input false m after none = absurd (grind (arith, none refl, near, some, length-take n xs))
+
+-- so many were put out in place
+pub length_placed : {X : Type 0} (is : Bool) (ys xs : List X) (n : ℕ) → is ≡ false → n ≤ length xs
+    → length (if is then ys else take n xs) ≡ n
+length_placed true ys xs n h within = cc
+length_placed false ys xs n h within = length-take-le n xs within

@@ -1,6 +1,6 @@
 pub mod Views
-pub mod ScanLemmas
 pub mod ShiftLemmas
+pub mod NoGapLemmas
 pub mod FrontLemmas
 pub mod Relends
 pub mod CopyLemmas

@@ -4,7 +4,7 @@ use Rattle.std.proofs.Common.{slice_range, take, drop, arith, sym, ap, ◌∙◌
 use Rattle.std.proofs.lemmas.List.{take-append-drop, drop-drop, drop-take}
 use Rattle.std.proofs.lemmas.List.Edits.{drop-paste}
 use Rattle.std.specs.List.{copy_within}
-use Rattle.std.proofs.Math.Seq.{take-append-add, drop-append-add, take-add}
+use Rattle.std.proofs.Math.Seq.{take-append-add, drop-append-add}
 
 -- two lists, split in the second
 pub take_past : {X : Type 0} (i : ℕ) (xs ys : List X) → length xs ≤ i
@@ -36,13 +36,7 @@ left_by_copy xs to from count down within =
     ∙ ap (drop (from - to)) (drop-paste xs to (drop from xs) n (omega arith) room)
     ∙ drop-drop (from - to) (to + n) xs ∙ ap (λ k. drop k xs) e
 
--- where nothing lies between, glyphs stand where they belong
-pub put_already : {X : Type 0} (xs : List X) (to from count : ℕ) → to ≤ from → from ≤ to
-    → take (to + count) xs ≡ take to xs ++ take count (drop from xs)
-put_already xs to from count down up =
-    let e : to ≡ from = omega arith in take-add to count xs ∙ ap (λ k. take to xs ++ take count (drop k xs)) e
-
-pub ruleset down = (range_is, left_by_copy, put_already)
+pub ruleset down = (range_is, left_by_copy)
 
 pub closed_already : {X : Type 0} (xs : List X) (to from : ℕ) → to ≤ from → from ≤ to → xs ≡ take to xs ++ drop from xs
 closed_already xs to from down up =

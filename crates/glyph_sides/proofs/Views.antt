@@ -1,6 +1,6 @@
 -- Lists seen from the whole input and from what is left of it.
-use Rattle.std.proofs.Common.{◌≡◌, ℕ, ◌+◌, ◌≤◌, Bool, true, false, List, ◌++◌, length, take, drop, refl, sym, ap, ◌∙◌}
-use Rattle.std.proofs.Common.{if◌then◌else◌}
+use Rattle.std.proofs.Common.{◌≡◌, ℕ, ◌+◌, ◌-◌, ◌≤◌, Bool, true, false, List, ◌++◌, length, take, drop, refl, sym, ap, ◌∙◌}
+use Rattle.std.proofs.Common.{if◌then◌else◌, arith}
 use Rattle.std.proofs.Math.ListN.{set}
 use Rattle.std.proofs.Math.Seq.{drop-append_seam}
 use Rattle.std.proofs.lemmas.List.{drop-drop, drop-set-add, drop_at, length-take-le}
@@ -15,6 +15,15 @@ left_after false n k xs = refl
 -- what is left after one more glyph
 pub next_left : {X : Type 0} (n : ℕ) (xs : List X) → drop (n + 1) xs ≡ drop 1 (drop n xs)
 next_left n xs = sym (drop-drop 1 n xs)
+
+-- how many glyphs were put out in place: none with no output open
+pub placed_within : (is : Bool) (cursor gap : ℕ) → (if is then cursor - gap else 0) ≤ cursor
+placed_within true cursor gap = omega arith
+placed_within false cursor gap = omega arith
+
+pub none_placed : (is : Bool) (cursor gap : ℕ) → is ≡ false → (if is then cursor - gap else 0) ≡ 0
+none_placed true cursor gap e = cc
+none_placed false cursor gap e = refl
 
 -- a write after the cursor, seen from the vector and from what is left
 pub set_left : {X : Type 0} (is : Bool) (n k : ℕ) (xs : List X) (x : X)

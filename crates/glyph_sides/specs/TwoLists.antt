@@ -99,9 +99,12 @@ take_back i s =
 abbrev pub both : TwoLists → List hb_glyph_info_t
 both s = s.out ++ s.input
 
--- where glyph k of the input, counted from its start, stands in both sides
+-- where glyph k of the input, counted from its start, stands in what is left to read, and in both sides
+abbrev pub left_place : ℕ → TwoLists → ℕ
+left_place k s = k - (if s.is_open then s.idx else 0)
+
 abbrev pub place : ℕ → TwoLists → ℕ
-place k s = length s.out + (k - (if s.is_open then s.idx else 0))
+place k s = length s.out + left_place k s
 
 -- another list in place of both sides, cut where the out side ends
 abbrev pub with_both : List hb_glyph_info_t → TwoLists → TwoLists

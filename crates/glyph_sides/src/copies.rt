@@ -1,6 +1,6 @@
 //! Copies of a glyph under other ids.
 
-ghost use Rattle.std.specs.Prelude.{◌≡◌, ◌+◌, ◌≤◌, ◌++◌, length, take, drop, vec_len, vec_capacity};
+ghost use Rattle.std.specs.Prelude.{◌≡◌, ◌+◌, ◌≤◌, ◌++◌, length, take, drop, vec_capacity};
 ghost use Rattle.glyph_lists.specs.Replacement.{copies};
 
 use rb_glyph::hb_glyph_info_t;
@@ -23,23 +23,30 @@ pub(crate) fn append_copies(out: &mut Vec<hb_glyph_info_t>, glyph: hb_glyph_info
 
 /// Writes a copy of a glyph under each id, from a place on.
 #[inline(always)]
-#[tactic(auto, using(crate::proofs::CopyLemmas::copied_over))]
+#[tactic(auto, using(std::proofs::lemmas::Slice::overwrites))]
 pub(crate) fn write_copies(
-    info: &mut Vec<hb_glyph_info_t>,
+    info: &mut [hb_glyph_info_t],
     at: usize,
     glyph: hb_glyph_info_t,
     ids: &[u32],
 )
-    requires { at + length ids.now ≤ vec_len info.old }
-    ensures len { vec_len info.new ≡ vec_len info.old }
-    ensures put { take (at + length ids.now) info.new.items
-        ≡ take at info.old.items ++ copies glyph ids.now }
-    ensures left { drop (at + length ids.now) info.new.items
-        ≡ drop (at + length ids.now) info.old.items }
-    ensures capacity { vec_capacity info.new ≡ vec_capacity info.old }
+    requires { at + length ids.now ≤ length info.old }
+    ensures put { take (at + length ids.now) info.new
+        ≡ take at info.old ++ copies glyph ids.now }
+    ensures left { drop (at + length ids.now) info.new ≡ drop (at + length ids.now) info.old }
+{
+    fill(&mut info[at..at + ids.len()], glyph, ids);
+}
+
+/// Fills a slice with a copy of a glyph under each id.
+#[inline(always)]
+#[tactic(auto, using(crate::proofs::CopyLemmas::copied_over))]
+fn fill(slots: &mut [hb_glyph_info_t], glyph: hb_glyph_info_t, ids: &[u32])
+    requires { length slots.old ≡ length ids.now }
+    ensures { slots.new ≡ copies glyph ids.now }
 {
     for (i, id) in ids.iter().enumerate() {
-        info[at + i] = hb_glyph_info_t {
+        slots[i] = hb_glyph_info_t {
             glyph_id: *id,
             ..glyph
         };

@@ -45,7 +45,7 @@ pub(crate) fn replace_apart(
 
 /// Does the same where the out side is the first `placed` glyphs of the same list, in which the copies have room.
 pub(crate) fn replace_in_place(
-    info: &mut Vec<hb_glyph_info_t>,
+    info: &mut [hb_glyph_info_t],
     placed: usize,
     cursor: usize,
     count: usize,
@@ -53,20 +53,18 @@ pub(crate) fn replace_in_place(
     any_order: bool,
 )
     requires near { placed ≤ cursor }
-    requires glyph { cursor < length info.old.items }
-    requires within { count ≤ length info.old.items - cursor }
+    requires glyph { cursor < length info.old }
+    requires within { count ≤ length info.old - cursor }
     requires room { placed + length ids.now ≤ cursor + count }
-    ensures len { length info.new.items ≡ length info.old.items }
     ensures out { let k = placed in
-        let l = merge_or_mark any_order (take k info.old.items ++ drop cursor info.old.items)
+        let l = merge_or_mark any_order (take k info.old ++ drop cursor info.old)
         k (k + count) 0 in
-        take (k + length ids.now) info.new.items
+        take (k + length ids.now) info.new
         ≡ take k l ++ copies (slice_index_or (drop k l) 0 zero_glyph) ids.now }
     ensures input { let k = placed in
-        let l = merge_or_mark any_order (take k info.old.items ++ drop cursor info.old.items)
+        let l = merge_or_mark any_order (take k info.old ++ drop cursor info.old)
         k (k + count) 0 in
-        drop (cursor + count) info.new.items ≡ drop count (drop k l) }
-    ensures capacity { vec_capacity info.new ≡ vec_capacity info.old }
+        drop (cursor + count) info.new ≡ drop count (drop k l) }
 {
     let merge = RangeChange::Merge {
         floor: 0,

@@ -13,21 +13,6 @@ const BLANK: hb_glyph_info_t = hb_glyph_info_t {
     var2: 0,
 };
 
-/// Moves the glyphs from a place on down, over those in between.
-#[tactic(auto, using(crate::proofs::ShiftLemmas::closed_already))]
-pub(crate) fn close_gap(info: &mut Vec<hb_glyph_info_t>, to: usize, from: usize)
-    requires down { to ≤ from }
-    requires within { from ≤ vec_len info.old }
-    ensures is { info.new.items ≡ take to info.old.items ++ drop from info.old.items }
-    ensures capacity { vec_capacity info.new ≡ vec_capacity info.old }
-{
-    if to < from {
-        let len = info.len();
-        info.as_mut_slice().copy_within(from..len, to);
-        info.truncate(to + (len - from));
-    }
-}
-
 /// Moves `count` glyphs down, over those in between.
 #[inline(always)]
 #[tactic(auto, using(crate::proofs::ShiftLemmas::down))]
@@ -40,8 +25,22 @@ pub(crate) fn put_down(info: &mut Vec<hb_glyph_info_t>, to: usize, from: usize, 
     ensures left { drop (from + count) info.new.items ≡ drop (from + count) info.old.items }
     ensures capacity { vec_capacity info.new ≡ vec_capacity info.old }
 {
+    info.copy_within(from..from + count, to);
+}
+
+/// Moves the glyphs from a place on down, over those in between.
+#[inline(never)]
+#[tactic(auto, using(crate::proofs::ShiftLemmas::closed_already))]
+pub(crate) fn close_gap(info: &mut Vec<hb_glyph_info_t>, to: usize, from: usize)
+    requires down { to ≤ from }
+    requires within { from ≤ vec_len info.old }
+    ensures is { info.new.items ≡ take to info.old.items ++ drop from info.old.items }
+    ensures capacity { vec_capacity info.new ≡ vec_capacity info.old }
+{
     if to < from {
-        info.copy_within(from..from + count, to);
+        let left = info.len() - from;
+        put_down(info, to, from, left);
+        info.truncate(to + left);
     }
 }
 

@@ -24,8 +24,9 @@ pub struct Sides {
     info: Vec<hb_glyph_info_t>,
     /// What was put out, once it has left the storage of the input.
     out_info: Vec<hb_glyph_info_t>,
-    /// How many glyphs were put out in place.
-    placed: usize,
+    /// How many places before the cursor stand free, where the output is in place: so many more glyphs were read than
+    /// were put out.
+    gap: usize,
     /// How many places in front of the input stand free, for glyphs that are taken back past its start. There are none
     /// while the output is in place.
     front: usize,
@@ -43,12 +44,12 @@ impl Model for Sides {
 
     ghost Value = { TwoLists };
 
-    ghost use Rattle.glyph_sides.specs.IsStored.{IsStored};
+    ghost use Rattle.glyph_sides.specs.IsStored.{IsStored, placed};
 
     ghost view = { λ b. record {
       is_open = b.is_open;
       is_separate = b.is_separate;
-      out = if b.is_separate then b.out_info.items else take b.placed b.info.items;
+      out = if b.is_separate then b.out_info.items else take (placed b) b.info.items;
       input = if b.is_open then drop b.cursor b.info.items else b.info.items;
       idx = b.cursor - b.front;
       room = b.room;
@@ -65,7 +66,7 @@ impl Sides {
         Sides {
             info: Vec::new(alloc),
             out_info: Vec::new(alloc),
-            placed: 0,
+            gap: 0,
             front: 0,
             cursor: 0,
             room: 0,
@@ -80,7 +81,7 @@ impl Sides {
     {
         self.info.clear();
         self.out_info.clear();
-        self.placed = 0;
+        self.gap = 0;
         self.front = 0;
         self.cursor = 0;
         self.is_open = false;
@@ -138,7 +139,20 @@ impl Sides {
         if self.is_separate {
             self.out_info.len()
         } else {
-            self.placed
+            self.placed()
+        }
+    }
+
+    /// How many glyphs were put out in place.
+    #[inline(always)]
+    fn placed(&self) -> usize
+        requires { self.now.is_separate ≡ false }
+        ensures { result ≡ length self.now.out }
+    {
+        if self.is_open {
+            self.cursor - self.gap
+        } else {
+            0
         }
     }
 
@@ -167,6 +181,15 @@ impl Sides {
         self.info.len() - self.cursor
     }
 
+    /// Whether more was put out than was read: then the list becomes longer once the output is closed.
+    #[inline(always)]
+    pub fn has_grown(&self) -> bool
+        ensures is { result ≡ nat_lt self.now.idx (length self.now.out) }
+        ensures in_place { self.now.is_separate ≡ false → result ≡ false }
+    {
+        self.is_separate && self.out_info.len() > self.idx()
+    }
+
     /// The glyphs that were put out.
     #[inline(always)]
     pub fn out(&self) -> &[hb_glyph_info_t]
@@ -175,7 +198,7 @@ impl Sides {
         if self.is_separate {
             &self.out_info
         } else {
-            &self.info[..self.placed]
+            &self.info[..self.placed()]
         }
     }
 
@@ -291,7 +314,7 @@ impl Sides {
             return self.out_info.len() + (k + self.front - self.cursor);
         }
         if self.is_open {
-            return self.placed + (k - self.cursor);
+            return k - self.gap;
         }
         k
     }

@@ -1,5 +1,5 @@
 pub mod MoveLemmas
-pub mod RoomLemmas
+pub mod ScanLemmas
 pub mod ReplacementLemmas
 pub mod CharactersLemmas
 pub mod MergingLemmas

@@ -1,25 +1,13 @@
 -- A move of the cursor, in the words of the two lists.
-use Rattle.std.proofs.Common.{◌≡◌, ℕ, ◌+◌, ◌-◌, ◌≤◌, true, List, ◌++◌, length}
-use Rattle.std.proofs.Common.{take, drop, arith, refl, ap, ◌∙◌, leb}
+use Rattle.std.proofs.Common.{◌≡◌, ℕ, ◌+◌, ◌-◌, ◌≤◌, true, length}
+use Rattle.std.proofs.Common.{arith, refl, ap, ◌∙◌, leb}
 use Rattle.std.proofs.lemmas.Bool.{cond_both, cond-true}
 use Rattle.std.proofs.lemmas.List.{take-append-drop}
-use Rattle.std.proofs.Math.Seq.{take-append-add, drop-append-add}
 use Rattle.std.proofs.lemmas.Grind.{common_steps}
+use Rattle.glyph_sides.proofs.ShiftLemmas.{take_past, drop_past}
 use Rattle.shaping_buffer.specs.State.{State}
 use Rattle.shaping_buffer.specs.ClusterStep.{both}
 use Rattle.shaping_buffer.specs.Step.{Outcome, move_to, next_glyphs, last_place}
-
--- two lists, split in the second
-pub take_past : {X : Type 0} (i : ℕ) (xs ys : List X) → length xs ≤ i
-    → take i (xs ++ ys) ≡ xs ++ take (i - length xs) ys
-take_past i xs ys h =
-    let e : i ≡ length xs + (i - length xs) = omega arith in
-    ap (λ k. take k (xs ++ ys)) e ∙ take-append-add xs ys (i - length xs)
-
-pub drop_past : {X : Type 0} (i : ℕ) (xs ys : List X) → length xs ≤ i → drop i (xs ++ ys) ≡ drop (i - length xs) ys
-drop_past i xs ys h =
-    let e : i ≡ length xs + (i - length xs) = omega arith in
-    ap (λ k. drop k (xs ++ ys)) e ∙ drop-append-add xs ys (i - length xs)
 
 -- a move forward puts out the glyphs in between
 pub forward_is_next : (i : ℕ) (s : State) → s.have_output ≡ true → s.successful ≡ true → length s.out ≤ i

@@ -5,7 +5,7 @@ ghost use Rattle.glyph_lists.specs.Clusters.{run_merge};
 ghost use Rattle.glyph_lists.specs.Parts.{on_part};
 ghost use Rattle.glyph_lists.specs.RangeChange.{changed, MayChange};
 ghost use Rattle.glyph_lists.specs.Scans.{scan_of};
-ghost use Rattle.glyph_sides.specs.TwoLists.{both, with_both, place, len, head_deleted};
+ghost use Rattle.glyph_sides.specs.TwoLists.{both, with_both, left_place, len, head_deleted};
 
 use super::Sides;
 use crate::one_slice;
@@ -47,7 +47,7 @@ impl Sides {
             range_change::change_range(&mut self.out_info, input, from, to, change);
             return;
         }
-        one_slice::change_range(&mut self.info, self.placed, at, from, to, change);
+        one_slice::change_range(&mut self.info, at - self.gap, at, from, to, change);
     }
 
     /// Scans the input's glyphs from `start` to `end`, counted from its start. With an output open, `start` is at the
@@ -57,8 +57,10 @@ impl Sides {
         requires from_cursor { self.old.is_open ≡ true → self.old.idx ≤ start }
         requires order { start ≤ end }
         requires within { end ≤ len self.old }
-        ensures is { self.new ≡ with_both (on_part (scan_of any_order bits) (both self.old)
-            (place start self.old) (place end self.old)) self.old }
+        ensures is { self.new ≡ record self.old {
+          input = on_part (scan_of any_order bits) self.old.input
+              (left_place start self.old) (left_place end self.old);
+        } }
         ensures out_len { length self.new.out ≡ length self.old.out }
         ensures input_len { length self.new.input ≡ length self.old.input }
     {
@@ -82,7 +84,9 @@ impl Sides {
             self.cursor += 1;
             return;
         }
-        one_slice::delete_head(&mut self.info, self.placed, self.cursor, any_order);
-        self.cursor += 1;
+        let (gap, cursor) = (self.gap, self.cursor);
+        one_slice::delete_head(&mut self.info, cursor - gap, cursor, any_order);
+        self.gap = gap + 1;
+        self.cursor = cursor + 1;
     }
 }

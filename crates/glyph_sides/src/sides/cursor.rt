@@ -17,45 +17,42 @@ impl Sides {
     /// Moves `n` glyphs at the cursor to the end of the out side; with no output open only the cursor moves. Requires as
     /// many glyphs there.
     #[inline(always)]
+    #[tactic(auto, using(crate::proofs::NoGapLemmas::moves))]
     pub fn next(&mut self, n: usize) -> Result<(), AllocError>
         requires { n ≤ left self.old }
         ensures makes { Makes (lists.next n self.old) self.old result self.new }
         ensures in_place { self.old.is_separate ≡ false → IsOk result }
     {
-        if !self.is_open {
-            self.cursor += n;
-            return Ok(());
-        }
         if self.is_separate {
             return self.next_apart(n);
         }
-        put_down(&mut self.info, self.placed, self.cursor, n);
-        self.placed += n;
+        if self.gap == 0 {
+            self.cursor += n;
+            return Ok(());
+        }
+        put_down(&mut self.info, self.cursor - self.gap, self.cursor, n);
         self.cursor += n;
         Ok(())
     }
 
     /// Moves one glyph. Requires one at the cursor.
     #[inline(always)]
+    #[tactic(auto, using(crate::proofs::NoGapLemmas::moves))]
     pub fn next_one(&mut self) -> Result<(), AllocError>
         requires { 0 < left self.old }
         ensures makes { Makes (lists.next 1 self.old) self.old result self.new }
         ensures in_place { self.old.is_separate ≡ false → IsOk result }
     {
-        if !self.is_open {
-            self.cursor += 1;
-            return Ok(());
-        }
-        // Once a glyph is written, the places would be read from memory again.
-        let (placed, cursor) = (self.placed, self.cursor);
-        let glyph = self.info[cursor];
         if self.is_separate {
             return self.one_apart();
         }
-        if placed < cursor {
-            self.info[placed] = glyph;
+        if self.gap == 0 {
+            self.cursor += 1;
+            return Ok(());
         }
-        self.placed = placed + 1;
+        // Once a glyph is written, the cursor would be read from memory again.
+        let cursor = self.cursor;
+        self.info[cursor - self.gap] = self.info[cursor];
         self.cursor = cursor + 1;
         Ok(())
     }
@@ -93,6 +90,9 @@ impl Sides {
         requires { count ≤ left self.old }
         ensures { self.new ≡ lists.skip count self.old }
     {
+        if self.is_open && !self.is_separate {
+            self.gap += count;
+        }
         self.cursor += count;
     }
 
@@ -108,12 +108,13 @@ impl Sides {
             self.cursor += read;
             return Ok(());
         }
-        if self.placed >= self.cursor + read {
+        let (gap, cursor) = (self.gap, self.cursor);
+        if gap + read == 0 {
             return self.put_away(glyph);
         }
-        self.info[self.placed] = glyph;
-        self.placed += 1;
-        self.cursor += read;
+        self.info[cursor - gap] = glyph;
+        self.gap = gap + read - 1;
+        self.cursor = cursor + read;
         Ok(())
     }
 
@@ -124,12 +125,11 @@ impl Sides {
         requires full { self.old.idx ≤ length self.old.out }
         ensures { Makes (lists.put (glyph ∷ []) self.old) self.old result self.new }
     {
-        self.out_info.reserve(self.placed + 1)?;
+        self.out_info.reserve(self.cursor + 1)?;
         self.out_info
-            .extend_from_slice(&self.info[..self.placed])
+            .extend_from_slice(&self.info[..self.cursor])
             .unwrap();
         self.out_info.push_reserved(glyph);
-        self.placed = 0;
         self.is_separate = true;
         Ok(())
     }
@@ -144,8 +144,10 @@ impl Sides {
         if self.is_separate {
             return self.close_apart();
         }
-        close_gap(&mut self.info, self.placed, self.cursor);
-        self.placed = 0;
+        if self.gap > 0 {
+            close_gap(&mut self.info, self.cursor - self.gap, self.cursor);
+            self.gap = 0;
+        }
         self.cursor = 0;
         self.is_open = false;
         Ok(())

@@ -44,7 +44,7 @@ impl Sides {
             let last = self.out_info.len() - 1;
             return &mut self.out_info[last];
         }
-        let last = self.placed - 1;
+        let last = self.placed() - 1;
         &mut self.info[last]
     }
 
@@ -57,7 +57,8 @@ impl Sides {
         if self.is_separate {
             return &mut self.out_info;
         }
-        front_mut(&mut self.info, self.placed)
+        let placed = self.placed();
+        front_mut(&mut self.info, placed)
     }
 
     /// The list, to be written. Requires that no output is open.

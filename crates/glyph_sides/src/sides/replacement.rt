@@ -70,12 +70,13 @@ impl Sides {
             self.cursor += read;
             return true;
         }
-        if self.placed + ids.len() > self.cursor + read {
+        let (gap, cursor) = (self.gap, self.cursor);
+        if ids.len() > gap + read {
             return false;
         }
-        write_copies(&mut self.info, self.placed, glyph, ids);
-        self.placed += ids.len();
-        self.cursor += read;
+        write_copies(&mut self.info, cursor - gap, glyph, ids);
+        self.gap = gap + read - ids.len();
+        self.cursor = cursor + read;
         true
     }
 
@@ -115,7 +116,7 @@ impl Sides {
         if self.is_separate {
             return self.replace_apart(count, ids, any_order);
         }
-        if self.placed + ids.len() > self.cursor + count {
+        if ids.len() > self.gap + count {
             return self.replace_away(count, ids, any_order);
         }
         self.replace_in_place(count, ids, any_order);
@@ -155,16 +156,17 @@ impl Sides {
         requires room { length self.old.out + length ids.now ≤ self.old.idx + count }
         ensures { self.new ≡ replaced any_order count ids.now self.old }
     {
+        let (gap, cursor) = (self.gap, self.cursor);
         merged_copies::replace_in_place(
             &mut self.info,
-            self.placed,
-            self.cursor,
+            cursor - gap,
+            cursor,
             count,
             ids,
             any_order,
         );
-        self.placed += ids.len();
-        self.cursor += count;
+        self.gap = gap + count - ids.len();
+        self.cursor = cursor + count;
     }
 
     fn replace_away(&mut self, count: usize, ids: &[u32], any_order: bool) -> Result<(), AllocError>
@@ -175,9 +177,10 @@ impl Sides {
         requires past { self.old.idx + count < length self.old.out + length ids.now }
         ensures { Makes (replaced any_order count ids.now self.old) self.old result self.new }
     {
-        self.out_info.reserve(self.placed + ids.len())?;
+        let placed = self.cursor - self.gap;
+        self.out_info.reserve(placed + ids.len())?;
         self.out_info
-            .extend_from_slice(&self.info[..self.placed])
+            .extend_from_slice(&self.info[..placed])
             .unwrap();
         merged_copies::replace_apart(
             &mut self.out_info,
@@ -187,7 +190,7 @@ impl Sides {
             ids,
             any_order,
         );
-        self.placed = 0;
+        self.gap = 0;
         self.is_separate = true;
         self.cursor += count;
         Ok(())

@@ -10,8 +10,9 @@ use std::alloc::AllocError;
 
 impl Sides {
     /// Leaves all but the first `i` glyphs that were put out to be read again. In place they move up to the cursor, over
-    /// themselves where few were dropped. Requires that there are more than `i`.
+    /// themselves where few were dropped; where none was, only the cursor moves. Requires that there are more than `i`.
     #[inline(always)]
+    #[tactic(auto, using(crate::proofs::NoGapLemmas::moves))]
     pub fn take_back(&mut self, i: usize) -> Result<(), AllocError>
         requires { i < length self.old.out }
         ensures { Makes (lists.take_back i self.old) self.old result self.new }
@@ -19,9 +20,12 @@ impl Sides {
         if self.is_separate {
             return self.take_back_apart(i);
         }
-        shift_back(&mut self.info, i, self.placed, self.cursor);
-        self.cursor -= self.placed - i;
-        self.placed = i;
+        if self.gap == 0 {
+            self.cursor = i;
+            return Ok(());
+        }
+        shift_back(&mut self.info, i, self.cursor - self.gap, self.cursor);
+        self.cursor = i + self.gap;
         Ok(())
     }
 

@@ -138,16 +138,29 @@ impl hb_buffer_t {
         if !self.successful {
             return Ok(false);
         }
-        let out_len = self.sides.out_len();
-        let left = self.sides.left();
+        if self.sides.has_grown() {
+            return self.sync_longer();
+        }
+        // The list is no longer than it was, and so within the limit and the room of the positions.
+        self.sides.close()?;
+        Ok(true)
+    }
+
+    /// Closes the output where the list becomes longer.
+    #[inline(never)]
+    fn sync_longer(&mut self) -> Result<bool, AllocError>
+        requires opened { self.old.have_output ≡ true }
+        requires good { self.old.successful ≡ true }
+        requires longer { self.old.idx < length self.old.out }
+        ensures { Meets (step.sync self.old) self.old result self.new }
+    {
+        let (out_len, left) = (self.sides.out_len(), self.sides.left());
         if left > self.max_len - out_len {
             self.successful = false;
             return Ok(false);
         }
-        if out_len > self.sides.idx() {
-            // `clear_positions` is to find room for a position at each glyph.
-            self.pos.reserve(out_len + left)?;
-        }
+        // `clear_positions` is to find room for a position at each glyph.
+        self.pos.reserve(out_len + left)?;
         self.sides.close()?;
         Ok(true)
     }

@@ -13,7 +13,7 @@ impl hb_buffer_t {
     /// their own; or with nothing put out, the next glyph is merged with it, as by `merge_clusters`, which at levels 2
     /// and 3 marks instead and sets the scratch flag `HB_BUFFER_SCRATCH_FLAG_HAS_GLYPH_FLAGS`. Requires an open output,
     /// and a glyph at the cursor.
-    #[inline(never)]
+    #[inline(always)]
     pub fn delete_glyph(&mut self)
         requires opened { self.old.have_output ≡ true }
         requires glyph { 0 < lookahead_len self.old }

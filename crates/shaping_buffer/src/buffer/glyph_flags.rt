@@ -112,6 +112,7 @@ impl hb_buffer_t {
     /// A scan of the input from `start` to `end`, unless there are fewer than two glyphs. It lies in the one slice,
     /// whatever stands on the out side.
     #[inline]
+    #[tactic(auto, using(crate::proofs::ScanLemmas::in_input))]
     fn plain_scan(&mut self, bits: u32, start: Option<usize>, end: Option<usize>)
         requires order { range_start start ≤ range_end end self.old }
         requires past_cursor { self.old.have_output ≡ true → self.old.idx ≤ range_start start }

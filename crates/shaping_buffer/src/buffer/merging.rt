@@ -89,6 +89,7 @@ impl hb_buffer_t {
     }
 
     /// Merges the glyphs of both sides from place `from`, which is not in the out side, to `to`, or marks them.
+    #[inline(never)]
     fn merge_sides(&mut self, from: usize, to: usize, any_order: bool)
         requires past_out { length self.old.out ≤ from }
         requires order { from ≤ to }

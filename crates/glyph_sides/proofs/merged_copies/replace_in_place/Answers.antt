@@ -7,7 +7,7 @@ use Rattle.glyph_sides.proofs.merged_copies.replace_in_place.Goals as goal
 pub returns-clause-input : goal.returns-clause-input
 returns-clause-input c =
     let a = c.args in
-    drop_further c.write_copies.new.info.items _ (a.placed + length a.ids.now) (a.cursor + a.count) c.requires.room
+    drop_further c.write_copies.new.info _ (a.placed + length a.ids.now) (a.cursor + a.count) c.requires.room
     c.write_copies.ensures.left
     ∙ sym (drop-drop a.count a.cursor _)
     ∙ ap (drop a.count) (grind (arith, common_steps))

@@ -1,6 +1,7 @@
 use Rattle.std.proofs.Common.{◌+◌, refl, arith}
 use Rattle.std.proofs.lemmas.Grind.{common_steps}
-use Rattle.glyph_sides.proofs.Views.{set_left}
+use Rattle.glyph_sides.specs.IsStored.{placed}
+use Rattle.glyph_sides.proofs.Views.{set_left, placed_within}
 use Rattle.glyph_sides.proofs.FrontLemmas.{set_kept}
 use Rattle.glyph_sides.proofs.sides.Sides.cur_mut.Goals as goal
 
@@ -10,9 +11,9 @@ returns c =
       (
         refl,
         λ w.
-            let near = c.self.invariant.near in
-            let kept = set_kept b.is_separate b.out_info.items b.info.items b.placed (b.cursor + c.args.i) w
-            (λ h. omega arith) in
+            let near = placed_within b.is_open b.cursor b.gap in
+            let kept = set_kept b.is_separate b.out_info.items b.info.items (placed b) (b.cursor + c.args.i) w
+            (λ h. omega (arith, near)) in
             rw (← c.self.view_is) (grind (arith, kept, set_left)),
       ),
       record { writes_back = tt; value = grind (arith, common_steps) },

@@ -1,19 +1,23 @@
-use Rattle.std.proofs.Common.{◌≤◌, length, refl, arith}
+use Rattle.std.proofs.Common.{◌≡◌, ◌≤◌, ◌∙◌, length, refl, arith}
 use Rattle.std.proofs.lemmas.Grind.{common_steps}
-use Rattle.glyph_sides.proofs.FrontLemmas.{front_written, front_input}
+use Rattle.glyph_sides.specs.IsStored.{placed}
+use Rattle.glyph_sides.proofs.Views.{placed_within, none_placed}
+use Rattle.glyph_sides.proofs.FrontLemmas.{front_written, front_input, length_placed}
 use Rattle.glyph_sides.proofs.sides.Sides.out_mut.Goals as goal
 
 pub returns : goal.returns
 returns c =
-    let b = c.self.inside in let near : b.placed ≤ b.cursor = omega (arith, c.self.invariant.near) in
-    let within : b.placed ≤ length b.info.items = omega (arith, near, c.self.invariant.cursor_within) in (
+    let b = c.self.inside in let near = placed_within b.is_open b.cursor b.gap in
+    let within : placed b ≤ length b.info.items = omega (arith, near, c.self.invariant.cursor_within) in
+    let all : c.placed-placed.result ≡ placed b = c.placed-placed.ensures
+    ∙ length_placed b.is_separate b.out_info.items b.info.items (placed b) c.if-self.false within in (
       (
         refl,
         λ w.
-            let written = front_written b.info b.placed w within in
+            let written = front_written b.info (placed b) w within in
             let rest =
-            front_input b.is_open b.info b.placed b.cursor w within near (λ h. (c.self.invariant.shut h).1) in
-            rw (← c.self.view_is) (grind (arith, written, rest)),
+            front_input b.is_open b.info (placed b) b.cursor w within near (none_placed b.is_open b.cursor b.gap) in
+            rw (← c.self.view_is) (rw all (grind (arith, written, rest))),
       ),
       record { writes_back = tt; value = grind (arith, common_steps) },
     )
