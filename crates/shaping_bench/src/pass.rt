@@ -86,8 +86,8 @@ impl Pass {
         let done = match self {
             Pass::NextGlyphSync => walks::next_glyph_sync(buffer)?,
             Pass::NextGlyphsSync => walks::next_glyphs_sync(buffer)?,
-            Pass::Ligatures => walks::ligatures(buffer)?,
             Pass::Decompositions => walks::decompositions(buffer)?,
+            Pass::Ligatures => walks::ligatures(buffer)?,
             Pass::Rewinds => walks::rewinds(buffer)?,
             Pass::RewindsBehind => walks::rewinds_behind(buffer)?,
             Pass::RewindsSeparate => walks::rewinds_separate(buffer)?,
