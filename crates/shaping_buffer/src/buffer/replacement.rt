@@ -15,7 +15,8 @@ impl hb_buffer_t {
     /// `glyph_data`. Requires an open output, a glyph at the cursor, as many glyphs there and as many ids.
     /// `Ok(false)` where the out side would grow too long: then only `successful` changes. `Err(AllocError)` where
     /// memory ran out: then nothing changed.
-    #[inline]
+    // Inlined as in HarfBuzz, where it is a template: a caller mostly knows both counts.
+    #[inline(always)]
     pub fn replace_glyphs(
         &mut self,
         num_in: usize,
