@@ -267,8 +267,3 @@ module _ (bits : ℕ) where
   pub reading_marked_part : (l : List hb_glyph_info_t) (p q : ℕ) → p ≤ q
       → Reading l (take p l ++ mark bits (part l p q) ++ drop q l)
   reading_marked_part l p q up = reading_new_part l (mark bits (part l p q)) p q up (reset_masks-mark (part l p q))
-
-  pub length-marked_part : (l : List hb_glyph_info_t) (p q : ℕ) → p ≤ q
-      → length (take p l ++ mark bits (part l p q) ++ drop q l) ≡ length l
-  unfolding mark
-  length-marked_part l p q up = length-map_range (other bits (least (clusters (part l p q)))) l p q up

@@ -1,9 +1,9 @@
 -- Each turn of the composition keeps what the text becomes.
 use Rattle.std.proofs.Common.{◌≡◌, ℕ, ◌+◌, ◌-◌, ◌<◌, ◌≤◌, inl, inr, Bool, true, false, List, [], ◌∷◌}
 use Rattle.std.proofs.Common.{◌++◌, length, get_or, take, drop, set, refl, sym, ap, ◌∙◌, subst, cond}
-use Rattle.std.proofs.Common.{eqb, Option, Some, None, Result, Ok, Err, arith, length-append, length-drop, length-take}
+use Rattle.std.proofs.Common.{eqb, Option, Some, None, Result, Ok, Err, arith, length-append, length-drop}
 use Rattle.std.proofs.Common.{append_assoc}
-use Rattle.std.proofs.lemmas.Bool.{cond_both, cond-true, cond-false, cases_eq, le-leb}
+use Rattle.std.proofs.lemmas.Bool.{cond-true, cond-false, cases_eq, le-leb}
 use Rattle.std.proofs.lemmas.Bool.{lt-leb, lt-ltb, le-ltb, eq-eqb, ne_eqb, and_from, and_left, and_right}
 use Rattle.std.proofs.lemmas.List.{take-append-drop, take_at, drop_more, append-nil}
 use Rattle.std.proofs.lemmas.List.{get_or-map, get_or-drop, map-append, take-map, drop-map, length-map, take-set}
@@ -209,16 +209,6 @@ module _ (pairs : List ((ℕ × ℕ) × ℕ)) (classes : List (ℕ × ℕ)) wher
               ∙ kept_lists (Some at) ∙ mark_kept O I some_core at at_core none_core (λ e. ne (sym class_head ∙ e))
         ]
 
-    place_later : (starter : Option ℕ) → IsPlace starter s → IsPlace starter (kept_one s)
-    place_later None place = tt
-    place_later (Some at) place = omega (arith, length-append s.out (take 1 s.input))
-
-    pub place_kept : (starter : Option ℕ) → IsPlace starter s
-        → IsPlace (cond (eqb (class_at classes (head_of s)) 0) (Some (length s.out)) starter) (kept_one s)
-    place_kept starter place =
-        cond_both (eqb (class_at classes (head_of s)) 0) _ _ (λ (o : Option ℕ). IsPlace o (kept_one s))
-        (λ _. omega (arith, length-append s.out (take 1 s.input), length-take 1 s.input)) (λ _. place_later starter place)
-
   -- ---- what is blocked
 
   module _ (out : Glyphs) (at : ℕ) (h : hb_glyph_info_t) (place : at < length out) where
@@ -296,26 +286,6 @@ module _ (pairs : List ((ℕ × ℕ) × ℕ)) (classes : List (ℕ × ℕ)) wher
         others = refl;
       })
 
-  pub turns_more : (old t u : State) (starter next : Option ℕ) → Turns old t starter → IsReady u → IsPlace next u
-      → so_far pairs classes next (cores u.out) (cores u.input)
-      ≡ so_far pairs classes starter (cores t.out) (cores t.input)
-      → composed_at (any_order t) pairs classes next (length u.out) (length u.input) (both u)
-      ≡ composed_at (any_order t) pairs classes starter (length t.out) (length t.input) (both t)
-      → (any_order t ≡ false → IsCoarse (both t) → IsCoarse (both u))
-      → u ≡ record t { out = u.out; input = u.input; idx = u.idx } → Turns old u next
-  turns_more old t u starter next k ready place same glyphs merges others = record {
-    ready = ready;
-    place = place;
-    same = same ∙ k.same;
-    glyphs =
-        ap (λ b. composed_at b pairs classes next (length u.out) (length u.input) (both u)) (sym (ap any_order k.others))
-        ∙ glyphs
-        ∙ ap (λ b. composed_at b pairs classes starter (length t.out) (length t.input) (both t)) (ap any_order k.others)
-        ∙ k.glyphs;
-    merges = λ level co. merges (ap any_order k.others ∙ level) (k.merges level co);
-    others = others ∙ ap (λ (x : State). record x { out = u.out; input = u.input; idx = u.idx }) k.others;
-  }
-
   nothing_left : (starter : Option ℕ) (t : State) → IsPlace starter t
       → so_far pairs classes starter (cores t.out) [] ≡ cores t.out
   unfolding so_far composed composed_from
@@ -340,12 +310,6 @@ module _ (pairs : List ((ℕ × ℕ) × ℕ)) (classes : List (ℕ × ℕ)) wher
         ∙ ap (λ p. record { done = true; state = record (closed_over (t.out ++ t.input) t) { positions = p } })
         (ap (λ (x : State). x.positions) k.others)
 
-    pub last_result : (r : Result Bool AllocError) (new : State) → Meets (sync t) t r new → r ≡ Ok true
-    last_result (Ok done) new meets = ap (λ b. Ok b) (meets.0 ∙ ap (λ (o : Outcome). o.done) synced)
-    last_result (Err e) new meets =
-        absurd (never_wants t.have_separate_output _ k.ready.in_place
-        (ap (λ (o : Outcome). o.state.have_separate_output) synced) meets.0.1)
-
     pub last_state : (r : Result Bool AllocError) (new : State) → Meets (sync t) t r new → new ≡ closed_over t.out t
     last_state (Ok done) new meets =
         meets.1 ∙ ap (λ (o : Outcome). o.state) synced ∙ ap (λ l. closed_over l t) whole
@@ -363,9 +327,3 @@ module _ (pairs : List ((ℕ × ℕ) × ℕ)) (classes : List (ℕ × ℕ)) wher
         sym whole ∙ sym (on_none pairs classes (any_order old) starter (length t.out) (both t))
         ∙ ap (λ k. composed_at (any_order old) pairs classes starter (length t.out) k (both t)) (sym none)
         ∙ k.glyphs
-
-    pub last_coarse : any_order old ≡ false → IsCoarse old.input → IsCoarse t.out
-    last_coarse level co = subst IsCoarse whole (k.merges level co)
-
-    pub last_others : closed_over t.out t ≡ closed_over t.out old
-    last_others = ap (closed_over t.out) k.others

@@ -18,7 +18,7 @@ use Rattle.glyph_laws.proofs.ReadingsLemmas.{coarse_reading, reading_dropped, re
 use Rattle.glyph_laws.proofs.OrderLemmas.{run_merge_keeps_coarse}
 use Rattle.shaping_buffer.specs.State.{State, lookahead_len}
 use Rattle.shaping_buffer.specs.ClusterStep.{any_order, both, head_of, merge_out_clusters}
-use Rattle.shaping_buffer.specs.Step.{Outcome, Meets, settled, next_glyph, move_to, skip_glyph, split_at, with_id, last_place}
+use Rattle.shaping_buffer.specs.Step.{Outcome, Meets, settled, move_to, skip_glyph, split_at, with_id, last_place}
 use Rattle.shaping_passes.specs.NormalizationGlyphs.{core, cores}
 use Rattle.shaping_passes.specs.NormalizationComposition.{IsReady}
 use Rattle.shaping_passes.specs.NormalizationComposition.{kept_one, pair_composed}
@@ -46,40 +46,6 @@ never_wants a b none none2 wants = false≢true (sym (or_from a b none none2) �
 module _ (s : State) (ready : IsReady s) (some : 0 < length s.input) where
   held-kept : length (s.out ++ take 1 s.input) ≡ length s.out + 1
   held-kept = omega (arith, length-append s.out (take 1 s.input), length-take 1 s.input)
-
-  settled-kept : (s.have_separate_output || ltb (s.idx + 1) (length (s.out ++ take 1 s.input))) ≡ s.have_separate_output
-  settled-kept =
-      or_from _ _ ready.in_place (le-ltb (s.idx + 1) (length (s.out ++ take 1 s.input)) (omega (arith, held-kept, ready.near)))
-      ∙ sym ready.in_place
-
-  next_kept : next_glyph s ≡ record { done = true; state = kept_one s }
-  next_kept =
-      cond-true _ _ _ ready.opened
-      ∙ cond-true _ _ _ (le-leb (length (s.out ++ take 1 s.input)) s.max_len
-      (omega (arith, held-kept, ready.near, ready.within)))
-      ∙ ap (λ b. record {
-        done = true;
-        state = record (kept_one s) {
-          have_separate_output = s.have_separate_output || ltb (s.idx + 1) (length (s.out ++ take 1 s.input));
-          input = cond b (drop 1 s.input) s.input;
-        };
-      }) ready.opened
-      ∙ ap (λ b. record { done = true; state = record (kept_one s) { have_separate_output = b } }) settled-kept
-
-  pub kept : (r : Result Bool AllocError) (new : State) → Meets (next_glyph s) s r new → new ≡ kept_one s
-  kept (Ok done) new meets = meets.1 ∙ ap (λ (o : Outcome). o.state) next_kept
-  kept (Err e) new meets =
-      absurd (never_wants s.have_separate_output _ ready.in_place
-      (ap (λ (o : Outcome). o.state.have_separate_output) next_kept ∙ ready.in_place) meets.0.1)
-
-  pub ready_kept : IsReady (kept_one s)
-  ready_kept = record {
-    opened = ready.opened;
-    successful = ready.successful;
-    in_place = ready.in_place;
-    near = omega (arith, held-kept, ready.near);
-    within = omega (arith, length-drop 1 s.input, ready.within);
-  }
 
   both_kept : both (kept_one s) ≡ both s
   both_kept =

@@ -1,11 +1,9 @@
 -- Calls one after another: what was made of them so far, and what is left.
 use Rattle.std.proofs.Common.{◌≡◌, Bool, true, false, List, [], ◌∷◌, ◌++◌, cond, refl, sym, ap, ◌∙◌, Ok, Err}
 use Rattle.std.proofs.Common.{append_assoc}
-use Rattle.std.specs.Prelude.{Result}
 use Rattle.std.specs.declared.alloc.AllocError.{AllocError}
-use Rattle.std.proofs.lemmas.List.{append-nil}
 use Rattle.shaping_buffer.specs.State.{State}
-use Rattle.shaping_buffer.specs.Step.{Outcome, Meets, unlimited}
+use Rattle.shaping_buffer.specs.Step.{Outcome, unlimited}
 use Rattle.shaping_passes.specs.SubstitutionCalls.{Call, make, IsMade}
 
 -- ---- outcomes
@@ -27,9 +25,6 @@ make_one call s = at (call s) refl where
     done : (b : Bool) → o.done ≡ b → cond b (unlimited o.state) o ≡ o
     done true e = ap (λ (b : Bool). record { done = b; state = o.state }) (sym e)
     done false e = refl
-
-pub make_on : (call : Call) (calls : List Call) (s t : State) → call s ≡ unlimited t → make (call ∷ calls) s ≡ make calls t
-make_on call calls s t e = ap (λ (o : Outcome). cond o.done (make calls o.state) o) e
 
 pub make_stops : (call : Call) (calls : List Call) (s t : State) → call s ≡ stopped_with t
     → make (call ∷ calls) s ≡ stopped_with t
@@ -84,19 +79,11 @@ pub reached_more : (calls : List Call) (call : Call) (rest : List Call) (old now
     → IsReached calls (call ∷ rest) old now → call now ≡ unlimited new → IsReached calls rest old new
 reached_more calls call rest old now new k e = reached_far calls (call ∷ []) rest old now new k (make_one call now ∙ e)
 
--- no call is left
-pub reached_all : (calls : List Call) (old now : State) → IsReached calls [] old now → make calls old ≡ unlimited now
-reached_all calls old now k =
-    ap (λ l. make l old) (sym k.whole ∙ append-nil k.made) ∙ k.state
-
 -- the rest is refused
 pub reached_stop : (calls rest : List Call) (old now new : State) → IsReached calls rest old now
     → make rest now ≡ stopped_with new → make calls old ≡ stopped_with new
 reached_stop calls rest old now new k e =
     ap (λ l. make l old) (sym k.whole) ∙ make_append k.made rest old now k.state ∙ e
-
-pub is_done : (calls : List Call) (old new : State) → make calls old ≡ unlimited new → IsMade calls old (Ok true) new
-is_done calls old new e = (sym (ap (λ (o : Outcome). o.done) e), sym (ap (λ (o : Outcome). o.state) e))
 
 pub is_stopped : (calls : List Call) (old new : State) → make calls old ≡ stopped_with new
     → IsMade calls old (Ok false) new
@@ -105,13 +92,3 @@ is_stopped calls old new e = (sym (ap (λ (o : Outcome). o.done) e), sym (ap (λ
 pub wants_here : (calls rest : List Call) (old now : State) (e : AllocError) → IsReached calls rest old now
     → IsMade calls old (Err e) now
 wants_here calls rest old now e k = (k.made, rest, k.whole, k.state)
-
--- one call alone
-pub made_one : (call : Call) (s new : State) (result : Result Bool AllocError) → Meets (call s) s result new
-    → IsMade (call ∷ []) s result new
-made_one call s new (Ok done) meets = (
-  meets.0 ∙ ap (λ (o : Outcome). o.done) (sym (make_one call s)),
-  meets.1 ∙ ap (λ (o : Outcome). o.state) (sym (make_one call s)),
-)
-made_one call s new (Err e) meets =
-    ([], call ∷ [], refl, ap (λ (t : State). unlimited t) (sym meets.2))

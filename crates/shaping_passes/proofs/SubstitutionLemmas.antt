@@ -79,11 +79,6 @@ module _ (t : Rules) (cs : List ℕ) (l : List Item) (found place : ℕ) where
         ap (counted place) (opened 0 in_cs ∙ ap (option_map (λ n. suc n)) (cond-false (passes_over t g) _ _ over
         ∙ cond-false (eqb (get_or cs found 0) g.0) _ _ (ne_eqb _ _ other)))
 
-  pub span_full : length cs ≤ found → counted place rest ≡ Some place
-  span_full past =
-      ap (λ x. counted place (span_of t x (drop place l))) (drop_all found cs past)
-      ∙ ap (λ (k : ℕ). Some k) (omega arith)
-
   pub span_short : found < length cs → length l ≤ place → counted place rest ≡ None
   span_short in_cs past =
       ap (λ x. counted place (span_of t (drop found cs) x)) (drop_all place l past)
@@ -92,15 +87,6 @@ module _ (t : Rules) (cs : List ℕ) (l : List Item) (found place : ℕ) where
 -- ---- searches
 
 module _ {R : Type 0} (p : R → Bool) where
-  pub find_past : (rows : List R) (i : ℕ) (d : R) → i < length rows → p (get_or rows i d) ≡ false
-      → find p (drop i rows) ≡ find p (drop (i + 1) rows)
-  find_past rows i d some e = at rows i some e ∙ ap (λ k. find p (drop k rows)) {x = suc i} {y = i + 1} (omega arith) where
-    at : (rows : List R) (i : ℕ) → i < length rows → p (get_or rows i d) ≡ false
-        → find p (drop i rows) ≡ find p (drop (suc i) rows)
-    at [] i some e = absurd (omega arith)
-    at (r ∷ rows) zero some e = rw e refl
-    at (r ∷ rows) (suc i) some e = at rows i (omega arith) e
-
   pub find_here : (rows : List R) (i : ℕ) (d : R) → i < length rows → p (get_or rows i d) ≡ true
       → find p (drop i rows) ≡ Some (get_or rows i d)
   find_here [] i d some e = absurd (omega arith)
@@ -245,10 +231,6 @@ pub rule_is_first : (t : Rules) (l : List Item) → 0 < length l → passes_over
     → rule_at t l ≡ find (λ r. is_some (span_of t r.components.now l)) t.rows
 rule_is_first t [] some over = absurd (omega arith)
 rule_is_first t (g ∷ l) some over = cond-false (passes_over t g) _ _ over
-
-pub none_over : (t : Rules) (l : List Item) → 0 < length l → passes_over t (first_item l) ≡ true → rule_at t l ≡ None
-none_over t [] some over = absurd (omega arith)
-none_over t (g ∷ l) some over = cond-true (passes_over t g) _ _ over
 
 -- ---- how long a span is
 

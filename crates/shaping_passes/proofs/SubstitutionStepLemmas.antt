@@ -19,7 +19,7 @@ use Rattle.glyph_lists.proofs.PartsLemmas.{map-map_range, map-new_part, map-map_
 use Rattle.glyph_lists.proofs.RunsLemmas.{run_start-le, widened_start-le, widened_end-ge}
 use Rattle.shaping_buffer.specs.State.{State}
 use Rattle.shaping_buffer.specs.ClusterStep.{both, any_order, delete_glyph, head_of}
-use Rattle.shaping_buffer.specs.Step.{Outcome, Meets, limited, unlimited, settled, next_glyph, replace_glyph}
+use Rattle.shaping_buffer.specs.Step.{Outcome, Meets, limited, settled, next_glyph, replace_glyph}
 use Rattle.shaping_buffer.specs.Step.{replace_glyphs}
 use Rattle.shaping_buffer.specs.Step.{skip_glyph, with_id}
 use Rattle.shaping_buffer.proofs.ReplacementLemmas.{replaced_sides, front_replaced}
@@ -243,21 +243,9 @@ ligated put n s new result opened meets =
 
 -- ---- the buffer
 
--- which call a rule is
-pub replaced_none : (n : ℕ) (put : List ℕ) (s : State) → n ≡ 1 → length put ≡ 0
-    → replaced n put s ≡ unlimited (delete_glyph s)
-replaced_none n put s one none =
-    let both : (eqb n 1 && eqb (length put) 0) ≡ true = grind (arith, nat_tests) in
-    cond-true (eqb n 1 && eqb (length put) 0) _ _ both
-
 pub replaced_one : (n : ℕ) (put : List ℕ) (s : State) → n ≡ 1 → length put ≡ 1
     → replaced n put s ≡ replace_glyph (get_or put 0 0) s
 replaced_one n put s one only =
     let not_none : (eqb n 1 && eqb (length put) 0) ≡ false = grind (arith, nat_tests) in
     let both : (eqb n 1 && eqb (length put) 1) ≡ true = grind (arith, nat_tests) in
     cond-false (eqb n 1 && eqb (length put) 0) _ _ not_none ∙ cond-true (eqb n 1 && eqb (length put) 1) _ _ both
-
-pub replaced_more : (n : ℕ) (put : List ℕ) (s : State) → (eqb n 1 && eqb (length put) 0) ≡ false
-    → (eqb n 1 && eqb (length put) 1) ≡ false → replaced n put s ≡ replace_glyphs n put s
-replaced_more n put s not_none not_one =
-    cond-false (eqb n 1 && eqb (length put) 0) _ _ not_none ∙ cond-false (eqb n 1 && eqb (length put) 1) _ _ not_one

@@ -1,6 +1,6 @@
 -- One turn of substitution, and the turns along a list.
 use Rattle.std.proofs.Common.{◌≡◌, ℕ, zero, suc, ◌+◌, ◌-◌, ◌<◌, ◌≤◌, Bool, true, false, List, [], ◌∷◌, ◌++◌, length}
-use Rattle.std.proofs.Common.{map, take, drop, get_or, cond, eqb, leb, ltb, not, ◌&&◌, refl, sym, ap, ◌∙◌, subst, arith, Some, None, Ok, Err}
+use Rattle.std.proofs.Common.{map, take, drop, cond, eqb, leb, ltb, not, ◌&&◌, refl, sym, ap, ◌∙◌, subst, arith, Some, None, Ok, Err}
 use Rattle.std.proofs.Common.{append_assoc}
 use Rattle.std.specs.Prelude.{Result, MatchResult, option_map, unwrap_or, IsErr}
 use Rattle.std.specs.declared.alloc.AllocError.{AllocError}
@@ -214,16 +214,6 @@ module _ (t : Rules) (l : List Item) (r : Substitution) (n : ℕ) (fit : IsFit t
       ∙ ap (λ o. substitutes_of o (first_item l) ++ substituted_past t (taken t (rule_at t l) l - 1) (drop 1 l)) fit.found
       ∙ ap (λ k. r.substitutes.now ++ substituted_past t (k - 1) (drop 1 l)) taken_is
 
-  pub becomes_one : (n ≡ length r.components.now → ⊥) → (id : ℕ) → id ≡ get_or r.substitutes.now 0 0
-      → substituted t l ≡ id ∷ substituted_past t (n - 1) (drop 1 l)
-  becomes_one apart id is =
-      becomes ∙ ap (λ x. x ++ substituted_past t (n - 1) (drop 1 l)) (alone r.substitutes.now (fit.ligature apart))
-      ∙ ap (λ k. k ∷ substituted_past t (n - 1) (drop 1 l)) (sym is) where
-        alone : (put : List ℕ) → length put ≡ 1 → put ≡ get_or put 0 0 ∷ []
-        alone [] e = absurd (omega arith)
-        alone (i ∷ []) e = refl
-        alone (i ∷ (j ∷ put)) e = absurd (omega arith)
-
   pub becomes_plain : n ≡ length r.components.now → substituted t l ≡ r.substitutes.now ++ substituted t (drop n l)
   becomes_plain same =
       let one : suc (n - 1) ≡ n = omega (arith, fit.some, fit.longer) in
@@ -263,12 +253,6 @@ put_turns t put n k s new (Ok done) opened more step puts same =
 put_turns t put n k s new (Err e) opened more step puts same =
     subst (λ x. (j : ℕ) × IsOnItsWay t (ids s.out) j s x) (sym puts)
     (0, record { opened = opened; glyphs = refl; whole = λ plain. refl })
-
-pub none_becomes : (t : Rules) (l : List Item) → 0 < length l → rule_at t l ≡ None
-    → substituted t l ≡ (first_item l).0 ∷ substituted t (drop 1 l)
-none_becomes t l some none =
-    substituted_first t l some
-    ∙ ap (λ o. substitutes_of o (first_item l) ++ substituted_past t (taken t o l - 1) (drop 1 l)) none
 
 -- ---- turn after turn
 

@@ -12,6 +12,5 @@ pub mod InPlaceLaws
 pub mod HeldLemmas
 pub mod HeadlineLemmas
 pub mod OldRuns
-pub mod InPlaceCalls
 pub mod Settings
 pub mod RoomLaws

@@ -1,32 +1,12 @@
 -- A replacement by all of its ids, and ids that are taken one by one.
-use Rattle.std.proofs.Common.{ℕ, suc, ◌≡◌, ◌<◌, ◌-◌, ◌+◌, ◌&&◌, List, [], ◌∷◌, ◌++◌, length, nat_le, Some, None, Bool}
-use Rattle.std.proofs.Common.{true, false, refl, ap, sym, ◌∙◌, arith, append_assoc}
-use Rattle.std.specs.Borrow.{Bor}
+use Rattle.std.proofs.Common.{ℕ, suc, ◌≡◌, ◌<◌, ◌-◌, ◌+◌, List, [], ◌∷◌, ◌++◌, nat_le, Some, None}
+use Rattle.std.proofs.Common.{true, refl, ap, sym, ◌∙◌, arith, append_assoc}
 use Rattle.std.proofs.lemmas.Bool.Decides.{nat_tests}
-use Rattle.std.proofs.lemmas.List.{take_all}
-use Rattle.shaping_buffer.specs.State.{State, lookahead_len}
-use Rattle.shaping_runs.specs.Replay.{turn}
-use Rattle.shaping_runs.specs.declared.call.Call.TheVariants.{ReplaceGlyphs}
 use Rattle.shaping_session.specs.Commands.{Taken, id_before, ids_in}
-use Rattle.shaping_session.specs.Session.{replacement_turn}
 use Rattle.shaping_session.specs.Words.{Left, next_u32, past_first_word}
-
-and-true : (b : Bool) → (b && true) ≡ b
-and-true true = refl
-and-true false = refl
 
 itself : (n : ℕ) → nat_le n n ≡ true
 itself n = grind (arith, nat_tests)
-
--- as many glyphs come as there are ids
-pub turn-all_ids : (num_in : ℕ) (ids : Bor (List ℕ)) (s : State)
-    → turn (ReplaceGlyphs num_in (length ids.now) ids) s ≡ replacement_turn num_in ids.now s
-turn-all_ids num_in ids s =
-    rw (
-      itself (length ids.now),
-      and-true (nat_le num_in (lookahead_len s)),
-      take_all (length ids.now) ids.now (omega arith),
-    ) refl
 
 -- ids before others
 abbrev pub ids_before : List ℕ → Taken (List ℕ) → Taken (List ℕ)

@@ -242,23 +242,6 @@ answers_line input rest line next session after a b c held last answer ahead h w
   written = told_more ahead.so_far.answers answer held a b c last ahead.so_far.written w;
 }
 
--- lines were answered, and a later one finds no memory
-pub answers_so_far : (input rest : List ℕ) (session : Session) (a b : Option (List ℕ)) (held : List ℕ)
-    → AnswersBefore input rest session a b held → WritesAndHolds input a b held (Err Memory)
-answers_so_far input rest session a b held so_far = (
-  transcript so_far.answers,
-  record {
-    earlier = so_far.earlier;
-    later = lines_of rest;
-    lines = so_far.lines;
-    answers = so_far.answers;
-    session = session;
-    chain = so_far.chain;
-    told = refl;
-  },
-  so_far.written,
-)
-
 -- the answer to a line is not written
 pub answer_fails : (input rest line next : List ℕ) (session after : Session) (a b c : Option (List ℕ))
     (held last answer : List ℕ)

@@ -1,6 +1,6 @@
 -- Groups that are counted along a list.
 use Rattle.std.proofs.Common.{◌≡◌, ℕ, ◌+◌, ◌<◌, ◌≤◌, List, length, drop, sym, ap, ◌∙◌, arith, length-drop}
-use Rattle.std.proofs.lemmas.List.{drop-drop, drop_all}
+use Rattle.std.proofs.lemmas.List.{drop-drop}
 use Rattle.rb_glyph.specs.declared.info.hb_glyph_info_t.{hb_glyph_info_t}
 use Rattle.glyph_lists.specs.Groups.{Test, first_group_len, group_end, group_lens}
 use Rattle.glyph_lists.proofs.GroupsLemmas.{group_lens_first}
@@ -10,9 +10,6 @@ abbrev pub IsCounted : Test → List hb_glyph_info_t → ℕ → ℕ → Type 0
 IsCounted test l start count =
     (start ≤ length l) × (count ≤ start)
     × (count + length (group_lens test (drop start l)) ≡ length (group_lens test l))
-
-pub none_counted : (test : Test) (l : List hb_glyph_info_t) → IsCounted test l 0 0
-none_counted test l = (omega arith, omega arith, omega arith)
 
 pub one_counted : (test : Test) (l : List hb_glyph_info_t) (start count end : ℕ) → start < length l
     → IsCounted test l start count → end ≡ group_end test start l → start + 1 ≤ end → end ≤ length l
@@ -26,9 +23,3 @@ one_counted test l start count end within before is after until =
     let same : length (group_lens test (drop n rest)) ≡ length (group_lens test (drop end l)) =
     ap (λ r. length (group_lens test r)) (drop-drop n start l ∙ ap (λ k. drop k l) (sym is)) in
     (until, omega (arith, before.1, after), omega (arith, before.2, one, same))
-
-pub all_counted : (test : Test) (l : List hb_glyph_info_t) (start count : ℕ) → length l ≤ start
-    → IsCounted test l start count → count ≡ length (group_lens test l)
-all_counted test l start count all counted =
-    let none : length (group_lens test (drop start l)) ≡ 0 = ap (λ r. length (group_lens test r)) (drop_all start l all) in
-    omega (arith, counted.2, none)

@@ -1,13 +1,12 @@
 -- A pass that puts two glyphs out for each that it reads, within its room.
 use Rattle.std.proofs.Common.{◌≡◌, ℕ, ◌+◌, ◌-◌, ◌*◌, ◌<◌, ◌≤◌, true, List, [], ◌++◌, length, map, take, drop, refl, sym, ap}
 use Rattle.std.proofs.Common.{◌∙◌, subst, inl, inr, arith, cond, leb, eqb, length-append, length-take, length-drop}
-use Rattle.std.specs.Prelude.{max, false, Bool, Result, Ok, Err}
-use Rattle.std.specs.declared.alloc.AllocError.{AllocError}
+use Rattle.std.specs.Prelude.{max, false}
 use Rattle.std.proofs.lemmas.Bool.{cond-true, cond-false, le-leb, ne_eqb}
 use Rattle.std.proofs.lemmas.List.{length-map}
 use Rattle.rb_glyph.specs.declared.info.hb_glyph_info_t.{hb_glyph_info_t}
 use Rattle.shaping_buffer.specs.State.{State, lookahead_len}
-use Rattle.shaping_buffer.specs.Step.{Outcome, Meets, MayWant, Grows, put_out, settled, with_id, glyph_to_copy}
+use Rattle.shaping_buffer.specs.Step.{Outcome, Grows, put_out, settled, with_id, glyph_to_copy}
 use Rattle.shaping_buffer.specs.Step.{output_glyph, next_glyph, skip_glyph, sync, ensure, clear_output}
 
 -- an output is open, there is room for m glyphs on each side, and what is put out with two glyphs for each that is left
@@ -115,37 +114,6 @@ no_growth : (m : ℕ) (s after : State) → m ≤ s.room → length after.out �
 no_growth m s after room out input (inl longer) = absurd (omega (arith, room, out, longer.1))
 no_growth m s after room out input (inr longer) = absurd (omega (arith, room, input, longer.1))
 
-pub mark_wants_none : (m : ℕ) (id : ℕ) (s : State) → Marking m m s → 0 < length s.input
-    → MayWant s (output_glyph id s).state → ⊥
-mark_wants_none m id s before some want =
-    let is = ap (λ (o : Outcome). o.state) (marked_is m id s before some) in
-    no_growth m s (output_glyph id s).state before.room
-    (subst (λ (t : State). length t.out ≤ m) (sym is)
-    (omega (arith, length-append s.out (map (with_id id) (glyph_to_copy s)), one_mark id s some, before.total, some)))
-    (subst (λ (t : State). length t.input ≤ m) (sym is) (omega (arith, before.total, some)))
-    want.2
-
-pub next_wants_none : (m : ℕ) (s : State) → Marking m (m + 1) s → 0 < length s.input
-    → MayWant s (next_glyph s).state → ⊥
-next_wants_none m s before some want =
-    let is = ap (λ (o : Outcome). o.state) (next_is m s before some) in
-    let rest : length (skip_glyph s).input ≡ length s.input - 1 =
-    ap length (cond-true s.have_output (drop 1 s.input) s.input before.opened) ∙ length-drop 1 s.input in
-    no_growth m s (next_glyph s).state before.room
-    (subst (λ (t : State). length t.out ≤ m) (sym is)
-    (omega (arith, length-append s.out (take 1 s.input), length-take 1 s.input, before.total, some)))
-    (subst (λ (t : State). length t.input ≤ m) (sym is) (omega (arith, rest, before.total, some)))
-    want.2
-
-pub sync_wants_none : (m : ℕ) (s : State) → Marking m m s → length s.input ≡ 0 → MayWant s (sync s).state → ⊥
-sync_wants_none m s before none want =
-    let is = ap (λ (o : Outcome). o.state) (sync_is m s before none) in
-    no_growth m s (sync s).state before.room
-    (subst (λ (t : State). length t.out ≤ m) (sym is) (omega arith))
-    (subst (λ (t : State). length t.input ≤ m) (sym is)
-    (omega (arith, length-append s.out s.input, before.total, none)))
-    want.2
-
 -- ---- before the pass
 
 pub ensured_is : (n : ℕ) (s : State) → n ≤ s.max_len
@@ -157,39 +125,3 @@ pub begins : (s : State) → s.have_output ≡ false → s.successful ≡ true �
     → Marking (2 * length s.input) (2 * length s.input) (clear_output s)
 begins s closed good room fits =
     record { opened = refl; successful = good; room = room; fits = fits; total = omega arith }
-
--- ---- what the calls give
-
-some_input : (s : State) → s.have_output ≡ true → 0 < lookahead_len s → 0 < length s.input
-some_input s opened look = subst (λ n. 0 < n) (left_is s opened) look
-
-pub mark_done : (m : ℕ) (id : ℕ) (s new : State) (done : Bool) → Marking m m s → 0 < lookahead_len s
-    → Meets (output_glyph id s) s (Ok done) new
-    → Marking m (m + 1) new × (0 < lookahead_len new) × (length new.input ≡ length s.input)
-mark_done m id s new done before look meets =
-    let some = some_input s before.opened look in
-    let after = marked m id s new before some meets.1 in
-    (after.0, subst (λ n. 0 < n) (sym (left_is new after.0.opened ∙ after.1)) some, after.1)
-
-pub mark_fails : (m : ℕ) (id : ℕ) (s new : State) (e : AllocError) → Marking m m s → 0 < lookahead_len s
-    → Meets (output_glyph id s) s (Err e) new → ⊥
-mark_fails m id s new e before look meets =
-    mark_wants_none m id s before (some_input s before.opened look) meets.0
-
-pub next_done : (m : ℕ) (s new : State) (done : Bool) → Marking m (m + 1) s → 0 < lookahead_len s
-    → Meets (next_glyph s) s (Ok done) new → Marking m m new × (length new.input < length s.input)
-next_done m s new done before look meets = nexted m s new before (some_input s before.opened look) meets.1
-
-pub next_fails : (m : ℕ) (s new : State) (e : AllocError) → Marking m (m + 1) s → 0 < lookahead_len s
-    → Meets (next_glyph s) s (Err e) new → ⊥
-next_fails m s new e before look meets = next_wants_none m s before (some_input s before.opened look) meets.0
-
-pub sync_done : (m : ℕ) (s new : State) (r : Result Bool AllocError) → Marking m m s → lookahead_len s ≡ 0
-    → Meets (sync s) s r new → (r ≡ Ok true) × (length new.input ≡ m)
-sync_done m s new (Ok done) before look meets =
-    let none = sym (left_is s before.opened) ∙ look in (
-      ap Ok (meets.0 ∙ ap (λ (o : Outcome). o.done) (sync_is m s before none)),
-      synced m s new before none meets.1,
-    )
-sync_done m s new (Err e) before look meets =
-    absurd (sync_wants_none m s before (sym (left_is s before.opened) ∙ look) meets.0)

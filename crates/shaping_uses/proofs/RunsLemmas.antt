@@ -1,8 +1,8 @@
 -- Lists of calls: a merge of the first two glyphs of a text, and a ligature of them.
-use Rattle.std.proofs.Common.{◌≡◌, ℕ, zero, suc, ◌≤◌, ◌<◌, true, false, List, [], ◌∷◌, ◌++◌, take}
-use Rattle.std.proofs.Common.{length, drop, not, inl, inr, refl, sym, ap, subst, ◌∙◌, arith}
+use Rattle.std.proofs.Common.{◌≡◌, ℕ, zero, suc, ◌≤◌, ◌<◌, false, List, [], ◌∷◌, ◌++◌, take}
+use Rattle.std.proofs.Common.{length, drop, not, refl, sym, ap, subst, ◌∙◌, arith}
 use Rattle.std.specs.Borrow.{Bor}
-use Rattle.std.proofs.lemmas.Bool.{cases_Bool, cond-true, cond-false, false≢true}
+use Rattle.std.proofs.lemmas.Bool.{cond-true, cond-false, false≢true}
 use Rattle.std.proofs.lemmas.Bool.{le-leb, lt-leb, not_from_false}
 use Rattle.shaping_buffer.specs.State.{State}
 use Rattle.shaping_buffer.specs.Step.{clear_output}
@@ -40,10 +40,6 @@ pub after_first : (ids : Bor (List ℕ)) (ligature at : ℕ) (s : State) → ids
 after_first ids ligature at s is =
     after_held ids at s ∙ ap (λ l. after (take at (calls_with (record { ref_ptr = (0, 0); now = l }))) s) is
 
-pub after_all : (ids : Bor (List ℕ)) (ligature : ℕ) (s : State) → ids.now ≡ ligature ∷ []
-    → after (calls_with ids) s ≡ after (ligature_calls ligature) s
-after_all ids ligature s is = after_first ids ligature 3 s is
-
 pub answers_all : (ids : Bor (List ℕ)) (ligature : ℕ) (s : State) → ids.now ≡ ligature ∷ []
     → answers_of (calls_with ids) s ≡ answers_of (ligature_calls ligature) s
 answers_all ids ligature s is =
@@ -52,13 +48,6 @@ answers_all ids ligature s is =
 none_left : (n : ℕ) (s : State) → NoGlyphIsBrought (take n []) s
 none_left zero s = tt
 none_left (suc n) s = tt
-
--- none of them brings a glyph of the caller's
-pub none_is_brought : (ids : Bor (List ℕ)) (at : ℕ) (s : State) → NoGlyphIsBrought (take at (calls_with ids)) s
-none_is_brought ids zero s = tt
-none_is_brought ids (suc zero) s = (refl, tt)
-none_is_brought ids (suc (suc zero)) s = (refl, (refl, tt))
-none_is_brought ids (suc (suc (suc n))) s = (refl, (refl, (refl, none_left n _)))
 
 -- ---- where they stop
 
@@ -85,16 +74,6 @@ opened_never_stops calls s closed none (suc at) before new answers stop =
       state = stop.state;
       told = refl;
     })
-
--- so these stop only in one that was open
-pub stops_open : (ids : Bor (List ℕ)) (s : State) (at : ℕ) (before : List Answer) (new : State)
-    (answers : List Answer) → StopsAt at (calls_with ids) s before new answers → s.have_output ≡ true
-stops_open ids s at before new answers stop =
-    elim (cases_Bool s.have_output) [
-      | inl opened ↦ opened
-      | inr closed ↦ absurd (opened_never_stops (ReplaceGlyphs 2 1 ids ∷ Sync ∷ []) s closed
-          (λ t. (refl, (refl, tt))) at before new answers stop)
-    ]
 
 -- ---- a merge of the first two characters of a text
 
