@@ -3,8 +3,8 @@ use Rattle.std.proofs.Common.{◌≡◌, ℕ, zero, suc, ◌+◌, ◌-◌, ◌<�
 use Rattle.std.proofs.Common.{◌++◌, ◌||◌, length, get_or, take, drop, refl, sym, ap, ◌∙◌, subst, cond, ltb, leb}
 use Rattle.std.proofs.Common.{eqb, Option, Some, None, Result, Ok, Err, arith, length-append, length-drop, append_assoc}
 use Rattle.std.proofs.lemmas.Bool.{cond_both, cond-true, cond-false, cases_Bool, false≢true, leb-true, leb-false, lt-ltb}
-use Rattle.std.proofs.lemmas.Bool.{cases_lt, or_left, ltb-true, and_right, or_cases, le-leb, eq-eqb, ne_eqb}
-use Rattle.std.proofs.lemmas.List.{take_more, take_all, drop-drop, get_or-drop, drop_all, append-nil, take-append-drop}
+use Rattle.std.proofs.lemmas.Bool.{or_left, ltb-true, and_right, or_cases, eq-eqb, ne_eqb}
+use Rattle.std.proofs.lemmas.List.{take_more, drop-drop, get_or-drop, append-nil, take-append-drop}
 use Rattle.std.proofs.lemmas.List.{get_or_default}
 use Rattle.glyph_lists.specs.Deletion.{merge_or_mark}
 use Rattle.std.proofs.lemmas.List.Concat.{flat_map-append}
@@ -17,11 +17,11 @@ use Rattle.glyph_lists.proofs.LengthsLemmas.{length_copies}
 use Rattle.glyph_lists.proofs.MergedHeadLemmas.{short_leaves}
 use Rattle.shaping_buffer.specs.State.{State, lookahead_len}
 use Rattle.shaping_buffer.specs.ClusterStep.{any_order, head_of, flagged_if}
-use Rattle.shaping_buffer.specs.Step.{Outcome, limited, settled, put_out, skip_glyph, next_glyph, replace_glyphs, sync}
+use Rattle.shaping_buffer.specs.Step.{Outcome, limited, settled, put_out, skip_glyph, next_glyph, replace_glyphs}
 use Rattle.shaping_buffer.specs.Step.{Meets, clear_output}
 use Rattle.shaping_buffer.proofs.ReplacementLemmas.{replaced_sides}
 use Rattle.shaping_passes.specs.NormalizationParts.{parts_of}
-use Rattle.shaping_passes.specs.NormalizationDecomposition.{some_part, decomposition, most_steps, decomposed, closed_over}
+use Rattle.shaping_passes.specs.NormalizationDecomposition.{some_part, decomposition, most_steps, decomposed}
 use Rattle.shaping_passes.specs.NormalizationDecomposition.{stopped_at, Decomposes}
 
 abbrev Rows : Type 0
@@ -289,42 +289,11 @@ module _ (rows : Rows) (s : State) (k : ℕ) (some : k < length s.input) where
       ] in
       (longer, (k, omega arith, meets.2))
 
--- ---- the beginning and the end
+-- ---- the beginning
 
 pub began : (rows : Rows) (s now : State) → now ≡ clear_output s → IsAt rows s now
 unfolding decomposed
 began rows s now e = record { k = 0; is = e; le = omega arith; within = omega arith }
-
-module _ (rows : Rows) (s : State) (k : ℕ) (le : k ≤ length s.input) (none : length s.input ≤ k)
-    (within : length (decomposed rows (take k s.input)) ≤ s.max_len) (successful : s.successful ≡ true) where
-  abbrev last : State
-  last = stopped_at k rows s
-
-  whole : last.out ++ last.input ≡ decomposed rows s.input
-  whole =
-      ap (λ (l : List hb_glyph_info_t). last.out ++ l) (drop_all k s.input none) ∙ append-nil last.out
-      ∙ ap (decomposed rows) (take_all k s.input none)
-
-  fits : length (last.out ++ last.input) ≤ s.max_len
-  fits = omega (arith, ap length whole, ap (λ (l : List hb_glyph_info_t). length (decomposed rows l)) (take_all k s.input none))
-
-  synced : sync last ≡ record { done = true; state = closed_over (decomposed rows s.input) s }
-  synced =
-      cond-true _ _ _ successful ∙ cond-true _ _ _ (le-leb _ _ fits)
-      ∙ ap (λ (l : List hb_glyph_info_t). record { done = true; state = closed_over l s }) whole
-
-  pub ended : (r : Result Bool AllocError) (new : State) → Meets (sync last) last r new → Decomposes rows s r new
-  ended (Ok true) new meets =
-      (successful, omega (arith, ap length whole, fits), meets.1 ∙ ap (λ (o : Outcome). o.state) synced)
-  ended (Ok false) new meets = absurd (false≢true (meets.0 ∙ ap (λ (o : Outcome). o.done) synced))
-  ended (Err e) new meets =
-      let after = ap (λ (o : Outcome). o.state.have_separate_output) synced in
-      let separate : (ltb k (length last.out) || false) ≡ true =
-      ap (λ b. ltb k (length last.out) || b) (sym after) ∙ meets.0.1 in
-      elim (or_cases (ltb k (length last.out)) false separate) [
-        | inl t ↦ (grown rows s.input k le (ltb-true k (length last.out) t), (k, le, meets.2))
-        | inr f ↦ absurd (false≢true f)
-      ]
 
 -- ---- a turn of the pass
 
@@ -334,13 +303,6 @@ turn_of rows t =
 
 some_at : (rows : Rows) (s : State) (k : ℕ) → 0 < lookahead_len (stopped_at k rows s) → k < length s.input
 some_at rows s k some = omega (arith, some, length-drop k s.input)
-
-none_at : (rows : Rows) (s : State) (k : ℕ) → (0 < lookahead_len (stopped_at k rows s) → ⊥) → length s.input ≤ k
-none_at rows s k none =
-    elim (cases_lt k (length s.input)) [
-      | inl some ↦ absurd (none (omega (arith, length-drop k s.input)))
-      | inr h ↦ h
-    ]
 
 pub turn_done : (rows : Rows) (s now new : State) → IsAt rows s now → 0 < lookahead_len now
     → Meets (turn_of rows now) now (Ok true) new → IsAt rows s new
@@ -361,12 +323,6 @@ turn_failed rows s now new e a some meets =
     let P : State → Type 0 = λ t. 0 < lookahead_len t → Meets (turn_of rows t) t (Err e) new
     → Decomposes rows s (Err e) new in
     subst P (sym a.is) (λ h m. step_failed rows s a.k (some_at rows s a.k h) e new m) some meets
-
-pub last_turn : (rows : Rows) (s now new : State) (r : Result Bool AllocError) → IsAt rows s now
-    → (0 < lookahead_len now → ⊥) → s.successful ≡ true → Meets (sync now) now r new → Decomposes rows s r new
-last_turn rows s now new r a none successful meets =
-    let P : State → Type 0 = λ t. (0 < lookahead_len t → ⊥) → Meets (sync t) t r new → Decomposes rows s r new in
-    subst P (sym a.is) (λ h m. ended rows s a.k a.le (none_at rows s a.k h) a.within successful r new m) none meets
 
 -- the same under another result that says so
 pub turn_gave_up : (rows : Rows) (s now new : State) (e : AllocError) (told r : Result Bool AllocError) → IsAt rows s now

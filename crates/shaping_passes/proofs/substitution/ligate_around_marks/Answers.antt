@@ -1,7 +1,5 @@
 use Rattle.std.proofs.Common.{◌≡◌, suc, ◌+◌, ◌-◌, ◌<◌, ◌∙◌, drop, length, sym, ap, subst, arith, length-drop}
-use Rattle.std.proofs.lemmas.Bool.{cond-true}
 use Rattle.std.proofs.lemmas.List.{drop-drop}
-use Rattle.shaping_buffer.specs.State.{len}
 use Rattle.shaping_buffer.specs.ClusterStep.{merge_clusters}
 use Rattle.shaping_passes.specs.Substitution.{ids, items}
 use Rattle.shaping_passes.specs.SubstitutionCalls.{ligating, follow, IsOnItsWay, IsMade, IsTurnOf}
@@ -10,12 +8,6 @@ use Rattle.shaping_passes.proofs.SubstitutionCallsLemmas.{IsReached, is_stopped}
 use Rattle.shaping_passes.proofs.SubstitutionTurnLemmas.{by_err, m_glyph, lig_wants, lig_wants_way, lig_refused, lig_begun}
 use Rattle.shaping_passes.proofs.SubstitutionTurnLemmas.{lig_step, lig_stop}
 use Rattle.shaping_passes.proofs.substitution.ligate_around_marks.Goals as goal
-
-pub overflow_add-end : goal.overflow_add-end
-overflow_add-end c =
-    let s = c.args.buffer.now in
-    let n : len s ≡ s.idx + length s.input = cond-true _ _ _ c.requires.opened in
-    omega (arith, n, c.len.type_inv, c.len.ensures.len, c.idx-start.ensures, c.requires.fits)
 
 pub replace_glyph-requires-clause-glyph : goal.replace_glyph-requires-clause-glyph
 replace_glyph-requires-clause-glyph c =

@@ -1,11 +1,11 @@
-use Rattle.std.proofs.Common.{◌≡◌, ◌+◌, ◌-◌, ◌<◌, ◌∙◌, [], length, true, false, Ok, sym, ap, subst, refl, arith, length-drop}
+use Rattle.std.proofs.Common.{◌≡◌, ◌+◌, ◌-◌, ◌<◌, ◌∙◌, [], length, true, false, Ok, sym, ap, subst, arith, length-drop}
 use Rattle.std.proofs.lemmas.Bool.{cond-true}
 use Rattle.shaping_buffer.specs.State.{State, lookahead_len}
-use Rattle.shaping_buffer.specs.Step.{Outcome, clear_output}
+use Rattle.shaping_buffer.specs.Step.{Outcome}
 use Rattle.shaping_passes.specs.Substitution.{items, taken, rule_at}
-use Rattle.shaping_passes.specs.SubstitutionCalls.{make, turn, calls_along, IsOnItsWay, IsOutcome, IsTurn}
+use Rattle.shaping_passes.specs.SubstitutionCalls.{make, turn, IsOutcome, IsTurn}
 use Rattle.shaping_passes.proofs.SubstitutionLemmas.{length-items}
-use Rattle.shaping_passes.proofs.SubstitutionCallsLemmas.{IsReached, reached_begun, outcome_is}
+use Rattle.shaping_passes.proofs.SubstitutionCallsLemmas.{outcome_is}
 use Rattle.shaping_passes.proofs.SubstitutionTurnLemmas.{by_err, turn_wants, turn_stops, turn_reached, turn_way}
 use Rattle.shaping_passes.proofs.substitution.substitute.Goals as goal
 
@@ -37,20 +37,6 @@ returns-then-not-branch-clause-outcome c =
     (outcome_is o false new (sym c.if-not-branch.true ∙ c.in_ok-substitute_next.ensures.outcome.0)
     c.in_ok-substitute_next.ensures.outcome.1) in
     (sym (ap (λ (x : Outcome). x.done) e), sym (ap (λ (x : Outcome). x.state) e))
-
-pub loop-buffer-init : goal.loop-buffer-init
-loop-buffer-init c =
-    let t = c.args.lookup.now in
-    let old = c.args.buffer.now in
-    subst (λ (x : State). record {
-      way : IsOnItsWay t [] 0 old x;
-      reached : IsReached (calls_along t (items old.input))
-          (calls_along t (items x.input)) (clear_output old) x;
-    }) (sym c.clear_output.ensures)
-    (record {
-      way = record { opened = refl; glyphs = refl; whole = λ plain. refl };
-      reached = reached_begun (calls_along t (items old.input)) (clear_output old);
-    })
 
 done_turn : (c : goal.Else-not-branch) → IsTurn c.args.lookup.now (Ok true) c.loop-buffer.buffer c.substitute_next.new.buffer
 done_turn c =

@@ -1,7 +1,6 @@
-use Rattle.std.proofs.Common.{ap, sym, ◌∙◌, ◌++◌, get_or, arith}
-use Rattle.std.proofs.lemmas.List.{take_all}
+use Rattle.std.proofs.Common.{ap, sym, ◌∙◌, ◌++◌, get_or}
 use Rattle.glyph_sides.proofs.CharactersLemmas.{glyph_at}
-use Rattle.shaping_session.specs.StateText.{item_text, items_text, space_before}
+use Rattle.shaping_session.specs.StateText.{item_text, space_before}
 use Rattle.shaping_session.proofs.StateTextLemmas.{join_one_more}
 use Rattle.shaping_session.proofs.state_text.print_items.Goals as goal
 
@@ -11,7 +10,3 @@ loop-i-preserved c =
     ∙ ap (λ t. t ++ item_text (get_or c.args.items.now c.loop-i.i (glyph_at 0 0)))
     (c.in_ok-write_space.ensures ∙ ap (λ t. t ++ space_before c.loop-i.i) c.loop-i.invariant)
     ∙ sym (join_one_more item_text c.args.items.now c.loop-i.i (glyph_at 0 0) c.loop-i-test.true)
-
-pub returns : goal.returns
-returns c =
-    c.loop-i.invariant ∙ ap items_text (take_all c.loop-i.i c.args.items.now (omega (arith, c.loop-i-test.false)))

@@ -1,8 +1,7 @@
-use Rattle.std.proofs.Common.{Bool, Result, Ok, ap, ◌∙◌, subst, rules, arith}
+use Rattle.std.proofs.Common.{Bool, Result, Ok, ap, ◌∙◌, subst, rules}
 use Rattle.std.specs.declared.alloc.AllocError.{AllocError}
 use Rattle.shaping_buffer.specs.Step.{Meets}
 use Rattle.shaping_passes.proofs.NormalizationDecompositionLemmas.{began, turn_of, turn_done, turn_refused, turn_gave_up}
-use Rattle.shaping_passes.proofs.NormalizationDecompositionLemmas.{last_turn}
 use Rattle.shaping_passes.proofs.normalization.decomposition.decompose_all.Goals as goal
 
 pub loop-buffer-init : goal.loop-buffer-init
@@ -34,9 +33,3 @@ loop-buffer-preserved c =
       turn_done rows c.args.buffer.now now new c.loop-buffer.invariant.1 (search rules)
           (subst P (c.in_ok-decompose_current.was ∙ ap (λ b. Ok b) c.if-not-branch.false) c.decompose_current.ensures),
     )
-
-pub returns : goal.returns
-returns c =
-    last_turn c.args.decompositions.now c.args.buffer.now c.loop-buffer.buffer c.sync.new.self c.sync.result
-    c.loop-buffer.invariant.1 (λ some. omega (arith, c.lookahead_len.ensures, some)) c.loop-buffer.invariant.0
-    c.sync.ensures.meets
