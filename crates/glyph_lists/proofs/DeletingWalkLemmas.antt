@@ -2,14 +2,14 @@
 use Rattle.std.proofs.Common.{◌≡◌, ℕ, zero, suc, ◌+◌, ◌<◌, ◌≤◌, Bool, true, false, ◌&&◌, ◌||◌, List, [], ◌∷◌, ◌++◌}
 use Rattle.std.proofs.Common.{length, get_or, take, drop, refl, sym, ap, subst, ◌∙◌, arith, length-append, length-drop}
 use Rattle.std.proofs.lemmas.Bool.{cond-true, cond-false}
-use Rattle.std.proofs.lemmas.List.{append_assoc, append-nil, drop_all, drop-drop, get_or-drop, length-take-le}
+use Rattle.std.proofs.lemmas.List.{append_assoc, drop-drop, get_or-drop, length-take-le}
 use Rattle.std.proofs.Math.Seq.{take-append_seam, drop-append-add}
 use Rattle.rb_glyph.specs.declared.info.hb_glyph_info_t.{hb_glyph_info_t}
 use Rattle.rb_glyph.specs.declared.position.GlyphPosition.{GlyphPosition}
 use Rattle.glyph_lists.specs.Clusters.{zero_glyph}
 use Rattle.glyph_lists.specs.Deletion.{Sides, deletion}
 use Rattle.glyph_lists.specs.DeletingWalk.{sides_at, head_of, after_next, after_deletion, after_turn, after_walk}
-use Rattle.glyph_lists.specs.DeletingWalk.{left_by_walk, kept_beside, deletion_merges, walk_merges}
+use Rattle.glyph_lists.specs.DeletingWalk.{kept_beside, deletion_merges, walk_merges}
 use Rattle.glyph_lists.proofs.LengthsLemmas.{length-deletion}
 
 -- a front of a front
@@ -145,28 +145,3 @@ module _ (any_order : Bool) (test : hb_glyph_info_t → Bool) where
                 ∙ ap (λ r. take k ps ++ r) (kept_next now s2 (drop i ps) h made)
                 ∙ before.2 n,
           )
-
-    -- ---- at the end
-
-    module _ (turns k i : ℕ) (l : List hb_glyph_info_t) (ps : List GlyphPosition) (merges : Bool) (none : turns ≡ 0)
-        (before : Leads turns k i l ps merges) where
-      pub walk_ends : length l ≤ i → take k l ≡ left_by_walk any_order test l0
-      walk_ends past =
-          sym (append-nil (take k l)) ∙ ap (λ r. take k l ++ r) (sym (drop_all i l past))
-          ∙ ap (λ (s : Sides). s.out ++ s.rest) (sym (ap (λ n. after_walk any_order test n (sides_at k i l)) none)
-          ∙ before.0)
-
-      pub merges_at_end : merges ≡ (any_order && walk_merges any_order test (length l0) (sides_at 0 0 l0))
-      merges_at_end = no_more merges any_order
-          ∙ sym (ap (λ n. merges || (any_order && walk_merges any_order test n (sides_at k i l))) none) ∙ before.1
-        where
-          no_more : (m a : Bool) → m ≡ (m || (a && false))
-          no_more true a = refl
-          no_more false true = refl
-          no_more false false = refl
-
-      pub positions_kept : length ps ≤ i → length ps0 ≡ length l0
-          → take k ps ≡ kept_beside any_order test (sides_at 0 0 l0) ps0
-      positions_kept past n =
-          sym (append-nil (take k ps)) ∙ ap (λ r. take k ps ++ kept_beside any_order test (sides_at k i l) r)
-          (sym (drop_all i ps past)) ∙ before.2 n

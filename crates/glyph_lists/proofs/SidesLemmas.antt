@@ -13,10 +13,6 @@ use Rattle.glyph_lists.specs.declared.glyph_flags.TheConstants.{BREAK_BITS}
 use Rattle.glyph_lists.proofs.PartsLemmas.{map_range-append, map_range_none, map_range_past, map_range_cut}
 use Rattle.glyph_lists.proofs.PartsLemmas.{length-map_range}
 
--- what is left after one more glyph
-pub next_left : {X : Type 0} (n : ℕ) (xs : List X) → drop (n + 1) xs ≡ drop 1 (drop n xs)
-next_left n xs = sym (drop-drop 1 n xs)
-
 -- a range that ends past the list, or at its end
 pub range_cut : {X : Type 0} (f : X → X) (xs : List X) (a b n : ℕ) → length xs ≡ n → a ≤ b → a ≤ n
     → map_range f xs a (min b n) ≡ map_range f xs a b

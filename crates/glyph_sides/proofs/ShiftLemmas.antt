@@ -1,7 +1,7 @@
 -- A move of the cursor, in the words of the two lists.
 use Rattle.std.proofs.Common.{◌≡◌, ℕ, ◌+◌, ◌-◌, ◌≤◌, List, ◌++◌, length, length-drop}
 use Rattle.std.proofs.Common.{slice_range, take, drop, arith, sym, ap, ◌∙◌}
-use Rattle.std.proofs.lemmas.List.{take-append-drop, drop-drop, drop-take}
+use Rattle.std.proofs.lemmas.List.{drop-drop, drop-take}
 use Rattle.std.proofs.lemmas.List.Edits.{drop-paste}
 use Rattle.std.specs.List.{copy_within}
 use Rattle.std.proofs.Math.Seq.{take-append-add, drop-append-add}
@@ -37,10 +37,6 @@ left_by_copy xs to from count down within =
     ∙ drop-drop (from - to) (to + n) xs ∙ ap (λ k. drop k xs) e
 
 pub ruleset down = (range_is, left_by_copy)
-
-pub closed_already : {X : Type 0} (xs : List X) (to from : ℕ) → to ≤ from → from ≤ to → xs ≡ take to xs ++ drop from xs
-closed_already xs to from down up =
-    let e : to ≡ from = omega arith in sym (take-append-drop to xs) ∙ ap (λ k. take to xs ++ drop k xs) e
 
 -- what two lists share from a place on they share further on
 pub drop_further : {X : Type 0} (xs ys : List X) (n m : ℕ) → n ≤ m → drop n xs ≡ drop n ys → drop m xs ≡ drop m ys

@@ -5,13 +5,6 @@ use Rattle.std.proofs.Math.ListN.{set}
 use Rattle.std.proofs.Math.Seq.{drop-append_seam}
 use Rattle.std.proofs.lemmas.List.{drop-drop, drop-set-add, drop_at, length-take-le}
 
--- what is left after some more glyphs, seen from the vector and from what was left
-pub left_after : {X : Type 0} (is : Bool) (n k : ℕ) (xs : List X)
-    → (if is then drop (n + k) xs else xs)
-    ≡ (if is then drop k (if is then drop n xs else xs) else (if is then drop n xs else xs))
-left_after true n k xs = sym (drop-drop k n xs)
-left_after false n k xs = refl
-
 -- what is left after one more glyph
 pub next_left : {X : Type 0} (n : ℕ) (xs : List X) → drop (n + 1) xs ≡ drop 1 (drop n xs)
 next_left n xs = sym (drop-drop 1 n xs)

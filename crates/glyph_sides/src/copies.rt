@@ -7,7 +7,6 @@ use rb_glyph::hb_glyph_info_t;
 
 /// Appends a copy of a glyph under each id, where there is room.
 #[inline(always)]
-#[tactic(auto, using(crate::proofs::CopyLemmas::copied))]
 pub(crate) fn append_copies(out: &mut Vec<hb_glyph_info_t>, glyph: hb_glyph_info_t, ids: &[u32])
     requires { length out.old.items + length ids.now ≤ vec_capacity out.old }
     ensures is { out.new.items ≡ out.old.items ++ copies glyph ids.now }

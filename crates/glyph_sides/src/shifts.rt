@@ -30,7 +30,6 @@ pub(crate) fn put_down(info: &mut Vec<hb_glyph_info_t>, to: usize, from: usize, 
 
 /// Moves the glyphs from a place on down, over those in between.
 #[inline(never)]
-#[tactic(auto, using(crate::proofs::ShiftLemmas::closed_already))]
 pub(crate) fn close_gap(info: &mut Vec<hb_glyph_info_t>, to: usize, from: usize)
     requires down { to ≤ from }
     requires within { from ≤ vec_len info.old }

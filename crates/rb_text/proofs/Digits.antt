@@ -1,13 +1,10 @@
-use Rattle.std.proofs.Common.{◌≡◌, ℕ, ◌+◌, ◌*◌, ◌-◌, ◌<◌, ◌≤◌, ◌^◌, None, List, [], ◌∷◌, Bool, true, false, length}
-use Rattle.std.proofs.Common.{take}
-use Rattle.std.proofs.Common.{get_or, arith, refl, sym, ◌∙◌}
+use Rattle.std.proofs.Common.{◌≡◌, ℕ, ◌+◌, ◌*◌, ◌-◌, ◌<◌, ◌≤◌, List, Bool, true, length, take, get_or, arith}
 use Rattle.std.specs.List.{take_while, prefix_len, AllPass}
 use Rattle.std.specs.Char.{is_ascii_digit}
 use Rattle.std.specs.Int.{IsInRange}
 use Rattle.std.specs.Str.Parse.{digits_value}
 use Rattle.std.proofs.lemmas.Str.{digit_value_digit}
 use Rattle.std.proofs.lemmas.Int.Digits.{digits_value_more}
-use Rattle.rb_text.specs.TextParser.{signed_number, i32_of}
 use Rattle.std.proofs.lemmas.List.{get_or-take}
 use Rattle.std.proofs.lemmas.List.Folds.{length-prefix_len}
 use Rattle.std.proofs.lemmas.List.Sums.{prefix_len_passes}
@@ -18,21 +15,8 @@ AllPass-take_while p xs k d h =
     let l : k < prefix_len p xs = omega (arith, length-prefix_len p xs) in
     rw (get_or-take (prefix_len p xs) xs k d l) (prefix_len_passes p xs k d l)
 
-too_wide : (b : Bool) (n : ℕ) → 2 ^ 32 ≤ n → None ≡ i32_of b n
-too_wide true n h = grind (arith, nat_tests)
-too_wide false n h = grind (arith, nat_tests)
-
 in_range : (c : ℕ) → is_ascii_digit c ≡ true → IsInRange 48 57 c
 in_range c h = grind (arith, nat_tests)
-
--- where there is a digit, the number is that of all digits
-pub signed_number_some : (b : Bool) (ds : List ℕ) → 0 < length ds → signed_number b ds ≡ i32_of b (digits_value 10 ds)
-signed_number_some b [] h = absurd (omega arith)
-signed_number_some b (d ∷ ds) h = refl
-
--- digits whose number has more than 32 bits stand for none
-pub refused_none : (b : Bool) (ds : List ℕ) → 0 < length ds → 2 ^ 32 ≤ digits_value 10 ds → None ≡ signed_number b ds
-refused_none b ds h large = too_wide b (digits_value 10 ds) large ∙ sym (signed_number_some b ds h)
 
 -- one more digit
 pub value_more : (ds : List ℕ) (i : ℕ) → AllPass is_ascii_digit ds → i < length ds
@@ -42,5 +26,3 @@ value_more ds i all h =
     let r = in_range (get_or ds i 0) (all i 0 h) in
     let e = digit_value_digit (get_or ds i 0) r in
     (omega (arith, r.0), omega (arith, digits_value_more 10 ds i h, e))
-
-pub ruleset number_lemmas = (AllPass-take_while, signed_number_some, refused_none)

@@ -3,14 +3,10 @@ use Rattle.std.proofs.Common.{◌≡◌, ℕ, ◌<◌, ◌≤◌, ◌+◌, zero,
 use Rattle.std.proofs.Common.{get_or, take, drop, arith, refl, sym, ◌∙◌, ap}
 use Rattle.std.specs.Prelude.{◌&&◌, ◌==◌}
 use Rattle.std.proofs.lemmas.Bool.Decides.{nat_tests}
-use Rattle.rb_text.specs.LanguageCut.{until_singleton, before_singleton}
+use Rattle.rb_text.specs.LanguageCut.{until_singleton}
 
 abbrev pub hyphens_at : List ℕ → ℕ → ℕ → Bool
 hyphens_at xs i j = (get_or xs i 0 == 45) && (get_or xs j 0 == 45)
-
-pub until_start : (xs : List ℕ) → take 1 xs ++ until_singleton (drop 1 xs) ≡ before_singleton xs
-until_start [] = refl
-until_start (x ∷ xs) = refl
 
 until_next : (xs : List ℕ) (i : ℕ) → suc (suc i) < length xs → hyphens_at xs i (suc (suc i)) ≡ false
     → take (suc i) xs ++ until_singleton (drop (suc i) xs) ≡ take i xs ++ until_singleton (drop i xs)

@@ -141,7 +141,6 @@ impl<'a> TextParser<'a> {
     /// Consumes a sign, if there is one, and all decimal digits after it, and gives their number.
     /// They are consumed also where they give `None`: where there is no digit, or the number does
     /// not fit.
-    #[tactic(auto, using(crate::proofs::Digits::number_lemmas))]
     pub fn consume_i32(&mut self) -> Option<i32>
         ensures value { result ≡ number_in self.old }
         ensures rest { self.new ≡ after_number self.old }
@@ -172,7 +171,6 @@ impl<'a> TextParser<'a> {
 }
 
 /// What decimal digits behind a minus or none stand for, where there is a digit and it fits.
-#[tactic(auto, using(crate::proofs::Digits::number_lemmas))]
 fn number(is_negative: bool, digits: &[u8]) -> Option<i32>
     requires { AllPass is_ascii_digit digits.now }
     ensures { result ≡ signed_number is_negative digits.now }

@@ -1,7 +1,7 @@
 -- Texts hold characters.
 use Rattle.std.proofs.Common.{◌≡◌, ℕ, ◌+◌, ◌%◌, true, List, [], ◌∷◌, ◌++◌, length, IsUtf8, subst, sym}
 use Rattle.std.proofs.lemmas.Bool.{and_parts}
-use Rattle.std.proofs.lemmas.List.Elements.{All-append, All-push, All-nil, All-cons, All-head, All-tail}
+use Rattle.std.proofs.lemmas.List.Elements.{All-append, All-nil, All-cons, All-head, All-tail}
 use Rattle.std.proofs.lemmas.Str.{scalars-chars}
 use Rattle.std.specs.Prelude.{encode_utf8}
 use Rattle.std.specs.Char.{IsScalar}
@@ -30,11 +30,6 @@ characters_pushed l text utf8 all =
     All-append Is l (glyphs_at 0 (chars text)) all (characters-glyphs_at 0 (chars text) (scalars-chars text utf8))
 
 pub ruleset pushes = (length_pushed, characters_pushed)
-
--- a character that is added
-pub characters_added : (l : List hb_glyph_info_t) (c cluster : ℕ) → IsScalar c → AreCharacters l
-    → AreCharacters (l ++ character c cluster ∷ [])
-characters_added l c cluster scalar all = All-push Is l (character c cluster) all scalar
 
 -- clusters that are numbered anew
 pub characters_reset : (first : ℕ) (l : List hb_glyph_info_t) → AreCharacters l → AreCharacters (reset_clusters first l)

@@ -2,10 +2,10 @@
 use Rattle.std.proofs.Common.{◌≡◌, ℕ, zero, suc, ◌+◌, ◌<◌, ◌≤◌, inl, inr, Bool, true, false, List, [], length, take}
 use Rattle.std.proofs.Common.{drop, if◌then◌else◌, refl, sym, ap, ◌∙◌, arith, drop-drop}
 use Rattle.std.proofs.Common.{reverse as reverse_list, length-drop, length-append}
-use Rattle.std.specs.Prelude.{nat_lt, Option, None, Some, unwrap_or}
+use Rattle.std.specs.Prelude.{nat_lt, Option, None, Some}
 use Rattle.std.specs.Option.{option_map}
 use Rattle.std.proofs.lemmas.Bool.{cond-true, cond-false, lt-ltb, le-ltb, cases_lt}
-use Rattle.std.proofs.lemmas.List.{drop_all, reverse-reverse}
+use Rattle.std.proofs.lemmas.List.{drop_all}
 use Rattle.rb_glyph.specs.declared.position.GlyphPosition.{GlyphPosition}
 use Rattle.glyph_lists.specs.Deletion.{merge_or_mark}
 use Rattle.glyph_lists.specs.Groups as groups
@@ -101,11 +101,6 @@ option_twice : {X : Type 0} (f g : X → X) (o : Option X) → option_map f (opt
 option_twice f g None = refl
 option_twice f g (Some x) = refl
 
--- what is reversed twice is as it was
-pub reversed_twice : {X : Type 0} (o : Option (List X)) → option_map reverse_list (option_map reverse_list o) ≡ o
-reversed_twice None = refl
-reversed_twice (Some xs) = ap Some (reverse-reverse xs)
-
 abbrev in_ranges : List ℕ → ℕ → State → State
 in_ranges ns start s =
     record s { input = ranges_reversed ns start s.input; positions = option_map (ranges_reversed ns start) s.positions }
@@ -144,12 +139,6 @@ each_in_ranges test (suc turns) start s h = elim (cases_lt start (length s.input
 -- there is a position for each glyph, where there are positions
 abbrev pub HasEachPosition : State → Type 0
 HasEachPosition s = (ps : List GlyphPosition) → s.positions ≡ Some ps → length ps ≡ length s.input
-
-pub each_position : (have_positions : Bool) (n : ℕ) (placed : List GlyphPosition)
-    → (have_positions ≡ true → length placed ≡ n)
-    → (ps : List GlyphPosition) → (if have_positions then Some placed else None) ≡ Some ps → length ps ≡ n
-each_position true n placed as_many ps e = ap (λ o. length (unwrap_or o [])) (sym e) ∙ as_many refl
-each_position false n placed as_many ps e = cc
 
 positions_in_reverse : (ns : List ℕ) (n : ℕ) (o : Option (List GlyphPosition)) → total ns ≡ n
     → ((ps : List GlyphPosition) → o ≡ Some ps → length ps ≡ n)

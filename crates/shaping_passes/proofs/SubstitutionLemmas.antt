@@ -87,18 +87,6 @@ module _ (t : Rules) (cs : List ℕ) (l : List Item) (found place : ℕ) where
 -- ---- searches
 
 module _ {R : Type 0} (p : R → Bool) where
-  pub find_here : (rows : List R) (i : ℕ) (d : R) → i < length rows → p (get_or rows i d) ≡ true
-      → find p (drop i rows) ≡ Some (get_or rows i d)
-  find_here [] i d some e = absurd (omega arith)
-  find_here (r ∷ rows) zero d some e = rw e refl
-  find_here (r ∷ rows) (suc i) d some e = find_here rows i d (omega arith) e
-
-  pub find_end : (rows : List R) (i : ℕ) → length rows ≤ i → find p (drop i rows) ≡ None
-  find_end [] zero past = refl
-  find_end [] (suc i) past = refl
-  find_end (r ∷ rows) zero past = absurd (omega arith)
-  find_end (r ∷ rows) (suc i) past = find_end rows i (omega arith)
-
   -- rows that fail before a place, and from a place on, are left out
   pub find_from : (rows : List R) (start : ℕ) → start ≤ length rows
       → ((k : ℕ) (d : R) → k < start → p (get_or rows k d) ≡ false) → find p rows ≡ find p (drop start rows)
@@ -120,14 +108,6 @@ module _ {R : Type 0} (p : R → Bool) where
   find_up_to (r ∷ rows) (suc count) fails =
       let rest = find_up_to rows count (λ k d more less. fails (suc k) d (omega arith) (omega arith)) in
       ap (λ t. cond (p r) (Some r) t) rest
-
-  pub found_passes : (rows : List R) (r : R) → find p rows ≡ Some r → p r ≡ true
-  found_passes [] r e = cc
-  found_passes (x ∷ rows) r e = here (p x) refl e (found_passes rows r) where
-    here : (b : Bool) → p x ≡ b → cond b (Some x) (find p rows) ≡ Some r → (find p rows ≡ Some r → p r ≡ true)
-        → p r ≡ true
-    here true is e later = let same : x ≡ r = cc in subst (λ y. p y ≡ true) same is
-    here false is e later = later e
 
   pub found_holds : (q : R → Bool) (rows : List R) (r : R) → list_all q rows ≡ true → find p rows ≡ Some r → q r ≡ true
   found_holds q [] r all e = cc

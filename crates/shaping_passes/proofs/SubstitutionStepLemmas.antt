@@ -1,11 +1,10 @@
 -- What each call of substitution puts out, and what it leaves to be read.
-use Rattle.std.proofs.Common.{◌≡◌, ℕ, ◌+◌, ◌-◌, ◌<◌, ◌≤◌, ◌&&◌, Bool, true, false, List, []}
+use Rattle.std.proofs.Common.{◌≡◌, ℕ, ◌+◌, ◌-◌, ◌<◌, ◌≤◌, Bool, true, false, List, []}
 use Rattle.std.proofs.Common.{◌∷◌, ◌++◌, length, map, take, drop, get_or, cond, eqb, ltb, leb, refl, sym, ap, ◌∙◌, subst}
 use Rattle.std.proofs.Common.{arith, Ok, Err}
 use Rattle.std.specs.Prelude.{Result, MatchResult}
 use Rattle.std.specs.declared.alloc.AllocError.{AllocError}
-use Rattle.std.proofs.lemmas.Bool.{cond_both, cond-true, cond-false}
-use Rattle.std.proofs.lemmas.Bool.Decides.{nat_tests}
+use Rattle.std.proofs.lemmas.Bool.{cond_both, cond-true}
 use Rattle.std.proofs.lemmas.List.{length-map, take_all, map-append, append-nil, take-map, drop-map, take_at, drop_at}
 use Rattle.rb_glyph.specs.declared.info.hb_glyph_info_t.{hb_glyph_info_t}
 use Rattle.glyph_lists.specs.Parts.{part, map_range}
@@ -19,12 +18,11 @@ use Rattle.glyph_lists.proofs.PartsLemmas.{map-map_range, map-new_part, map-map_
 use Rattle.glyph_lists.proofs.RunsLemmas.{run_start-le, widened_start-le, widened_end-ge}
 use Rattle.shaping_buffer.specs.State.{State}
 use Rattle.shaping_buffer.specs.ClusterStep.{both, any_order, delete_glyph, head_of}
-use Rattle.shaping_buffer.specs.Step.{Outcome, Meets, limited, settled, next_glyph, replace_glyph}
-use Rattle.shaping_buffer.specs.Step.{replace_glyphs}
+use Rattle.shaping_buffer.specs.Step.{Outcome, Meets, limited, settled, next_glyph, replace_glyph, replace_glyphs}
 use Rattle.shaping_buffer.specs.Step.{skip_glyph, with_id}
 use Rattle.shaping_buffer.proofs.ReplacementLemmas.{replaced_sides, front_replaced}
 use Rattle.shaping_passes.specs.Substitution.{ids, items}
-use Rattle.shaping_passes.specs.SubstitutionCalls.{IsPut, replaced}
+use Rattle.shaping_passes.specs.SubstitutionCalls.{IsPut}
 use Rattle.shaping_passes.proofs.SubstitutionLemmas.{item}
 
 -- ---- merges and deletion leave what is neither cluster nor mask
@@ -240,12 +238,3 @@ pub ligated : (put : List ℕ) (n : ℕ) (s new : State) (result : Result Bool A
 ligated put n s new result opened meets =
     let P : List ℕ → Type 0 = λ x. Meets (replace_glyphs n x s) s result new in
     ligature_puts n put s new result opened (subst P (take_all (length put) put (omega arith)) meets)
-
--- ---- the buffer
-
-pub replaced_one : (n : ℕ) (put : List ℕ) (s : State) → n ≡ 1 → length put ≡ 1
-    → replaced n put s ≡ replace_glyph (get_or put 0 0) s
-replaced_one n put s one only =
-    let not_none : (eqb n 1 && eqb (length put) 0) ≡ false = grind (arith, nat_tests) in
-    let both : (eqb n 1 && eqb (length put) 1) ≡ true = grind (arith, nat_tests) in
-    cond-false (eqb n 1 && eqb (length put) 0) _ _ not_none ∙ cond-true (eqb n 1 && eqb (length put) 1) _ _ both

@@ -7,7 +7,7 @@ use Rattle.std.proofs.lemmas.Bool.{ltb-true, eqb-true, eqb-false, lt-leb, le-leb
 use Rattle.std.proofs.lemmas.List.{length-map, length-take-le}
 use Rattle.rb_glyph.specs.declared.info.hb_glyph_info_t.{hb_glyph_info_t}
 use Rattle.shaping_buffer.specs.State.{State, len, lookahead_len}
-use Rattle.shaping_buffer.specs.Step.{Outcome, limited, unlimited, refused, put_out, skip_glyph, skip_glyphs}
+use Rattle.shaping_buffer.specs.Step.{Outcome, limited, unlimited, put_out, skip_glyph, skip_glyphs}
 use Rattle.shaping_buffer.specs.Step.{next_glyphs, split_at, move_to, with_id, glyph_to_copy, last_place}
 use Rattle.shaping_buffer.specs.ClusterStep.{both}
 use Rattle.shaping_buffer.proofs.ReplacementLemmas.{replaced_sides, front_replaced}
@@ -189,62 +189,6 @@ refused_exactly call s e free =
     let a = answered o.done in
     subst (λ (t : Turn). (t.answer ≡ Refused) ↔ (s.max_len < held call s)) (sym (cond-true (may_be_made call s) _ _ e))
     (λ r. x.0 (a.0 r), λ lt. a.1 (x.1 lt))
-
--- ---- what a refusal changes
-
-abbrev Changes : State → Outcome → Type 0
-Changes s o = o.done ≡ false → o.state ≡ record s { successful = false }
-
-limited_changes : (h : ℕ) (s new : State) → Changes s (limited h s new)
-limited_changes h s new = cond_both (leb h s.max_len) _ _ (Changes s) (λ _ e. cc) (λ _ e. refl)
-
-done_changes : (s new : State) → Changes s (unlimited new)
-done_changes s new = λ e. cc
-
-waiting_changes : (s : State) → s.successful ≡ false → Changes s (refused s)
-waiting_changes s h = λ e. ap (λ b. record s { successful = b }) h
-
-put_changes : (xs : List hb_glyph_info_t) (s then : State) → Changes s (put_out xs s then)
-put_changes xs s then = limited_changes (length (s.out ++ xs)) s (record then { out = then.out ++ xs })
-
-next_changes : (n : ℕ) (s : State) → Changes s (next_glyphs n s)
-next_changes n s = cond_both s.have_output _ _ (Changes s) (λ _. put_changes (take n s.input) s (skip_glyphs n s))
-    (λ _. done_changes s (skip_glyphs n s))
-
-outcome_changes : (call : Call) (s : State) → may_be_made call s ≡ true → Changes s (outcome_of call s)
-outcome_changes NextGlyph s e = next_changes 1 s
-outcome_changes (NextGlyphs n) s e = next_changes n s
-outcome_changes (ReplaceGlyph id) s e = put_changes (map (with_id id) (take 1 s.input)) s (skip_glyph s)
-outcome_changes (ReplaceGlyphs num_in num_out ids) s e =
-    subst (Changes s) (sym (replaced_sides num_in (take num_out ids.now) s (and_parts s.have_output _ e).0))
-    (limited_changes (length s.out + length (take num_out ids.now)) s
-    (front_replaced num_in (take num_out ids.now) s))
-outcome_changes (OutputGlyph id) s e = put_changes (map (with_id id) (glyph_to_copy s)) s s
-outcome_changes (OutputInfo g) s e = put_changes (g ∷ []) s s
-outcome_changes CopyGlyph s e = put_changes (take 1 s.input) s s
-outcome_changes (MoveTo place) s e =
-    cond_both s.have_output _ _ (Changes s)
-    (λ _. cond_both s.successful _ _ (Changes s) (λ _. limited_changes _ s (split_at place s)) (waiting_changes s))
-    (λ _. done_changes s (record s { idx = place }))
-outcome_changes Sync s e =
-    cond_both s.successful _ _ (Changes s) (λ _. limited_changes (length (both s)) s (joined s)) (waiting_changes s)
-outcome_changes ClearOutput s e = done_changes s _
-outcome_changes SkipGlyph s e = done_changes s _
-outcome_changes DeleteGlyph s e = done_changes s _
-outcome_changes (MergeClusters start end) s e = done_changes s _
-outcome_changes (MergeOutClusters start end) s e = done_changes s _
-outcome_changes (MergeGraphemeClusters start end) s e = done_changes s _
-outcome_changes (UnsafeToBreak start end) s e = done_changes s _
-outcome_changes (UnsafeToBreakFromOutbuffer start end) s e = done_changes s _
-outcome_changes (SafeToInsertTatweel start end) s e = done_changes s _
-outcome_changes (UnsafeToConcat start end) s e = done_changes s _
-outcome_changes (UnsafeToConcatFromOutbuffer start end) s e = done_changes s _
-
-pub refusal_changes : (call : Call) (s : State) → (turn call s).answer ≡ Refused
-    → (turn call s).state ≡ record s { successful = false }
-refusal_changes call s =
-    cond_both (may_be_made call s) _ _ (λ (t : Turn). t.answer ≡ Refused → t.state ≡ record s { successful = false })
-    (λ e r. outcome_changes call s e ((answered (outcome_of call s).done).0 r)) (λ _ r. cc)
 
 -- ---- after a refusal
 

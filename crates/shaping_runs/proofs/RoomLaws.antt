@@ -1,7 +1,7 @@
 -- Where the sides stay within the room along a list of calls, none of them runs out of memory.
-use Rattle.std.proofs.Common.{◌≡◌, ℕ, zero, suc, ◌<◌, ◌≤◌, true, List, [], ◌∷◌, length, take, subst, sym, ap, ◌∙◌}
+use Rattle.std.proofs.Common.{◌≡◌, ℕ, zero, suc, ◌<◌, ◌≤◌, true, List, [], ◌∷◌, length, take, subst, sym}
 use Rattle.std.proofs.Common.{inl, inr, arith, leb}
-use Rattle.std.specs.Prelude.{slice_get, IfSome, max}
+use Rattle.std.specs.Prelude.{slice_get, IfSome}
 use Rattle.std.proofs.lemmas.Bool.{cond_both, false≢true}
 use Rattle.shaping_buffer.specs.State.{State}
 use Rattle.shaping_buffer.specs.Step.{Outcome, Grows, ensure}

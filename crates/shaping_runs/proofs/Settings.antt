@@ -1,21 +1,14 @@
 -- No call changes the cluster level, nor the room.
-use Rattle.std.proofs.Common.{◌≡◌, ℕ, ◌+◌, Bool, true, false, ◌||◌, ◌++◌, List, [], ◌∷◌, length, map, take, drop, refl, sym, ap}
-use Rattle.std.proofs.Common.{◌∙◌, cond, eqb, leb, ltb}
-use Rattle.std.specs.Prelude.{◌≢◌}
-use Rattle.std.proofs.Math.Bool.{or-false}
-use Rattle.std.proofs.lemmas.Bool.{cond_both, ne_eqb}
+use Rattle.std.proofs.Common.{◌≡◌, ℕ, ◌+◌, Bool, false, ◌++◌, List, [], ◌∷◌, length, map, take, refl, ◌∙◌, leb, ltb}
+use Rattle.std.proofs.lemmas.Bool.{cond_both}
 use Rattle.rb_glyph.specs.declared.flag_sets.TheConstants.BufferFlags.{PRODUCE_UNSAFE_TO_CONCAT}
-use Rattle.glyph_lists.specs.declared.glyph_flags.TheConstants.{BREAK_BITS}
 use Rattle.rb_glyph.specs.declared.info.hb_glyph_info_t.{hb_glyph_info_t}
 use Rattle.glyph_lists.specs.Replacement.{copies}
 use Rattle.shaping_buffer.specs.State.{State}
-use Rattle.shaping_buffer.specs.Step as step
 use Rattle.shaping_buffer.specs.Step.{Outcome, limited, put_out, skip_glyph, skip_glyphs, next_glyphs, with_id, glyph_to_copy}
 use Rattle.shaping_buffer.specs.Step.{split_at}
-use Rattle.shaping_buffer.specs.ClusterLevel.{groups_graphemes, allows_any_order}
-use Rattle.shaping_buffer.specs.ClusterStep as cluster_step
-use Rattle.shaping_buffer.specs.ClusterStep.{both_place, range_start, range_end, tatweel_bits, head_of, merge_clusters}
-use Rattle.shaping_buffer.specs.ClusterStep.{plain_scan, asks}
+use Rattle.shaping_buffer.specs.ClusterLevel.{groups_graphemes}
+use Rattle.shaping_buffer.specs.ClusterStep.{head_of, merge_clusters, plain_scan, asks}
 use Rattle.shaping_runs.specs.declared.call.Call.{Call}
 use Rattle.shaping_runs.specs.declared.call.Call.TheVariants.{ClearOutput, NextGlyph, NextGlyphs, SkipGlyph}
 use Rattle.shaping_runs.specs.declared.call.Call.TheVariants.{ReplaceGlyph, ReplaceGlyphs, OutputGlyph, OutputInfo}
@@ -24,8 +17,7 @@ use Rattle.shaping_runs.specs.declared.call.Call.TheVariants.{MergeOutClusters, 
 use Rattle.shaping_runs.specs.declared.call.Call.TheVariants.{UnsafeToBreakFromOutbuffer, SafeToInsertTatweel}
 use Rattle.shaping_runs.specs.declared.call.Call.TheVariants.{UnsafeToConcat, UnsafeToConcatFromOutbuffer}
 use Rattle.shaping_runs.specs.declared.call.Call.TheVariants.{MergeGraphemeClusters}
-use Rattle.shaping_runs.specs.declared.call.Answer.TheVariants.{Outside}
-use Rattle.shaping_runs.specs.Replay.{Turn, turn, after, answers_of, answer_of, may_be_made, outcome_of}
+use Rattle.shaping_runs.specs.Replay.{Turn, turn, after, may_be_made, outcome_of}
 
 abbrev pub Keeps : State → State → Type 0
 Keeps s t = (t.cluster_level ≡ s.cluster_level) × (t.room ≡ s.room)

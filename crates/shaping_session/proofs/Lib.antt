@@ -1,7 +1,6 @@
 pub mod CommandLemmas
 pub mod LineLemmas
 pub mod OneLineLemmas
-pub mod PrintedLemmas
 pub mod QueryLemmas
 pub mod ReplacementLemmas
 mod Rows

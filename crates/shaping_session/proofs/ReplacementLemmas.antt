@@ -1,12 +1,8 @@
 -- A replacement by all of its ids, and ids that are taken one by one.
-use Rattle.std.proofs.Common.{ℕ, suc, ◌≡◌, ◌<◌, ◌-◌, ◌+◌, List, [], ◌∷◌, ◌++◌, nat_le, Some, None}
-use Rattle.std.proofs.Common.{true, refl, ap, sym, ◌∙◌, arith, append_assoc}
-use Rattle.std.proofs.lemmas.Bool.Decides.{nat_tests}
+use Rattle.std.proofs.Common.{ℕ, suc, ◌≡◌, ◌<◌, ◌-◌, ◌+◌, List, [], ◌∷◌, ◌++◌, Some, None}
+use Rattle.std.proofs.Common.{refl, ap, sym, ◌∙◌, arith, append_assoc}
 use Rattle.shaping_session.specs.Commands.{Taken, id_before, ids_in}
 use Rattle.shaping_session.specs.Words.{Left, next_u32, past_first_word}
-
-itself : (n : ℕ) → nat_le n n ≡ true
-itself n = grind (arith, nat_tests)
 
 -- ids before others
 abbrev pub ids_before : List ℕ → Taken (List ℕ) → Taken (List ℕ)

@@ -1,8 +1,7 @@
 -- What is written of a text; one line more, and one answer more; and how a run ends.
-use Rattle.std.proofs.Common.{ℕ, ◌≡◌, ◌<◌, ◌++◌, ◌⊎◌, List, [], ◌∷◌, length, take, drop, Option, None, Some, Result}
+use Rattle.std.proofs.Common.{ℕ, ◌≡◌, ◌<◌, ◌++◌, ◌⊎◌, List, [], ◌∷◌, length, Option, None, Some, Result}
 use Rattle.std.proofs.Common.{Ok, Err, codes, refl, sym, ap, subst, inl, inr, ◌∙◌, arith, append_assoc, append-nil}
 use Rattle.std.specs.Prelude.{OnOk, IfErr, IsErrAnd}
-use Rattle.std.proofs.lemmas.List.{take-append-drop}
 use Rattle.std.specs.Io.KnownBytes.{Appends, Consumes, IsAtEnd, Keeps}
 use Rattle.std.specs.List.{after_first, before_first}
 use Rattle.shaping_session.specs.Commands.{Request, request_in_bytes}
@@ -98,20 +97,6 @@ begins_kept a b c text p k = (
         (appends_both a b c p.1.sent [] p.1.written (kept_grows b c k));
   },
 )
-
--- some bytes were written
-pub sends_some : (a b : Option (List ℕ)) (text : List ℕ) (n : ℕ) → Appends a b (take n text)
-    → Leaves a b text (drop n text)
-sends_some a b text n p = record { sent = take n text; parts = take-append-drop n text; written = p }
-
--- none were
-pub sends_nothing : (a b : Option (List ℕ)) (text : List ℕ) → Appends a b [] → Leaves a b text text
-sends_nothing a b text p = record { sent = []; parts = refl; written = p }
-
-pub sends_none : (a b : Option (List ℕ)) (text : List ℕ) → Keeps a b → Leaves a b text text
-sends_none a b text k = record { sent = []; parts = refl; written = kept_grows a b k }
-
-pub ruleset one_write = (sends_some, sends_nothing, sends_none)
 
 -- of what was left, some is written
 pub leaves_twice : (a b c : Option (List ℕ)) (text left last : List ℕ) → Leaves a b text left → Leaves b c left last

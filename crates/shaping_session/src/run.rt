@@ -270,7 +270,6 @@ fn write_whole<W: Write>(writer: &mut W, bytes: &[u8]) -> Result<(), RunFault>
 
 /// Makes one write, and gives the bytes that are left: all of them where it was interrupted. A write that takes nothing
 /// is a fault, as is any other error.
-#[tactic(auto, using(crate::proofs::TranscriptLemmas::one_write))]
 fn write_some<'a, W: Write>(writer: &mut W, bytes: &'a [u8]) -> Result<&'a [u8], RunFault>
     ensures ok { IfOk result (λ rest.
         Leaves (W.contents writer.old) (W.contents writer.new) bytes.now rest.now) }

@@ -243,7 +243,6 @@ fn asks_font(flags: SerializeFlags) -> bool
 }
 
 /// Whether each id is the number of a glyph.
-#[tactic(auto, using(crate::proofs::PrintedLemmas::all_glyphs))]
 fn are_glyphs(infos: &[hb_glyph_info_t]) -> bool
     ensures is { result ≡ list_all is_glyph infos.now }
     ensures glyphs { result ≡ true → AreGlyphs infos.now }

@@ -28,7 +28,7 @@ use Rattle.shaping_runs.specs.declared.rendering.RenderFault.{RenderFault}
 use Rattle.shaping_runs.specs.declared.rendering.RenderFault.TheVariants as fault
 use Rattle.shaping_runs.specs.Render.{pushed_text, with_feature, text_with_features, FailsOnText, Fails}
 use Rattle.shaping_runs.specs.Render.{RefusedAt, feature_bit}
-use Rattle.shaping_runs.specs.Replay.{answer_of, Turn, after, answers_of, turn, may_be_made, outcome_of}
+use Rattle.shaping_runs.specs.Replay.{answer_of, Turn, after, turn, may_be_made}
 use Rattle.shaping_runs.specs.Separation.{IsInPlace}
 use Rattle.shaping_runs.proofs.InPlaceLaws.{never_stops}
 use Rattle.shaping_runs.proofs.InPlaceSteps.{stays_in_place}

@@ -2,8 +2,7 @@
 use Rattle.std.proofs.Common.{◌≡◌, ℕ, zero, suc, ◌≤◌, ◌<◌, false, List, [], ◌∷◌, ◌++◌, take}
 use Rattle.std.proofs.Common.{length, drop, not, refl, sym, ap, subst, ◌∙◌, arith}
 use Rattle.std.specs.Borrow.{Bor}
-use Rattle.std.proofs.lemmas.Bool.{cond-true, cond-false, false≢true}
-use Rattle.std.proofs.lemmas.Bool.{le-leb, lt-leb, not_from_false}
+use Rattle.std.proofs.lemmas.Bool.{cond-true, cond-false, false≢true, le-leb, lt-leb, not_from_false}
 use Rattle.shaping_buffer.specs.State.{State}
 use Rattle.shaping_buffer.specs.Step.{clear_output}
 use Rattle.shaping_buffer.specs.ClusterStep.{is_input_range}
@@ -11,43 +10,15 @@ use Rattle.shaping_runs.specs.declared.call.Call.{Call}
 use Rattle.shaping_runs.specs.declared.call.Call.TheVariants.{ClearOutput, MergeClusters, ReplaceGlyphs, Sync}
 use Rattle.shaping_runs.specs.declared.call.Answer.{Answer}
 use Rattle.shaping_runs.specs.declared.call.Answer.TheVariants.{Outside, Done}
-use Rattle.shaping_runs.specs.Exceptions.{NoGlyphIsBrought, NoGlyphIsAdded}
-use Rattle.shaping_runs.specs.Replay.{Turn, after, answers_of, turn, StopsAt}
+use Rattle.shaping_runs.specs.Exceptions.{NoGlyphIsAdded}
+use Rattle.shaping_runs.specs.Replay.{Turn, answers_of, turn, StopsAt}
 use Rattle.shaping_runs.specs.Separation.{IsInPlace}
 use Rattle.shaping_runs.proofs.InPlaceLaws.{never_stops}
 use Rattle.shaping_runs.proofs.InPlaceSteps.{stays_in_place}
-use Rattle.shaping_uses.specs.Runs.{ligature_calls}
-
--- ---- a ligature
 
 -- the calls with a slice that holds the ligature
 abbrev pub calls_with : Bor (List ℕ) → List Call
 calls_with ids = ClearOutput ∷ ReplaceGlyphs 2 1 ids ∷ Sync ∷ []
-
--- it is read for what it holds
-abbrev held_by : Bor (List ℕ) → Bor (List ℕ)
-held_by ids = record { ref_ptr = (0, 0); now = ids.now }
-
-after_held : (ids : Bor (List ℕ)) (at : ℕ) (s : State)
-    → after (take at (calls_with ids)) s ≡ after (take at (calls_with (held_by ids))) s
-after_held ids zero s = refl
-after_held ids (suc zero) s = refl
-after_held ids (suc (suc zero)) s = refl
-after_held ids (suc (suc (suc n))) s = refl
-
-pub after_first : (ids : Bor (List ℕ)) (ligature at : ℕ) (s : State) → ids.now ≡ ligature ∷ []
-    → after (take at (calls_with ids)) s ≡ after (take at (ligature_calls ligature)) s
-after_first ids ligature at s is =
-    after_held ids at s ∙ ap (λ l. after (take at (calls_with (record { ref_ptr = (0, 0); now = l }))) s) is
-
-pub answers_all : (ids : Bor (List ℕ)) (ligature : ℕ) (s : State) → ids.now ≡ ligature ∷ []
-    → answers_of (calls_with ids) s ≡ answers_of (ligature_calls ligature) s
-answers_all ids ligature s is =
-    ap (λ l. answers_of (calls_with (record { ref_ptr = (0, 0); now = l })) s) is
-
-none_left : (n : ℕ) (s : State) → NoGlyphIsBrought (take n []) s
-none_left zero s = tt
-none_left (suc n) s = tt
 
 -- ---- where they stop
 

@@ -9,7 +9,6 @@ use std::alloc::AllocError;
 /// Puts a copy of each glyph under the id of a mark before it, so that the list becomes twice as long. `Ok(false)` where
 /// it would be longer than `max_len`. Memory is asked for once, before the pass: where there is none, or where the list
 /// would be too long, nothing changes. Requires that no output is open and no refusal stands.
-#[tactic(auto, using(crate::proofs::RoomLemmas::ensured_is))]
 pub fn put_marks(buffer: &mut hb_buffer_t, mark: u32) -> Result<bool, AllocError>
     requires closed { buffer.old.have_output ≡ false }
     requires successful { buffer.old.successful ≡ true }

@@ -72,7 +72,6 @@ impl Shaper {
     }
 
     /// Shapes a text: what is put in, each pass in turn, and last the order in which the glyphs are drawn.
-    #[tactic(auto, using(crate::proofs::ShapeLemmas::hidden_closed))]
     pub fn shape(&self, alloc: Global, text: &str) -> Result<Shaping, ShapeError> {
         let mut steps = Vec::new(alloc);
         let mut buffer = text_buffer(alloc, text)?;

@@ -61,9 +61,6 @@ module _ {R : Type 0} (key : R → ℕ) where
       pub all_low : low n rows ≡ true
       pub exact : (c : ℕ) → IsScalar c → c < n → at c rows ≡ row_of c
 
-    pub none_below : AreRowsBelow 0 []
-    none_below = record { rises = refl; all_low = refl; exact = λ c is below. absurd (omega arith) }
-
     -- nothing is pushed where n has no row
     pub rows_kept : (n : ℕ) (rows : List R) → AreRowsBelow n rows → (IsScalar n → row_of n ≡ None)
         → AreRowsBelow (n + 1) rows

@@ -31,7 +31,6 @@ impl Sides {
     /// Changes the glyphs from place `from` to place `to`. A merge in any order of clusters requires that `from` is in the
     /// input, and a scan that `to` is.
     #[inline(always)]
-    #[tactic(auto, using(crate::proofs::Views::sides))]
     pub fn change_range(&mut self, from: usize, to: usize, change: RangeChange)
         requires may { MayChange change (length self.old.out) from to }
         requires order { from ≤ to }

@@ -85,7 +85,6 @@ impl Sides {
 
     /// Drops `count` glyphs at the cursor; with no output open the cursor moves over them. Requires as many glyphs there.
     #[inline(always)]
-    #[tactic(auto, using(crate::proofs::Views::left_after))]
     pub fn skip(&mut self, count: usize)
         requires { count ≤ left self.old }
         ensures { self.new ≡ lists.skip count self.old }

@@ -53,7 +53,6 @@ impl hb_buffer_t {
 
     /// Adds one character with a cluster, and forgets the text after it. `Ok(false)` and `Err(AllocError)` come and
     /// leave the buffer as those of `push_str`.
-    #[tactic(auto, using(crate::proofs::CharactersLemmas::characters_added))]
     pub(crate) fn add(&mut self, codepoint: char, cluster: u32) -> Result<bool, AllocError>
         requires closed { self.old.have_output ≡ false }
         requires plain { self.old.positions ≡ None }

@@ -1,7 +1,6 @@
 use Rattle.std.proofs.Common.{◌≡◌, ◌+◌, ◌-◌, ◌<◌, ◌∙◌, ◌||◌, true, false, suc, refl, sym, ap, length, get_or, arith}
 use Rattle.glyph_lists.specs.Clusters.{zero_glyph}
-use Rattle.glyph_lists.proofs.DeletingWalkLemmas.{leads_first, leads_same, leads_deletion, leads_next, walk_ends}
-use Rattle.glyph_lists.proofs.DeletingWalkLemmas.{merges_at_end, positions_kept}
+use Rattle.glyph_lists.proofs.DeletingWalkLemmas.{leads_first, leads_same, leads_deletion, leads_next}
 use Rattle.glyph_lists.proofs.deletion_in_place.delete_in_place.Goals as goal
 use Rattle.glyph_lists.proofs.deletion_in_place.delete_in_place.Goals.{then-deletes, else-deletes}
 
@@ -12,15 +11,6 @@ loop-at-init g c = (
   omega arith,
   λ test by. leads_first c.args.any_order test c.args.info.now c.args.pos.now,
 )
-
-pub delete_at-merges-requires-clause-order : goal.delete_at-merges-requires-clause-order
-delete_at-merges-requires-clause-order g c = c.loop-at.invariant.2
-
-pub keep_at-requires : goal.keep_at-requires
-keep_at-requires g c = c.loop-at.invariant.2
-
-pub keep_at-requires-else-deletes : goal.keep_at-requires-else-deletes
-keep_at-requires-else-deletes g c = c.loop-at.invariant.2
 
 pub loop-at-preserved : goal.loop-at-preserved
 loop-at-preserved g c =
@@ -63,27 +53,3 @@ loop-at-preserved g c =
             info.rest pos.front pos.rest),
       )
     ]
-
-pub returns-clause-within : goal.returns-clause-within
-returns-clause-within g c = omega (arith, c.loop-at.invariant.2)
-
-pub returns-clause-info : goal.returns-clause-info
-returns-clause-info g c = λ test by.
-    let inv = c.loop-at.invariant in
-    let l = c.loop-at in
-    walk_ends c.args.any_order test c.args.info.now c.args.pos.now inv.0 l.kept l.at l.info l.pos l.merges
-    (omega (arith, inv.1)) (inv.3 test by) (omega arith)
-
-pub returns-clause-pos : goal.returns-clause-pos
-returns-clause-pos g c = λ test by n.
-    let inv = c.loop-at.invariant in
-    let l = c.loop-at in
-    positions_kept c.args.any_order test c.args.info.now c.args.pos.now inv.0 l.kept l.at l.info l.pos l.merges
-    (omega (arith, inv.1)) (inv.3 test by) (omega arith) n
-
-pub returns-clause-merges : goal.returns-clause-merges
-returns-clause-merges g c = λ test by.
-    let inv = c.loop-at.invariant in
-    let l = c.loop-at in
-    merges_at_end c.args.any_order test c.args.info.now c.args.pos.now inv.0 l.kept l.at l.info l.pos l.merges
-    (omega (arith, inv.1)) (inv.3 test by)

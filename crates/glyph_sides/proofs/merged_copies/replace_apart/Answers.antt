@@ -4,9 +4,6 @@ use Rattle.std.proofs.lemmas.Grind.{common_steps}
 use Rattle.glyph_sides.proofs.Views.{behind}
 use Rattle.glyph_sides.proofs.merged_copies.replace_apart.Goals as goal
 
-pub returns-clause-out : goal.returns-clause-out
-returns-clause-out c = grind (arith, common_steps, behind)
-
 pub returns-clause-input : goal.returns-clause-input
 returns-clause-input c =
     sym (drop-drop c.args.count c.args.cursor _)

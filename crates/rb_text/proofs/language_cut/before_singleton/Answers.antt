@@ -1,11 +1,8 @@
 use Rattle.std.proofs.Common.{arith, sym, ◌∙◌}
-use Rattle.rb_text.proofs.LanguageCuts.{until_start, walk_ends, walk_passes, walk_passes_second, walk_finds_none}
+use Rattle.rb_text.proofs.LanguageCuts.{walk_ends, walk_passes, walk_passes_second, walk_finds_none}
 use Rattle.rb_text.proofs.language_cut.before_singleton.Goals as goal
 use Rattle.rb_text.proofs.language_cut.before_singleton.Goals.{else-text-i-eq45-via-then-text-i-eq45+else-text-i-eq45-2}
 use Rattle.rb_text.proofs.language_cut.before_singleton.Goals.{else-text-i-eq45-via-else-text-i-eq45}
-
-pub loop-i-init : goal.loop-i-init
-loop-i-init c = until_start c.args.text.now
 
 pub returns-then-text-i-eq45-2-clause-cut : goal.returns-then-text-i-eq45-2-clause-cut
 returns-then-text-i-eq45-2-clause-cut c =

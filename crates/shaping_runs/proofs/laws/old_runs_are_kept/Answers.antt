@@ -1,9 +1,6 @@
-use Rattle.shaping_runs.proofs.OldRuns.{same_turn, same_runs}
+use Rattle.shaping_runs.proofs.OldRuns.{same_runs}
 use Rattle.shaping_runs.proofs.Settings.{same_level}
 use Rattle.shaping_runs.proofs.laws.old_runs_are_kept.Goals as goal
-
-pub returns-clause-turn : goal.returns-clause-turn
-returns-clause-turn c = same_turn
 
 pub returns-clause-level : goal.returns-clause-level
 returns-clause-level c = same_level

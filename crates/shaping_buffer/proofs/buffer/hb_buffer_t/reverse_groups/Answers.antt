@@ -1,30 +1,10 @@
-use Rattle.std.proofs.Common.{◌≡◌, ◌+◌, ◌-◌, ◌<◌, ◌≤◌, ◌∙◌, suc, false, [], refl, sym, ap, subst, length, arith}
-use Rattle.std.proofs.lemmas.Bool.{cond-false}
+use Rattle.std.proofs.Common.{◌≡◌, ◌+◌, ◌-◌, ◌<◌, ◌≤◌, ◌∙◌, suc, false, [], sym, ap, subst, length, arith}
 use Rattle.glyph_lists.specs.Groups as groups_of
-use Rattle.glyph_sides.specs.TwoLists.{len}
 use Rattle.shaping_buffer.specs.State.{State}
 use Rattle.shaping_buffer.specs.GroupStep.{KeepsOthers, reverse}
-use Rattle.shaping_buffer.proofs.GroupStepLemmas.{reverse_each, each_done, each_turn, each_then_all, each_position}
+use Rattle.shaping_buffer.proofs.GroupStepLemmas.{reverse_each, each_done, each_turn, each_then_all}
 use Rattle.shaping_buffer.proofs.GroupStepLemmas.{group_keeps, keeps_then, length_group}
 use Rattle.shaping_buffer.proofs.buffer.hb_buffer_t.reverse_groups.Goals as goal
-
-pub loop-start-init : goal.loop-start-init
-loop-start-init g c =
-    let old = c.args.self.now in
-    let b = c.self.inside in
-    let shut : b.sides.is_open ≡ false = ap (λ (s : State). s.have_output) c.self.view_is ∙ c.requires.closed in
-    let list : b.sides.input ≡ old.input = ap (λ (s : State). s.input) c.self.view_is in
-    let whole : len b.sides ≡ length old.input = cond-false _ _ _ shut ∙ ap length list in
-    let n : c.len-len.result ≡ length old.input = c.len-len.ensures.is ∙ whole in (
-      length old.input,
-      omega arith,
-      n,
-      refl,
-      refl,
-      λ ps e. each_position b.have_positions (length old.input) b.pos.items
-          (λ on. c.self.invariant.as_many on ∙ whole) ps (ap (λ (s : State). s.positions) c.self.view_is ∙ e),
-      λ test by. refl,
-    )
 
 pub loop-start-preserved : goal.loop-start-preserved
 loop-start-preserved g c =

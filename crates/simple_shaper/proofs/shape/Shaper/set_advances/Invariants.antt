@@ -1,4 +1,4 @@
-use Rattle.std.proofs.Common.{◌≡◌, false, length}
+use Rattle.std.proofs.Common.{◌≡◌, false}
 use Rattle.std.specs.Prelude.{IsSome}
 use Rattle.simple_shaper.proofs.shape.Shaper.set_advances.Given as goal
 
