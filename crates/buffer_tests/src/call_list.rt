@@ -137,13 +137,17 @@ fn assert_stored(rt: &impl Abort, alloc: Global, run: &Stored<'_>) -> Result<(),
     assert_glyphs(rt, buffer.out_info(), run.out);
     assert_glyphs(rt, buffer.info(), run.input);
     if !buffer.have_separate_output() {
-        let storage = buffer.storage();
-        let (out_len, left) = (run.out.len(), run.input.len());
-        assert!(rt; out_len <= storage.len() && left <= storage.len());
-        assert_glyphs(rt, &storage[..out_len], run.out);
-        assert_glyphs(rt, &storage[storage.len() - left..], run.input);
+        assert_ends(rt, buffer.storage(), run);
     }
     Ok(())
+}
+
+/// Asserts the glyphs at the two ends of the one vector.
+fn assert_ends(rt: &impl Abort, storage: &[hb_glyph_info_t], run: &Stored<'_>) {
+    let (out_len, left) = (run.out.len(), run.input.len());
+    assert!(rt; out_len <= storage.len() && left <= storage.len());
+    assert_glyphs(rt, &storage[..out_len], run.out);
+    assert_glyphs(rt, &storage[storage.len() - left..], run.input);
 }
 
 #[test]

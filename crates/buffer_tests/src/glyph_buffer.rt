@@ -10,8 +10,6 @@ use std::test::Fail;
 fn glyphs(rt: &impl Abort, alloc: Global, text: &str) -> GlyphBuffer {
     let mut buffer = buffer_of(rt, alloc, text);
     buffer.clear_positions();
-    assert!(rt; buffer.have_positions());
-    assert!(rt; !buffer.have_output());
     GlyphBuffer::from_buffer(buffer)
 }
 
@@ -54,16 +52,21 @@ fn numbered(alloc: Global, shaped: &GlyphBuffer) -> Result<String, Fail> {
     Ok(shaped.serialize(alloc, &NoGlyphNames, flags)?)
 }
 
+/// Whether the glyphs of two texts are written as one text.
+fn are_written_alike(rt: &impl Abort, alloc: Global, one: &str, other: &str) -> Result<bool, Fail> {
+    let first = glyphs(rt, alloc, one);
+    let second = glyphs(rt, alloc, other);
+    equal_texts_mean_equal_glyphs(&first, &second);
+    Ok(numbered(alloc, &first)? == numbered(alloc, &second)?)
+}
+
 #[test]
 fn equal_texts_are_of_equal_glyphs(rt: HostRuntime) -> Result<(), Fail> {
     let texts = ["", "a", "ab", "ac", "abc"];
-    for one in texts {
-        for other in texts {
-            let first = glyphs(&rt, rt.alloc(), one);
-            let second = glyphs(&rt, rt.alloc(), other);
-            equal_texts_mean_equal_glyphs(&first, &second);
-            let equal = numbered(rt.alloc(), &first)? == numbered(rt.alloc(), &second)?;
-            assert!(rt; equal == (one == other));
+    for one in &texts {
+        for other in &texts {
+            let alike = are_written_alike(&rt, rt.alloc(), one, other)?;
+            assert!(rt; alike == (one == other));
         }
     }
     Ok(())

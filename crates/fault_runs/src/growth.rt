@@ -43,28 +43,37 @@ impl Scenario for Growth<'_> {
 
     fn watch(&self, alloc: Global, ready: (UnicodeBuffer, hb_buffer_t)) -> Result<(), Lost> {
         let (mut text, whole) = ready;
+        match self.take_steps(alloc, &mut text)? {
+            Some(twin) => is_as(text, &twin.into_buffer(), Lost::EarlierState),
+            None => is_as(text, &whole, Lost::State),
+        }
+    }
+}
+
+impl Growth<'_> {
+    /// Takes the steps. Where one runs out of memory and the text is looked into then, it gives what the text has to be.
+    fn take_steps(
+        &self,
+        alloc: Global,
+        text: &mut UnicodeBuffer,
+    ) -> Result<Option<UnicodeBuffer>, Lost> {
         for (i, step) in self.steps.iter().enumerate() {
-            match grow(&mut text, step) {
+            match grow(text, step) {
                 Ok(true) => {}
                 Ok(false) => return Err(Lost::Refusal),
                 Err(_) if self.least == 0 => return Err(Lost::Memory),
                 Err(_) => {
                     let twin = self.text_after(alloc, &self.steps[..i])?;
                     if self.stops {
-                        return is_kept(text, twin);
+                        return Ok(Some(twin));
                     }
-                    grow_again(&mut text, &twin, step)?;
+                    grow_again(text, &twin, step)?;
                 }
             }
         }
-        if same_buffers(&text.into_buffer(), &whole) {
-            return Ok(());
-        }
-        Err(Lost::State)
+        Ok(None)
     }
-}
 
-impl Growth<'_> {
     /// The text after these steps.
     fn text_after(&self, alloc: Global, steps: &[Step<'_>]) -> Result<UnicodeBuffer, Lost> {
         let mut text = begun_text_with_room(alloc, self.room)?;
@@ -84,12 +93,12 @@ fn grow(text: &mut UnicodeBuffer, step: &Step<'_>) -> Result<bool, AllocError> {
     }
 }
 
-/// Whether a text is as one in which no step ran out of memory.
-fn is_kept(text: UnicodeBuffer, twin: UnicodeBuffer) -> Result<(), Lost> {
-    if same_buffers(&text.into_buffer(), &twin.into_buffer()) {
+/// Whether a text is as one in which no step ran out of memory, or what is lost.
+fn is_as(text: UnicodeBuffer, twin: &hb_buffer_t, lost: Lost) -> Result<(), Lost> {
+    if same_buffers(&text.into_buffer(), twin) {
         return Ok(());
     }
-    Err(Lost::EarlierState)
+    Err(lost)
 }
 
 /// Takes a step again that ran out of memory.

@@ -7,6 +7,7 @@
 use growth::GROWTHS;
 use program::Program;
 use rendered::RENDERED;
+use run::Run;
 use runs::apart::{APART_RUNS, BECOMING};
 use runs::in_place::IN_PLACE;
 use runs::whole::WHOLE;
@@ -38,11 +39,10 @@ fn tell_all<S: Scenario>(rt: &impl Print, alloc: Global, scenarios: &[S]) -> io:
 
 fn main(rt: HostRuntime) -> io::Result<()> {
     tell_all(&rt, rt.alloc(), &GROWTHS)?;
-    tell_all(&rt, rt.alloc(), &IN_PLACE)?;
-    tell_all(&rt, rt.alloc(), &BECOMING)?;
-    tell_all(&rt, rt.alloc(), &APART_RUNS)?;
-    tell_all(&rt, rt.alloc(), &WITHIN_ROOM)?;
-    tell_all(&rt, rt.alloc(), &WHOLE)?;
+    let runs: [&[Run<'_>]; 5] = [&IN_PLACE, &BECOMING, &APART_RUNS, &WITHIN_ROOM, &WHOLE];
+    for runs in runs {
+        tell_all(&rt, rt.alloc(), runs)?;
+    }
     tell_all(&rt, rt.alloc(), &RENDERED)?;
     tell(&rt, rt.alloc(), &Written)?;
     tell(&rt, rt.alloc(), &Made)?;

@@ -46,16 +46,7 @@ impl Scenario for Rendered<'_> {
     fn watch(&self, alloc: Global, ready: (GlyphBuffer, [Answer; MOST])) -> Result<(), Lost> {
         let (whole, wanted) = ready;
         let mut answers = [NONE_YET; MOST];
-        let glyphs = match self.render(alloc, &mut answers) {
-            Ok(glyphs) => glyphs,
-            Err(RenderFault::Memory { at }) => {
-                if !are_begun(&answers, &wanted, at.unwrap_or(0)) {
-                    return Err(Lost::EarlierAnswers);
-                }
-                self.again(alloc, &mut answers)?
-            }
-            Err(_) => return Err(Lost::Refusal),
-        };
+        let glyphs = self.rendered(alloc, &wanted, &mut answers)?;
         if answers != wanted {
             return Err(Lost::Answers);
         }
@@ -81,6 +72,24 @@ impl Rendered<'_> {
             None => render(alloc, self.text, self.features, self.calls, answers),
             Some(level) => render_at(alloc, level, self.text, self.features, self.calls, answers),
         }
+    }
+
+    /// The text rendered, also where a call first runs out of memory: the calls before it have their answers.
+    fn rendered(
+        &self,
+        alloc: Global,
+        wanted: &[Answer; MOST],
+        answers: &mut [Answer; MOST],
+    ) -> Result<GlyphBuffer, Lost> {
+        let at = match self.render(alloc, answers) {
+            Ok(glyphs) => return Ok(glyphs),
+            Err(RenderFault::Memory { at }) => at.unwrap_or(0),
+            Err(_) => return Err(Lost::Refusal),
+        };
+        if !are_begun(answers, wanted, at) {
+            return Err(Lost::EarlierAnswers);
+        }
+        self.again(alloc, answers)
     }
 
     /// Renders the text again, after a call that ran out of memory.

@@ -76,8 +76,8 @@ impl Scenario for Run<'_> {
     }
 
     fn watch(&self, alloc: Global, ready: Vec<Begun>) -> Result<(), Lost> {
-        for begun in ready {
-            self.watch_one(alloc, begun)?;
+        for mut begun in ready {
+            self.watch_one(alloc, &mut begun)?;
         }
         Ok(())
     }
@@ -85,18 +85,22 @@ impl Scenario for Run<'_> {
 
 impl Run<'_> {
     fn begun(&self, alloc: Global, level: u32) -> Result<Begun, Lost> {
-        let buffer = self.buffer_at(alloc, level)?;
-        let mut whole = self.buffer_at(alloc, level)?;
-        let mut answers = [NONE_YET; MOST];
-        make_rooms(&mut whole, self.rooms)?;
-        make(&mut whole, self.calls, &mut answers)?;
-        self.place(&mut whole);
-        Ok(Begun {
+        let mut begun = Begun {
             level,
-            buffer,
-            whole,
-            answers,
-        })
+            buffer: self.buffer_at(alloc, level)?,
+            whole: self.buffer_at(alloc, level)?,
+            answers: [NONE_YET; MOST],
+        };
+        self.make_all(&mut begun.whole, &mut begun.answers)?;
+        Ok(begun)
+    }
+
+    /// Makes the calls, undisturbed.
+    fn make_all(&self, buffer: &mut hb_buffer_t, answers: &mut [Answer; MOST]) -> Result<(), Lost> {
+        make_rooms(buffer, self.rooms)?;
+        make(buffer, self.calls, answers)?;
+        self.place(buffer);
+        Ok(())
     }
 
     /// The buffer before the calls.
@@ -116,15 +120,15 @@ impl Run<'_> {
         }
     }
 
-    fn watch_one(&self, alloc: Global, begun: Begun) -> Result<(), Lost> {
-        let mut buffer = begun.buffer;
-        self.watch_rooms(alloc, begun.level, &mut buffer)?;
-        let answers = self.watch_calls(alloc, begun.level, &mut buffer)?;
-        self.place(&mut buffer);
+    fn watch_one(&self, alloc: Global, begun: &mut Begun) -> Result<(), Lost> {
+        let buffer = &mut begun.buffer;
+        self.watch_rooms(alloc, begun.level, buffer)?;
+        let answers = self.watch_calls(alloc, begun.level, buffer)?;
+        self.place(buffer);
         if answers != begun.answers {
             return Err(Lost::Answers);
         }
-        if !same_buffers(&buffer, &begun.whole) {
+        if !same_buffers(buffer, &begun.whole) {
             return Err(Lost::State);
         }
         Ok(())

@@ -32,9 +32,9 @@ pub fn measure_wanted<R: Clock + Print>(
     parts: &[String],
 ) -> anyhow::Result<()> {
     let mut seen = 0u32;
-    for (name, workload) in WORKLOADS {
+    for (name, workload) in &WORKLOADS {
         if is_wanted(name, parts) {
-            seen = seen.wrapping_add(measure_sizes(rt, alloc, name, workload)?);
+            seen = seen.wrapping_add(measure_sizes(rt, alloc, name, *workload)?);
         }
     }
     println!(rt; "seen {seen}")?;

@@ -33,7 +33,7 @@ impl Workload {
 }
 
 /// Every workload with its name.
-pub const WORKLOADS: [(&str, Workload); 35] = [
+pub static WORKLOADS: [(&str, Workload); 35] = [
     ("push_str_new", Workload::NewText),
     ("push_str_reused", Workload::ReusedText),
     ("next_glyph_sync", Workload::Calls(Pass::NextGlyphSync)),

@@ -4,7 +4,7 @@
 use anyhow::{Context, Result};
 use clap::{Arg, ArgAction, ArgMatches, Command};
 use shaping_buffer::{Flags, NoGlyphNames, SerializeFlags};
-use simple_shaper::{Rules, Shaper, draw_steps};
+use simple_shaper::{Rules, Shaper, Shaping, draw_steps};
 use std::alloc::Global;
 use std::fs;
 use std::process::ExitCode;
@@ -32,7 +32,13 @@ fn main(rt: HostRuntime) -> Result<ExitCode> {
     };
     let text = matches.get_str("text").unwrap_or("");
     let shaping = Shaper::new(alloc, rules)?.shape(alloc, text)?;
-    if matches.get_flag("svg") {
+    print_shaping(&rt, alloc, &shaping, matches.get_flag("svg"))?;
+    Ok(ExitCode::SUCCESS)
+}
+
+/// Prints a picture of each step, or the glyphs.
+fn print_shaping(rt: &impl Print, alloc: Global, shaping: &Shaping, as_svg: bool) -> Result<()> {
+    if as_svg {
         let svg = draw_steps(alloc, shaping.steps.as_slice())?;
         print!(rt; "{svg}")?;
     } else {
@@ -40,29 +46,32 @@ fn main(rt: HostRuntime) -> Result<ExitCode> {
         let glyphs = shaping.glyphs.serialize(alloc, &NoGlyphNames, flags)?;
         println!(rt; "{glyphs}")?;
     }
-    Ok(ExitCode::SUCCESS)
+    Ok(())
 }
 
 /// The command line.
 fn command<'a>(alloc: Global) -> Result<Command<'a>> {
-    let rules = Arg::new(alloc, "rules")
-        .long("rules")
-        .value_name("FILE")
-        .help("The rules, one in a line; without them no rule");
-    let svg = Arg::new(alloc, "svg")
-        .long("svg")
-        .action(ArgAction::SetTrue)
-        .help("Prints a picture of each step");
-    let text = Arg::new(alloc, "text")
-        .value_name("TEXT")
-        .required(true)
-        .help("The text");
     Ok(
         Command::new(alloc, "shaping_demo")
             .about("Shapes a text by rules, and prints its glyphs")
-            .arg(rules)?
-            .arg(svg)?
-            .arg(text)?,
+            .arg(
+                Arg::new(alloc, "rules")
+                    .long("rules")
+                    .value_name("FILE")
+                    .help("The rules, one in a line; without them no rule"),
+            )?
+            .arg(
+                Arg::new(alloc, "svg")
+                    .long("svg")
+                    .action(ArgAction::SetTrue)
+                    .help("Prints a picture of each step"),
+            )?
+            .arg(
+                Arg::new(alloc, "text")
+                    .value_name("TEXT")
+                    .required(true)
+                    .help("The text"),
+            )?,
     )
 }
 

@@ -1,12 +1,12 @@
 -- What is written of a text; one line more, and one answer more; and how a run ends.
 use Rattle.std.proofs.Common.{ℕ, ◌≡◌, ◌<◌, ◌++◌, ◌⊎◌, List, [], ◌∷◌, length, Option, None, Some, Result}
-use Rattle.std.proofs.Common.{Ok, Err, codes, refl, sym, ap, subst, inl, inr, ◌∙◌, arith, append_assoc, append-nil}
+use Rattle.std.proofs.Common.{Ok, Err, codes, refl, sym, ap, subst, inl, inr, ◌∙◌, append_assoc, append-nil}
 use Rattle.std.specs.Prelude.{OnOk, IfErr, IsErrAnd}
 use Rattle.std.specs.Io.KnownBytes.{Appends, Consumes, IsAtEnd, Keeps}
 use Rattle.std.specs.List.{after_first, before_first}
 use Rattle.shaping_session.specs.Commands.{Request, request_in_bytes}
 use Rattle.shaping_session.specs.Session.{Follows, fresh}
-use Rattle.shaping_session.specs.Replies.{IsOneLine, is_line_feed}
+use Rattle.shaping_session.specs.Replies.{is_line_feed}
 use Rattle.shaping_session.specs.Transcript.{transcript, lines_of, AnswersLine, AnswersLines, AnswersAll}
 use Rattle.shaping_session.specs.Transcript.{AnswersToUnknown, AnswersBeginning, Answered, Answers, Leaves, Finishes}
 use Rattle.shaping_session.specs.Transcript.{WritesBeginning, WritesText, WritesAndHolds, Writes}
@@ -293,25 +293,6 @@ unknown_fails input rest line next session a b c held last ahead none w = (
   (w.0, told_more ahead.so_far.answers (codes "unknown command") held a b c w.0 ahead.so_far.written w.1),
 )
 
--- nothing is left
-pub answers_all : (input rest : List ℕ) (session : Session) (a b : Option (List ℕ)) (held : List ℕ)
-    → AnswersBefore input rest session a b held → length rest ≡ 0 → WritesAndHolds input a b held (Ok 0)
-answers_all input [] session a b held so_far e = (
-  transcript so_far.answers,
-  inl (
-    refl,
-    record {
-      answers = so_far.answers;
-      session = session;
-      chain = subst (λ ls. AnswersLines fresh ls so_far.answers session)
-          (sym (so_far.lines ∙ append-nil so_far.earlier)) so_far.chain;
-      told = refl;
-    },
-  ),
-  so_far.written,
-)
-answers_all input (b ∷ rest) session a c held so_far e = absurd (omega (arith, e))
-
 -- no line is answered yet
 pub answers_none : (input : List ℕ) (session : Session) (a : Option (List ℕ)) (held : List ℕ) → session ≡ fresh
     → held ≡ [] → AnswersBefore input input session a a held
@@ -324,15 +305,18 @@ answers_none input session a held e none = record {
 }
 
 -- the answer to a line, from the text of a reply
-pub line_answered : (request : Request) (before after : Session) (line answer text : List ℕ)
-    → request_in_bytes line ≡ Some request
-    → Follows request before after text → answer ≡ text → AnswersLine before line answer after
-line_answered request before after line answer text asked follows e = record {
+pub line_answered : (request : Request) (before after : Session) (line answer : List ℕ)
+    → request_in_bytes line ≡ Some request → Follows request before after answer → AnswersLine before line answer after
+line_answered request before after line answer asked follows = record {
   request = request;
   asked = asked;
-  effect = subst (λ t. Follows request before after t) (sym e) follows;
-  one_line = subst IsOneLine (sym e) (one_line-followed request before after text follows);
+  effect = follows;
+  one_line = one_line-followed request before after answer follows;
 }
+
+pub answered_by : (before after : Session) (line answer text : List ℕ)
+    → answer ≡ text → AnswersLine before line text after → AnswersLine before line answer after
+answered_by before after line answer text e = subst (λ t. AnswersLine before line t after) (sym e)
 
 -- ---- the end of a run
 

@@ -1,16 +1,18 @@
 //! Commands from a reader, and their answers to a writer.
 
 ghost use Rattle.std.specs.Prelude.{◌≡◌, ◌+◌, ◌<◌, ◌≤◌, ◌++◌, ◌⊎◌, true, [], ◌∷◌, length, vec_len, vec_capacity};
-ghost use Rattle.std.specs.Prelude.{position, IfOk, OnOk, IfErr, Err};
+ghost use Rattle.std.specs.Prelude.{position, IfOk, OnOk, IfErr, Err, None, MatchOption};
 ghost use Rattle.std.specs.List.{before_first, after_first};
 ghost use Rattle.std.specs.Io.KnownBytes.{Appends, Consumes, IsAtEnd};
-ghost use Rattle.shaping_session.specs.Replies.{is_line_feed};
+ghost use Rattle.shaping_session.specs.Commands.{request_in_bytes};
+ghost use Rattle.shaping_session.specs.Replies.{is_line_feed, reply_text};
 ghost use Rattle.shaping_session.specs.Transcript.{fault_text, Finishes, IsReadTo, Leaves, WritesBeginning};
-ghost use Rattle.shaping_session.specs.Transcript.{WritesAndHolds, Answers};
+ghost use Rattle.shaping_session.specs.Transcript.{WritesAndHolds, Answers, AnswersLine};
 
 use crate::command::parse_bytes;
+use crate::reply::Reply;
 use crate::session::Session;
-use std::alloc::Global;
+use std::alloc::{AllocError, Global};
 use std::io::{ErrorKind, Read, Write};
 
 /// Why a run ended early.
@@ -164,20 +166,32 @@ fn answer_lines<W: Write>(
     while !rest.is_empty() {
         let (line, others) = cut_line(rest);
         rest = others;
-        let Ok(found) = parse_bytes(alloc, line) else {
+        let Ok(obeyed) = obey_line(alloc, session, line) else {
             return Err(RunFault::Memory);
         };
-        let Some(command) = found else {
+        let Some((next, reply)) = obeyed else {
             put_line(writer, held, "unknown command")?;
             return Ok(2);
-        };
-        let Ok((next, reply)) = session.obey(alloc, command) else {
-            return Err(RunFault::Memory);
         };
         session = next;
         put_line(writer, held, reply.as_str())?;
     }
     Ok(0)
+}
+
+/// Obeys a line, or says that it is no command.
+fn obey_line(
+    alloc: Global,
+    session: Session,
+    line: &[u8],
+) -> Result<Option<(Session, Reply)>, AllocError>
+    ensures { IfOk result (λ obeyed. MatchOption obeyed (request_in_bytes line.now ≡ None)
+        (λ next. AnswersLine session line.now (reply_text next.1) next.0)) }
+{
+    match parse_bytes(alloc, line)? {
+        Some(command) => Ok(Some(session.obey(alloc, command)?)),
+        None => Ok(None),
+    }
 }
 
 /// The first line, and what comes after its end.

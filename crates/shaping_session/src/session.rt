@@ -59,13 +59,19 @@ impl Session {
             Command::State => self.state(alloc),
             Command::Serialize(flags) => self.serialize(alloc, flags),
             Command::New => Ok((Session::new(alloc), Reply::ok())),
-            Command::Feature(text) => Ok((self, query::feature(alloc, text)?)),
-            Command::Tags { script, language } => {
-                Ok((self, query::tags(alloc, script, language)?))
-            }
-            Command::Compose(a, b) => Ok((self, query::compose(alloc, a, b)?)),
-            Command::Decompose(c) => Ok((self, query::decompose(alloc, c)?)),
+            Command::Feature(text) => self.asked(query::feature(alloc, text)),
+            Command::Tags { script, language } => self.asked(query::tags(alloc, script, language)),
+            Command::Compose(a, b) => self.asked(query::compose(alloc, a, b)),
+            Command::Decompose(c) => self.asked(query::decompose(alloc, c)),
         }
+    }
+
+    /// The answer to a question, beside the session, which stays as it is.
+    fn asked(self, reply: Result<Reply, AllocError>) -> Result<(Session, Reply), AllocError>
+        ensures same { IfOk result (λ next. next.0 ≡ self) }
+        ensures reply { IfOk result (λ next. reply ≡ Ok next.1) }
+    {
+        Ok((self, reply?))
     }
 
     /// The buffer, into which a text is turned.

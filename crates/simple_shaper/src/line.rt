@@ -52,10 +52,15 @@ pub enum Rule {
 /// The rule in a line; none where the line is empty or a comment.
 pub fn parse_line(alloc: Global, line: &str) -> Result<Option<Rule>, LineError> {
     let words: Vec<&str> = line.split_whitespace().collect(alloc)?;
-    let rule = match *words.as_slice() {
+    rule_of(alloc, words.as_slice())
+}
+
+/// The rule that the words of a line say.
+fn rule_of(alloc: Global, words: &[&str]) -> Result<Option<Rule>, LineError> {
+    let rule = match *words {
         [] => return Ok(None),
         [word, ..] if word.starts_with('#') => return Ok(None),
-        ["sub", ..] => substitution(alloc, &words.as_slice()[1..])?,
+        ["sub", ..] => substitution(alloc, &words[1..])?,
         ["kern", first, second, value] => {
             Rule::Kern(glyph(first)?, glyph(second)?, number(value)?)
         }

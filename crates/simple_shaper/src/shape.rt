@@ -75,18 +75,33 @@ impl Shaper {
     pub fn shape(&self, alloc: Global, text: &str) -> Result<Shaping, ShapeError> {
         let mut steps = Vec::new(alloc);
         let mut buffer = text_buffer(alloc, text)?;
-        record(&mut steps, alloc, "push_str", &buffer)?;
-        self.normalize(alloc, &mut buffer, &mut steps)?;
-        self.substitute(alloc, &mut buffer, &mut steps)?;
-        hide_default_ignorables(&mut buffer);
-        record(&mut steps, alloc, "hide_default_ignorables", &buffer)?;
-        self.position(alloc, &mut buffer, &mut steps)?;
-        put_in_drawing_order(&mut buffer);
-        record(&mut steps, alloc, "reverse_groups", &buffer)?;
+        self.pass_over(alloc, &mut buffer, &mut steps)?;
         Ok(Shaping {
             steps,
             glyphs: GlyphBuffer::from_buffer(buffer),
         })
+    }
+
+    /// Each pass in turn.
+    fn pass_over(
+        &self,
+        alloc: Global,
+        buffer: &mut hb_buffer_t,
+        steps: &mut Vec<Step>,
+    ) -> Result<(), ShapeError>
+        requires { buffer.old.have_output ≡ false }
+        ensures closed { IfOk result (λ _. buffer.new.have_output ≡ false) }
+        ensures placed { IfOk result (λ _. IsSome buffer.new.positions) }
+    {
+        record(steps, alloc, "push_str", buffer)?;
+        self.normalize(alloc, buffer, steps)?;
+        self.substitute(alloc, buffer, steps)?;
+        hide_default_ignorables(buffer);
+        record(steps, alloc, "hide_default_ignorables", buffer)?;
+        self.position(alloc, buffer, steps)?;
+        put_in_drawing_order(buffer);
+        record(steps, alloc, "reverse_groups", buffer)?;
+        Ok(())
     }
 
     /// Makes clusters of graphemes, takes characters apart, puts marks in order, and composes pairs.
