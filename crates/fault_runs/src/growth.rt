@@ -44,14 +44,14 @@ impl Scenario for Growth<'_> {
     fn watch(&self, alloc: Global, ready: (UnicodeBuffer, hb_buffer_t)) -> Result<(), Lost> {
         let (mut text, whole) = ready;
         match self.take_steps(alloc, &mut text)? {
-            Some(twin) => is_as(text, &twin.into_buffer(), Lost::EarlierState),
-            None => is_as(text, &whole, Lost::State),
+            Some(twin) => expect_same(text, &twin.into_buffer(), Lost::EarlierState),
+            None => expect_same(text, &whole, Lost::State),
         }
     }
 }
 
 impl Growth<'_> {
-    /// Takes the steps. Where one runs out of memory and the text is looked into then, it gives what the text has to be.
+    /// Takes the steps. Where one runs out of memory and the scenario stops there, it gives the text that is expected.
     fn take_steps(
         &self,
         alloc: Global,
@@ -93,8 +93,8 @@ fn grow(text: &mut UnicodeBuffer, step: &Step<'_>) -> Result<bool, AllocError> {
     }
 }
 
-/// Whether a text is as one in which no step ran out of memory, or what is lost.
-fn is_as(text: UnicodeBuffer, twin: &hb_buffer_t, lost: Lost) -> Result<(), Lost> {
+/// Answers `lost` where a text differs from its twin, in which no step ran out of memory.
+fn expect_same(text: UnicodeBuffer, twin: &hb_buffer_t, lost: Lost) -> Result<(), Lost> {
     if same_buffers(&text.into_buffer(), twin) {
         return Ok(());
     }

@@ -74,7 +74,8 @@ impl Rendered<'_> {
         }
     }
 
-    /// The text rendered, also where a call first runs out of memory: the calls before it have their answers.
+    /// Renders the text. Where a call runs out of memory, those before it have their answers, and the text is rendered
+    /// again.
     fn rendered(
         &self,
         alloc: Global,

@@ -179,7 +179,7 @@ fn answer_lines<W: Write>(
     Ok(0)
 }
 
-/// Obeys a line, or says that it is no command.
+/// Obeys a line, and answers `None` where it is no command.
 fn obey_line(
     alloc: Global,
     session: Session,

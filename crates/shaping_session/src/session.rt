@@ -66,7 +66,7 @@ impl Session {
         }
     }
 
-    /// The answer to a question, beside the session, which stays as it is.
+    /// The session as it was, and the answer to a question.
     fn asked(self, reply: Result<Reply, AllocError>) -> Result<(Session, Reply), AllocError>
         ensures same { IfOk result (λ next. next.0 ≡ self) }
         ensures reply { IfOk result (λ next. reply ≡ Ok next.1) }
