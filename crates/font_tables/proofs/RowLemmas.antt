@@ -1,0 +1,41 @@
+-- The first number below a bound that passes a test, and rows that rise.
+use Rattle.std.proofs.Common.{◌≡◌, ℕ, zero, suc, ◌+◌, ◌<◌, ◌≤◌, Bool, true, false, Option, Some, None, refl, arith, subst, inl, inr, ◌⊎◌}
+use Rattle.std.proofs.lemmas.Bool.{cases_lt}
+use Rattle.std.specs.Prelude.{if◌then◌else◌, nat_le, IsTrue}
+use Rattle.std.specs.Option.{option_or}
+use Rattle.font_tables.specs.Rows.{first_below, reaches, is_at_most, first_row, Rises}
+
+-- no number below `n` passes the test
+pub record NoneBelow (test : ℕ → Bool) (n : ℕ) : Type 0 where
+  pub fails : (j : ℕ) → j < n → test j ≡ false
+
+pub first_below-none : (test : ℕ → Bool) (n : ℕ) → NoneBelow test n → first_below test n ≡ None
+first_below-none test zero none = refl
+first_below-none test (suc n) none =
+    let before = first_below-none test n (record { fails = λ j less. none.fails j (omega arith) }) in
+    rw (before, none.fails n (omega arith)) refl
+
+pub first_below-some : (test : ℕ → Bool) (n i : ℕ) → i < n → test i ≡ true → NoneBelow test i
+    → first_below test n ≡ Some i
+first_below-some test zero i less passes none = absurd (omega arith)
+first_below-some test (suc n) i less passes none =
+    elim (cases_lt i n) [
+      | inl below ↦ rw (first_below-some test n i below passes none) refl
+      | inr most ↦
+          let here : i ≡ n = omega arith in
+          let before = first_below-none test n (record { fails = λ j lower. none.fails j (omega arith) }) in
+          let now = subst (λ k. test k ≡ true) here passes in
+          rw (before, now, here) refl
+    ]
+
+not_true : (b : Bool) → (b ≡ true → ⊥) → b ≡ false
+not_true true not = absurd (not refl)
+not_true false not = refl
+
+-- a row that does not reach the key has none before it that does
+pub none_before : (last : ℕ → Option ℕ) (key n m : ℕ) → Rises last n → m < n → reaches last key m ≡ false
+    → NoneBelow (reaches last key) (m + 1)
+none_before last key n m rise within fails = record {
+  fails = λ j below. not_true (reaches last key j)
+      (λ is. let there = rise j m key (omega arith) within is in cc);
+}

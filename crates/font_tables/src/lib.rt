@@ -1,0 +1,8 @@
+//! Readers of the tables of an OpenType font, total over any bytes.
+//!
+//! A table is a slice of bytes that may be cut short or hold anything. A number that lies outside of it is `None`, and
+//! so is a row: what a font does not have is not there, and no reader fails.
+#![tactic(auto)]
+
+pub mod bytes;
+pub mod rows;

@@ -1,0 +1,90 @@
+//! Rows of a table, each with a last key, and the first row that reaches a key.
+
+ghost use Rattle.std.specs.Prelude.{◌≡◌, ◌<◌, ◌≤◌, IsTrue};
+ghost use Rattle.font_tables.specs.Rows.{first_row, rows_within, Rises};
+
+/// Rows of a font's table. A row reaches a key where its last key is not below it.
+pub trait Rows {
+    ghost use Rattle.std.specs.Prelude.{◌≡◌, ℕ, Option};
+
+    // The last key of a row, by the row's number.
+    ghost last_of: { Self → ℕ → Option ℕ };
+
+    /// The last key of a row; `None` where the row lies outside of the table.
+    fn last(&self, row: usize) -> Option<u32>
+        ensures { result ≡ last_of self.now row };
+}
+
+/// Whether the first `count` rows lie in the table, each behind those whose last keys are lower.
+pub fn rises<R: Rows>(rows: &R, count: usize) -> bool
+    ensures { IsTrue result → Rises (R.last_of rows.now) count }
+{
+    let mut before = 0;
+    for row in 0..count {
+        match rows.last(row) {
+            Some(last) if before <= last => before = last,
+            _ => return false,
+        }
+    }
+    true
+}
+
+/// The first of `count` rows that reaches the key: by bisection where they rise, and else by a walk over them.
+pub fn first_row<R: Rows>(rows: &R, count: usize, key: u32, are_rising: bool) -> Option<usize>
+    requires { IsTrue are_rising → Rises (R.last_of rows.now) count }
+    ensures { result ≡ first_row (R.last_of rows.now) key count }
+{
+    if are_rising {
+        bisect(rows, count, key)
+    } else {
+        walk(rows, count, key)
+    }
+}
+
+/// The first of these rows that reaches the key, one after the other.
+fn walk<R: Rows>(rows: &R, count: usize, key: u32) -> Option<usize>
+    ensures { result ≡ first_row (R.last_of rows.now) key count }
+{
+    for row in 0..count {
+        if reaches(rows, row, key) {
+            return Some(row);
+        }
+    }
+    None
+}
+
+/// The first of these rows that reaches the key, by bisection.
+fn bisect<R: Rows>(rows: &R, count: usize, key: u32) -> Option<usize>
+    requires { Rises (R.last_of rows.now) count }
+    ensures { result ≡ first_row (R.last_of rows.now) key count }
+{
+    let mut low = 0;
+    let mut high = count;
+    while low < high {
+        let middle = low + (high - low) / 2;
+        if reaches(rows, middle, key) {
+            high = middle;
+        } else {
+            low = middle + 1;
+        }
+    }
+    if low < count { Some(low) } else { None }
+}
+
+/// Whether a row reaches the key.
+fn reaches<R: Rows>(rows: &R, row: usize, key: u32) -> bool
+    ensures { result ≡ Rattle.font_tables.specs.Rows.reaches (R.last_of rows.now) key row }
+{
+    match rows.last(row) {
+        Some(last) => key <= last,
+        None => false,
+    }
+}
+
+/// How many of the rows that a table declares lie in it whole: rows of `size` bytes from the byte at `start` on.
+pub fn rows_within(table: &[u8], start: usize, size: usize, declared: usize) -> usize
+    requires { 0 < size }
+    ensures { result ≡ rows_within table.now start size declared }
+{
+    declared.min(table.len().saturating_sub(start) / size)
+}
