@@ -1,13 +1,12 @@
 //! Glyphs as a text, under each set of flags.
 
-ghost use Rattle.std.specs.Prelude.{IsTrue, Some, codes, pos};
-ghost use Rattle.glyph_text.specs.Text.{AreGlyphs};
+ghost use Rattle.std.specs.Prelude.{Some, codes, pos};
 
 use crate::beginning::begun_buffer;
 use crate::scenario::{Lost, Scenario};
 use rb_glyph::{GlyphExtents, GlyphNames};
 use rb_text::GlyphId;
-use shaping_buffer::{Flags, GlyphBuffer, SerializeFlags, hb_glyph_info_t};
+use shaping_buffer::{Flags, GlyphBuffer, SerializeFlags};
 use std::alloc::{AllocError, Global};
 
 /// A font that knows each glyph by one name.
@@ -88,16 +87,6 @@ fn glyphs(alloc: Global) -> Result<GlyphBuffer, Lost> {
 }
 
 fn write(alloc: Global, glyphs: &GlyphBuffer, bits: u8) -> Result<String, Lost> {
-    if !are_glyphs(glyphs.glyph_infos()) {
-        return Err(Lost::Refusal);
-    }
     let flags = SerializeFlags::from_bits_retain(bits);
     Ok(glyphs.serialize(alloc, &Known, flags)?)
-}
-
-/// Whether the ids are numbers of glyphs.
-fn are_glyphs(infos: &[hb_glyph_info_t]) -> bool
-    ensures { IsTrue result → AreGlyphs infos.now }
-{
-    infos.iter().all(|info| info.glyph_id <= 65535)
 }

@@ -1,9 +1,9 @@
 -- The serialized text: of each glyph the pieces that a set of flags asks for, and the glyphs joined by bars.
-use Rattle.std.specs.Prelude.{ℕ, zero, suc, ◌≤◌, ◌==◌, Bool, ◌&&◌, ◌||◌, not, List, [], ◌∷◌, ◌++◌, Option, None}
-use Rattle.std.specs.Prelude.{unwrap_or, codes, ℤ, pos, ◌+ℤ◌, if◌then◌else◌, bit_and}
+use Rattle.std.specs.Prelude.{ℕ, zero, suc, ◌==◌, Bool, ◌&&◌, ◌||◌, not, List, [], ◌∷◌, ◌++◌, Option, None}
+use Rattle.std.specs.Prelude.{unwrap_or, codes, nat_le, ℤ, pos, ◌+ℤ◌, if◌then◌else◌, bit_and}
 use Rattle.std.specs.Fmt.{decimal, signed_decimal}
 use Rattle.std.specs.Ordering.{int_eq}
-use Rattle.std.specs.List.{All, fold, join_with_byte}
+use Rattle.std.specs.List.{fold, join_with_byte}
 use Rattle.rb_glyph.specs.declared.flag_sets.SerializeFlags.{SerializeFlags}
 use Rattle.rb_glyph.specs.declared.flag_sets.TheConstants.SerializeFlags.{NO_CLUSTERS, NO_POSITIONS, NO_GLYPH_NAMES}
 use Rattle.rb_glyph.specs.declared.flag_sets.TheConstants.SerializeFlags.{GLYPH_EXTENTS, GLYPH_FLAGS, NO_ADVANCES}
@@ -20,6 +20,10 @@ pub record Font : Type 0 where
 -- a font that knows nothing
 abbrev pub nothing_known : Font
 nothing_known = record { name = λ _. None; extents = λ _. None }
+
+-- what a font says of the glyph of this number: nothing of a number past 16 bits, which no glyph has
+abbrev pub said_of : {A : Type 0} → (ℕ → Option A) → ℕ → Option A
+said_of says id = if nat_le id 65535 then says id else None
 
 -- whether a set of flags has this flag
 abbrev pub has : SerializeFlags → SerializeFlags → Bool
@@ -81,11 +85,11 @@ y_advances ps = fold (λ sum p. sum +ℤ p.y_advance) (pos 0) ps
 -- a glyph's text after glyphs with these positions
 abbrev pub glyph_text : Font → SerializeFlags → List GlyphPosition → hb_glyph_info_t × GlyphPosition → List ℕ
 glyph_text font flags earlier g =
-    name_text flags (font.name g.0.glyph_id) g.0.glyph_id
+    name_text flags (said_of font.name g.0.glyph_id) g.0.glyph_id
     ++ cluster_text flags g.0.cluster
     ++ position_text flags (x_advances earlier) (y_advances earlier) g.1
     ++ flags_text flags g.0.mask
-    ++ extents_text flags (font.extents g.0.glyph_id)
+    ++ extents_text flags (said_of font.extents g.0.glyph_id)
 
 -- the text of each glyph, after glyphs with these positions
 abbrev pub glyph_texts : Font → SerializeFlags → List GlyphPosition → List (hb_glyph_info_t × GlyphPosition)
@@ -103,12 +107,8 @@ abbrev pub bar_before : ℕ → List ℕ
 bar_before zero = []
 bar_before (suc i) = 124 ∷ []
 
--- ---- what is asked of the ids
+-- ---- what is asked of the font
 
 -- whether the font is asked: for names, or for extents
 abbrev pub asks_font : SerializeFlags → Bool
 asks_font flags = not (has flags NO_GLYPH_NAMES) || has flags GLYPH_EXTENTS
-
--- the ids are numbers of glyphs, which have 16 bits
-abbrev pub AreGlyphs : List hb_glyph_info_t → Type 0
-AreGlyphs infos = All (λ g. g.glyph_id ≤ 65535) infos

@@ -1,11 +1,12 @@
 //! Glyphs as a text.
 
 ghost use Rattle.std.specs.Prelude.{◌≡◌, ◌++◌, ◌∷◌, [], true, false, length, IfOk, OnOk, OnErr, ◌+ℤ◌, ◌+◌, ◌<◌, ◌≤◌};
-ghost use Rattle.std.specs.Prelude.{codes, nat_abs, string_bytes, unwrap_or};
+ghost use Rattle.std.specs.Prelude.{codes, nat_abs, string_bytes, unwrap_or, IfSome, IsSome, ◌↔◌};
 ghost use Rattle.std.specs.Fmt.{decimal, signed_decimal};
 ghost use Rattle.std.specs.List.{zip};
+ghost use Rattle.std.specs.Option.{option_copied};
 ghost use Rattle.glyph_text.specs.Text as texts;
-ghost use Rattle.glyph_text.specs.Text.{has, asks_font, AreGlyphs, bar_before, name_text, cluster_text, offset_text};
+ghost use Rattle.glyph_text.specs.Text.{has, said_of, bar_before, name_text, cluster_text, offset_text};
 ghost use Rattle.glyph_text.specs.Text.{advance_text, position_text, flags_text, extents_text, box_text};
 ghost use Rattle.glyph_text.specs.Point.{IsNear};
 ghost use Rattle.rb_glyph.specs.declared.flag_sets.TheConstants.SerializeFlags.{NO_ADVANCES, NO_GLYPH_NAMES};
@@ -14,6 +15,7 @@ ghost use Rattle.rb_glyph.specs.declared.flag_sets.TheConstants.SerializeFlags.{
 use crate::number_text::NumberText;
 use bitflags::Flags;
 use itoa::{Buffer, Integer};
+use rb_common::GlyphId;
 use rb_glyph::{
     GlyphExtents, GlyphNames, GlyphPosition, SerializeFlags, glyph_flag, hb_glyph_info_t,
 };
@@ -82,7 +84,7 @@ const LIKELY_LENGTH: usize = 16;
 ///
 /// Under `NO_ADVANCES` the sums of all earlier advances are added to the offsets.
 ///
-/// Requires as many positions as glyphs, and numbers of at most 65535 where names or extents are written.
+/// Requires as many positions as glyphs. A number past 65535 is no glyph's: the font is not asked for it.
 /// `Err(AllocError)` where memory ran out: then there is no text. With no glyph it never does.
 pub fn glyphs_text<F: GlyphNames>(
     alloc: Global,
@@ -91,8 +93,7 @@ pub fn glyphs_text<F: GlyphNames>(
     infos: &[hb_glyph_info_t],
     positions: &[GlyphPosition],
 ) -> Result<String, AllocError>
-    requires as_many { length positions.now ≡ length infos.now }
-    requires glyphs { asks_font flags ≡ true → AreGlyphs infos.now }
+    requires { length positions.now ≡ length infos.now }
     ensures is { IfOk result (λ text. string_bytes text ≡ texts.glyphs_text
         (record { name = F.name_of font.now; extents = F.extents_of font.now }) flags
         (zip infos.now positions.now)) }
@@ -113,7 +114,6 @@ fn write_glyphs<F: GlyphNames>(
     positions: &[GlyphPosition],
 ) -> Result<(), AllocError>
     requires as_many { length positions.now ≡ length infos.now }
-    requires glyphs { asks_font flags ≡ true → AreGlyphs infos.now }
     requires empty { string_bytes text.old ≡ [] }
     ensures is { OnOk result (string_bytes text.new ≡ texts.glyphs_text
         (record { name = F.name_of font.now; extents = F.extents_of font.now }) flags
@@ -140,9 +140,8 @@ fn write_head<F: GlyphNames>(
     i: usize,
     info: &hb_glyph_info_t,
 ) -> Result<(), AllocError>
-    requires { has flags NO_GLYPH_NAMES ≡ false → info.now.glyph_id ≤ 65535 }
     ensures { OnOk result (string_bytes text.new ≡ string_bytes text.old ++ bar_before i
-        ++ name_text flags (F.name_of font.now info.now.glyph_id) info.now.glyph_id
+        ++ name_text flags (said_of (F.name_of font.now) info.now.glyph_id) info.now.glyph_id
         ++ cluster_text flags info.now.cluster) }
 {
     if flags.contains(SerializeFlags::NO_GLYPH_NAMES) {
@@ -210,17 +209,45 @@ fn write_name<F: GlyphNames>(
     font: &F,
     info: &hb_glyph_info_t,
 ) -> Result<(), AllocError>
-    requires { info.now.glyph_id ≤ 65535 }
     ensures { OnOk result (string_bytes text.new ≡ string_bytes text.old
-        ++ unwrap_or (F.name_of font.now info.now.glyph_id)
+        ++ unwrap_or (said_of (F.name_of font.now) info.now.glyph_id)
         (codes "gid" ++ decimal info.now.glyph_id)) }
 {
-    match font.glyph_name(info.as_glyph()) {
+    match name_of(font, info) {
         Some(name) => text.push_str(name),
         None => {
             text.push_str("gid")?;
             write_number(text, info.glyph_id)
         }
+    }
+}
+
+/// The glyph of this number; none past 16 bits.
+fn glyph_of(info: &hb_glyph_info_t) -> Option<GlyphId>
+    ensures glyph { IfSome result (λ glyph. glyph.0 ≡ info.now.glyph_id) }
+    ensures within { IsSome result ↔ (info.now.glyph_id ≤ 65535) }
+{
+    let number = u16::try_from(info.glyph_id).ok()?;
+    Some(GlyphId(number))
+}
+
+/// The name of a glyph, where the font has one for it.
+fn name_of<'a, F: GlyphNames>(font: &'a F, info: &hb_glyph_info_t) -> Option<&'a str>
+    ensures { option_copied result ≡ said_of (F.name_of font.now) info.now.glyph_id }
+{
+    match glyph_of(info) {
+        Some(glyph) => font.glyph_name(glyph),
+        None => None,
+    }
+}
+
+/// The extents of a glyph, where the font knows them.
+fn extents_of<F: GlyphNames>(font: &F, info: &hb_glyph_info_t) -> Option<GlyphExtents>
+    ensures { result ≡ said_of (F.extents_of font.now) info.now.glyph_id }
+{
+    match glyph_of(info) {
+        Some(glyph) => font.glyph_extents(glyph),
+        None => None,
     }
 }
 
@@ -301,14 +328,13 @@ fn write_extents<F: GlyphNames>(
     flags: SerializeFlags,
     info: &hb_glyph_info_t,
 ) -> Result<(), AllocError>
-    requires { has flags GLYPH_EXTENTS ≡ true → info.now.glyph_id ≤ 65535 }
     ensures { OnOk result (string_bytes text.new
-        ≡ string_bytes text.old ++ extents_text flags (F.extents_of font.now info.now.glyph_id)) }
+        ≡ string_bytes text.old ++ extents_text flags (said_of (F.extents_of font.now) info.now.glyph_id)) }
 {
     if !flags.contains(SerializeFlags::GLYPH_EXTENTS) {
         return Ok(());
     }
-    let extents = font.glyph_extents(info.as_glyph()).unwrap_or(GlyphExtents {
+    let extents = extents_of(font, info).unwrap_or(GlyphExtents {
         x_bearing: 0,
         y_bearing: 0,
         width: 0,

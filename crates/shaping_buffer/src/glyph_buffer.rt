@@ -3,7 +3,6 @@
 ghost use Rattle.std.specs.Prelude.{◌≡◌, ◌<◌, true, false, length, IsTrue, ◌↔◌, Some, IsSome, IfOk, OnErr};
 ghost use Rattle.std.specs.Prelude.{string_bytes};
 ghost use Rattle.shaping_buffer.specs.State.{cleared, HasPositions};
-ghost use Rattle.glyph_text.specs.Text.{asks_font, AreGlyphs};
 ghost use Rattle.shaping_buffer.specs.Text.{text_of};
 
 use crate::buffer::hb_buffer_t;
@@ -87,15 +86,14 @@ impl GlyphBuffer {
     /// `NO_GLYPH_NAMES` writes the number alone, `NO_CLUSTERS` leaves the cluster out, `NO_POSITIONS` offsets and
     /// advances, and `NO_ADVANCES` the advances: then the sums of all earlier advances are added to the offsets.
     ///
-    /// Requires numbers of at most 65535 where names or extents are written. `Err(AllocError)` where memory ran out:
-    /// then there is no text. With no glyph it never does.
+    /// A number past 65535 is no glyph's: the font is not asked for its name or its extents. `Err(AllocError)` where
+    /// memory ran out: then there is no text. With no glyph it never does.
     pub fn serialize<F: GlyphNames>(
         &self,
         alloc: Global,
         font: &F,
         flags: SerializeFlags,
     ) -> Result<String, AllocError>
-        requires { asks_font flags ≡ true → AreGlyphs self.now.input }
         ensures is { IfOk result (λ text. string_bytes text ≡ text_of
             (record { name = F.name_of font.now; extents = F.extents_of font.now })
             flags self.now) }

@@ -4,7 +4,7 @@ ghost use Rattle.std.specs.Prelude.{◌≡◌, IfOk, true, false, codes, string_
 ghost use Rattle.std.specs.List.{list_all};
 ghost use Rattle.shaping_buffer.specs.Text as texts;
 ghost use Rattle.glyph_text.specs.Text as of_glyphs;
-ghost use Rattle.glyph_text.specs.Text.{AreGlyphs, nothing_known};
+ghost use Rattle.glyph_text.specs.Text.{nothing_known};
 ghost use Rattle.shaping_session.specs.Session as session;
 ghost use Rattle.shaping_buffer.specs.ClusterLevel.{level_of};
 ghost use Rattle.shaping_buffer.specs.Pushed.{pushed, added};
@@ -215,8 +215,7 @@ fn print_glyphs(
     flags: SerializeFlags,
     buffer: hb_buffer_t,
 ) -> Result<(UnicodeBuffer, String), AllocError>
-    requires closed { buffer.have_output ≡ false }
-    requires glyphs { of_glyphs.asks_font flags ≡ true → AreGlyphs buffer.input }
+    requires { buffer.have_output ≡ false }
     ensures next { IfOk result (λ printed. printed.0 ≡ cleared buffer) }
     ensures text { IfOk result (λ printed. string_bytes printed.1
         ≡ texts.text_of nothing_known flags (with_zero_positions buffer)) }
@@ -236,7 +235,6 @@ const LAST_GLYPH: u32 = 65535;
 fn may_be_printed(flags: SerializeFlags, buffer: &hb_buffer_t) -> bool
     ensures is { result ≡ session.may_be_printed flags buffer.now }
     ensures closed { result ≡ true → buffer.now.have_output ≡ false }
-    ensures glyphs { result ≡ true → of_glyphs.asks_font flags ≡ true → AreGlyphs buffer.now.input }
 {
     !buffer.have_output() && (!asks_font(flags) || are_glyphs(buffer.info()))
 }
@@ -250,8 +248,7 @@ fn asks_font(flags: SerializeFlags) -> bool
 
 /// Whether each id is the number of a glyph.
 fn are_glyphs(infos: &[hb_glyph_info_t]) -> bool
-    ensures is { result ≡ list_all is_glyph infos.now }
-    ensures glyphs { result ≡ true → AreGlyphs infos.now }
+    ensures { result ≡ list_all is_glyph infos.now }
 {
     infos.iter().all(|info| info.glyph_id <= LAST_GLYPH)
 }

@@ -4,7 +4,7 @@ use Rattle.std.proofs.lemmas.List.Sums.{fold_more}
 use Rattle.rb_glyph.specs.declared.info.hb_glyph_info_t.{hb_glyph_info_t}
 use Rattle.rb_glyph.specs.declared.position.GlyphPosition.{GlyphPosition}
 use Rattle.glyph_text.specs.Text.{Font, bar_before, glyphs_text, x_advances, y_advances, name_text, cluster_text}
-use Rattle.glyph_text.specs.Text.{position_text, flags_text, extents_text}
+use Rattle.glyph_text.specs.Text.{position_text, flags_text, extents_text, said_of}
 use Rattle.glyph_text.proofs.TextLemmas.{no_glyph, no_position, text_more, pieces_more, position_same}
 use Rattle.glyph_text.proofs.serialize.write_glyphs.Goals as goal
 
@@ -25,12 +25,12 @@ loop-i-preserved g c =
     record {
       written = pieces_more (string_bytes c.loop-i.text) _ _ _ _ (bar_before i) _ _ _ _ _ c.in_ok-write_head.ensures
           c.in_ok-write_position.ensures c.in_ok-write_flags.ensures c.in_ok-write_extents.ensures
-          ∙ ap (λ t. (t ++ bar_before i) ++ (name_text flags (font.name info.glyph_id) info.glyph_id
+          ∙ ap (λ t. (t ++ bar_before i) ++ (name_text flags (said_of font.name info.glyph_id) info.glyph_id
           ++ cluster_text flags info.cluster ++ position_text flags place.x place.y position
-          ++ flags_text flags info.mask ++ extents_text flags (font.extents info.glyph_id))) old.written
+          ++ flags_text flags info.mask ++ extents_text flags (said_of font.extents info.glyph_id))) old.written
           ∙ ap (λ t. (glyphs_text font flags (take i (zip infos positions)) ++ bar_before i)
-          ++ (name_text flags (font.name info.glyph_id) info.glyph_id ++ cluster_text flags info.cluster ++ t
-          ++ flags_text flags info.mask ++ extents_text flags (font.extents info.glyph_id)))
+          ++ (name_text flags (said_of font.name info.glyph_id) info.glyph_id ++ cluster_text flags info.cluster ++ t
+          ++ flags_text flags info.mask ++ extents_text flags (said_of font.extents info.glyph_id)))
           (position_same flags place.x place.y (x_advances earlier) (y_advances earlier) position old.x old.y)
           ∙ sym (text_more font flags infos positions i no_glyph no_position c.loop-i-test.true c.requires.as_many);
       x = λ h. moved.x h ∙ ap (λ x. x +ℤ position.x_advance) (old.x h)
