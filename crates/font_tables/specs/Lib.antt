@@ -1,2 +1,5 @@
 pub mod Bytes
+pub mod ClassDefinition
+pub mod Coverage
+pub mod GlyphRanges
 pub mod Rows

@@ -5,4 +5,7 @@
 #![tactic(auto)]
 
 pub mod bytes;
+pub mod class_definition;
+pub mod coverage;
+mod glyph_ranges;
 pub mod rows;
