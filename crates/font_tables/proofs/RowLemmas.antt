@@ -1,9 +1,7 @@
 -- The first number below a bound that passes a test, and rows that rise.
-use Rattle.std.proofs.Common.{◌≡◌, ℕ, zero, suc, ◌+◌, ◌<◌, ◌≤◌, Bool, true, false, Option, Some, None, refl, arith, subst, inl, inr, ◌⊎◌}
+use Rattle.std.proofs.Common.{◌≡◌, ℕ, zero, suc, ◌+◌, ◌<◌, Bool, true, false, Option, Some, None, refl, arith, subst, inl, inr}
 use Rattle.std.proofs.lemmas.Bool.{cases_lt}
-use Rattle.std.specs.Prelude.{if◌then◌else◌, nat_le, IsTrue}
-use Rattle.std.specs.Option.{option_or}
-use Rattle.font_tables.specs.Rows.{first_below, reaches, is_at_most, first_row, Rises}
+use Rattle.font_tables.specs.Rows.{first_below, reaches, Rises}
 
 -- no number below `n` passes the test
 pub record NoneBelow (test : ℕ → Bool) (n : ℕ) : Type 0 where

@@ -1,5 +1,5 @@
 -- Numbers at places of a table, big endian, and the tables that offsets lead to.
-use Rattle.std.specs.Prelude.{ℕ, ℤ, List, Option, Some, None, ◌+◌, ◌*◌, slice_index, length, drop, nat_lt, nat_eq, if◌then◌else◌}
+use Rattle.std.specs.Prelude.{ℕ, ℤ, List, Option, Some, None, ◌+◌, ◌*◌, slice_index, length, drop, nat_lt, nat_eq, if◌then◌else◌, Bool, false}
 use Rattle.std.specs.Prelude.{option_map, option_and_then, slice_get}
 use Rattle.std.specs.Int.{w16, cast_signed}
 
@@ -24,6 +24,11 @@ number_32 bs i =
     if nat_lt (i + 3) (length bs)
     then Some ((slice_index bs i * 256 + slice_index bs (i + 1)) * 65536
     + (slice_index bs (i + 2) * 256 + slice_index bs (i + 3))) else None
+
+-- whether a number is there, and is this one
+abbrev pub is_number : Option ℕ → ℕ → Bool
+is_number None n = false
+is_number (Some m) n = nat_eq m n
 
 -- the signed number of 16 bits at a place, in two's complement
 abbrev pub signed_16 : List ℕ → ℕ → Option ℤ

@@ -1,2 +1,11 @@
 pub mod Bytes
+pub mod ClassDefinition
+pub mod Coverage
+pub mod Directory
+pub mod Extents
+pub mod GlyphRanges
+pub mod Head
+pub mod MetricRows
+pub mod Metrics
 pub mod Rows
+pub mod VerticalOrigins

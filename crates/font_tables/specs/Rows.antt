@@ -27,3 +27,8 @@ Rises last count =
 -- how many of the declared rows, each of `size` bytes, lie in a table whole from the byte at `start` on
 abbrev pub rows_within : List ℕ → ℕ → ℕ → ℕ → ℕ
 rows_within bs start size declared = min declared ((length bs - start) / size)
+
+-- whether a number is there, and is not above another
+abbrev pub is_within : Option ℕ → ℕ → Bool
+is_within None most = false
+is_within (Some number) most = nat_le number most

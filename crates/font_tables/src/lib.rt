@@ -5,4 +5,12 @@
 #![tactic(auto)]
 
 pub mod bytes;
+pub mod class_definition;
+pub mod coverage;
+pub mod directory;
+pub mod extents;
+mod glyph_ranges;
+pub mod head;
+pub mod metrics;
 pub mod rows;
+pub mod vertical_origins;

@@ -1,7 +1,9 @@
 //! Rows of a table, each with a last key, and the first row that reaches a key.
 
-ghost use Rattle.std.specs.Prelude.{◌≡◌, ◌<◌, ◌≤◌, IsTrue};
+ghost use Rattle.std.specs.Prelude.{◌≡◌, ◌<◌, ◌≤◌, IsTrue, IfSome};
 ghost use Rattle.font_tables.specs.Rows.{first_row, rows_within, Rises};
+
+use crate::bytes::u16_at;
 
 /// Rows of a font's table. A row reaches a key where its last key is not below it.
 pub trait Rows {
@@ -13,6 +15,34 @@ pub trait Rows {
     /// The last key of a row; `None` where the row lies outside of the table.
     fn last(&self, row: usize) -> Option<u32>
         ensures { result ≡ last_of self.now row };
+}
+
+/// Rows of `size` bytes each, of which the first has its last key, a number of 16 bits, at the byte `start`.
+#[derive(Clone, Copy, Debug)]
+pub struct Keys16<'a> {
+    /// The table.
+    pub table: &'a [u8],
+    /// Where the last key of the first row stands.
+    pub start: usize,
+    /// How many bytes a row has.
+    pub size: usize,
+}
+
+impl Rows for Keys16<'_> {
+    ghost use Rattle.font_tables.specs.Bytes.{number_16};
+    ghost use Rattle.std.specs.Prelude.{◌+◌, ◌*◌};
+
+    ghost last_of = { λ keys row. number_16 keys.table.now (keys.start + keys.size * row) };
+
+    #[tactic(auto, unfolding(crate::specs::Bytes::number_16))]
+    fn last(&self, row: usize) -> Option<u32> {
+        let at = self.start.saturating_add(self.size.saturating_mul(row));
+        if at < self.table.len() {
+            u16_at(self.table, at).map(u32::from)
+        } else {
+            None
+        }
+    }
 }
 
 /// Whether the first `count` rows lie in the table, each behind those whose last keys are lower.
@@ -32,7 +62,8 @@ pub fn rises<R: Rows>(rows: &R, count: usize) -> bool
 /// The first of `count` rows that reaches the key: by bisection where they rise, and else by a walk over them.
 pub fn first_row<R: Rows>(rows: &R, count: usize, key: u32, are_rising: bool) -> Option<usize>
     requires { IsTrue are_rising → Rises (R.last_of rows.now) count }
-    ensures { result ≡ first_row (R.last_of rows.now) key count }
+    ensures is { result ≡ first_row (R.last_of rows.now) key count }
+    ensures within { IfSome result (λ row. row < count) }
 {
     if are_rising {
         bisect(rows, count, key)
@@ -43,7 +74,8 @@ pub fn first_row<R: Rows>(rows: &R, count: usize, key: u32, are_rising: bool) ->
 
 /// The first of these rows that reaches the key, one after the other.
 fn walk<R: Rows>(rows: &R, count: usize, key: u32) -> Option<usize>
-    ensures { result ≡ first_row (R.last_of rows.now) key count }
+    ensures is { result ≡ first_row (R.last_of rows.now) key count }
+    ensures within { IfSome result (λ row. row < count) }
 {
     for row in 0..count {
         if reaches(rows, row, key) {
@@ -56,7 +88,8 @@ fn walk<R: Rows>(rows: &R, count: usize, key: u32) -> Option<usize>
 /// The first of these rows that reaches the key, by bisection.
 fn bisect<R: Rows>(rows: &R, count: usize, key: u32) -> Option<usize>
     requires { Rises (R.last_of rows.now) count }
-    ensures { result ≡ first_row (R.last_of rows.now) key count }
+    ensures is { result ≡ first_row (R.last_of rows.now) key count }
+    ensures within { IfSome result (λ row. row < count) }
 {
     let mut low = 0;
     let mut high = count;
