@@ -1,0 +1,49 @@
+//! The parts of a character that the font has glyphs for.
+
+ghost use Rattle.std.specs.Prelude.{◌≡◌, ◌+◌, ◌<◌, ◌≤◌, length, true, false};
+
+use crate::face::Face;
+use arrayvec::ArrayVec;
+use unicode_tables::decompose;
+
+/// How often a character is taken apart at most. No character of Unicode needs as many.
+pub(crate) const MOST_STEPS: usize = 8;
+
+/// Room for the parts of one character.
+pub(crate) type Parts = ArrayVec<char, 9>;
+
+/// Adds the parts of a character in at most so many steps, if the font has a glyph for each: the fewest parts that do
+/// where `shortest` holds, and else the most. Whether there are such parts; if not, nothing is added.
+pub(crate) fn add_parts(
+    parts: &mut Parts,
+    face: &Face,
+    character: char,
+    shortest: bool,
+    steps: usize,
+) -> bool
+    requires { length parts.old.items + steps < 9 }
+    ensures { length parts.new.items ≤ length parts.old.items + steps + 1 }
+{
+    if steps == 0 {
+        return false;
+    }
+    let Some((first, second)) = decompose(character) else {
+        return false;
+    };
+    if second.is_some_and(|second| !face.has_glyph(second)) {
+        return false;
+    }
+    let has_first = face.has_glyph(first);
+    if shortest && has_first {
+        parts.push(first);
+    } else if !add_parts(parts, face, first, shortest, steps - 1) {
+        if !has_first {
+            return false;
+        }
+        parts.push(first);
+    }
+    if let Some(second) = second {
+        parts.push(second);
+    }
+    true
+}
