@@ -3,6 +3,7 @@ pub mod ClassDefinition
 pub mod Coverage
 pub mod Directory
 pub mod Extents
+pub mod Gdef
 pub mod GlyphRanges
 pub mod Head
 pub mod MetricRows

@@ -9,6 +9,7 @@ pub mod class_definition;
 pub mod coverage;
 pub mod directory;
 pub mod extents;
+pub mod gdef;
 mod glyph_ranges;
 pub mod head;
 pub mod metrics;

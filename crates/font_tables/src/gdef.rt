@@ -1,0 +1,120 @@
+//! Classes of glyphs and sets of marks (OpenType specification, "GDEF - Glyph Definition Table").
+
+ghost use Rattle.std.specs.Prelude.{◌≡◌, ◌<◌, ◌+◌, ◌*◌, ℕ, unwrap_or};
+ghost use Rattle.font_tables.specs.Bytes.{number_16};
+ghost use Rattle.font_tables.specs.Gdef.{subtable, glyph_classes, mark_attachment_classes, mark_glyph_sets, set_in, props};
+
+use crate::bytes::{table_at_16, table_at_32, u16_at};
+use crate::class_definition::ClassDefinition;
+use crate::coverage::Coverage;
+use rb_common::GlyphId;
+
+/// A table `GDEF`, of version 1.
+#[derive(Clone, Copy, Debug)]
+pub struct Gdef<'a> {
+    /// The bytes of the table.
+    pub table: &'a [u8],
+    classes: ClassDefinition<'a>,
+    attachments: ClassDefinition<'a>,
+    sets: &'a [u8],
+    ghost has_classes: { classes.table.now ≡ glyph_classes table.now },
+    ghost has_attachments: { attachments.table.now ≡ mark_attachment_classes table.now },
+    ghost has_sets: { sets.now ≡ mark_glyph_sets table.now },
+}
+
+impl<'a> Gdef<'a> {
+    ghost use Rattle.font_tables.specs.Gdef.{has_glyph_classes, glyph_class, mark_attachment_class, mark_glyph_set};
+    ghost use Rattle.font_tables.specs.Gdef.{glyph_props};
+
+    /// The table `GDEF` in these bytes. One that is empty, or of another version, has each glyph in class 0 and no sets.
+    pub fn new(table: &'a [u8]) -> Self
+        ensures { result.table.now ≡ table.now }
+    {
+        Gdef {
+            table,
+            classes: ClassDefinition::new(subtable(table, 4)),
+            attachments: ClassDefinition::new(subtable(table, 10)),
+            sets: mark_glyph_sets(table),
+        }
+    }
+
+    /// Whether the table says that it has classes of glyphs. Where it does not, HarfBuzz takes them from the characters.
+    #[tactic(auto, unfolding(crate::specs::Gdef::has_glyph_classes))]
+    pub fn has_glyph_classes(&self) -> bool
+        ensures { result ≡ has_glyph_classes self.now.table.now }
+    {
+        matches!(u16_at(self.table, 0), Some(1)) && u16_at(self.table, 4).unwrap_or(0) != 0
+    }
+
+    /// The class of a glyph: 1 for a base, 2 for a ligature, 3 for a mark, 4 for a component, and 0 where it has none.
+    #[tactic(auto, unfolding(crate::specs::Gdef::glyph_class))]
+    pub fn glyph_class(&self, glyph: GlyphId) -> u16
+        ensures { result ≡ glyph_class self.now.table.now glyph.0 }
+    {
+        self.classes.class(glyph)
+    }
+
+    /// The class by which a lookup with a mark attachment type chooses marks; 0 where a glyph has none.
+    #[tactic(auto, unfolding(crate::specs::Gdef::mark_attachment_class))]
+    pub fn mark_attachment_class(&self, glyph: GlyphId) -> u16
+        ensures { result ≡ mark_attachment_class self.now.table.now glyph.0 }
+    {
+        self.attachments.class(glyph)
+    }
+
+    /// The set of marks that a lookup with a mark filtering set chooses: a glyph is in it where the coverage table covers
+    /// it. It is empty where there is no set with this number. Ask for it once for each lookup.
+    #[tactic(auto, unfolding(crate::specs::Gdef::mark_glyph_set))]
+    pub fn mark_glyph_set(&self, set: u16) -> Coverage<'a>
+        ensures { result.table.now ≡ mark_glyph_set self.now.table.now set }
+    {
+        Coverage::new(set_in(self.sets, set))
+    }
+
+    /// HarfBuzz's properties of a glyph, by its class: 2 for a base, 4 for a ligature, 8 for a mark, with the mark's
+    /// attachment class in the eight bits above, and else 0.
+    #[tactic(auto, unfolding(crate::specs::Gdef::glyph_props))]
+    pub fn glyph_props(&self, glyph: GlyphId) -> u16
+        ensures { result ≡ glyph_props self.now.table.now glyph.0 }
+    {
+        match self.glyph_class(glyph) {
+            1 => 2,
+            2 => 4,
+            3 => 8 + 256 * (self.mark_attachment_class(glyph) % 256),
+            _ => 0,
+        }
+    }
+}
+
+/// The subtable that the offset at a place leads to.
+fn subtable(gdef: &[u8], at: usize) -> &[u8]
+    ensures { result.now ≡ subtable gdef.now at }
+{
+    if matches!(u16_at(gdef, 0), Some(1)) {
+        table_at_16(gdef, at).unwrap_or(&[])
+    } else {
+        &[]
+    }
+}
+
+/// The sets of marks.
+fn mark_glyph_sets(gdef: &[u8]) -> &[u8]
+    ensures { result.now ≡ mark_glyph_sets gdef.now }
+{
+    if u16_at(gdef, 2).unwrap_or(0) >= 2 {
+        subtable(gdef, 12)
+    } else {
+        &[]
+    }
+}
+
+/// The coverage table of a set of marks.
+fn set_in(sets: &[u8], set: u16) -> &[u8]
+    ensures { result.now ≡ set_in sets.now set }
+{
+    if matches!(u16_at(sets, 0), Some(1)) && set < u16_at(sets, 2).unwrap_or(0) {
+        table_at_32(sets, 4 + 4 * usize::from(set)).unwrap_or(&[])
+    } else {
+        &[]
+    }
+}
