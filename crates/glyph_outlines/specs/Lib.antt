@@ -1,0 +1,2 @@
+pub mod Glyf
+pub mod Index
