@@ -1,0 +1,4 @@
+pub mod Glyf
+pub mod Index
+pub mod StandardStrings
+pub mod Charset
