@@ -1,60 +1,193 @@
 //! A font, as far as shaping asks it.
 
-use rb_common::GlyphId;
-use rb_glyph::{GlyphExtents, GlyphNames};
-use std::alloc::{AllocError, Global};
+ghost use Rattle.std.specs.Prelude.{◌≡◌, option_map, IsTrue, IsSome, ◌↔◌};
+ghost use Rattle.character_maps.specs.Codes.{glyph_index, glyph_variation_index};
+ghost use Rattle.font_tables.specs.Metrics.{advance};
 
-/// A font of a file.
+use character_maps::CharacterMap;
+use font_tables::bytes::u16_at;
+use font_tables::directory::Tables;
+use font_tables::extents::{FontExtents, horizontal_extents, long_metric_count};
+use font_tables::gdef::Gdef;
+use font_tables::head::{glyph_count, index_to_loc_format, units_per_em};
+use font_tables::metrics::Metrics;
+use font_tables::vertical_origins::VerticalOrigins;
+use glyph_outlines::glyf::GlyfTables;
+use rb_common::{GlyphId, Tag};
+
+/// A font of a file: what shaping asks of it, found once.
 #[derive(Clone, Copy, Debug)]
 pub struct Face<'a> {
-    data: &'a [u8],
+    /// The tables of the font.
+    pub tables: Tables<'a>,
+    /// How many font units make an em.
+    pub units_per_em: u16,
+    /// How many glyphs the font has.
+    pub glyph_count: u16,
+    /// The map from characters to glyphs.
+    pub characters: CharacterMap<'a>,
+    /// Advances and side bearings in horizontal lines.
+    pub horizontal: Metrics<'a>,
+    /// Advances and side bearings in vertical lines.
+    pub vertical: Metrics<'a>,
+    /// Whether the font says how far its glyphs move the pen in vertical lines.
+    pub has_vertical: bool,
+    /// Where glyphs stand in vertical lines.
+    pub origins: VerticalOrigins<'a>,
+    /// How far horizontal lines reach up and down.
+    pub extents: FontExtents,
+    /// The classes of the glyphs.
+    pub definitions: Gdef<'a>,
+    /// TrueType outlines.
+    pub outlines: GlyfTables<'a>,
+}
+
+/// The tag of four letters.
+fn tag(letters: &[u8; 4]) -> Tag {
+    Tag(u32::from_be_bytes(*letters))
 }
 
 impl<'a> Face<'a> {
     /// The font of this number in a file: 0 for a file that holds one font. `None` where the file has no such font.
-    pub fn from_slice(data: &'a [u8], _index: u32) -> Option<Face<'a>> {
-        if data.is_empty() {
-            None
+    pub fn from_slice(data: &'a [u8], index: u32) -> Option<Face<'a>> {
+        let tables = Tables::new(data, index)?;
+        let head = tables.table(tag(b"head"));
+        let units_per_em = units_per_em(head);
+        let glyph_count = glyph_count(tables.table(tag(b"maxp")));
+        let os2 = tables.table(tag(b"OS/2"));
+        let hhea = tables.table(tag(b"hhea"));
+        let vmtx = tables.table(tag(b"vmtx"));
+        let vhea = tables.table(tag(b"vhea"));
+        Some(Face {
+            tables,
+            units_per_em,
+            glyph_count,
+            characters: CharacterMap::parse(tables.table(tag(b"cmap")), font_page(os2)),
+            horizontal: Metrics::new(
+                tables.table(tag(b"hmtx")),
+                long_metric_count(hhea),
+                glyph_count,
+                units_per_em / 2,
+            ),
+            vertical: Metrics::new(vmtx, long_metric_count(vhea), glyph_count, units_per_em),
+            has_vertical: !vmtx.is_empty() && !vhea.is_empty(),
+            origins: VerticalOrigins::new(tables.table(tag(b"VORG"))),
+            extents: line_extents(os2, hhea, units_per_em),
+            definitions: Gdef::new(tables.table(tag(b"GDEF"))),
+            outlines: GlyfTables {
+                glyf: tables.table(tag(b"glyf")),
+                loca: tables.table(tag(b"loca")),
+                has_long_offsets: index_to_loc_format(head) != 0,
+                glyph_count,
+            },
+        })
+    }
+
+    /// How many font units make an em (OpenType specification, `head`).
+    pub fn units_per_em(&self) -> u16
+        ensures { result ≡ self.now.units_per_em }
+    {
+        self.units_per_em
+    }
+
+    /// How many glyphs the font has (OpenType specification, `maxp`).
+    pub fn number_of_glyphs(&self) -> u16
+        ensures { result ≡ self.now.glyph_count }
+    {
+        self.glyph_count
+    }
+
+    /// The glyph of a code point; `None` where the font has none (OpenType specification, `cmap`).
+    pub fn glyph_index(&self, character: u32) -> Option<GlyphId>
+        ensures { option_map (λ glyph. glyph.0) result
+            ≡ glyph_index self.now.characters.subtable.now self.now.characters.encoding character }
+    {
+        self.characters.glyph_index(character)
+    }
+
+    /// Whether the font has a glyph for a character.
+    pub fn has_glyph(&self, character: char) -> bool {
+        self.glyph_index(character as u32).is_some()
+    }
+
+    /// The glyph of a code point before a variation selector; `None` where the font does not have the two.
+    pub fn glyph_variation_index(&self, character: u32, selector: u32) -> Option<GlyphId>
+        ensures { option_map (λ glyph. glyph.0) result
+            ≡ glyph_variation_index self.now.characters.subtable.now self.now.characters.encoding self.now.characters.variations.now character selector }
+    {
+        self.characters.glyph_variation_index(character, selector)
+    }
+
+    /// How far a glyph moves the pen in horizontal lines, in font units.
+    pub fn glyph_hor_advance(&self, glyph: GlyphId) -> u16
+        ensures { result ≡ advance self.now.horizontal glyph.0 }
+    {
+        self.horizontal.advance(glyph)
+    }
+
+    /// How far a glyph moves the pen down in vertical lines, in font units: by the font's vertical metrics, or else by the
+    /// height of its lines.
+    pub fn glyph_ver_advance(&self, glyph: GlyphId) -> i32 {
+        if self.has_vertical {
+            i32::from(self.vertical.advance(glyph))
         } else {
-            Some(Face { data })
+            self.line_height()
         }
     }
 
-    /// How many font units make an em.
-    pub fn units_per_em(&self) -> u16 {
-        1000
+    /// Where a glyph's origin in vertical lines stands, in font units from its origin in horizontal ones.
+    pub fn vertical_origin(&self, glyph: GlyphId) -> (i32, i32) {
+        let x = i32::from(self.glyph_hor_advance(glyph) / 2);
+        (x, self.vertical_origin_y(glyph))
+    }
+
+    /// How far up a glyph's origin in vertical lines stands: by the table `VORG`, else by the top of its outline and its top
+    /// side bearing, or so that the outline stands in the middle of the line, else at the font's ascender.
+    fn vertical_origin_y(&self, glyph: GlyphId) -> i32 {
+        if let Some(y) = self.origins.y_origin(glyph) {
+            return i32::from(y);
+        }
+        let bearing = self.horizontal.side_bearing(glyph);
+        let Some(outline) = self.outlines.glyph_extents(glyph, bearing) else {
+            return self.extents.ascender;
+        };
+        match self.vertical.side_bearing(glyph) {
+            Some(bearing) => outline.y_bearing.wrapping_add(i32::from(bearing)),
+            None => {
+                let room = self.line_height().wrapping_add(outline.height);
+                outline.y_bearing.wrapping_add(room >> 1)
+            }
+        }
+    }
+
+    /// How high horizontal lines are.
+    fn line_height(&self) -> i32 {
+        self.extents
+            .ascender
+            .wrapping_sub(self.extents.descender)
     }
 }
 
-/// The names and the extents of a font's glyphs.
-#[derive(Drop)]
-pub struct FaceNames<'a> {
-    face: Face<'a>,
-    names: Vec<&'a str>,
-}
-
-impl<'a> FaceNames<'a> {
-    /// The names of the font's glyphs.
-    pub fn new(alloc: Global, face: &Face<'a>) -> Result<Self, AllocError> {
-        Ok(FaceNames {
-            face: *face,
-            names: Vec::new(alloc),
-        })
+/// The font page of a symbol font, which the high byte of the selection flags of the first version of `OS/2` names.
+fn font_page(os2: &[u8]) -> u16 {
+    match (u16_at(os2, 0), u16_at(os2, 62)) {
+        (Some(0), Some(selection)) => selection & 0xFF00,
+        _ => 0,
     }
 }
 
-impl<'a> GlyphNames for FaceNames<'a> {
-    ghost use Rattle.std.specs.Prelude.{None, option_map, slice_get};
-
-    ghost name_of = { λ s glyph. option_map (λ t. t.now) (slice_get s.names.items glyph) };
-
-    ghost extents_of = { λ _ _. None };
-
-    fn glyph_name(&self, glyph: GlyphId) -> Option<&str> {
-        self.names.get(usize::from(glyph.0)).copied()
-    }
-
-    fn glyph_extents(&self, _glyph: GlyphId) -> Option<GlyphExtents> {
-        None
+/// How far horizontal lines reach up and down. A font that does not say it has four fifths of an em above the baseline, and
+/// the rest below.
+fn line_extents(os2: &[u8], hhea: &[u8], units_per_em: u16) -> FontExtents {
+    match horizontal_extents(os2, hhea) {
+        Some(extents) => extents,
+        None => {
+            let em = i32::from(units_per_em);
+            let ascender = em * 4 / 5;
+            FontExtents {
+                ascender,
+                descender: ascender - em,
+            }
+        }
     }
 }

@@ -1,8 +1,16 @@
 //! A font, and the shaping of texts by it.
 #![tactic(auto)]
 
+mod ending;
 mod face;
+mod glyph_info;
+mod names;
+mod normalization;
+mod positions;
+mod rotation;
 mod shaping;
+mod text;
 
-pub use face::{Face, FaceNames};
+pub use face::Face;
+pub use names::FaceNames;
 pub use shaping::{ShapeError, shape};

@@ -124,12 +124,15 @@ pub(crate) fn form_clusters(buffer: &mut hb_buffer_t)
     }
     let merges = buffer.cluster_level == HB_BUFFER_CLUSTER_LEVEL_MONOTONE_GRAPHEMES;
     let mut start = 0;
-    while start < buffer.len() {
+    for _turn in 0..buffer.len() {
+        if start >= buffer.len() {
+            break;
+        }
         let end = buffer.group_end(start, is_same_grapheme);
         if merges {
             buffer.merge_clusters(start, end);
         } else {
-            buffer.unsafe_to_break(start, end);
+            buffer.unsafe_to_break(Some(start), Some(end));
         }
         start = end;
     }

@@ -14,6 +14,7 @@ pub(crate) type Parts = ArrayVec<char, 9>;
 
 /// Adds the parts of a character in at most so many steps, if the font has a glyph for each: the fewest parts that do
 /// where `shortest` holds, and else the most. Whether there are such parts; if not, nothing is added.
+#[cycle(parts)]
 pub(crate) fn add_parts(
     parts: &mut Parts,
     face: &Face,
@@ -22,7 +23,8 @@ pub(crate) fn add_parts(
     steps: usize,
 ) -> bool
     requires { length parts.old.items + steps < 9 }
-    ensures { length parts.new.items ≤ length parts.old.items + steps + 1 }
+    ensures most { length parts.new.items ≤ length parts.old.items + steps + 1 }
+    ensures none { result ≡ false → parts.new.items ≡ parts.old.items }
 {
     if steps == 0 {
         return false;
@@ -30,20 +32,41 @@ pub(crate) fn add_parts(
     let Some((first, second)) = decompose(character) else {
         return false;
     };
-    if second.is_some_and(|second| !face.has_glyph(second)) {
+    if second.is_some_and(|second| !face.has_glyph(second))
+        || !add_first(parts, face, first, shortest, steps)
+    {
         return false;
-    }
-    let has_first = face.has_glyph(first);
-    if shortest && has_first {
-        parts.push(first);
-    } else if !add_parts(parts, face, first, shortest, steps - 1) {
-        if !has_first {
-            return false;
-        }
-        parts.push(first);
     }
     if let Some(second) = second {
         parts.push(second);
     }
     true
+}
+
+/// Adds the first part of a character, or the parts of that.
+#[cycle(parts)]
+fn add_first(
+    parts: &mut Parts,
+    face: &Face,
+    first: char,
+    shortest: bool,
+    steps: usize,
+) -> bool
+    requires some { 0 < steps }
+    requires room { length parts.old.items + steps < 9 }
+    ensures most { length parts.new.items ≤ length parts.old.items + steps }
+    ensures none { result ≡ false → parts.new.items ≡ parts.old.items }
+{
+    let has_first = face.has_glyph(first);
+    if shortest && has_first {
+        parts.push(first);
+        return true;
+    }
+    if add_parts(parts, face, first, shortest, steps - 1) {
+        return true;
+    }
+    if has_first {
+        parts.push(first);
+    }
+    has_first
 }

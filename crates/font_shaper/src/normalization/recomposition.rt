@@ -93,11 +93,12 @@ fn compose_current(
         return Ok(false);
     }
     let end = buffer.out_len();
-    if end == 0 || starter >= end {
+    if starter > end {
         return Ok(false);
     }
     buffer.merge_out_clusters(starter, end);
-    if !buffer.move_to(end - 1)? || buffer.lookahead_len() == 0 {
+    let count = buffer.out_len();
+    if count == 0 || !buffer.move_to(count - 1)? || buffer.lookahead_len() == 0 {
         return Ok(false);
     }
     buffer.skip_glyph();

@@ -1,0 +1,5 @@
+use Rattle.std.proofs.Common.{◌≡◌, true}
+use Rattle.font_shaper.proofs.normalization.recomposition.recompose_all.Given as goal
+
+abbrev pub invariant-loop-turn : goal.invariant-loop-turn
+invariant-loop-turn l = l.buffer.have_output ≡ true
