@@ -4,8 +4,10 @@ pub mod Coverage
 pub mod Directory
 pub mod Extents
 pub mod Gdef
+pub mod GlyphNames
 pub mod GlyphRanges
 pub mod Head
+pub mod MacintoshNames
 pub mod MetricRows
 pub mod Metrics
 pub mod Rows
