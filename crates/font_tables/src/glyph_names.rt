@@ -63,7 +63,7 @@ impl<'a> PostNames<'a> {
     /// The bytes of a glyph's name, in time that does not grow with the number of names; `None` where the font does not
     /// name it. By the specification names are ASCII.
     #[tactic(auto, unfolding(crate::specs::GlyphNames::glyph_name))]
-    pub fn name(&self, glyph: GlyphId) -> Option<&[u8]>
+    pub fn name(&self, glyph: GlyphId) -> Option<&'a [u8]>
         ensures { option_copied result ≡ glyph_name self.now.table.now glyph.0 }
     {
         match self.version {
@@ -78,7 +78,7 @@ impl<'a> PostNames<'a> {
     }
 
     /// The name of a number.
-    fn name_of(&self, number: u16) -> Option<&[u8]>
+    fn name_of(&self, number: u16) -> Option<&'a [u8]>
         ensures { option_copied result ≡ name_of (own_names self.now.table.now) number }
     {
         if number < 258 {
