@@ -7,6 +7,7 @@ pub mod Gdef
 pub mod GlyphNames
 pub mod GlyphRanges
 pub mod Head
+pub mod IgnoredGdef
 pub mod MacintoshNames
 pub mod MetricRows
 pub mod Metrics

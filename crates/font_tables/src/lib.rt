@@ -13,6 +13,7 @@ pub mod gdef;
 pub mod glyph_names;
 mod glyph_ranges;
 pub mod head;
+pub mod ignored_gdef;
 mod macintosh_names;
 pub mod metrics;
 pub mod rows;

@@ -1,6 +1,7 @@
 use font_tables::class_definition::ClassDefinition;
 use font_tables::coverage::Coverage;
 use font_tables::gdef::Gdef;
+use font_tables::ignored_gdef::is_ignored;
 use rb_common::GlyphId;
 
 /// The specification's example of a coverage table of format 1.
@@ -105,4 +106,18 @@ fn gdef_has_sets_of_marks(rt: HostRuntime) {
     let gdef = Gdef::new(&GDEF);
     assert!(rt; gdef.mark_glyph_set(0).index(GlyphId(3)) == Some(0));
     assert!(rt; gdef.mark_glyph_set(1).index(GlyphId(3)) == None);
+}
+
+/// Sizes of `GDEF`, `GSUB` and `GPOS`, and whether HarfBuzz ignores the first: the second is that of Tahoma of Windows 8.
+static SIZES: [([usize; 3], bool); 3] = [
+    ([442, 2874, 42038], true),
+    ([898, 12554, 46470], true),
+    ([898, 12554, 46471], false),
+];
+
+#[test]
+fn a_wrong_gdef_is_ignored(rt: HostRuntime) {
+    for &([gdef, gsub, gpos], ignored) in &SIZES {
+        assert!(rt; is_ignored(gdef, gsub, gpos) == ignored);
+    }
 }
