@@ -1,7 +1,7 @@
 -- The first number below a bound that passes a test, and rows that rise.
-use Rattle.std.proofs.Common.{◌≡◌, ℕ, zero, suc, ◌+◌, ◌<◌, Bool, true, false, Option, Some, None, refl, arith, subst, inl, inr}
+use Rattle.std.proofs.Common.{◌≡◌, ℕ, zero, suc, ◌<◌, Bool, true, false, Some, None, refl, arith, subst, inl, inr}
 use Rattle.std.proofs.lemmas.Bool.{cases_lt}
-use Rattle.font_tables.specs.Rows.{first_below, reaches, Rises}
+use Rattle.font_tables.specs.Rows.{first_below}
 
 -- no number below `n` passes the test
 pub record NoneBelow (test : ℕ → Bool) (n : ℕ) : Type 0 where
@@ -25,15 +25,3 @@ first_below-some test (suc n) i less passes none =
           let now = subst (λ k. test k ≡ true) here passes in
           rw (before, now, here) refl
     ]
-
-not_true : (b : Bool) → (b ≡ true → ⊥) → b ≡ false
-not_true true not = absurd (not refl)
-not_true false not = refl
-
--- a row that does not reach the key has none before it that does
-pub none_before : (last : ℕ → Option ℕ) (key n m : ℕ) → Rises last n → m < n → reaches last key m ≡ false
-    → NoneBelow (reaches last key) (m + 1)
-none_before last key n m rise within fails = record {
-  fails = λ j below. not_true (reaches last key j)
-      (λ is. let there = rise j m key (omega arith) within is in cc);
-}

@@ -4,8 +4,11 @@ pub mod Coverage
 pub mod Directory
 pub mod Extents
 pub mod Gdef
+pub mod GlyphNames
 pub mod GlyphRanges
 pub mod Head
+pub mod IgnoredGdef
+pub mod MacintoshNames
 pub mod MetricRows
 pub mod Metrics
 pub mod Rows
