@@ -1,4 +1,4 @@
-//! Tests of the crates that read fonts, over small tables, as in the `tests/` folder of a Rust crate.
+//! Tests of the crates that read fonts, over what they make public, as in the `tests/` folder of a Rust crate.
 #![tactic(auto)]
 
 #[cfg(test)]
