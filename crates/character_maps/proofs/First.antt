@@ -9,8 +9,8 @@ module _ (bs : List ℕ) (es : List (ℕ × ℕ)) (i : ℕ) where
   abbrev here : ℕ × ℕ
   here = get_or es i (0, 0)
 
-  next : i < length es
-      → first_subtable bs (drop i es) ≡ option_or (subtable_of bs here.0 (Some here.1)) (first_subtable bs (drop (i + 1) es))
+  next : i < length es → first_subtable bs (drop i es)
+      ≡ option_or (subtable_of bs here.0 (Some here.1)) (first_subtable bs (drop (i + 1) es))
   unfolding first_subtable
   next within = rw (drop-cons es i (0, 0), add-one) refl
 

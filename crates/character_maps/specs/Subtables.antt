@@ -42,7 +42,7 @@ segment_end bs row = number_16 bs (14 + 2 * row)
 unfoldable pub number_of_list : List ℕ → ℕ → ℕ → Option ℕ
 number_of_list bs list place = number_16 bs (16 + list * (2 * segment_count bs) + 2 * place)
 
--- the glyph so far behind the range offset of a row, which lies behind all the range offsets
+-- the glyph that stands so many places behind the range offset of a row: behind all of the range offsets
 unfoldable pub glyph_behind_range_offset : List ℕ → ℕ → ℕ → Option ℕ
 glyph_behind_range_offset bs row distance =
     if nat_lt (row + distance) (segment_count bs) then None else number_of_list bs 3 (row + distance)
@@ -51,8 +51,8 @@ glyph_behind_range_offset bs row distance =
 abbrev pub with_delta : ℕ → ℕ → Option ℕ
 with_delta delta number = some_glyph ((number + delta) % 65536)
 
--- a code is its own glyph where the range offset is 0; else the glyph stands half that number of places behind the range
--- offset, and one place more for each code behind the start. To either the delta is added
+-- a code is its own glyph where the range offset is 0. Else the glyph stands half that number of places behind the
+-- range offset, and one place more for each code behind the start. To either the delta is added
 unfoldable pub glyph_in_segment : List ℕ → ℕ → ℕ → ℕ → ℕ → ℕ → Option ℕ
 glyph_in_segment bs code row start delta offset =
     if nat_lt code start then None

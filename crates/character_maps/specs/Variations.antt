@@ -22,8 +22,8 @@ selector_count bs = unwrap_or (number_32 bs 6) 0
 abbrev pub selector_at : List ℕ → ℕ → Option ℕ
 selector_at bs row = number_24 bs (10 + 11 * row)
 
--- the tables that a row leads to, which are empty where it leads nowhere: the characters that keep their glyph under the
--- selector, and those that have another
+-- the tables that a row leads to, which are empty where it leads nowhere: the characters that keep their glyph before
+-- the selector, and those that have another glyph there
 unfoldable pub default_characters : List ℕ → ℕ → List ℕ
 default_characters bs row = unwrap_or (table_at_32 bs (13 + 11 * row)) []
 
@@ -40,7 +40,8 @@ abbrev pub range_start : List ℕ → ℕ → Option ℕ
 range_start bs row = number_24 bs (4 + 4 * row)
 
 unfoldable pub range_end : List ℕ → ℕ → Option ℕ
-range_end bs row = option_and_then (λ start. option_map (λ more. start + more) (byte_at bs (7 + 4 * row))) (range_start bs row)
+range_end bs row =
+    option_and_then (λ start. option_map (λ more. start + more) (byte_at bs (7 + 4 * row))) (range_start bs row)
 
 unfoldable pub range_count : List ℕ → ℕ
 range_count bs = rows_declared bs 4
@@ -53,8 +54,8 @@ starts_by key (Some start) = nat_le start key
 -- the first range that reaches the character holds it, if it starts at or before it
 unfoldable pub in_ranges : List ℕ → ℕ → Bool
 in_ranges bs character =
-    option_map_or (λ row. starts_by character (range_start bs row)) (first_row (range_end bs) character (range_count bs))
-    false
+    option_map_or (λ row. starts_by character (range_start bs row))
+    (first_row (range_end bs) character (range_count bs)) false
 
 -- characters, with a glyph for each
 abbrev pub mapped_at : List ℕ → ℕ → Option ℕ
@@ -73,7 +74,7 @@ abbrev pub found_glyph : Option ℕ → GlyphVariant
 found_glyph None = NotFound
 found_glyph (Some glyph) = Found (record { 0 = glyph })
 
--- the glyph of a character under the selector of a row
+-- the glyph of a character before the selector of a row
 unfoldable pub variant_in_row : List ℕ → ℕ → ℕ → GlyphVariant
 variant_in_row bs character row =
     if in_ranges (default_characters bs row) character then UseDefault

@@ -1,37 +1,15 @@
 //! Which subtable of `cmap` is used (OpenType specification, `cmap`, "Encoding records"), as HarfBuzz chooses it.
 
-ghost use Rattle.std.specs.Prelude.{◌≡◌, ◌<◌, ◌^◌, IfSome, unwrap_or};
+ghost use Rattle.std.specs.Prelude.{◌≡◌, ◌<◌, IfSome};
 ghost use Rattle.std.specs.Option.{option_copied};
-ghost use Rattle.font_tables.specs.Bytes.{number_16, number_32};
 ghost use Rattle.font_tables.specs.Rows.{first_below};
 ghost use Rattle.character_maps.specs.Choice.{bytes_declared, within_length, whole_subtable, record_count};
 ghost use Rattle.character_maps.specs.Choice.{is_record_of, subtable_of, first_subtable, symbol_encoding};
 ghost use Rattle.character_maps.specs.Choice.{chosen_subtable, chosen_encoding, variation_subtable};
 
 use crate::codes::Encoding;
-use font_tables::bytes::{part, table_at_32, u16_at, u32_at};
-
-/// A number of 16 bits that counts rows, as a size; 0 where it lies outside of the table.
-fn count_16(table: &[u8], place: usize) -> usize
-    ensures is { result ≡ unwrap_or (number_16 table.now place) 0 }
-    ensures small { result < 65536 }
-{
-    match u16_at(table, place) {
-        Some(count) => usize::from(count),
-        None => 0,
-    }
-}
-
-/// A number of 32 bits that counts rows, as a size; 0 where it lies outside of the table.
-fn count_32(table: &[u8], place: usize) -> usize
-    ensures is { result ≡ unwrap_or (number_32 table.now place) 0 }
-    ensures small { result < 2 ^ 32 }
-{
-    match u32_at(table, place) {
-        Some(count) => count as usize,
-        None => 0,
-    }
-}
+use crate::counts::{count_16, count_32};
+use font_tables::bytes::{part, table_at_32, u16_at};
 
 /// How many bytes a subtable of a format has at least: its numbers, and the rows that they declare.
 #[tactic(auto, unfolding(crate::specs::Choice::bytes_declared))]

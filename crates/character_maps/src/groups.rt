@@ -7,6 +7,7 @@ ghost use Rattle.character_maps.specs.Subtables.{group_count, group_end, glyph_i
 ghost use Rattle.character_maps.specs.Subtables.{groups_glyph};
 
 use crate::arrays::some_glyph;
+use crate::counts::count_32;
 use font_tables::bytes::u32_at;
 use font_tables::rows::{Rows, first_row, rises};
 
@@ -34,10 +35,7 @@ impl Rows for Groups<'_> {
 fn group_count(table: &[u8]) -> usize
     ensures { result ≡ group_count table.now }
 {
-    match u32_at(table, 12) {
-        Some(count) => count as usize,
-        None => 0,
-    }
+    count_32(table, 12)
 }
 
 /// Whether the groups' last codes rise.

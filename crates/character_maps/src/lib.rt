@@ -1,12 +1,13 @@
 //! The map from characters to glyphs of an OpenType font (table `cmap`), total over any bytes.
 //!
-//! A font may have many subtables. One is chosen as HarfBuzz chooses it, and asked for the glyph of a character; another
-//! says which glyphs variation sequences have.
+//! A font may have several subtables. One is chosen, as HarfBuzz chooses it, and gives the glyphs of characters; another
+//! one says what glyphs variation sequences have.
 #![tactic(auto)]
 
 mod arrays;
 mod choice;
 pub mod codes;
+mod counts;
 mod groups;
 mod legacy_codes;
 pub mod map;

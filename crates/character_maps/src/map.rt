@@ -29,11 +29,13 @@ pub struct CharacterMap<'a> {
 }
 
 impl<'a> CharacterMap<'a> {
-    /// The map of a font by its table `cmap`, and by the font page of its table `OS/2` (the high byte of `fsSelection` of
-    /// version 0, with a low byte of 0; else 0), which says what the codes of a symbol font are.
+    /// The map of a font, from its table `cmap`.
     ///
-    /// What a font does not have, or has cut short, is not there. The choice is HarfBuzz's: symbols, then Unicode,
-    /// then the Macintosh's own encodings.
+    /// `font_page` says what the codes of a symbol font are: `fsSelection & 0xFF00` of a table `OS/2` of version 0, and 0
+    /// for any other font.
+    ///
+    /// One subtable is chosen, as HarfBuzz chooses it: symbols, then all of Unicode, then its first 65,536 characters, and
+    /// then the Macintosh's encodings. A subtable that does not lie whole in the table is not there.
     pub fn parse(cmap: &'a [u8], font_page: u16) -> Self
         ensures subtable { result.subtable.now ≡ chosen_subtable cmap.now }
         ensures encoding { result.encoding ≡ chosen_encoding cmap.now font_page }
@@ -78,7 +80,8 @@ impl<'a> CharacterMap<'a> {
         glyph_variant(self.variations, character, selector, self.variations_rise)
     }
 
-    /// The glyph of a character before a variation selector; `None` where the font does not have the variation sequence.
+    /// The glyph of a character before a variation selector; `None` where the font does not have that variation
+    /// sequence, or no glyph for it.
     #[tactic(auto, unfolding(crate::specs::Codes::glyph_variation_index))]
     pub fn glyph_variation_index(&self, character: u32, selector: u32) -> Option<GlyphId>
         ensures { option_map (λ glyph. glyph.0) result

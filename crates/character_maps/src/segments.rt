@@ -8,6 +8,7 @@ ghost use Rattle.character_maps.specs.Subtables.{number_of_list, glyph_behind_ra
 ghost use Rattle.character_maps.specs.Subtables.{glyph_in_segment, segment_glyph, segments_glyph};
 
 use crate::arrays::some_glyph;
+use crate::counts::count_16;
 use font_tables::bytes::u16_at;
 use font_tables::rows::{Rows, first_row, rises};
 
@@ -36,10 +37,7 @@ fn segment_count(table: &[u8]) -> usize
     ensures is { result ≡ segment_count table.now }
     ensures small { result < 32768 }
 {
-    match u16_at(table, 6) {
-        Some(twice) => usize::from(twice / 2),
-        None => 0,
-    }
+    count_16(table, 6) / 2
 }
 
 /// Whether the segments' ends rise.

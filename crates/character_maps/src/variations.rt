@@ -12,7 +12,8 @@ ghost use Rattle.character_maps.specs.Variations.{variant_in_row, glyph_variant}
 ghost use Rattle.character_maps.specs.Rising.{VariationsRise};
 
 use crate::arrays::some_glyph;
-use font_tables::bytes::{table_at_32, u8_at, u16_at, u24_at, u32_at};
+use crate::counts::count_32;
+use font_tables::bytes::{table_at_32, u8_at, u16_at, u24_at};
 use font_tables::rows::{Rows, first_row, rises};
 use rb_common::GlyphId;
 
@@ -116,13 +117,10 @@ fn selector_count(table: &[u8]) -> usize
     ensures is { result ≡ selector_count table.now }
     ensures small { result < 2 ^ 32 }
 {
-    match u32_at(table, 6) {
-        Some(count) => count as usize,
-        None => 0,
-    }
+    count_32(table, 6)
 }
 
-/// The characters that keep their glyph under the selector of a row.
+/// The characters that keep their glyph before the selector of a row.
 #[tactic(auto, unfolding(crate::specs::Variations::default_characters))]
 fn default_characters(table: &[u8], row: usize) -> &[u8]
     requires { row < 2 ^ 32 }
@@ -134,7 +132,7 @@ fn default_characters(table: &[u8], row: usize) -> &[u8]
     }
 }
 
-/// The characters that have another glyph under the selector of a row.
+/// The characters that have another glyph before the selector of a row.
 #[tactic(auto, unfolding(crate::specs::Variations::own_glyphs))]
 fn own_glyphs(table: &[u8], row: usize) -> &[u8]
     requires { row < 2 ^ 32 }
@@ -153,9 +151,11 @@ fn rows_declared(table: &[u8], size: usize) -> usize
     ensures is { result ≡ rows_declared table.now size }
     ensures small { result < 2 ^ 32 }
 {
-    match u32_at(table, 0) {
-        Some(count) if 4 + size * count as usize <= table.len() => count as usize,
-        _ => 0,
+    let count = count_32(table, 0);
+    if 4 + size * count <= table.len() {
+        count
+    } else {
+        0
     }
 }
 
@@ -261,7 +261,7 @@ fn glyph_of_row(mappings: &[u8], row: usize) -> Option<u16>
     some_glyph(u64::from(number))
 }
 
-/// The glyph of a character under the selector of a row.
+/// The glyph of a character before the selector of a row.
 #[tactic(auto, unfolding(crate::specs::Variations::variant_in_row))]
 fn variant_in_row(table: &[u8], character: u32, row: usize, are_rising: bool) -> GlyphVariant
     requires row { row < selector_count table.now }

@@ -2,4 +2,5 @@
 #![tactic(auto)]
 
 #[cfg(test)]
+mod characters;
 mod tables;
