@@ -2,6 +2,9 @@
 #![tactic(auto)]
 
 pub mod charset;
+pub mod dict;
+pub mod font_dicts;
 pub mod glyf;
 pub mod index;
+pub mod operand;
 pub mod standard_strings;
