@@ -11,9 +11,13 @@ range_end bs row = number_16 bs (6 + 3 * row)
 abbrev pub range_with : List ℕ → ℕ → Option ℕ
 range_with bs glyph = first_row (range_end bs) (glyph + 1) (unwrap_or (number_16 bs 1) 0)
 
+-- the number of the Font DICT that ranges give a glyph
+unfoldable pub ranged_dict : List ℕ → ℕ → Option ℕ
+ranged_dict bs glyph = option_and_then (λ row. byte_at bs (5 + 3 * row)) (range_with bs glyph)
+
 -- the number of a glyph's Font DICT: one for each glyph, or one for each range
 unfoldable pub font_dict_of : List ℕ → ℕ → Option ℕ
 font_dict_of bs glyph =
     option_and_then (λ format. if format == 0 then byte_at bs (1 + glyph)
-    else if format == 3 then option_and_then (λ row. byte_at bs (5 + 3 * row)) (range_with bs glyph) else None)
+    else if format == 3 then ranged_dict bs glyph else None)
     (byte_at bs 0)

@@ -4,3 +4,4 @@ pub mod StandardStrings
 pub mod Charset
 pub mod Operand
 pub mod FontDicts
+pub mod Subroutines

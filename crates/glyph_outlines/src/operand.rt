@@ -17,11 +17,13 @@ pub fn number(code: &[u8]) -> Option<i16>
         32..=246 => Some(i16::from(first) - 139),
         247..=250 => {
             let second = u8_at(code, 1)?;
-            Some(i16::from(first - 247) * 256 + i16::from(second) + 108)
+            let size = u16::from(first - 247) * 256 + u16::from(second) + 108;
+            Some(size as i16)
         }
         251..=254 => {
             let second = u8_at(code, 1)?;
-            Some(-(i16::from(first - 251) * 256) - i16::from(second) - 108)
+            let size = u16::from(first - 251) * 256 + u16::from(second) + 108;
+            Some(-(size as i16))
         }
         _ => None,
     }
