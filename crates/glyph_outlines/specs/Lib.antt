@@ -5,3 +5,6 @@ pub mod Charset
 pub mod Operand
 pub mod FontDicts
 pub mod Subroutines
+pub mod StandardEncoding
+pub mod Cff
+pub mod Outlines
