@@ -60,16 +60,6 @@ def font(tables, version=b"\0\1\0\0"):
     return bytes(made)
 
 
-def tables_of(data):
-    """The rows of a font's directory: tag, place and length of each table, as they are written."""
-    start = struct.unpack_from(">I", data, 12)[0] if data[:4] == b"ttcf" else 0
-    [count] = struct.unpack_from(">H", data, start + 4)
-    return [(data[at:at + 4], *struct.unpack_from(">II", data, at + 8)) for at in range(start + 12, start + 12 + 16 * count, 16)]
-
-
-# ---- characters
-
-
 def segments(by_code):
     """Runs of code points whose glyphs follow each other too: first, last, glyph of the first."""
     found = []
