@@ -3,7 +3,10 @@
 import struct
 
 # The number of a glyph's name where the format has one, and of the first that a font adds.
-STANDARD = {".notdef": 0, "space": 1, "acute": 125, **{chr(65 + at): 34 + at for at in range(26)}, **{chr(97 + at): 66 + at for at in range(26)}}
+STANDARD = {
+    ".notdef": 0, "space": 1, "acute": 125,
+    **{chr(65 + at): 34 + at for at in range(26)}, **{chr(97 + at): 66 + at for at in range(26)},
+}
 FIRST_OWN = 391
 
 OPERATORS = {

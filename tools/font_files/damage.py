@@ -6,7 +6,8 @@ NUMBERS = [0, 0, 1, 2, 3, 0xFF, 0x100, 0x7FFF, 0x8000, 0xFFFE, 0xFFFF, 0xFFFF]
 LONG_NUMBERS = [0, 1, 0xFF, 0xFFFF, 0x10000, 0x7FFFFFFF, 0x80000000, 0xFFFFFFFE, 0xFFFFFFFF]
 
 # Tables that most of the damage is done to.
-OF_SHAPING = "GSUB GSUB GPOS GPOS GDEF cmap CFF  kern glyf loca hmtx hhea maxp head post vmtx vhea VORG OS/2 fvar morx kerx".split(" ")
+OF_SHAPING = [tag.ljust(4) for tag in (
+    "GSUB GPOS GDEF cmap CFF kern glyf loca hmtx hhea maxp head post vmtx vhea VORG OS/2 fvar morx kerx").split()]
 
 
 def put(data, at, value, size):
@@ -14,9 +15,9 @@ def put(data, at, value, size):
 
 
 def place_in(rng, data, rows):
-    """A place in a table, as often as not near its start."""
-    chosen = [row for tag, row in rows.items() if tag in OF_SHAPING or rng.random() < 0.1] or list(rows.values()) or [(0, len(data))]
-    start, length = rng.choice(chosen)
+    """A place in a table, mostly in one of shaping, and mostly near its start."""
+    chosen = [row for tag, row in rows.items() if tag in OF_SHAPING or rng.random() < 0.1]
+    start, length = rng.choice(chosen or list(rows.values()) or [(0, len(data))])
     reach = min(length, rng.choice([16, 64, 256, 1024, length]))
     return start + rng.randrange(max(1, reach)), start
 
@@ -77,7 +78,7 @@ def table(rng, data, rows):
         case 2:
             data[row + 8:row + 16], data[other + 8:other + 16] = data[other + 8:other + 16], data[row + 8:row + 16]
         case 3:
-            data[row:row + 4] = rng.choice(OF_SHAPING).ljust(4).encode()[:4]
+            data[row:row + 4] = rng.choice(OF_SHAPING).encode()
         case 4:
             put(data, start - 8, rng.choice([0, count - 1, count + 1, 0xFFFF]), 2)
 

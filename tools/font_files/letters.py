@@ -115,7 +115,8 @@ def positions():
     classes = lay.pairs_of_classes(glyphs("T V W"), {g("T"): 1, g("V"): 2, g("W"): 2}, {g("a"): 1, g("e"): 1, g("o"): 2}, [
         [[0], [0], [0]], [[0], [-40], [-60]], [[0], [-30], [-35]]], X_ADVANCE)
     both = lay.pairs_of_glyphs({g("m"): {g("n"): [-30, 15, 30]}}, X_ADVANCE, X_PLACEMENT | X_ADVANCE)
-    both_by_class = lay.pairs_of_classes(glyphs("m"), {g("n"): 1}, {g("n"): 1}, [[[-5, 5], [-7, 7]], [[0, 0], [0, 0]]], X_ADVANCE, X_ADVANCE)
+    both_by_class = lay.pairs_of_classes(
+        glyphs("m"), {g("n"): 1}, {g("n"): 1}, [[[-5, 5], [-7, 7]], [[0, 0], [0, 0]]], X_ADVANCE, X_ADVANCE)
     by_size = {g(name): [0, *lay.offsets(lay.device(12, [1, -2], form))] for form, name in enumerate("abc", 1)}
     made = [
         lay.lookup(1, 0, lay.one_value(glyphs("a b"), X_PLACEMENT | X_ADVANCE, [10, 20])),

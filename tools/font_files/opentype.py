@@ -1,6 +1,7 @@
 """Tables of OpenType fonts, written as the specification lays them out, and the file around them.
 
-`table` takes numbers of 16 bits, bytes, and `Offset`s. Each table that an offset leads to is laid down after the one that names it.
+`table` takes numbers of 16 bits, bytes, and `Offset`s. Each table that an offset leads to is laid down after the one that names
+it.
 """
 
 import struct

@@ -1,4 +1,4 @@
-"""What a tool has to know of a font: where its tables lie, which characters it maps, which features it has. Broken parts are passed over."""
+"""What a tool has to know of a font: where its tables lie, its characters and its features. Broken parts are passed over."""
 
 import struct
 

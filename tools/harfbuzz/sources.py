@@ -1,7 +1,7 @@
 """What the tools of this folder share: HarfBuzz 10's source and what is built of it, and packages of Debian.
 
-All is kept in the folder `vukhaso-harfbuzz` for temporary files, and fetched where it is missing. Packages are fetched with package
-lists of their own and unpacked there: the machine's lists stay as they are, and nothing is installed.
+All is kept in the folder `vukhaso-harfbuzz` for temporary files, and fetched where it is missing. Packages are fetched with
+package lists of their own and unpacked there: the machine's lists stay as they are, and nothing is installed.
 """
 
 import os
