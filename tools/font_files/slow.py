@@ -117,9 +117,9 @@ def extends_itself():
 
 def many_marks():
     on_bases = lay.marks_on({g("acute"): (0, lay.anchor(0, 0))}, {g("a"): [lay.anchor(1, 1)]})
-    positions = {"GPOS": layout(shared(300, lay.lookup(4, 0, on_bases)), ["mark"])}
+    positions = {"GPOS": layout(shared(100, lay.lookup(4, 0, on_bases)), ["mark"])}
     classes = {"GDEF": lay.gdef({g("a"): 1, g("acute"): 3}, {g("acute"): 1}, [glyphs("acute")])}
-    return font({**positions, **classes}), "x" + "\u0301" * 1500, []
+    return font({**positions, **classes}), "x" + "\u0301" * 600, []
 
 
 def long_cursive():
@@ -130,7 +130,7 @@ def long_cursive():
 
 def many_kern_tables():
     subtable = numbers(0, 14 + 6, 1, 1, 6, 0, 0, g("a"), g("b"), 1)
-    return font({"kern": numbers(0, 3000) + subtable * 3000}), "ab" * 100, []
+    return font({"kern": numbers(0, 3000) + subtable * 3000}), "ab" * 30, []
 
 
 def many_groups():
@@ -150,7 +150,7 @@ def charstrings(text, shared_routines, own):
 def routines_of_routines():
     """Each subroutine calls the next one 50 times."""
     own = [f"{f'{at + 1 - 107} callsubr ' * 50}return" for at in range(9)] + ["1 1 rlineto return"]
-    return charstrings("0 0 rmoveto -107 callsubr endchar", [], own), "a" * 20, ["--show-extents"]
+    return charstrings("0 0 rmoveto -107 callsubr endchar", [], own), "a" * 4, ["--show-extents"]
 
 
 def routine_calls_itself():

@@ -32,6 +32,8 @@ class Batch:
 
 @dataclass(frozen=True)
 class Difference:
+    """A line with both answers, or with no line how both programs ended."""
+
     batch: Batch
     line: str
     ours: str
@@ -40,31 +42,31 @@ class Difference:
     def show(self, programs=()):
         """Prints it, and the command that shows it with some programs."""
         unicodes = ",".join(f"U+{ord(character):04X}" for character in self.line)
-        print(f"{self.batch.font.name}, {unicodes}\n    ours   {self.ours}\n    theirs {self.theirs}")
+        print(f"{self.batch.font.name}, {unicodes or 'a run'}\n    ours   {self.ours}\n    theirs {self.theirs}")
         for program in programs:
             print(f"    {shlex.join([*self.batch.command(program), '--unicodes', unicodes])}")
 
 
 def answers(program, batch):
-    """A line for each line of the batch. Where the program ends too soon, the line after its last one says how."""
+    """What a program says to each line of the batch, its status, and its message."""
     text = "".join(line + "\n" for line in batch.lines).encode()
     try:
         words = [*batch.command(program), "--text-file=-"]
         done = subprocess.run(words, input=text, capture_output=True, timeout=SECONDS)
-        said, end = done.stdout, f"status {done.returncode}: {done.stderr.decode(errors='replace').strip()}"
+        said, status, message = done.stdout, done.returncode, done.stderr.decode(errors="replace").strip()
     except subprocess.TimeoutExpired as ran:
-        said, end = ran.stdout or b"", f"no end after {SECONDS} seconds"
-    lines = said.decode(errors="replace").split("\n")[:-1]
-    if len(lines) != len(batch.lines):
-        lines.append(f"{len(lines)} lines, {end}")
-    return lines
+        said, status, message = ran.stdout or b"", "none", f"no end after {SECONDS} seconds"
+    return said.decode(errors="replace").split("\n")[:-1], status, message
 
 
 def compare(work):
     """The font, how many lines there are, and those that differ. Those after a line at which a program ended are not compared."""
-    batch, ours, theirs = work
-    both = answers(ours, batch), answers(theirs, batch)
-    differ = [Difference(batch, *row) for row in zip(batch.lines, *both) if row[1] != row[2]]
+    batch, *programs = work
+    (ours, *our_end), (theirs, *their_end) = (answers(program, batch) for program in programs)
+    differ = [Difference(batch, *row) for row in zip(batch.lines, ours, theirs) if row[1] != row[2]]
+    if (len(ours), our_end[0]) != (len(theirs), their_end[0]):
+        ends = (f"{len(said)} lines, status {status} {why}" for said, (status, why) in ((ours, our_end), (theirs, their_end)))
+        differ.insert(0, Difference(batch, "", *ends))
     return batch.font.name, len(batch.lines), differ
 
 
@@ -86,7 +88,7 @@ def compare_all(made, options, kind=None):
                 difference.show(programs if difference is found[0] and not differ[name] else ())
             compared[name] += count
             differ[name] += len(found)
-            kinds.update((name, kind(difference)) for difference in found if kind)
+            kinds.update((name, kind(difference) if difference.line else "runs") for difference in found if kind)
     for name, count in compared.items():
         of_kind = sorted((f"{which} {n}" for (font, which), n in kinds.items() if font == name), key=lambda it: it.split()[0])
         print(f"{name}: {count} lines, {differ[name]} differ{': ' * bool(of_kind)}{', '.join(of_kind)}")
