@@ -1,0 +1,66 @@
+"""`kern.ttf`, which has the table `kern` and no other layout, and `upright.otf`, which has charstrings and vertical origins."""
+
+from . import cff
+from . import layout as lay
+from . import opentype as ot
+from .glyphs import LOWER, UPPER, advance, square_of, tables
+
+ACROSS, HORIZONTAL = 4, 1
+
+
+def pair(names, text, value):
+    first, second = text
+    return {(names.index(first), names.index(second)): value}
+
+
+def kern():
+    names = [".notdef", "space", *UPPER, *LOWER]
+    first = {names.index("T"): 1, names.index("a"): 2}
+    second = {**{names.index(letter): 1 for letter in "aeo"}, names.index("T"): 2}
+    vertical = [(1000 + 10 * at, 50) for at in range(len(names))]
+    return ot.font({
+        **tables(names, "Vukhaso Kern"),
+        "post": ot.post(),
+        "cmap": ot.cmap({(3, 1): ot.segment_mapping({ord(name): at for at, name in enumerate(names) if len(name) == 1} | {0x20: 1})}),
+        "kern": lay.kern(
+            (0, HORIZONTAL, lay.kern_pairs(pair(names, "AV", -80) | pair(names, "VA", -80) | pair(names, "WA", -70))),
+            (2, HORIZONTAL, lay.kern_classes(first, second, [[0, 0, 0], [0, -20, 0], [0, 0, -40]])),
+            (0, HORIZONTAL | ACROSS, lay.kern_pairs(pair(names, "xy", 30)))),
+        "vhea": ot.measures(500, -500, 1000, 40, vertical=True),
+        "vmtx": ot.advances(vertical, 40),
+    })
+
+
+CHARSTRINGS = {
+    ".notdef": "50 0 rmoveto 200 300 -200 hlineto endchar",
+    "space": "endchar",
+    "acute": "60 550 rmoveto 80 120 -80 hlineto endchar",
+    "a": "20 -10 rmoveto 300 400 -300 hlineto endchar",
+    "b": "10 40 20 hstem 100 0 rmoveto 100 50 50 100 0 150 rrcurveto -60 200 40 -150 hvcurveto endchar",
+    "c": "30 10 rmoveto -107 callsubr endchar",
+    "d": "40 20 rmoveto -107 callgsubr endchar",
+    "e": "100 20 97 194 endchar",
+}
+SHARED = ["-107 callsubr 50 60 rlineto return"]
+OWN = ["120 230 rlineto 40 vlineto return"]
+
+
+def upright():
+    names = list(CHARSTRINGS)
+    place = {name: at for at, name in enumerate(names)}
+    letters = {ord(name): at for name, at in place.items() if len(name) == 1}
+    squares = {name: square_of(name) for name in names if name in LOWER}
+    measures = tables(["space", *squares], "Vukhaso Upright")
+    rows = [(advance(name) if name in LOWER else 300, 0) for name in names]
+    vert = lay.layout({"DFLT": {"dflt": (None, ["vert"])}}, {"vert": ["vert"]},
+                      {"vert": lay.lookup(1, 0, lay.by_list({place["a"]: place["b"]}))})
+    return ot.font({
+        **{tag: measures[tag] for tag in ("head", "OS/2", "name")},
+        "hhea": ot.measures(800, -200, 500, len(rows)), "hmtx": ot.advances(rows, len(rows)),
+        "maxp": ot.maxp(len(names), outlines=False), "post": ot.post(),
+        "cmap": ot.cmap({(0, 3): ot.trimmed_mapping(letters)}),
+        "CFF ": cff.cff("Vukhaso Upright", names, CHARSTRINGS, SHARED, OWN, (0, -20, 600, 800)),
+        "GSUB": vert,
+        "vhea": ot.measures(500, -500, 1000, 1, vertical=True), "vmtx": ot.advances([(1000, 60)] * len(names), 1),
+        "VORG": ot.numbers(1, 0, 850, 1, place["b"], 880),
+    }, b"OTTO")

@@ -1,0 +1,110 @@
+"""What the tools of this folder share: HarfBuzz 10's source and what is built of it, and packages of Debian.
+
+All is kept in the folder `vukhaso-harfbuzz` for temporary files, and fetched where it is missing. Packages are fetched with
+package lists of their own and unpacked there: the machine's lists stay as they are, and nothing is installed.
+"""
+
+import os
+import subprocess
+import sys
+import tempfile
+from pathlib import Path
+
+HERE = Path(__file__).resolve().parent
+CRATES = HERE.parent.parent / "crates"
+FETCHED = Path(tempfile.gettempdir()) / "vukhaso-harfbuzz"
+
+SOURCES = """Types: deb-src
+URIs: http://deb.debian.org/debian
+Suites: trixie
+Components: main
+Signed-By: /usr/share/keyrings/debian-archive-keyring.gpg
+"""
+
+# The glib of this machine's Debian, as a static library: so what is built needs no package at all.
+GLIB = ["libglib2.0-dev", "libpcre2-dev"]
+
+CONFIG = """#define HAVE_GLIB 1
+#define PACKAGE_NAME "HarfBuzz"
+#define PACKAGE_VERSION HB_VERSION_STRING
+"""
+
+FEATURES = """#ifndef HB_FEATURES_H
+#define HB_FEATURES_H
+#define HB_HAS_GLIB 1
+#endif
+"""
+
+
+def apt(lists, *more):
+    """The words of `apt-get` with lists of its own in a folder."""
+    (lists / "partial").mkdir(parents=True, exist_ok=True)
+    options = {"Dir::State::Lists": lists, "APT::Sandbox::User": "root", **dict(more)}
+    return ["apt-get", "-qq", *(word for name, value in options.items() for word in ("-o", f"{name}={value}"))]
+
+
+def fetched_sources():
+    """The folder of HarfBuzz's sources, which are fetched where they are missing."""
+    found = sorted(FETCHED.glob("harfbuzz-10*/src"))
+    if not found:
+        FETCHED.mkdir(exist_ok=True)
+        (FETCHED / "harfbuzz.sources").write_text(SOURCES)
+        sources = {"Dir::Etc::sourcelist": FETCHED / "harfbuzz.sources", "Dir::Etc::sourceparts": "-"}
+        words = apt(FETCHED / "lists", *sources.items())
+        subprocess.run([*words, "update"], check=True)
+        subprocess.run([*words, "source", "--download-only", "harfbuzz"], cwd=FETCHED, check=True)
+        subprocess.run(["tar", "xf", *FETCHED.glob("harfbuzz_10*.orig.tar.xz")], cwd=FETCHED, check=True)
+        found = sorted(FETCHED.glob("harfbuzz-10*/src"))
+    return found[-1]
+
+
+def unpacked(packages, folder):
+    """Fetches those packages of this machine's Debian that a folder lacks, and unpacks them there, each below its name."""
+    missing = [package for package in packages if not (folder / package).exists()]
+    if missing:
+        folder.mkdir(parents=True, exist_ok=True)
+        words = apt(folder / "lists")
+        subprocess.run([*words, "update"], check=True)
+        subprocess.run([*words, "download", *missing], cwd=folder, check=True)
+    for package in missing:
+        file = next(folder.glob(f"{package}_*.deb"))
+        subprocess.run(["dpkg", "-x", file, folder / f"{package}.new"], check=True)
+        os.replace(folder / f"{package}.new", folder / package)
+        file.unlink()
+    return [folder / package for package in packages]
+
+
+def built(name, words, sources=()):
+    """A program that g++ makes of some words, where it is missing or one of its own sources is newer."""
+    program = FETCHED / name
+    if not program.exists() or any(file.stat().st_mtime > program.stat().st_mtime for file in sources):
+        print(f"building {name} ..", file=sys.stderr)
+        made = FETCHED / f"{name}.new"
+        subprocess.run(["g++", "-O2", "-std=c++17", "-DNDEBUG", "-o", made, *words], check=True)
+        os.replace(made, program)
+    return program
+
+
+def configured():
+    """The folder of the two headers that HarfBuzz's own build would write."""
+    folder = FETCHED / "configured"
+    folder.mkdir(exist_ok=True)
+    (folder / "config.h").write_text(CONFIG)
+    (folder / "hb-features.h").write_text(FEATURES)
+    return folder
+
+
+def reference():
+    """HarfBuzz's own `hb-shape`."""
+    program = FETCHED / "hb-shape"
+    return program if program.exists() else built("hb-shape", reference_words())
+
+
+def reference_words():
+    source = fetched_sources()
+    glib, regular = (folder / "usr" for folder in unpacked(GLIB, FETCHED / "packages"))
+    includes = [configured(), source, source.parent / "util", glib / "include/glib-2.0",
+                *glib.glob("lib/*/glib-2.0/include")]
+    libraries = [*glib.glob("lib/*/libglib-2.0.a"), *regular.glob("lib/*/libpcre2-8.a")]
+    return ["-DHAVE_CONFIG_H", *(f"-I{folder}" for folder in includes), source.parent / "util/hb-shape.cc",
+            source / "harfbuzz.cc", *libraries, "-lpthread"]
