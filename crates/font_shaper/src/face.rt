@@ -1,6 +1,11 @@
 //! A font, as far as shaping asks it.
 
-ghost use Rattle.std.specs.Prelude.{◌≡◌, option_map, IsTrue, IsSome, ◌↔◌};
+ghost use Rattle.std.specs.Prelude.{◌≡◌, ◌==◌, not, option_map, unwrap_or, codes, IfSome};
+ghost use Rattle.rb_common.specs.Tag.{tag_of};
+ghost use Rattle.font_tables.specs.Directory.{directory_of, table_of};
+ghost use Rattle.font_tables.specs.Extents.{horizontal_extents};
+ghost use Rattle.font_tables.specs.Head.{index_to_loc_format};
+ghost use Rattle.font_shaper.specs.Face.{font_page, extents_of_em, IsFaceOf};
 ghost use Rattle.character_maps.specs.Codes.{glyph_index, glyph_variation_index};
 ghost use Rattle.font_tables.specs.Metrics.{advance};
 
@@ -12,8 +17,9 @@ use font_tables::gdef::Gdef;
 use font_tables::head::{glyph_count, index_to_loc_format, units_per_em};
 use font_tables::metrics::Metrics;
 use font_tables::vertical_origins::VerticalOrigins;
-use glyph_outlines::glyf::GlyfTables;
+use glyph_outlines::{GlyfTables, Outlines};
 use rb_common::{GlyphId, Tag};
+use rb_glyph::GlyphExtents;
 
 /// A font of a file: what shaping asks of it, found once.
 #[derive(Clone, Copy, Debug)]
@@ -30,56 +36,66 @@ pub struct Face<'a> {
     pub horizontal: Metrics<'a>,
     /// Advances and side bearings in vertical lines.
     pub vertical: Metrics<'a>,
-    /// Whether the font says how far its glyphs move the pen in vertical lines.
-    pub has_vertical: bool,
     /// Where glyphs stand in vertical lines.
     pub origins: VerticalOrigins<'a>,
     /// How far horizontal lines reach up and down.
     pub extents: FontExtents,
     /// The classes of the glyphs.
     pub definitions: Gdef<'a>,
-    /// TrueType outlines.
-    pub outlines: GlyfTables<'a>,
+    /// The outlines of the glyphs.
+    pub outlines: Outlines<'a>,
 }
 
-/// The tag of four letters.
-fn tag(letters: &[u8; 4]) -> Tag {
-    Tag(u32::from_be_bytes(*letters))
+/// The outlines of a font.
+fn outlines_of<'a>(tables: &Tables<'a>, head: &[u8], glyph_count: u16) -> Outlines<'a>
+    ensures glyf { result.glyf.glyf.now
+        ≡ table_of tables.now.file.now tables.now.directory (tag_of (codes "glyf")) }
+    ensures loca { result.glyf.loca.now
+        ≡ table_of tables.now.file.now tables.now.directory (tag_of (codes "loca")) }
+    ensures offsets { result.glyf.has_long_offsets ≡ not (index_to_loc_format head.now == 0) }
+    ensures glyphs { result.glyf.glyph_count ≡ glyph_count }
+{
+    let glyf = GlyfTables {
+        glyf: tables.table(Tag::from_bytes(b"glyf")),
+        loca: tables.table(Tag::from_bytes(b"loca")),
+        has_long_offsets: index_to_loc_format(head) != 0,
+        glyph_count,
+    };
+    Outlines::new(glyf, tables.table(Tag::from_bytes(b"CFF ")))
 }
 
 impl<'a> Face<'a> {
-    /// The font of this number in a file: 0 for a file that holds one font. `None` where the file has no such font.
-    pub fn from_slice(data: &'a [u8], index: u32) -> Option<Face<'a>> {
+    /// The font with this index in a collection, or the only one of a file, whatever the index. `None` where the bytes
+    /// are no font, or the collection has no font with this index (OpenType specification, "OpenType Font File").
+    pub fn from_slice(data: &'a [u8], index: u32) -> Option<Face<'a>>
+        ensures found { option_map (λ face. face.tables.directory) result
+            ≡ directory_of data.now index }
+        ensures is { IfSome result (IsFaceOf data.now) }
+    {
         let tables = Tables::new(data, index)?;
-        let head = tables.table(tag(b"head"));
+        let head = tables.table(Tag::from_bytes(b"head"));
         let units_per_em = units_per_em(head);
-        let glyph_count = glyph_count(tables.table(tag(b"maxp")));
-        let os2 = tables.table(tag(b"OS/2"));
-        let hhea = tables.table(tag(b"hhea"));
-        let vmtx = tables.table(tag(b"vmtx"));
-        let vhea = tables.table(tag(b"vhea"));
+        let glyph_count = glyph_count(tables.table(Tag::from_bytes(b"maxp")));
+        let os2 = tables.table(Tag::from_bytes(b"OS/2"));
+        let hhea = tables.table(Tag::from_bytes(b"hhea"));
+        let vmtx = tables.table(Tag::from_bytes(b"vmtx"));
+        let vhea = tables.table(Tag::from_bytes(b"vhea"));
         Some(Face {
             tables,
             units_per_em,
             glyph_count,
-            characters: CharacterMap::parse(tables.table(tag(b"cmap")), font_page(os2)),
+            characters: CharacterMap::parse(tables.table(Tag::from_bytes(b"cmap")), font_page(os2)),
             horizontal: Metrics::new(
-                tables.table(tag(b"hmtx")),
+                tables.table(Tag::from_bytes(b"hmtx")),
                 long_metric_count(hhea),
                 glyph_count,
                 units_per_em / 2,
             ),
             vertical: Metrics::new(vmtx, long_metric_count(vhea), glyph_count, units_per_em),
-            has_vertical: !vmtx.is_empty() && !vhea.is_empty(),
-            origins: VerticalOrigins::new(tables.table(tag(b"VORG"))),
+            origins: VerticalOrigins::new(tables.table(Tag::from_bytes(b"VORG"))),
             extents: line_extents(os2, hhea, units_per_em),
-            definitions: Gdef::new(tables.table(tag(b"GDEF"))),
-            outlines: GlyfTables {
-                glyf: tables.table(tag(b"glyf")),
-                loca: tables.table(tag(b"loca")),
-                has_long_offsets: index_to_loc_format(head) != 0,
-                glyph_count,
-            },
+            definitions: Gdef::new(tables.table(Tag::from_bytes(b"GDEF"))),
+            outlines: outlines_of(&tables, head, glyph_count),
         })
     }
 
@@ -128,7 +144,7 @@ impl<'a> Face<'a> {
     /// How far a glyph moves the pen down in vertical lines, in font units: by the font's vertical metrics, or else by the
     /// height of its lines.
     pub fn glyph_ver_advance(&self, glyph: GlyphId) -> i32 {
-        if self.has_vertical {
+        if self.vertical.has_advance(GlyphId(0)) {
             i32::from(self.vertical.advance(glyph))
         } else {
             self.line_height()
@@ -148,7 +164,7 @@ impl<'a> Face<'a> {
             return i32::from(y);
         }
         let bearing = self.horizontal.side_bearing(glyph);
-        let Some(outline) = self.outlines.glyph_extents(glyph, bearing) else {
+        let Some(outline) = self.outlines.glyf.glyph_extents(glyph, bearing) else {
             return self.extents.ascender;
         };
         match self.vertical.side_bearing(glyph) {
@@ -160,6 +176,13 @@ impl<'a> Face<'a> {
         }
     }
 
+    /// The bounds of a glyph, in font units; `None` where the font has no outline of it (OpenType specification, `glyf`
+    /// and `CFF `).
+    pub fn glyph_extents(&self, glyph: GlyphId) -> Option<GlyphExtents> {
+        self.outlines
+            .glyph_extents(glyph, self.horizontal.side_bearing(glyph))
+    }
+
     /// How high horizontal lines are.
     fn line_height(&self) -> i32 {
         self.extents
@@ -169,16 +192,21 @@ impl<'a> Face<'a> {
 }
 
 /// The font page of a symbol font, which the high byte of the selection flags of the first version of `OS/2` names.
-fn font_page(os2: &[u8]) -> u16 {
-    match (u16_at(os2, 0), u16_at(os2, 62)) {
-        (Some(0), Some(selection)) => selection & 0xFF00,
-        _ => 0,
+fn font_page(os2: &[u8]) -> u16
+    ensures { result ≡ font_page os2.now }
+{
+    if matches!(u16_at(os2, 0), Some(0)) {
+        u16_at(os2, 62).unwrap_or(0) & 0xFF00
+    } else {
+        0
     }
 }
 
 /// How far horizontal lines reach up and down. A font that does not say it has four fifths of an em above the baseline, and
 /// the rest below.
-fn line_extents(os2: &[u8], hhea: &[u8], units_per_em: u16) -> FontExtents {
+fn line_extents(os2: &[u8], hhea: &[u8], units_per_em: u16) -> FontExtents
+    ensures { result ≡ unwrap_or (horizontal_extents os2.now hhea.now) (extents_of_em units_per_em) }
+{
     match horizontal_extents(os2, hhea) {
         Some(extents) => extents,
         None => {

@@ -1,39 +1,71 @@
 //! The names and the extents of a font's glyphs.
 
+ghost use Rattle.std.specs.Prelude.{◌≡◌, IfOk};
+ghost use Rattle.std.specs.Option.{option_copied};
+ghost use Rattle.font_shaper.specs.FaceNames.{name_of};
+
 use crate::face::Face;
-use rb_common::GlyphId;
-use rb_glyph::{GlyphExtents, GlyphNames};
+use font_tables::glyph_names::PostNames;
+use rb_common::{GlyphId, Tag};
+use rb_glyph::{GlyphExtents, GlyphNames, hb_glyph_info_t};
 use std::alloc::{AllocError, Global};
+use std::collections::BTreeMap;
 
 /// The names and the extents of a font's glyphs, as the text of shaped glyphs asks for them.
 #[derive(Drop)]
 pub struct FaceNames<'a> {
     face: Face<'a>,
-    names: Vec<&'a str>,
+    post: PostNames<'a>,
+    extents: BTreeMap<u16, GlyphExtents>,
 }
 
 impl<'a> FaceNames<'a> {
-    /// The names of the font's glyphs.
+    /// The names of the font's glyphs. `Err(AllocError)` where memory runs out.
     pub fn new(alloc: Global, face: &Face<'a>) -> Result<Self, AllocError> {
+        let post = PostNames::new(alloc, face.tables.table(Tag::from_bytes(b"post")))?;
         Ok(FaceNames {
             face: *face,
-            names: Vec::new(alloc),
+            post,
+            extents: BTreeMap::new(alloc),
         })
+    }
+
+    /// Finds the extents of glyphs, each of them once. `Err(AllocError)` where memory runs out.
+    pub fn find_extents(&mut self, infos: &[hb_glyph_info_t]) -> Result<(), AllocError> {
+        for info in infos {
+            if let Ok(number) = u16::try_from(info.glyph_id)
+                && !self.extents.contains_key(&number)
+                && let Some(extents) = self.face.glyph_extents(GlyphId(number))
+            {
+                let _ = self.extents.insert(number, extents)?;
+            }
+        }
+        Ok(())
+    }
+
+    /// The bytes of a glyph's name.
+    fn name_bytes(&self, glyph: GlyphId) -> Option<&'a [u8]> {
+        match self.post.name(glyph) {
+            Some(name) => Some(name),
+            None => self.face.outlines.glyph_name(glyph),
+        }
     }
 }
 
 impl<'a> GlyphNames for FaceNames<'a> {
-    ghost use Rattle.std.specs.Prelude.{None, option_map, slice_get};
+    ghost use Rattle.std.specs.BTreeMap.{get};
+    ghost use Rattle.std.specs.Ordering.{nat_cmp};
 
-    ghost name_of = { λ s glyph. option_map (λ t. t.now) (slice_get s.names.items glyph) };
+    ghost name_of = { λ names glyph. name_of names.post.table.now names.face.outlines glyph };
 
-    ghost extents_of = { λ _ _. None };
+    ghost extents_of = { λ names glyph. get nat_cmp names.extents glyph };
 
     fn glyph_name(&self, glyph: GlyphId) -> Option<&str> {
-        self.names.get(usize::from(glyph.0)).copied()
+        std::str::from_utf8(self.name_bytes(glyph)?).ok()
     }
 
-    fn glyph_extents(&self, _glyph: GlyphId) -> Option<GlyphExtents> {
-        None
+    /// The extents of a glyph, among those that were found.
+    fn glyph_extents(&self, glyph: GlyphId) -> Option<GlyphExtents> {
+        self.extents.get(&glyph.0).copied()
     }
 }

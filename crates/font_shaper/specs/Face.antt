@@ -1,0 +1,57 @@
+-- What is kept of a font: its tables, by their tags, and what they say.
+use Rattle.std.specs.Prelude.{ℕ, ℤ, pos, List, Bool, not, Option, Some, None, ◌≡◌, ◌/◌, ◌*◌, ◌-ℤ◌, ◌==◌, nat_eq, codes, unwrap_or, if◌then◌else◌, bit_and}
+use Rattle.rb_common.specs.Tag.{tag_of}
+use Rattle.font_tables.specs.Bytes.{number_16, is_number}
+use Rattle.font_tables.specs.Directory.{table_of}
+use Rattle.font_tables.specs.Head.{units_per_em, glyph_count, index_to_loc_format}
+use Rattle.font_tables.specs.Extents.{long_metric_count, horizontal_extents}
+use Rattle.font_tables.specs.declared.extents.FontExtents.{FontExtents}
+use Rattle.font_tables.specs.declared.metrics.Metrics.{Metrics}
+use Rattle.character_maps.specs.Choice.{chosen_subtable, chosen_encoding, variation_subtable}
+use Rattle.font_shaper.specs.declared.face.Face.{Face}
+
+-- the table with these letters in the font's directory
+abbrev pub table : Face → List ℕ → List ℕ
+table face letters = table_of face.tables.file.now face.tables.directory (tag_of letters)
+
+-- the font page of a symbol font: the high byte of the selection flags of the first version of `OS/2`
+abbrev pub font_page : List ℕ → ℕ
+font_page os2 =
+    if is_number (number_16 os2 0) 0 then bit_and (unwrap_or (number_16 os2 62) 0) 0xFF00 else 0
+
+-- how far lines reach where the font does not say it: four fifths of an em are above the baseline
+abbrev pub extents_of_em : ℕ → FontExtents
+extents_of_em em = record { ascender = pos (em * 4 / 5); descender = pos (em * 4 / 5) -ℤ pos em }
+
+-- these are the metrics of a table and of its header
+pub record AreMetricsOf (metrics : Metrics) (table header : List ℕ) (glyphs default : ℕ) : Type 0 where
+  pub bytes : metrics.table.now ≡ table
+  pub declared : metrics.declared ≡ long_metric_count header
+  pub counted : metrics.glyph_count ≡ glyphs
+  pub lacking : metrics.default_advance ≡ default
+
+-- this is the font whose directory begins at its place in the file
+pub record IsFaceOf (file : List ℕ) (face : Face) : Type 0 where
+  pub lies_in : face.tables.file.now ≡ file
+  pub units : face.units_per_em ≡ units_per_em (table face (codes "head"))
+  pub glyphs : face.glyph_count ≡ glyph_count (table face (codes "maxp"))
+  pub characters : face.characters.subtable.now ≡ chosen_subtable (table face (codes "cmap"))
+  pub encoding :
+      face.characters.encoding ≡ chosen_encoding (table face (codes "cmap")) (font_page (table face (codes "OS/2")))
+  pub variations : face.characters.variations.now ≡ variation_subtable (table face (codes "cmap"))
+  pub horizontal :
+      AreMetricsOf face.horizontal (table face (codes "hmtx")) (table face (codes "hhea")) face.glyph_count
+      (face.units_per_em / 2)
+  pub vertical :
+      AreMetricsOf face.vertical (table face (codes "vmtx")) (table face (codes "vhea")) face.glyph_count face.units_per_em
+  pub origins : face.origins.table.now ≡ table face (codes "VORG")
+  pub extents :
+      face.extents
+      ≡ unwrap_or (horizontal_extents (table face (codes "OS/2")) (table face (codes "hhea")))
+      (extents_of_em face.units_per_em)
+  pub definitions : face.definitions.table.now ≡ table face (codes "GDEF")
+  pub outlines : face.outlines.glyf.glyf.now ≡ table face (codes "glyf")
+  pub locations : face.outlines.glyf.loca.now ≡ table face (codes "loca")
+  pub long_offsets :
+      face.outlines.glyf.has_long_offsets ≡ not (index_to_loc_format (table face (codes "head")) == 0)
+  pub outlined : face.outlines.glyf.glyph_count ≡ face.glyph_count

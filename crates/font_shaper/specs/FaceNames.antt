@@ -1,0 +1,16 @@
+-- The names of a font's glyphs, as text.
+use Rattle.std.specs.Prelude.{ℕ, List, Option, Some, None, option_and_then, if◌then◌else◌}
+use Rattle.std.specs.Option.{option_or}
+use Rattle.std.specs.Str.{is_utf8}
+use Rattle.font_tables.specs.GlyphNames.{glyph_name}
+use Rattle.glyph_outlines.specs.Outlines.{cff_name}
+use Rattle.glyph_outlines.specs.declared.outlines.Outlines.{Outlines}
+
+-- the bytes, if they are text
+abbrev pub text_of : List ℕ → Option (List ℕ)
+text_of bytes = if is_utf8 bytes then Some bytes else None
+
+-- the name of a glyph: that of the table `post`, or else that of the table `CFF `
+abbrev pub name_of : List ℕ → Outlines → ℕ → Option (List ℕ)
+name_of post outlines glyph =
+    option_and_then text_of (option_or (glyph_name post glyph) (option_and_then (λ cff. cff_name cff glyph) outlines.cff))
