@@ -10,4 +10,5 @@ fn the_headline_stands(_rt: HostRuntime) {
     least_cluster_stays();
     no_cluster_is_new();
     clusters_only_merge();
+    glyphs_go_only_when_dropped();
 }

@@ -5,3 +5,4 @@ pub mod DeletionLemmas
 pub mod GlyphFlagsLemmas
 pub mod NumbersLemmas
 pub mod ReplacementLemmas
+pub mod CoresLemmas

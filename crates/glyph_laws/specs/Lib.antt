@@ -1,3 +1,4 @@
+pub mod Cores
 -- what the public clauses name of the crates below
 pub use Rattle.glyph_lists.specs.Clusters
 pub use Rattle.glyph_lists.specs.Deletion

@@ -6,7 +6,8 @@
 ghost use Rattle.std.specs.Prelude.{◌≡◌, ◌⊎◌, ◌↔◌, ℕ, ◌+◌, ◌<◌, ◌≤◌, ◌++◌, Bool, true, false, List, [], ◌∷◌, length};
 ghost use Rattle.std.specs.Prelude.{map, take, drop, slice_index, slice_index_or};
 ghost use Rattle.rb_glyph.specs.declared.info.hb_glyph_info_t.{hb_glyph_info_t};
-ghost use Rattle.glyph_lists.specs.Parts.{part};
+ghost use Rattle.glyph_lists.specs.Parts.{part, on_part, map_range};
+ghost use Rattle.glyph_lists.specs.Scans.{two_part_scan};
 ghost use Rattle.glyph_lists.specs.Clusters.{clusters, least, occurs, zero_glyph, cluster_merge, run_merge, IsMonotone};
 ghost use Rattle.glyph_lists.specs.Clusters.{IsCoarse};
 ghost use Rattle.glyph_lists.specs.Marks.{with_glyph_flags, mark, mark_others, mark_part, end_mark, ends_least};
@@ -14,6 +15,7 @@ ghost use Rattle.glyph_lists.specs.Deletion.{deletion, merge_or_mark};
 ghost use Rattle.glyph_lists.specs.Masks.{reset_masks};
 ghost use Rattle.glyph_lists.specs.GlyphFlags.{BreakImpliesConcat, FlagsAgree};
 ghost use Rattle.glyph_lists.specs.Replacement.{replacement};
+ghost use Rattle.glyph_laws.specs.Cores.{cores};
 
 // ---- merges and scans on monotone clusters
 
@@ -88,6 +90,20 @@ pub fn marks_change_masks_alone()
         → reset_masks 0 (take p l ++ new ++ drop q l) ≡ reset_masks 0 l }
     ensures clusters { (l m : List hb_glyph_info_t) → reset_masks 0 l ≡ reset_masks 0 m
         → clusters l ≡ clusters m }
+{}
+
+/// Merges, marks and scans of a range, and deletion on each side, change nothing of a glyph but its cluster and its mask,
+/// and bring no glyph to another place. The current glyph of a deletion alone is gone.
+pub fn cores_stay()
+    ensures merge { (any_order : Bool) (l : List hb_glyph_info_t) (p q floor : ℕ) → p ≤ q
+        → cores (merge_or_mark any_order l p q floor) ≡ cores l }
+    ensures scan { (any_order : Bool) (bits k : ℕ) (l : List hb_glyph_info_t) (p q : ℕ) → p ≤ q
+        → cores (on_part (two_part_scan any_order bits k) l p q) ≡ cores l }
+    ensures flags { (bits : ℕ) (l : List hb_glyph_info_t) (p q : ℕ) → p ≤ q
+        → cores (map_range (with_glyph_flags bits) l p q) ≡ cores l }
+    ensures deletion { (any_order : Bool) (out : List hb_glyph_info_t) (x : hb_glyph_info_t)
+        (rest : List hb_glyph_info_t) → (cores (deletion any_order out x rest).out ≡ cores out)
+        × (cores (deletion any_order out x rest).rest ≡ cores rest) }
 {}
 
 /// Merges keep the length. So does a deletion on each side, except for the current glyph.

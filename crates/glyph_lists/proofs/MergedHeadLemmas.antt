@@ -1,8 +1,8 @@
 -- The head of the input after a merge of its first glyphs that changes no glyph behind them.
-use Rattle.std.proofs.Common.{◌≡◌, ℕ, ◌+◌, ◌-◌, ◌<◌, ◌≤◌, inl, inr, Bool, true, false, List, ◌++◌, length, get_or, take}
+use Rattle.std.proofs.Common.{[], ◌≡◌, ℕ, ◌+◌, ◌-◌, ◌<◌, ◌≤◌, inl, inr, Bool, true, false, List, ◌++◌, length, get_or, take}
 use Rattle.std.proofs.Common.{drop, min, refl, sym, ap, ◌∙◌, arith, length-append, subst}
 use Rattle.std.proofs.lemmas.Bool.{cases_lt}
-use Rattle.std.proofs.lemmas.List.{get_or-append_right, get_or_append_left}
+use Rattle.std.proofs.lemmas.List.{get_or-append_right}
 use Rattle.std.proofs.Math.Seq.{take-append_seam, drop-append_seam}
 use Rattle.rb_glyph.specs.declared.info.hb_glyph_info_t.{hb_glyph_info_t}
 use Rattle.glyph_lists.specs.Parts.{map_range}
@@ -124,20 +124,22 @@ module _ (out input : List hb_glyph_info_t) (two : 2 ≤ length input) where
       subst (LeavesHead false 2 out input) is (pair_leaves (c 0) (sym least) (sym start) (sym end))
 
   -- the second cluster is the least, and the run of the first begins there
-  pub falling_leaves : c 1 < c 0 → (0 < n → (get_or out (n - 1) zero_glyph).cluster ≡ c 0 → ⊥)
+  pub falling_leaves : get_or cs (n + 1) 0 < get_or cs n 0 → (0 < n → get_or cs (n - 1) 0 ≡ get_or cs n 0 → ⊥)
       → LeavesHead false 2 out input (with_cluster (c 1) 0 (get_or input 0 zero_glyph))
   falling_leaves down begins =
+      let lower : c 1 < c 0 = omega (arith, first, at 1 (omega arith)) in
       let least : range_least cs n (n + 2) ≡ c 1 = omega (arith, least_of_two) in
       let end = widened_end_plain cs n (n + 2) (second ∙ sym least) in
       let start : widened_start cs n (n + 2) 0 ≡ n =
       widened_start_run cs n (n + 2) 0 (λ e. let x : c 0 ≡ c 1 = sym first ∙ e ∙ least in omega arith)
       ∙ elim (cases_lt 0 n) [
-        | inl some ↦
-            let last : get_or cs (n - 1) 0 ≡ (get_or out (n - 1) zero_glyph).cluster =
-            get_or-clusters l (n - 1) zero_glyph (omega (arith, length-append out input))
-            ∙ ap {A = hb_glyph_info_t} (λ g. g.cluster)
-            (get_or_append_left out input zero_glyph (n - 1) (omega arith)) in
-            run_start_here cs (get_or cs n 0) 0 n some (omega (arith, long)) (λ e. begins some (sym last ∙ e ∙ first))
+        | inl some ↦ run_start_here cs (get_or cs n 0) 0 n some (omega (arith, long)) (begins some)
         | inr none ↦ run_start_none cs (get_or cs n 0) 0 n none
       ] in
       pair_leaves (c 1) (sym least) (sym start) (sym end)
+
+-- a cluster that is read of the input alone
+pub input_alone : (out input : List hb_glyph_info_t) (k : ℕ) → out ≡ [] → k < length input
+    → get_or (clusters (out ++ input)) k 0 ≡ (get_or input k zero_glyph).cluster
+input_alone out input k none within =
+    ap (λ xs. get_or (clusters (xs ++ input)) k 0) none ∙ get_or-clusters input k zero_glyph within

@@ -1,8 +1,10 @@
 //! The range of glyphs that a merge changes, found by reading little more than that range.
 
-ghost use Rattle.std.specs.Prelude.{◌≡◌, ◌+◌, ◌-◌, ◌*◌, ◌^◌, ◌<◌, ◌≤◌, length, slice_index};
+ghost use Rattle.std.specs.Prelude.{◌≡◌, ◌+◌, ◌-◌, ◌*◌, ◌^◌, ◌<◌, ◌≤◌, ◌++◌, length, slice_index};
 ghost use Rattle.glyph_lists.specs.ClusterReads.{both_clusters, SameLists};
 ghost use Rattle.glyph_lists.specs.Clusters.{range_least, run_start, run_end, widened_start, widened_end};
+ghost use Rattle.glyph_lists.specs.Clusters.{run_merge};
+ghost use Rattle.glyph_lists.specs.PairChange.{pair_changed, changed_len, IsPairRange};
 
 use crate::cluster_reads::ClusterReads;
 
@@ -29,12 +31,7 @@ fn least_cluster(reads: &mut ClusterReads, start: usize, end: usize, first: u32,
 /// Where the run of `cluster` begins that ends before `end`, not below `floor`.
 #[inline(always)]
 #[tactic(auto, using(crate::proofs::RunsLemmas::walks))]
-pub(crate) fn run_start_before(
-    reads: &mut ClusterReads,
-    cluster: u32,
-    floor: usize,
-    end: usize,
-) -> usize
+fn run_start_before(reads: &mut ClusterReads, cluster: u32, floor: usize, end: usize) -> usize
     requires within { end ≤ length (both_clusters reads.old) }
     requires room { reads.old.reads < 2 ^ 100 }
     ensures is { result ≡ run_start (both_clusters reads.old) cluster floor end }
@@ -52,7 +49,7 @@ pub(crate) fn run_start_before(
 /// Where the run of `cluster` ends that begins at `start`.
 #[inline(always)]
 #[tactic(auto, using(crate::proofs::RunsLemmas::walks))]
-pub(crate) fn run_end_after(reads: &mut ClusterReads, cluster: u32, start: usize) -> usize
+fn run_end_after(reads: &mut ClusterReads, cluster: u32, start: usize) -> usize
     requires within { start ≤ length (both_clusters reads.old) }
     requires room { reads.old.reads < 2 ^ 101 }
     ensures is { result ≡ run_end (both_clusters reads.old) cluster start }
@@ -111,4 +108,41 @@ pub fn merge_range(
         run_start_before(reads, first, floor, start)
     };
     (least, from, to)
+}
+
+/// What a merge of two glyphs changes: the run of the one in the higher cluster, which goes to the lower one.
+#[derive(Clone, Copy, PartialEq, Eq, Debug)]
+pub enum PairChange {
+    /// They share a cluster.
+    Nothing,
+    /// The second goes to this cluster, and its run up to its end, which is not in it.
+    Second(u32, usize),
+    /// The first goes to this cluster, and its run from its start on.
+    First(u32, usize),
+}
+
+/// What a merge of the two glyphs from `start` to `end` changes. The run of the first begins at `floor` or after it. The
+/// run of the glyph in the lower cluster stays, and is not walked: it reads no more than twice as many clusters as change,
+/// and four.
+#[inline(always)]
+#[tactic(auto, using(crate::proofs::RunMergeLemmas::merges_of_two))]
+pub fn pair_change(reads: &mut ClusterReads, start: usize, end: usize, floor: usize) -> PairChange
+    requires fresh { reads.old.reads ≡ 0 }
+    requires pair { end ≡ start + 2 }
+    requires within { end ≤ length (reads.old.out ++ reads.old.input) }
+    ensures is { run_merge (reads.old.out ++ reads.old.input) start end floor
+        ≡ pair_changed result start (reads.old.out ++ reads.old.input) }
+    ensures range { IsPairRange result start (length (reads.old.out ++ reads.old.input)) }
+    ensures same { SameLists reads.old reads.new }
+    ensures cost { reads.new.reads ≤ 2 * changed_len result start + 4 }
+{
+    let first = reads.cluster(start);
+    let last = reads.cluster(end - 1);
+    if first < last {
+        return PairChange::Second(first, run_end_after(reads, last, end));
+    }
+    if last < first {
+        return PairChange::First(last, run_start_before(reads, first, floor, start));
+    }
+    PairChange::Nothing
 }

@@ -1,24 +1,32 @@
 //! The current glyph after a merge that changes no glyph behind it: mostly there is no need to write the others.
 
-ghost use Rattle.std.specs.Prelude.{◌≡◌, ◌≤◌, true, false, List, length, slice_index_or, IfSome};
+ghost use Rattle.std.specs.Prelude.{◌≡◌, ◌≢◌, ◌+◌, ◌-◌, ◌<◌, ◌≤◌, ◌++◌, [], true, false, List, length, slice_index};
+ghost use Rattle.std.specs.Prelude.{slice_index_or, IfSome};
+ghost use Rattle.glyph_lists.specs.ClusterReads.{both_clusters, SameLists};
 ghost use Rattle.glyph_lists.specs.Clusters.{zero_glyph};
 ghost use Rattle.glyph_lists.specs.MergedHead.{LeavesHead};
 
+use crate::cluster_reads::ClusterReads;
 use crate::clusters::set_cluster;
 use rb_glyph::hb_glyph_info_t;
 
 /// Whether the merge of the first two glyphs of the input leaves the first as it is, and all others that stay: its
-/// cluster is not the higher one, and that of the second, where it is, goes on in no run behind it.
+/// cluster is not the higher one, and that of the second, where it is, goes on in no run behind it. It reads three
+/// clusters at most, fewer than the merge may.
 #[inline(always)]
-fn pair_keeps_head(input: &[hb_glyph_info_t]) -> bool
-    requires { 2 ≤ length input.now }
-    ensures { result ≡ true → (out : List hb_glyph_info_t)
-        → LeavesHead false 2 out input.now (slice_index_or input.now 0 zero_glyph) }
+fn pair_keeps_head(reads: &mut ClusterReads) -> bool
+    requires fresh { reads.old.reads ≡ 0 }
+    requires input_alone { reads.old.out ≡ [] }
+    requires pair { 2 ≤ length reads.old.input }
+    ensures keeps { result ≡ true → (out : List hb_glyph_info_t)
+        → LeavesHead false 2 out reads.old.input (slice_index_or reads.old.input 0 zero_glyph) }
+    ensures same { SameLists reads.old reads.new }
+    ensures cost { reads.new.reads ≤ 3 }
 {
-    let head = input[0].cluster;
-    let next = input[1].cluster;
+    let head = reads.cluster(0);
+    let next = reads.cluster(1);
     if head < next {
-        return input.len() == 2 || input[2].cluster != next;
+        return reads.len() == 2 || reads.cluster(2) != next;
     }
     head == next
 }
@@ -34,7 +42,27 @@ pub fn keeps_head(input: &[hb_glyph_info_t], count: usize, any_order: bool) -> b
     if count < 2 {
         return true;
     }
-    count == 2 && !any_order && pair_keeps_head(input)
+    count == 2 && !any_order && pair_keeps_head(&mut ClusterReads::new(&[], input))
+}
+
+/// Whether the merge of the two glyphs from `at` on lowers the first and no glyph before it: its cluster is the higher
+/// one, and no run of it ends before it. It reads three clusters at most, fewer than the merge may.
+#[inline(always)]
+fn pair_lowers_head(reads: &mut ClusterReads, at: usize) -> bool
+    requires fresh { reads.old.reads ≡ 0 }
+    requires within { at ≤ length reads.old.out + length reads.old.input }
+    ensures falls { result ≡ true → slice_index (both_clusters reads.old) (at + 1)
+        < slice_index (both_clusters reads.old) at }
+    ensures begins { result ≡ true → 0 < at → slice_index (both_clusters reads.old) (at - 1)
+        ≢ slice_index (both_clusters reads.old) at }
+    ensures same { SameLists reads.old reads.new }
+    ensures cost { reads.new.reads ≤ 3 }
+{
+    if reads.len() - at < 2 {
+        return false;
+    }
+    let head = reads.cluster(at);
+    reads.cluster(at + 1) < head && (at == 0 || reads.cluster(at - 1) != head)
 }
 
 /// The current glyph as the merge of the input's first two glyphs lowers it. `None` where it does not, where the run of
@@ -49,13 +77,14 @@ pub fn lowered_head(
     requires { count ≤ length input.now }
     ensures { IfSome result (LeavesHead any_order count out.now input.now) }
 {
-    if count != 2 || any_order || input[0].cluster <= input[1].cluster {
+    if count != 2 || any_order {
+        return None;
+    }
+    let mut reads = ClusterReads::new(out, input);
+    if !pair_lowers_head(&mut reads, out.len()) {
         return None;
     }
     let mut head = input[0];
-    if !out.is_empty() && out[out.len() - 1].cluster == head.cluster {
-        return None;
-    }
     set_cluster(&mut head, input[1].cluster, 0);
     Some(head)
 }

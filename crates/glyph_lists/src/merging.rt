@@ -8,7 +8,7 @@ ghost use Rattle.glyph_lists.specs.Parts.{map_range};
 use crate::cluster_reads::ClusterReads;
 use crate::clusters::{set_cluster, set_range, set_sides};
 use crate::glyph_flags::{BREAK_BITS, scan_slice};
-use crate::merge_range::{merge_range, run_end_after, run_start_before};
+use crate::merge_range::{PairChange, merge_range, pair_change};
 use rb_glyph::hb_glyph_info_t;
 
 /// Merges the glyphs from `start` to `end` of one list. It stands out of line, as most merges are of two glyphs.
@@ -40,21 +40,16 @@ fn set_run(info: &mut [hb_glyph_info_t], start: usize, end: usize, cluster: u32)
 
 /// Merges the two glyphs from `start` on. The one that is in their least cluster stays, and so do those next to it.
 #[inline(always)]
-#[tactic(auto, using(crate::proofs::RunMergeLemmas::merges_of_two))]
 fn merge_two(info: &mut [hb_glyph_info_t], start: usize, floor: usize)
     requires within { start + 2 ≤ length info.old }
     ensures { info.new ≡ run_merge info.old start (start + 2) floor }
 {
     let whole = &info[..];
     let mut reads = ClusterReads::new(&[], whole);
-    let first = reads.cluster(start);
-    let last = reads.cluster(start + 1);
-    if first < last {
-        let to = run_end_after(&mut reads, last, start + 2);
-        set_run(info, start + 1, to, first);
-    } else if last < first {
-        let from = run_start_before(&mut reads, first, floor, start);
-        set_run(info, from, start + 1, last);
+    match pair_change(&mut reads, start, start + 2, floor) {
+        PairChange::Nothing => {}
+        PairChange::Second(cluster, to) => set_run(info, start + 1, to, cluster),
+        PairChange::First(cluster, from) => set_run(info, from, start + 1, cluster),
     }
 }
 

@@ -73,7 +73,9 @@ fn shift_up(info: &mut Vec<hb_glyph_info_t>, start: usize, end: usize, at: usize
         .copy_within(start..end, at - (end - start));
 }
 
-/// Makes room for `ample` glyphs more, or where there is no memory for that, for `least`. Answers for how many.
+/// Makes room for more glyphs, from `least` to `ample` of them, and answers for how many. Where there is room for
+/// `least`, it takes what there is and asks for no memory. Else it asks for memory for `ample`, or where there is none
+/// for so many, for `least`.
 pub(crate) fn reserve_ample(
     info: &mut Vec<hb_glyph_info_t>,
     least: usize,
@@ -84,8 +86,14 @@ pub(crate) fn reserve_ample(
     ensures capacity { vec_capacity info.old ≤ vec_capacity info.new }
     ensures least { IfOk result (λ more. least ≤ more) }
     ensures room { IfOk result (λ more. vec_len info.new + more ≤ vec_capacity info.new) }
+    ensures asks_for_none { vec_len info.old + least ≤ vec_capacity info.old
+        → vec_capacity info.new ≡ vec_capacity info.old }
     ensures wants { OnErr result (vec_capacity info.old < vec_len info.old + least) }
 {
+    let spare = info.capacity() - info.len();
+    if least <= spare {
+        return Ok(ample.min(spare));
+    }
     if info.reserve(ample).is_ok() {
         return Ok(ample);
     }

@@ -8,6 +8,7 @@ fn laws_stand(_rt: HostRuntime) {
     merge_changes_clusters_and_masks();
     run_merge_changes_clusters_and_masks();
     marks_change_masks_alone();
+    cores_stay();
     lengths_stay();
     order_stays();
     numbered_list_is_coarse();

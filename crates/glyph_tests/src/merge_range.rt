@@ -1,6 +1,6 @@
 use crate::lists::glyphs;
 use glyph_lists::cluster_reads::ClusterReads;
-use glyph_lists::merge_range::merge_range;
+use glyph_lists::merge_range::{PairChange, merge_range, pair_change};
 
 #[test]
 fn a_range_is_widened_through_the_runs_at_its_ends(rt: HostRuntime) {
@@ -16,5 +16,22 @@ fn a_range_is_widened_through_the_runs_at_its_ends(rt: HostRuntime) {
         assert!(rt; cut <= 4 && start + 2 <= end && end <= 4);
         let mut reads = ClusterReads::new(&list[..cut], &list[cut..]);
         assert!(rt; merge_range(&mut reads, start, end, floor) == want);
+    }
+}
+
+#[test]
+fn of_two_glyphs_the_run_of_the_higher_one_changes(rt: HostRuntime) {
+    let rows = [
+        (0, [4, 3, 3, 1], 0, 0, PairChange::First(3, 0)),
+        (0, [1, 2, 2, 2], 0, 0, PairChange::Second(1, 4)),
+        (2, [3, 2, 2, 1], 2, 0, PairChange::First(1, 1)),
+        (2, [3, 2, 2, 1], 2, 2, PairChange::First(1, 2)),
+        (1, [1, 1, 2, 3], 0, 0, PairChange::Nothing),
+    ];
+    for (cut, clusters, start, floor, want) in rows {
+        let list = glyphs(clusters);
+        assert!(rt; cut <= 4 && start <= 2);
+        let mut reads = ClusterReads::new(&list[..cut], &list[cut..]);
+        assert!(rt; pair_change(&mut reads, start, start + 2, floor) == want);
     }
 }

@@ -14,3 +14,4 @@ pub mod HeadlineLemmas
 pub mod OldRuns
 pub mod Settings
 pub mod RoomLaws
+pub mod DroppedLemmas

@@ -5,7 +5,9 @@ pub mod Separation
 pub mod Headline
 pub mod ThreeLevels
 pub mod Room
+pub mod Dropped
 -- what the public clauses name of the crates below
+pub use Rattle.glyph_laws.specs.Cores
 pub use Rattle.glyph_lists.specs.Clusters
 pub use Rattle.glyph_lists.specs.GlyphFlags
 pub use Rattle.glyph_lists.specs.Marks

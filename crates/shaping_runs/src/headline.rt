@@ -17,6 +17,8 @@ ghost use Rattle.shaping_runs.specs.declared.call.Answer.{Answer};
 ghost use Rattle.shaping_runs.specs.declared.call.Call.{Call};
 ghost use Rattle.shaping_runs.specs.Exceptions.{brings_glyph, NoMergeStopsAtCursor, NoGlyphIsBrought};
 ghost use Rattle.shaping_runs.specs.Replay.{after, may_be_made, turn, MayStop};
+ghost use Rattle.glyph_laws.specs.Cores.{cores};
+ghost use Rattle.shaping_runs.specs.Dropped.{IsShut, exchanged, dropped_by, brought_by, StayInOrder};
 ghost use Rattle.shaping_runs.specs.Headline.{held, moves_or_syncs, awaits_clear, goes_on, HasMonotoneClusters};
 ghost use Rattle.shaping_runs.specs.Headline.{ReachesBothSides, is_merge, is_break, from_place, to_place, range_of};
 ghost use Rattle.shaping_runs.specs.Headline.{ShareCluster, AreJoined};
@@ -111,4 +113,16 @@ pub fn clusters_only_merge()
     ensures { (calls : List Call) (s : State) → NoGlyphIsBrought calls s
         → NoMergeStopsAtCursor calls s
         → IsCoarse (both s) → IsCoarse (both (after calls s)) }
+{}
+
+/// A glyph disappears only when a call drops it: `skip_glyph`, `delete_glyph` or a replacement. Every call that is done
+/// leaves all others, clusters and masks aside, as they are and in their order, and where the out side ends those that it
+/// brings take the place of those that it drops. So along every list of calls no more glyphs are gone than the calls
+/// drop, and no more are new than they bring. With no output open nothing stands on the out side, as in every buffer.
+pub fn glyphs_go_only_when_dropped()
+    ensures call { (call : Call) (s : State) → IsShut s
+        → cores (both (turn call s).state) ≡ exchanged call s (cores (both s)) }
+    ensures calls { (calls : List Call) (s : State) → IsShut s
+        → StayInOrder (cores (both s)) (cores (both (after calls s)))
+        (dropped_by calls s) (brought_by calls s) }
 {}
