@@ -7,6 +7,7 @@ attributes, its clauses and its body. What is not known is a `Refused` that name
 
 import re
 from dataclasses import dataclass, field
+from functools import lru_cache
 
 WORD = re.compile(
     r"""(?P<space>\s+)
@@ -89,16 +90,23 @@ class Item:
         return [clause for clause in self.clauses if clause.kind == "requires"]
 
 
+@lru_cache(maxsize=None)
+def scanned(text):
+    """The words of a text, the places of its bare words, and the rank of each of these."""
+    words, line = [], 1
+    for match in WORD.finditer(text):
+        words.append(Word(match.lastgroup if match.lastgroup != "hashes" else "text", match[0], line))
+        line += match[0].count("\n")
+    bare = [i for i, word in enumerate(words) if word.kind not in ("space", "comment", "doc", "inner")]
+    return words, bare, {place: i for i, place in enumerate(bare)}
+
+
 class Source:
     """The words of a file."""
 
     def __init__(self, path, text):
-        self.path, self.words, line = path, [], 1
-        for match in WORD.finditer(text):
-            self.words.append(Word(match.lastgroup if match.lastgroup != "hashes" else "text", match[0], line))
-            line += match[0].count("\n")
-        self.bare = [i for i, word in enumerate(self.words) if word.kind not in ("space", "comment", "doc", "inner")]
-        self.rank = {place: i for i, place in enumerate(self.bare)}
+        self.path = path
+        self.words, self.bare, self.rank = scanned(text)
 
     def refuse(self, place, what):
         line = self.words[min(place, len(self.words) - 1)].line if self.words else 0
@@ -232,6 +240,9 @@ class Reader:
         word, following = self.text(), self.source.at(self.source.after(self.place))
         if word == "ghost":
             return self.read_ghost(item)
+        if (word, following) == ("extern", "crate"):
+            item.kind = "extern crate"
+            return self.read_to_semicolon(item)
         if word in MODIFIERS and (following in (*MODIFIERS, "fn") or word == "extern") or word == "fn":
             return self.read_function(item)
         readers = {

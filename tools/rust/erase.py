@@ -20,6 +20,9 @@ TWINS = {
 # Macros whose first argument is what they print or end by.
 WITH_RUNTIME = {"assert", "assert_eq", "assert_ne", "panic"}
 
+# What C sees as it is laid out, as in rustybuzz.
+SEEN_BY_C = {"hb_glyph_info_t", "GlyphPosition"}
+
 PROOFS = {"prove": "debug_assert", "prove_eq": "debug_assert_eq", "prove_ne": "debug_assert_ne"}
 
 
@@ -117,6 +120,8 @@ class Erased:
         if item.kind == "fn":
             contracts.document_function(self, item, parent)
             self.erase_function(item, parent)
+        if item.kind == "struct" and item.name in SEEN_BY_C:
+            self.prefix[item.start] = "#[repr(C)]\n"
         if item.kind in ("struct", "enum", "trait", "impl"):
             contracts.document_type(self, item, parent)
             self.erase_drop_bounds(item)

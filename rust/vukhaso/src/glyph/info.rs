@@ -10,6 +10,7 @@ use crate::glyph::glyph_flag;
 
 /// One item of a buffer: a character before shaping, and a glyph after it.
 #[derive(Clone, Copy, Debug, Default)]
+#[repr(C)]
 pub struct hb_glyph_info_t {
     /// A Unicode code point before shaping, and the number of a glyph in the font after it.
     pub glyph_id: u32,

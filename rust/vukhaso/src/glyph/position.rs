@@ -6,6 +6,7 @@ use crate::glyph::fields::{read_field, write_field};
 
 /// Where a glyph is drawn, in font units and relative to the current point.
 #[derive(Clone, Copy, Debug, Default)]
+#[repr(C)]
 pub struct GlyphPosition {
     /// How far the line advances after this glyph in horizontal text.
     pub x_advance: i32,
