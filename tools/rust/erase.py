@@ -23,6 +23,15 @@ WITH_RUNTIME = {"assert", "assert_eq", "assert_ne", "panic"}
 # What C sees as it is laid out, as in rustybuzz.
 SEEN_BY_C = {"hb_glyph_info_t", "GlyphPosition"}
 
+# How many words the body of a public function has at most that may be inlined into other crates, as the compiler of
+# Rattle inlines it.
+SHORT = 150
+
+KNOWN_MACROS = {
+    "matches", "unreachable", "write", "writeln", "debug_assert", "assert", "assert_eq", "assert_ne", "format_args",
+    "anyhow", "bail",
+}
+
 PROOFS = {"prove": "debug_assert", "prove_eq": "debug_assert_eq", "prove_ne": "debug_assert_ne"}
 
 
@@ -129,10 +138,18 @@ class Erased:
             if inner.kind == "field":
                 for attribute in inner.attributes:
                     self.erase_attribute(inner, attribute)
+                if self.source.text(inner.start, inner.last).rstrip(",").endswith("alloc: Global"):
+                    self.cut_item(inner)
+            elif inner.kind == "ghost" and item.kind in ("struct", "enum"):
+                self.cut_item(inner)
             else:
                 self.erase_item(inner, item)
 
     def erase_attribute(self, item, attribute):
+        if attribute.name == "inline" and self.source.text(attribute.first, attribute.last) == "#[inline]":
+            # To rustc it is a hint, and to the compiler of Rattle an order.
+            self.cut(attribute.first, attribute.last)
+            return self.put(attribute.first, "#[inline(always)]")
         if attribute.name in ("tactic", "error", "rattlefmt"):
             return self.cut_line(attribute.first, attribute.last)
         if attribute.name == "derive":
@@ -205,6 +222,9 @@ class Erased:
                 self.source.refuse(at, "`Drop` is known as a bound alone")
 
     def erase_function(self, item, parent):
+        if item.body and item.is_public and not any(a.name == "inline" for a in item.attributes):
+            if len(self.bare(*item.body)) <= SHORT:
+                self.prefix[item.start] = self.prefix.get(item.start, "") + "#[inline]\n"
         for clause in item.clauses:
             self.cut(clause.first, clause.last)
         self.cut_drop(item.start, item.signature_end)
@@ -247,7 +267,7 @@ class Erased:
             return None  # a constant that clauses alone name
         if names[-1] == "from_utf8_unchecked":
             names = [*names[:-1], "from_utf8"]
-        if len(names) == 2 and names[0] in self.paths.modules and names[1] in self.paths.modules:
+        if len(names) == 2 and names[0] != names[1] and set(names) <= self.paths.modules.keys():
             # A crate that another one passes on.
             return self.paths.modules[names[1]] if item.visibility else None
         if names[0] in ("super", "self") or names[0] in self.modules and names[0] not in self.paths.modules:
@@ -344,7 +364,7 @@ class Erased:
             if name not in WITH_RUNTIME:
                 return None
             self.cut(inner, self.source.after(inner) + 1)
-        elif name not in ("matches", "unreachable", "write", "writeln", "debug_assert", "assert", "format_args"):
+        elif name not in KNOWN_MACROS:
             self.source.refuse(at, f"`{name}!` is not known")
         return None
 
@@ -353,7 +373,7 @@ class Erased:
         for first, last in self.passed():
             before = self.before(first)
             behind = self.behind(last)
-            if self.texts[before] not in ("(", ",") or self.texts[behind] not in (")", ","):
+            if self.texts[before] not in ("(", ",", "{") or self.texts[behind] not in (")", ",", "}"):
                 continue
             opening = before if self.texts[before] == "(" else None
             if opening is not None:
@@ -373,6 +393,8 @@ class Erased:
             texts = [self.texts[p] for p in places[i : i + 5]]
             if texts[:5] == ["rt", ".", "alloc", "(", ")"]:
                 found.append((at, places[i + 4] + 1))
+            elif texts[:3] == ["self", ".", "alloc"] and texts[3] in (",", ")"):
+                found.append((at, places[i + 2] + 1))
             elif texts[0] == "alloc" and (i == 0 or self.texts[places[i - 1]] != "."):
                 found.append((at, at + 1))
             elif texts[:2] == ["&", "rt"] and self.paths.has_std:

@@ -113,6 +113,7 @@ impl hb_buffer_t {
     /// ensures max_len { result.max_len ≡ 0x3FFF_FFFF }
     /// ensures max_ops { result.max_ops ≡ pos 0x1FFF_FFFF }
     /// ```
+    #[inline]
     pub fn new() -> Self {
         hb_buffer_t {
             flags: BufferFlags::empty(),
@@ -145,6 +146,7 @@ impl hb_buffer_t {
     /// ensures within { len self.now ≤ self.now.max_len }
     /// ensures cursor { self.now.idx ≤ len self.now }
     /// ```
+    #[inline]
     pub fn len(&self) -> usize {
         self.sides.len()
     }
@@ -158,6 +160,7 @@ impl hb_buffer_t {
     /// ensures within { length self.now.out ≤ self.now.max_len }
     /// ensures closed { self.now.have_output ≡ false → self.now.out ≡ [] }
     /// ```
+    #[inline]
     pub fn out_len(&self) -> usize {
         self.sides.out_len()
     }
@@ -169,6 +172,7 @@ impl hb_buffer_t {
     /// ```text
     /// ensures { result ≡ self.now.idx }
     /// ```
+    #[inline]
     pub fn idx(&self) -> usize {
         self.sides.idx()
     }
@@ -180,6 +184,7 @@ impl hb_buffer_t {
     /// ```text
     /// ensures { result ≡ self.now.max_len }
     /// ```
+    #[inline]
     pub fn max_len(&self) -> usize {
         self.max_len
     }
@@ -192,6 +197,7 @@ impl hb_buffer_t {
     /// ```text
     /// ensures { result ≡ self.now.room }
     /// ```
+    #[inline]
     pub fn room(&self) -> usize {
         self.sides.room()
     }
@@ -203,6 +209,7 @@ impl hb_buffer_t {
     /// ```text
     /// ensures { result ≡ self.now.successful }
     /// ```
+    #[inline]
     pub fn successful(&self) -> bool {
         self.successful
     }
@@ -214,6 +221,7 @@ impl hb_buffer_t {
     /// ```text
     /// ensures { result ≡ self.now.have_output }
     /// ```
+    #[inline]
     pub fn have_output(&self) -> bool {
         self.sides.is_open()
     }
@@ -228,6 +236,7 @@ impl hb_buffer_t {
     /// ensures closed { self.now.have_output ≡ false → result ≡ false }
     /// ensures near { result ≡ false → length self.now.out ≤ self.now.idx }
     /// ```
+    #[inline]
     pub fn have_separate_output(&self) -> bool {
         self.sides.is_separate()
     }
@@ -246,6 +255,7 @@ impl hb_buffer_t {
     /// ```text
     /// ensures { IsStorage self.now result.now }
     /// ```
+    #[inline]
     pub fn storage(&self) -> &[hb_glyph_info_t] {
         debug_assert!(!self.have_separate_output());
         self.sides.storage()
@@ -259,6 +269,7 @@ impl hb_buffer_t {
     /// ensures on { IsTrue result ↔ IsSome self.now.positions }
     /// ensures open { self.now.have_output ≡ true → self.now.positions ≡ None }
     /// ```
+    #[inline]
     pub fn have_positions(&self) -> bool {
         self.have_positions
     }
@@ -270,6 +281,7 @@ impl hb_buffer_t {
     /// ```text
     /// ensures { IsTrue result ↔ (len self.now ≡ 0) }
     /// ```
+    #[inline]
     pub fn is_empty(&self) -> bool {
         self.sides.len() == 0
     }
@@ -281,6 +293,7 @@ impl hb_buffer_t {
     /// ```text
     /// ensures { result.now ≡ self.now.input }
     /// ```
+    #[inline]
     pub fn info(&self) -> &[hb_glyph_info_t] {
         self.sides.input()
     }
@@ -292,6 +305,7 @@ impl hb_buffer_t {
     /// ```text
     /// ensures { result.now ≡ self.now.out }
     /// ```
+    #[inline]
     pub fn out_info(&self) -> &[hb_glyph_info_t] {
         self.sides.out()
     }
@@ -304,6 +318,7 @@ impl hb_buffer_t {
     /// ```text
     /// ensures { result ≡ (if self.now.have_output then length self.now.out else self.now.idx) }
     /// ```
+    #[inline]
     pub fn backtrack_len(&self) -> usize {
         if self.sides.is_open() {
             self.sides.out_len()
@@ -319,6 +334,7 @@ impl hb_buffer_t {
     /// ```text
     /// ensures { result ≡ lookahead_len self.now }
     /// ```
+    #[inline]
     pub fn lookahead_len(&self) -> usize {
         self.sides.left()
     }
@@ -339,6 +355,7 @@ impl hb_buffer_t {
     ///     ≡ (if side == 0 then self.now.pre_context else self.now.post_context) }
     /// ensures at_most_five { length result.now ≤ 5 }
     /// ```
+    #[inline]
     pub fn context(&self, side: usize) -> &[char] {
         debug_assert!(side < 2);
         if side == 0 {
@@ -356,6 +373,7 @@ impl hb_buffer_t {
     /// ```text
     /// ensures { self.new ≡ cleared self.old }
     /// ```
+    #[inline]
     pub fn clear(&mut self) {
         self.sides.clear();
         self.pos.clear();
@@ -374,7 +392,7 @@ impl hb_buffer_t {
 
     /// Whether clusters may stand in any order: then merges mark glyphs in place of merging, and scans read
     /// all clusters.
-    #[inline]
+    #[inline(always)]
     fn any_order(&self) -> bool {
         self.cluster_level == HB_BUFFER_CLUSTER_LEVEL_CHARACTERS
             || self.cluster_level == HB_BUFFER_CLUSTER_LEVEL_GRAPHEMES
@@ -387,7 +405,7 @@ impl hb_buffer_t {
     }
 
     /// Says that there are glyph flags.
-    #[inline]
+    #[inline(always)]
     fn set_has_glyph_flags(&mut self) {
         self.scratch_flags |= HB_BUFFER_SCRATCH_FLAG_HAS_GLYPH_FLAGS;
     }

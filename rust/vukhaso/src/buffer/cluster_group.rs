@@ -11,6 +11,7 @@ use crate::glyph::hb_glyph_info_t;
 /// ```text
 /// ensures { result ≡ share_cluster a.now b.now }
 /// ```
+#[inline]
 pub fn _cluster_group_func(a: &hb_glyph_info_t, b: &hb_glyph_info_t) -> bool {
     a.cluster == b.cluster
 }

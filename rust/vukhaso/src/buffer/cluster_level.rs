@@ -60,6 +60,7 @@ impl BufferClusterLevel {
     /// ```text
     /// ensures { result ≡ level_of self }
     /// ```
+    #[inline]
     pub fn number(self) -> hb_buffer_cluster_level_t {
         match self {
             BufferClusterLevel::MonotoneGraphemes => HB_BUFFER_CLUSTER_LEVEL_MONOTONE_GRAPHEMES,
@@ -76,6 +77,7 @@ impl BufferClusterLevel {
     /// ```text
     /// ensures { result ≡ named_level number }
     /// ```
+    #[inline]
     pub fn of_number(number: hb_buffer_cluster_level_t) -> Self {
         match number {
             HB_BUFFER_CLUSTER_LEVEL_MONOTONE_CHARACTERS => BufferClusterLevel::MonotoneCharacters,

@@ -37,6 +37,7 @@ impl GlyphBuffer {
     /// ensures is { result ≡ buffer }
     /// ensures placed { HasPositions result }
     /// ```
+    #[inline]
     pub fn from_buffer(buffer: hb_buffer_t) -> Self {
         debug_assert!(!buffer.have_output());
         debug_assert!(buffer.have_positions());
@@ -50,6 +51,7 @@ impl GlyphBuffer {
     /// ```text
     /// ensures { result ≡ length self.now.input }
     /// ```
+    #[inline]
     pub fn len(&self) -> usize {
         self.buffer.len()
     }
@@ -61,6 +63,7 @@ impl GlyphBuffer {
     /// ```text
     /// ensures { IsTrue result ↔ (length self.now.input ≡ 0) }
     /// ```
+    #[inline]
     pub fn is_empty(&self) -> bool {
         self.buffer.is_empty()
     }
@@ -72,6 +75,7 @@ impl GlyphBuffer {
     /// ```text
     /// ensures { result.now ≡ self.now.input }
     /// ```
+    #[inline]
     pub fn glyph_infos(&self) -> &[hb_glyph_info_t] {
         self.buffer.info()
     }
@@ -84,6 +88,7 @@ impl GlyphBuffer {
     /// ensures positions { Some result.now ≡ self.now.positions }
     /// ensures as_many { length result.now ≡ length self.now.input }
     /// ```
+    #[inline]
     pub fn glyph_positions(&self) -> &[GlyphPosition] {
         self.buffer.pos()
     }
@@ -96,6 +101,7 @@ impl GlyphBuffer {
     /// ```text
     /// ensures { result ≡ cleared self }
     /// ```
+    #[inline]
     pub fn clear(self) -> UnicodeBuffer {
         let mut buffer = self.buffer;
         buffer.clear();
@@ -131,6 +137,7 @@ impl GlyphBuffer {
     ///     flags self.now) }
     /// ensures wants { OnErr result (0 < length self.now.input) }
     /// ```
+    #[inline]
     pub fn serialize<F: GlyphNames>(
         &self,
 

@@ -32,6 +32,7 @@ impl UnicodeBuffer {
     /// ensures max_len { result.max_len ≡ 0x3FFF_FFFF }
     /// ensures max_ops { result.max_ops ≡ pos 0x1FFF_FFFF }
     /// ```
+    #[inline]
     pub fn new() -> Self {
         UnicodeBuffer {
             buffer: hb_buffer_t::new(),
@@ -45,6 +46,7 @@ impl UnicodeBuffer {
     /// ```text
     /// ensures { result ≡ length self.now.input }
     /// ```
+    #[inline]
     pub fn len(&self) -> usize {
         self.buffer.len()
     }
@@ -56,6 +58,7 @@ impl UnicodeBuffer {
     /// ```text
     /// ensures { IsTrue result ↔ (length self.now.input ≡ 0) }
     /// ```
+    #[inline]
     pub fn is_empty(&self) -> bool {
         self.buffer.is_empty()
     }
@@ -74,6 +77,7 @@ impl UnicodeBuffer {
     /// ```text
     /// ensures { GrowthMeets (pushed text.now self.old) self.old result self.new }
     /// ```
+    #[inline]
     pub fn push_str(&mut self, text: &str) -> Result<bool, AllocError> {
         self.buffer.push_str(text)
     }
@@ -90,6 +94,7 @@ impl UnicodeBuffer {
     /// ```text
     /// ensures { GrowthMeets (added codepoint cluster self.old) self.old result self.new }
     /// ```
+    #[inline]
     pub fn add(&mut self, codepoint: char, cluster: u32) -> Result<bool, AllocError> {
         self.buffer.add(codepoint, cluster)
     }
@@ -101,6 +106,7 @@ impl UnicodeBuffer {
     /// ```text
     /// ensures { self.new ≡ with_pre_context text.now self.old }
     /// ```
+    #[inline]
     pub fn set_pre_context(&mut self, text: &str) {
         self.buffer.set_pre_context(text);
     }
@@ -112,6 +118,7 @@ impl UnicodeBuffer {
     /// ```text
     /// ensures { self.new ≡ with_post_context text.now self.old }
     /// ```
+    #[inline]
     pub fn set_post_context(&mut self, text: &str) {
         self.buffer.set_post_context(text);
     }
@@ -123,6 +130,7 @@ impl UnicodeBuffer {
     /// ```text
     /// ensures { self.new ≡ record self.old { direction = direction } }
     /// ```
+    #[inline]
     pub fn set_direction(&mut self, direction: Direction) {
         self.buffer.direction = direction;
     }
@@ -134,6 +142,7 @@ impl UnicodeBuffer {
     /// ```text
     /// ensures { result ≡ self.now.direction }
     /// ```
+    #[inline]
     pub fn direction(&self) -> Direction {
         self.buffer.direction
     }
@@ -145,6 +154,7 @@ impl UnicodeBuffer {
     /// ```text
     /// ensures { self.new ≡ record self.old { script = Some script } }
     /// ```
+    #[inline]
     pub fn set_script(&mut self, script: Script) {
         self.buffer.script = Some(script);
     }
@@ -156,6 +166,7 @@ impl UnicodeBuffer {
     /// ```text
     /// ensures { result ≡ unwrap_or self.now.script unknown_script }
     /// ```
+    #[inline]
     pub fn script(&self) -> Script {
         self.buffer.script.unwrap_or(script::UNKNOWN)
     }
@@ -167,6 +178,7 @@ impl UnicodeBuffer {
     /// ```text
     /// ensures { self.new ≡ record self.old { language = Some language } }
     /// ```
+    #[inline]
     pub fn set_language(&mut self, language: Language) {
         self.buffer.language = Some(language);
     }
@@ -178,6 +190,7 @@ impl UnicodeBuffer {
     /// ```text
     /// ensures { option_copied result ≡ self.now.language }
     /// ```
+    #[inline]
     pub fn language(&self) -> Option<&Language> {
         self.buffer.language.as_ref()
     }
@@ -189,6 +202,7 @@ impl UnicodeBuffer {
     /// ```text
     /// ensures { self.new ≡ record self.old { not_found_variation_selector = Some glyph } }
     /// ```
+    #[inline]
     pub fn set_not_found_variation_selector_glyph(&mut self, glyph: u32) {
         self.buffer.not_found_variation_selector = Some(glyph);
     }
@@ -202,6 +216,7 @@ impl UnicodeBuffer {
     /// ```text
     /// ensures { self.new ≡ guessed self.old }
     /// ```
+    #[inline]
     pub fn guess_segment_properties(&mut self) {
         self.buffer.guess_segment_properties();
     }
@@ -213,6 +228,7 @@ impl UnicodeBuffer {
     /// ```text
     /// ensures { self.new ≡ record self.old { flags = flags } }
     /// ```
+    #[inline]
     pub fn set_flags(&mut self, flags: BufferFlags) {
         self.buffer.flags = flags;
     }
@@ -224,6 +240,7 @@ impl UnicodeBuffer {
     /// ```text
     /// ensures { result ≡ self.now.flags }
     /// ```
+    #[inline]
     pub fn flags(&self) -> BufferFlags {
         self.buffer.flags
     }
@@ -235,6 +252,7 @@ impl UnicodeBuffer {
     /// ```text
     /// ensures { self.new ≡ record self.old { cluster_level = level_of cluster_level } }
     /// ```
+    #[inline]
     pub fn set_cluster_level(&mut self, cluster_level: BufferClusterLevel) {
         self.buffer.cluster_level = cluster_level.number();
     }
@@ -246,6 +264,7 @@ impl UnicodeBuffer {
     /// ```text
     /// ensures { result ≡ named_level self.now.cluster_level }
     /// ```
+    #[inline]
     pub fn cluster_level(&self) -> BufferClusterLevel {
         BufferClusterLevel::of_number(self.buffer.cluster_level)
     }
@@ -257,6 +276,7 @@ impl UnicodeBuffer {
     /// ```text
     /// ensures { self.new ≡ with_clusters_reset self.old }
     /// ```
+    #[inline]
     pub fn reset_clusters(&mut self) {
         self.buffer.reset_clusters();
     }
@@ -270,6 +290,7 @@ impl UnicodeBuffer {
     /// ```text
     /// ensures { self.new ≡ cleared self.old }
     /// ```
+    #[inline]
     pub fn clear(&mut self) {
         self.buffer.clear();
     }
@@ -282,6 +303,7 @@ impl UnicodeBuffer {
     /// ensures is { result ≡ self }
     /// ensures text { IsText result }
     /// ```
+    #[inline]
     pub fn into_buffer(self) -> hb_buffer_t {
         self.buffer
     }

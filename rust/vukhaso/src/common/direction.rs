@@ -28,6 +28,7 @@ impl Direction {
     /// ```text
     /// ensures { result ≡ is_horizontal self }
     /// ```
+    #[inline]
     pub fn is_horizontal(self) -> bool {
         matches!(self, Direction::LeftToRight | Direction::RightToLeft)
     }
@@ -40,6 +41,7 @@ impl Direction {
     /// ```text
     /// ensures { result ≡ not (is_horizontal self) }
     /// ```
+    #[inline]
     pub fn is_vertical(self) -> bool {
         !self.is_horizontal()
     }
@@ -51,6 +53,7 @@ impl Direction {
     /// ```text
     /// ensures { result ≡ is_forward self }
     /// ```
+    #[inline]
     pub fn is_forward(self) -> bool {
         matches!(self, Direction::LeftToRight | Direction::TopToBottom)
     }
@@ -62,6 +65,7 @@ impl Direction {
     /// ```text
     /// ensures { result ≡ not (is_forward self) }
     /// ```
+    #[inline]
     pub fn is_backward(self) -> bool {
         !self.is_forward()
     }
@@ -73,6 +77,7 @@ impl Direction {
     /// ```text
     /// ensures { result ≡ reverse self }
     /// ```
+    #[inline]
     pub fn reverse(self) -> Self {
         match self {
             Self::Invalid => Self::Invalid,

@@ -52,6 +52,7 @@ impl Script {
     /// ```text
     /// ensures { result ≡ script_of tag.0 }
     /// ```
+    #[inline]
     pub fn from_iso15924_tag(tag: Tag) -> Option<Script> {
         if tag.is_null() {
             return None;
@@ -74,6 +75,7 @@ impl Script {
     /// ensures value { result.0 ≡ self.now }
     /// ensures gives_back { script_of result.0 ≡ Some self.now }
     /// ```
+    #[inline]
     pub fn tag(&self) -> Tag {
         self.0
     }

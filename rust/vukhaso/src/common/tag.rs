@@ -19,6 +19,7 @@ impl Tag {
     /// ```text
     /// ensures { result.0 ≡ tag_of bytes.now }
     /// ```
+    #[inline]
     pub fn from_bytes(bytes: &[u8; 4]) -> Self {
         Tag(u32::from_be_bytes(*bytes))
     }
@@ -31,6 +32,7 @@ impl Tag {
     /// ```text
     /// ensures { result.0 ≡ lossy_tag_of bytes.now }
     /// ```
+    #[inline]
     pub fn from_bytes_lossy(bytes: &[u8]) -> Self {
         match *bytes {
             [] => Tag(0),
@@ -48,6 +50,7 @@ impl Tag {
     /// ```text
     /// ensures { result ≡ self.0 }
     /// ```
+    #[inline]
     pub fn as_u32(self) -> u32 {
         let Tag(number) = self;
         number
@@ -60,6 +63,7 @@ impl Tag {
     /// ```text
     /// ensures { result ≡ to_be_bytes w32 self.0 }
     /// ```
+    #[inline]
     pub fn to_bytes(self) -> [u8; 4] {
         self.0.to_be_bytes()
     }
@@ -71,6 +75,7 @@ impl Tag {
     /// ```text
     /// ensures { IsTrue result ↔ (self.0 ≡ 0) }
     /// ```
+    #[inline]
     pub fn is_null(self) -> bool {
         self.0 == 0
     }

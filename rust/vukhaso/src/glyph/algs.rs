@@ -13,6 +13,7 @@
 /// ```text
 /// ensures { result ≡ 2 ^ x }
 /// ```
+#[inline]
 pub const fn rb_flag(x: u32) -> u32 {
     debug_assert!(x < 32);
     1u32 << x
@@ -25,6 +26,7 @@ pub const fn rb_flag(x: u32) -> u32 {
 /// ```text
 /// ensures { result ≡ (if nat_lt x 32 then 2 ^ x else 0) }
 /// ```
+#[inline]
 pub fn rb_flag_unsafe(x: u32) -> u32 {
     if x < 32 { rb_flag(x) } else { 0 }
 }
@@ -42,6 +44,7 @@ pub fn rb_flag_unsafe(x: u32) -> u32 {
 /// ensures value { result ≡ 2 ^ (y + 1) - 2 ^ x }
 /// ensures bits { (k : ℕ) → (bit_at result k ≡ 1) ↔ ((x ≤ k) × (k ≤ y)) }
 /// ```
+#[inline]
 pub fn rb_flag_range(x: u32, y: u32) -> u32 {
     debug_assert!(x <= y);
     debug_assert!(y < 32);
@@ -59,6 +62,7 @@ pub fn rb_flag_range(x: u32, y: u32) -> u32 {
 /// ```text
 /// ensures { result ≡ 2 ^ x }
 /// ```
+#[inline]
 pub const fn rb_flag64(x: u32) -> u64 {
     debug_assert!(x < 64);
     1u64 << x
@@ -71,6 +75,7 @@ pub const fn rb_flag64(x: u32) -> u64 {
 /// ```text
 /// ensures { result ≡ (if nat_lt x 64 then 2 ^ x else 0) }
 /// ```
+#[inline]
 pub fn rb_flag64_unsafe(x: u32) -> u64 {
     if x < 64 { rb_flag64(x) } else { 0 }
 }

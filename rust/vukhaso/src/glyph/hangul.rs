@@ -26,6 +26,7 @@ const S_COUNT: u32 = L_COUNT * V_COUNT * T_COUNT;
 /// ```text
 /// ensures { ComposesTo a b result }
 /// ```
+#[inline]
 pub fn compose_hangul(a: char, b: char) -> Option<char> {
     if let Some(s) = compose_leading(a, b) {
         return Some(s);
@@ -60,6 +61,7 @@ fn compose_trailing(a: char, b: char) -> Option<char> {
 /// ```text
 /// ensures { DecomposesTo s result }
 /// ```
+#[inline]
 pub fn decompose_hangul(s: char) -> Option<(char, char)> {
     let index = (s as u32).checked_sub(S_BASE)?;
     if index >= S_COUNT {

@@ -36,6 +36,7 @@ impl hb_glyph_info_t {
     /// ```text
     /// ensures { IsTrue result ↔ (field self.now.mask 0 1 ≡ 1) }
     /// ```
+    #[inline]
     pub fn unsafe_to_break(&self) -> bool {
         self.mask & glyph_flag::UNSAFE_TO_BREAK != 0
     }
@@ -51,6 +52,7 @@ impl hb_glyph_info_t {
     /// ```text
     /// ensures { result ≡ self.now.glyph_id }
     /// ```
+    #[inline]
     pub fn as_char(&self) -> char {
         char::from_u32(self.glyph_id).unwrap()
     }
@@ -66,6 +68,7 @@ impl hb_glyph_info_t {
     /// ```text
     /// ensures { result.0 ≡ self.now.glyph_id }
     /// ```
+    #[inline]
     pub fn as_glyph(&self) -> GlyphId {
         debug_assert!(self.glyph_id <= 65535);
         GlyphId(self.glyph_id as u16)
@@ -78,6 +81,7 @@ impl hb_glyph_info_t {
     /// ```text
     /// ensures { result ≡ field self.now.var2 0 16 }
     /// ```
+    #[inline]
     pub fn unicode_props(&self) -> u16 {
         read_field(self.var2, 0, 16) as u16
     }
@@ -89,6 +93,7 @@ impl hb_glyph_info_t {
     /// ```text
     /// ensures { self.new ≡ record self.old { var2 = with_field self.old.var2 0 16 n } }
     /// ```
+    #[inline]
     pub fn set_unicode_props(&mut self, n: u16) {
         write_field(&mut self.var2, 0, 16, n as u32);
     }
@@ -100,6 +105,7 @@ impl hb_glyph_info_t {
     /// ```text
     /// ensures { self.new ≡ record self.old { var2 = with_field self.old.var2 6 1 0 } }
     /// ```
+    #[inline]
     pub fn unhide(&mut self) {
         let mut props = UnicodeProps::from_bits_retain(self.unicode_props());
         props.remove(UnicodeProps::HIDDEN);
@@ -113,6 +119,7 @@ impl hb_glyph_info_t {
     /// ```text
     /// ensures { result ≡ field self.now.var1 0 16 }
     /// ```
+    #[inline]
     pub fn glyph_props(&self) -> u16 {
         read_field(self.var1, 0, 16) as u16
     }
@@ -124,6 +131,7 @@ impl hb_glyph_info_t {
     /// ```text
     /// ensures { self.new ≡ record self.old { var1 = with_field self.old.var1 0 16 n } }
     /// ```
+    #[inline]
     pub fn set_glyph_props(&mut self, n: u16) {
         write_field(&mut self.var1, 0, 16, n as u32);
     }
@@ -135,6 +143,7 @@ impl hb_glyph_info_t {
     /// ```text
     /// ensures { result ≡ field self.now.var1 16 8 }
     /// ```
+    #[inline]
     pub fn lig_props(&self) -> u8 {
         read_field(self.var1, 16, 8) as u8
     }
@@ -146,6 +155,7 @@ impl hb_glyph_info_t {
     /// ```text
     /// ensures { self.new ≡ record self.old { var1 = with_field self.old.var1 16 8 n } }
     /// ```
+    #[inline]
     pub fn set_lig_props(&mut self, n: u8) {
         write_field(&mut self.var1, 16, 8, n as u32);
     }
@@ -157,6 +167,7 @@ impl hb_glyph_info_t {
     /// ```text
     /// ensures { result ≡ field self.now.var1 24 8 }
     /// ```
+    #[inline]
     pub fn syllable(&self) -> u8 {
         read_field(self.var1, 24, 8) as u8
     }
@@ -168,6 +179,7 @@ impl hb_glyph_info_t {
     /// ```text
     /// ensures { self.new ≡ record self.old { var1 = with_field self.old.var1 24 8 n } }
     /// ```
+    #[inline]
     pub fn set_syllable(&mut self, n: u8) {
         write_field(&mut self.var1, 24, 8, n as u32);
     }
@@ -180,6 +192,7 @@ impl hb_glyph_info_t {
     /// ```text
     /// ensures { result ≡ self.now.var1 }
     /// ```
+    #[inline]
     pub fn glyph_index(&self) -> u32 {
         self.var1
     }
@@ -191,6 +204,7 @@ impl hb_glyph_info_t {
     /// ```text
     /// ensures { self.new ≡ record self.old { var1 = n } }
     /// ```
+    #[inline]
     pub fn set_glyph_index(&mut self, n: u32) {
         self.var1 = n;
     }

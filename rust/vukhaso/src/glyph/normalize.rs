@@ -15,6 +15,7 @@ use crate::glyph::tables::{Compositions, Decompositions};
 /// ensures table { ((s : ℕ) → ¬ HangulComposes s a b)
 ///     → result ≡ composition_of a b compositions.now }
 /// ```
+#[inline]
 pub fn compose(compositions: &Compositions, a: char, b: char) -> Option<char> {
     if let Some(syllable) = compose_hangul(a, b) {
         return Some(syllable);
@@ -33,6 +34,7 @@ pub fn compose(compositions: &Compositions, a: char, b: char) -> Option<char> {
 /// ensures table { ((a b : ℕ) → ¬ HangulComposes ab a b)
 ///     → result ≡ decomposition_of ab decompositions.now }
 /// ```
+#[inline]
 pub fn decompose(decompositions: &Decompositions, ab: char) -> Option<(char, char)> {
     if let Some(pair) = decompose_hangul(ab) {
         return Some(pair);

@@ -29,6 +29,7 @@ impl GlyphPosition {
     /// ```text
     /// ensures { result ≡ signed_of_field 16 (field self.now.var 0 16) }
     /// ```
+    #[inline]
     pub fn attach_chain(&self) -> i16 {
         (read_field(self.var, 0, 16) as u16).cast_signed()
     }
@@ -42,6 +43,7 @@ impl GlyphPosition {
     ///       var = with_field self.old.var 0 16 (field_of_signed 16 n);
     ///     } }
     /// ```
+    #[inline]
     pub fn set_attach_chain(&mut self, n: i16) {
         write_field(&mut self.var, 0, 16, n.cast_unsigned() as u32);
     }
@@ -53,6 +55,7 @@ impl GlyphPosition {
     /// ```text
     /// ensures { result ≡ field self.now.var 16 8 }
     /// ```
+    #[inline]
     pub fn attach_type(&self) -> u8 {
         read_field(self.var, 16, 8) as u8
     }
@@ -64,6 +67,7 @@ impl GlyphPosition {
     /// ```text
     /// ensures { self.new ≡ record self.old { var = with_field self.old.var 16 8 n } }
     /// ```
+    #[inline]
     pub fn set_attach_type(&mut self, n: u8) {
         write_field(&mut self.var, 16, 8, n as u32);
     }

@@ -31,6 +31,7 @@ impl<'a> CombiningClasses<'a> {
     /// ```text
     /// ensures { result ≡ (if keys_rise rows.now then Some rows.now else None) }
     /// ```
+    #[inline]
     pub fn new(rows: &'a [(char, u8)]) -> Option<Self> {
         if rises(rows, |a, b| a.0 < b.0) {
             Some(CombiningClasses { rows })
@@ -68,6 +69,7 @@ impl<'a> Mirrors<'a> {
     /// ```text
     /// ensures { result ≡ (if keys_rise rows.now then Some rows.now else None) }
     /// ```
+    #[inline]
     pub fn new(rows: &'a [(char, char)]) -> Option<Self> {
         if rises(rows, |a, b| a.0 < b.0) {
             Some(Mirrors { rows })
@@ -106,6 +108,7 @@ impl<'a> Compositions<'a> {
     /// ```text
     /// ensures { result ≡ (if pairs_rise rows.now then Some rows.now else None) }
     /// ```
+    #[inline]
     pub fn new(rows: &'a [((char, char), char)]) -> Option<Self> {
         if rises(rows, |a, b| a.0 < b.0) {
             Some(Compositions { rows })
@@ -143,6 +146,7 @@ impl<'a> Decompositions<'a> {
     /// ```text
     /// ensures { result ≡ (if decompositions_rise rows.now then Some rows.now else None) }
     /// ```
+    #[inline]
     pub fn new(rows: &'a [(char, char, Option<char>)]) -> Option<Self> {
         if rises(rows, |a, b| a.0 < b.0) {
             Some(Decompositions { rows })

@@ -37,6 +37,7 @@ impl hb_glyph_info_t {
     ///     } }
     /// ensures remembered { scratch_flags.new ≡ props_scratch self.old.glyph_id scratch_flags.old }
     /// ```
+    #[inline]
     pub fn init_unicode_props(
         &mut self,
         scratch_flags: &mut hb_buffer_scratch_flags_t,

@@ -11,6 +11,7 @@ use crate::glyph::hb_glyph_info_t;
 /// ```text
 /// ensures { info.new ≡ reset_clusters 0 info.old }
 /// ```
+#[inline]
 pub fn reset_clusters(info: &mut [hb_glyph_info_t]) {
     for (i, glyph) in info.iter_mut().enumerate() {
         glyph.cluster = (i % 0x1_0000_0000) as u32;

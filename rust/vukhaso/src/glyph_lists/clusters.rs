@@ -12,7 +12,7 @@ use crate::glyph::{glyph_flag, hb_glyph_info_t};
 /// ```text
 /// ensures { info.new ≡ with_cluster cluster mask info.old }
 /// ```
-#[inline]
+#[inline(always)]
 pub fn set_cluster(info: &mut hb_glyph_info_t, cluster: u32, mask: u32) {
     if info.cluster != cluster {
         info.mask = (info.mask & !glyph_flag::DEFINED) | (mask & glyph_flag::DEFINED);
@@ -21,7 +21,7 @@ pub fn set_cluster(info: &mut hb_glyph_info_t, cluster: u32, mask: u32) {
 }
 
 /// Puts each glyph into a cluster, with the glyph flags of `mask` where that changes its cluster.
-#[inline]
+#[inline(always)]
 fn set_clusters(info: &mut [hb_glyph_info_t], cluster: u32, mask: u32) {
     for glyph in info.iter_mut() {
         set_cluster(glyph, cluster, mask);
@@ -34,7 +34,7 @@ fn set_clusters(info: &mut [hb_glyph_info_t], cluster: u32, mask: u32) {
 ///
 /// - `order: start ≤ end`
 /// - `within: end ≤ length info.old`
-#[inline]
+#[inline(always)]
 pub(crate) fn set_range(
     info: &mut [hb_glyph_info_t],
     start: usize,
@@ -63,7 +63,7 @@ pub(crate) fn set_range(
 /// ensures input { input.new ≡ drop (length out.old)
 ///     (map_range (with_cluster cluster 0) (out.old ++ input.old) start end) }
 /// ```
-#[inline]
+#[inline(always)]
 pub fn set_sides(
     out: &mut [hb_glyph_info_t],
     input: &mut [hb_glyph_info_t],

@@ -17,6 +17,7 @@ pub type Context = ArrayVec<char, CONTEXT_LENGTH>;
 /// ```text
 /// ensures { context.new.items ≡ before_text text.now }
 /// ```
+#[inline]
 pub fn keep_before(context: &mut Context, text: &str) {
     context.clear();
     for c in text.chars().rev().take(CONTEXT_LENGTH) {
@@ -31,6 +32,7 @@ pub fn keep_before(context: &mut Context, text: &str) {
 /// ```text
 /// ensures { context.new.items ≡ after_text text.now }
 /// ```
+#[inline]
 pub fn keep_after(context: &mut Context, text: &str) {
     context.clear();
     for c in text.chars().take(CONTEXT_LENGTH) {

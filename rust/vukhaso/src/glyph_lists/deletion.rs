@@ -7,13 +7,13 @@ use crate::glyph_lists::clusters::set_range;
 use crate::glyph_lists::merging::merge_or_mark;
 
 /// Whether the first glyph is in the cluster.
-#[inline]
+#[inline(always)]
 fn first_is_in(info: &[hb_glyph_info_t], cluster: u32) -> bool {
     !info.is_empty() && info[0].cluster == cluster
 }
 
 /// Whether the last glyph is in the cluster.
-#[inline]
+#[inline(always)]
 fn last_is_in(info: &[hb_glyph_info_t], cluster: u32) -> bool {
     !info.is_empty() && info[info.len() - 1].cluster == cluster
 }
@@ -23,7 +23,7 @@ fn last_is_in(info: &[hb_glyph_info_t], cluster: u32) -> bool {
 /// # Requires
 ///
 /// - `0 < length input.now`
-#[inline]
+#[inline(always)]
 fn has_neighbour_in_cluster(out: &[hb_glyph_info_t], input: &[hb_glyph_info_t]) -> bool {
     debug_assert!(!input.is_empty());
     let cluster = input[0].cluster;
@@ -36,7 +36,7 @@ fn has_neighbour_in_cluster(out: &[hb_glyph_info_t], input: &[hb_glyph_info_t]) 
 /// # Requires
 ///
 /// - `0 < length input.now`
-#[inline]
+#[inline(always)]
 fn lowers_run(out: &[hb_glyph_info_t], input: &[hb_glyph_info_t]) -> bool {
     debug_assert!(!input.is_empty());
     !has_neighbour_in_cluster(out, input)
@@ -56,14 +56,14 @@ fn lowers_run(out: &[hb_glyph_info_t], input: &[hb_glyph_info_t]) -> bool {
 /// ensures { result
 ///     ≡ merges_next out.now (slice_index_or input.now 0 zero_glyph) (drop 1 input.now) }
 /// ```
-#[inline]
+#[inline(always)]
 pub fn merges_next(out: &[hb_glyph_info_t], input: &[hb_glyph_info_t]) -> bool {
     debug_assert!(!input.is_empty());
     out.is_empty() && input.len() > 1 && !has_neighbour_in_cluster(out, input)
 }
 
 /// Where the run of `cluster` begins that ends the list.
-#[inline]
+#[inline(always)]
 fn trailing_run_start(info: &[hb_glyph_info_t], cluster: u32) -> usize {
     let mut start = info.len();
     while start > 0 && info[start - 1].cluster == cluster {
@@ -83,7 +83,7 @@ fn trailing_run_start(info: &[hb_glyph_info_t], cluster: u32) -> usize {
 /// ```text
 /// ensures { out.new ≡ with_trailing_run cluster mask out.old }
 /// ```
-#[inline]
+#[inline(always)]
 pub fn set_trailing_run(out: &mut [hb_glyph_info_t], cluster: u32, mask: u32) {
     debug_assert!(!out.is_empty());
     let len = out.len();

@@ -60,7 +60,7 @@ pub fn delete_in_place<F: Fn(&hb_glyph_info_t) -> bool>(
 ///
 /// - `order: kept ≤ at`
 /// - `within: at < length info.old`
-#[inline]
+#[inline(always)]
 fn delete_at(info: &mut [hb_glyph_info_t], kept: usize, at: usize, any_order: bool) -> bool {
     debug_assert!(kept <= at);
     debug_assert!(at < info.len());
@@ -76,7 +76,7 @@ fn delete_at(info: &mut [hb_glyph_info_t], kept: usize, at: usize, any_order: bo
 /// # Requires
 ///
 /// - `kept ≤ at`
-#[inline]
+#[inline(always)]
 fn keep_at<T: Copy>(items: &mut [T], kept: usize, at: usize) {
     debug_assert!(kept <= at);
     if at < items.len() {

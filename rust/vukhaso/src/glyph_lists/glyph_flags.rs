@@ -12,13 +12,13 @@ use crate::glyph::{glyph_flag, hb_glyph_info_t};
 pub const BREAK_BITS: u32 = glyph_flag::UNSAFE_TO_BREAK | glyph_flag::UNSAFE_TO_CONCAT;
 
 /// Adds the bits to the glyph's mask.
-#[inline]
+#[inline(always)]
 fn mark(glyph: &mut hb_glyph_info_t, bits: u32) {
     glyph.mask |= bits;
 }
 
 /// Adds the bits to the glyph's mask, unless it is in the cluster.
-#[inline]
+#[inline(always)]
 fn mark_unless_in(glyph: &mut hb_glyph_info_t, bits: u32, cluster: u32) {
     if glyph.cluster != cluster {
         mark(glyph, bits);
@@ -26,7 +26,7 @@ fn mark_unless_in(glyph: &mut hb_glyph_info_t, bits: u32, cluster: u32) {
 }
 
 /// Adds the bits to the mask of each glyph.
-#[inline]
+#[inline(always)]
 fn mark_all(info: &mut [hb_glyph_info_t], bits: u32) {
     for glyph in info.iter_mut() {
         mark(glyph, bits);
@@ -39,7 +39,7 @@ fn mark_all(info: &mut [hb_glyph_info_t], bits: u32) {
 ///
 /// - `order: start ≤ end`
 /// - `within: end ≤ length info.old`
-#[inline]
+#[inline(always)]
 fn mark_slice(info: &mut [hb_glyph_info_t], start: usize, end: usize, bits: u32) {
     debug_assert!(start <= end);
     debug_assert!(end <= info.len());
@@ -53,7 +53,7 @@ fn mark_slice(info: &mut [hb_glyph_info_t], start: usize, end: usize, bits: u32)
 ///
 /// - `order: start ≤ end`
 /// - `within: end ≤ length out.old + length input.old`
-#[inline]
+#[inline(always)]
 pub(crate) fn mark_range(
     out: &mut [hb_glyph_info_t],
     input: &mut [hb_glyph_info_t],
@@ -73,7 +73,7 @@ pub(crate) fn mark_range(
 }
 
 /// Adds the bits to the mask of each glyph that is not in the cluster.
-#[inline]
+#[inline(always)]
 fn mark_others(info: &mut [hb_glyph_info_t], bits: u32, cluster: u32) {
     for glyph in info.iter_mut() {
         mark_unless_in(glyph, bits, cluster);
@@ -87,7 +87,7 @@ fn mark_others(info: &mut [hb_glyph_info_t], bits: u32, cluster: u32) {
 ///
 /// - `some: 0 < length info.old`
 /// - `last: slice_index (clusters info.old) (length info.old - 1) ≡ cluster`
-#[inline]
+#[inline(always)]
 fn mark_before_first(info: &mut [hb_glyph_info_t], bits: u32, cluster: u32) {
     debug_assert!(!info.is_empty());
     let mut end = 0;
@@ -104,7 +104,7 @@ fn mark_before_first(info: &mut [hb_glyph_info_t], bits: u32, cluster: u32) {
 ///
 /// - `some: 0 < length info.old`
 /// - `first: slice_index (clusters info.old) 0 ≡ cluster`
-#[inline]
+#[inline(always)]
 fn mark_after_last(info: &mut [hb_glyph_info_t], bits: u32, cluster: u32) {
     debug_assert!(!info.is_empty());
     let mut start = info.len();
@@ -116,7 +116,7 @@ fn mark_after_last(info: &mut [hb_glyph_info_t], bits: u32, cluster: u32) {
 
 /// Scans one part by its ends, `least` being the least cluster of all ends: from the end that is not of
 /// the least cluster up to the first glyph of it.
-#[inline]
+#[inline(always)]
 fn mark_part(info: &mut [hb_glyph_info_t], bits: u32, least: u32) {
     let len = info.len();
     if len == 0 {
@@ -132,7 +132,7 @@ fn mark_part(info: &mut [hb_glyph_info_t], bits: u32, least: u32) {
 }
 
 /// The lesser of the first cluster and the last, 0 where there is no glyph.
-#[inline]
+#[inline(always)]
 fn least_end(info: &[hb_glyph_info_t]) -> u32 {
     let len = info.len();
     if len == 0 {
@@ -142,7 +142,7 @@ fn least_end(info: &[hb_glyph_info_t]) -> u32 {
 }
 
 /// The least of the first and last clusters of two parts, 0 where both are empty.
-#[inline]
+#[inline(always)]
 fn least_of_ends(out: &[hb_glyph_info_t], input: &[hb_glyph_info_t]) -> u32 {
     if out.is_empty() {
         return least_end(input);
@@ -184,7 +184,7 @@ fn mark_outside_least(info: &mut [hb_glyph_info_t], bits: u32) {
 }
 
 /// Scans one list.
-#[inline]
+#[inline(always)]
 fn scan_list(info: &mut [hb_glyph_info_t], bits: u32, any_order: bool) {
     if any_order {
         mark_outside_least(info, bits);
@@ -206,7 +206,7 @@ fn scan_list(info: &mut [hb_glyph_info_t], bits: u32, any_order: bool) {
 /// ```text
 /// ensures { info.new ≡ on_part (scan_of any_order bits) info.old start end }
 /// ```
-#[inline]
+#[inline(always)]
 pub fn scan_slice(
     info: &mut [hb_glyph_info_t],
     start: usize,
@@ -220,7 +220,7 @@ pub fn scan_slice(
 }
 
 /// Scans one part, by the least cluster of all parts.
-#[inline]
+#[inline(always)]
 fn scan_part(info: &mut [hb_glyph_info_t], bits: u32, least: u32, any_order: bool) {
     if any_order {
         mark_others(info, bits, least);
@@ -235,7 +235,7 @@ fn scan_part(info: &mut [hb_glyph_info_t], bits: u32, least: u32, any_order: boo
 ///
 /// - `order: start ≤ end`
 /// - `within: end ≤ length info.old`
-#[inline]
+#[inline(always)]
 fn scan_part_slice(
     info: &mut [hb_glyph_info_t],
     start: usize,
@@ -250,7 +250,7 @@ fn scan_part_slice(
 }
 
 /// The least cluster that a scan of two parts goes by.
-#[inline]
+#[inline(always)]
 fn least_for_scan(out: &[hb_glyph_info_t], input: &[hb_glyph_info_t], any_order: bool) -> u32 {
     if any_order {
         least_of_both(out, input)

@@ -16,6 +16,7 @@ use crate::glyph::hb_glyph_info_t;
 /// ```text
 /// ensures { items.new ≡ of.reverse_range start end items.old }
 /// ```
+#[inline]
 pub fn reverse_range<T>(items: &mut [T], start: usize, end: usize) {
     debug_assert!(start <= end);
     debug_assert!(end <= items.len());
@@ -39,6 +40,7 @@ pub fn reverse_range<T>(items: &mut [T], start: usize, end: usize) {
 ///     → ((x y : _) (r : _) → F.post group.now x y r → r ≡ test x.now y.now)
 ///     → result ≡ of.group_end test start info.now }
 /// ```
+#[inline]
 pub fn group_end<F: Fn(&hb_glyph_info_t, &hb_glyph_info_t) -> bool>(
     info: &[hb_glyph_info_t],
     start: usize,

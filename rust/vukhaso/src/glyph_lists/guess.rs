@@ -22,6 +22,7 @@ fn is_neutral(script: Script) -> bool {
 /// ```text
 /// ensures { result ≡ guessed_script info.now }
 /// ```
+#[inline]
 pub fn first_script(info: &[hb_glyph_info_t]) -> Option<Script> {
     info.iter()
         .map(|glyph| glyph.as_char().script())
@@ -36,6 +37,7 @@ pub fn first_script(info: &[hb_glyph_info_t]) -> Option<Script> {
 /// ```text
 /// ensures { result ≡ guessed_direction script }
 /// ```
+#[inline]
 pub fn guess_direction(script: Option<Script>) -> Direction {
     script
         .and_then(Direction::from_script)

@@ -5,7 +5,7 @@
 use crate::glyph::hb_glyph_info_t;
 
 /// Gives the glyph a mask.
-#[inline]
+#[inline(always)]
 fn set_mask(glyph: &mut hb_glyph_info_t, mask: u32) {
     glyph.mask = mask;
 }
@@ -17,6 +17,7 @@ fn set_mask(glyph: &mut hb_glyph_info_t, mask: u32) {
 /// ```text
 /// ensures { info.new ≡ reset_masks mask info.old }
 /// ```
+#[inline]
 pub fn reset_masks(info: &mut [hb_glyph_info_t], mask: u32) {
     for glyph in info.iter_mut() {
         set_mask(glyph, mask);
@@ -25,19 +26,19 @@ pub fn reset_masks(info: &mut [hb_glyph_info_t], mask: u32) {
 
 /// Whether the range of clusters from `start` up to `end` holds the cluster; 0 to the largest number
 /// holds all.
-#[inline]
+#[inline(always)]
 fn is_in_clusters(cluster: u32, start: u32, end: u32) -> bool {
     (start == 0 && end == u32::MAX) || (start <= cluster && cluster < end)
 }
 
 /// Gives the bits of `mask` those of `value`.
-#[inline]
+#[inline(always)]
 fn set_bits(glyph: &mut hb_glyph_info_t, value: u32, mask: u32) {
     glyph.mask = (glyph.mask & !mask) | (value & mask);
 }
 
 /// Gives the bits of `mask` those of `value`, if the range of clusters holds the glyph's.
-#[inline]
+#[inline(always)]
 fn set_bits_in(glyph: &mut hb_glyph_info_t, value: u32, mask: u32, start: u32, end: u32) {
     if is_in_clusters(glyph.cluster, start, end) {
         set_bits(glyph, value, mask);
@@ -52,6 +53,7 @@ fn set_bits_in(glyph: &mut hb_glyph_info_t, value: u32, mask: u32, start: u32, e
 /// ```text
 /// ensures { info.new ≡ set_masks value mask cluster_start cluster_end info.old }
 /// ```
+#[inline]
 pub fn set_masks(
     info: &mut [hb_glyph_info_t],
     value: u32,

@@ -50,6 +50,7 @@ impl Words for GlyphPosition {
 /// ```text
 /// ensures { items.new ≡ reverse items.old }
 /// ```
+#[inline]
 pub fn reverse<T: Words>(items: &mut [T]) {
     let len = items.len();
     for i in 0..len / 2 {

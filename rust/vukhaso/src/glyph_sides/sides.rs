@@ -57,6 +57,7 @@ impl Sides {
     /// ```text
     /// ensures { result ≡ nothing 0 }
     /// ```
+    #[inline]
     pub fn new() -> Self {
         Sides {
             info: Vec::new(),
@@ -77,6 +78,7 @@ impl Sides {
     /// ```text
     /// ensures { self.new ≡ nothing self.old.room }
     /// ```
+    #[inline]
     pub fn clear(&mut self) {
         self.info.clear();
         self.out_info.clear();
@@ -351,6 +353,7 @@ impl Sides {
     /// ensures same { OnErr result (self.new ≡ self.old) }
     /// ensures wants { OnErr result (self.old.room < size) }
     /// ```
+    #[inline]
     pub fn reserve(&mut self, size: usize) -> Result<(), AllocError> {
         if size > self.room {
             self.info.reserve(size.saturating_sub(self.info.len()))?;
@@ -378,6 +381,7 @@ impl Sides {
     /// ensures same { self.new ≡ self.old }
     /// ensures wants { OnErr result ((0 < more) × (self.old.room < length self.old.input + more)) }
     /// ```
+    #[inline]
     pub fn reserve_more(&mut self, more: usize) -> Result<(), AllocError> {
         debug_assert!(!self.is_open());
         self.info.reserve(more)
@@ -415,6 +419,7 @@ impl Sides {
     /// ensures same { OnErr result (self.new ≡ self.old) }
     /// ensures wants { OnErr result (self.old.room ≤ length self.old.input) }
     /// ```
+    #[inline]
     pub fn push(&mut self, glyph: hb_glyph_info_t) -> Result<(), AllocError> {
         debug_assert!(!self.is_open());
         self.info.push(glyph)?;
@@ -434,6 +439,7 @@ impl Sides {
     /// ```text
     /// ensures { self.new ≡ record self.old { input = take n self.old.input; idx = 0 } }
     /// ```
+    #[inline]
     pub fn truncate(&mut self, n: usize) {
         debug_assert!(!self.is_open());
         self.info.truncate(n);
@@ -488,6 +494,7 @@ impl Sides {
     /// ensures same { OnErr result (self.new ≡ self.old) }
     /// ensures wants { OnErr result ((0 < count) × (self.old.room < length self.old.input + count)) }
     /// ```
+    #[inline]
     pub fn append(&mut self, text: &str, count: usize) -> Result<(), AllocError> {
         debug_assert!(!self.is_open());
         self.info.reserve(count)?;

@@ -88,6 +88,7 @@ const LIKELY_LENGTH: usize = 16;
 ///     (zip infos.now positions.now)) }
 /// ensures wants { OnErr result (0 < length infos.now) }
 /// ```
+#[inline]
 pub fn glyphs_text<F: GlyphNames>(
     font: &F,
     flags: SerializeFlags,
@@ -179,14 +180,14 @@ fn write_bar(text: &mut String, i: usize) -> Result<(), AllocError> {
 /// # Requires
 ///
 /// - `before < 128`
-#[inline]
+#[inline(always)]
 fn write_behind<I: Integer>(text: &mut String, before: char, number: I) -> Result<(), AllocError> {
     debug_assert!(u32::from(before) < 128);
     text.push(before)?;
     write_number(text, number)
 }
 
-#[inline]
+#[inline(always)]
 fn write_number<I: Integer>(text: &mut String, number: I) -> Result<(), AllocError> {
     let mut digits = Buffer::new();
     text.push_str(digits.format(number))

@@ -24,6 +24,15 @@ impl String {
     /// Makes room for so many bytes more.
     #[inline]
     pub fn reserve(&mut self, additional: usize) -> Result<(), AllocError> {
+        if additional > self.0.capacity() - self.0.len() {
+            return self.grow(additional);
+        }
+        Ok(())
+    }
+
+    #[cold]
+    #[inline(never)]
+    fn grow(&mut self, additional: usize) -> Result<(), AllocError> {
         Ok(self.0.try_reserve(additional)?)
     }
 

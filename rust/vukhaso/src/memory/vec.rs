@@ -24,23 +24,30 @@ impl<T> Vec<T> {
     /// Makes room for so many elements more.
     #[inline]
     pub fn reserve(&mut self, additional: usize) -> Result<(), AllocError> {
+        if additional > self.0.capacity() - self.0.len() {
+            return self.grow(additional);
+        }
+        Ok(())
+    }
+
+    #[cold]
+    #[inline(never)]
+    fn grow(&mut self, additional: usize) -> Result<(), AllocError> {
         Ok(self.0.try_reserve(additional)?)
     }
 
     /// Puts an element at the end.
     #[inline]
     pub fn push(&mut self, element: T) -> Result<(), AllocError> {
-        if self.0.len() == self.0.capacity() {
-            self.reserve(1)?;
-        }
-        self.0.push(element);
+        self.reserve(1)?;
+        self.push_reserved(element);
         Ok(())
     }
 
-    /// Puts an element at the end, for which there is room.
+    /// Puts an element at the end, for which there is room. It panics where there is none.
     #[inline]
     pub fn push_reserved(&mut self, element: T) {
-        debug_assert!(self.0.len() < self.0.capacity());
+        assert!(self.0.len() < self.0.capacity()); // so `push` does not grow
         self.0.push(element);
     }
 

@@ -29,6 +29,7 @@ impl<'a> KerningTable<'a> {
     /// ```text
     /// ensures { result ≡ (if pairs_rise rows.now then Some rows.now else None) }
     /// ```
+    #[inline]
     pub fn new(rows: &'a [((u32, u32), i32)]) -> Option<Self> {
         if rises(rows, |a, b| a.0 < b.0) {
             Some(KerningTable { rows })
@@ -44,6 +45,7 @@ impl<'a> KerningTable<'a> {
     /// ```text
     /// ensures { result ≡ value_or_zero first second self.now }
     /// ```
+    #[inline]
     pub fn value_of(&self, first: u32, second: u32) -> i32 {
         value_at(self.rows, (first, second)).unwrap_or(0)
     }
@@ -69,6 +71,7 @@ impl<'a> KerningTable<'a> {
 /// ensures apart { (place : ℕ) → place < len buffer.old → may_be_cut buffer.new.input place ≡ true
 ///     → kerning.IsKernedApart table.now place buffer.old buffer.new }
 /// ```
+#[inline]
 pub fn kern(buffer: &mut hb_buffer_t, table: &KerningTable) {
     debug_assert!(!buffer.have_output());
     debug_assert!(buffer.have_positions());

@@ -58,6 +58,7 @@ impl<'a> Lookup<'a> {
     /// ensures { result ≡ (if rules.is_lookup rows.now
     ///     then Some (record { rows = rows.now; skips_marks = false }) else None) }
     /// ```
+    #[inline]
     pub fn new(rows: &'a [Substitution<'a>]) -> Option<Self> {
         Lookup::checked(rows, false)
     }
@@ -72,6 +73,7 @@ impl<'a> Lookup<'a> {
     /// ensures { result ≡ (if rules.is_lookup rows.now
     ///     then Some (record { rows = rows.now; skips_marks = true }) else None) }
     /// ```
+    #[inline]
     pub fn skipping_marks(rows: &'a [Substitution<'a>]) -> Option<Self> {
         Lookup::checked(rows, true)
     }
@@ -197,6 +199,7 @@ fn stands_before(a: &Substitution, b: &Substitution) -> bool {
 /// ensures outcome { IsOutcome lookup.now buffer.old result buffer.new }
 /// ensures glyphs { Answers lookup.now result buffer.old buffer.new }
 /// ```
+#[inline]
 pub fn substitute(buffer: &mut hb_buffer_t, lookup: &Lookup) -> Result<bool, AllocError> {
     debug_assert!(!buffer.have_output());
     buffer.clear_output();
@@ -228,6 +231,7 @@ pub fn substitute(buffer: &mut hb_buffer_t, lookup: &Lookup) -> Result<bool, All
 /// ensures outcome { IsMade (calls.turn lookup.now (items buffer.old.input)) buffer.old result buffer.new }
 /// ensures glyphs { IsTurn lookup.now result buffer.old buffer.new }
 /// ```
+#[inline]
 pub fn substitute_next(buffer: &mut hb_buffer_t, lookup: &Lookup) -> Result<bool, AllocError> {
     debug_assert!(buffer.have_output());
     debug_assert!(!buffer.info().is_empty());

@@ -22,6 +22,7 @@ use crate::buffer::{
 /// ```text
 /// ensures { buffer.new ≡ ignorables.hide_default_ignorables buffer.old }
 /// ```
+#[inline]
 pub fn hide_default_ignorables(buffer: &mut hb_buffer_t) {
     debug_assert!(!buffer.have_output());
     if buffer

@@ -34,6 +34,7 @@ pub struct Stopped {
 /// ensures stopped { IfErr result (λ stop.
 ///     StopsAt stop.at calls.now buffer.old answers.old buffer.new answers.new) }
 /// ```
+#[inline]
 pub fn replay(
     buffer: &mut hb_buffer_t,
     calls: &[Call<'_>],

@@ -52,6 +52,7 @@ pub enum RenderFault {
 ///     (λ fault. Fails fault MonotoneGraphemes text.now features.now calls.now answers.old
 ///     answers.new) }
 /// ```
+#[inline]
 pub fn render(
     text: &str,
     features: &[Feature],
@@ -91,6 +92,7 @@ pub fn render(
 ///     (λ glyphs. RendersTo level text.now features.now calls.now glyphs answers.new)
 ///     (λ fault. Fails fault level text.now features.now calls.now answers.old answers.new) }
 /// ```
+#[inline]
 pub fn render_at(
     level: BufferClusterLevel,
     text: &str,

@@ -44,6 +44,7 @@ impl Feature {
     /// ensures { result
     ///     ≡ record { tag = tag; value = value; start = start_of start; end = end_of end } }
     /// ```
+    #[inline]
     pub fn new(tag: Tag, value: u32, start: Bound<usize>, end: Bound<usize>) -> Self {
         let max = u32::MAX as usize;
         let start = match start {
@@ -72,6 +73,7 @@ impl Feature {
     /// ensures { IsTrue result
     ///     ↔ ((self.now.start ≡ 0) × (self.now.end ≡ last_end)) }
     /// ```
+    #[inline]
     pub fn is_global(&self) -> bool {
         self.start == HB_FEATURE_GLOBAL_START && self.end == HB_FEATURE_GLOBAL_END
     }

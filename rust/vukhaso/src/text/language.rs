@@ -52,6 +52,7 @@ impl Language {
     /// ensures invalid { IsErrOf result LanguageError.Invalid ↔ (text.now ≡ []) }
     /// ensures memory { IsErrOf result LanguageError.Memory → 0 < length text.now }
     /// ```
+    #[inline]
     pub fn from_str(text: &str) -> Result<Self, LanguageError> {
         if text.is_empty() {
             return Err(LanguageError::Invalid);
@@ -69,6 +70,7 @@ impl Language {
     /// ```text
     /// ensures { result.now ≡ self.now }
     /// ```
+    #[inline]
     pub fn as_str(&self) -> &str {
         self.0.as_str()
     }

@@ -33,6 +33,7 @@ impl<'a> LanguageTable<'a> {
     /// ```text
     /// ensures { result ≡ (if is_table (rows_of rows.now) then Some (rows_of rows.now) else None) }
     /// ```
+    #[inline]
     pub fn new(rows: &'a [(&'a str, Tag)]) -> Option<Self> {
         if is_table(rows) {
             Some(LanguageTable { rows })

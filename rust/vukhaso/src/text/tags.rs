@@ -131,6 +131,7 @@ impl ComplexLanguages for NoComplexLanguages {
 /// ensures languages { map (λ tag. tag.0) result.1.items
 ///     ≡ languages_of (C.cases complex.now) table.now (option_copied language.entry) }
 /// ```
+#[inline]
 pub fn tags_from_script_and_language<C: ComplexLanguages>(
     script: Option<Script>,
     language: Option<&Language>,

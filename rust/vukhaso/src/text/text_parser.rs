@@ -31,6 +31,7 @@ impl<'a> TextParser<'a> {
     /// ```text
     /// ensures { result ≡ text.now }
     /// ```
+    #[inline]
     pub fn new(text: &'a str) -> Self {
         TextParser {
             rest: text.as_bytes(),
@@ -44,6 +45,7 @@ impl<'a> TextParser<'a> {
     /// ```text
     /// ensures { IsTrue result ↔ (self.now ≡ []) }
     /// ```
+    #[inline]
     pub fn at_end(&self) -> bool {
         self.rest.is_empty()
     }
@@ -55,6 +57,7 @@ impl<'a> TextParser<'a> {
     /// ```text
     /// ensures { result ≡ first_if (λ _. Bool.true) self.now }
     /// ```
+    #[inline]
     pub fn curr_byte(&self) -> Option<u8> {
         self.rest.first().copied()
     }
@@ -70,6 +73,7 @@ impl<'a> TextParser<'a> {
     /// ```text
     /// ensures { self.new ≡ drop n self.old }
     /// ```
+    #[inline]
     pub fn advance(&mut self, n: usize) {
         self.rest = &self.rest[n..];
     }
@@ -82,6 +86,7 @@ impl<'a> TextParser<'a> {
     /// ensures found { is_some result ≡ is_some (first_if (λ b. b == c) self.old) }
     /// ensures rest { self.new ≡ after_if (λ b. b == c) self.old }
     /// ```
+    #[inline]
     pub fn consume_byte(&mut self, c: u8) -> Option<()> {
         if self.curr_byte()? != c {
             return None;
@@ -97,6 +102,7 @@ impl<'a> TextParser<'a> {
     /// ```text
     /// ensures { self.new ≡ skip_while is_ascii_whitespace self.old }
     /// ```
+    #[inline]
     pub fn skip_spaces(&mut self) {
         self.skip_bytes(|b| b.is_ascii_whitespace());
     }
@@ -109,6 +115,7 @@ impl<'a> TextParser<'a> {
     /// ensures found { result ≡ first_if is_quote self.old }
     /// ensures rest { self.new ≡ after_if is_quote self.old }
     /// ```
+    #[inline]
     pub fn consume_quote(&mut self) -> Option<u8> {
         let Some(quote @ (b'\'' | b'"')) = self.curr_byte() else {
             return None;
@@ -134,6 +141,7 @@ impl<'a> TextParser<'a> {
     /// ensures rest { (test : ℕ → Bool) → Computes (F.post f) test
     ///     → self.new ≡ skip_while test self.old }
     /// ```
+    #[inline]
     pub fn consume_bytes<F: Fn(u8) -> bool>(&mut self, f: F) -> &'a [u8] {
         let rest = self.rest;
         let mut n = 0;
@@ -158,6 +166,7 @@ impl<'a> TextParser<'a> {
     /// ensures { (test : ℕ → Bool) → Computes (F.post f) test
     ///     → self.new ≡ skip_while test self.old }
     /// ```
+    #[inline]
     pub fn skip_bytes<F: Fn(u8) -> bool>(&mut self, f: F) {
         self.consume_bytes(f);
     }
@@ -171,6 +180,7 @@ impl<'a> TextParser<'a> {
     /// ensures value { option_map (λ t. t.0) result ≡ short_tag (take_while is_word self.old) }
     /// ensures rest { self.new ≡ skip_while is_word self.old }
     /// ```
+    #[inline]
     pub fn consume_tag(&mut self) -> Option<Tag> {
         let tag = self.consume_bytes(|b| b.is_ascii_alphanumeric() || b == b'_');
         if tag.len() > TAG_LEN {
@@ -188,6 +198,7 @@ impl<'a> TextParser<'a> {
     /// ensures value { result ≡ number_in self.old }
     /// ensures rest { self.new ≡ after_number self.old }
     /// ```
+    #[inline]
     pub fn consume_i32(&mut self) -> Option<i32> {
         let sign = self.curr_byte();
         if let Some(b'-' | b'+') = sign {
@@ -208,6 +219,7 @@ impl<'a> TextParser<'a> {
     /// ensures rest { self.new
     ///     ≡ skip_while is_ascii_alphabetic (skip_while is_ascii_whitespace self.old) }
     /// ```
+    #[inline]
     pub fn consume_bool(&mut self) -> Option<bool> {
         self.skip_spaces();
         match *self.consume_bytes(|b| b.is_ascii_alphabetic()) {

@@ -34,6 +34,7 @@ fn decomposition_row(c: char) -> Option<(char, char, Option<char>)> {
 /// ensures exact { IfOk result (λ rows. (c : ℕ) → IsScalar c
 ///     → find (λ row. row.0 == c) rows.items ≡ class_row c) }
 /// ```
+#[inline]
 pub fn combining_classes() -> Result<Vec<(char, u8)>, AllocError> {
     let mut rows = Vec::new();
     for code in 0..CODE_POINTS {
@@ -60,6 +61,7 @@ pub fn combining_classes() -> Result<Vec<(char, u8)>, AllocError> {
 /// ensures exact { IfOk result (λ rows. (c : ℕ) → IsScalar c
 ///     → find (λ row. row.0 == c) rows.items ≡ decomposition_row c) }
 /// ```
+#[inline]
 pub fn decompositions() -> Result<Vec<(char, char, Option<char>)>, AllocError> {
     let mut rows = Vec::new();
     for code in 0..CODE_POINTS {
@@ -108,6 +110,7 @@ fn entries(pairs: BTreeMap<(char, char), char>) -> Result<Vec<((char, char), cha
 /// ensures rises { IfOk result (λ rows. IsTrue (pairs_rise rows.items)) }
 /// ensures exact { IfOk result (λ rows. (a b : ℕ) → composition_of a b rows.items ≡ composite a b) }
 /// ```
+#[inline]
 pub fn compositions() -> Result<Vec<((char, char), char)>, AllocError> {
     let mut pairs = BTreeMap::new();
     for code in 0..CODE_POINTS {

@@ -37,6 +37,7 @@ impl UnicodeRows {
     /// # Proved
     ///
     /// That it returns.
+    #[inline]
     pub fn new() -> Result<Self, AllocError> {
         let classes = combining_classes()?;
         let decompositions = decompositions()?;
@@ -55,6 +56,7 @@ impl UnicodeRows {
     /// ```text
     /// ensures { (c : ℕ) → IsScalar c → find (λ row. row.0 == c) result ≡ class_row c }
     /// ```
+    #[inline]
     pub fn classes(&self) -> CombiningClasses<'_> {
         CombiningClasses::new(self.classes.as_slice()).unwrap()
     }
@@ -66,6 +68,7 @@ impl UnicodeRows {
     /// ```text
     /// ensures { (c : ℕ) → IsScalar c → find (λ row. row.0 == c) result ≡ decomposition_row c }
     /// ```
+    #[inline]
     pub fn decompositions(&self) -> Decompositions<'_> {
         Decompositions::new(self.decompositions.as_slice()).unwrap()
     }
@@ -77,6 +80,7 @@ impl UnicodeRows {
     /// ```text
     /// ensures { (a b : ℕ) → composition_of a b result ≡ composite a b }
     /// ```
+    #[inline]
     pub fn compositions(&self) -> Compositions<'_> {
         Compositions::new(self.compositions.as_slice()).unwrap()
     }

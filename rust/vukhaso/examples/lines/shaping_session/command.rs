@@ -62,6 +62,7 @@ const ALL_SERIALIZE_FLAGS: u8 = 63;
 /// ensures { IfOk result (λ found. MatchOption found (request_in_bytes line.now ≡ None)
 ///     (λ command. request_in_bytes line.now ≡ Some (request_of command))) }
 /// ```
+#[inline]
 pub fn parse_bytes(line: &[u8]) -> Result<Option<Command<'_>>, AllocError> {
     match str::from_utf8(line) {
         Ok(text) => parse(text),

@@ -21,6 +21,7 @@ use vukhaso::text::{
 /// ```text
 /// ensures { IfOk result (λ reply. AnswersFeature text.now (reply_text reply)) }
 /// ```
+#[inline]
 pub fn feature(text: &str) -> Result<Reply, AllocError> {
     match text.parse::<Feature>() {
         Ok(feature) => Ok(Reply::Text(print_feature(feature)?)),
@@ -53,6 +54,7 @@ fn print_tag(tag: u32) -> Result<String, AllocError> {
 /// ensures { IfOk result (λ reply. reply_text reply
 ///     ≡ tags_text script (option_copied language.entry)) }
 /// ```
+#[inline]
 pub fn tags(script: Option<Script>, language: Option<&str>) -> Result<Reply, AllocError> {
     let language = language_of(language)?;
     let rows = [("ml", Tag::from_bytes(b"MAL "))];
@@ -110,6 +112,7 @@ fn write_tag(text: &mut String, tag: u32) -> Result<(), AllocError> {
 /// ```text
 /// ensures { IfOk result (λ reply. AnswersCompose a b (reply_text reply)) }
 /// ```
+#[inline]
 pub fn compose(a: char, b: char) -> Result<Reply, AllocError> {
     let Some(c) = composed(a, b) else {
         return Ok(Reply::none());
@@ -130,6 +133,7 @@ pub fn compose(a: char, b: char) -> Result<Reply, AllocError> {
 /// ```text
 /// ensures { IfOk result (λ reply. AnswersDecompose c (reply_text reply)) }
 /// ```
+#[inline]
 pub fn decompose(c: char) -> Result<Reply, AllocError> {
     let Some((a, b)) = decomposed(c) else {
         return Ok(Reply::none());

@@ -21,6 +21,7 @@ impl Reply {
     /// ```text
     /// ensures { reply_text result ≡ codes "outside" }
     /// ```
+    #[inline]
     pub fn outside() -> Reply {
         Reply::Word("outside")
     }
@@ -32,6 +33,7 @@ impl Reply {
     /// ```text
     /// ensures { reply_text result ≡ codes "ok" }
     /// ```
+    #[inline]
     pub fn ok() -> Reply {
         Reply::Word("ok")
     }
@@ -43,6 +45,7 @@ impl Reply {
     /// ```text
     /// ensures { reply_text result ≡ codes "none" }
     /// ```
+    #[inline]
     pub fn none() -> Reply {
         Reply::Word("none")
     }
@@ -54,6 +57,7 @@ impl Reply {
     /// ```text
     /// ensures { reply_text result ≡ truth_text done }
     /// ```
+    #[inline]
     pub fn of_bool(done: bool) -> Reply {
         Reply::Word(if done { "true" } else { "false" })
     }
@@ -65,6 +69,7 @@ impl Reply {
     /// ```text
     /// ensures { reply_text result ≡ answer_text answer }
     /// ```
+    #[inline]
     pub fn of_answer(answer: Answer) -> Reply {
         Reply::Word(match answer {
             Answer::Done => "done",
@@ -78,6 +83,7 @@ impl Reply {
     /// ```text
     /// ensures { result.now ≡ reply_text self.now }
     /// ```
+    #[inline]
     pub fn as_str(&self) -> &str {
         match self {
             Reply::Word(word) => word,

@@ -27,6 +27,7 @@ impl RunFault {
     /// ```text
     /// ensures { result.now ≡ fault_text self }
     /// ```
+    #[inline]
     pub fn message(self) -> &'static str {
         match self {
             RunFault::Read => "read failed",
@@ -58,6 +59,7 @@ const READS: u32 = 65536;
 /// ```text
 /// ensures { IfOk result (λ status. (status ≡ 0) ⊎ (status ≡ 2)) }
 /// ```
+#[inline]
 pub fn run<R: Read, W: Write>(mut reader: R, mut writer: W) -> Result<u8, RunFault> {
     run_on(&mut reader, &mut writer)
 }
@@ -76,6 +78,7 @@ pub fn run<R: Read, W: Write>(mut reader: R, mut writer: W) -> Result<u8, RunFau
 /// ensures writes { Answers (R.remaining reader.old) (R.remaining reader.new)
 ///     (W.contents writer.old) (W.contents writer.new) result }
 /// ```
+#[inline]
 pub fn run_on<R: Read, W: Write>(reader: &mut R, writer: &mut W) -> Result<u8, RunFault> {
     let input = read_all(reader)?;
     let Ok(mut held) = Vec::with_capacity(PIECE) else {
@@ -100,6 +103,7 @@ pub fn run_on<R: Read, W: Write>(reader: &mut R, writer: &mut W) -> Result<u8, R
 /// ensures { Finishes (W.contents writer.old) (W.contents writer.new)
 ///     held.old.items outcome result }
 /// ```
+#[inline]
 pub fn finish<W: Write>(
     writer: &mut W,
     held: &mut Vec<u8>,

@@ -27,6 +27,7 @@ impl Session {
     /// ```text
     /// ensures { result ≡ fresh }
     /// ```
+    #[inline]
     pub fn new() -> Session {
         Session::Text(UnicodeBuffer::new())
     }

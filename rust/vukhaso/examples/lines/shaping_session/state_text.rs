@@ -16,6 +16,7 @@ use vukhaso::memory::{AllocError, String};
 /// ```text
 /// ensures { IfOk result (λ text. string_bytes text ≡ state_text buffer.now) }
 /// ```
+#[inline]
 pub fn print_state(buffer: &hb_buffer_t) -> Result<String, AllocError> {
     let head = print_head(buffer)?;
     let out = print_items(buffer.out_info())?;

@@ -25,6 +25,7 @@ impl<'a> Words<'a> {
     /// ```text
     /// ensures { result ≡ Some line.now }
     /// ```
+    #[inline]
     pub fn of(line: &'a str) -> Words<'a> {
         Words { rest: Some(line) }
     }
@@ -37,6 +38,7 @@ impl<'a> Words<'a> {
     /// ensures word { option_copied result ≡ first_word self.old }
     /// ensures rest { self.new ≡ past_first_word self.old }
     /// ```
+    #[inline]
     pub fn word(&mut self) -> Option<&'a str> {
         let rest = self.rest?;
         let (word, others) = cut_word(rest);
@@ -52,6 +54,7 @@ impl<'a> Words<'a> {
     /// ensures number { result ≡ next_u32 self.old }
     /// ensures rest { self.new ≡ past_first_word self.old }
     /// ```
+    #[inline]
     pub fn number(&mut self) -> Option<u32> {
         let value = decimal(self.word()?)?;
         u32::try_from(value).ok()
@@ -65,6 +68,7 @@ impl<'a> Words<'a> {
     /// ensures number { result ≡ next_place self.old }
     /// ensures rest { self.new ≡ past_first_word self.old }
     /// ```
+    #[inline]
     pub fn place(&mut self) -> Option<usize> {
         let value = decimal(self.word()?)?;
         usize::try_from(value).ok()
@@ -78,6 +82,7 @@ impl<'a> Words<'a> {
     /// ensures character { result ≡ next_character self.old }
     /// ensures rest { self.new ≡ past_first_word self.old }
     /// ```
+    #[inline]
     pub fn character(&mut self) -> Option<char> {
         let code = hexadecimal(self.word()?)?;
         char::from_u32(code)
@@ -91,6 +96,7 @@ impl<'a> Words<'a> {
     /// ensures script { result ≡ next_script self.old }
     /// ensures rest { self.new ≡ past_first_word self.old }
     /// ```
+    #[inline]
     pub fn script(&mut self) -> Option<Option<Script>> {
         match self.word()? {
             "-" => Some(None),
@@ -106,6 +112,7 @@ impl<'a> Words<'a> {
     /// ensures language { option_map (λ text. option_copied text) result ≡ next_language self.old }
     /// ensures rest { self.new ≡ past_first_word self.old }
     /// ```
+    #[inline]
     pub fn language(&mut self) -> Option<Option<&'a str>> {
         match self.word()? {
             "-" => Some(None),
@@ -121,6 +128,7 @@ impl<'a> Words<'a> {
     /// ensures text { option_copied result ≡ self.old }
     /// ensures rest { self.new ≡ None }
     /// ```
+    #[inline]
     pub fn text(&mut self) -> Option<&'a str> {
         self.rest.take()
     }
@@ -132,6 +140,7 @@ impl<'a> Words<'a> {
     /// ```text
     /// ensures { IsTrue result ↔ (self.now ≡ None) }
     /// ```
+    #[inline]
     pub fn at_end(&self) -> bool {
         self.rest.is_none()
     }

@@ -23,6 +23,7 @@ impl hb_buffer_t {
     /// ```text
     /// ensures { self.new ≡ step.clear_output self.old }
     /// ```
+    #[inline]
     pub fn clear_output(&mut self) {
         debug_assert!(!self.have_output());
         self.sides.open();
@@ -49,6 +50,7 @@ impl hb_buffer_t {
     /// ensures meets { Meets (step.next_glyph self.old) self.old result self.new }
     /// ensures in_place { self.old.have_separate_output ≡ false → result ≡ Ok true }
     /// ```
+    #[inline]
     pub fn next_glyph(&mut self) -> Result<bool, AllocError> {
         debug_assert!(0 < self.lookahead_len());
         if self.sides.next_exceeds(1, self.max_len) {
@@ -79,7 +81,7 @@ impl hb_buffer_t {
     /// ensures meets { Meets (step.next_glyphs n self.old) self.old result self.new }
     /// ensures in_place { self.old.have_separate_output ≡ false → result ≡ Ok true }
     /// ```
-    #[inline]
+    #[inline(always)]
     pub fn next_glyphs(&mut self, n: usize) -> Result<bool, AllocError> {
         debug_assert!(n <= self.lookahead_len());
         if self.sides.next_exceeds(n, self.max_len) {
@@ -103,6 +105,7 @@ impl hb_buffer_t {
     /// ```text
     /// ensures { self.new ≡ step.skip_glyph self.old }
     /// ```
+    #[inline]
     pub fn skip_glyph(&mut self) {
         debug_assert!(0 < self.lookahead_len());
         self.sides.skip(1);
@@ -128,6 +131,7 @@ impl hb_buffer_t {
     /// ensures meets { Meets (step.replace_glyph glyph_index self.old) self.old result self.new }
     /// ensures in_place { self.old.have_separate_output ≡ false → result ≡ Ok true }
     /// ```
+    #[inline]
     pub fn replace_glyph(&mut self, glyph_index: u32) -> Result<bool, AllocError> {
         debug_assert!(self.have_output());
         debug_assert!(0 < self.lookahead_len());
@@ -160,6 +164,7 @@ impl hb_buffer_t {
     /// ```text
     /// ensures { Meets (step.output_glyph glyph_index self.old) self.old result self.new }
     /// ```
+    #[inline]
     pub fn output_glyph(&mut self, glyph_index: u32) -> Result<bool, AllocError> {
         debug_assert!(self.have_output());
         let glyph = if let Some(head) = self.sides.input().first() {
@@ -196,6 +201,7 @@ impl hb_buffer_t {
     /// ```text
     /// ensures { Meets (step.output_info glyph_info self.old) self.old result self.new }
     /// ```
+    #[inline]
     pub fn output_info(&mut self, glyph_info: hb_glyph_info_t) -> Result<bool, AllocError> {
         debug_assert!(self.have_output());
         self.put(glyph_info, 0)
@@ -220,6 +226,7 @@ impl hb_buffer_t {
     /// ```text
     /// ensures { Meets (step.copy_glyph self.old) self.old result self.new }
     /// ```
+    #[inline]
     pub fn copy_glyph(&mut self) -> Result<bool, AllocError> {
         debug_assert!(self.have_output());
         debug_assert!(0 < self.lookahead_len());
@@ -247,7 +254,7 @@ impl hb_buffer_t {
     /// ensures meets { Meets (step.sync self.old) self.old result self.new }
     /// ensures in_place { self.old.have_separate_output ≡ false → result ≡ Ok self.old.successful }
     /// ```
-    #[inline]
+    #[inline(always)]
     pub fn sync(&mut self) -> Result<bool, AllocError> {
         debug_assert!(self.have_output());
         if !self.successful {

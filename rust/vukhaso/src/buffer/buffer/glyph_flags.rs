@@ -37,7 +37,7 @@ impl hb_buffer_t {
     /// ```text
     /// ensures { self.new ≡ step.unsafe_to_break start end self.old }
     /// ```
-    #[inline]
+    #[inline(always)]
     pub fn unsafe_to_break(&mut self, start: Option<usize>, end: Option<usize>) {
         debug_assert!(start.unwrap_or(0) <= end.unwrap_or(self.len()).min(self.len()));
         debug_assert!(!self.have_output() || self.idx() <= start.unwrap_or(0));
@@ -61,6 +61,7 @@ impl hb_buffer_t {
     /// ```text
     /// ensures { self.new ≡ step.unsafe_to_break_from_outbuffer start end self.old }
     /// ```
+    #[inline]
     pub fn unsafe_to_break_from_outbuffer(&mut self, start: Option<usize>, end: Option<usize>) {
         debug_assert!(
             self.have_output() || start.unwrap_or(0) <= end.unwrap_or(self.len()).min(self.len())
@@ -93,6 +94,7 @@ impl hb_buffer_t {
     /// ```text
     /// ensures { self.new ≡ step.safe_to_insert_tatweel start end self.old }
     /// ```
+    #[inline]
     pub fn safe_to_insert_tatweel(&mut self, start: Option<usize>, end: Option<usize>) {
         debug_assert!(start.unwrap_or(0) <= end.unwrap_or(self.len()).min(self.len()));
         debug_assert!(!self.have_output() || self.idx() <= start.unwrap_or(0));
@@ -120,6 +122,7 @@ impl hb_buffer_t {
     /// ```text
     /// ensures { self.new ≡ step.unsafe_to_concat start end self.old }
     /// ```
+    #[inline]
     pub fn unsafe_to_concat(&mut self, start: Option<usize>, end: Option<usize>) {
         debug_assert!(start.unwrap_or(0) <= end.unwrap_or(self.len()).min(self.len()));
         debug_assert!(!self.have_output() || self.idx() <= start.unwrap_or(0));
@@ -147,6 +150,7 @@ impl hb_buffer_t {
     /// ```text
     /// ensures { self.new ≡ step.unsafe_to_concat_from_outbuffer start end self.old }
     /// ```
+    #[inline]
     pub fn unsafe_to_concat_from_outbuffer(&mut self, start: Option<usize>, end: Option<usize>) {
         debug_assert!(
             self.have_output() || start.unwrap_or(0) <= end.unwrap_or(self.len()).min(self.len())
@@ -174,7 +178,7 @@ impl hb_buffer_t {
     ///
     /// - `order: range_start start ≤ range_end end self.old`
     /// - `past_cursor: self.old.have_output ≡ true → self.old.idx ≤ range_start start`
-    #[inline]
+    #[inline(always)]
     fn plain_scan(&mut self, bits: u32, start: Option<usize>, end: Option<usize>) {
         debug_assert!(start.unwrap_or(0) <= end.unwrap_or(self.len()).min(self.len()));
         debug_assert!(!self.have_output() || self.idx() <= start.unwrap_or(0));
@@ -189,7 +193,7 @@ impl hb_buffer_t {
     }
 
     /// The end of a flag call's range, cut to the length.
-    #[inline]
+    #[inline(always)]
     fn range_end(&self, end: Option<usize>) -> usize {
         let len = self.sides.len();
         end.unwrap_or(len).min(len)

@@ -21,6 +21,7 @@ impl hb_buffer_t {
     /// ```text
     /// ensures { self.new ≡ step.reverse self.old }
     /// ```
+    #[inline]
     pub fn reverse(&mut self) {
         debug_assert!(!self.have_output());
         reversal::reverse(self.sides.list_mut());
@@ -43,6 +44,7 @@ impl hb_buffer_t {
     /// ```text
     /// ensures { self.new ≡ step.reverse_range start end self.old }
     /// ```
+    #[inline]
     pub fn reverse_range(&mut self, start: usize, end: usize) {
         debug_assert!(!self.have_output());
         debug_assert!(start <= end);
@@ -73,6 +75,7 @@ impl hb_buffer_t {
     ///     → ((x y : _) (r : _) → F.post group x y r → r ≡ test x.now y.now)
     ///     → result ≡ groups_of.group_end test start self.now.input }
     /// ```
+    #[inline]
     pub fn group_end<F: Fn(&hb_glyph_info_t, &hb_glyph_info_t) -> bool>(
         &self,
         start: usize,
@@ -97,6 +100,7 @@ impl hb_buffer_t {
     /// ```text
     /// ensures { result ≡ groups_of.group_end groups_of.share_syllable start self.now.input }
     /// ```
+    #[inline]
     pub fn next_syllable(&self, start: usize) -> usize {
         debug_assert!(!self.have_output());
         if start >= self.sides.len() {
@@ -127,6 +131,7 @@ impl hb_buffer_t {
     /// ensures len { length self.new.input ≡ length self.old.input }
     /// ensures others { step.KeepsOthers self.old self.new }
     /// ```
+    #[inline]
     pub fn reverse_groups<F: Fn(&hb_glyph_info_t, &hb_glyph_info_t) -> bool>(
         &mut self,
         group: F,
@@ -180,6 +185,7 @@ impl hb_buffer_t {
     /// ensures within { length self.new.input ≤ length self.old.input }
     /// ensures others { step.KeepsOthers (record self.old { idx = 0 }) self.new }
     /// ```
+    #[inline]
     pub fn delete_glyphs_inplace<F: Fn(&hb_glyph_info_t) -> bool>(&mut self, filter: F) {
         debug_assert!(!self.have_output());
         let any_order = self.any_order();

@@ -46,6 +46,7 @@ impl hb_buffer_t {
     /// ```text
     /// ensures { RoomMeets size (step.ensure size self.old) self.old result self.new }
     /// ```
+    #[inline]
     pub fn ensure(&mut self, size: usize) -> Result<bool, AllocError> {
         if size > self.max_len {
             self.successful = false;

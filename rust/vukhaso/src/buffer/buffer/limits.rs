@@ -33,6 +33,7 @@ impl hb_buffer_t {
     /// ```text
     /// ensures { self.new ≡ step.set_max_len max_len self.old }
     /// ```
+    #[inline]
     pub fn set_max_len(&mut self, max_len: usize) {
         debug_assert!(self.len() <= max_len);
         debug_assert!(self.out_len() <= max_len);
@@ -53,6 +54,7 @@ impl hb_buffer_t {
     /// ```text
     /// ensures { self.new ≡ step.enter self.old }
     /// ```
+    #[inline]
     pub fn enter(&mut self) {
         debug_assert!(!self.have_output());
         let len = self.sides.len();
@@ -81,6 +83,7 @@ impl hb_buffer_t {
     /// ```text
     /// ensures { self.new ≡ step.leave self.old }
     /// ```
+    #[inline]
     pub fn leave(&mut self) {
         debug_assert!(!self.have_output());
         self.serial = 0;
@@ -98,6 +101,7 @@ impl hb_buffer_t {
     /// ensures number { result ≡ self.new.serial % 8 }
     /// ensures some { 0 < result }
     /// ```
+    #[inline]
     pub fn allocate_lig_id(&mut self) -> u8 {
         self.serial = next_serial(self.serial);
         if self.serial % 8 == 0 {

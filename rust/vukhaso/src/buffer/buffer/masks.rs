@@ -19,6 +19,7 @@ impl hb_buffer_t {
     /// ```text
     /// ensures { self.new ≡ step.reset_masks mask self.old }
     /// ```
+    #[inline]
     pub fn reset_masks(&mut self, mask: u32) {
         debug_assert!(!self.have_output());
         masks::reset_masks(self.sides.list_mut(), mask);
@@ -39,6 +40,7 @@ impl hb_buffer_t {
     /// ```text
     /// ensures { self.new ≡ step.set_masks value mask cluster_start cluster_end self.old }
     /// ```
+    #[inline]
     pub fn set_masks(&mut self, value: u32, mask: u32, cluster_start: u32, cluster_end: u32) {
         debug_assert!(!self.have_output());
         masks::set_masks(

@@ -20,6 +20,7 @@ impl hb_buffer_t {
     /// ```text
     /// ensures { info.new ≡ with_cluster cluster mask info.old }
     /// ```
+    #[inline]
     pub fn set_cluster(info: &mut hb_glyph_info_t, cluster: u32, mask: u32) {
         clusters::set_cluster(info, cluster, mask);
     }
@@ -43,6 +44,7 @@ impl hb_buffer_t {
     /// ```text
     /// ensures { self.new ≡ step.merge_clusters start end self.old }
     /// ```
+    #[inline]
     pub fn merge_clusters(&mut self, start: usize, end: usize) {
         debug_assert!(start <= end);
         debug_assert!(end <= self.len());
@@ -72,6 +74,7 @@ impl hb_buffer_t {
     /// ```text
     /// ensures { self.new ≡ step.merge_grapheme_clusters start end self.old }
     /// ```
+    #[inline]
     pub fn merge_grapheme_clusters(&mut self, start: usize, end: usize) {
         debug_assert!(start <= end);
         debug_assert!(end <= self.len());
@@ -157,6 +160,7 @@ impl hb_buffer_t {
     /// ```text
     /// ensures { self.new ≡ step.merge_out_clusters start end self.old }
     /// ```
+    #[inline]
     pub fn merge_out_clusters(&mut self, start: usize, end: usize) {
         debug_assert!(self.have_output());
         debug_assert!(start <= end);

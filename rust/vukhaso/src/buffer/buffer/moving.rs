@@ -29,6 +29,7 @@ impl hb_buffer_t {
     /// ensures in_place { self.old.have_separate_output ≡ false
     ///     → result ≡ Ok (self.old.successful || not self.old.have_output) }
     /// ```
+    #[inline]
     pub fn move_to(&mut self, i: usize) -> Result<bool, AllocError> {
         if !self.sides.is_open() {
             self.sides.go_to(i);

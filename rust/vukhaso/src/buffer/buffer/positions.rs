@@ -20,6 +20,7 @@ impl hb_buffer_t {
     /// ensures positions { Some result.now ≡ self.now.positions }
     /// ensures as_many { length result.now ≡ len self.now }
     /// ```
+    #[inline]
     pub fn pos(&self) -> &[GlyphPosition] {
         debug_assert!(self.have_positions());
         &self.pos
@@ -38,6 +39,7 @@ impl hb_buffer_t {
     /// ```text
     /// ensures { self.new ≡ with_zero_positions self.old }
     /// ```
+    #[inline]
     pub fn clear_positions(&mut self) {
         debug_assert!(!self.have_output());
         let zero = GlyphPosition {

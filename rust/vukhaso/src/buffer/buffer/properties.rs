@@ -30,6 +30,7 @@ impl hb_buffer_t {
     /// ```text
     /// ensures { self.new ≡ with_clusters_reset self.old }
     /// ```
+    #[inline]
     pub fn reset_clusters(&mut self) {
         debug_assert!(!self.have_output());
         cluster_numbers::reset_clusters(self.sides.list_mut());
@@ -51,6 +52,7 @@ impl hb_buffer_t {
     /// ```text
     /// ensures { self.new ≡ guessed self.old }
     /// ```
+    #[inline]
     pub fn guess_segment_properties(&mut self) {
         debug_assert!(!self.have_output());
         if self.script.is_none() {

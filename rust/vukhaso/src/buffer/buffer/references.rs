@@ -19,6 +19,7 @@ impl hb_buffer_t {
     /// ```text
     /// ensures { result.now ≡ slice_index_or self.now.input (place_of self.now i) result.now }
     /// ```
+    #[inline]
     pub fn cur(&self, i: usize) -> &hb_glyph_info_t {
         debug_assert!(i < self.lookahead_len());
         self.sides.cur(i)
@@ -39,6 +40,7 @@ impl hb_buffer_t {
     /// ensures value { result.now
     ///     ≡ slice_index_or self.old.input (place_of self.old i) result.now }
     /// ```
+    #[inline]
     pub fn cur_mut(&mut self, i: usize) -> &mut hb_glyph_info_t {
         debug_assert!(i < self.lookahead_len());
         self.sides.cur_mut(i)
@@ -57,6 +59,7 @@ impl hb_buffer_t {
     /// ```text
     /// ensures { result.now ≡ slice_index_or self.now.out (length self.now.out - 1) result.now }
     /// ```
+    #[inline]
     pub fn prev(&self) -> &hb_glyph_info_t {
         debug_assert!(0 < self.out_len());
         let out = self.sides.out();
@@ -78,6 +81,7 @@ impl hb_buffer_t {
     /// ensures value { result.now
     ///     ≡ slice_index_or self.old.out (length self.old.out - 1) result.now }
     /// ```
+    #[inline]
     pub fn prev_mut(&mut self) -> &mut hb_glyph_info_t {
         debug_assert!(0 < self.out_len());
         self.sides.last_mut()
@@ -91,6 +95,7 @@ impl hb_buffer_t {
     /// ensures writes_back { sem 𝓛 (LendsOut self.entry result) }
     /// ensures value { result.now ≡ self.old.out }
     /// ```
+    #[inline]
     pub fn out_info_mut(&mut self) -> &mut [hb_glyph_info_t] {
         self.sides.out_mut()
     }
@@ -109,6 +114,7 @@ impl hb_buffer_t {
     /// ensures writes_back { sem 𝓛 (LendsInput self.entry result) }
     /// ensures value { result.now ≡ self.old.input }
     /// ```
+    #[inline]
     pub fn info_slice_mut(&mut self) -> &mut [hb_glyph_info_t] {
         debug_assert!(!self.have_output());
         self.sides.list_mut()
@@ -130,6 +136,7 @@ impl hb_buffer_t {
     /// ensures value { result.now
     ///     ≡ slice_index_or (unwrap_or self.old.positions []) self.old.idx result.now }
     /// ```
+    #[inline]
     pub fn cur_pos_mut(&mut self) -> &mut GlyphPosition {
         debug_assert!(self.have_positions());
         debug_assert!(0 < self.lookahead_len());
@@ -152,6 +159,7 @@ impl hb_buffer_t {
     /// ensures value { Some result.now ≡ self.old.positions }
     /// ensures as_many { length result.now ≡ len self.old }
     /// ```
+    #[inline]
     pub fn pos_mut(&mut self) -> &mut [GlyphPosition] {
         debug_assert!(self.have_positions());
         &mut self.pos

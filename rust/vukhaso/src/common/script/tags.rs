@@ -16,6 +16,7 @@ use super::*;
 /// ensures tags { map (λ tag. tag.0) result.now ≡ listed_tags }
 /// ensures scripts { map (λ tag. script_of tag.0) result.now ≡ map (λ tag. Some tag.0) result.now }
 /// ```
+#[inline]
 pub fn constant_tags() -> &'static [Tag] {
     &CONSTANT_TAGS
 }

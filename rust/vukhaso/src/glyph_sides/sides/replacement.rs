@@ -115,6 +115,7 @@ impl Sides {
     /// ensures input_len { OnOk result
     ///     (length self.new.input + count ≡ length self.old.input) }
     /// ```
+    #[inline]
     pub fn replace(
         &mut self,
         count: usize,

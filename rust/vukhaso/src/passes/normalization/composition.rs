@@ -35,6 +35,7 @@ use crate::memory::AllocError;
 /// ensures others { buffer.old.successful ≡ true
 ///     → buffer.new ≡ closed_over buffer.new.input buffer.old }
 /// ```
+#[inline]
 pub fn compose_marks(
     buffer: &mut hb_buffer_t,
     compositions: &Compositions,

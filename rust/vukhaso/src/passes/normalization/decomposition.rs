@@ -35,6 +35,7 @@ type Parts = ArrayVec<u32, 9>;
 /// ```text
 /// ensures { Decomposes decompositions.now buffer.old result buffer.new }
 /// ```
+#[inline]
 pub fn decompose_all(
     buffer: &mut hb_buffer_t,
     decompositions: &Decompositions,

@@ -15,6 +15,7 @@ use vukhaso::buffer::{GlyphBuffer, GlyphPosition, hb_glyph_info_t};
 ///     → (text_of first numbers_and_flags one.now ≡ text_of second numbers_and_flags other.now)
 ///     ↔ (map told_of (glyphs_of one.now) ≡ map told_of (glyphs_of other.now)) }
 /// ```
+#[inline]
 pub fn equal_texts_mean_equal_glyphs(one: &GlyphBuffer, other: &GlyphBuffer) {
     glyphs_fit(one.glyph_infos(), one.glyph_positions());
     glyphs_fit(other.glyph_infos(), other.glyph_positions());

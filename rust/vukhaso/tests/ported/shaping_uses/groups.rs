@@ -18,6 +18,7 @@ use vukhaso::buffer::{_cluster_group_func, hb_buffer_t};
 /// ```text
 /// ensures { buffer.new ≡ step.groups_in_reverse share_cluster buffer.old }
 /// ```
+#[inline]
 pub fn reverse_clusters(buffer: &mut hb_buffer_t) {
     debug_assert!(!buffer.have_output());
     buffer.reverse_groups(_cluster_group_func, false);
@@ -38,6 +39,7 @@ pub fn reverse_clusters(buffer: &mut hb_buffer_t) {
 /// ```text
 /// ensures { buffer.new ≡ step.reverse_groups (goes_on_at marks.now) merge buffer.old }
 /// ```
+#[inline]
 pub fn reverse_with_marks(buffer: &mut hb_buffer_t, marks: &[u32], merge: bool) {
     debug_assert!(!buffer.have_output());
     buffer.reverse_groups(|_, next| marks.contains(&next.glyph_id), merge);
@@ -56,6 +58,7 @@ pub fn reverse_with_marks(buffer: &mut hb_buffer_t, marks: &[u32], merge: bool) 
 /// ```text
 /// ensures { result ≡ length (group_lens share_cluster buffer.now.input) }
 /// ```
+#[inline]
 pub fn count_clusters(buffer: &hb_buffer_t) -> usize {
     debug_assert!(!buffer.have_output());
     let mut count = 0;

@@ -24,6 +24,7 @@ use vukhaso::runs::{Answer, Call, replay};
 /// ensures done { result ≡ Ok true }
 /// ensures meets { Meets (step.next_glyph buffer.old) buffer.old result buffer.new }
 /// ```
+#[inline]
 pub fn next_in_place(buffer: &mut hb_buffer_t) -> Result<bool, AllocError> {
     debug_assert!(0 < buffer.lookahead_len());
     debug_assert!(!buffer.have_separate_output());
@@ -47,6 +48,7 @@ pub fn next_in_place(buffer: &mut hb_buffer_t) -> Result<bool, AllocError> {
 /// ensures done { result ≡ Ok true }
 /// ensures meets { Meets (step.next_glyphs n buffer.old) buffer.old result buffer.new }
 /// ```
+#[inline]
 pub fn next_glyphs_in_place(buffer: &mut hb_buffer_t, n: usize) -> Result<bool, AllocError> {
     debug_assert!(n <= buffer.lookahead_len());
     debug_assert!(!buffer.have_separate_output());
@@ -71,6 +73,7 @@ pub fn next_glyphs_in_place(buffer: &mut hb_buffer_t, n: usize) -> Result<bool, 
 /// ensures done { result ≡ Ok true }
 /// ensures meets { Meets (step.replace_glyph id buffer.old) buffer.old result buffer.new }
 /// ```
+#[inline]
 pub fn replace_in_place(buffer: &mut hb_buffer_t, id: u32) -> Result<bool, AllocError> {
     debug_assert!(buffer.have_output());
     debug_assert!(0 < buffer.lookahead_len());
@@ -96,6 +99,7 @@ pub fn replace_in_place(buffer: &mut hb_buffer_t, id: u32) -> Result<bool, Alloc
 /// ensures done { result ≡ Ok true }
 /// ensures meets { Meets (step.move_to i buffer.old) buffer.old result buffer.new }
 /// ```
+#[inline]
 pub fn move_in_place(buffer: &mut hb_buffer_t, i: usize) -> Result<bool, AllocError> {
     debug_assert!(!buffer.have_separate_output());
     buffer.move_to(i)
@@ -119,6 +123,7 @@ pub fn move_in_place(buffer: &mut hb_buffer_t, i: usize) -> Result<bool, AllocEr
 /// ensures done { result ≡ Ok true }
 /// ensures meets { Meets (step.sync buffer.old) buffer.old result buffer.new }
 /// ```
+#[inline]
 pub fn sync_in_place(buffer: &mut hb_buffer_t) -> Result<bool, AllocError> {
     debug_assert!(buffer.have_output());
     debug_assert!(!buffer.have_separate_output());
@@ -148,6 +153,7 @@ pub fn sync_in_place(buffer: &mut hb_buffer_t) -> Result<bool, AllocError> {
 ///       positions = None;
 ///     } }
 /// ```
+#[inline]
 pub fn rewind_in_place(buffer: &mut hb_buffer_t) -> Option<[Answer; 7]> {
     debug_assert!(!buffer.have_output());
     if buffer.len() < 4 {

@@ -20,6 +20,7 @@ use vukhaso::buffer::hb_buffer_t;
 /// ```text
 /// ensures { buffer.new ≡ kerned first kern buffer.old }
 /// ```
+#[inline]
 pub fn kern_pair(buffer: &mut hb_buffer_t, first: usize, kern: i32) {
     debug_assert!(!buffer.have_output());
     debug_assert!(buffer.have_positions());

@@ -20,6 +20,7 @@ use vukhaso::buffer::hb_glyph_info_t;
 /// ensures cut { 0 < result → may_be_cut glyphs.now result ≡ true }
 /// ensures last { (k : ℕ) → result < k → k ≤ most → may_be_cut glyphs.now k ≡ false }
 /// ```
+#[inline]
 pub fn cut_of_line(glyphs: &[hb_glyph_info_t], most: usize) -> usize {
     debug_assert!(most < glyphs.len());
     let mut place = most;

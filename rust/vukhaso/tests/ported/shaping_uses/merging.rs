@@ -21,6 +21,7 @@ use vukhaso::memory::{AllocError, TryIterator, Vec};
 ///     × (each.items ≡ clusters (merge_clusters 0 2 (text_buffer text.now)).input))) }
 /// ensures wants { OnErr result (0 < length (chars text.now)) }
 /// ```
+#[inline]
 pub fn clusters_of_merged(text: &str) -> Result<Option<Vec<u32>>, AllocError> {
     let mut characters = UnicodeBuffer::new();
     if !characters.push_str(text)? || characters.len() < 2 {
@@ -43,6 +44,7 @@ pub fn clusters_of_merged(text: &str) -> Result<Option<Vec<u32>>, AllocError> {
 /// ensures is { IfOk result (λ each. each.items ≡ clusters glyphs.now) }
 /// ensures wants { OnErr result (0 < length glyphs.now) }
 /// ```
+#[inline]
 pub fn cluster_numbers(glyphs: &[hb_glyph_info_t]) -> Result<Vec<u32>, AllocError> {
     if glyphs.is_empty() {
         return Ok(Vec::new());

@@ -22,6 +22,7 @@ use vukhaso::memory::{AllocError, String};
 ///     × (string_bytes line ≡ printed_characters text.now))) }
 /// ensures wants { OnErr result (0 < length (chars text.now)) }
 /// ```
+#[inline]
 pub fn print_characters(text: &str) -> Result<Option<String>, AllocError> {
     let mut characters = UnicodeBuffer::new();
     if !characters.push_str(text)? {

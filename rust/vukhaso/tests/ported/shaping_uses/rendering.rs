@@ -21,6 +21,7 @@ use vukhaso::runs::{Answer, Call, RenderFault, render};
 ///     × (rendered.1 ≡ answers_of (ligature_calls ligature) (featured text.now feature)))
 ///     (λ fault. FailsOnText fault MonotoneGraphemes text.now) }
 /// ```
+#[inline]
 pub fn render_with_ligature(
     text: &str,
     feature: Feature,

@@ -30,6 +30,7 @@ use vukhaso::memory::AllocError;
 /// ensures wants { OnErr result (buffer.old.room < 2 * length buffer.old.input) }
 /// ensures same { OnErr result (buffer.new ≡ buffer.old) }
 /// ```
+#[inline]
 pub fn put_marks(buffer: &mut hb_buffer_t, mark: u32) -> Result<bool, AllocError> {
     debug_assert!(!buffer.have_output());
     let len = buffer.len();
@@ -61,6 +62,7 @@ pub fn put_marks(buffer: &mut hb_buffer_t, mark: u32) -> Result<bool, AllocError
 /// ensures done { result ≡ Ok true }
 /// ensures twice { length buffer.new.input ≡ 2 * length buffer.old.input }
 /// ```
+#[inline]
 pub fn put_marks_within_room(buffer: &mut hb_buffer_t, mark: u32) -> Result<bool, AllocError> {
     debug_assert!(!buffer.have_output());
     buffer.clear_output();

@@ -20,6 +20,7 @@ use vukhaso::runs::{Answer, Call, Stopped, replay};
 ///     ↔ ((2 ≤ length (chars text.now)) × (length (chars text.now) ≤ 0x3FFF_FFFF))) }
 /// ensures wants { OnErr result (0 < length (chars text.now)) }
 /// ```
+#[inline]
 pub fn first_two_as_one(text: &str) -> Result<bool, AllocError> {
     let mut characters = UnicodeBuffer::new();
     if !characters.push_str(text)? {
@@ -53,6 +54,7 @@ pub fn first_two_as_one(text: &str) -> Result<bool, AllocError> {
 /// ensures clusters { (c : ℕ) → occurs c (clusters (both buffer.new)) ≡ true
 ///     → occurs c (clusters (both buffer.old)) ≡ true }
 /// ```
+#[inline]
 pub fn ligate_first_two(buffer: &mut hb_buffer_t, ligature: u32) -> Result<[Answer; 3], Stopped> {
     let ids = [ligature];
     let calls = [

@@ -33,6 +33,7 @@ const IGNORABLE: u16 = 0x20;
 ///     × (cores buffer.new.out ≡ visible buffer.old.input) }
 /// ensures exactly { buffer.new ≡ (step.sync (walked buffer.old)).state }
 /// ```
+#[inline]
 pub fn hide_ignorables(buffer: &mut hb_buffer_t) -> Result<bool, AllocError> {
     debug_assert!(!buffer.have_output());
     buffer.clear_output();
@@ -61,6 +62,7 @@ pub fn hide_ignorables(buffer: &mut hb_buffer_t) -> Result<bool, AllocError> {
 /// ensures exactly { buffer.new ≡ delete_glyphs_inplace is_invisible buffer.old }
 /// ensures left { cores buffer.new.input ≡ visible buffer.old.input }
 /// ```
+#[inline]
 pub fn delete_ignorables(buffer: &mut hb_buffer_t) {
     debug_assert!(!buffer.have_output());
     buffer.delete_glyphs_inplace(|glyph| !is_visible(glyph));

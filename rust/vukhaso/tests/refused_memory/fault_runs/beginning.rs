@@ -18,6 +18,7 @@ const FLAGS: u32 = 0xC0;
 /// # Proved
 ///
 /// That it returns.
+#[inline]
 pub fn begun_text() -> Result<UnicodeBuffer, Lost> {
     begun_text_with_room(0)
 }
@@ -31,6 +32,7 @@ pub fn begun_text() -> Result<UnicodeBuffer, Lost> {
 /// # Proved
 ///
 /// That it returns.
+#[inline]
 pub fn begun_text_with_room(room: usize) -> Result<UnicodeBuffer, Lost> {
     let mut text = empty_text(room)?;
     text.set_language(Language::from_str("he-IL")?);
@@ -63,6 +65,7 @@ fn empty_text(room: usize) -> Result<UnicodeBuffer, Lost> {
 /// # Proved
 ///
 /// That it returns.
+#[inline]
 pub fn begun_buffer(text: &str, level: u32) -> Result<hb_buffer_t, Lost> {
     let mut characters = begun_text()?;
     if !characters.push_str(text)? {

@@ -11,6 +11,7 @@ use vukhaso::buffer::{
 /// # Proved
 ///
 /// That it returns.
+#[inline]
 pub fn same_buffers(a: &hb_buffer_t, b: &hb_buffer_t) -> bool {
     same_glyphs(a.out_info(), b.out_info())
         && same_glyphs(a.info(), b.info())
@@ -58,6 +59,7 @@ fn same_words(a: &hb_buffer_t, b: &hb_buffer_t) -> bool {
 /// # Proved
 ///
 /// That it returns.
+#[inline]
 pub fn same_texts(a: &UnicodeBuffer, b: &UnicodeBuffer) -> bool {
     (a.len(), a.is_empty()) == (b.len(), b.is_empty())
         && a.direction() == b.direction()
@@ -72,6 +74,7 @@ pub fn same_texts(a: &UnicodeBuffer, b: &UnicodeBuffer) -> bool {
 /// # Proved
 ///
 /// That it returns.
+#[inline]
 pub fn same_shaped(a: &GlyphBuffer, b: &GlyphBuffer) -> bool {
     same_glyphs(a.glyph_infos(), b.glyph_infos())
         && same_placing(a.glyph_positions(), b.glyph_positions())

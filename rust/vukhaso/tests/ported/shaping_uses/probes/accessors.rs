@@ -15,6 +15,7 @@ use vukhaso::buffer::{UnicodeBuffer, hb_buffer_t};
 /// ```text
 /// ensures { result ≡ 0 }
 /// ```
+#[inline]
 pub fn out_len_while_closed(buffer: &hb_buffer_t) -> usize {
     debug_assert!(!buffer.have_output());
     buffer.out_len()
@@ -31,6 +32,7 @@ pub fn out_len_while_closed(buffer: &hb_buffer_t) -> usize {
 /// ```text
 /// ensures { result ≡ false }
 /// ```
+#[inline]
 pub fn have_positions_while_open(buffer: &hb_buffer_t) -> bool {
     debug_assert!(buffer.have_output());
     buffer.have_positions()
@@ -43,6 +45,7 @@ pub fn have_positions_while_open(buffer: &hb_buffer_t) -> bool {
 /// ```text
 /// ensures { result ≤ 10 }
 /// ```
+#[inline]
 pub fn context_len(buffer: &hb_buffer_t) -> usize {
     buffer.context(0).len() + buffer.context(1).len()
 }
@@ -54,6 +57,7 @@ pub fn context_len(buffer: &hb_buffer_t) -> usize {
 /// ```text
 /// ensures { result ≡ 0x3FFF_FFFF }
 /// ```
+#[inline]
 pub fn default_glyph_limit() -> usize {
     hb_buffer_t::new().max_len()
 }
@@ -65,6 +69,7 @@ pub fn default_glyph_limit() -> usize {
 /// ```text
 /// ensures { result ≡ pos 0x1FFF_FFFF }
 /// ```
+#[inline]
 pub fn default_operation_limit() -> i32 {
     UnicodeBuffer::new().into_buffer().max_ops
 }

@@ -15,6 +15,7 @@ use vukhaso::buffer::hb_buffer_t;
 /// ```text
 /// ensures { buffer.new ≡ mask_in_out i buffer.old }
 /// ```
+#[inline]
 pub fn mask_out(buffer: &mut hb_buffer_t, i: usize) {
     debug_assert!(i < buffer.out_len());
     buffer.out_info_mut()[i].mask = 5;
@@ -32,6 +33,7 @@ pub fn mask_out(buffer: &mut hb_buffer_t, i: usize) {
 /// ```text
 /// ensures { buffer.new ≡ mask_in_out_twice i j buffer.old }
 /// ```
+#[inline]
 pub fn mask_two_out(buffer: &mut hb_buffer_t, i: usize, j: usize) {
     debug_assert!(i < buffer.out_len());
     debug_assert!(j < buffer.out_len());
@@ -52,6 +54,7 @@ pub fn mask_two_out(buffer: &mut hb_buffer_t, i: usize, j: usize) {
 /// ```text
 /// ensures { buffer.new ≡ mask_in_input i buffer.old }
 /// ```
+#[inline]
 pub fn write_mask_in_list(buffer: &mut hb_buffer_t, i: usize) {
     debug_assert!(!buffer.have_output());
     debug_assert!(i < buffer.info().len());
@@ -69,6 +72,7 @@ pub fn write_mask_in_list(buffer: &mut hb_buffer_t, i: usize) {
 /// ```text
 /// ensures { buffer.new ≡ mask_of_last buffer.old }
 /// ```
+#[inline]
 pub fn mask_last(buffer: &mut hb_buffer_t) {
     debug_assert!(0 < buffer.out_len());
     buffer.prev_mut().mask = 5;
@@ -85,6 +89,7 @@ pub fn mask_last(buffer: &mut hb_buffer_t) {
 /// ```text
 /// ensures { buffer.new ≡ mask_ahead k buffer.old }
 /// ```
+#[inline]
 pub fn mask_next(buffer: &mut hb_buffer_t, k: usize) {
     debug_assert!(k < buffer.lookahead_len());
     buffer.cur_mut(k).mask = 5;
@@ -102,6 +107,7 @@ pub fn mask_next(buffer: &mut hb_buffer_t, k: usize) {
 /// ```text
 /// ensures { buffer.new ≡ advance_in_positions buffer.old.idx buffer.old }
 /// ```
+#[inline]
 pub fn advance_here(buffer: &mut hb_buffer_t) {
     debug_assert!(buffer.have_positions());
     debug_assert!(0 < buffer.lookahead_len());
@@ -120,6 +126,7 @@ pub fn advance_here(buffer: &mut hb_buffer_t) {
 /// ```text
 /// ensures { buffer.new ≡ advance_in_positions i buffer.old }
 /// ```
+#[inline]
 pub fn advance_at(buffer: &mut hb_buffer_t, i: usize) {
     debug_assert!(buffer.have_positions());
     debug_assert!(i < buffer.len());
@@ -133,6 +140,7 @@ pub fn advance_at(buffer: &mut hb_buffer_t, i: usize) {
 /// ```text
 /// ensures { buffer.new ≡ record buffer.old { cluster_level = 2 } }
 /// ```
+#[inline]
 pub fn set_level(buffer: &mut hb_buffer_t) {
     buffer.cluster_level = 2;
 }
@@ -148,6 +156,7 @@ pub fn set_level(buffer: &mut hb_buffer_t) {
 ///       not_found_variation_selector = Some 7;
 ///     } }
 /// ```
+#[inline]
 pub fn forget_what_was_said(buffer: &mut hb_buffer_t) {
     buffer.script = None;
     buffer.language = None;
