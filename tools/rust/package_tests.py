@@ -1,6 +1,7 @@
 """The tests of the package: its own, those beside the proved program, and those of the calls for C."""
 
 import os
+import re
 import shutil
 import subprocess
 import sys
@@ -88,7 +89,29 @@ def test_c(tally, room):
         tally.run("it runs", [room / "shared"])
 
 
+def test_readme(tally, room):
+    """The lines of README in a new package, which print what it says, and again in the package's own README."""
+    text = (ROOT / "README.md").read_text()
+    found = re.search(r"```rust\n(use vukhaso::.*?)```\n\nIt prints `(.*?)`", text, re.S)
+    if not found:
+        return tally.note("the lines of README", "they are not there")
+    lines, printed = found.groups()
+    (room / "fit/src").mkdir(parents=True)
+    (room / "fit/src/main.rs").write_text(lines)
+    manifest = '[package]\nname = "fit"\nedition = "2024"\n\n[dependencies]\nvukhaso = {{ path = "{}" }}\n\n[workspace]\n'
+    (room / "fit/Cargo.toml").write_text(manifest.format(PACKAGE))
+    words = ["cargo", "run", "--offline", "--quiet", "--manifest-path", str(room / "fit/Cargo.toml")]
+    done = subprocess.run(words, capture_output=True, text=True)
+    fault = "" if done.stdout == printed + "\n" and not done.stderr else f"{done.stdout}{done.stderr}, and not {printed}"
+    tally.note("the lines of README in a new package", fault)
+    own = (PACKAGE / "README.md").read_text()
+    bare = [re.sub(r" *//.*", "", line) for line in lines.splitlines()]
+    missing = [line for line in bare if line not in own.splitlines()]
+    tally.note("the lines of README in the package's own", "\n".join(missing))
+
+
 def test_all(tally):
     with tempfile.TemporaryDirectory(prefix="plain-rust-") as folder:
         test_rust(tally, Path(folder))
+        test_readme(tally, Path(folder))
         test_c(tally, Path(folder))
