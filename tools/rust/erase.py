@@ -17,6 +17,9 @@ TWINS = {
     "collect": ("try_into_vec", "TryIterator"),
 }
 
+# Methods of std that core does not have, and the trait of the package that has them.
+BEYOND_CORE = {"round": "Round"}
+
 # Macros whose first argument is what they print or end by.
 WITH_RUNTIME = {"assert", "assert_eq", "assert_ne", "panic"}
 
@@ -26,6 +29,11 @@ SEEN_BY_C = {"hb_glyph_info_t", "GlyphPosition"}
 # How many words the body of a public function has at most that may be inlined into other crates, as the compiler of
 # Rattle inlines it.
 SHORT = 150
+
+# Attributes that say how something is proved or laid out.
+FOR_PROOFS = {"tactic", "cycle", "rattlefmt"}
+
+KNOWN_ATTRIBUTES = {"inline", "cfg", "test", "must_use", "cold", "allow", "should_panic", "repr", "non_exhaustive"}
 
 KNOWN_MACROS = {
     "matches", "unreachable", "write", "writeln", "debug_assert", "assert", "assert_eq", "assert_ne", "format_args",
@@ -106,7 +114,7 @@ class Erased:
         for item in self.reader.items:
             self.erase_item(item, None)
         for attribute in self.reader.inner_attributes:
-            if attribute.name != "tactic":
+            if attribute.name not in FOR_PROOFS:
                 self.source.refuse(attribute.first, f"the attribute `{attribute.name}` is not known")
             self.cut(attribute.first, attribute.last)
         self.erase_bodies()
@@ -150,11 +158,11 @@ class Erased:
             # To rustc it is a hint, and to the compiler of Rattle an order.
             self.cut(attribute.first, attribute.last)
             return self.put(attribute.first, "#[inline(always)]")
-        if attribute.name in ("tactic", "error", "rattlefmt"):
+        if attribute.name in FOR_PROOFS or attribute.name == "error":
             return self.cut_line(attribute.first, attribute.last)
         if attribute.name == "derive":
             return self.erase_derive(item, attribute)
-        if attribute.name not in ("inline", "cfg", "test", "must_use", "cold", "allow", "should_panic"):
+        if attribute.name not in KNOWN_ATTRIBUTES:
             self.source.refuse(attribute.first, f"the attribute `{attribute.name}` is not known")
 
     def erase_derive(self, item, attribute):
@@ -293,6 +301,7 @@ class Erased:
     # The words of signatures, types and bodies.
 
     def erase_bodies(self):
+        self.erase_inner_attributes()
         self.erase_calls_of_laws()
         self.erase_unsafe()
         self.erase_macros()
@@ -306,6 +315,14 @@ class Erased:
                 self.source.refuse(at, "`rt` is left")
             if not text.isascii() and kind in ("name", "sign"):
                 self.source.refuse(at, f"`{text}` is left, a word of contracts")
+
+    def erase_inner_attributes(self):
+        """Those of statements and arms."""
+        for at in self.bare():
+            following = self.source.after(at)
+            if self.texts[at] == "#" and self.source.at(following) == "[" and self.live[following]:
+                if self.source.at(self.source.after(following)) in FOR_PROOFS:
+                    self.cut_line(at, self.source.closing(following) + 1)
 
     def erase_calls_of_laws(self):
         places = self.bare()
@@ -436,6 +453,9 @@ class Erased:
             if any(first <= at < last for first, last in imports):
                 continue
             names = [self.texts[at], self.texts[places[i + 2]]]
+            if set(names) <= self.paths.modules.keys() and names[0] != names[1]:
+                self.cut(at, places[i + 2])  # a crate that another one passes on
+                continue
             if names[0] in ("super", "self", "Self") or names[0] in self.modules:
                 continue
             started = self.paths.start(names)
@@ -465,6 +485,17 @@ class Erased:
         text = "".join(pieces)
         text = re.sub(r"[ \t]+\n", "\n", text)
         return re.sub(r"\n{3,}", "\n\n", text)
+
+    def imports(self):
+        """What the file names of the package's own modules, by the modules."""
+        return {self.paths.memory: self.names_of_memory(), self.paths.memory.replace("memory", "numbers"): self.traits_of_numbers()}
+
+    def traits_of_numbers(self):
+        if self.paths.has_std:
+            return []
+        places = self.bare()
+        called = {self.texts[at] for i, at in enumerate(places) if i and self.texts[places[i - 1]] == "."}
+        return sorted(BEYOND_CORE[name] for name in called & BEYOND_CORE.keys())
 
     def names_of_memory(self):
         """Which of `Vec` and `String` the file names, by names that stand alone."""

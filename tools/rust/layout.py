@@ -39,6 +39,6 @@ def words_of(text):
 def same_words(place, ours, theirs):
     if place.suffix != ".rs":
         return ours == theirs
-    docs = [sorted(re.sub(r"\s+", " ", line) for line in re.findall(r"^ *//.*", text, re.M)) for text in (ours, theirs)]
+    docs = [sorted(" ".join(line.split()) for line in re.findall(r"^ *//.*", text, re.M)) for text in (ours, theirs)]
     kept = [[word for word in words_of(text) if word] for text in (ours, theirs)]
     return docs[0] == docs[1] and kept[0] == kept[1]

@@ -10,6 +10,10 @@ GONE = {
 }
 
 
+# Conversions that Rust writes by `as`, and Rattle's std by a name.
+CONVERSIONS = ("nearest_", "saturating_")
+
+
 class Paths:
     """Where each crate stands, as `crate::glyph` for `rb_glyph`, and the crate that is read."""
 
@@ -18,6 +22,8 @@ class Paths:
 
     def start(self, names):
         """The path that stands for the first names of a path, and the names that are left. None where it is not known."""
+        while len(names) > 2 and names[0] in self.modules and names[1] in self.modules:
+            names = names[1:]  # a crate that another one passes on
         first = names[0]
         if first == "crate":
             return self.modules[self.own], names[1:]
@@ -30,6 +36,8 @@ class Paths:
     def of_std(self, names):
         if names[0] in ("alloc", "collections"):
             return self.memory, names[1:]
+        if names[0] == "num" and names[1:2] and names[1].startswith(CONVERSIONS):
+            return self.memory.replace("memory", "numbers"), names[1:]
         if names[:2] == ["test", "Fail"] and self.fail:
             return self.fail, []
         if self.has_std:

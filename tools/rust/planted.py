@@ -16,7 +16,7 @@ PLANTS = (
      "where memory runs out, a text panics"),
     ("src/glyph_sides/sides/cursor.rs", "self.gap = gap + read - 1;", "self.gap = gap + read;", "a glyph that is put out is lost"),
     ("src/glyph_lists/glyph_flags.rs", "while start > 1 &&", "while start > 2 &&", "a place is said to be safe to break"),
-    ("src/glyph_lists/clusters.rs", "if info.cluster != cluster {", "if info.cluster > cluster {", "a merge leaves a cluster apart"),
+    ("src/glyph_lists/clusters.rs", "(info.mask & !glyph_flag::DEFINED) |", "info.mask |", "a merge keeps break flags"),
     ("src/buffer/buffer/moving.rs", "left > self.max_len - count", "left > self.max_len", "a rewind grows past the limit"),
     ("src/glyph_text/serialize.rs", "if position.y_advance == 0 {", "if position.x_advance == 0 {", "vertical advances are lost"),
     ("src/text/tags.rs", "if tag != Tag::from_bytes(b\"mym2\") {", "if true {", "Myanmar gets a tag that there is not"),

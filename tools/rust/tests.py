@@ -153,7 +153,7 @@ class Erasure(unittest.TestCase):
             ("use std::net::TcpStream;\n", 1),
             ("fn f() -> u32 {\n    let alloc = 1;\n    alloc\n}\n", 2),
             ("fn f(x: &str) {\n    x.to_uppercase(alloc);\n}\n", 2),
-            ("#[repr(packed)]\nstruct X;\n", 1),
+            ("#[link(name)]\nstruct X;\n", 1),
             ("#[derive(Ord, Model)]\nstruct X;\n", 1),
             ("fn f()\n    requires { x\n{}\n", 2),
             ("fn f() {\n    let x = 'a;\n    x ≡ 1\n}\n", 3),

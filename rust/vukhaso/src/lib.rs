@@ -12,6 +12,8 @@ pub mod arrayvec;
 pub mod bitflags;
 mod itoa;
 pub mod memory;
+#[doc(hidden)]
+pub mod numbers;
 mod ucd_normal;
 mod unicode;
 

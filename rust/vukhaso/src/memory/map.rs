@@ -10,6 +10,27 @@ impl<K: Ord + Copy, V: Copy> BTreeMap<K, V> {
         BTreeMap(Vec::new())
     }
 
+    /// How many entries there are.
+    pub fn len(&self) -> usize {
+        self.0.len()
+    }
+
+    /// Whether there are no entries.
+    pub fn is_empty(&self) -> bool {
+        self.0.is_empty()
+    }
+
+    /// The value of a key, where it has one.
+    pub fn get(&self, key: &K) -> Option<&V> {
+        let at = self.0.binary_search_by_key(key, |entry| entry.0).ok()?;
+        Some(&self.0[at].1)
+    }
+
+    /// Whether a key has a value.
+    pub fn contains_key(&self, key: &K) -> bool {
+        self.get(key).is_some()
+    }
+
     /// Gives a key this value, and gives back the one that it had.
     pub fn insert(&mut self, key: K, value: V) -> Result<Option<V>, AllocError> {
         match self.0.binary_search_by_key(&key, |entry| entry.0) {
