@@ -4,24 +4,13 @@ What is left is plain Rust. A word that is not known to either is `Refused`, wit
 """
 
 import re
-from bisect import bisect_left
 
 import contracts
+from bodies import FOR_PROOFS, Bodies
 from paths import GONE, grouped, use_leaves
-from rattle_source import Reader
-
-# Calls of std that are given an allocator in Rattle, and then may answer that there is no memory.
-TWINS = {
-    "to_ascii_lowercase": ("try_to_ascii_lowercase", "TryText"),
-    "repeat": ("try_repeat", "TryText"),
-    "collect": ("try_into_vec", "TryIterator"),
-}
 
 # Methods of std that core does not have, and the trait of the package that has them.
 BEYOND_CORE = {"round": "Round"}
-
-# Macros whose first argument is what they print or end by.
-WITH_RUNTIME = {"assert", "assert_eq", "assert_ne", "panic"}
 
 # What C sees as it is laid out, as in rustybuzz.
 SEEN_BY_C = {"hb_glyph_info_t", "GlyphPosition"}
@@ -30,17 +19,7 @@ SEEN_BY_C = {"hb_glyph_info_t", "GlyphPosition"}
 # Rattle inlines it.
 SHORT = 150
 
-# Attributes that say how something is proved or laid out.
-FOR_PROOFS = {"tactic", "cycle", "rattlefmt"}
-
 KNOWN_ATTRIBUTES = {"inline", "cfg", "test", "must_use", "cold", "allow", "should_panic", "repr", "non_exhaustive"}
-
-KNOWN_MACROS = {
-    "matches", "unreachable", "write", "writeln", "debug_assert", "assert", "assert_eq", "assert_ne", "format_args",
-    "anyhow", "bail",
-}
-
-PROOFS = {"prove": "debug_assert", "prove_eq": "debug_assert_eq", "prove_ne": "debug_assert_ne"}
 
 
 def is_law(source, item):
@@ -59,54 +38,19 @@ def laws(source, items):
     return {item.name for item in items if is_law(source, item)}
 
 
-class Erased:
+class Erased(Bodies):
     """A source file, from which is taken what only Rattle has."""
 
     def __init__(self, path, text, paths, takers):
-        self.reader = Reader(path, text)
-        self.source, self.paths, self.takers = self.reader.source, paths, takers
-        self.texts = [word.text for word in self.source.words]
-        self.live = [True] * len(self.texts)
-        self.added = {}
-        self.prefix = {}
+        super().__init__(path, text)
+        self.paths, self.takers = paths, takers
         self.of_memory = set()
         self.modules = {item.name for item in self.reader.items if item.kind == "mod"}
         self.models = {
-            item.name: contracts.ghosts(self, item) for item in self.reader.items if item.kind == "impl" and item.trait == "Model"
+            item.name: contracts.ghosts(self, item)
+            for item in self.reader.items
+            if item.kind == "impl" and item.trait == "Model"
         }
-
-    # Words are taken out and put in by these.
-
-    def cut_line(self, first, last):
-        """An attribute with the space behind it."""
-        while last < len(self.texts) and self.source.words[last].kind == "space":
-            last += 1
-        self.cut(first, last)
-
-    def cut(self, first, last):
-        for at in range(first, last):
-            self.texts[at], self.live[at] = "", False
-
-    def put(self, place, text):
-        self.texts[place] = text
-
-    def bare(self, first=0, last=None):
-        last = len(self.texts) if last is None else last
-        return [at for at in self.source.bare if first <= at < last and self.live[at]]
-
-    def cut_item(self, item):
-        """An item with its documentation, its attributes and the comments right above."""
-        first = item.first
-        while first > 0 and self.source.words[first - 1].kind in ("space", "comment"):
-            word = self.source.words[first - 1]
-            if word.kind == "space" and word.text.count("\n") > 1:
-                break
-            first -= 1
-        if first > 0 and self.source.words[first].kind == "comment" and self.source.words[first - 1].kind != "space":
-            first += 1
-        self.cut(first, item.last)
-
-    # The passes.
 
     def erased(self, dropped, laws):
         """The text as plain Rust, without the modules and functions that are dropped, and without laws."""
@@ -297,176 +241,6 @@ class Erased:
     def is_named(self, name):
         """Whether a word that is left has this name, in imports or elsewhere more than once."""
         return sum(self.texts[at] == name for at in self.bare()) > 1
-
-    # The words of signatures, types and bodies.
-
-    def erase_bodies(self):
-        self.erase_inner_attributes()
-        self.erase_calls_of_laws()
-        self.erase_unsafe()
-        self.erase_macros()
-        self.erase_arguments()
-        self.rewrite_paths()
-        for at in self.bare():
-            text, kind = self.texts[at], self.source.words[at].kind
-            if kind == "name" and text in ("Global", "alloc", "HostRuntime", "ghost", "requires", "ensures", "Model"):
-                self.source.refuse(at, f"`{text}` is left")
-            if kind == "name" and text == "rt" and not self.paths.has_std:
-                self.source.refuse(at, "`rt` is left")
-            if not text.isascii() and kind in ("name", "sign"):
-                self.source.refuse(at, f"`{text}` is left, a word of contracts")
-
-    def erase_inner_attributes(self):
-        """Those of statements and arms."""
-        for at in self.bare():
-            following = self.source.after(at)
-            if self.texts[at] == "#" and self.source.at(following) == "[" and self.live[following]:
-                if self.source.at(self.source.after(following)) in FOR_PROOFS:
-                    self.cut_line(at, self.source.closing(following) + 1)
-
-    def erase_calls_of_laws(self):
-        places = self.bare()
-        for i, at in enumerate(places[:-3]):
-            if self.texts[at] in self.laws.names and [self.texts[p] for p in places[i + 1 : i + 4]] == ["(", ")", ";"]:
-                first = i
-                while first and self.texts[places[first - 1]] == "::":
-                    first -= 2
-                self.cut(places[first], places[i + 3] + 1)
-
-    def erase_unsafe(self):
-        """Bytes that are proved to be text are taken for text by the safe call."""
-        places = self.bare()
-        for i, at in enumerate(places):
-            if self.texts[at] != "unsafe":
-                continue
-            opening, name, first = places[i + 1 : i + 4]
-            last, end = self.source.closing(first), self.source.closing(opening)
-            if self.texts[name] != "from_utf8_unchecked" or self.source.after(last) != end:
-                self.source.refuse(at, "this `unsafe` is not known")
-            self.cut(at, name)
-            self.put(name, "from_utf8")
-            self.put(last, ").unwrap_or_default()")
-            self.cut(last + 1, end + 1)
-
-    def erase_macros(self):
-        places = self.bare()
-        for i, at in enumerate(places[:-3]):
-            name, mark, opening = (self.texts[places[i + k]] for k in range(3))
-            if mark != "!" or opening not in ("(", "[") or self.source.words[at].kind != "name":
-                continue
-            self.erase_macro(at, places[i + 1], places[i + 2], name)
-
-    def erase_macro(self, at, mark, opening, name):
-        end = self.source.closing(opening)
-        inner = self.source.after(opening)
-        if name in PROOFS:
-            return self.put(at, PROOFS[name])
-        if self.texts[inner] == "in":
-            semicolon = next(p for p in self.bare(inner, end) if self.texts[p] == ";")
-            self.cut(inner, semicolon + 1)
-            if name == "format":
-                self.put(at, "String::format")
-                self.put(mark, "(")
-                self.put(opening, "format_args!(")
-                self.put(end, "))")
-            elif name == "vec":
-                rest = next((p for p in self.bare(semicolon, end) if self.texts[p] == ";"), None)
-                if rest is None:
-                    self.source.refuse(at, "`vec!` of a list is not known")
-                for place, text in ((at, "Vec::from_elem"), (mark, ""), (opening, "("), (rest, ","), (end, ")")):
-                    self.put(place, text)
-            else:
-                self.source.refuse(at, f"`{name}!` with an allocator is not known")
-        elif self.texts[inner] in ("rt", "error") and self.texts[self.source.after(inner)] == ";":
-            if name not in WITH_RUNTIME:
-                return None
-            self.cut(inner, self.source.after(inner) + 1)
-        elif name not in KNOWN_MACROS:
-            self.source.refuse(at, f"`{name}!` is not known")
-        return None
-
-    def erase_arguments(self):
-        """Takes `alloc` and `rt` out of the lists of arguments."""
-        for first, last in self.passed():
-            before = self.before(first)
-            behind = self.behind(last)
-            if self.texts[before] not in ("(", ",", "{") or self.texts[behind] not in (")", ",", "}"):
-                continue
-            opening = before if self.texts[before] == "(" else None
-            if opening is not None:
-                self.name_twin(opening)
-            if self.texts[behind] == ",":
-                self.cut(first, behind + 1)
-            elif self.texts[before] == ",":
-                self.cut(before, last)
-            else:
-                self.cut(first, last)
-
-    def passed(self):
-        """What is passed on and is not there in plain Rust: `alloc`, `rt.alloc()`, `rt` and `&rt`."""
-        found = []
-        places = self.bare()
-        for i, at in enumerate(places):
-            texts = [self.texts[p] for p in places[i : i + 5]]
-            if texts[:5] == ["rt", ".", "alloc", "(", ")"]:
-                found.append((at, places[i + 4] + 1))
-            elif texts[:3] == ["self", ".", "alloc"] and texts[3] in (",", ")"):
-                found.append((at, places[i + 2] + 1))
-            elif texts[0] == "alloc" and (i == 0 or self.texts[places[i - 1]] != "."):
-                found.append((at, at + 1))
-            elif texts[:2] == ["&", "rt"] and self.paths.has_std:
-                found.append((at, places[i + 1] + 1))
-            elif texts[0] == "rt" and self.paths.has_std and texts[1] in (",", ")"):
-                found.append((at, at + 1))
-        return found
-
-    def before(self, place):
-        at = bisect_left(self.source.bare, place) - 1
-        while at > 0 and not self.live[self.source.bare[at]]:
-            at -= 1
-        return self.source.bare[at]
-
-    def behind(self, place):
-        at = bisect_left(self.source.bare, place)
-        while at < len(self.source.bare) - 1 and not self.live[self.source.bare[at]]:
-            at += 1
-        return self.source.bare[at]
-
-    def name_twin(self, opening):
-        """A method of std that was given an allocator has another name without it."""
-        name = self.before(opening)
-        if self.texts[self.before(name)] != "." or self.texts[name] in self.takers:
-            return
-        if self.texts[name] not in TWINS:
-            self.source.refuse(name, f"`{self.texts[name]}` with an allocator is not known")
-        self.texts[name], trait = TWINS[self.texts[name]]
-        self.of_memory.add(trait)
-
-    def rewrite_paths(self):
-        imports = [(item.start, item.last) for item in self.reader.items if item.kind == "use"]
-        places = self.bare()
-        for i, at in enumerate(places[:-1]):
-            if self.source.words[at].kind != "name" or self.texts[places[i + 1]] != "::":
-                continue
-            if i and self.texts[places[i - 1]] in ("::", "."):
-                continue
-            if any(first <= at < last for first, last in imports):
-                continue
-            names = [self.texts[at], self.texts[places[i + 2]]]
-            if set(names) <= self.paths.modules.keys() and names[0] != names[1]:
-                self.cut(at, places[i + 2])  # a crate that another one passes on
-                continue
-            if names[0] in ("super", "self", "Self") or names[0] in self.modules:
-                continue
-            started = self.paths.start(names)
-            if started is None:
-                if names[0] == "std":
-                    self.source.refuse(at, f"`{'::'.join(names)}` is not known")
-                continue
-            head, rest = started
-            self.put(at, head)
-            if names[0] == "std":
-                self.put(places[i + 2], rest[0] if rest else "")
 
     def rewrite_docs(self):
         """Paths in the links of documentation."""

@@ -1,11 +1,11 @@
-"""The header for C, from the functions, types and constants of `src/capi.rs`, and the glyphs that C sees."""
+"""The header for C, from the functions, types and constants of `src/capi`, and the glyphs that C sees."""
 
 import re
 import textwrap
 
 from rattle_source import Reader
 
-HEAD = """/* Written by tools/plain_rust from src/capi.rs. Do not edit. */
+HEAD = """/* Written by tools/plain_rust from src/capi. Do not edit. */
 #ifndef VUKHASO_H
 #define VUKHASO_H
 
@@ -90,26 +90,21 @@ def prototype(source, item):
     return f"{comment(source, item)}{kind}{item.name}({', '.join(parameters) or 'void'});\n\n"
 
 
-def is_seen(item):
-    return any(attribute.name in ("repr", "unsafe") for attribute in item.attributes)
+def declared(source, item):
+    """The declaration of an item that C sees, or nothing."""
+    is_seen = any(attribute.name in ("repr", "unsafe") for attribute in item.attributes)
+    if item.kind == "enum" and is_seen:
+        return enum(source, item)
+    if item.kind == "struct" and (is_seen or item.name in NAMES):
+        return struct(source, item)
+    if item.kind == "struct":
+        return opaque(source, item)
+    if item.kind == "const" and item.is_public:
+        return constant(source, item)
+    return prototype(source, item) if item.kind == "fn" and is_seen else ""
 
 
-def header(capi, glyph_files):
-    """The header, from these texts of Rust."""
-    text = HEAD
-    for path, glyphs in glyph_files:
-        reader = Reader(path, glyphs)
-        text += "".join(struct(reader.source, item) for item in reader.items if item.kind == "struct")
-    reader = Reader("rust/vukhaso/src/capi.rs", capi)
-    for item in reader.items:
-        if item.kind == "enum" and is_seen(item):
-            text += enum(reader.source, item)
-        elif item.kind == "struct" and is_seen(item):
-            text += struct(reader.source, item)
-        elif item.kind == "struct":
-            text += opaque(reader.source, item)
-        elif item.kind == "const" and item.is_public:
-            text += constant(reader.source, item)
-        elif item.kind == "fn" and is_seen(item):
-            text += prototype(reader.source, item)
-    return text + FOOT
+def header(files):
+    """The header, from these texts of Rust by their places."""
+    readers = [Reader(f"rust/vukhaso/{place}", text) for place, text in files]
+    return HEAD + "".join(declared(reader.source, item) for reader in readers for item in reader.items) + FOOT

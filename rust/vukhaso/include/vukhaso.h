@@ -1,4 +1,4 @@
-/* Written by tools/plain_rust from src/capi.rs. Do not edit. */
+/* Written by tools/plain_rust from src/capi. Do not edit. */
 #ifndef VUKHASO_H
 #define VUKHASO_H
 

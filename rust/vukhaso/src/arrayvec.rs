@@ -3,6 +3,10 @@
 use core::fmt;
 use core::ops::{Deref, DerefMut};
 
+/// An element for which there was no room.
+#[derive(Clone, Copy, Debug, PartialEq, Eq)]
+pub struct CapacityError<T>(pub T);
+
 /// At most `N` elements, which are kept where the value is.
 #[derive(Clone, Copy)]
 pub struct ArrayVec<T, const N: usize> {
@@ -33,6 +37,22 @@ impl<T: Copy + Default, const N: usize> ArrayVec<T, N> {
         self.len += 1;
     }
 
+    /// Puts an element at the end, or gives it back where there is no room.
+    #[inline]
+    pub fn try_push(&mut self, element: T) -> Result<(), CapacityError<T>> {
+        if self.len == N {
+            return Err(CapacityError(element));
+        }
+        self.push(element);
+        Ok(())
+    }
+
+    /// Drops the elements from this place on.
+    #[inline]
+    pub fn truncate(&mut self, len: usize) {
+        self.len = self.len.min(len);
+    }
+
     /// Takes the last element away.
     #[inline]
     pub fn pop(&mut self) -> Option<T> {
@@ -52,6 +72,18 @@ impl<T, const N: usize> ArrayVec<T, N> {
     #[inline]
     pub fn len(&self) -> usize {
         self.len
+    }
+
+    /// How many elements there is room for in all.
+    #[inline]
+    pub fn capacity(&self) -> usize {
+        N
+    }
+
+    /// How many elements more there is room for.
+    #[inline]
+    pub fn remaining_capacity(&self) -> usize {
+        N - self.len
     }
 
     /// Whether there are no elements.
@@ -76,6 +108,15 @@ impl<T, const N: usize> From<[T; N]> for ArrayVec<T, N> {
 impl<T: Copy + Default, const N: usize> Default for ArrayVec<T, N> {
     fn default() -> Self {
         ArrayVec::new()
+    }
+}
+
+impl<'a, T, const N: usize> IntoIterator for &'a ArrayVec<T, N> {
+    type Item = &'a T;
+    type IntoIter = core::slice::Iter<'a, T>;
+
+    fn into_iter(self) -> Self::IntoIter {
+        self.as_slice().iter()
     }
 }
 

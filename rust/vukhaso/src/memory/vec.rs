@@ -51,6 +51,23 @@ impl<T> Vec<T> {
         self.0.push(element);
     }
 
+    /// Puts an element at a place; those from there on move up.
+    pub fn insert(&mut self, at: usize, element: T) -> Result<(), AllocError> {
+        self.reserve(1)?;
+        self.0.insert(at, element);
+        Ok(())
+    }
+
+    /// Takes the element at a place away; those behind it move down.
+    pub fn remove(&mut self, at: usize) -> T {
+        self.0.remove(at)
+    }
+
+    /// Drops the elements for which the test does not hold.
+    pub fn retain<F: FnMut(&T) -> bool>(&mut self, test: F) {
+        self.0.retain(test);
+    }
+
     /// Takes the last element away.
     #[inline]
     pub fn pop(&mut self) -> Option<T> {
