@@ -1,0 +1,308 @@
+// Written by tools/plain_rust from crates/glyph_text. Do not edit.
+
+//! Glyphs as a text.
+
+use crate::bitflags::Flags;
+use crate::glyph::{
+    GlyphExtents, GlyphNames, GlyphPosition, SerializeFlags, glyph_flag, hb_glyph_info_t,
+};
+use crate::glyph_text::number_text::NumberText;
+use crate::itoa::{Buffer, Integer};
+use crate::memory::{AllocError, String};
+
+/// A place relative to the start of the line.
+#[derive(Clone, Copy)]
+struct Point {
+    x: i128,
+    y: i128,
+}
+
+impl Point {
+    fn of_offset(position: &GlyphPosition) -> Point {
+        Point {
+            x: i128::from(position.x_offset),
+            y: i128::from(position.y_offset),
+        }
+    }
+
+    /// # Requires
+    ///
+    /// - `IsNear self`
+    fn plus_offset(self, position: &GlyphPosition) -> Point {
+        Point {
+            x: self.x + i128::from(position.x_offset),
+            y: self.y + i128::from(position.y_offset),
+        }
+    }
+
+    /// The place after a glyph's advance. It is written only under `NO_ADVANCES`: otherwise it stays, and
+    /// no position is read.
+    ///
+    /// # Requires
+    ///
+    /// - `IsNear self`
+    #[inline(always)]
+    fn place_behind(self, flags: SerializeFlags, position: &GlyphPosition) -> Point {
+        if !flags.contains(SerializeFlags::NO_ADVANCES) {
+            return self;
+        }
+        Point {
+            x: self.x + i128::from(position.x_advance),
+            y: self.y + i128::from(position.y_advance),
+        }
+    }
+}
+
+/// The room that is made for each glyph's text at first. Where the texts are longer, they make more.
+const LIKELY_LENGTH: usize = 16;
+
+/// The texts of the glyphs, joined by `|`. The text of a glyph is, in this order:
+///
+/// - its name, or `gid` and its number where the font has no name for it; under `NO_GLYPH_NAMES` the number alone;
+/// - `=` and the cluster, except under `NO_CLUSTERS`;
+/// - `@x,y`, the offsets, unless both are 0, and except under `NO_POSITIONS`;
+/// - `+x`, the advance, and `,y` unless that is 0, except under `NO_POSITIONS` and `NO_ADVANCES`;
+/// - under `GLYPH_FLAGS` `#` and the glyph flags as a digit, unless they are 0;
+/// - under `GLYPH_EXTENTS` `<x_bearing,y_bearing,width,height>`, zeros where the font has none.
+///
+/// Under `NO_ADVANCES` the sums of all earlier advances are added to the offsets.
+///
+/// With no glyph it never does.
+///
+/// # Requires
+///
+/// As many positions as glyphs, and numbers of at most 65535 where names or extents are written.
+///
+/// - `as_many: length positions.now ≡ length infos.now`
+/// - `glyphs: asks_font flags ≡ true → AreGlyphs infos.now`
+///
+/// # Errors
+///
+/// `Err(AllocError)` where memory ran out: then there is no text.
+///
+/// # Proved
+///
+/// ```text
+/// ensures is { IfOk result (λ text. string_bytes text ≡ texts.glyphs_text
+///     (record { name = F.name_of font.now; extents = F.extents_of font.now }) flags
+///     (zip infos.now positions.now)) }
+/// ensures wants { OnErr result (0 < length infos.now) }
+/// ```
+#[inline]
+pub fn glyphs_text<F: GlyphNames>(
+    font: &F,
+    flags: SerializeFlags,
+    infos: &[hb_glyph_info_t],
+    positions: &[GlyphPosition],
+) -> Result<String, AllocError> {
+    debug_assert!(positions.len() == infos.len());
+    let mut text = String::with_capacity(infos.len().saturating_mul(LIKELY_LENGTH))?;
+    write_glyphs(&mut text, font, flags, infos, positions)?;
+    Ok(text)
+}
+
+/// Each glyph's text, with bars between them.
+///
+/// # Requires
+///
+/// - `as_many: length positions.now ≡ length infos.now`
+/// - `glyphs: asks_font flags ≡ true → AreGlyphs infos.now`
+/// - `empty: string_bytes text.old ≡ []`
+fn write_glyphs<F: GlyphNames>(
+    text: &mut String,
+    font: &F,
+    flags: SerializeFlags,
+    infos: &[hb_glyph_info_t],
+    positions: &[GlyphPosition],
+) -> Result<(), AllocError> {
+    debug_assert!(positions.len() == infos.len());
+    let mut pen = Point { x: 0, y: 0 };
+    for (i, info) in infos.iter().enumerate() {
+        let position = &positions[i];
+        write_head(text, font, flags, i, info)?;
+        write_position(text, flags, pen, position)?;
+        write_flags(text, flags, info)?;
+        write_extents(text, font, flags, info)?;
+        pen = pen.place_behind(flags, position);
+    }
+    Ok(())
+}
+
+/// The name of a glyph and its cluster, and what stands before them.
+///
+/// # Requires
+///
+/// - `has flags NO_GLYPH_NAMES ≡ false → info.now.glyph_id ≤ 65535`
+fn write_head<F: GlyphNames>(
+    text: &mut String,
+    font: &F,
+    flags: SerializeFlags,
+    i: usize,
+    info: &hb_glyph_info_t,
+) -> Result<(), AllocError> {
+    if flags.contains(SerializeFlags::NO_GLYPH_NAMES) {
+        return write_numbers(text, flags, i, info);
+    }
+    write_bar(text, i)?;
+    write_name(text, font, info)?;
+    write_cluster(text, flags, info)
+}
+
+/// The number of a glyph and its cluster, and what stands before them, by one copy.
+fn write_numbers(
+    text: &mut String,
+    flags: SerializeFlags,
+    i: usize,
+    info: &hb_glyph_info_t,
+) -> Result<(), AllocError> {
+    let mut numbers = NumberText::new();
+    if !flags.contains(SerializeFlags::NO_CLUSTERS) {
+        numbers.put_number(info.cluster);
+        numbers.put_sign(b'=');
+    }
+    numbers.put_number(info.glyph_id);
+    if i > 0 {
+        numbers.put_sign(b'|');
+    }
+    text.push_str(numbers.as_str())
+}
+
+/// The bar before each glyph except the first.
+fn write_bar(text: &mut String, i: usize) -> Result<(), AllocError> {
+    if i > 0 {
+        text.push('|')?;
+    }
+    Ok(())
+}
+
+/// A character, and then a number.
+///
+/// # Requires
+///
+/// - `before < 128`
+#[inline(always)]
+fn write_behind<I: Integer>(text: &mut String, before: char, number: I) -> Result<(), AllocError> {
+    debug_assert!(u32::from(before) < 128);
+    text.push(before)?;
+    write_number(text, number)
+}
+
+#[inline(always)]
+fn write_number<I: Integer>(text: &mut String, number: I) -> Result<(), AllocError> {
+    let mut digits = Buffer::new();
+    text.push_str(digits.format(number))
+}
+
+/// The name of a glyph, or its number where the font has none.
+///
+/// # Requires
+///
+/// - `info.now.glyph_id ≤ 65535`
+fn write_name<F: GlyphNames>(
+    text: &mut String,
+    font: &F,
+    info: &hb_glyph_info_t,
+) -> Result<(), AllocError> {
+    debug_assert!(info.glyph_id <= 65535);
+    match font.glyph_name(info.as_glyph()) {
+        Some(name) => text.push_str(name),
+        None => {
+            text.push_str("gid")?;
+            write_number(text, info.glyph_id)
+        }
+    }
+}
+
+fn write_cluster(
+    text: &mut String,
+    flags: SerializeFlags,
+    info: &hb_glyph_info_t,
+) -> Result<(), AllocError> {
+    if flags.contains(SerializeFlags::NO_CLUSTERS) {
+        return Ok(());
+    }
+    write_behind(text, '=', info.cluster)
+}
+
+/// # Requires
+///
+/// - `IsNear pen`
+fn write_position(
+    text: &mut String,
+    flags: SerializeFlags,
+    pen: Point,
+    position: &GlyphPosition,
+) -> Result<(), AllocError> {
+    if flags.contains(SerializeFlags::NO_POSITIONS) {
+        return Ok(());
+    }
+    if flags.contains(SerializeFlags::NO_ADVANCES) {
+        return write_offset(text, pen.plus_offset(position));
+    }
+    write_offset(text, Point::of_offset(position))?;
+    write_advance(text, position)
+}
+
+fn write_offset(text: &mut String, offset: Point) -> Result<(), AllocError> {
+    if offset.x == 0 && offset.y == 0 {
+        return Ok(());
+    }
+    write_behind(text, '@', offset.x)?;
+    write_behind(text, ',', offset.y)
+}
+
+fn write_advance(text: &mut String, position: &GlyphPosition) -> Result<(), AllocError> {
+    write_behind(text, '+', position.x_advance)?;
+    if position.y_advance == 0 {
+        return Ok(());
+    }
+    write_behind(text, ',', position.y_advance)
+}
+
+fn write_flags(
+    text: &mut String,
+    flags: SerializeFlags,
+    info: &hb_glyph_info_t,
+) -> Result<(), AllocError> {
+    let defined = info.mask & glyph_flag::DEFINED;
+    if !flags.contains(SerializeFlags::GLYPH_FLAGS) || defined == 0 {
+        return Ok(());
+    }
+    write_behind(text, '#', defined)
+}
+
+/// # Requires
+///
+/// - `has flags GLYPH_EXTENTS ≡ true → info.now.glyph_id ≤ 65535`
+fn write_extents<F: GlyphNames>(
+    text: &mut String,
+    font: &F,
+    flags: SerializeFlags,
+    info: &hb_glyph_info_t,
+) -> Result<(), AllocError> {
+    if !flags.contains(SerializeFlags::GLYPH_EXTENTS) {
+        return Ok(());
+    }
+    let extents = font.glyph_extents(info.as_glyph()).unwrap_or(GlyphExtents {
+        x_bearing: 0,
+        y_bearing: 0,
+        width: 0,
+        height: 0,
+    });
+    write_box(text, extents)
+}
+
+fn write_box(text: &mut String, extents: GlyphExtents) -> Result<(), AllocError> {
+    write_pair(text, '<', extents.x_bearing, extents.y_bearing)?;
+    write_pair(text, ',', extents.width, extents.height)?;
+    text.push('>')
+}
+
+/// # Requires
+///
+/// - `before < 128`
+fn write_pair(text: &mut String, before: char, first: i32, second: i32) -> Result<(), AllocError> {
+    debug_assert!(u32::from(before) < 128);
+    write_behind(text, before, first)?;
+    write_behind(text, ',', second)
+}

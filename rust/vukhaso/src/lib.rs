@@ -1,0 +1,50 @@
+// Written by tools/plain_rust from its table of crates. Do not edit.
+#![doc = include_str!("../README.md")]
+#![no_std]
+#![cfg_attr(not(feature = "capi"), forbid(unsafe_code))]
+#![cfg_attr(feature = "capi", deny(unsafe_code))]
+#![warn(missing_docs)]
+#![allow(non_camel_case_types)] // the names are those of HarfBuzz and rustybuzz
+
+extern crate alloc;
+
+pub mod arrayvec;
+pub mod bitflags;
+mod itoa;
+pub mod memory;
+#[doc(hidden)]
+pub mod numbers;
+mod ucd_normal;
+mod unicode;
+
+// Written, and so in the forms that a prover reads best.
+#[allow(clippy::style, clippy::complexity)]
+pub mod buffer;
+#[allow(clippy::style, clippy::complexity)]
+pub mod common;
+#[allow(clippy::style, clippy::complexity)]
+pub mod glyph;
+#[allow(clippy::style, clippy::complexity)]
+#[doc(hidden)]
+pub mod glyph_lists;
+#[allow(clippy::style, clippy::complexity)]
+#[doc(hidden)]
+pub mod glyph_sides;
+#[allow(clippy::style, clippy::complexity)]
+#[doc(hidden)]
+pub mod glyph_text;
+#[allow(clippy::style, clippy::complexity)]
+pub mod passes;
+#[allow(clippy::style, clippy::complexity)]
+pub mod runs;
+#[allow(clippy::style, clippy::complexity)]
+pub mod text;
+#[allow(clippy::style, clippy::complexity)]
+pub mod unicode_tables;
+
+#[cfg(feature = "capi")]
+#[allow(unsafe_code)]
+pub mod capi;
+mod facade;
+
+pub use facade::*;

@@ -1,0 +1,36 @@
+//! Conversions of numbers that have a name in Rattle's std, and what core does not have.
+
+/// The nearest number, and of two as near the even one.
+#[inline]
+pub fn nearest_i64_to_f32(number: i64) -> f32 {
+    number as f32
+}
+
+/// The number without its fraction: the least or the largest where it is past them, and 0 where it is none.
+#[inline]
+pub fn saturating_f32_to_i32(number: f32) -> i32 {
+    number as i32
+}
+
+/// Numbers that are rounded.
+pub trait Round {
+    /// The nearest whole number, and of two as near the one further from 0.
+    fn round(self) -> Self;
+}
+
+impl Round for f32 {
+    fn round(self) -> f32 {
+        // From here on each number is whole.
+        if self.is_nan() || self.abs() >= 8_388_608.0 {
+            return self;
+        }
+        let whole = self as i32 as f32;
+        let rest = self - whole;
+        let rounded = if rest.abs() >= 0.5 {
+            whole + 1f32.copysign(self)
+        } else {
+            whole
+        };
+        rounded.copysign(self)
+    }
+}

@@ -1,0 +1,12 @@
+// Written by tools/plain_rust from crates/unicode_tables. Do not edit.
+
+//! Tables of the Unicode Character Database as `rb_glyph` takes them: compositions, decompositions, combining classes.
+//!
+//! Each function makes the rows of one table from the data of the kit's crate `ucd_normal` (Unicode 18).
+//! Its rows rise, so the table's `new` takes them, and what the table then answers is that crate's own word.
+mod mapping;
+mod rows;
+mod unicode_rows;
+
+pub use rows::{combining_classes, compositions, decompositions};
+pub use unicode_rows::UnicodeRows;

@@ -1,0 +1,309 @@
+// Written by tools/plain_rust from crates/buffer_tests. Do not edit.
+
+//! Calls at every cluster level, by its number: any number except 1, 2 and 3 acts as 0.
+
+use crate::Fail;
+use vukhaso::buffer::cluster_level::hb_buffer_cluster_level_t;
+use vukhaso::buffer::{BufferClusterLevel, UnicodeBuffer, hb_buffer_t, hb_glyph_info_t};
+use vukhaso::runs::{Answer, Call, replay};
+
+/// Calls on glyphs in these clusters, at each of these levels. Then the out side has so many glyphs, and both sides
+/// have these clusters and glyph flags.
+#[derive(Clone, Copy)]
+struct Row<'a> {
+    levels: &'a [hb_buffer_cluster_level_t],
+    clusters: &'a [u32],
+    calls: &'a [Call<'a>],
+    out_len: usize,
+    both: &'a [(u32, u32)],
+    scratch_flags: u32,
+}
+
+/// What is not said of a row.
+const PLAIN: Row<'static> = Row {
+    levels: &[],
+    clusters: &[],
+    calls: &[],
+    out_len: 0,
+    both: &[],
+    scratch_flags: 0,
+};
+
+/// There are glyph flags.
+const FLAGGED: u32 = 0x20;
+
+/// The levels at which merges change clusters.
+const MONOTONE: &[hb_buffer_cluster_level_t] = &[0, 1, 4, 4_294_967_295];
+
+const ANY_ORDER: &[hb_buffer_cluster_level_t] = &[2, 3];
+
+/// The levels at which a grapheme becomes one cluster.
+const GRAPHEMES: &[hb_buffer_cluster_level_t] = &[0, 3, 4, 4_294_967_295];
+
+const CHARACTERS: &[hb_buffer_cluster_level_t] = &[1, 2];
+
+const ALL: &[hb_buffer_cluster_level_t] = &[0, 1, 2, 3, 4, 4_294_967_295];
+
+static ROWS: [Row<'static>; 19] = [
+    // a merge of clusters marks where they may stand in any order
+    Row {
+        levels: MONOTONE,
+        clusters: &[0, 1, 2],
+        calls: &[Call::ClearOutput, Call::MergeClusters(0, 2)],
+        both: &[(0, 0), (0, 0), (2, 0)],
+        ..PLAIN
+    },
+    Row {
+        levels: ANY_ORDER,
+        clusters: &[0, 1, 2],
+        calls: &[Call::ClearOutput, Call::MergeClusters(0, 2)],
+        both: &[(0, 0), (1, 3), (2, 0)],
+        scratch_flags: FLAGGED,
+        ..PLAIN
+    },
+    // a grapheme becomes one cluster, or is marked
+    Row {
+        levels: GRAPHEMES,
+        clusters: &[0, 1, 2],
+        calls: &[Call::ClearOutput, Call::MergeGraphemeClusters(0, 2)],
+        both: &[(0, 0), (0, 0), (2, 0)],
+        ..PLAIN
+    },
+    Row {
+        levels: CHARACTERS,
+        clusters: &[0, 1, 2],
+        calls: &[Call::ClearOutput, Call::MergeGraphemeClusters(0, 2)],
+        both: &[(0, 0), (1, 3), (2, 0)],
+        scratch_flags: FLAGGED,
+        ..PLAIN
+    },
+    // a scan reads all clusters, or those at the ends of its range alone
+    Row {
+        levels: ANY_ORDER,
+        clusters: &[2, 1, 3, 1],
+        calls: &[Call::ClearOutput, Call::UnsafeToBreak(Some(0), Some(4))],
+        both: &[(2, 3), (1, 0), (3, 3), (1, 0)],
+        scratch_flags: FLAGGED,
+        ..PLAIN
+    },
+    Row {
+        levels: MONOTONE,
+        clusters: &[2, 1, 3, 1],
+        calls: &[Call::ClearOutput, Call::UnsafeToBreak(Some(0), Some(4))],
+        both: &[(2, 3), (1, 0), (3, 0), (1, 0)],
+        scratch_flags: FLAGGED,
+        ..PLAIN
+    },
+    Row {
+        levels: ANY_ORDER,
+        clusters: &[1, 3, 1, 2],
+        calls: &[Call::ClearOutput, Call::UnsafeToBreak(Some(0), Some(4))],
+        both: &[(1, 0), (3, 3), (1, 0), (2, 3)],
+        scratch_flags: FLAGGED,
+        ..PLAIN
+    },
+    Row {
+        levels: MONOTONE,
+        clusters: &[1, 3, 1, 2],
+        calls: &[Call::ClearOutput, Call::UnsafeToBreak(Some(0), Some(4))],
+        both: &[(1, 0), (3, 0), (1, 0), (2, 3)],
+        scratch_flags: FLAGGED,
+        ..PLAIN
+    },
+    // a deletion with nothing put out merges the next glyph, or marks it
+    Row {
+        levels: ANY_ORDER,
+        clusters: &[0, 1, 2],
+        calls: &[Call::ClearOutput, Call::DeleteGlyph],
+        both: &[(1, 3), (2, 0)],
+        scratch_flags: FLAGGED,
+        ..PLAIN
+    },
+    Row {
+        levels: MONOTONE,
+        clusters: &[0, 1, 2],
+        calls: &[Call::ClearOutput, Call::DeleteGlyph],
+        both: &[(0, 0), (2, 0)],
+        ..PLAIN
+    },
+    // a merge of the out side
+    Row {
+        levels: MONOTONE,
+        clusters: &[0, 1, 2],
+        calls: &[
+            Call::ClearOutput,
+            Call::NextGlyphs(2),
+            Call::MergeOutClusters(0, 2),
+        ],
+        out_len: 2,
+        both: &[(0, 0), (0, 0), (2, 0)],
+        ..PLAIN
+    },
+    Row {
+        levels: ANY_ORDER,
+        clusters: &[0, 1, 2],
+        calls: &[
+            Call::ClearOutput,
+            Call::NextGlyphs(2),
+            Call::MergeOutClusters(0, 2),
+        ],
+        out_len: 2,
+        both: &[(0, 0), (1, 0), (2, 0)],
+        ..PLAIN
+    },
+    // the run of a grapheme goes down through the out side
+    Row {
+        levels: GRAPHEMES,
+        clusters: &[2, 2, 1],
+        calls: &[
+            Call::ClearOutput,
+            Call::NextGlyph,
+            Call::MergeGraphemeClusters(1, 3),
+        ],
+        out_len: 1,
+        both: &[(1, 0), (1, 0), (1, 0)],
+        ..PLAIN
+    },
+    Row {
+        levels: CHARACTERS,
+        clusters: &[2, 2, 1],
+        calls: &[
+            Call::ClearOutput,
+            Call::NextGlyph,
+            Call::MergeGraphemeClusters(1, 3),
+        ],
+        out_len: 1,
+        both: &[(2, 0), (2, 3), (1, 0)],
+        scratch_flags: FLAGGED,
+        ..PLAIN
+    },
+    // at level 1 a grapheme is scanned from its ends, and at level 2 all of it
+    Row {
+        levels: &[1],
+        clusters: &[2, 1, 3, 1],
+        calls: &[Call::ClearOutput, Call::MergeGraphemeClusters(0, 4)],
+        both: &[(2, 3), (1, 0), (3, 0), (1, 0)],
+        scratch_flags: FLAGGED,
+        ..PLAIN
+    },
+    Row {
+        levels: &[2],
+        clusters: &[2, 1, 3, 1],
+        calls: &[Call::ClearOutput, Call::MergeGraphemeClusters(0, 4)],
+        both: &[(2, 3), (1, 0), (3, 3), (1, 0)],
+        scratch_flags: FLAGGED,
+        ..PLAIN
+    },
+    // with no output open it is not widened past the cursor
+    Row {
+        levels: GRAPHEMES,
+        clusters: &[5, 5, 3],
+        calls: &[Call::NextGlyph, Call::MergeGraphemeClusters(1, 3)],
+        both: &[(5, 0), (3, 0), (3, 0)],
+        ..PLAIN
+    },
+    Row {
+        levels: CHARACTERS,
+        clusters: &[5, 5, 3],
+        calls: &[Call::NextGlyph, Call::MergeGraphemeClusters(1, 3)],
+        both: &[(5, 0), (5, 3), (3, 0)],
+        scratch_flags: FLAGGED,
+        ..PLAIN
+    },
+    // fewer than two glyphs stay as they are
+    Row {
+        levels: ALL,
+        clusters: &[0, 1, 2],
+        calls: &[
+            Call::MergeGraphemeClusters(1, 1),
+            Call::MergeGraphemeClusters(1, 2),
+        ],
+        both: &[(0, 0), (1, 0), (2, 0)],
+        ..PLAIN
+    },
+];
+
+fn buffer_in(clusters: &[u32]) -> Result<hb_buffer_t, Fail> {
+    let mut text = UnicodeBuffer::new();
+    for cluster in clusters {
+        text.add('a', *cluster)?;
+    }
+    Ok(text.into_buffer())
+}
+
+fn assert_clusters(glyphs: &[hb_glyph_info_t], want: &[(u32, u32)]) {
+    assert!(glyphs.len() == want.len());
+    for (glyph, want) in glyphs.iter().zip(want) {
+        assert!((glyph.cluster, glyph.mask & 7) == *want);
+    }
+}
+
+fn assert_row(row: &Row<'_>, level: hb_buffer_cluster_level_t) -> Result<(), Fail> {
+    let mut buffer = buffer_in(row.clusters)?;
+    buffer.cluster_level = level;
+    let mut answers = [Answer::Outside; 3];
+    let count = row.calls.len();
+    assert!(count <= 3);
+    assert!(replay(&mut buffer, row.calls, &mut answers[..count]) == Ok(()));
+    assert!(
+        answers[..count]
+            .iter()
+            .all(|answer| *answer == Answer::Done)
+    );
+    assert!(row.out_len <= row.both.len());
+    assert_clusters(buffer.out_info(), &row.both[..row.out_len]);
+    assert_clusters(buffer.info(), &row.both[row.out_len..]);
+    assert!(buffer.scratch_flags == row.scratch_flags);
+    assert!(buffer.cluster_level == level);
+    Ok(())
+}
+
+#[test]
+fn each_level_merges_and_marks_by_its_rule() -> Result<(), Fail> {
+    for row in &ROWS {
+        for level in row.levels {
+            assert_row(row, *level)?;
+        }
+    }
+    Ok(())
+}
+
+#[test]
+fn a_grapheme_lies_in_the_input() -> Result<(), Fail> {
+    let calls = [
+        Call::MergeGraphemeClusters(2, 1),
+        Call::MergeGraphemeClusters(0, 4),
+        Call::ClearOutput,
+        Call::NextGlyph,
+        Call::MergeGraphemeClusters(0, 2),
+    ];
+    let mut buffer = buffer_in(&[0, 1, 2])?;
+    let mut answers = [Answer::Refused; 5];
+    assert!(replay(&mut buffer, &calls, &mut answers) == Ok(()));
+    assert!(answers[..2] == [Answer::Outside; 2]);
+    assert!(answers[2..] == [Answer::Done, Answer::Done, Answer::Outside]);
+    assert_clusters(buffer.info(), &[(1, 0), (2, 0)]);
+    Ok(())
+}
+
+#[test]
+fn levels_have_names_and_numbers() {
+    let rows = [
+        (BufferClusterLevel::MonotoneGraphemes, 0),
+        (BufferClusterLevel::MonotoneCharacters, 1),
+        (BufferClusterLevel::Characters, 2),
+        (BufferClusterLevel::Graphemes, 3),
+    ];
+    for (level, number) in rows {
+        assert!(level.number() == number);
+        assert!(BufferClusterLevel::of_number(number) == level);
+        let mut text = UnicodeBuffer::new();
+        text.set_cluster_level(level);
+        assert!(text.cluster_level() == level);
+        assert!(text.into_buffer().cluster_level == number);
+    }
+    for number in [4, 4_294_967_295] {
+        let level = BufferClusterLevel::of_number(number);
+        assert!(level == BufferClusterLevel::MonotoneGraphemes);
+    }
+}

@@ -1,0 +1,39 @@
+// Written by tools/plain_rust from crates/buffer_tests. Do not edit.
+
+//! Tests of `shaping_buffer`, `shaping_runs` and `shaping_uses`, over what they make public, as in the `tests/` folder
+//! of a Rust crate.
+
+#[cfg(test)]
+mod accessors;
+#[cfg(test)]
+mod buffer;
+#[cfg(test)]
+mod call_list;
+#[cfg(test)]
+mod cursor;
+#[cfg(test)]
+mod filled;
+#[cfg(test)]
+mod glyph_buffer;
+#[cfg(test)]
+mod groups;
+#[cfg(test)]
+mod headline;
+#[cfg(test)]
+mod laws;
+#[cfg(test)]
+mod laws_of_lists;
+#[cfg(test)]
+mod levels;
+#[cfg(test)]
+mod limits;
+#[cfg(test)]
+mod lists;
+#[cfg(test)]
+mod long_texts;
+#[cfg(test)]
+mod rendering;
+#[cfg(test)]
+mod unicode_buffer;
+#[cfg(test)]
+mod uses;

@@ -1,0 +1,102 @@
+// Written by tools/plain_rust from crates/buffer_tests. Do not edit.
+
+use crate::Fail;
+use vukhaso::buffer::{
+    BufferClusterLevel, BufferFlags, Direction, Flags, Language, Script, UnicodeBuffer, script,
+};
+use vukhaso::memory::String;
+
+/// The ids and clusters of a text.
+fn assert_text(text: UnicodeBuffer, want: &[(u32, u32)]) {
+    let buffer = text.into_buffer();
+    assert!(buffer.info().len() == want.len());
+    for (glyph, pair) in buffer.info().iter().zip(want.iter()) {
+        assert!((glyph.glyph_id, glyph.cluster) == *pair);
+        assert!(glyph.mask == 0);
+    }
+}
+
+#[test]
+fn characters_are_numbered_by_their_first_bytes() -> Result<(), Fail> {
+    let mut text = UnicodeBuffer::new();
+    assert!(text.is_empty());
+    assert!(text.push_str("éz") == Ok(true));
+    assert!(text.push_str("a") == Ok(true));
+    assert!(text.add('y', 7) == Ok(true));
+    assert!(text.len() == 4);
+    assert_text(text, &[(233, 0), (122, 2), (97, 0), (121, 7)]);
+    let mut text = UnicodeBuffer::new();
+    assert!(text.push_str("éz") == Ok(true));
+    text.reset_clusters();
+    assert_text(text, &[(233, 0), (122, 1)]);
+    Ok(())
+}
+
+/// The context after a text of one character, which is pushed, or added.
+fn assert_after(mut text: UnicodeBuffer, pushes: bool, want: &[char]) {
+    text.set_pre_context("abcdefg");
+    text.set_post_context("abcdefg");
+    let done = if pushes {
+        text.push_str("x")
+    } else {
+        text.add('x', 0)
+    };
+    assert!(done == Ok(true));
+    let buffer = text.into_buffer();
+    assert!(buffer.context(0) == ['g', 'f', 'e', 'd', 'c'].as_slice());
+    assert!(buffer.context(1) == want);
+}
+
+#[test]
+fn contexts_keep_the_nearest_five() -> Result<(), Fail> {
+    let text = UnicodeBuffer::new();
+    assert_after(text, true, ['a', 'b', 'c', 'd', 'e'].as_slice());
+    assert_after(UnicodeBuffer::new(), false, [].as_slice());
+    Ok(())
+}
+
+/// Guesses from one character.
+fn assert_guess(mut text: UnicodeBuffer, c: char, want: (Script, Direction)) {
+    assert!(text.add(c, 0) == Ok(true));
+    text.guess_segment_properties();
+    assert!((text.script(), text.direction()) == want);
+}
+
+#[test]
+fn scripts_and_directions_are_guessed() -> Result<(), Fail> {
+    let hebrew = (script::HEBREW, Direction::RightToLeft);
+    assert_guess(UnicodeBuffer::new(), '\u{5D0}', hebrew);
+    let unknown = (script::UNKNOWN, Direction::LeftToRight);
+    assert_guess(UnicodeBuffer::new(), '1', unknown);
+    Ok(())
+}
+
+#[test]
+fn what_is_said_of_a_text_is_told_again() -> Result<(), Fail> {
+    let mut text = UnicodeBuffer::new();
+    text.set_direction(Direction::BottomToTop);
+    text.set_script(script::ARABIC);
+    text.set_flags(BufferFlags::VERIFY);
+    assert!(text.direction() == Direction::BottomToTop);
+    assert!(text.script() == script::ARABIC);
+    text.clear();
+    assert!(text.script() == script::UNKNOWN);
+    assert!(text.flags().bits() == 0x20);
+    text.set_not_found_variation_selector_glyph(9);
+    assert!(text.into_buffer().not_found_variation_selector == Some(9));
+    Ok(())
+}
+
+#[test]
+fn languages_and_levels_are_told_again() -> Result<(), Fail> {
+    let mut text = UnicodeBuffer::new();
+    assert!(text.language().is_none());
+    text.set_language(Language::from_str("En")?);
+    assert!(text.language().ok_or("no language")?.as_str() == "en");
+    text.set_cluster_level(BufferClusterLevel::Characters);
+    assert!(text.cluster_level() == BufferClusterLevel::Characters);
+    assert!(BufferClusterLevel::default() == BufferClusterLevel::MonotoneGraphemes);
+    let printed = String::format(format_args!("{:?}", BufferClusterLevel::default()))?;
+    assert!(printed.as_str() == "MonotoneGraphemes");
+    Ok(())
+}

@@ -1,0 +1,18 @@
+// Written by tools/plain_rust from crates/glyph_tests. Do not edit.
+
+use crate::glyph_tests::lists::glyphs;
+use vukhaso::glyph_lists::cluster_reads::ClusterReads;
+
+#[test]
+fn each_cluster_that_is_read_is_counted() {
+    let out = glyphs([4, 3]);
+    let input = glyphs([3, 1, 5]);
+    let mut reads = ClusterReads::new(&out, &input);
+    assert!(reads.len() == 5);
+    assert!(reads.reads() == 0);
+    for (i, cluster) in [(1, 3), (0, 4), (4, 5), (2, 3), (4, 5)] {
+        assert!(i < reads.len() && reads.reads() < 5);
+        assert!(reads.cluster(i) == cluster);
+    }
+    assert!(reads.reads() == 5);
+}

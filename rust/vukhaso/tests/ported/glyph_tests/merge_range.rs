@@ -1,0 +1,22 @@
+// Written by tools/plain_rust from crates/glyph_tests. Do not edit.
+
+use crate::glyph_tests::lists::glyphs;
+use vukhaso::glyph_lists::cluster_reads::ClusterReads;
+use vukhaso::glyph_lists::merge_range::merge_range;
+
+#[test]
+fn a_range_is_widened_through_the_runs_at_its_ends() {
+    let rows = [
+        (0, [4, 3, 3, 1], 0, 2, 0, (3, 0, 2)),
+        (0, [4, 3, 3, 1], 1, 4, 0, (1, 1, 4)),
+        (2, [3, 2, 2, 1], 2, 4, 0, (1, 1, 4)),
+        (2, [3, 2, 2, 1], 2, 4, 2, (1, 2, 4)),
+        (2, [0, 1, 1, 2], 0, 2, 0, (0, 0, 3)),
+    ];
+    for (cut, clusters, start, end, floor, want) in rows {
+        let list = glyphs(clusters);
+        assert!(cut <= 4 && start + 2 <= end && end <= 4);
+        let mut reads = ClusterReads::new(&list[..cut], &list[cut..]);
+        assert!(merge_range(&mut reads, start, end, floor) == want);
+    }
+}

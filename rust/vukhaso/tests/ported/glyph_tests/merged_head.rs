@@ -1,0 +1,51 @@
+// Written by tools/plain_rust from crates/glyph_tests. Do not edit.
+
+use crate::glyph_tests::lists::{glyph, glyphs};
+use vukhaso::glyph_lists::merged_head::{keeps_head, lowered_head};
+
+/// The input, how many of its glyphs are merged, and whether the current glyph and what is behind them
+/// stay.
+#[test]
+fn a_head_is_kept_where_no_glyph_that_stays_changes() {
+    let rows = [
+        ([0, 1, 2], 2, true),
+        ([0, 0, 0], 2, true),
+        ([0, 1, 1], 2, false),
+        ([1, 0, 2], 2, false),
+        ([5, 1, 1], 1, true),
+        ([5, 1, 1], 0, true),
+        ([0, 1, 2], 3, false),
+    ];
+    for (input, count, kept) in rows {
+        assert!(keeps_head(&glyphs(input), count, false) == kept);
+    }
+    assert!(keeps_head(&glyphs([0, 1]), 2, false));
+    assert!(!keeps_head(&glyphs([0, 1]), 2, true));
+    assert!(keeps_head(&glyphs([0, 1]), 1, true));
+}
+
+/// What was put out, the input, how many of its glyphs are merged, and the cluster of the current glyph
+/// if it alone is lowered.
+#[test]
+fn a_head_is_lowered_where_its_run_begins_there() {
+    let rows = [
+        ([9, 9], [2, 1, 1], 2, Some(1)),
+        ([2, 9], [2, 1, 0], 2, Some(1)),
+        ([9, 2], [2, 1, 0], 2, None),
+        ([9, 9], [1, 1, 0], 2, None),
+        ([9, 9], [2, 1, 0], 3, None),
+        ([9, 9], [2, 1, 0], 1, None),
+    ];
+    for (out, input, count, cluster) in rows {
+        let head = lowered_head(&glyphs(out), &glyphs(input), count, false);
+        assert!(head.map(|head| head.cluster) == cluster);
+    }
+}
+
+#[test]
+fn a_lowered_head_loses_its_flags() {
+    let input = [glyph(2, 15), glyph(1, 15)];
+    let head = lowered_head(&[], &input, 2, false);
+    assert!(head.map(|head| head.mask) == Some(8));
+    assert!(lowered_head(&[], &input, 2, true).is_none());
+}

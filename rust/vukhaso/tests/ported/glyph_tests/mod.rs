@@ -1,0 +1,63 @@
+// Written by tools/plain_rust from crates/glyph_tests. Do not edit.
+
+//! Tests of `rb_glyph`, `glyph_lists`, `glyph_sides`, `glyph_laws` and `glyph_text`, over what they make public, as in the `tests/`
+//! folder of a Rust crate.
+
+#[cfg(test)]
+mod algs;
+#[cfg(test)]
+mod category;
+#[cfg(test)]
+mod characters;
+#[cfg(test)]
+mod cluster_numbers;
+#[cfg(test)]
+mod cluster_reads;
+#[cfg(test)]
+mod clusters;
+#[cfg(test)]
+mod context;
+#[cfg(test)]
+mod deletion;
+#[cfg(test)]
+mod flag_sets;
+#[cfg(test)]
+mod font;
+#[cfg(test)]
+mod glyph_flags;
+#[cfg(test)]
+mod guess;
+#[cfg(test)]
+mod hangul;
+#[cfg(test)]
+mod info;
+#[cfg(test)]
+mod laws;
+#[cfg(test)]
+mod lists;
+#[cfg(test)]
+mod masks;
+#[cfg(test)]
+mod merge_range;
+#[cfg(test)]
+mod merged_head;
+#[cfg(test)]
+mod merging;
+#[cfg(test)]
+mod names;
+#[cfg(test)]
+mod normalize;
+#[cfg(test)]
+mod position;
+#[cfg(test)]
+mod reversal;
+#[cfg(test)]
+mod serialize;
+#[cfg(test)]
+mod sides;
+#[cfg(test)]
+mod tables;
+#[cfg(test)]
+mod unicode_props;
+#[cfg(test)]
+mod wording;

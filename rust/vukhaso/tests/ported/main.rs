@@ -1,0 +1,17 @@
+//! The tests of the library's crates, written by `tools/plain_rust` from the Rattle sources: of each call, its answers.
+#![allow(
+    clippy::style,
+    clippy::complexity,
+    unused_imports,
+    dead_code,
+    unused_variables
+)] // of some modules only a part is a test here
+
+type Fail = Box<dyn std::error::Error>;
+
+mod buffer_tests;
+mod glyph_tests;
+mod pass_tests;
+mod shaping_uses;
+mod text_tests;
+mod unicode_tests;

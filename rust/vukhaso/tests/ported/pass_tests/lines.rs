@@ -1,0 +1,172 @@
+// Written by tools/plain_rust from crates/pass_tests. Do not edit.
+
+use crate::Fail;
+use vukhaso::buffer::{GlyphPosition, UnicodeBuffer, hb_glyph_info_t};
+use vukhaso::memory::{AllocError, Vec};
+use vukhaso::passes::{KerningTable, kern, line_ends};
+
+/// The cluster, the mask and the advance of each glyph, the widths of the lines, and where the lines end.
+struct Case {
+    glyphs: &'static [(u32, u32, i32)],
+    widths: &'static [i64],
+    ends: &'static [usize],
+}
+
+/// Five letters, each 100 wide.
+const LETTERS: &[(u32, u32, i32)] = &[
+    (0, 0, 100),
+    (1, 0, 100),
+    (2, 0, 100),
+    (3, 0, 100),
+    (4, 0, 100),
+];
+
+static BY_WIDTH: [Case; 8] = [
+    Case {
+        glyphs: &[],
+        widths: &[100],
+        ends: &[],
+    },
+    Case {
+        glyphs: LETTERS,
+        widths: &[500],
+        ends: &[5],
+    },
+    Case {
+        glyphs: LETTERS,
+        widths: &[499],
+        ends: &[4, 5],
+    },
+    Case {
+        glyphs: LETTERS,
+        widths: &[250],
+        ends: &[2, 4, 5],
+    },
+    // the first line is indented
+    Case {
+        glyphs: LETTERS,
+        widths: &[100, 250],
+        ends: &[1, 3, 5],
+    },
+    Case {
+        glyphs: LETTERS,
+        widths: &[],
+        ends: &[5],
+    },
+    // each line is too wide, and ends as soon as it may
+    Case {
+        glyphs: LETTERS,
+        widths: &[0],
+        ends: &[1, 2, 3, 4, 5],
+    },
+    // a mark has no width
+    Case {
+        glyphs: &[(0, 0, 100), (1, 0, 0), (2, 0, 100)],
+        widths: &[100],
+        ends: &[2, 3],
+    },
+];
+
+static BY_FLAGS: [Case; 5] = [
+    // it is unsafe to break before the third letter
+    Case {
+        glyphs: &[
+            (0, 0, 100),
+            (1, 0, 100),
+            (2, 3, 100),
+            (3, 0, 100),
+            (4, 0, 100),
+        ],
+        widths: &[250],
+        ends: &[1, 3, 5],
+    },
+    // and from right to left, before the second letter of the text from its end
+    Case {
+        glyphs: &[
+            (4, 0, 100),
+            (3, 3, 100),
+            (2, 0, 100),
+            (1, 0, 100),
+            (0, 0, 100),
+        ],
+        widths: &[250],
+        ends: &[1, 3, 5],
+    },
+    // the flag that it is unsafe to concatenate does not matter
+    Case {
+        glyphs: &[(0, 0, 100), (1, 2, 100)],
+        widths: &[100],
+        ends: &[1, 2],
+    },
+    // the first cluster is wider than the line
+    Case {
+        glyphs: &[
+            (0, 0, 100),
+            (0, 0, 100),
+            (0, 0, 100),
+            (1, 0, 100),
+            (2, 0, 100),
+        ],
+        widths: &[150],
+        ends: &[3, 4, 5],
+    },
+    // a cluster stands across the end of the line
+    Case {
+        glyphs: &[(0, 0, 100), (1, 0, 100), (1, 0, 100), (2, 0, 100)],
+        widths: &[250],
+        ends: &[1, 3, 4],
+    },
+];
+
+#[test]
+fn lines_end_by_their_widths() -> Result<(), Fail> {
+    for case in &BY_WIDTH {
+        assert!(ends_of(case)?.as_slice() == case.ends);
+    }
+    Ok(())
+}
+
+#[test]
+fn lines_end_where_the_text_may_be_cut() -> Result<(), Fail> {
+    for case in &BY_FLAGS {
+        assert!(ends_of(case)?.as_slice() == case.ends);
+    }
+    Ok(())
+}
+
+/// The law is a function with nothing to do.
+#[test]
+fn laws_may_be_cited() {}
+
+fn ends_of(case: &Case) -> Result<Vec<usize>, AllocError> {
+    let mut glyphs = Vec::new();
+    let mut positions = Vec::new();
+    for (cluster, mask, x_advance) in case.glyphs {
+        glyphs.push(hb_glyph_info_t {
+            cluster: *cluster,
+            mask: *mask,
+            ..hb_glyph_info_t::default()
+        })?;
+        positions.push(GlyphPosition {
+            x_advance: *x_advance,
+            ..GlyphPosition::default()
+        })?;
+    }
+    assert!(glyphs.len() == positions.len());
+    line_ends(&glyphs, &positions, case.widths)
+}
+
+/// Each line is too wide, so it ends as soon as it may: A and V are kerned and stay together, and V and
+/// A are not.
+#[test]
+fn a_kerned_pair_is_not_parted() -> Result<(), Fail> {
+    let table = KerningTable::new(&[((65, 86), -80)]).ok_or("the pair rises")?;
+    let mut characters = UnicodeBuffer::new();
+    assert!(characters.push_str("AVA") == Ok(true));
+    let mut buffer = characters.into_buffer();
+    buffer.clear_positions();
+    kern(&mut buffer, &table);
+    let ends = line_ends(buffer.info(), buffer.pos(), &[-81])?;
+    assert!(ends.as_slice() == [2, 3].as_slice());
+    Ok(())
+}

@@ -1,0 +1,14 @@
+// Written by tools/plain_rust from crates/pass_tests. Do not edit.
+
+//! Tests of `shaping_passes`, over what it makes public, as in the `tests/` folder of a Rust crate.
+
+#[cfg(test)]
+mod kerning;
+#[cfg(test)]
+mod lines;
+#[cfg(test)]
+mod normalization;
+#[cfg(test)]
+mod substitution;
+#[cfg(test)]
+mod visible;

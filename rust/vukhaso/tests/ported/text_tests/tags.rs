@@ -1,0 +1,244 @@
+// Written by tools/plain_rust from crates/text_tests. Do not edit.
+
+//! Tests of tags: worked rows, texts of every form, tables, and complex cases.
+use crate::Fail;
+use vukhaso::text::{
+    ComplexLanguages, Language, LanguageTable, NoComplexLanguages, Script, SmallVecExt, Tag,
+    TagExt, ThreeTags, tags_from_script_and_language,
+};
+
+/// Scripts, languages, the tags of the script and those of the language; `-` is none.
+static ROWS: [[&str; 4]; 96] = [
+    ["Arab", "-", "arab", ""],
+    ["Beng", "-", "bng3bng2beng", ""],
+    ["Copt", "-", "copt", ""],
+    ["Deva", "-", "dev3dev2deva", ""],
+    ["Gujr", "-", "gjr3gjr2gujr", ""],
+    ["Guru", "-", "gur3gur2guru", ""],
+    ["Hira", "-", "kana", ""],
+    ["Kana", "-", "kana", ""],
+    ["Knda", "-", "knd3knd2knda", ""],
+    ["Laoo", "-", "lao ", ""],
+    ["Latn", "-", "latn", ""],
+    ["Mand", "-", "mand", ""],
+    ["Mlym", "-", "mlm3mlm2mlym", ""],
+    ["Mtei", "-", "mtei", ""],
+    ["Mymr", "-", "mym2mymr", ""],
+    ["Nkoo", "-", "nko ", ""],
+    ["Orya", "-", "ory3ory2orya", ""],
+    ["Taml", "-", "tml3tml2taml", ""],
+    ["Telu", "-", "tel3tel2telu", ""],
+    ["Vaii", "-", "vai ", ""],
+    ["Wwyz", "-", "wwyz", ""],
+    ["Yiii", "-", "yi  ", ""],
+    ["Zinh", "-", "zinh", ""],
+    ["Zmth", "-", "zmth", ""],
+    ["Zyyy", "-", "zyyy", ""],
+    ["Zzzz", "-", "zzzz", ""],
+    ["Copt", "en", "copt", ""],
+    ["Copt", "en-x-hbsc", "copt", ""],
+    ["Copt", "x-hbsc", "copt", ""],
+    ["Latn", "en-x-hbscabc", "abc ", ""],
+    ["Latn", "en-x-hbscdev2", "dev2", ""],
+    ["Latn", "en-x-hbscdev3", "dev3", ""],
+    ["Latn", "en-x-hbscdeva", "deva", ""],
+    ["Latn", "x-hbscabc", "abc ", ""],
+    ["Latn", "x-hbscdev2", "dev2", ""],
+    ["Latn", "x-hbscdev3", "dev3", ""],
+    ["Latn", "x-hbscdeva", "deva", ""],
+    ["Mlym", "ml", "mlm3mlm2mlym", "MAL "],
+    ["-", "a-\u{e9}", "", ""],
+    ["-", "abc", "", "ABC "],
+    ["-", "asdf-asdf-wer-x-hbot-zxc", "", ""],
+    ["-", "asdf-asdf-wer-x-hbotabc", "", "ABC "],
+    ["-", "asdf-asdf-wer-x-hbotabc-zxc", "", "ABC "],
+    ["-", "asdf-asdf-wer-x-hbotabcd", "", "ABCD"],
+    ["-", "en", "", ""],
+    ["-", "en-x-hbotpap0-hbsccopt", "copt", "PAP0"],
+    ["-", "en-x-hbsc", "", ""],
+    ["-", "en-x-hbscabc", "abc ", ""],
+    ["-", "en-x-hbscdev2", "dev2", ""],
+    ["-", "en-x-hbscdev3", "dev3", ""],
+    ["-", "en-x-hbscdeva", "deva", ""],
+    ["-", "en-x-hbscdflt", "DFLT", ""],
+    ["-", "fa-ir-x-hbotabc-zxc", "", "ABC "],
+    ["-", "fa-x-hbotabc-zxc", "", "ABC "],
+    ["-", "x-hbot1234-hbsc5678", "5678", "1234"],
+    ["-", "x-hbotabcd", "", "ABCD"],
+    ["-", "x-hbotpap0-hbsccopt", "copt", "PAP0"],
+    ["-", "x-hbsc", "", ""],
+    ["-", "x-hbsc5678-hbot1234", "5678", "1234"],
+    ["-", "x-hbscabc", "abc ", ""],
+    ["-", "x-hbscdev2", "dev2", ""],
+    ["-", "x-hbscdev3", "dev3", ""],
+    ["-", "x-hbscdeva", "deva", ""],
+    ["-", "x-hbscdflt", "DFLT", ""],
+    ["-", "xy", "", ""],
+    ["-", "xyz", "", "XYZ "],
+    ["-", "xyz-a-foo-b-bar", "", "XYZ "],
+    ["-", "xyz-qw", "", ""],
+    ["-", "xyz-xy-x-hbotabc-zxc", "", "ABC "],
+    ["-", "zh-cn-x-hbotabc-zxc", "", "ABC "],
+    ["-", "zh-x-hbotabc-zxc", "", "ABC "],
+    ["-", "zh-xy-x-hbotabc-zxc", "", "ABC "],
+    ["-", "\u{e9}", "", ""],
+    ["-", "\u{e9}-x-hbsc\u{e9}", "", ""],
+    ["-", "x-", "", ""],
+    ["-", "x-hbotabcdef", "", "ABCD"],
+    ["-", "-x-hbscabc", "abc ", ""],
+    ["-", "-x-en", "", ""],
+    ["-", "xyz-a-b-c", "", "XYZ "],
+    ["-", "en-a-foo-x-hbotabc", "", "ABC "],
+    ["-", "xyz-x-a-b-foo", "", "XYZ "],
+    ["-", "x-hbsc-hbscabc", "", ""],
+    ["-", "x-hbscabc-hbscdef", "abc ", ""],
+    ["-", "x-hbscabcde", "abcd", ""],
+    ["-", "x-hbscDFLT", "DFLT", ""],
+    ["-", "x-hbscDfLt", "DFLT", ""],
+    ["-", "x-hbotdflt", "", "dflt"],
+    ["-", "x-hbotDfLT", "", "dflt"],
+    ["Latn", "xyz-x-hbsc", "latn", "XYZ "],
+    ["-", "en-x", "", ""],
+    ["-", "ax-hbscabc", "", ""],
+    ["-", "a---b", "", ""],
+    ["-", "--", "", ""],
+    ["-", "--x", "", "--X "],
+    ["-", "-x-", "", ""],
+    ["-", "xyz--x-hbotab", "", "AB  "],
+];
+
+/// The same over [`TABLE`], with no script.
+static ROWS_OF_TABLE: [[&str; 4]; 20] = [
+    ["-", "a", "", "A   "],
+    ["-", "aa", "", "AA1 "],
+    ["-", "aaa", "", ""],
+    ["-", "aab", "", "AAB "],
+    ["-", "ab", "", "AB1 AB2 "],
+    ["-", "ab-x-hbsc", "", "AB1 AB2 "],
+    ["-", "ab-x-hbotabc", "", "ABC "],
+    ["-", "abc", "", "ABC1"],
+    ["-", "abc-de", "", "ABC1"],
+    ["-", "ar-ary", "", "MOR "],
+    ["-", "ar-ary-x-y", "", "MOR "],
+    ["-", "ar-ary1", "", ""],
+    ["-", "ar-1ry", "", ""],
+    ["-", "a-ary", "", "A   "],
+    ["-", "-a-ary", "", ""],
+    ["-", "en-x-hbscdflt", "DFLT", "ENG "],
+    ["-", "en-ary1-a-foo", "", "ENG "],
+    ["-", "xy-ml", "", ""],
+    ["-", "zz", "", "ZZ1 ZZ2 ZZ3 "],
+    ["-", "zzz", "", "ZZZ "],
+];
+
+const TABLE: [(&str, Tag); 17] = [
+    ("a", Tag(0x41202020)),
+    ("aa", Tag(0x41413120)),
+    ("aa", Tag(0)),
+    ("aa", Tag(0x41413220)),
+    ("aaa", Tag(0)),
+    ("aaa", Tag(0x41414120)),
+    ("ab", Tag(0x41423120)),
+    ("ab", Tag(0x41423220)),
+    ("abc", Tag(0x41424331)),
+    ("ary", Tag(0x4d4f5220)),
+    ("en", Tag(0x454e4720)),
+    ("ml", Tag(0x4d414c20)),
+    ("ml", Tag(0x4d4c5220)),
+    ("zz", Tag(0x5a5a3120)),
+    ("zz", Tag(0x5a5a3220)),
+    ("zz", Tag(0x5a5a3320)),
+    ("zz", Tag(0x5a5a3420)),
+];
+
+const MALAYALAM: [(&str, Tag); 1] = [("ml", Tag(0x4d414c20))];
+
+/// Every prefix is a complex case, with no tags.
+struct NoTags;
+
+///
+/// # Proved
+///
+/// ```text
+/// ghost cases = { λ all prefix. Some [] }
+/// ```
+impl ComplexLanguages for NoTags {
+    fn tags(&self, _prefix: &str) -> Option<ThreeTags> {
+        Some(ThreeTags::new())
+    }
+}
+
+/// Every prefix is a complex case, with the tags 1, 2 and 3.
+struct OneTwoThree;
+
+///
+/// # Proved
+///
+/// ```text
+/// ghost cases = { λ all prefix. Some (1 ∷ 2 ∷ 3 ∷ []) }
+/// ```
+impl ComplexLanguages for OneTwoThree {
+    fn tags(&self, _prefix: &str) -> Option<ThreeTags> {
+        Some(ThreeTags::from([Tag(1), Tag(2), Tag(3)]))
+    }
+}
+
+/// The tags are those of the text, four bytes each.
+fn are(tags: &ThreeTags, text: &str) {
+    assert!(tags.len() * 4 == text.len());
+    for (tag, bytes) in tags.iter().zip(text.as_bytes().chunks(4)) {
+        assert!(*tag == Tag::from_bytes_lossy(bytes));
+    }
+}
+
+/// The language of a text, if it is one.
+fn language_of(text: &str) -> Option<Language> {
+    if text == "-" {
+        return None;
+    }
+    Language::from_str(text).ok()
+}
+
+fn rows_hold(table: &LanguageTable<'_>, rows: &[[&str; 4]]) {
+    for [script, language, script_tags, language_tags] in rows {
+        let script = script.parse::<Script>().ok().filter(|_| *script != "-");
+        let language = language_of(language);
+        let (scripts, languages) =
+            tags_from_script_and_language(script, language.as_ref(), table, &NoComplexLanguages);
+        are(&scripts, script_tags);
+        are(&languages, language_tags);
+    }
+}
+
+#[test]
+fn rows_of_scripts_and_languages() -> Result<(), Fail> {
+    let one_row = LanguageTable::new(&MALAYALAM).ok_or("no table")?;
+    rows_hold(&one_row, &ROWS);
+    let many_rows = LanguageTable::new(&TABLE).ok_or("no table")?;
+    rows_hold(&many_rows, &ROWS_OF_TABLE);
+    Ok(())
+}
+
+#[test]
+fn complex_cases_come_before_the_table() -> Result<(), Fail> {
+    let table = LanguageTable::new(&TABLE).ok_or("no table")?;
+    let language = Language::from_str("zz")?;
+    let (_, none) = tags_from_script_and_language(None, Some(&language), &table, &NoTags);
+    assert!(none.left() == 3);
+    let (_, three) = tags_from_script_and_language(None, Some(&language), &table, &OneTwoThree);
+    assert!(three.as_slice() == [Tag(1), Tag(2), Tag(3)].as_slice());
+    assert!(SmallVecExt::is_full(&three));
+    Ok(())
+}
+
+#[test]
+fn keys_of_a_table_never_fall() {
+    let tag = Tag(1);
+    assert!(LanguageTable::new(&[]).is_some());
+    assert!(LanguageTable::new(&[("a", tag), ("a", tag), ("b", tag)]).is_some());
+    assert!(LanguageTable::new(&[("b", tag), ("a", tag)]).is_none());
+    assert!(LanguageTable::new(&[("a", tag), ("b", tag), ("a", tag)]).is_none());
+    for key in ["", "A", "\u{e9}", "a-b"] {
+        assert!(LanguageTable::new(&[(key, tag)]).is_none(), "{key}");
+    }
+}

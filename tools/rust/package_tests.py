@@ -1,0 +1,117 @@
+"""The tests of the package: its own, those beside the proved program, and those of the calls for C."""
+
+import os
+import re
+import shutil
+import subprocess
+import sys
+import tempfile
+from pathlib import Path
+
+ROOT = Path(__file__).resolve().parent.parent.parent
+PACKAGE = ROOT / "rust/vukhaso"
+PROVED = ROOT / "crates/shaping_cli/out/shaping_cli"
+PROGRAMS, SEED = 20_000, 1
+
+sys.path.append(str(ROOT / "tools/harfbuzz"))
+
+import programs  # noqa: E402
+
+
+def is_here(*words):
+    """Whether a command is on this machine."""
+    return bool(shutil.which(words[0])) and not subprocess.run(words, capture_output=True).returncode
+
+
+class Tally:
+    """How many checks passed and failed, each with a line; of one that failed also what it printed."""
+
+    def __init__(self):
+        self.passed = self.failed = 0
+
+    def note(self, what, fault=""):
+        self.passed += not fault
+        self.failed += bool(fault)
+        print(f"FAILED  {what}\n{fault}" if fault else f"passed  {what}", flush=True)
+
+    def run(self, what, words, **more):
+        environment = {**os.environ, **more.pop("environment", {})}
+        done = subprocess.run(
+            words, cwd=PACKAGE, stdout=subprocess.PIPE, stderr=subprocess.STDOUT, text=True, errors="replace",
+            env=environment, **more)
+        self.note(what, f"{done.stdout}status {done.returncode}" if done.returncode else "")
+        return done
+
+
+def proved_answers(room):
+    """Random programs, and what the proved program answers to them: the names of both files by their variables."""
+    made = programs.programs(SEED, PROGRAMS)
+    lines, answers = room / "lines", room / "answers"
+    lines.write_text("".join(f"{line}\n" for program in made for line in program))
+    with lines.open() as given, answers.open("w") as taken:
+        subprocess.run([PROVED], stdin=given, stdout=taken, check=True)
+    return {"VUKHASO_LINES": str(lines), "VUKHASO_ANSWERS": str(answers)}
+
+
+def test_rust(tally, room):
+    beside = {}
+    if PROVED.is_file():
+        beside = proved_answers(room)
+        what = f"cargo test, {PROGRAMS} programs beside the proved one among them"
+    else:
+        what = "cargo test, with no program beside the proved one, which `rt ci` links"
+    tally.run(what, ["cargo", "test", "--offline", "--quiet"], environment=beside)
+    tally.run("cargo doc with no warning", ["cargo", "doc", "--offline", "--quiet"], environment={"RUSTDOCFLAGS": "-D warnings"})
+    if is_here("cargo", "clippy", "--version"):
+        words = ["cargo", "clippy", "--offline", "--quiet", "--all-targets", "--features", "capi", "--", "-D", "warnings"]
+        tally.run("cargo clippy with no warning", words)
+    if is_here("cargo", "fmt", "--version"):
+        tally.run("cargo fmt finds nothing to lay out", ["cargo", "fmt", "--check"])
+
+
+def test_c(tally, room):
+    """The calls for C: with sanitizers, as C++, and under valgrind from the shared library."""
+    words = ["cargo", "rustc", "--offline", "--quiet", "--release", "--lib", "--features", "capi", "--crate-type"]
+    if tally.run("the libraries for C", [*words, "staticlib,cdylib"]).returncode:
+        return
+    built, source = PACKAGE / "target/release", PACKAGE / "tests/c/test.c"
+    compiler = [os.environ.get("CC", "cc"), "-std=c11", "-Wall", "-Wextra", "-Werror", "-g", f"-I{PACKAGE / 'include'}"]
+    checked = ["-fsanitize=address,undefined", "-fno-sanitize-recover=all", str(built / "libvukhaso.a"), "-lpthread", "-ldl", "-lm"]
+    if not tally.run("the program in C, with sanitizers", [*compiler, "-o", room / "checked", source, *checked]).returncode:
+        tally.run("it runs with sanitizers", [room / "checked"])
+    shared = ["-o", room / "shared", source, f"-L{built}", "-lvukhaso", f"-Wl,-rpath,{built}"]
+    if tally.run("the program in C, over the shared library", [*compiler, *shared]).returncode:
+        return
+    if is_here("valgrind", "--version"):
+        words = ["valgrind", "-q", "--leak-check=full", "--error-exitcode=9", room / "shared", "50"]
+        tally.run("it runs under valgrind", words)
+    else:
+        tally.run("it runs", [room / "shared"])
+
+
+def test_readme(tally, room):
+    """The lines of README in a new package, which print what it says, and again in the package's own README."""
+    text = (ROOT / "README.md").read_text()
+    found = re.search(r"```rust\n(use vukhaso::.*?)```\n\nIt prints `(.*?)`", text, re.S)
+    if not found:
+        return tally.note("the lines of README", "they are not there")
+    lines, printed = found.groups()
+    (room / "fit/src").mkdir(parents=True)
+    (room / "fit/src/main.rs").write_text(lines)
+    manifest = '[package]\nname = "fit"\nedition = "2024"\n\n[dependencies]\nvukhaso = {{ path = "{}" }}\n\n[workspace]\n'
+    (room / "fit/Cargo.toml").write_text(manifest.format(PACKAGE))
+    words = ["cargo", "run", "--offline", "--quiet", "--manifest-path", str(room / "fit/Cargo.toml")]
+    done = subprocess.run(words, capture_output=True, text=True)
+    fault = "" if done.stdout == printed + "\n" and not done.stderr else f"{done.stdout}{done.stderr}, and not {printed}"
+    tally.note("the lines of README in a new package", fault)
+    own = (PACKAGE / "README.md").read_text()
+    bare = [re.sub(r" *//.*", "", line) for line in lines.splitlines()]
+    missing = [line for line in bare if line not in own.splitlines()]
+    tally.note("the lines of README in the package's own", "\n".join(missing))
+
+
+def test_all(tally):
+    with tempfile.TemporaryDirectory(prefix="plain-rust-") as folder:
+        test_rust(tally, Path(folder))
+        test_readme(tally, Path(folder))
+        test_c(tally, Path(folder))
