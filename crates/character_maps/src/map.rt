@@ -1,0 +1,96 @@
+//! The map from characters to glyphs.
+
+ghost use Rattle.std.specs.Prelude.{◌≡◌, IsTrue, option_map, option_and_then};
+ghost use Rattle.character_maps.specs.Choice.{chosen_subtable, chosen_encoding, variation_subtable};
+ghost use Rattle.character_maps.specs.Codes.{glyph_index, glyph_variation_index};
+ghost use Rattle.character_maps.specs.Rising.{RowsRise, VariationsRise};
+ghost use Rattle.character_maps.specs.Variations.{glyph_variant};
+ghost use Rattle.character_maps.specs.Subtables.{subtable_glyph};
+
+use crate::choice::{choose, variation_subtable};
+use crate::codes::{Encoding, other_code, own_code};
+use crate::subtable::{rows_rise, subtable_glyph};
+use crate::variations::{GlyphVariant, glyph_variant, variations_rise};
+use rb_common::GlyphId;
+
+/// The map from characters to glyphs of a font (OpenType specification, `cmap`).
+#[derive(Clone, Copy, Debug)]
+pub struct CharacterMap<'a> {
+    /// The subtable that was chosen, from its format on; empty where the font has none that is understood.
+    pub subtable: &'a [u8],
+    /// What the codes of the subtable stand for.
+    pub encoding: Encoding,
+    /// The subtable of variation sequences, from its format on; empty where the font has none.
+    pub variations: &'a [u8],
+    rows_rise: bool,
+    variations_rise: bool,
+    ghost rows: { IsTrue rows_rise → RowsRise subtable.now },
+    ghost selectors: { IsTrue variations_rise → VariationsRise variations.now },
+}
+
+impl<'a> CharacterMap<'a> {
+    /// The map of a font, from its table `cmap`.
+    ///
+    /// `font_page` says what the codes of a symbol font are: `fsSelection & 0xFF00` of a table `OS/2` of version 0, and 0
+    /// for any other font.
+    ///
+    /// One subtable is chosen, as HarfBuzz chooses it: symbols, then all of Unicode, then its first 65,536 characters, and
+    /// then the Macintosh's encodings. A subtable that does not lie whole in the table is not there.
+    pub fn parse(cmap: &'a [u8], font_page: u16) -> Self
+        ensures subtable { result.subtable.now ≡ chosen_subtable cmap.now }
+        ensures encoding { result.encoding ≡ chosen_encoding cmap.now font_page }
+        ensures variations { result.variations.now ≡ variation_subtable cmap.now }
+    {
+        let choice = choose(cmap, font_page);
+        let variations = variation_subtable(cmap);
+        CharacterMap {
+            subtable: choice.subtable,
+            encoding: choice.encoding,
+            variations,
+            rows_rise: rows_rise(choice.subtable),
+            variations_rise: variations_rise(variations),
+        }
+    }
+
+    /// The glyph of a character; `None` where the font has none.
+    #[tactic(auto, unfolding(crate::specs::Codes::glyph_index))]
+    pub fn glyph_index(&self, character: u32) -> Option<GlyphId>
+        ensures { option_map (λ glyph. glyph.0) result
+            ≡ glyph_index self.now.subtable.now self.now.encoding character }
+    {
+        let glyph = match self.glyph_of_code(own_code(self.encoding, character)) {
+            Some(glyph) => Some(glyph),
+            None => self.glyph_of_code(other_code(self.encoding, character)),
+        };
+        glyph.map(GlyphId)
+    }
+
+    /// The glyph of a code, if there is a code.
+    fn glyph_of_code(&self, code: Option<u32>) -> Option<u16>
+        ensures { result ≡ option_and_then (subtable_glyph self.now.subtable.now) code }
+    {
+        let code = code?;
+        subtable_glyph(self.subtable, code, self.rows_rise)
+    }
+
+    /// What the font says of a character before a variation selector.
+    pub fn glyph_variant(&self, character: u32, selector: u32) -> GlyphVariant
+        ensures { result ≡ glyph_variant self.now.variations.now character selector }
+    {
+        glyph_variant(self.variations, character, selector, self.variations_rise)
+    }
+
+    /// The glyph of a character before a variation selector; `None` where the font does not have that variation
+    /// sequence, or no glyph for it.
+    #[tactic(auto, unfolding(crate::specs::Codes::glyph_variation_index))]
+    pub fn glyph_variation_index(&self, character: u32, selector: u32) -> Option<GlyphId>
+        ensures { option_map (λ glyph. glyph.0) result
+            ≡ glyph_variation_index self.now.subtable.now self.now.encoding self.now.variations.now character selector }
+    {
+        match self.glyph_variant(character, selector) {
+            GlyphVariant::NotFound => None,
+            GlyphVariant::Found(glyph) => Some(glyph),
+            GlyphVariant::UseDefault => self.glyph_index(character),
+        }
+    }
+}
