@@ -2,4 +2,6 @@
 #![tactic(auto)]
 
 #[cfg(test)]
+mod characters;
+#[cfg(test)]
 mod tables;
