@@ -2,8 +2,8 @@
 use Rattle.std.proofs.Common.{◌≡◌, ℕ, ◌+◌, ◌*◌, ◌/◌, ◌≤◌, List, length, None, refl, arith}
 use Rattle.std.proofs.lemmas.Bool.Decides.{nat_tests}
 use Rattle.font_tables.specs.Bytes.{number_16, number_24, number_32}
-use Rattle.character_maps.specs.Variations.{selector_at, range_start, range_end, mapped_at}
-use Rattle.character_maps.specs.Subtables.{number_of_list, segment_count, segment_end, segment_glyph}
+use Rattle.character_maps.specs.Variations.{range_start, range_end}
+use Rattle.character_maps.specs.Subtables.{number_of_list, segment_count, segment_glyph}
 use Rattle.character_maps.specs.Subtables.{group_end, group_glyph}
 
 pub outside_16 : (bs : List ℕ) (i : ℕ) → length bs ≤ i + 1 → number_16 bs i ≡ None
@@ -13,9 +13,6 @@ outside_16 bs i past = grind (arith, nat_tests)
 pub outside_32 : (bs : List ℕ) (i : ℕ) → length bs ≤ i + 3 → number_32 bs i ≡ None
 unfolding number_32
 outside_32 bs i past = grind (arith, nat_tests)
-
-pub ends_outside : (bs : List ℕ) (row : ℕ) → length bs / 2 ≤ row → segment_end bs row ≡ None
-ends_outside bs row past = outside_16 bs (14 + 2 * row) (omega arith)
 
 pub numbers_outside : (bs : List ℕ) (list place : ℕ) → length bs / 2 ≤ place → number_of_list bs list place ≡ None
 unfolding number_of_list
@@ -39,18 +36,12 @@ pub outside_24 : (bs : List ℕ) (i : ℕ) → length bs ≤ i + 2 → number_24
 unfolding number_24
 outside_24 bs i past = grind (arith, nat_tests)
 
-pub selectors_outside : (bs : List ℕ) (row : ℕ) → length bs / 11 ≤ row → selector_at bs row ≡ None
-selectors_outside bs row past = outside_24 bs (10 + 11 * row) (omega arith)
-
 pub range_starts_outside : (bs : List ℕ) (row : ℕ) → length bs / 4 ≤ row → range_start bs row ≡ None
 range_starts_outside bs row past = outside_24 bs (4 + 4 * row) (omega arith)
 
 pub range_ends_outside : (bs : List ℕ) (row : ℕ) → length bs / 4 ≤ row → range_end bs row ≡ None
 unfolding range_end
 range_ends_outside bs row past = rw (range_starts_outside bs row past) refl
-
-pub mappings_outside : (bs : List ℕ) (row : ℕ) → length bs / 5 ≤ row → mapped_at bs row ≡ None
-mappings_outside bs row past = outside_24 bs (4 + 5 * row) (omega arith)
 
 pub mapped_glyphs_outside : (bs : List ℕ) (row : ℕ) → length bs / 5 ≤ row → number_16 bs (7 + 5 * row) ≡ None
 mapped_glyphs_outside bs row past = outside_16 bs (7 + 5 * row) (omega arith)

@@ -4,7 +4,7 @@ use Rattle.std.specs.Prelude.{if◌then◌else◌}
 use Rattle.std.specs.Prelude.{unwrap_or, option_and_then, option_map, length}
 use Rattle.std.specs.Option.{option_eq, option_map_or}
 use Rattle.font_tables.specs.Bytes.{byte_at, number_16, number_24, number_32, table_at_32}
-use Rattle.font_tables.specs.Rows.{first_row}
+use Rattle.font_tables.specs.Rows.{first_row, is_within}
 use Rattle.character_maps.specs.declared.variations.GlyphVariant.{GlyphVariant}
 use Rattle.character_maps.specs.declared.variations.GlyphVariant.TheVariants.{NotFound, UseDefault, Found}
 use Rattle.character_maps.specs.Subtables.{some_glyph}
@@ -46,15 +46,10 @@ range_end bs row =
 unfoldable pub range_count : List ℕ → ℕ
 range_count bs = rows_declared bs 4
 
--- a number that is there and not above another
-abbrev pub starts_by : ℕ → Option ℕ → Bool
-starts_by key None = false
-starts_by key (Some start) = nat_le start key
-
 -- the first range that reaches the character holds it, if it starts at or before it
 unfoldable pub in_ranges : List ℕ → ℕ → Bool
 in_ranges bs character =
-    option_map_or (λ row. starts_by character (range_start bs row))
+    option_map_or (λ row. is_within (range_start bs row) character)
     (first_row (range_end bs) character (range_count bs)) false
 
 -- characters, with a glyph for each

@@ -1,4 +1,5 @@
-//! Subtables that have a glyph for each code from a first one on (formats 0, 6 and 10).
+//! Subtables that have a glyph for each code from a first one on (OpenType specification, `cmap`, "Format 0", "Format 6" and
+//! "Format 10").
 
 ghost use Rattle.std.specs.Prelude.{◌≡◌, ◌<◌};
 ghost use Rattle.character_maps.specs.Subtables.{some_glyph, byte_glyph, listed_glyph, trimmed_table_glyph};

@@ -5,10 +5,10 @@ ghost use Rattle.character_maps.specs.Codes.{own_code, other_code};
 
 use crate::legacy_codes::{macintosh_roman_code, simplified_arabic_code, traditional_arabic_code};
 
-/// What the codes of a subtable stand for.
+/// What the codes of a subtable stand for (OpenType specification, `cmap`, "Encoding records and encodings").
 #[derive(Clone, Copy, PartialEq, Eq, Debug)]
 pub enum Encoding {
-    /// Characters of Unicode.
+    /// Characters of Unicode, or symbols whose codes are taken as they are.
     Unicode,
     /// Symbols: a character up to U+00FF may also have the code 0xF000 above it.
     Symbol,

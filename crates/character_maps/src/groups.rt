@@ -1,4 +1,5 @@
-//! Groups of codes, each with its first and last code and a glyph (formats 12 and 13).
+//! Groups of codes, each with its first and last code and a glyph (OpenType specification, `cmap`, "Format 12" and
+//! "Format 13").
 
 ghost use Rattle.std.specs.Prelude.{◌≡◌, ◌*◌, ◌+◌, IsTrue};
 ghost use Rattle.font_tables.specs.Bytes.{number_32};

@@ -1,33 +1,26 @@
-//! Segments of codes, as format 4 has them.
+//! Segments of codes (OpenType specification, `cmap`, "Format 4").
 
 ghost use Rattle.std.specs.Prelude.{◌≡◌, ◌<◌, ◌^◌, IsTrue};
 ghost use Rattle.font_tables.specs.Rows.{Rises};
-ghost use Rattle.character_maps.specs.Subtables.{segment_count, segment_end, with_delta, glyph_in_segment};
+ghost use Rattle.character_maps.specs.Subtables.{segment_count, segment_end, number_of_list};
+ghost use Rattle.character_maps.specs.Subtables.{glyph_behind_range_offset, with_delta, glyph_in_segment};
 ghost use Rattle.character_maps.specs.Subtables.{segment_glyph, segments_glyph};
-ghost use Rattle.character_maps.specs.Subtables.{number_of_list, glyph_behind_range_offset};
-ghost use Rattle.character_maps.specs.Subtables.{glyph_in_segment, segment_glyph, segments_glyph};
 
 use crate::arrays::some_glyph;
 use crate::counts::count_16;
 use font_tables::bytes::u16_at;
-use font_tables::rows::{Rows, first_row, rises};
+use font_tables::rows::{Keys16, first_row, rises};
 
-/// The segments of a subtable.
-#[derive(Clone, Copy, Debug)]
-pub(crate) struct Segments<'a>(&'a [u8]);
-
-impl Rows for Segments<'_> {
-    ghost use Rattle.character_maps.specs.Subtables.{segment_end};
-
-    ghost last_of = { λ segments row. segment_end segments.0.now row };
-
-    #[tactic(auto, using(crate::proofs::Outside::ends_outside))]
-    fn last(&self, row: usize) -> Option<u32> {
-        if row < self.0.len() / 2 {
-            u16_at(self.0, 14 + 2 * row).map(u32::from)
-        } else {
-            None
-        }
+/// The segments' ends, in their order.
+fn ends(table: &[u8]) -> Keys16<'_>
+    ensures table { result.table.now ≡ table.now }
+    ensures start { result.start ≡ 14 }
+    ensures size { result.size ≡ 2 }
+{
+    Keys16 {
+        table,
+        start: 14,
+        size: 2,
     }
 }
 
@@ -44,7 +37,7 @@ fn segment_count(table: &[u8]) -> usize
 pub(crate) fn segments_rise(table: &[u8]) -> bool
     ensures { IsTrue result → Rises (segment_end table.now) (segment_count table.now) }
 {
-    rises(&Segments(table), segment_count(table))
+    rises(&ends(table), segment_count(table))
 }
 
 /// The number at a place of a list behind the ends: starts (1), deltas (2), range offsets and then glyphs (3).
@@ -60,7 +53,7 @@ fn number_of_list(table: &[u8], list: usize, place: usize) -> Option<u16>
     }
 }
 
-/// The glyph so far behind the range offset of a row, which lies behind all the range offsets.
+/// The glyph that stands so many places behind the range offset of a row: behind all of the range offsets.
 #[tactic(auto, unfolding(crate::specs::Subtables::glyph_behind_range_offset))]
 fn glyph_behind_range_offset(table: &[u8], row: usize, distance: usize) -> Option<u16>
     requires row { row < 2 ^ 62 }
@@ -74,7 +67,7 @@ fn glyph_behind_range_offset(table: &[u8], row: usize, distance: usize) -> Optio
     }
 }
 
-/// The glyph of a number with the delta added, past 65,535 from 0 on.
+/// The glyph of a number with the delta added: what passes 65,535 goes on from 0.
 fn with_delta(delta: u16, number: u32) -> Option<u16>
     ensures { result ≡ with_delta delta number }
 {
@@ -135,6 +128,6 @@ pub(crate) fn segments_glyph(table: &[u8], code: u32, are_rising: bool) -> Optio
     requires { IsTrue are_rising → Rises (segment_end table.now) (segment_count table.now) }
     ensures { result ≡ segments_glyph table.now code }
 {
-    let row = first_row(&Segments(table), segment_count(table), code, are_rising)?;
+    let row = first_row(&ends(table), segment_count(table), code, are_rising)?;
     segment_glyph(table, code, row)
 }

@@ -2,10 +2,10 @@
 
 ghost use Rattle.std.specs.Prelude.{◌≡◌, ◌<◌, ◌*◌, ◌+◌, ◌^◌, option_and_then, IsTrue, IfSome};
 ghost use Rattle.font_tables.specs.Bytes.{number_16, number_24};
-ghost use Rattle.font_tables.specs.Rows.{Rises};
+ghost use Rattle.font_tables.specs.Rows.{Rises, is_within};
 ghost use Rattle.character_maps.specs.Subtables.{some_glyph};
 ghost use Rattle.character_maps.specs.Variations.{row_of, selector_count, selector_at, default_characters};
-ghost use Rattle.character_maps.specs.Variations.{own_glyphs, rows_declared, starts_by, range_start};
+ghost use Rattle.character_maps.specs.Variations.{own_glyphs, rows_declared, range_start};
 ghost use Rattle.character_maps.specs.Variations.{range_end, range_count};
 ghost use Rattle.character_maps.specs.Variations.{in_ranges, mapped_at, mapped_count, mapped_glyph};
 ghost use Rattle.character_maps.specs.Variations.{variant_in_row, glyph_variant};
@@ -17,7 +17,7 @@ use font_tables::bytes::{table_at_32, u8_at, u16_at, u24_at};
 use font_tables::rows::{Rows, first_row, rises};
 use rb_common::GlyphId;
 
-/// What a font says of a character before a variation selector.
+/// What a font says of a character before a variation selector (OpenType specification, `cmap`, "Format 14").
 #[derive(Clone, Copy, PartialEq, Eq, Debug)]
 pub enum GlyphVariant {
     /// The font does not have the variation sequence.
@@ -37,22 +37,54 @@ fn character_at(table: &[u8], place: usize) -> Option<u32>
     u24_at(table, place)
 }
 
-/// The rows of variation selectors.
+/// Rows of `size` bytes each, of which the first has its key, a number of 24 bits, at the byte `start`.
 #[derive(Clone, Copy, Debug)]
-struct Selectors<'a>(&'a [u8]);
+struct Keys24<'a> {
+    table: &'a [u8],
+    start: usize,
+    size: usize,
+}
 
-impl Rows for Selectors<'_> {
-    ghost use Rattle.character_maps.specs.Variations.{selector_at};
+impl Rows for Keys24<'_> {
+    ghost use Rattle.std.specs.Prelude.{◌+◌, ◌*◌};
+    ghost use Rattle.font_tables.specs.Bytes.{number_24};
 
-    ghost last_of = { λ rows row. selector_at rows.0.now row };
+    ghost last_of = { λ keys row. number_24 keys.table.now (keys.start + keys.size * row) };
 
-    #[tactic(auto, using(crate::proofs::Outside::selectors_outside))]
+    #[tactic(auto, using(crate::proofs::Outside::outside_24))]
     fn last(&self, row: usize) -> Option<u32> {
-        if row < self.0.len() / 11 {
-            u24_at(self.0, 10 + 11 * row)
+        let place = self.start.saturating_add(self.size.saturating_mul(row));
+        if place < self.table.len() {
+            u24_at(self.table, place)
         } else {
             None
         }
+    }
+}
+
+/// The variation selectors.
+fn selectors(table: &[u8]) -> Keys24<'_>
+    ensures table { result.table.now ≡ table.now }
+    ensures start { result.start ≡ 10 }
+    ensures size { result.size ≡ 11 }
+{
+    Keys24 {
+        table,
+        start: 10,
+        size: 11,
+    }
+}
+
+/// The characters that have another glyph.
+fn mappings(table: &[u8]) -> Keys24<'_>
+    ensures table { result.table.now ≡ table.now }
+    ensures start { result.start ≡ 4 }
+    ensures size { result.size ≡ 5 }
+{
+    Keys24 {
+        table,
+        start: 4,
+        size: 5,
     }
 }
 
@@ -77,27 +109,8 @@ impl Rows for Ranges<'_> {
     }
 }
 
-/// Characters that have another glyph.
-#[derive(Clone, Copy, Debug)]
-struct Mappings<'a>(&'a [u8]);
-
-impl Rows for Mappings<'_> {
-    ghost use Rattle.character_maps.specs.Variations.{mapped_at};
-
-    ghost last_of = { λ rows row. mapped_at rows.0.now row };
-
-    #[tactic(auto, using(crate::proofs::Outside::mappings_outside))]
-    fn last(&self, row: usize) -> Option<u32> {
-        if row < self.0.len() / 5 {
-            u24_at(self.0, 4 + 5 * row)
-        } else {
-            None
-        }
-    }
-}
-
 /// The row of a key: the first that reaches it, if it has it.
-#[tactic(auto, using(crate::proofs::Within::row_within), unfolding(crate::specs::Variations::row_of))]
+#[tactic(auto, unfolding(crate::specs::Variations::row_of))]
 fn row_of<R: Rows>(rows: &R, count: usize, key: u32, are_rising: bool) -> Option<usize>
     requires { IsTrue are_rising → Rises (R.last_of rows.now) count }
     ensures is { result ≡ row_of (R.last_of rows.now) key count }
@@ -178,12 +191,11 @@ fn mapped_count(characters: &[u8]) -> usize
 }
 
 /// Whether the tables of one selector rise.
-fn tables_rise(ranges: &[u8], mappings: &[u8]) -> bool
+fn tables_rise(ranges: &[u8], own: &[u8]) -> bool
     ensures ranges { IsTrue result → Rises (range_end ranges.now) (range_count ranges.now) }
-    ensures mappings { IsTrue result → Rises (mapped_at mappings.now) (mapped_count mappings.now) }
+    ensures mappings { IsTrue result → Rises (mapped_at own.now) (mapped_count own.now) }
 {
-    rises(&Ranges(ranges), range_count(ranges))
-        && rises(&Mappings(mappings), mapped_count(mappings))
+    rises(&Ranges(ranges), range_count(ranges)) && rises(&mappings(own), mapped_count(own))
 }
 
 /// Whether the selectors rise, and the tables of each. The tables are read only as far as all of their rows could lie
@@ -192,20 +204,34 @@ pub(crate) fn variations_rise(table: &[u8]) -> bool
     ensures { IsTrue result → VariationsRise table.now }
 {
     let count = selector_count(table);
-    if !rises(&Selectors(table), count) {
+    if !rises(&selectors(table), count) {
         return false;
     }
     let mut left = table.len();
     for row in 0..count {
         let ranges = default_characters(table, row);
-        let mappings = own_glyphs(table, row);
-        let rows = range_count(ranges) + mapped_count(mappings);
-        if left < rows || !tables_rise(ranges, mappings) {
+        let own = own_glyphs(table, row);
+        let rows = range_count(ranges) + mapped_count(own);
+        if left < rows || !tables_rise(ranges, own) {
             return false;
         }
         left -= rows;
     }
     true
+}
+
+/// Whether a range starts at or before the character.
+#[tactic(auto, using(crate::proofs::Outside::range_starts_outside))]
+fn starts_by(ranges: &[u8], row: usize, character: u32) -> bool
+    ensures { result ≡ is_within (range_start ranges.now row) character }
+{
+    if row >= ranges.len() / 4 {
+        return false;
+    }
+    match u24_at(ranges, 4 + 4 * row) {
+        Some(start) => start <= character,
+        None => false,
+    }
 }
 
 /// Whether the first range that reaches the character holds it.
@@ -220,44 +246,25 @@ fn in_ranges(ranges: &[u8], character: u32, are_rising: bool) -> bool
     }
 }
 
-/// Whether a range starts at or before the character.
-#[tactic(auto, using(crate::proofs::Outside::range_starts_outside))]
-fn starts_by(ranges: &[u8], row: usize, character: u32) -> bool
-    ensures { result ≡ starts_by character (range_start ranges.now row) }
-{
-    if row >= ranges.len() / 4 {
-        return false;
-    }
-    match u24_at(ranges, 4 + 4 * row) {
-        Some(start) => start <= character,
-        None => false,
-    }
-}
-
 /// The other glyph of a character.
 #[tactic(auto, unfolding(crate::specs::Variations::mapped_glyph))]
-fn mapped_glyph(mappings: &[u8], character: u32, are_rising: bool) -> Option<u16>
-    requires { IsTrue are_rising → Rises (mapped_at mappings.now) (mapped_count mappings.now) }
-    ensures { result ≡ mapped_glyph mappings.now character }
+fn mapped_glyph(own: &[u8], character: u32, are_rising: bool) -> Option<u16>
+    requires { IsTrue are_rising → Rises (mapped_at own.now) (mapped_count own.now) }
+    ensures { result ≡ mapped_glyph own.now character }
 {
-    let row = row_of(
-        &Mappings(mappings),
-        mapped_count(mappings),
-        character,
-        are_rising,
-    )?;
-    glyph_of_row(mappings, row)
+    let row = row_of(&mappings(own), mapped_count(own), character, are_rising)?;
+    glyph_of_row(own, row)
 }
 
 /// The glyph of a row.
 #[tactic(auto, using(crate::proofs::Outside::mapped_glyphs_outside))]
-fn glyph_of_row(mappings: &[u8], row: usize) -> Option<u16>
-    ensures { result ≡ option_and_then some_glyph (number_16 mappings.now (7 + 5 * row)) }
+fn glyph_of_row(own: &[u8], row: usize) -> Option<u16>
+    ensures { result ≡ option_and_then some_glyph (number_16 own.now (7 + 5 * row)) }
 {
-    if row >= mappings.len() / 5 {
+    if row >= own.len() / 5 {
         return None;
     }
-    let number = u16_at(mappings, 7 + 5 * row)?;
+    let number = u16_at(own, 7 + 5 * row)?;
     some_glyph(u64::from(number))
 }
 
@@ -290,7 +297,7 @@ pub(crate) fn glyph_variant(
     ensures { result ≡ glyph_variant table.now character selector }
 {
     let count = selector_count(table);
-    match row_of(&Selectors(table), count, selector, are_rising) {
+    match row_of(&selectors(table), count, selector, are_rising) {
         Some(row) => variant_in_row(table, character, row, are_rising),
         None => GlyphVariant::NotFound,
     }

@@ -10,7 +10,11 @@ use Rattle.glyph_outlines.specs.declared.outlines.Outlines.{Outlines}
 abbrev pub text_of : List ℕ → Option (List ℕ)
 text_of bytes = if is_utf8 bytes then Some bytes else None
 
--- the name of a glyph: that of the table `post`, or else that of the table `CFF `
+-- the bytes of a glyph's name: of that in the table `post`, or else of that in the table `CFF `
+abbrev pub name_bytes : List ℕ → Outlines → ℕ → Option (List ℕ)
+name_bytes post outlines glyph =
+    option_or (glyph_name post glyph) (option_and_then (λ cff. cff_name cff glyph) outlines.cff)
+
+-- the name of a glyph, if it is text
 abbrev pub name_of : List ℕ → Outlines → ℕ → Option (List ℕ)
-name_of post outlines glyph =
-    option_and_then text_of (option_or (glyph_name post glyph) (option_and_then (λ cff. cff_name cff glyph) outlines.cff))
+name_of post outlines glyph = option_and_then text_of (name_bytes post outlines glyph)

@@ -1,8 +1,8 @@
 //! The names and the extents of a font's glyphs.
 
-ghost use Rattle.std.specs.Prelude.{◌≡◌, IfOk};
+ghost use Rattle.std.specs.Prelude.{◌≡◌};
 ghost use Rattle.std.specs.Option.{option_copied};
-ghost use Rattle.font_shaper.specs.FaceNames.{name_of};
+ghost use Rattle.font_shaper.specs.FaceNames.{name_of, name_bytes, text_of};
 
 use crate::face::Face;
 use font_tables::glyph_names::PostNames;
@@ -44,11 +44,24 @@ impl<'a> FaceNames<'a> {
     }
 
     /// The bytes of a glyph's name.
-    fn name_bytes(&self, glyph: GlyphId) -> Option<&'a [u8]> {
+    fn name_bytes(&self, glyph: GlyphId) -> Option<&'a [u8]>
+        ensures { option_copied result
+            ≡ name_bytes self.now.post.table.now self.now.face.outlines glyph.0 }
+    {
         match self.post.name(glyph) {
             Some(name) => Some(name),
             None => self.face.outlines.glyph_name(glyph),
         }
+    }
+}
+
+/// The bytes, if they are text.
+fn text_of(bytes: &[u8]) -> Option<&str>
+    ensures { option_copied result ≡ text_of bytes.now }
+{
+    match std::str::from_utf8(bytes) {
+        Ok(text) => Some(text),
+        Err(_) => None,
     }
 }
 
@@ -61,7 +74,7 @@ impl<'a> GlyphNames for FaceNames<'a> {
     ghost extents_of = { λ names glyph. get nat_cmp names.extents glyph };
 
     fn glyph_name(&self, glyph: GlyphId) -> Option<&str> {
-        std::str::from_utf8(self.name_bytes(glyph)?).ok()
+        text_of(self.name_bytes(glyph)?)
     }
 
     /// The extents of a glyph, among those that were found.

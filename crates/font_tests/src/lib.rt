@@ -3,4 +3,5 @@
 
 #[cfg(test)]
 mod characters;
+#[cfg(test)]
 mod tables;
