@@ -1,7 +1,9 @@
 -- The first number below a bound that passes a test, and rows that rise.
-use Rattle.std.proofs.Common.{◌≡◌, ℕ, zero, suc, ◌<◌, Bool, true, false, Some, None, refl, arith, subst, inl, inr}
+use Rattle.std.proofs.Common.{◌≡◌, ℕ, zero, suc, ◌<◌, Bool, true, false, Option, Some, None, refl, arith, subst, inl, inr}
 use Rattle.std.proofs.lemmas.Bool.{cases_lt}
-use Rattle.font_tables.specs.Rows.{first_below}
+use Rattle.std.proofs.lemmas.Grind.{common_steps}
+use Rattle.std.specs.Prelude.{nat_le}
+use Rattle.font_tables.specs.Rows.{reaches, first_below}
 
 -- no number below `n` passes the test
 pub record NoneBelow (test : ℕ → Bool) (n : ℕ) : Type 0 where
@@ -25,3 +27,9 @@ first_below-some test (suc n) i less passes none =
           let now = subst (λ k. test k ≡ true) here passes in
           rw (before, now, here) refl
     ]
+
+-- a row does not reach a key above its last key
+pub not_reached : (last : ℕ → Option ℕ) (key row k : ℕ) → last row ≡ Some k → k < key → reaches last key row ≡ true → ⊥
+not_reached last key row k is above reached =
+    let here : nat_le key k ≡ true = rw is at reached in
+    grind (arith, common_steps)

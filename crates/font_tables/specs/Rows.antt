@@ -1,5 +1,5 @@
 -- Rows that have a last key each, by their numbers, and the first one that reaches a key.
-use Rattle.std.specs.Prelude.{ℕ, zero, suc, Bool, true, false, ◌≡◌, ◌<◌, ◌≤◌, nat_le, List, length, min, ◌-◌, ◌/◌, Option, Some, None, if◌then◌else◌}
+use Rattle.std.specs.Prelude.{ℕ, zero, suc, Bool, true, false, ◌≡◌, ◌<◌, ◌≤◌, nat_le, List, length, min, ◌-◌, ◌/◌, Option, Some, None, if◌then◌else◌, is_some}
 use Rattle.std.specs.Option.{option_or}
 
 -- the first number below `n` that passes a test
@@ -23,6 +23,10 @@ first_row last key count = first_below (reaches last key) count
 abbrev pub Rises : (ℕ → Option ℕ) → ℕ → Type 0
 Rises last count =
     (i j key : ℕ) → i ≤ j → j < count → reaches last key i ≡ true → reaches last key j ≡ true
+
+-- so many rows lie in the table
+abbrev pub AreThere : (ℕ → Option ℕ) → ℕ → Type 0
+AreThere last count = (row : ℕ) → row < count → is_some (last row) ≡ true
 
 -- how many of the declared rows, each of `size` bytes, lie in a table whole from the byte at `start` on
 abbrev pub rows_within : List ℕ → ℕ → ℕ → ℕ → ℕ

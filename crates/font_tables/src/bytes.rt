@@ -1,7 +1,7 @@
 //! Numbers at places of a table, big endian (OpenType specification, "Data types").
 
 ghost use Rattle.std.specs.Prelude.{◌≢◌, None, ◌≡◌, ◌+◌, ◌-◌, ◌*◌, ◌<◌, ◌≤◌, length, drop, take};
-ghost use Rattle.font_tables.specs.Bytes.{byte_at, number_16, number_24, number_32, signed_16, table_at_16};
+ghost use Rattle.font_tables.specs.Bytes.{byte_at, number_16, number_24, number_32, signed_16, table_at_16, table_behind};
 ghost use Rattle.font_tables.specs.Bytes.{table_at_32};
 ghost use Rattle.std.specs.Option.{option_copied};
 
@@ -85,11 +85,7 @@ pub fn table_at_16(table: &[u8], at: usize) -> Option<&[u8]>
     ensures { option_copied result ≡ table_at_16 table.now at }
 {
     let offset = u16_at(table, at)?;
-    if offset == 0 {
-        None
-    } else {
-        Some(tail(table, usize::from(offset)))
-    }
+    table_behind(table, u32::from(offset))
 }
 
 /// The table that the offset of 32 bits at a place leads to, from the start of this one; `None` where the offset is 0,
@@ -99,6 +95,13 @@ pub fn table_at_32(table: &[u8], at: usize) -> Option<&[u8]>
     ensures { option_copied result ≡ table_at_32 table.now at }
 {
     let offset = u32_at(table, at)?;
+    table_behind(table, offset)
+}
+
+/// The table that an offset leads to; `None` where it is 0.
+fn table_behind(table: &[u8], offset: u32) -> Option<&[u8]>
+    ensures { option_copied result ≡ table_behind table.now offset }
+{
     if offset == 0 {
         None
     } else {

@@ -1,7 +1,7 @@
 //! Rows of a table, each with a last key, and the first row that reaches a key.
 
 ghost use Rattle.std.specs.Prelude.{◌≡◌, ◌<◌, ◌≤◌, IsTrue, IfSome};
-ghost use Rattle.font_tables.specs.Rows.{first_row, rows_within, Rises};
+ghost use Rattle.font_tables.specs.Rows.{first_row, rows_within, Rises, AreThere};
 
 use crate::bytes::u16_at;
 
@@ -47,7 +47,8 @@ impl Rows for Keys16<'_> {
 
 /// Whether the first `count` rows lie in the table, each behind those whose last keys are lower.
 pub fn rises<R: Rows>(rows: &R, count: usize) -> bool
-    ensures { IsTrue result → Rises (R.last_of rows.now) count }
+    ensures rise { IsTrue result → Rises (R.last_of rows.now) count }
+    ensures seen { AreThere (R.last_of rows.now) count → Rises (R.last_of rows.now) count → IsTrue result }
 {
     let mut before = 0;
     for row in 0..count {
