@@ -1,11 +1,7 @@
+// Written by tools/plain_rust from its table of crates. Do not edit.
 //! The tests of the library's crates, written by `tools/plain_rust` from the Rattle sources: of each call, its answers.
-#![allow(
-    clippy::style,
-    clippy::complexity,
-    unused_imports,
-    dead_code,
-    unused_variables
-)] // of some modules only a part is a test here
+#![allow(clippy::style, clippy::complexity)]
+#![allow(unused_imports, dead_code, unused_variables)] // of some modules only a part is a test here
 
 type Fail = Box<dyn std::error::Error>;
 
