@@ -30,9 +30,8 @@ pub record AreMetricsOf (metrics : Metrics) (table header : List ℕ) (glyphs de
   pub counted : metrics.glyph_count ≡ glyphs
   pub lacking : metrics.default_advance ≡ default
 
--- this is the font whose directory begins at its place in the file
-pub record IsFaceOf (file : List ℕ) (face : Face) : Type 0 where
-  pub lies_in : face.tables.file.now ≡ file
+-- all that is kept of a font is what its tables say
+pub record KeepsItsTables (face : Face) : Type 0 where
   pub units : face.units_per_em ≡ units_per_em (table face (codes "head"))
   pub glyphs : face.glyph_count ≡ glyph_count (table face (codes "maxp"))
   pub characters : face.characters.subtable.now ≡ chosen_subtable (table face (codes "cmap"))

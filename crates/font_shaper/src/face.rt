@@ -2,10 +2,10 @@
 
 ghost use Rattle.std.specs.Prelude.{◌≡◌, ◌==◌, not, option_map, unwrap_or, codes, IfSome};
 ghost use Rattle.rb_common.specs.Tag.{tag_of};
-ghost use Rattle.font_tables.specs.Directory.{directory_of, table_of};
+ghost use Rattle.font_tables.specs.Directory.{font_of, table_of};
 ghost use Rattle.font_tables.specs.Extents.{horizontal_extents};
 ghost use Rattle.font_tables.specs.Head.{index_to_loc_format};
-ghost use Rattle.font_shaper.specs.Face.{font_page, extents_of_em, IsFaceOf};
+ghost use Rattle.font_shaper.specs.Face.{font_page, extents_of_em, KeepsItsTables};
 ghost use Rattle.character_maps.specs.Codes.{glyph_index, glyph_variation_index};
 ghost use Rattle.font_tables.specs.Metrics.{advance};
 
@@ -65,14 +65,15 @@ fn outlines_of<'a>(tables: &Tables<'a>, head: &[u8], glyph_count: u16) -> Outlin
 }
 
 impl<'a> Face<'a> {
-    /// The font with this index in a collection, or the only one of a file, whatever the index. `None` where the bytes
-    /// are no font, or the collection has no font with this index (OpenType specification, "OpenType Font File").
-    pub fn from_slice(data: &'a [u8], index: u32) -> Option<Face<'a>>
-        ensures found { option_map (λ face. face.tables.directory) result
-            ≡ directory_of data.now index }
-        ensures is { IfSome result (IsFaceOf data.now) }
+    /// The font with this index in a collection or in a Macintosh resource file, or the only one of a file, whatever the
+    /// index. `None` where the bytes are no font, or there is no font with this index (OpenType specification, "OpenType
+    /// Font File").
+    pub fn from_slice(file: &'a [u8], index: u32) -> Option<Face<'a>>
+        ensures found { option_map (λ face. (face.tables.file.now, face.tables.directory)) result
+            ≡ font_of file.now index }
+        ensures keeps { IfSome result KeepsItsTables }
     {
-        let tables = Tables::new(data, index)?;
+        let tables = Tables::new(file, index)?;
         let head = tables.table(Tag::from_bytes(b"head"));
         let units_per_em = units_per_em(head);
         let glyph_count = glyph_count(tables.table(Tag::from_bytes(b"maxp")));

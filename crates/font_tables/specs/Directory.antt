@@ -1,9 +1,10 @@
 -- The fonts of a file, and their tables.
 use Rattle.std.specs.Prelude.{ℕ, List, [], Option, Some, None, Bool, false, ◌+◌, ◌*◌, ◌||◌, if◌then◌else◌, nat_eq, nat_lt, unwrap_or, codes, take, drop}
-use Rattle.std.specs.Prelude.{option_and_then}
+use Rattle.std.specs.Prelude.{option_and_then, option_map}
 use Rattle.std.specs.Option.{option_map_or}
 use Rattle.rb_common.specs.Tag.{tag_of}
 use Rattle.font_tables.specs.Bytes.{number_16, number_32, is_number}
+use Rattle.font_tables.specs.Resources.{is_resource_file, resource_font, resource_fonts}
 use Rattle.font_tables.specs.Rows.{first_below, rows_within}
 
 -- the tags of a file with one font: TrueType outlines (also Apple's `true`), CFF outlines, Type 1 outlines
@@ -22,6 +23,7 @@ is_collection file =
 unfoldable pub face_count : List ℕ → ℕ
 face_count file =
     if option_map_or is_font_tag (number_32 file 0) false then 1
+    else if is_resource_file file then resource_fonts file
     else if is_collection file then rows_within file 12 4 (unwrap_or (number_32 file 8) 0) else 0
 
 -- an offset that leads somewhere
@@ -36,6 +38,13 @@ directory_of file index =
     then if nat_lt index (rows_within file 12 4 (unwrap_or (number_32 file 8) 0))
     then option_and_then not_zero (number_32 file (12 + 4 * index)) else None
     else None
+
+-- a font of a file: the bytes from which its offsets count, and where its table directory begins in them. Those of a
+-- resource file begin with the font
+unfoldable pub font_of : List ℕ → ℕ → Option (List ℕ × ℕ)
+font_of file index =
+    if is_resource_file file then option_map (λ start. (drop start file, 0)) (resource_font file index)
+    else option_map (λ directory. (file, directory)) (directory_of file index)
 
 -- the records of a directory: 16 bytes each, behind its first 12
 abbrev pub record_count : List ℕ → ℕ → ℕ

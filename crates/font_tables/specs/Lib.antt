@@ -11,5 +11,6 @@ pub mod IgnoredGdef
 pub mod MacintoshNames
 pub mod MetricRows
 pub mod Metrics
+pub mod Resources
 pub mod Rows
 pub mod VerticalOrigins

@@ -3,11 +3,12 @@
 ghost use Rattle.std.specs.Prelude.{◌≡◌, IfSome, option_map, unwrap_or, false};
 ghost use Rattle.std.specs.Option.{option_map_or};
 ghost use Rattle.font_tables.specs.Bytes.{number_32};
-ghost use Rattle.font_tables.specs.Directory.{face_count, directory_of, record_count, record_has, table_of_record, is_font_tag};
+ghost use Rattle.font_tables.specs.Directory.{face_count, font_of, directory_of, record_count, record_has, table_of_record, is_font_tag};
 ghost use Rattle.font_tables.specs.Directory.{is_collection};
 ghost use Rattle.font_tables.specs.Rows.{rows_within, first_below};
 
-use crate::bytes::{part, u16_at, u32_at};
+use crate::bytes::{part, tail, u16_at, u32_at};
+use crate::resources::{is_resource_file, resource_font, resource_fonts};
 use crate::rows::rows_within;
 use rb_common::Tag;
 
@@ -18,14 +19,16 @@ const FONT_TAGS: [u32; 4] = [0x0001_0000, 0x7472_7565, 0x4F54_544F, 0x7479_7031]
 /// The tag `ttcf` that a collection begins with.
 const COLLECTION_TAG: u32 = 0x7474_6366;
 
-/// How many fonts a file has: one, or as many as a collection lists; none where the bytes are no font. HarfBuzz's name is
-/// `hb_face_count`.
+/// How many fonts a file has: one, or as many as a collection or a Macintosh resource file lists; none where the bytes are no
+/// font. HarfBuzz's name is `hb_face_count`.
 #[tactic(auto, unfolding(crate::specs::Directory::face_count))]
 pub fn face_count(file: &[u8]) -> u32
     ensures { result ≡ face_count file.now }
 {
     if is_font(file) {
         1
+    } else if is_resource_file(file) {
+        resource_fonts(file)
     } else if is_collection(file) {
         listed_faces(file)
     } else {
@@ -36,7 +39,7 @@ pub fn face_count(file: &[u8]) -> u32
 /// The tables of a font.
 #[derive(Clone, Copy, Debug)]
 pub struct Tables<'a> {
-    /// The bytes of the file.
+    /// The bytes from which offsets count: those of the file, or of a font in a Macintosh resource file.
     pub file: &'a [u8],
     /// Where the font's table directory begins in it.
     pub directory: u32,
@@ -45,12 +48,20 @@ pub struct Tables<'a> {
 impl<'a> Tables<'a> {
     ghost use Rattle.font_tables.specs.Directory.{table_of};
 
-    /// The tables of a font in a file: of the only one, whatever the index, or of that with this index in a collection.
-    /// `None` where the file is no font, or the collection has no font with this index.
+    /// The tables of a font in a file: of the only one, whatever the index, or of that with this index in a collection or in
+    /// a Macintosh resource file. `None` where the file is no font, or has no font with this index.
+    #[tactic(auto, unfolding(crate::specs::Directory::font_of))]
     pub fn new(file: &'a [u8], index: u32) -> Option<Self>
-        ensures begins { option_map (λ tables. tables.directory) result ≡ directory_of file.now index }
-        ensures lies_in { IfSome result (λ tables. tables.file.now ≡ file.now) }
+        ensures { option_map (λ tables. (tables.file.now, tables.directory)) result
+            ≡ font_of file.now index }
     {
+        if is_resource_file(file) {
+            let start = resource_font(file, index)?;
+            return Some(Tables {
+                file: tail(file, start),
+                directory: 0,
+            });
+        }
         let directory = directory_of(file, index)?;
         Some(Tables { file, directory })
     }

@@ -16,5 +16,6 @@ pub mod head;
 pub mod ignored_gdef;
 mod macintosh_names;
 pub mod metrics;
+mod resources;
 pub mod rows;
 pub mod vertical_origins;
