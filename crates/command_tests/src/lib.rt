@@ -1,0 +1,12 @@
+//! Tests of `shape_command`, over what it makes public, as in the `tests/` folder of a Rust crate.
+//! What lines are answered with stands in the stored run of `vukhaso_shape`.
+#![tactic(auto)]
+
+#[cfg(test)]
+mod errors;
+#[cfg(test)]
+mod lines;
+#[cfg(test)]
+mod options;
+#[cfg(test)]
+mod texts;

@@ -1,0 +1,95 @@
+//! What a command line asks for.
+
+use shape_command::arguments::matches_of;
+use shape_command::options::{Options, OptionsError, TextSource};
+use shaping_buffer::{BufferClusterLevel, Direction, Flags, SerializeFlags};
+use std::test::Fail;
+
+#[test]
+fn options_are_read(rt: HostRuntime) -> Result<(), Fail> {
+    let words = [
+        "program",
+        "font.ttf",
+        "--ned",
+        "--features",
+        "-liga",
+        "--direction=t",
+        "--face-index",
+        "2",
+        "--font-size=20,30",
+        "--cluster-level=1",
+        "--unicodes-before=0627",
+        "--text-after",
+        "x",
+        "text",
+    ];
+    let matches = matches_of(rt.alloc(), &words)?;
+    let options = Options::from_matches(rt.alloc(), &matches)
+        .ok()
+        .ok_or("read")?;
+    assert_eq!(rt; options.font_file, "font.ttf");
+    assert_eq!(rt; options.face_index, 2);
+    assert!(rt; options.font_size == Some((20, 30)));
+    assert!(rt; matches!(&options.text, TextSource::Given("text")));
+    let ned = SerializeFlags::NO_CLUSTERS.union(SerializeFlags::NO_ADVANCES);
+    assert_eq!(rt; options.output.bits(), ned.bits());
+    assert!(rt; options.line.direction == Direction::TopToBottom);
+    assert!(rt; options.line.cluster_level == BufferClusterLevel::MonotoneCharacters);
+    assert_eq!(rt; options.line.before.as_str(), "\u{627}");
+    assert_eq!(rt; options.line.after.as_str(), "x");
+    assert_eq!(rt; options.line.features.len(), 1);
+    Ok(())
+}
+
+/// Words behind the name of the program, and what is said of them.
+static REFUSED: [(&[&str], &str); 10] = [
+    (&["program"], "No font file set"),
+    (
+        &["program", "font", "a", "b"],
+        "Too many arguments on the command line",
+    ),
+    (
+        &["program", "font", "a", "--unicodes=41"],
+        "Only one of text, unicodes and text-file can be set",
+    ),
+    (
+        &["program", "font", "--unicodes=4g"],
+        "Failed parsing Unicode values in '4g'",
+    ),
+    (
+        &["program", "font", "--face-index=x"],
+        "Cannot parse integer value 'x' for --face-index",
+    ),
+    (
+        &["program", "font", "--font-size=1.5"],
+        "--font-size argument should be one or two space-separated numbers, and not '1.5'",
+    ),
+    (
+        &["program", "font", "--shaper=fallback"],
+        "Unknown or unsupported shaper: fallback",
+    ),
+    (
+        &["program", "font", "--font-funcs=ft"],
+        "Unknown font function implementation 'ft'; supported values are: ot",
+    ),
+    (
+        &["program", "font", "--variations=wght=700"],
+        "--variations=wght=700 is not supported: variable fonts are not read as such",
+    ),
+    (
+        &["program", "font", "--text-before=a", "--unicodes-before=41"],
+        "Only one of --text-before and --unicodes-before can be set",
+    ),
+];
+
+#[test]
+fn mistakes_are_told(rt: HostRuntime) -> Result<(), Fail> {
+    for (words, message) in &REFUSED {
+        let matches = matches_of(rt.alloc(), words)?;
+        let error = Options::from_matches(rt.alloc(), &matches)
+            .err()
+            .ok_or("refused")?;
+        assert_eq!(rt; error.to_string(rt.alloc())?.as_str(), *message);
+    }
+    Ok(())
+}

@@ -1,0 +1,136 @@
+//! Lists of characters, of features and of words, and sizes. Characters, replacements and sizes are those that HarfBuzz's
+//! `hb-shape` shows; the texts of UTF-8 are those of the Unicode standard.
+
+use shape_command::batch::words_of_line;
+use shape_command::code_points::{CodePointsError, code_points, text_of_code_points};
+use shape_command::features::features;
+use shape_command::scale::{em_scale, scaled_positions};
+use shape_command::text::lossy_text;
+use shaping_buffer::GlyphPosition;
+use std::test::Fail;
+
+/// A list of characters, and its text.
+static CHARACTERS: [(&str, &str); 9] = [
+    ("", ""),
+    ("0041", "A"),
+    ("U+0041,0062", "Ab"),
+    ("<U+0041|U+1F600>", "A\u{1F600}"),
+    ("0x41 0X42 x43", "ABC"),
+    ("\\u0041&#x42;uni0043", "ABC"),
+    ("100000041", "A"),
+    ("D800", "\u{FFFD}\u{FFFD}\u{FFFD}"),
+    (
+        "110000,200000,4000000",
+        "\u{FFFD}\u{FFFD}\u{FFFD}\u{FFFD}\u{FFFD}\u{FFFD}\u{FFFD}\u{FFFD}\u{FFFD}\u{FFFD}\u{FFFD}\u{FFFD}\u{FFFD}\u{FFFD}\u{FFFD}",
+    ),
+];
+
+#[test]
+fn characters_are_read(rt: HostRuntime) -> Result<(), Fail> {
+    for (list, text) in &CHARACTERS {
+        let numbers = code_points(rt.alloc(), list)?;
+        let read = text_of_code_points(rt.alloc(), numbers.as_slice())?;
+        assert_eq!(rt; read.as_str(), *text, "{list}");
+    }
+    for list in ["g", "41 zz", "0041.0042", "10000000000000000"] {
+        let refused = code_points(rt.alloc(), list).err();
+        assert!(rt; refused == Some(CodePointsError::Number), "{list}");
+    }
+    Ok(())
+}
+
+/// A list of features, and of each its value, its start and its end.
+static FEATURES: [(&str, &[(u32, u32, u32)]); 4] = [
+    ("", &[]),
+    ("-liga,+kern", &[(0, 0, u32::MAX), (1, 0, u32::MAX)]),
+    ("liga[3:5]=0 aalt=2", &[(0, 3, 5), (2, 0, u32::MAX)]),
+    ("kern,,[,dlig", &[(1, 0, u32::MAX), (1, 0, u32::MAX)]),
+];
+
+#[test]
+fn features_are_read(rt: HostRuntime) -> Result<(), Fail> {
+    for (list, wanted) in &FEATURES {
+        let read = features(rt.alloc(), list)?;
+        let read: Vec<(u32, u32, u32)> = read
+            .as_slice()
+            .iter()
+            .map(|feature| (feature.value, feature.start, feature.end))
+            .collect(rt.alloc())?;
+        assert!(rt; read.as_slice() == *wanted, "{list}");
+    }
+    Ok(())
+}
+
+/// A line of a batch, and its words.
+static WORDS: [(&str, &[&str]); 5] = [
+    ("font;text", &["name", "font", "text"]),
+    ("font;;;text", &["name", "font", "text"]),
+    ("font;--unicodes;", &["name", "font", "--unicodes", ""]),
+    ("", &["name", ""]),
+    (";font", &["name", "", "font"]),
+];
+
+#[test]
+fn words_are_parted(rt: HostRuntime) -> Result<(), Fail> {
+    for (line, words) in &WORDS {
+        let parted = words_of_line(rt.alloc(), "name", line)?;
+        assert!(rt; parted.as_slice() == *words, "{line}");
+    }
+    Ok(())
+}
+
+/// Bytes, and their text.
+static BYTES: [(&[u8], &str); 5] = [
+    (b"abc", "abc"),
+    (b"a\xFFb", "a\u{FFFD}b"),
+    (b"\xE2\x82", "\u{FFFD}\u{FFFD}"),
+    (b"\xE2\x82\xACx\xC0\x80", "\u{20AC}x\u{FFFD}\u{FFFD}"),
+    (b"\xED\xA0\x80", "\u{FFFD}\u{FFFD}\u{FFFD}"),
+];
+
+#[test]
+fn bytes_that_are_no_text_are_replaced(rt: HostRuntime) -> Result<(), Fail> {
+    for (bytes, text) in &BYTES {
+        let read = lossy_text(rt.alloc(), bytes)?;
+        assert_eq!(rt; read.as_str(), *text);
+    }
+    Ok(())
+}
+
+/// A number of units, the size of an em, the units of an em, and the number at that size.
+static SIZES: [(i32, i32, u16, i32); 8] = [
+    (600, 1000, 1000, 600),
+    (1255, 1000, 2048, 613),
+    (-1255, 1000, 2048, -613),
+    (1, 1000, 2000, 1),
+    (-1, 1000, 2000, 0),
+    (410, 500, 1000, 205),
+    (410, -500, 1000, -205),
+    (410, 0, 0, 0),
+];
+
+#[test]
+fn sizes_are_rounded(rt: HostRuntime) -> Result<(), Fail> {
+    for (value, size, units, scaled) in &SIZES {
+        assert_eq!(rt;
+            em_scale(*value, *size, *units),
+            *scaled,
+            "{value} at {size} of {units}"
+        );
+    }
+    let position = GlyphPosition {
+        x_advance: 100,
+        y_advance: -200,
+        x_offset: 10,
+        y_offset: 20,
+        ..GlyphPosition::default()
+    };
+    let scaled = scaled_positions(rt.alloc(), &[position], 500, 2000, 1000)?;
+    let wanted = (50, -400, 5, 40);
+    assert!(rt;
+        scaled.as_slice().first().is_some_and(|p| {
+            (p.x_advance, p.y_advance, p.x_offset, p.y_offset) == wanted
+        })
+    );
+    Ok(())
+}

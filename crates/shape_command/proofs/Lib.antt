@@ -1,0 +1,5 @@
+mod AnswerLemmas
+mod BatchLemmas
+mod CodePointLemmas
+mod FeatureLemmas
+mod LineLemmas

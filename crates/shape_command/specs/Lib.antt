@@ -1,0 +1,8 @@
+pub mod Answer
+pub mod Batch
+pub mod CodePoints
+pub mod Features
+pub mod Lines
+pub mod Prepared
+pub mod Scale
+pub mod Status

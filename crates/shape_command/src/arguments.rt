@@ -1,0 +1,167 @@
+//! The words of a command line, by `clap`.
+
+use clap::{Arg, ArgAction, ArgMatches, Command, Error};
+use std::alloc::Global;
+use std::convert::AsStr;
+
+/// An option that is given or not: its name, and what it is for.
+type Flag = (&'static str, &'static str);
+
+/// An option with a value: its name, what its value is, and what it is for.
+type Value = (&'static str, &'static str, &'static str);
+
+const FLAGS: [Flag; 17] = [
+    ("bot", "Treat the text as the beginning of a paragraph"),
+    ("eot", "Treat the text as the end of a paragraph"),
+    (
+        "preserve-default-ignorables",
+        "Show characters that are invisible by default",
+    ),
+    (
+        "remove-default-ignorables",
+        "Give characters that are invisible by default no glyph",
+    ),
+    (
+        "unsafe-to-concat",
+        "Produce the glyph flag unsafe-to-concat",
+    ),
+    (
+        "safe-to-insert-tatweel",
+        "Produce the glyph flag safe-to-insert-tatweel",
+    ),
+    (
+        "utf8-clusters",
+        "Number clusters by UTF-8 bytes, and not by characters",
+    ),
+    ("verify", "Accepted for hb-shape's sake: nothing is checked"),
+    ("single-par", "Treat the text as a single line"),
+    (
+        "no-glyph-names",
+        "Print the numbers of glyphs, and no names",
+    ),
+    ("no-positions", "Print no positions"),
+    ("no-advances", "Print no advances"),
+    ("no-clusters", "Print no clusters"),
+    ("show-extents", "Print the extents of glyphs"),
+    ("show-flags", "Print the flags of glyphs"),
+    ("ned", "Print no clusters and no advances"),
+    (
+        "batch",
+        "Alone: answer the lines of standard input, each a command line parted by `;`",
+    ),
+];
+
+const VALUES: [Value; 22] = [
+    ("font-file", "FILE", "The font"),
+    (
+        "face-index",
+        "NUMBER",
+        "The number of the font in its file [default: 0]",
+    ),
+    (
+        "font-size",
+        "SIZE",
+        "One or two whole numbers, or upem [default: upem]",
+    ),
+    (
+        "font-ptem",
+        "SIZE",
+        "Accepted for hb-shape's sake: nothing asks for it",
+    ),
+    ("font-funcs", "NAME", "Accepted for hb-shape's sake: ot"),
+    ("shaper", "NAME", "Accepted for hb-shape's sake: ot"),
+    ("shapers", "NAMES", "Accepted for hb-shape's sake: ot"),
+    (
+        "variations",
+        "LIST",
+        "Accepted for hb-shape's sake where it is empty: variable fonts are not read as such",
+    ),
+    (
+        "direction",
+        "DIRECTION",
+        "ltr, rtl, ttb or btt [default: that of the script]",
+    ),
+    ("language", "TAG", "The language, as a tag of BCP 47"),
+    (
+        "script",
+        "TAG",
+        "The script, as a tag of ISO 15924 [default: that of the text]",
+    ),
+    (
+        "features",
+        "LIST",
+        "Features parted by commas, as -liga,kern[3:5]=0,aalt=2",
+    ),
+    (
+        "cluster-level",
+        "NUMBER",
+        "How far clusters are merged: 0, 1, 2 or 3 [default: 0]",
+    ),
+    (
+        "invisible-glyph",
+        "GLYPH",
+        "The glyph of characters that are invisible by default",
+    ),
+    (
+        "not-found-variation-selector-glyph",
+        "GLYPH",
+        "The glyph of variation selectors that the font does not know",
+    ),
+    ("text", "TEXT", "The text"),
+    (
+        "text-file",
+        "FILE",
+        "The file of the text; - is standard input",
+    ),
+    ("text-before", "TEXT", "The text before each line"),
+    ("text-after", "TEXT", "The text after each line"),
+    (
+        "unicodes",
+        "LIST",
+        "The text, as hexadecimal numbers of characters",
+    ),
+    (
+        "unicodes-before",
+        "LIST",
+        "The text before each line, as hexadecimal numbers of characters",
+    ),
+    (
+        "unicodes-after",
+        "LIST",
+        "The text after each line, as hexadecimal numbers of characters",
+    ),
+];
+
+/// The command line of the program. Of an option that is given twice the later one counts.
+fn command<'a>(alloc: Global) -> Result<Command<'a>, Error> {
+    let mut command = Command::new(alloc, "vukhaso_shape").about(
+        "Shapes the lines of a text with a font, and prints their glyphs as HarfBuzz's hb-shape does",
+    );
+    for (name, help) in FLAGS {
+        let arg = named(alloc, name)?.action(ArgAction::SetTrue).help(help);
+        command = command.arg(arg)?;
+    }
+    for (name, value_name, help) in VALUES {
+        let arg = named(alloc, name)?
+            .allow_hyphen_values(true)
+            .value_name(value_name)
+            .help(help);
+        command = command.arg(arg)?;
+    }
+    let words = Arg::new(alloc, "words")
+        .value_name("FONT [TEXT]")
+        .num_args(0..)
+        .action(ArgAction::Append)
+        .help("The font, and the text; without a text standard input is read");
+    Ok(command.arg(words)?)
+}
+
+/// An option of this name, which may be given more than once.
+fn named<'a>(alloc: Global, name: &'static str) -> Result<Arg<'a>, Error> {
+    Ok(Arg::new(alloc, name).long(name).overrides_with(name)?)
+}
+
+/// What the words of a command line say; the first is the name of the program.
+pub fn matches_of<'a, S: AsStr>(alloc: Global, words: &'a [S]) -> Result<ArgMatches<'a>, Error> {
+    command(alloc)?.try_get_matches_from(words)
+}

@@ -1,0 +1,120 @@
+//! How the program ends.
+
+ghost use Rattle.std.specs.Prelude.{◌≡◌};
+ghost use Rattle.std.specs.Process.{exit_status};
+ghost use Rattle.shape_command.specs.Status.{status_after};
+
+use crate::batch::words_of_line;
+use crate::font_file::FontFile;
+use crate::lines::{LinesError, next_line};
+use crate::run::{CommandError, answer_command};
+use std::alloc::Global;
+use std::convert::AsStr;
+use std::env;
+use std::io::{self, BufRead, BufReader, BufWriter, Write};
+use std::process::ExitCode;
+use std::rt::{Env, Files};
+
+/// The name of the program where it is not told.
+const NAME: &str = "vukhaso_shape";
+
+/// All that the program does. It gives the status to end with: 0, or 1 where something failed, which is said on
+/// standard error.
+pub fn run_to_end<F: Files + AllocGlobal + Env + Input + Print + Eprint>(rt: &F) -> ExitCode {
+    conclude(rt, run(rt))
+}
+
+/// Says on standard error why a run ended early, and gives the status to end with: 0 where every line was shaped, and
+/// else 1. It is public for its test alone.
+pub fn conclude<E: Eprint>(error_output: &E, outcome: io::Result<bool>) -> ExitCode
+    ensures { exit_status result ≡ status_after outcome }
+{
+    match outcome {
+        Ok(true) => ExitCode::from(0),
+        Ok(false) => ExitCode::from(1),
+        Err(error) => {
+            // If standard error fails too, there is no place left to report it.
+            let _ = eprintln!(error_output; "{NAME}: {error}");
+            ExitCode::from(1)
+        }
+    }
+}
+
+/// Answers the command line of the program, or the batch on standard input.
+fn run<F: Files + AllocGlobal + Env + Input + Print + Eprint>(rt: &F) -> io::Result<bool> {
+    let alloc = rt.alloc();
+    let words: Vec<String> = env::args(rt)?.collect(alloc)?;
+    let mut input = BufReader::new(alloc, rt.reader())?;
+    let mut output = BufWriter::new(alloc, io::writer(rt))?;
+    if let [_, word] = words.as_slice() {
+        if word.as_str() == "--batch" {
+            return answer_batch(rt, &mut input, &mut output);
+        }
+    }
+    let mut font = FontFile::new(alloc);
+    let answered = answer_command(rt, words.as_slice(), &mut font, &mut input, &mut output);
+    output.flush()?;
+    match answered {
+        Ok(all_shaped) => Ok(all_shaped),
+        Err(CommandError::Words(error)) => say(rt, &error),
+        Err(error) => {
+            eprintln!(rt; "{NAME}: {error}")?;
+            Ok(false)
+        }
+    }
+}
+
+/// Says what is wrong with the words, or the help that they ask for.
+fn say<F: Print + Eprint>(rt: &F, error: &clap::Error) -> io::Result<bool> {
+    error.print(rt)?;
+    Ok(!error.use_stderr())
+}
+
+/// Answers each line of a batch.
+fn answer_batch<F: Files + AllocGlobal, R: BufRead, W: Write>(
+    rt: &F,
+    input: &mut R,
+    output: &mut W,
+) -> io::Result<bool> {
+    let alloc = rt.alloc();
+    let mut font = FontFile::new(alloc);
+    let mut line = Vec::new(alloc);
+    let mut all_answered = true;
+    for _ in 0..u64::MAX {
+        match next_line(input, &mut line) {
+            Ok(false) => break,
+            Ok(true) => {}
+            Err(LinesError::Read(error) | LinesError::Write(error)) => return Err(error),
+            Err(LinesError::Memory) => return Err(io::Error::from(io::ErrorKind::OutOfMemory)),
+        }
+        all_answered &= answer_line(rt, line.as_slice(), &mut font, input, output)?;
+        output.flush()?;
+    }
+    Ok(all_answered)
+}
+
+/// Answers a line of a batch.
+fn answer_line<F: Files + AllocGlobal, R: BufRead, W: Write>(
+    rt: &F,
+    line: &[u8],
+    font: &mut FontFile,
+    input: &mut R,
+    output: &mut W,
+) -> io::Result<bool> {
+    let Ok(line) = std::str::from_utf8(line) else {
+        writeln!(output, "error: not UTF-8")?;
+        return Ok(false);
+    };
+    let words = words_of_line(rt.alloc(), NAME, line)?;
+    match answer_command(rt, words.as_slice(), font, input, output) {
+        Ok(all_shaped) => Ok(all_shaped),
+        Err(CommandError::Output(error)) => Err(error),
+        Err(error) => {
+            let message = error.to_string(rt.alloc())?;
+            let first = message.as_str().lines().next().unwrap_or("");
+            let reason = first.strip_prefix("error: ").unwrap_or(first);
+            writeln!(output, "error: {reason}")?;
+            Ok(false)
+        }
+    }
+}

@@ -1,0 +1,40 @@
+//! The file of a font, which is read once for all command lines in a row that name it.
+
+use std::alloc::Global;
+use std::rt::Files;
+use std::{fs, io};
+
+/// The file that was read last.
+#[derive(Drop)]
+pub struct FontFile {
+    path: Option<String>,
+    data: Vec<u8>,
+}
+
+impl FontFile {
+    /// No file.
+    pub fn new(alloc: Global) -> Self {
+        FontFile {
+            path: None,
+            data: Vec::new(alloc),
+        }
+    }
+
+    /// The bytes of a file. They are read unless the file was read last. `-` is standard input.
+    pub fn read<F: Files + AllocGlobal>(&mut self, rt: &F, path: &str) -> io::Result<&[u8]> {
+        if !self.holds(path) {
+            self.path = None;
+            self.data = fs::read(rt, if path == "-" { "/dev/stdin" } else { path })?;
+            self.path = Some(String::from_str(rt.alloc(), path)?);
+        }
+        Ok(self.data.as_slice())
+    }
+
+    /// Whether this file was read last.
+    fn holds(&self, path: &str) -> bool {
+        match &self.path {
+            Some(held) => held.as_str() == path,
+            None => false,
+        }
+    }
+}

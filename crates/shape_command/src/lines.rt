@@ -1,0 +1,146 @@
+//! The lines of a text, and their answers.
+
+ghost use Rattle.std.specs.Prelude.{◌≡◌, ◌++◌, ◌∷◌, [], IfOk, OnOk};
+ghost use Rattle.std.specs.Io.BufRead.{ends_with_byte};
+ghost use Rattle.std.specs.Io.KnownBytes.{Appends};
+ghost use Rattle.shape_command.specs.Answer.{answer_text};
+ghost use Rattle.shape_command.specs.Lines.{TakesLine, without_line_feed, AnswersAll, AnswersParagraph, IsAnswer};
+
+use crate::shaper::{Answer, LineShaper};
+use shaping_buffer::GlyphNames;
+use std::alloc::{AllocError, Global};
+use std::io::{self, BufRead, ErrorKind, Read, Write};
+
+/// Why not each line of a text was answered.
+#[derive(Debug, Drop)]
+pub enum LinesError {
+    /// The text was not read to its end.
+    Read(io::Error),
+    /// An answer was not written.
+    Write(io::Error),
+    /// There is no memory.
+    Memory,
+}
+
+impl From<AllocError> for LinesError {
+    fn from(_error: AllocError) -> LinesError {
+        LinesError::Memory
+    }
+}
+
+/// The error of a read.
+fn read_error(error: io::Error) -> LinesError {
+    match error.kind() {
+        ErrorKind::OutOfMemory => LinesError::Memory,
+        _ => LinesError::Read(error),
+    }
+}
+
+/// Answers each line of a text with a line, and says whether all of them were shaped. A line feed ends a line, and the
+/// last line may lack it. One line is held at a time.
+pub fn answer_lines<N: GlyphNames + Drop, R: BufRead, W: Write>(
+    alloc: Global,
+    shaper: &LineShaper<'_, N>,
+    reader: &mut R,
+    writer: &mut W,
+) -> Result<bool, LinesError>
+    ensures { OnOk result (AnswersAll
+        (IsAnswer (record { name = N.name_of shaper.now.names; extents = N.extents_of shaper.now.names })
+        shaper.now.output)
+        (R.remaining reader.old) (R.remaining reader.new)
+        (W.contents writer.old) (W.contents writer.new)) }
+{
+    let mut all_shaped = true;
+    let mut line = Vec::new(alloc);
+    for _ in 0..u64::MAX {
+        let found = next_line(reader, &mut line)?;
+        if !found {
+            return Ok(all_shaped);
+        }
+        let answer = shaper.answer(alloc, line.as_slice())?;
+        all_shaped &= !matches!(answer, Answer::Failed);
+        write_answer(writer, &answer)?;
+    }
+    Err(LinesError::Read(io::Error::from(ErrorKind::Other)))
+}
+
+/// Answers a text as one line, unless it is empty, and says whether it was shaped.
+pub fn answer_paragraph<N: GlyphNames + Drop, R: Read, W: Write>(
+    alloc: Global,
+    shaper: &LineShaper<'_, N>,
+    reader: &mut R,
+    writer: &mut W,
+) -> Result<bool, LinesError>
+    ensures { OnOk result (AnswersParagraph
+        (IsAnswer (record { name = N.name_of shaper.now.names; extents = N.extents_of shaper.now.names })
+        shaper.now.output)
+        (R.remaining reader.old) (R.remaining reader.new)
+        (W.contents writer.old) (W.contents writer.new)) }
+{
+    let mut text = Vec::new(alloc);
+    let read = match reader.read_to_end(&mut text) {
+        Ok(read) => read,
+        Err(error) => return Err(read_error(error)),
+    };
+    if read == 0 {
+        return Ok(true);
+    }
+    let answer = shaper.answer(alloc, text.as_slice())?;
+    write_answer(writer, &answer)?;
+    Ok(!matches!(answer, Answer::Failed))
+}
+
+/// Reads a line in place of the one that is held, without the line feed that ends it. It says whether there was one.
+pub fn next_line<R: BufRead>(reader: &mut R, line: &mut Vec<u8>) -> Result<bool, LinesError>
+    ensures { IfOk result (λ found. TakesLine found (R.remaining reader.old) (R.remaining reader.new)
+        line.new.items) }
+{
+    line.clear();
+    let read = match reader.read_until(b'\n', line) {
+        Ok(read) => read,
+        Err(error) => return Err(read_error(error)),
+    };
+    drop_line_feed(line);
+    Ok(read > 0)
+}
+
+/// Drops the line feed at the end, if one stands there.
+fn drop_line_feed(line: &mut Vec<u8>)
+    ensures { line.new.items ≡ without_line_feed line.old.items }
+{
+    if ends_line(line.as_slice()) {
+        line.truncate(line.len() - 1);
+    }
+}
+
+/// Whether a line feed stands at the end.
+fn ends_line(line: &[u8]) -> bool
+    ensures { result ≡ ends_with_byte 10 line.now }
+{
+    !line.is_empty() && line[line.len() - 1] == b'\n'
+}
+
+/// Writes an answer: the glyphs in brackets, and a line feed.
+pub fn write_answer<W: Write>(writer: &mut W, answer: &Answer) -> Result<(), LinesError>
+    ensures { OnOk result (Appends (W.contents writer.old) (W.contents writer.new)
+        (answer_text answer.now ++ 10 ∷ [])) }
+{
+    match answer {
+        Answer::Empty => put(writer, b"\n"),
+        Answer::Failed => put(writer, b"error: Shaping failed.\n"),
+        Answer::Glyphs(text) => {
+            put(writer, b"[")?;
+            put(writer, text.as_bytes())?;
+            put(writer, b"]\n")
+        }
+    }
+}
+
+fn put<W: Write>(writer: &mut W, bytes: &[u8]) -> Result<(), LinesError>
+    ensures { OnOk result (Appends (W.contents writer.old) (W.contents writer.new) bytes.now) }
+{
+    match writer.write_all(bytes) {
+        Ok(()) => Ok(()),
+        Err(error) => Err(LinesError::Write(error)),
+    }
+}

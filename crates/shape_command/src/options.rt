@@ -1,0 +1,347 @@
+//! What a command line asks for.
+
+use crate::code_points::{CodePointsError, code_points, text_of_code_points};
+use crate::features::{features, unquoted};
+use clap::ArgMatches;
+use shaping_buffer::{
+    BufferClusterLevel, BufferFlags, Direction, Feature, Flags, GlyphId, Script, SerializeFlags,
+    script,
+};
+use std::alloc::{AllocError, Global};
+use thiserror::Error;
+
+/// Why the words of a command line ask for nothing that can be done.
+#[derive(Debug, Drop, Error)]
+pub enum OptionsError<'a> {
+    /// No font is named.
+    #[error("No font file set")]
+    NoFont,
+    /// There is a third word.
+    #[error("Too many arguments on the command line")]
+    TooManyWords,
+    /// Two texts are given.
+    #[error("Only one of text, unicodes and text-file can be set")]
+    TwoTexts,
+    /// Two texts are given that stand before each line, or two that stand after it.
+    #[error("Only one of --text-{0} and --unicodes-{0} can be set")]
+    TwoContexts(&'static str),
+    /// A value is no list of characters.
+    #[error("Failed parsing Unicode values in '{0}'")]
+    CodePoints(&'a str),
+    /// A value is no number, or too large or too small a one.
+    #[error("Cannot parse integer value '{1}' for --{0}")]
+    Number(&'static str, &'a str),
+    /// A value is not one or two numbers.
+    #[error("--font-size argument should be one or two space-separated numbers, and not '{0}'")]
+    FontSize(&'a str),
+    /// A shaper of this name is not known.
+    #[error("Unknown or unsupported shaper: {0}")]
+    Shaper(&'a str),
+    /// Functions of a font of this name are not known.
+    #[error("Unknown font function implementation '{0}'; supported values are: ot")]
+    FontFuncs(&'a str),
+    /// Variations are asked for.
+    #[error("--variations={0} is not supported: variable fonts are not read as such")]
+    Variations(&'a str),
+    /// There is no memory.
+    #[error("out of memory")]
+    Memory,
+}
+
+impl From<AllocError> for OptionsError<'_> {
+    fn from(_error: AllocError) -> Self {
+        OptionsError::Memory
+    }
+}
+
+/// Where the text comes from.
+#[derive(Debug, Drop)]
+pub enum TextSource<'a> {
+    /// It is this one.
+    Given(&'a str),
+    /// It is made of characters that were given by their numbers.
+    CodePoints(String),
+    /// It is in this file.
+    File(&'a str),
+    /// It is on standard input.
+    Input,
+}
+
+/// How lines are made into texts that are shaped, and how they are shaped.
+#[derive(Debug, Drop)]
+pub struct LineOptions<'a> {
+    /// The direction, or `Invalid` where it is guessed.
+    pub direction: Direction,
+    /// The script, unless it is guessed.
+    pub script: Option<Script>,
+    /// The language, as it was given.
+    pub language: &'a str,
+    /// How texts are treated.
+    pub flags: BufferFlags,
+    /// How far clusters are merged.
+    pub cluster_level: BufferClusterLevel,
+    /// The glyph of characters that are invisible by default.
+    pub invisible_glyph: Option<GlyphId>,
+    /// The glyph of variation selectors that the font does not know.
+    pub not_found_variation_selector_glyph: Option<u32>,
+    /// Whether clusters are numbers of bytes, and not of characters.
+    pub utf8_clusters: bool,
+    /// What stands before each line.
+    pub before: String,
+    /// What stands after each line.
+    pub after: String,
+    /// The features.
+    pub features: Vec<Feature>,
+}
+
+/// What a command line asks for.
+#[derive(Debug, Drop)]
+pub struct Options<'a> {
+    /// The file of the font.
+    pub font_file: &'a str,
+    /// The number of the font in its file.
+    pub face_index: u32,
+    /// How large an em is, in both directions, unless it is as large as in the font.
+    pub font_size: Option<(i32, i32)>,
+    /// Where the text comes from.
+    pub text: TextSource<'a>,
+    /// Whether the text is a single line.
+    pub single_par: bool,
+    /// How each line is shaped.
+    pub line: LineOptions<'a>,
+    /// What is printed of glyphs.
+    pub output: SerializeFlags,
+}
+
+impl<'a> Options<'a> {
+    /// What the words of a command line ask for.
+    pub fn from_matches(alloc: Global, matches: &ArgMatches<'a>) -> Result<Self, OptionsError<'a>> {
+        refuse_unsupported(matches)?;
+        let (font_file, text) = font_and_text(matches)?;
+        Ok(Options {
+            font_file,
+            face_index: number(matches, "face-index")?.unwrap_or(0),
+            font_size: font_size(matches)?,
+            text: text_source(alloc, matches, text)?,
+            single_par: matches.get_flag("single-par"),
+            line: line_options(alloc, matches)?,
+            output: output_flags(matches),
+        })
+    }
+}
+
+/// Refuses the values of options that are there for HarfBuzz's sake alone, unless they change nothing.
+fn refuse_unsupported<'a>(matches: &ArgMatches<'a>) -> Result<(), OptionsError<'a>> {
+    for name in ["shaper", "shapers"] {
+        for shaper in matches.get_str(name).unwrap_or("ot").split(',') {
+            if shaper != "ot" {
+                return Err(OptionsError::Shaper(shaper));
+            }
+        }
+    }
+    let font_funcs = matches.get_str("font-funcs").unwrap_or("ot");
+    if !font_funcs.eq_ignore_ascii_case("ot") {
+        return Err(OptionsError::FontFuncs(font_funcs));
+    }
+    let variations = matches.get_str("variations").unwrap_or("");
+    if !variations.is_empty() {
+        return Err(OptionsError::Variations(variations));
+    }
+    Ok(())
+}
+
+/// The file of the font, and the text that is a word, if one is.
+fn font_and_text<'a>(
+    matches: &ArgMatches<'a>,
+) -> Result<(&'a str, Option<&'a str>), OptionsError<'a>> {
+    let words = matches.get_strs("words").unwrap_or(&[]);
+    match (matches.get_str("font-file"), words) {
+        (Some(font), []) => Ok((font, None)),
+        (Some(font), [text]) => Ok((font, Some(*text))),
+        (None, []) => Err(OptionsError::NoFont),
+        (None, [font]) => Ok((*font, None)),
+        (None, [font, text]) => Ok((*font, Some(*text))),
+        _ => Err(OptionsError::TooManyWords),
+    }
+}
+
+/// Where the text comes from.
+fn text_source<'a>(
+    alloc: Global,
+    matches: &ArgMatches<'a>,
+    word: Option<&'a str>,
+) -> Result<TextSource<'a>, OptionsError<'a>> {
+    let given = (
+        word.or(matches.get_str("text")),
+        matches.get_str("unicodes"),
+        matches.get_str("text-file"),
+    );
+    match given {
+        (Some(_), None, None) if word.is_some() && matches.get_str("text").is_some() => {
+            Err(OptionsError::TwoTexts)
+        }
+        (Some(text), None, None) => Ok(TextSource::Given(text)),
+        (None, Some("*"), None) => Ok(TextSource::Given("*")),
+        (None, Some(list), None) => Ok(TextSource::CodePoints(listed(alloc, list)?)),
+        (None, None, None | Some("-")) => Ok(TextSource::Input),
+        (None, None, Some(file)) => Ok(TextSource::File(file)),
+        _ => Err(OptionsError::TwoTexts),
+    }
+}
+
+/// The text of a list of characters.
+fn listed<'a>(alloc: Global, list: &'a str) -> Result<String, OptionsError<'a>> {
+    match code_points(alloc, list) {
+        Ok(numbers) => Ok(text_of_code_points(alloc, numbers.as_slice())?),
+        Err(CodePointsError::Number) => Err(OptionsError::CodePoints(list)),
+        Err(CodePointsError::Memory) => Err(OptionsError::Memory),
+    }
+}
+
+/// The text that stands before each line, or after it.
+fn context<'a>(
+    alloc: Global,
+    matches: &ArgMatches<'a>,
+    side: &'static str,
+    (text, unicodes): (&str, &str),
+) -> Result<String, OptionsError<'a>> {
+    match (matches.get_str(text), matches.get_str(unicodes)) {
+        (Some(_), Some(_)) => Err(OptionsError::TwoContexts(side)),
+        (Some(text), None) => Ok(String::from_str(alloc, text)?),
+        (None, Some(list)) => listed(alloc, list),
+        (None, None) => Ok(String::new(alloc)),
+    }
+}
+
+fn line_options<'a>(
+    alloc: Global,
+    matches: &ArgMatches<'a>,
+) -> Result<LineOptions<'a>, OptionsError<'a>> {
+    let direction = matches.get_str("direction").unwrap_or("");
+    Ok(LineOptions {
+        direction: direction.parse::<Direction>().unwrap_or(Direction::Invalid),
+        script: script_of(matches.get_str("script").unwrap_or("")),
+        language: matches.get_str("language").unwrap_or(""),
+        flags: buffer_flags(matches),
+        cluster_level: cluster_level(matches)?,
+        invisible_glyph: glyph(matches, "invisible-glyph")?,
+        not_found_variation_selector_glyph: number(matches, "not-found-variation-selector-glyph")?,
+        utf8_clusters: matches.get_flag("utf8-clusters"),
+        before: context(alloc, matches, "before", ("text-before", "unicodes-before"))?,
+        after: context(alloc, matches, "after", ("text-after", "unicodes-after"))?,
+        features: features(alloc, unquoted(matches.get_str("features").unwrap_or("")))?,
+    })
+}
+
+/// The script of a tag; none of the empty text.
+fn script_of(tag: &str) -> Option<Script> {
+    if tag.is_empty() {
+        return None;
+    }
+    Some(tag.parse::<Script>().unwrap_or(script::UNKNOWN))
+}
+
+/// The value of an option that is a number.
+fn number<'a>(
+    matches: &ArgMatches<'a>,
+    name: &'static str,
+) -> Result<Option<u32>, OptionsError<'a>> {
+    let Some(text) = matches.get_str(name) else {
+        return Ok(None);
+    };
+    match text.parse::<u32>() {
+        Ok(number) => Ok(Some(number)),
+        Err(_) => Err(OptionsError::Number(name, text)),
+    }
+}
+
+/// The value of an option that is the number of a glyph. Glyph 0 stands for no glyph.
+fn glyph<'a>(
+    matches: &ArgMatches<'a>,
+    name: &'static str,
+) -> Result<Option<GlyphId>, OptionsError<'a>> {
+    let Some(text) = matches.get_str(name) else {
+        return Ok(None);
+    };
+    match text.parse::<u16>() {
+        Ok(0) => Ok(None),
+        Ok(number) => Ok(Some(GlyphId(number))),
+        Err(_) => Err(OptionsError::Number(name, text)),
+    }
+}
+
+fn cluster_level<'a>(matches: &ArgMatches<'a>) -> Result<BufferClusterLevel, OptionsError<'a>> {
+    match matches.get_str("cluster-level") {
+        None | Some("0") => Ok(BufferClusterLevel::MonotoneGraphemes),
+        Some("1") => Ok(BufferClusterLevel::MonotoneCharacters),
+        Some("2") => Ok(BufferClusterLevel::Characters),
+        Some("3") => Ok(BufferClusterLevel::Graphemes),
+        Some(text) => Err(OptionsError::Number("cluster-level", text)),
+    }
+}
+
+/// How large an em is.
+fn font_size<'a>(matches: &ArgMatches<'a>) -> Result<Option<(i32, i32)>, OptionsError<'a>> {
+    match matches.get_str("font-size") {
+        None | Some("upem") => Ok(None),
+        Some(text) => match two_numbers(text) {
+            Some(size) => Ok(Some(size)),
+            None => Err(OptionsError::FontSize(text)),
+        },
+    }
+}
+
+/// One number, for both, or two numbers with a space or a comma between them.
+fn two_numbers(text: &str) -> Option<(i32, i32)> {
+    let parted = text.split_once(' ').or(text.split_once(','));
+    let (first, second) = parted.unwrap_or((text, text));
+    Some((first.parse::<i32>().ok()?, second.parse::<i32>().ok()?))
+}
+
+/// How texts are treated.
+fn buffer_flags(matches: &ArgMatches<'_>) -> BufferFlags {
+    let mut flags = BufferFlags::empty();
+    for (name, flag) in [
+        ("bot", BufferFlags::BEGINNING_OF_TEXT),
+        ("eot", BufferFlags::END_OF_TEXT),
+        ("verify", BufferFlags::VERIFY),
+        ("unsafe-to-concat", BufferFlags::PRODUCE_UNSAFE_TO_CONCAT),
+        (
+            "safe-to-insert-tatweel",
+            BufferFlags::PRODUCE_SAFE_TO_INSERT_TATWEEL,
+        ),
+        (
+            "preserve-default-ignorables",
+            BufferFlags::PRESERVE_DEFAULT_IGNORABLES,
+        ),
+        (
+            "remove-default-ignorables",
+            BufferFlags::REMOVE_DEFAULT_IGNORABLES,
+        ),
+    ] {
+        if matches.get_flag(name) {
+            flags = flags.union(flag);
+        }
+    }
+    flags
+}
+
+/// What is printed of glyphs.
+fn output_flags(matches: &ArgMatches<'_>) -> SerializeFlags {
+    let mut flags = SerializeFlags::empty();
+    for (name, flag) in [
+        ("no-glyph-names", SerializeFlags::NO_GLYPH_NAMES),
+        ("no-positions", SerializeFlags::NO_POSITIONS),
+        ("no-advances", SerializeFlags::NO_ADVANCES),
+        ("no-clusters", SerializeFlags::NO_CLUSTERS),
+        ("show-extents", SerializeFlags::GLYPH_EXTENTS),
+        ("show-flags", SerializeFlags::GLYPH_FLAGS),
+        ("ned", SerializeFlags::NO_CLUSTERS),
+        ("ned", SerializeFlags::NO_ADVANCES),
+    ] {
+        if matches.get_flag(name) {
+            flags = flags.union(flag);
+        }
+    }
+    flags
+}

@@ -1,0 +1,222 @@
+//! What the program does.
+
+use crate::arguments::matches_of;
+use crate::font_file::FontFile;
+use crate::lines::{LinesError, answer_lines, answer_paragraph};
+use crate::options::{Options, OptionsError, TextSource};
+use crate::shaper::LineShaper;
+use font_shaper::{Face, FaceNames};
+use shaping_buffer::{Flags, GlyphNames, NoGlyphNames, SerializeFlags};
+use std::alloc::{AllocError, Global};
+use std::convert::AsStr;
+use std::fs;
+use std::io::{self, BufRead, BufReader, Write};
+use std::rt::Files;
+use thiserror::Error;
+
+/// Why a command line was not answered to its end.
+#[derive(Debug, Drop, Error)]
+pub enum CommandError<'a> {
+    /// The words are no command line.
+    #[error("{0}")]
+    Words(clap::Error),
+    /// The words ask for nothing that can be done.
+    #[error("{0}")]
+    Options(OptionsError<'a>),
+    /// The file of the font was not read.
+    #[error("{file}: {error}")]
+    Font {
+        /// The file.
+        file: &'a str,
+        /// Why it was not read.
+        error: io::Error,
+    },
+    /// The file has no font of this number.
+    #[error("{0}: Failed loading font face")]
+    Face(&'a str),
+    /// The text was not read.
+    #[error("Failed reading text: {file}: {error}")]
+    Text {
+        /// The file.
+        file: &'a str,
+        /// Why it was not read.
+        error: io::Error,
+    },
+    /// The answers were not written.
+    #[error("Failed writing glyphs: {0}")]
+    Output(io::Error),
+    /// There is no memory.
+    #[error("out of memory")]
+    Memory,
+}
+
+impl From<AllocError> for CommandError<'_> {
+    fn from(_error: AllocError) -> Self {
+        CommandError::Memory
+    }
+}
+
+impl<'a> From<OptionsError<'a>> for CommandError<'a> {
+    fn from(error: OptionsError<'a>) -> Self {
+        match error {
+            OptionsError::Memory => CommandError::Memory,
+            error => CommandError::Options(error),
+        }
+    }
+}
+
+impl<'a> CommandError<'a> {
+    /// The error of lines that are in this file.
+    fn of_lines(file: &'a str, error: LinesError) -> Self {
+        match error {
+            LinesError::Read(error) => CommandError::Text { file, error },
+            LinesError::Write(error) => CommandError::Output(error),
+            LinesError::Memory => CommandError::Memory,
+        }
+    }
+}
+
+/// Answers a command line, whose first word is the name of the program, and says whether each line was shaped. The
+/// font's file is read unless it was read last.
+pub fn answer_command<'a, F: Files + AllocGlobal, S: AsStr, R: BufRead, W: Write>(
+    rt: &F,
+    words: &'a [S],
+    font: &mut FontFile,
+    input: &mut R,
+    output: &mut W,
+) -> Result<bool, CommandError<'a>> {
+    let options = options_of(rt.alloc(), words)?;
+    answer_options(rt, &options, font, input, output)
+}
+
+/// What a command line asks for.
+fn options_of<'a, S: AsStr>(
+    alloc: Global,
+    words: &'a [S],
+) -> Result<Options<'a>, CommandError<'a>> {
+    match matches_of(alloc, words) {
+        Ok(matches) => Ok(Options::from_matches(alloc, &matches)?),
+        Err(error) => Err(CommandError::Words(error)),
+    }
+}
+
+/// Answers what a command line asks for.
+fn answer_options<'a, F: Files + AllocGlobal, R: BufRead, W: Write>(
+    rt: &F,
+    options: &Options<'a>,
+    font: &mut FontFile,
+    input: &mut R,
+    output: &mut W,
+) -> Result<bool, CommandError<'a>> {
+    let file = options.font_file;
+    let data = match font.read(rt, file) {
+        Ok(data) => data,
+        Err(error) => return Err(CommandError::Font { file, error }),
+    };
+    let Some(face) = Face::from_slice(data, options.face_index) else {
+        return Err(CommandError::Face(file));
+    };
+    answer_face(rt, face, options, input, output)
+}
+
+/// Answers with a font. Its names are read only where they are asked for.
+fn answer_face<'a, F: Files + AllocGlobal, R: BufRead, W: Write>(
+    rt: &F,
+    face: Face<'_>,
+    options: &Options<'a>,
+    input: &mut R,
+    output: &mut W,
+) -> Result<bool, CommandError<'a>> {
+    if asks_font(options.output) {
+        let names = FaceNames::new(rt.alloc(), &face)?;
+        let shaper = shaper_of(face, names, options);
+        answer_text(rt, &shaper, options, input, output)
+    } else {
+        let shaper = shaper_of(face, NoGlyphNames, options);
+        answer_text(rt, &shaper, options, input, output)
+    }
+}
+
+/// Whether names or extents of glyphs are printed.
+fn asks_font(flags: SerializeFlags) -> bool {
+    !flags.contains(SerializeFlags::NO_GLYPH_NAMES) || flags.contains(SerializeFlags::GLYPH_EXTENTS)
+}
+
+fn shaper_of<'a, N: GlyphNames + Drop>(
+    face: Face<'a>,
+    names: N,
+    options: &'a Options<'a>,
+) -> LineShaper<'a, N> {
+    LineShaper {
+        face,
+        names,
+        font_size: options.font_size,
+        options: &options.line,
+        output: options.output,
+    }
+}
+
+/// Answers the text that the options name.
+fn answer_text<'a, F: Files + AllocGlobal, N: GlyphNames + Drop, R: BufRead, W: Write>(
+    rt: &F,
+    shaper: &LineShaper<'_, N>,
+    options: &Options<'a>,
+    input: &mut R,
+    output: &mut W,
+) -> Result<bool, CommandError<'a>> {
+    match &options.text {
+        TextSource::Given(text) => {
+            answer_all(
+                rt.alloc(),
+                shaper,
+                options,
+                "TEXT",
+                &mut text.as_bytes(),
+                output,
+            )
+        }
+        TextSource::CodePoints(text) => {
+            answer_all(
+                rt.alloc(),
+                shaper,
+                options,
+                "TEXT",
+                &mut text.as_bytes(),
+                output,
+            )
+        }
+        TextSource::Input => answer_all(rt.alloc(), shaper, options, "-", input, output),
+        TextSource::File(file) => {
+            let mut reader = match open(rt, file) {
+                Ok(reader) => reader,
+                Err(error) => return Err(CommandError::Text { file: *file, error }),
+            };
+            answer_all(rt.alloc(), shaper, options, *file, &mut reader, output)
+        }
+    }
+}
+
+/// A file that is read piece by piece.
+fn open<F: Files + AllocGlobal>(rt: &F, file: &str) -> io::Result<BufReader<F::File>> {
+    BufReader::new(rt.alloc(), fs::open(rt, file)?)
+}
+
+/// Answers a text line by line, or as one line.
+fn answer_all<'a, N: GlyphNames + Drop, R: BufRead, W: Write>(
+    alloc: Global,
+    shaper: &LineShaper<'_, N>,
+    options: &Options<'_>,
+    file: &'a str,
+    reader: &mut R,
+    writer: &mut W,
+) -> Result<bool, CommandError<'a>> {
+    let answered = if options.single_par {
+        answer_paragraph(alloc, shaper, reader, writer)
+    } else {
+        answer_lines(alloc, shaper, reader, writer)
+    };
+    match answered {
+        Ok(all_shaped) => Ok(all_shaped),
+        Err(error) => Err(CommandError::of_lines(file, error)),
+    }
+}
