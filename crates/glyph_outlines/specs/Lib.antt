@@ -2,3 +2,9 @@ pub mod Glyf
 pub mod Index
 pub mod StandardStrings
 pub mod Charset
+pub mod Operand
+pub mod FontDicts
+pub mod Subroutines
+pub mod StandardEncoding
+pub mod Cff
+pub mod Outlines

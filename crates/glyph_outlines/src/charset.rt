@@ -83,14 +83,14 @@ fn range_string(is_long: bool, charset: &[u8], glyph: u32) -> Option<u32>
 }
 
 /// The place of a range.
-fn range_place(is_long: bool, row: u32) -> usize
+pub(crate) fn range_place(is_long: bool, row: u32) -> usize
     ensures { result ≡ range_place is_long row }
 {
     1 + if is_long { 4 } else { 3 } * row as usize
 }
 
 /// How many glyphs are left in a range behind its first.
-fn range_left(is_long: bool, charset: &[u8], row: u32) -> Option<u16>
+pub(crate) fn range_left(is_long: bool, charset: &[u8], row: u32) -> Option<u16>
     ensures { result ≡ range_left is_long charset.now row }
 {
     let place = range_place(is_long, row) + 2;
