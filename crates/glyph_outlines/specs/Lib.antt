@@ -8,3 +8,4 @@ pub mod Subroutines
 pub mod StandardEncoding
 pub mod Cff
 pub mod Outlines
+pub mod Path

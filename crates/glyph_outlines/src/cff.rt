@@ -4,7 +4,7 @@
 use crate::charset::{predefined_charset, string_number, string_of};
 use crate::charstring::{Accented, Drawing, Subroutines, draw_charstring};
 use crate::dict::Dict;
-use crate::extents::extents;
+use crate::extents::path_box;
 use crate::font_dicts::font_dict_of;
 use crate::index::{index_count, index_item, index_size};
 use crate::path::Bounds;
@@ -85,8 +85,8 @@ impl<'a> CffTable<'a> {
         let drawing = self.drawing(glyph)?;
         let bounds = drawing.path.bounds;
         match drawing.accented {
-            Some(accented) => Some(extents(bounds.merged(self.accented_bounds(accented)?))),
-            None => Some(extents(bounds)),
+            Some(accented) => Some(path_box(bounds.merged(self.accented_bounds(accented)?))),
+            None => Some(path_box(bounds)),
         }
     }
 

@@ -39,6 +39,9 @@ pub struct Bounds {
 }
 
 impl Bounds {
+    ghost use Rattle.std.specs.Prelude.{◌≡◌};
+    ghost use Rattle.glyph_outlines.specs.Path.{including, is_empty};
+
     /// The box around no point: from the greatest coordinate down to the least, as HarfBuzz has it.
     pub const EMPTY: Bounds = Bounds {
         min: Point {
@@ -52,12 +55,16 @@ impl Bounds {
     };
 
     /// Whether the box has no width or no height.
-    pub fn is_empty(self) -> bool {
+    pub fn is_empty(self) -> bool
+        ensures { result ≡ is_empty self }
+    {
         self.min.x >= self.max.x || self.min.y >= self.max.y
     }
 
     /// The least box around this one and a point.
-    pub fn including(self, point: Point) -> Bounds {
+    pub fn including(self, point: Point) -> Bounds
+        ensures { result ≡ including self point }
+    {
         Bounds {
             min: Point {
                 x: self.min.x.min(point.x),
