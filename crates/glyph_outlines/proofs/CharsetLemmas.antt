@@ -16,7 +16,7 @@ is_below glyph through most = grind arith
 pub named-next : (is_long : Bool) (bs : List ℕ) (row before left : ℕ) → named is_long bs row ≡ Some before
     → range_left is_long bs row ≡ Some left → named is_long bs (row + 1) ≡ Some (before + left + 1)
 unfolding named
-named-next is_long bs row before left so here = rw (add-one, so, here) refl
+named-next is_long bs row before left so here = rw (add-one row, so, here) refl
 
 none_after : (o : Option ℕ) (left : Option ℕ) → left ≡ None
     → option_and_then (λ before. option_map (λ left. before + left + 1) left) o ≡ None

@@ -1,6 +1,11 @@
 //! Outlines and names of the table `CFF ` (OpenType specification, "CFF - Compact Font Format Table"; The Compact Font
 //! Format Specification, Adobe Technical Note 5176).
 
+ghost use Rattle.std.specs.Prelude.{◌≡◌};
+ghost use Rattle.std.specs.Option.{option_copied};
+ghost use Rattle.glyph_outlines.specs.Index.{index_count};
+ghost use Rattle.glyph_outlines.specs.Cff.{behind};
+
 use crate::charset::{predefined_charset, string_number, string_of};
 use crate::charstring::{Accented, Drawing, Subroutines, draw_charstring};
 use crate::dict::Dict;
@@ -34,15 +39,19 @@ pub struct CffTable<'a> {
     top: Dict,
     /// The subroutines of the font's one Private DICT, as an INDEX; none where the font is CID-keyed.
     local_subroutines: &'a [u8],
+    ghost has_charstrings: { index_count char_strings.now ≡ glyph_count },
 }
 
 impl<'a> CffTable<'a> {
-    ghost use Rattle.std.specs.Prelude.{◌≡◌};
-    ghost use Rattle.std.specs.Option.{option_copied};
-    ghost use Rattle.glyph_outlines.specs.Cff.{glyph_name};
+    ghost use Rattle.std.specs.Prelude.{◌<◌, Some, IfSome, IsSome};
+    ghost use Rattle.glyph_outlines.specs.Cff.{font_strings, glyph_name};
 
     /// The table in these bytes, of a font with so many glyphs; `None` where it is broken, or has another number of glyphs.
-    pub fn parse(table: &'a [u8], glyph_count: u16) -> Option<Self> {
+    #[tactic(auto, unfolding(crate::specs::Cff::font_strings))]
+    pub fn parse(table: &'a [u8], glyph_count: u16) -> Option<Self>
+        ensures glyphs { IfSome result (λ cff. cff.glyph_count ≡ glyph_count) }
+        ensures strings { IfSome result (λ cff. font_strings table.now ≡ Some cff.strings.now) }
+    {
         if u8_at(table, 0)? != 1 {
             return None;
         }
@@ -81,7 +90,9 @@ impl<'a> CffTable<'a> {
 
     /// The box around the path of a glyph and the points that control its curves, in font units; `None` where the font has
     /// no such glyph, or its charstring is broken.
-    pub fn glyph_extents(&self, glyph: GlyphId) -> Option<GlyphExtents> {
+    pub fn glyph_extents(&self, glyph: GlyphId) -> Option<GlyphExtents>
+        ensures { IsSome result → glyph.0 < self.now.glyph_count }
+    {
         let drawing = self.drawing(glyph)?;
         let bounds = drawing.path.bounds;
         match drawing.accented {
@@ -118,7 +129,10 @@ impl<'a> CffTable<'a> {
     }
 
     /// What the charstring of a glyph draws.
-    fn drawing(&self, glyph: GlyphId) -> Option<Drawing> {
+    #[tactic(auto, unfolding(crate::specs::Index::index_item))]
+    fn drawing(&self, glyph: GlyphId) -> Option<Drawing>
+        ensures { IsSome result → glyph.0 < self.now.glyph_count }
+    {
         let charstring = index_item(self.char_strings, u32::from(glyph.0))?;
         let subroutines = Subroutines {
             local: self.local_subroutines(glyph)?,
@@ -142,7 +156,9 @@ impl<'a> CffTable<'a> {
 }
 
 /// What follows an INDEX.
-fn behind(index: &[u8]) -> Option<&[u8]> {
+fn behind(index: &[u8]) -> Option<&[u8]>
+    ensures { option_copied result ≡ behind index.now }
+{
     Some(tail(index, index_size(index)?))
 }
 

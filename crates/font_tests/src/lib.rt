@@ -1,0 +1,5 @@
+//! Tests of the crates that read fonts, over what they make public, as in the `tests/` folder of a Rust crate.
+#![tactic(auto)]
+
+#[cfg(test)]
+mod outlines;
