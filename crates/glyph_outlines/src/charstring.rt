@@ -22,7 +22,7 @@ const MOST_STEPS: u32 = 199_999;
 
 /// The subroutines that a charstring may call, as two INDEXes.
 #[derive(Clone, Copy, Debug)]
-pub struct Subroutines<'a> {
+pub(crate) struct Subroutines<'a> {
     /// Those of the glyph's own Private DICT.
     pub local: &'a [u8],
     /// Those of the whole font.
@@ -31,7 +31,7 @@ pub struct Subroutines<'a> {
 
 /// What a charstring draws.
 #[derive(Clone, Copy, Debug)]
-pub struct Drawing {
+pub(crate) struct Drawing {
     /// Its path.
     pub path: Path,
     /// The accented character that it puts together.
@@ -40,7 +40,7 @@ pub struct Drawing {
 
 /// A character of two glyphs (The Type 2 Charstring Format, Appendix C, "endchar").
 #[derive(Clone, Copy, Debug)]
-pub struct Accented {
+pub(crate) struct Accented {
     /// How far the accent's origin lies from the base's.
     pub accent_at: Point,
     /// The base, by its code in the standard encoding.
@@ -50,7 +50,7 @@ pub struct Accented {
 }
 
 /// What a charstring draws; `None` where it is broken, or takes more steps than are allowed.
-pub fn draw_charstring(charstring: &[u8], subroutines: Subroutines<'_>) -> Option<Drawing> {
+pub(crate) fn draw_charstring(charstring: &[u8], subroutines: Subroutines<'_>) -> Option<Drawing> {
     let mut state = State {
         numbers: [0; MOST_NUMBERS],
         count: 0,

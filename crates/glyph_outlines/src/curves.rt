@@ -7,14 +7,14 @@ ghost use Rattle.std.specs.Prelude.{◌+◌, ◌<◌, length};
 use crate::path::{Path, Point};
 
 /// `rlineto`: lines.
-pub fn lines(path: &mut Path, numbers: &[i32]) {
+pub(crate) fn lines(path: &mut Path, numbers: &[i32]) {
     for line in 0..numbers.len() / 2 {
         path.line_by(pair(numbers, 2 * line));
     }
 }
 
 /// `hlineto` and `vlineto`: lines that are horizontal and vertical in turn.
-pub fn alternating_lines(path: &mut Path, numbers: &[i32], is_horizontal: bool) {
+pub(crate) fn alternating_lines(path: &mut Path, numbers: &[i32], is_horizontal: bool) {
     let mut is_horizontal = is_horizontal;
     for &number in numbers {
         path.line_by(turned(is_horizontal, i64::from(number), 0));
@@ -23,14 +23,14 @@ pub fn alternating_lines(path: &mut Path, numbers: &[i32], is_horizontal: bool) 
 }
 
 /// `rrcurveto`: curves.
-pub fn curves(path: &mut Path, numbers: &[i32]) {
+pub(crate) fn curves(path: &mut Path, numbers: &[i32]) {
     for curve in 0..numbers.len() / 6 {
         draw_curve(path, numbers, 6 * curve);
     }
 }
 
 /// `rcurveline`: curves, and a line.
-pub fn curves_and_line(path: &mut Path, numbers: &[i32]) {
+pub(crate) fn curves_and_line(path: &mut Path, numbers: &[i32]) {
     if numbers.len() >= 8 {
         let count = (numbers.len() - 2) / 6;
         for curve in 0..count {
@@ -41,7 +41,7 @@ pub fn curves_and_line(path: &mut Path, numbers: &[i32]) {
 }
 
 /// `rlinecurve`: lines, and a curve.
-pub fn lines_and_curve(path: &mut Path, numbers: &[i32]) {
+pub(crate) fn lines_and_curve(path: &mut Path, numbers: &[i32]) {
     if numbers.len() >= 8 {
         let count = (numbers.len() - 6) / 2;
         for line in 0..count {
@@ -53,7 +53,7 @@ pub fn lines_and_curve(path: &mut Path, numbers: &[i32]) {
 
 /// `hhcurveto` and `vvcurveto`: curves that begin and end in one direction, with a number before them for how far the
 /// first one begins across it.
-pub fn parallel_curves(path: &mut Path, numbers: &[i32], is_horizontal: bool) {
+pub(crate) fn parallel_curves(path: &mut Path, numbers: &[i32], is_horizontal: bool) {
     let start = numbers.len() % 2;
     let mut across = if start == 1 { number(numbers, 0) } else { 0 };
     for curve in 0..(numbers.len() - start) / 4 {
@@ -69,7 +69,7 @@ pub fn parallel_curves(path: &mut Path, numbers: &[i32], is_horizontal: bool) {
 
 /// `hvcurveto` and `vhcurveto`: curves that begin and end in different directions, of which each goes on as the one before
 /// it ended, with a number behind them for how far the last one ends across its direction.
-pub fn alternating_curves(path: &mut Path, numbers: &[i32], is_horizontal: bool) {
+pub(crate) fn alternating_curves(path: &mut Path, numbers: &[i32], is_horizontal: bool) {
     let count = numbers.len() / 4;
     let has_last = 4 * count < numbers.len() && (count % 2 == 1 || numbers.len() % 2 == 1);
     let mut is_horizontal = is_horizontal;
@@ -91,7 +91,7 @@ pub fn alternating_curves(path: &mut Path, numbers: &[i32], is_horizontal: bool)
 }
 
 /// `flex`: two curves. `None` where there are not thirteen numbers, of which the last says how flat the curves may be drawn.
-pub fn flex(path: &mut Path, numbers: &[i32]) -> Option<()> {
+pub(crate) fn flex(path: &mut Path, numbers: &[i32]) -> Option<()> {
     if numbers.len() != 13 {
         return None;
     }
@@ -102,7 +102,7 @@ pub fn flex(path: &mut Path, numbers: &[i32]) -> Option<()> {
 
 /// `hflex`: two curves that begin and end at one height, and meet in a horizontal line. `None` where there are not seven
 /// numbers.
-pub fn horizontal_flex(path: &mut Path, numbers: &[i32]) -> Option<()> {
+pub(crate) fn horizontal_flex(path: &mut Path, numbers: &[i32]) -> Option<()> {
     if numbers.len() != 7 {
         return None;
     }
@@ -125,7 +125,7 @@ pub fn horizontal_flex(path: &mut Path, numbers: &[i32]) -> Option<()> {
 }
 
 /// `hflex1`: two curves that begin and end at one height. `None` where there are not nine numbers.
-pub fn horizontal_flex_1(path: &mut Path, numbers: &[i32]) -> Option<()> {
+pub(crate) fn horizontal_flex_1(path: &mut Path, numbers: &[i32]) -> Option<()> {
     if numbers.len() != 9 {
         return None;
     }
@@ -146,7 +146,7 @@ pub fn horizontal_flex_1(path: &mut Path, numbers: &[i32]) -> Option<()> {
 }
 
 /// `flex1`: two curves that begin and end at one height, or one above the other. `None` where there are not eleven numbers.
-pub fn flex_1(path: &mut Path, numbers: &[i32]) -> Option<()> {
+pub(crate) fn flex_1(path: &mut Path, numbers: &[i32]) -> Option<()> {
     if numbers.len() != 11 {
         return None;
     }

@@ -5,7 +5,7 @@ use font_tables::bytes::{tail, u8_at, u32_at};
 
 /// What outlines need of a Top DICT, a Font DICT or a Private DICT: 0 where the DICT does not say it.
 #[derive(Clone, Copy, Debug, Default)]
-pub struct Dict {
+pub(crate) struct Dict {
     /// The offset of the charset, or the number of a predefined one.
     pub charset: i32,
     /// The offset of the INDEX of charstrings.
@@ -41,7 +41,7 @@ struct Numbers {
 
 impl Dict {
     /// What DICT data say; `None` where they are broken.
-    pub fn read(data: &[u8]) -> Option<Dict> {
+    pub(crate) fn read(data: &[u8]) -> Option<Dict> {
         let mut dict = Dict::default();
         let mut numbers = Numbers::default();
         let mut rest = data;

@@ -9,7 +9,7 @@ use rb_glyph::GlyphExtents;
 
 /// The box around a path, in whole font units: its left side and its top are rounded, and so is how far it is from there to
 /// the other sides, as HarfBuzz does.
-pub fn path_box(bounds: Bounds) -> GlyphExtents
+pub(crate) fn path_box(bounds: Bounds) -> GlyphExtents
     ensures { result ≡ path_box bounds }
 {
     let (min, max) = (bounds.min, bounds.max);

@@ -9,7 +9,7 @@ use rb_common::GlyphId;
 
 /// The number of a glyph's Font DICT, by a table that chooses it; `None` where the table does not reach the glyph.
 #[tactic(auto, unfolding(crate::specs::FontDicts::font_dict_of))]
-pub fn font_dict_of(select: &[u8], glyph: GlyphId) -> Option<u8>
+pub(crate) fn font_dict_of(select: &[u8], glyph: GlyphId) -> Option<u8>
     ensures { result ≡ font_dict_of select.now glyph.0 }
 {
     match u8_at(select, 0)? {

@@ -8,7 +8,7 @@ use font_tables::bytes::{i16_at, u8_at};
 
 /// The number at the front of DICT data or of a charstring, in the forms that both have; `None` where there is none.
 #[tactic(auto, unfolding(crate::specs::Operand::number))]
-pub fn number(code: &[u8]) -> Option<i16>
+pub(crate) fn number(code: &[u8]) -> Option<i16>
     ensures { result ≡ number code.now }
 {
     let first = u8_at(code, 0)?;
@@ -30,7 +30,7 @@ pub fn number(code: &[u8]) -> Option<i16>
 }
 
 /// How many bytes a number has, by the first of them.
-pub fn number_length(first: u8) -> usize
+pub(crate) fn number_length(first: u8) -> usize
     ensures { result ≡ number_length first }
 {
     match first {

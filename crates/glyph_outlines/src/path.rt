@@ -2,7 +2,7 @@
 
 /// A point, or how far it is from one point to another, in 65,536ths of a font unit.
 #[derive(Clone, Copy, Debug, Default)]
-pub struct Point {
+pub(crate) struct Point {
     /// To the right.
     pub x: i64,
     /// Upwards.
@@ -13,7 +13,7 @@ impl Point {
     /// The point that lies so far from this one.
     ///
     /// Numbers of a charstring are below 2³¹, and its steps are at most 200,000: so no sum is cut off at the limits.
-    pub fn moved(self, by: Point) -> Point {
+    pub(crate) fn moved(self, by: Point) -> Point {
         Point {
             x: self.x.saturating_add(by.x),
             y: self.y.saturating_add(by.y),
@@ -21,7 +21,7 @@ impl Point {
     }
 
     /// How far it is from this point to another.
-    pub fn to(self, other: Point) -> Point {
+    pub(crate) fn to(self, other: Point) -> Point {
         Point {
             x: other.x.saturating_sub(self.x),
             y: other.y.saturating_sub(self.y),
@@ -31,7 +31,7 @@ impl Point {
 
 /// A box around points: one without points, as `Bounds::EMPTY`, ends before it begins.
 #[derive(Clone, Copy, Debug)]
-pub struct Bounds {
+pub(crate) struct Bounds {
     /// The left and lower corner.
     pub min: Point,
     /// The right and upper corner.
@@ -43,7 +43,7 @@ impl Bounds {
     ghost use Rattle.glyph_outlines.specs.Path.{including, is_empty};
 
     /// The box around no point: from the greatest coordinate down to the least, as HarfBuzz has it.
-    pub const EMPTY: Bounds = Bounds {
+    pub(crate) const EMPTY: Bounds = Bounds {
         min: Point {
             x: 140737488289792,
             y: 140737488289792,
@@ -55,14 +55,14 @@ impl Bounds {
     };
 
     /// Whether the box has no width or no height.
-    pub fn is_empty(self) -> bool
+    pub(crate) fn is_empty(self) -> bool
         ensures { result ≡ is_empty self }
     {
         self.min.x >= self.max.x || self.min.y >= self.max.y
     }
 
     /// The least box around this one and a point.
-    pub fn including(self, point: Point) -> Bounds
+    pub(crate) fn including(self, point: Point) -> Bounds
         ensures { result ≡ including self point }
     {
         Bounds {
@@ -78,7 +78,7 @@ impl Bounds {
     }
 
     /// The least box around this one and another, where an empty box counts for nothing.
-    pub fn merged(self, other: Bounds) -> Bounds {
+    pub(crate) fn merged(self, other: Bounds) -> Bounds {
         if self.is_empty() {
             other
         } else if other.is_empty() {
@@ -89,7 +89,7 @@ impl Bounds {
     }
 
     /// The box that lies so far from this one; an empty one stays.
-    pub fn moved(self, by: Point) -> Bounds {
+    pub(crate) fn moved(self, by: Point) -> Bounds {
         if self.is_empty() {
             self
         } else {
@@ -103,7 +103,7 @@ impl Bounds {
 
 /// A path, as far as its bounds ask for it: they include the points that control its curves.
 #[derive(Clone, Copy, Debug)]
-pub struct Path {
+pub(crate) struct Path {
     /// The current point.
     pub point: Point,
     /// Whether something was drawn since the last move.
@@ -114,27 +114,27 @@ pub struct Path {
 
 impl Path {
     /// A path that begins at the glyph's origin.
-    pub const EMPTY: Path = Path {
+    pub(crate) const EMPTY: Path = Path {
         point: Point { x: 0, y: 0 },
         is_open: false,
         bounds: Bounds::EMPTY,
     };
 
     /// Moves to a point without drawing.
-    pub fn move_by(&mut self, by: Point) {
+    pub(crate) fn move_by(&mut self, by: Point) {
         self.is_open = false;
         self.point = self.point.moved(by);
     }
 
     /// Draws a line.
-    pub fn line_by(&mut self, by: Point) {
+    pub(crate) fn line_by(&mut self, by: Point) {
         self.open();
         self.point = self.point.moved(by);
         self.bounds = self.bounds.including(self.point);
     }
 
     /// Draws a curve by way of two points that control it, each as it lies from the point before.
-    pub fn curve_by(&mut self, first: Point, second: Point, end: Point) {
+    pub(crate) fn curve_by(&mut self, first: Point, second: Point, end: Point) {
         self.line_by(first);
         self.line_by(second);
         self.line_by(end);

@@ -10,7 +10,7 @@ use rb_common::GlyphId;
 
 /// The string number of a code in the standard encoding; `None` where the code has no character.
 #[tactic(auto, unfolding(crate::specs::StandardEncoding::encoded_string))]
-pub fn encoded_string(code: u8) -> Option<u16>
+pub(crate) fn encoded_string(code: u8) -> Option<u16>
     ensures { result ≡ encoded_string code }
 {
     match code {
@@ -33,7 +33,7 @@ pub fn encoded_string(code: u8) -> Option<u16>
 }
 
 /// The first of so many glyphs, behind the first, whose name has a string number by a charset; `None` where there is none.
-pub fn glyph_of_string(charset: &[u8], string: u16, glyph_count: u16) -> Option<GlyphId> {
+pub(crate) fn glyph_of_string(charset: &[u8], string: u16, glyph_count: u16) -> Option<GlyphId> {
     match u8_at(charset, 0)? {
         0 => listed_glyph(charset, string, glyph_count),
         1 => ranged_glyph(false, charset, string, glyph_count),

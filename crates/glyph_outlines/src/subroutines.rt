@@ -8,7 +8,7 @@ use crate::index::{index_count, index_item};
 
 /// The subroutine that a number calls in an INDEX; `None` where there is no such one.
 #[tactic(auto, unfolding(crate::specs::Subroutines::subroutine))]
-pub fn subroutine(index: &[u8], number: i32) -> Option<&[u8]>
+pub(crate) fn subroutine(index: &[u8], number: i32) -> Option<&[u8]>
     ensures { option_copied result ≡ subroutine index.now number }
 {
     let place = i64::from(number) + i64::from(bias(index_count(index)));
