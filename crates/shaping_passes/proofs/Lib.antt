@@ -19,3 +19,4 @@ pub mod SubstitutionTurnLemmas
 mod SubstitutionRows
 pub mod LinesLemmas
 mod LinesRows
+pub mod NormalizationMarksLemmas

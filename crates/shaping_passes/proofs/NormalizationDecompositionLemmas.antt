@@ -189,6 +189,14 @@ grown rows l k in_l more =
     let both = length-append (decomposed rows (take k l)) (decomposed rows (drop k l)) in
     omega (arith, whole, parts, both, decomposed-longer rows (drop k l), length-drop k l)
 
+-- a beginning is no longer than the list
+longest : (rows : Rows) (l : List hb_glyph_info_t) (k : ℕ)
+    → length (decomposed rows (take k l)) ≤ length (decomposed rows l)
+longest rows l k =
+    let whole = ap (λ (x : List hb_glyph_info_t). length (decomposed rows x)) (take-append-drop k l) in
+    let parts = ap length (decomposed-append rows (take k l) (drop k l)) in
+    omega (arith, whole, parts, length-append (decomposed rows (take k l)) (decomposed rows (drop k l)))
+
 -- the pass has come to character k, and what it put out is within the limit
 pub record IsAt (rows : Rows) (s now : State) : Type 0 where
   pub k : ℕ
@@ -287,7 +295,19 @@ module _ (rows : Rows) (s : State) (k : ℕ) (some : k < length s.input) where
         | inl t ↦ grown rows s.input k (omega arith) (ltb-true k (length now.out) t)
         | inr t ↦ grown rows s.input (k + 1) (omega arith) (ltb-true (k + 1) _ t)
       ] in
-      (longer, (k, omega arith, meets.2))
+      let past_room : s.room < length (decomposed rows s.input) = elim meets.0.2 [
+        | inl out ↦
+            let more = longest rows s.input (k + 1) in
+            omega (arith, out.1, ap (λ (t : State). length t.out) state, more)
+        | inr input ↦ absurd (omega (
+          arith,
+          input.0,
+          ap (λ (t : State). length t.input) state,
+          length-drop k s.input,
+          length-drop (k + 1) s.input,
+        ))
+      ] in
+      (longer, past_room, (k, omega arith, meets.2))
 
 -- ---- the beginning
 

@@ -1,11 +1,12 @@
 -- Each turn of the composition keeps what the whole list becomes, with its clusters.
 use Rattle.std.proofs.Common.{◌≡◌, ℕ, zero, suc, ◌+◌, ◌-◌, ◌<◌, Bool, List, [], ◌∷◌, ◌++◌, length, get_or, take, drop}
-use Rattle.std.proofs.Common.{refl, sym, ap, ◌∙◌, cond, eqb, leb, ltb, ◌&&◌, Option, Some, None, arith, length-append, length-drop}
+use Rattle.std.proofs.Common.{refl, sym, ap, ◌∙◌, subst, cond, eqb, leb, ltb, ◌&&◌, Option, Some, None, arith, length-append, length-drop}
 use Rattle.std.proofs.Common.{length-take, append_assoc}
+use Rattle.std.proofs.lemmas.Bool.{cond_both}
 use Rattle.std.proofs.lemmas.List.{length-map, get_or-map, get_or_append_left, drop-map, drop-append-le, take_at}
 use Rattle.std.proofs.lemmas.List.{get_or-append-add, take-append-drop}
 use Rattle.rb_glyph.specs.declared.info.hb_glyph_info_t.{hb_glyph_info_t}
-use Rattle.glyph_lists.specs.Clusters.{zero_glyph}
+use Rattle.glyph_lists.specs.Clusters.{zero_glyph, IsMonotone}
 use Rattle.glyph_lists.specs.Parts.{part}
 use Rattle.shaping_buffer.specs.State.{State}
 use Rattle.shaping_buffer.specs.ClusterStep.{both, head_of}
@@ -13,8 +14,8 @@ use Rattle.shaping_passes.specs.NormalizationGlyphs.{core, cores}
 use Rattle.shaping_passes.specs.NormalizationParts.{composed_of}
 use Rattle.shaping_passes.specs.NormalizationOrder.{class_at}
 use Rattle.shaping_passes.specs.NormalizationComposition.{is_blocked, pair_of, kept_one, pair_composed, starter_behind}
-use Rattle.shaping_passes.specs.NormalizationComposition.{composed_at}
-use Rattle.shaping_passes.proofs.NormalizationPairLemmas.{Glyphs}
+use Rattle.shaping_passes.specs.NormalizationComposition.{composed_at, composed_glyphs}
+use Rattle.shaping_passes.proofs.NormalizationPairLemmas.{Glyphs, order_composed, length_composed}
 
 -- ---- two sides as one list
 
@@ -106,6 +107,54 @@ module _ (pairs : List ((ℕ × ℕ) × ℕ)) (classes : List (ℕ × ℕ)) wher
   unfolding composed_at
   on_none any None n l = refl
   on_none any (Some at) n l = refl
+
+  -- ---- clusters stay in order
+
+  -- the last starter, if any, stands before this place
+  Before : Option ℕ → ℕ → Type 0
+  Before None n = Unit {0}
+  Before (Some at) n = at < n
+
+  before_more : (o : Option ℕ) (k : ℕ) → Before o k → Before o (k + 1)
+  unfolding Before
+  before_more None k b = tt
+  before_more (Some at) k b = omega arith
+
+  before_behind : (starter : Option ℕ) (n : ℕ) (l : Glyphs) → Before starter n
+      → Before (starter_behind classes starter n l) (n + 1)
+  unfolding Before
+  before_behind starter n l h =
+      cond_both (eqb (class_at classes (get_or l n zero_glyph)) 0) _ _ (λ (o : Option ℕ). Before o (n + 1))
+      (λ _. omega arith) (λ _. before_more starter n h)
+
+  by_pair : (any : Bool) (at n more : ℕ) (l : Glyphs)
+      → ((id : ℕ) → IsMonotone (composed_at any pairs classes (Some at) n more (pair_composed any at n id l)))
+      → IsMonotone (composed_at any pairs classes (starter_behind classes (Some at) n l) (n + 1) more l) → (o : Option ℕ)
+      → IsMonotone (elim o [
+        | Some id ↦ composed_at any pairs classes (Some at) n more (pair_composed any at n id l)
+        | None ↦ composed_at any pairs classes (starter_behind classes (Some at) n l) (n + 1) more l
+      ])
+  by_pair any at n more l made kept None = kept
+  by_pair any at n more l made kept (Some id) = made id
+
+  order_at : (any : Bool) (more : ℕ) (starter : Option ℕ) (n : ℕ) (l : Glyphs) → Before starter n → length l ≡ n + more
+      → IsMonotone l → IsMonotone (composed_at any pairs classes starter n more l)
+  unfolding composed_at Before
+  order_at any zero starter n l before long mono = subst IsMonotone (sym (on_none any starter n l)) mono
+  order_at any (suc more) None n l before long mono =
+      order_at any more (starter_behind classes None n l) (n + 1) l (before_behind None n l before) (omega arith) mono
+  order_at any (suc more) (Some at) n l before long mono =
+      by_pair any at n more l
+      (λ id. order_at any more (Some at) n (pair_composed any at n id l) before
+      (length_composed any at n id l before (omega arith) ∙ omega arith)
+      (order_composed any at n id l before (omega arith) mono))
+      (order_at any more (starter_behind classes (Some at) n l) (n + 1) l (before_behind (Some at) n l before) (omega arith)
+      mono)
+      (pair_of pairs classes (get_or l at zero_glyph) (part l (at + 1) n) (get_or l n zero_glyph))
+
+  pub order_kept : (any : Bool) (l : Glyphs) → IsMonotone l → IsMonotone (composed_glyphs any pairs classes l)
+  unfolding Before
+  order_kept any l mono = order_at any (length l) None 0 l tt (omega arith) mono
 
   -- ---- one turn of the buffer
 

@@ -12,10 +12,10 @@ use Rattle.std.proofs.lemmas.List.{get_or_append_left, length-take-le}
 use Rattle.std.proofs.lemmas.List.{get_or-take, get_or_default}
 use Rattle.std.specs.declared.alloc.AllocError.{AllocError}
 use Rattle.rb_glyph.specs.declared.info.hb_glyph_info_t.{hb_glyph_info_t}
-use Rattle.glyph_lists.specs.Clusters.{zero_glyph, run_merge, IsCoarse}
+use Rattle.glyph_lists.specs.Clusters.{zero_glyph, run_merge, IsCoarse, IsMonotone}
 use Rattle.glyph_lists.proofs.MergesLemmas.{length-run_merge}
-use Rattle.glyph_laws.proofs.ReadingsLemmas.{coarse_reading, reading_dropped, reading_alike}
-use Rattle.glyph_laws.proofs.OrderLemmas.{run_merge_keeps_coarse}
+use Rattle.glyph_laws.proofs.ReadingsLemmas.{Reading, coarse_reading, monotone_reading, reading_dropped, reading_alike}
+use Rattle.glyph_laws.proofs.OrderLemmas.{run_merge_keeps_coarse, run_merge_keeps_order}
 use Rattle.shaping_buffer.specs.State.{State, lookahead_len}
 use Rattle.shaping_buffer.specs.ClusterStep.{any_order, both, head_of, merge_out_clusters}
 use Rattle.shaping_buffer.specs.Step.{Outcome, Meets, settled, move_to, skip_glyph, split_at, with_id, last_place}
@@ -217,10 +217,10 @@ module _ (s : State) (ready : IsReady s) (some : 0 < length s.input) where
         ap (λ g. set (take n merged) at (with_id id g) ++ drop (n + 1) merged) (get_or-take n merged at zero_glyph place)
         ∙ ap (λ l. pair_composed (any_order s) at n id l) both_kept
 
--- another id keeps a list coarse
-pub coarse_renamed : (l r : Glyphs) (at id : ℕ) → at < length l → IsCoarse (l ++ r)
-    → IsCoarse (set l at (with_id id (get_or l at zero_glyph)) ++ r)
-coarse_renamed l r at id in_l co =
+-- another id changes nothing that an order reads
+reading_renamed : (l r : Glyphs) (at id : ℕ) → at < length l
+    → Reading (l ++ r) (set l at (with_id id (get_or l at zero_glyph)) ++ r)
+reading_renamed l r at id in_l =
     let g = with_id id (get_or l at zero_glyph) in
     let new = set (l ++ r) at g in
     let whole = length-append l r in
@@ -232,10 +232,48 @@ coarse_renamed l r at id in_l co =
           ∙ ap (λ k. f (get_or (l ++ r) k zero_glyph)) (sym e)
       | inr ne ↦ ap f (get_or-set_other (l ++ r) at j g zero_glyph ne)
     ] in
-    subst IsCoarse (set-append_left l r at g in_l)
-    (coarse_reading (l ++ r) new
+    subst (Reading (l ++ r)) (set-append_left l r at g in_l)
     (reading_alike (l ++ r) new (length-set (l ++ r) at g) (λ j _. same (λ x. x.cluster) refl j)
-    (λ j _. same (λ x. x.var2) refl j)) co)
+    (λ j _. same (λ x. x.var2) refl j))
+
+pub coarse_renamed : (l r : Glyphs) (at id : ℕ) → at < length l → IsCoarse (l ++ r)
+    → IsCoarse (set l at (with_id id (get_or l at zero_glyph)) ++ r)
+coarse_renamed l r at id in_l co = coarse_reading (l ++ r) _ (reading_renamed l r at id in_l) co
+
+-- a pair that is composed keeps the order of clusters
+pub order_composed : (any : Bool) (at n id : ℕ) (l : Glyphs) → at < n → n < length l → IsMonotone l
+    → IsMonotone (pair_composed any at n id l)
+order_composed any at n id l place in_l mono =
+    let m = cond any l (run_merge l at (n + 1) 0) in
+    let size : length m ≡ length l =
+    cond_both any _ _ (λ (x : Glyphs). length x ≡ length l) (λ _. refl) (λ _. length-run_merge l at (n + 1) 0) in
+    let merged : IsMonotone m =
+    cond_both any _ _ IsMonotone (λ _. mono) (λ _. run_merge_keeps_order l at (n + 1) 0 (omega arith) mono) in
+    let whole : m ≡ take n m ++ get_or m n zero_glyph ∷ drop (n + 1) m =
+    sym (take-append-drop n m) ∙ ap (λ (x : Glyphs). take n m ++ x) (drop_more m n zero_glyph (omega (arith, size))) in
+    let dropped : IsMonotone (take n m ++ drop (n + 1) m) =
+    monotone_reading _ _ (reading_dropped (take n m) (get_or m n zero_glyph) (drop (n + 1) m)) (subst IsMonotone whole merged) in
+    subst (λ (g : hb_glyph_info_t). IsMonotone (set (take n m) at (with_id id g) ++ drop (n + 1) m))
+    (get_or-take n m at zero_glyph place)
+    (monotone_reading _ _
+    (reading_renamed (take n m) (drop (n + 1) m) at id (omega (arith, length-take-le n m (omega (arith, size)))))
+    dropped)
+
+pub length_composed : (any : Bool) (at n id : ℕ) (l : Glyphs) → at < n → n < length l
+    → length (pair_composed any at n id l) ≡ length l - 1
+length_composed any at n id l place in_l =
+    let m = cond any l (run_merge l at (n + 1) 0) in
+    let size : length m ≡ length l =
+    cond_both any _ _ (λ (x : Glyphs). length x ≡ length l) (λ _. refl) (λ _. length-run_merge l at (n + 1) 0) in
+    let g = with_id id (get_or m at zero_glyph) in
+    omega (
+      arith,
+      length-append (set (take n m) at g) (drop (n + 1) m),
+      length-set (take n m) at g,
+      length-take n m,
+      length-drop (n + 1) m,
+      size,
+    )
 
 pub renamed_cores : (l : Glyphs) (at id : ℕ) → at < length l
     → cores (set l at (with_id id (get_or l at zero_glyph)))

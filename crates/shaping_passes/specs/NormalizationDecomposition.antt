@@ -60,7 +60,7 @@ pub record IsTooLongAt (k : ℕ) (rows : List (ℕ × ℕ × Option ℕ)) (s : S
 
 -- What came of `decompose_all`. It is done where no call was refused before, and the list is within the limit. A
 -- refusal leaves what was done before it; after an earlier one nothing changes. Memory runs out only where the list
--- becomes longer, and leaves what was done before.
+-- becomes longer, and longer than there is room for, and leaves what was done before.
 abbrev pub Decomposes : List (ℕ × ℕ × Option ℕ) → State → Result Bool AllocError → State → Type 0
 Decomposes rows s (Ok true) new =
     (s.successful ≡ true) × (length (decomposed rows s.input) ≤ s.max_len)
@@ -70,4 +70,5 @@ Decomposes rows s (Ok false) new =
     ⊎ ((s.successful ≡ true)
     × ((k : ℕ) × IsTooLongAt k rows s × (new ≡ record (stopped_at k rows s) { successful = false })))
 Decomposes rows s (Err e) new =
-    (length s.input < length (decomposed rows s.input)) × ((k : ℕ) × (k ≤ length s.input) × (new ≡ stopped_at k rows s))
+    (length s.input < length (decomposed rows s.input)) × (s.room < length (decomposed rows s.input))
+    × ((k : ℕ) × (k ≤ length s.input) × (new ≡ stopped_at k rows s))

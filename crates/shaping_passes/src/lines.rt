@@ -1,6 +1,6 @@
 //! The places at which the lines of a shaped text end, by its break flags and the widths of the lines.
 
-ghost use Rattle.std.specs.Prelude.{◌≡◌, ◌<◌, ◌≤◌, true, length, nat_lt, IfOk};
+ghost use Rattle.std.specs.Prelude.{◌≡◌, ◌<◌, ◌≤◌, true, length, nat_lt, IfOk, OnErr};
 ghost use Rattle.std.specs.List.{list_all};
 ghost use Rattle.rb_glyph.specs.Rows.{rise};
 ghost use Rattle.shaping_passes.specs.Lines as places;
@@ -14,7 +14,8 @@ use std::alloc::{AllocError, Global};
 /// cut within the width, the line is too wide, and ends at the first place at which it may. The last width is that of
 /// the lines after it too, and with no width at all nothing is cut. Widths and advances are in the units of the font.
 ///
-/// Lines are taken along the list, so a text from right to left is to be reversed before.
+/// Lines are taken along the list, so a text from right to left is to be reversed before. A text with no glyph takes no
+/// memory.
 pub fn line_ends(
     alloc: Global,
     glyphs: &[hb_glyph_info_t],
@@ -25,6 +26,7 @@ pub fn line_ends(
     ensures exact { IfOk result (λ ends. ends.items ≡ places.line_ends glyphs.now positions.now widths.now) }
     ensures cuts { IfOk result (λ ends. list_all (places.may_end glyphs.now) ends.items ≡ true) }
     ensures rises { IfOk result (λ ends. rise nat_lt ends.items ≡ true) }
+    ensures memory { OnErr result (0 < length glyphs.now) }
 {
     let mut ends = Vec::new(alloc);
     let mut widths = widths;

@@ -1,5 +1,5 @@
 -- What a command makes of a session.
-use Rattle.std.specs.Prelude.{ℕ, ◌≡◌, ◌&&◌, ◌||◌, not, List, length, Bool, codes, nat_le, if◌then◌else◌}
+use Rattle.std.specs.Prelude.{⊤, ℕ, ◌≡◌, ◌&&◌, ◌||◌, not, List, length, Bool, codes, nat_le, if◌then◌else◌}
 use Rattle.std.specs.List.{list_all}
 use Rattle.rb_glyph.specs.declared.info.hb_glyph_info_t.{hb_glyph_info_t}
 use Rattle.rb_glyph.specs.declared.flag_sets.SerializeFlags.{SerializeFlags}
@@ -26,6 +26,11 @@ use Rattle.shaping_session.specs.declared.session.Session.TheVariants.{Text, Tur
 abbrev pub held_by : Session → State
 held_by (Text text) = text
 held_by (Turned buffer) = buffer
+
+-- it is still a text
+abbrev pub IsText : Session → Type 0
+IsText (Text text) = ⊤
+IsText (Turned buffer) = ⊥
 
 -- what a session begins with: an empty text
 abbrev pub fresh : Session

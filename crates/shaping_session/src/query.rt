@@ -1,8 +1,10 @@
 //! What is asked of no text: features, tags of scripts and languages, and how characters compose and decompose.
 
-ghost use Rattle.std.specs.Prelude.{◌≡◌, ◌++◌, ◌∷◌, ℕ, Some, None, IfOk, OnOk, string_bytes, map, option_copied};
+ghost use Rattle.std.specs.Prelude.{◌≡◌, ◌++◌, ◌∷◌, ℕ, Some, None, IfOk, OnOk, OnErr, string_bytes, map, option_copied};
 ghost use Rattle.std.specs.Prelude.{option_map};
 ghost use Rattle.std.specs.Char.{to_ascii_lowercase};
+ghost use Rattle.rb_text.specs.declared.feature.Feature.{Feature};
+ghost use Rattle.rb_text.specs.Feature.{ReadsAs};
 ghost use Rattle.rb_glyph.specs.Hangul.{HangulComposes};
 ghost use Rattle.shaping_session.specs.Replies.{reply_text};
 ghost use Rattle.shaping_session.specs.Queries.{eight_digits, feature_text, AnswersFeature, AnswersCompose};
@@ -17,9 +19,11 @@ use rb_text::{
 use std::alloc::{AllocError, Global};
 use std::fmt::Write;
 
-/// The feature that a text reads as: its tag in hexadecimal digits, its value, its start and its end.
+/// The feature that a text reads as: its tag in hexadecimal digits, its value, its start and its end. A text that is none
+/// takes no memory.
 pub fn feature(alloc: Global, text: &str) -> Result<Reply, AllocError>
-    ensures { IfOk result (λ reply. AnswersFeature text.now (reply_text reply)) }
+    ensures answer { IfOk result (λ reply. AnswersFeature text.now (reply_text reply)) }
+    ensures memory { OnErr result ((f : Feature) × ReadsAs text.now f) }
 {
     match text.parse::<Feature>() {
         Ok(feature) => Ok(Reply::Text(print_feature(alloc, feature)?)),
@@ -110,9 +114,11 @@ fn write_tag(alloc: Global, text: &mut String, tag: u32) -> Result<(), AllocErro
     write!(text, " {tag}")
 }
 
-/// The character that two characters compose to by the rule of Hangul alone, in hexadecimal digits.
+/// The character that two characters compose to by the rule of Hangul alone, in hexadecimal digits. Two that do not compose
+/// take no memory.
 pub fn compose(alloc: Global, a: char, b: char) -> Result<Reply, AllocError>
-    ensures { IfOk result (λ reply. AnswersCompose a b (reply_text reply)) }
+    ensures answer { IfOk result (λ reply. AnswersCompose a b (reply_text reply)) }
+    ensures memory { OnErr result (¬ ((s : ℕ) → ¬ HangulComposes s a b)) }
 {
     let Some(c) = composed(a, b) else {
         return Ok(Reply::none());
@@ -121,9 +127,11 @@ pub fn compose(alloc: Global, a: char, b: char) -> Result<Reply, AllocError>
     Ok(Reply::Text(format!(in alloc; "{c:x}")?))
 }
 
-/// The two characters that a character decomposes to by the rule of Hangul alone, in hexadecimal digits.
+/// The two characters that a character decomposes to by the rule of Hangul alone, in hexadecimal digits. One that does not
+/// decompose takes no memory.
 pub fn decompose(alloc: Global, c: char) -> Result<Reply, AllocError>
-    ensures { IfOk result (λ reply. AnswersDecompose c (reply_text reply)) }
+    ensures answer { IfOk result (λ reply. AnswersDecompose c (reply_text reply)) }
+    ensures memory { OnErr result (¬ ((a b : ℕ) → ¬ HangulComposes c a b)) }
 {
     let Some((a, b)) = decomposed(c) else {
         return Ok(Reply::none());

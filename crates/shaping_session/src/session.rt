@@ -1,6 +1,6 @@
 //! What the commands work on, and what each of them does.
 
-ghost use Rattle.std.specs.Prelude.{◌≡◌, IfOk, true, false, codes, string_bytes};
+ghost use Rattle.std.specs.Prelude.{◌≡◌, IfOk, OnErr, true, false, codes, string_bytes};
 ghost use Rattle.std.specs.List.{list_all};
 ghost use Rattle.shaping_buffer.specs.Text as texts;
 ghost use Rattle.glyph_text.specs.Text as of_glyphs;
@@ -10,7 +10,7 @@ ghost use Rattle.shaping_buffer.specs.ClusterLevel.{level_of};
 ghost use Rattle.shaping_buffer.specs.Pushed.{pushed, added};
 ghost use Rattle.shaping_session.specs.Commands.{request_of};
 ghost use Rattle.shaping_session.specs.Replies.{reply_text};
-ghost use Rattle.shaping_session.specs.Session.{fresh, held_by, with_level, with_flags, Follows, Grows, FollowsTurn};
+ghost use Rattle.shaping_session.specs.Session.{IsText, fresh, held_by, with_level, with_flags, Follows, Grows, FollowsTurn};
 ghost use Rattle.shaping_session.specs.Session.{FollowsLimit, FollowsSerialize, FollowsState};
 ghost use Rattle.shaping_session.specs.Session.{is_glyph, replacement_turn};
 ghost use Rattle.shaping_runs.specs.Replay.{turn};
@@ -85,20 +85,22 @@ impl Session {
     }
 
     fn push(self, text: &str) -> Result<(Session, Reply), AllocError>
-        ensures { IfOk result (λ next. Grows (pushed text.now) self next.0 (reply_text next.1)) }
+        ensures answer { IfOk result (λ next. Grows (pushed text.now) self next.0 (reply_text next.1)) }
+        ensures memory { OnErr result (IsText self) }
     {
         match self {
             Session::Text(mut buffer) => {
                 let reply = Reply::of_bool(buffer.push_str(text)?);
                 Ok((Session::Text(buffer), reply))
             }
-            Session::Turned(buffer) => Ok((Session::Turned(buffer), Reply::outside())),
+            Session::Turned(turned) => Ok((Session::Turned(turned), Reply::outside())),
         }
     }
 
     fn add(self, character: char, cluster: u32) -> Result<(Session, Reply), AllocError>
-        ensures { IfOk result (λ next.
+        ensures answer { IfOk result (λ next.
             Grows (added character cluster) self next.0 (reply_text next.1)) }
+        ensures memory { OnErr result (IsText self) }
     {
         match self {
             Session::Text(mut buffer) => {

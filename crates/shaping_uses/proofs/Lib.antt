@@ -5,3 +5,4 @@ pub mod RenderingLemmas
 pub mod ComparingLemmas
 pub mod GroupsLemmas
 pub mod TextLemmas
+pub mod MarksLemmas

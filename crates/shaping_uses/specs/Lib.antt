@@ -6,3 +6,4 @@ pub mod Visible
 pub mod Runs
 pub mod Rendering
 pub mod Groups
+pub mod Marks

@@ -2,6 +2,7 @@
 //! out of it.
 
 ghost use Rattle.std.specs.Prelude.{◌≡◌, ◌*◌, ◌<◌, ◌≤◌, true, false, Ok, OnErr, length};
+ghost use Rattle.shaping_uses.specs.Marks.{with_marks};
 
 use shaping_buffer::hb_buffer_t;
 use std::alloc::AllocError;
@@ -12,6 +13,8 @@ use std::alloc::AllocError;
 pub fn put_marks(buffer: &mut hb_buffer_t, mark: u32) -> Result<bool, AllocError>
     requires closed { buffer.old.have_output ≡ false }
     requires successful { buffer.old.successful ≡ true }
+    ensures marks { result ≡ Ok true
+        → buffer.new.input ≡ with_marks mark buffer.old.input }
     ensures twice { result ≡ Ok true → length buffer.new.input ≡ 2 * length buffer.old.input }
     ensures long { result ≡ Ok false → buffer.old.max_len < 2 * length buffer.old.input }
     ensures refused { result ≡ Ok false → buffer.new ≡ buffer.old }
@@ -28,12 +31,14 @@ pub fn put_marks(buffer: &mut hb_buffer_t, mark: u32) -> Result<bool, AllocError
 
 /// The same where there is room for it: it asks for no memory. Requires that twice as many glyphs fit the room, and
 /// `max_len`.
+#[tactic(auto, using(crate::proofs::MarksLemmas::marks_of_one))]
 pub fn put_marks_within_room(buffer: &mut hb_buffer_t, mark: u32) -> Result<bool, AllocError>
     requires closed { buffer.old.have_output ≡ false }
     requires successful { buffer.old.successful ≡ true }
     requires room { 2 * length buffer.old.input ≤ buffer.old.room }
     requires fits { 2 * length buffer.old.input ≤ buffer.old.max_len }
     ensures done { result ≡ Ok true }
+    ensures marks { buffer.new.input ≡ with_marks mark buffer.old.input }
     ensures twice { length buffer.new.input ≡ 2 * length buffer.old.input }
 {
     buffer.clear_output();

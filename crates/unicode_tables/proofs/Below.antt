@@ -1,6 +1,6 @@
 -- Rows that are pushed in the order of their characters rise, and each is found.
 use Rattle.std.proofs.Common.{◌≡◌, ℕ, ◌+◌, ◌<◌, ◌≤◌, Bool, true, false, ◌==◌, nat_lt, List, [], ◌∷◌, ◌++◌}
-use Rattle.std.proofs.Common.{Option, Some, None, find, refl, sym, ap, subst, ◌∙◌, arith, inl, inr}
+use Rattle.std.proofs.Common.{Result, Ok, Err, OnErr, Option, Some, None, find, refl, sym, ap, subst, ◌∙◌, arith, inl, inr}
 use Rattle.std.specs.List.{list_all}
 use Rattle.std.specs.Char.{IsScalar}
 use Rattle.std.specs.Option.{option_or}
@@ -98,3 +98,8 @@ module _ {R : Type 0} (key : R → ℕ) where
                 ∙ sym (ap row_of same ∙ some)
           ];
     }
+
+-- what holds in any case holds of an error
+pub on_err : {T E : Type 0} (r : Result T E) (P : Type 0) → P → OnErr r P
+on_err (Ok v) P p = tt
+on_err (Err e) P p = p

@@ -1,7 +1,7 @@
 -- The pairs below a number that compose, as they come one by one.
 use Rattle.std.proofs.Common.{◌≡◌, ◌≢◌, ℕ, ◌+◌, ◌<◌, Bool, true, false, cond, ◌&&◌, ◌==◌, nat_eq, nat_lt, List, [], ◌∷◌}
 use Rattle.std.proofs.Common.{Option, Some, None, find, option_map, if◌then◌else◌, refl, sym, ap, ap₂, ◌∙◌}
-use Rattle.std.proofs.Common.{arith, inl, inr}
+use Rattle.std.proofs.Common.{arith, inl, inr, length, IsSome}
 use Rattle.std.proofs.Common.{eqb-true, eq-eqb, lt-ltb}
 use lib.Utf8.{scalar, scalar_cases}
 use Rattle.std.specs.BTreeMap.{is_at}
@@ -159,3 +159,26 @@ unfolding IsStrictlySortedBy
 entries_rise [] up = refl
 entries_rise (a ∷ []) up = refl
 entries_rise (a ∷ (b ∷ rows)) up = and_from _ _ (less_pair a.0 b.0 up.0.0) (entries_rise (b ∷ rows) up.1)
+
+-- a list that is not empty has its first row
+pub first_found : (rows : List ((ℕ × ℕ) × ℕ)) → 0 < length rows
+    → (a : ℕ) × ((b : ℕ) × ((v : ℕ) × (composition_of a b rows ≡ Some v)))
+first_found [] some = absurd (omega arith)
+first_found (row ∷ rows) some =
+    let here : ((row.0.0 == row.0.0) && (row.0.1 == row.0.1)) ≡ true =
+    and_from (row.0.0 == row.0.0) (row.0.1 == row.0.1) (eq-eqb row.0.0 row.0.0 refl) (eq-eqb row.0.1 row.0.1 refl) in (
+      row.0.0,
+      (
+        row.0.1,
+        (
+          row.1,
+          sym (value_if (row.0.0 == row.0.0 && row.0.1 == row.0.1) row rows row.0.0 row.0.1)
+              ∙ cond-true _ _ _ here,
+        ),
+      ),
+    )
+
+-- what is below a number is there
+pub some_below : (n : ℕ) (o : Option ℕ) (v : ℕ) → below n o ≡ Some v → IsSome o
+some_below n None v e = cc
+some_below n (Some p) v e = refl

@@ -1,5 +1,6 @@
 -- The row that each character has in a table.
-use Rattle.std.specs.Prelude.{ℕ, ◌==◌, Option, Some, None, option_map, nat_eq, if◌then◌else◌}
+use Rattle.std.specs.Prelude.{ℕ, ◌==◌, Option, Some, None, IsSome, option_map, nat_eq, if◌then◌else◌}
+use Rattle.std.specs.Char.{IsScalar}
 use Rattle.ucd_normal.specs.CanonicalCombiningClass.{canonical_combining_class}
 use Rattle.std.specs.Option.{option_eq}
 use Rattle.ucd_normal.specs.Composition.{composite}
@@ -23,3 +24,17 @@ composed_parts c None = None
 -- the pair that composes to c
 abbrev pub pair_of : ℕ → Option (ℕ × ℕ)
 pair_of c = composed_parts c (parts_of (canonical_mapping c))
+
+-- ---- a table that has a row
+
+-- some character has a class other than 0
+abbrev pub HasClasses : Type 0
+HasClasses = (c : ℕ) × (IsScalar c × IsSome (class_row c))
+
+-- some character has a decomposition
+abbrev pub HasDecompositions : Type 0
+HasDecompositions = (c : ℕ) × (IsScalar c × IsSome (decomposition_row c))
+
+-- some pair composes
+abbrev pub HasCompositions : Type 0
+HasCompositions = (a : ℕ) × ((b : ℕ) × IsSome (composite a b))

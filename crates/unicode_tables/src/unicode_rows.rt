@@ -1,10 +1,11 @@
 //! The rows of all three tables in one value.
-ghost use Rattle.std.specs.Prelude.{◌≡◌, ℕ, ◌==◌, IsTrue, find};
+ghost use Rattle.std.specs.Prelude.{◌≡◌, ◌⊎◌, ℕ, ◌==◌, IsTrue, OnErr, find};
 ghost use Rattle.std.specs.Char.{IsScalar};
 ghost use Rattle.rb_glyph.specs.Rows.{keys_rise};
 ghost use Rattle.rb_glyph.specs.Tables.{decompositions_rise, pairs_rise, composition_of};
 ghost use Rattle.ucd_normal.specs.Composition.{composite};
 ghost use Rattle.unicode_tables.specs.Rows.{class_row, decomposition_row};
+ghost use Rattle.unicode_tables.specs.Rows.{HasClasses, HasDecompositions, HasCompositions};
 
 use crate::rows::{combining_classes, compositions, decompositions};
 use rb_glyph::{CombiningClasses, Compositions, Decompositions};
@@ -27,8 +28,10 @@ pub struct UnicodeRows {
 }
 
 impl UnicodeRows {
-    /// The rows of the Unicode Character Database. Fails if it runs out of memory.
-    pub fn new(alloc: Global) -> Result<Self, AllocError> {
+    /// The rows of the Unicode Character Database. It fails only where memory runs out for a row of one of them.
+    pub fn new(alloc: Global) -> Result<Self, AllocError>
+        ensures memory { OnErr result (HasClasses ⊎ (HasDecompositions ⊎ HasCompositions)) }
+    {
         let classes = combining_classes(alloc)?;
         let decompositions = decompositions(alloc)?;
         let compositions = compositions(alloc)?;

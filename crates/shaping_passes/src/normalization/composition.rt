@@ -2,7 +2,7 @@
 
 ghost use Rattle.std.specs.Prelude.{◌≡◌, ◌+◌, ◌<◌, ◌≤◌, ◌++◌, true, false, length, take, drop, slice_index_or, slice_set};
 ghost use Rattle.std.specs.Prelude.{Ok, Some, ◌==◌, if◌then◌else◌};
-ghost use Rattle.glyph_lists.specs.Clusters.{zero_glyph, IsCoarse};
+ghost use Rattle.glyph_lists.specs.Clusters.{zero_glyph, IsCoarse, IsMonotone};
 ghost use Rattle.shaping_buffer.specs.ClusterStep.{any_order, both, head_of};
 ghost use Rattle.shaping_buffer.specs.State.{lookahead_len};
 ghost use Rattle.shaping_buffer.specs.Step.{with_id};
@@ -34,6 +34,7 @@ pub fn compose_marks(
         ≡ composed compositions.now classes.now (cores buffer.old.input) }
     ensures glyphs { buffer.old.successful ≡ true → buffer.new.input
         ≡ composed_glyphs (any_order buffer.old) compositions.now classes.now buffer.old.input }
+    ensures monotone { IsMonotone buffer.old.input → IsMonotone buffer.new.input }
     ensures merges { any_order buffer.old ≡ false → IsCoarse buffer.old.input
         → IsCoarse buffer.new.input }
     ensures others { buffer.old.successful ≡ true

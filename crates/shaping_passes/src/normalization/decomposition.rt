@@ -24,7 +24,7 @@ type Parts = ArrayVec<u32, 9>;
 ///
 /// `Ok(false)` after an earlier refusal, with nothing changed, and where the list would grow too long: then the output
 /// stays open, with the decompositions that fit, and what was not read is left in the input. The same stands where
-/// memory runs out, which it does only where the list becomes longer.
+/// memory runs out, which it does only where the list becomes longer, and longer than its room.
 pub fn decompose_all(
     buffer: &mut hb_buffer_t,
     decompositions: &Decompositions,

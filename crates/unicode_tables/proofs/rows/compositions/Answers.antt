@@ -5,8 +5,10 @@ use Rattle.std.specs.Ordering.{is_eq}
 use Rattle.rb_glyph.specs.Tables.{pairs_rise, composition_of}
 use Rattle.rb_glyph.proofs.RisingRows.{pair_cmp}
 use Rattle.ucd_normal.specs.Composition.{composite}
-use Rattle.unicode_tables.specs.Rows.{pair_of}
-use Rattle.unicode_tables.proofs.Pairs.{put, kept, kept_apart, below, all_below, found_in_entries, entries_rise}
+use Rattle.unicode_tables.specs.Rows.{pair_of, HasCompositions}
+use Rattle.unicode_tables.proofs.Below.{on_err}
+use Rattle.unicode_tables.proofs.Pairs.{put, kept, kept_apart, below, all_below, found_in_entries, entries_rise, first_found}
+use Rattle.unicode_tables.proofs.Pairs.{some_below}
 use Rattle.unicode_tables.proofs.rows.compositions.Goals as goal
 use Rattle.unicode_tables.proofs.rows.compositions.Goals.{in-Some+in-Some-pair_of+in_ok-insert}
 use Rattle.unicode_tables.proofs.rows.compositions.Goals.{in-Some+in_default-pair_of, in_default}
@@ -43,3 +45,17 @@ returns-clause-exact c =
     let all : c.loop-code.code ≡ 0x11_0000 = omega arith in
     λ a b. ap (composition_of a b) c.in_ok-rows.ensures.items ∙ found_in_entries a b c.loop-code.pairs.entries
     ∙ c.loop-code.invariant a b ∙ ap (λ n. below n (composite a b)) all ∙ all_below a b
+
+pub returns-in_err-rows-clause-memory : goal.returns-in_err-rows-clause-memory
+returns-in_err-rows-clause-memory c =
+    let first = first_found c.loop-code.pairs.entries c.in_err-rows.ensures.memory in
+    let row : HasCompositions = (
+      first.0,
+      (
+        first.1.0,
+        some_below c.loop-code.code (composite first.0 first.1.0) first.1.1.0
+            (sym (c.loop-code.invariant first.0 first.1.0)
+            ∙ sym (found_in_entries first.0 first.1.0 c.loop-code.pairs.entries) ∙ first.1.1.1),
+      ),
+    ) in
+    on_err c.from_residual-in_err-rows.result HasCompositions row

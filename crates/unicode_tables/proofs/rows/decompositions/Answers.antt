@@ -1,9 +1,9 @@
 -- A row is pushed where the character has one, and nothing else changes.
-use Rattle.std.proofs.Common.{◌≡◌, ℕ, option_map, List, Option, Some, None, sym, ap, subst, ◌∙◌, ◌+◌}
+use Rattle.std.proofs.Common.{◌≡◌, ℕ, option_map, List, Option, Some, None, IsSome, rules, refl, sym, ap, subst, ◌∙◌, ◌+◌}
 use Rattle.ucd_normal.specs.Decomposition.{canonical_mapping}
 use Rattle.unicode_tables.specs.Mapping.{parts_of}
-use Rattle.unicode_tables.specs.Rows.{decomposition_row}
-use Rattle.unicode_tables.proofs.Below.{AreRowsBelow, rows_kept, rows_pushed}
+use Rattle.unicode_tables.specs.Rows.{decomposition_row, HasDecompositions}
+use Rattle.unicode_tables.proofs.Below.{AreRowsBelow, rows_kept, rows_pushed, on_err}
 use Rattle.unicode_tables.proofs.rows.decompositions.Goals as goal
 use Rattle.unicode_tables.proofs.rows.decompositions.Goals.{in-Some+in-Some-decomposition_row+in_ok-push}
 use Rattle.unicode_tables.proofs.rows.decompositions.Goals.{in-Some+in_default-decomposition_row, in_default}
@@ -35,3 +35,9 @@ loop-code-preserved c =
       | in_default w ↦
           subst now (sym (ap (λ v. v.items) w.rows-is)) (kept (λ scalar. absurd (w.in_default.ensures.value scalar)))
     ]
+
+pub returns-in_err-push-clause-memory : goal.returns-in_err-push-clause-memory
+returns-in_err-push-clause-memory c =
+    let some : IsSome (decomposition_row c.in-Some.c) = subst IsSome c.in-Some-decomposition_row.ensures refl in
+    let row : HasDecompositions = (c.in-Some.c, (search rules, some)) in
+    on_err c.from_residual.result HasDecompositions row

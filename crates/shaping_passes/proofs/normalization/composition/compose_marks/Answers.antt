@@ -1,8 +1,11 @@
-use Rattle.std.proofs.Common.{◌≡◌, ◌+◌, ◌-◌, length, ap, ◌∙◌, arith, rules}
+use Rattle.std.proofs.Common.{◌≡◌, ◌+◌, ◌-◌, length, sym, ap, ◌∙◌, subst, arith, rules}
+use Rattle.glyph_lists.specs.Clusters.{IsMonotone}
+use Rattle.shaping_buffer.specs.ClusterStep.{any_order}
 use Rattle.std.proofs.lemmas.Bool.{cond-true, cond-false}
 use Rattle.shaping_buffer.specs.State.{State, len, lookahead_len}
 use Rattle.shaping_passes.specs.NormalizationGlyphs.{cores}
 use Rattle.shaping_passes.proofs.NormalizationCompositionLemmas.{turns_begun, last_state, last_cores, last_glyphs}
+use Rattle.shaping_passes.proofs.NormalizationMergesLemmas.{order_kept}
 use Rattle.shaping_passes.proofs.normalization.composition.compose_marks.Goals as goal
 
 pub loop-starter-init : goal.loop-starter-init
@@ -35,3 +38,17 @@ returns-clause-glyphs c = λ _.
     (last_state c.args.compositions.now c.args.classes.now s t c.loop-starter.starter k none c.sync.result c.sync.new.self
     c.sync.ensures.meets)
     ∙ last_glyphs c.args.compositions.now c.args.classes.now s t c.loop-starter.starter k none
+
+pub returns-clause-monotone : goal.returns-clause-monotone
+returns-clause-monotone c = λ order.
+    let s = c.args.buffer.now in
+    let t = c.loop-starter.buffer in
+    let k = c.loop-starter.invariant in
+    let e : lookahead_len t ≡ t.idx + length t.input - t.idx = ap (λ n. n - t.idx) (cond-true _ _ _ k.ready.opened) in
+    let none : length t.input ≡ 0 = omega (arith, e, c.lookahead_len.ensures) in
+    subst IsMonotone
+    (sym (ap (λ (x : State). x.input)
+    (last_state c.args.compositions.now c.args.classes.now s t c.loop-starter.starter k none c.sync.result c.sync.new.self
+    c.sync.ensures.meets)
+    ∙ last_glyphs c.args.compositions.now c.args.classes.now s t c.loop-starter.starter k none))
+    (order_kept c.args.compositions.now c.args.classes.now (any_order s) s.input order)
