@@ -102,7 +102,7 @@ class Erased(Bodies):
 
     def erase_attribute(self, item, attribute):
         if attribute.name == "inline" and self.source.text(attribute.first, attribute.last) == "#[inline]":
-            # To rustc it is a hint, and to the compiler of Rattle an order.
+            # rustc follows the hint less often than the compiler of Rattle.
             self.cut(attribute.first, attribute.last)
             return self.put(attribute.first, "#[inline(always)]")
         if attribute.name in FOR_PROOFS or attribute.name == "error":
