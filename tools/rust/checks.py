@@ -72,6 +72,9 @@ class Clauses:
         if not sign:
             return left
         self.step()
+        if self.peek() == "None" and left[1] == "positions":
+            self.step()
+            return (negated(left[0]) if sign == "==" else left[0]), "bool"
         return compared(left, sign, self.sum())
 
     def sum(self):
@@ -118,10 +121,19 @@ class Clauses:
             end, (name, _, _) = self.step(), self.root(self.step())
             return f"{end}.unwrap_or({name}.len()).min({name}.len())", "number"
         if word == "IsSome":
+            return self.positions(self.step()), "bool"
+        if word == "IsScalar":
+            value, kind = self.value(self.step())
+            if kind != "number":
+                raise Unknown
+            return f"char::from_u32({value}).is_some()", "bool"
+        if word == "AreCharacters":
+            return f"{self.list(self.step())}.iter().all(|glyph| char::from_u32(glyph.glyph_id).is_some())", "bool"
+        if word == "last_place":
             name, rest, kind = self.root(self.step())
-            if kind == "hb_buffer_t" and rest == ["positions"]:
-                return f"{name}.have_positions()", "bool"
-            raise Unknown
+            if rest or kind != "hb_buffer_t":
+                raise Unknown
+            return f"{name}.backtrack_len() + {name}.lookahead_len()", "number"
         if any(word == name for _, name in WORDS):
             name, rest, kind = self.root(self.step())
             if rest or (kind, word) not in WORDS:
@@ -136,6 +148,19 @@ class Clauses:
             raise Unknown
         rest = rest[1:] if rest and rest[0] in ("now", "old", "entry") else rest
         return name, rest, self.types[name]
+
+    def positions(self, word):
+        name, rest, kind = self.root(word)
+        if kind != "hb_buffer_t" or rest != ["positions"]:
+            raise Unknown
+        return f"{name}.have_positions()"
+
+    def list(self, word):
+        """The glyphs that are left to read, or a slice."""
+        length = self.length(word)
+        if not length.endswith(".len()"):
+            raise Unknown
+        return length.removesuffix(".len()")
 
     def length(self, word):
         name, rest, kind = self.root(word)
@@ -155,6 +180,8 @@ class Clauses:
             return name, "bool"
         if kind == "hb_glyph_info_t" and rest in (["glyph_id"], ["cluster"], ["mask"]):
             return f"{name}.{rest[0]}", "number"
+        if kind == "hb_buffer_t" and rest == ["positions"]:
+            return self.positions(word), "positions"
         if kind in FIELDS and len(rest) == 1 and rest[0] in FIELDS[kind]:
             return f"{name}.{FIELDS[kind][rest[0]]}", "bool" if rest[0] in BOOLEANS else "number"
         raise Unknown

@@ -19,6 +19,9 @@ SEEN_BY_C = {"hb_glyph_info_t", "GlyphPosition"}
 # Rattle inlines it.
 SHORT = 150
 
+# Types of parameters that are not there in plain Rust: the allocator, and what a program of Rattle's is given to act.
+NOT_PASSED = {"Global", "HostRuntime", "&impl Abort", "&impl Print", "&E"}
+
 KNOWN_ATTRIBUTES = {"inline", "cfg", "test", "must_use", "cold", "allow", "should_panic", "repr", "non_exhaustive"}
 
 
@@ -99,7 +102,7 @@ class Erased(Bodies):
 
     def erase_attribute(self, item, attribute):
         if attribute.name == "inline" and self.source.text(attribute.first, attribute.last) == "#[inline]":
-            # To rustc it is a hint, and to the compiler of Rattle an order.
+            # rustc follows the hint less often than the compiler of Rattle.
             self.cut(attribute.first, attribute.last)
             return self.put(attribute.first, "#[inline(always)]")
         if attribute.name in FOR_PROOFS or attribute.name == "error":
@@ -183,7 +186,7 @@ class Erased(Bodies):
         first, last = item.parameters
         for start, end in self.source.split(first, last):
             kind = self.source.text(start, end).partition(":")[2].strip()
-            if kind in ("Global", "HostRuntime", "&impl Abort", "&impl Print", "&E"):
+            if kind in NOT_PASSED:
                 following = self.source.at(end)
                 self.cut(start, end + 1 if following == "," else end)
         self.close_list(first, last)

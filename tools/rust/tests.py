@@ -190,6 +190,9 @@ class Tests(unittest.TestCase):
             ("self.old.have_output ≡ true → self.old.idx ≤ n", "!self.have_output() || self.idx() <= n"),
             ("c < 128", "u32::from(c) < 128"),
             ("IsSome self.old.positions", "self.have_positions()"),
+            ("self.old.positions ≡ None", "!self.have_positions()"),
+            ("n ≤ step.last_place self.old", "n <= self.backtrack_len() + self.lookahead_len()"),
+            ("AreCharacters self.old.input", "self.info().iter().all(|glyph| char::from_u32(glyph.glyph_id).is_some())"),
         ):
             self.assertEqual(test, reader.test_of(clause)[0])
         for clause in ("AreGlyphs list.now", "b < n", "n ≡ true", "length self.now.other ≤ n", "(i : ℕ) → i < n"):

@@ -298,3 +298,27 @@ fn glyphs_are_serialized() {
         "7=4294967295@0,-3+5|8=1+-5,2147483647"
     );
 }
+
+/// With `debug_assertions` a call whose condition does not hold ends in a panic.
+#[cfg(debug_assertions)]
+mod conditions {
+    use vukhaso::UnicodeBuffer;
+
+    #[test]
+    #[should_panic(expected = "0 < self.lookahead_len()")]
+    fn of_next_glyph() {
+        let _ = UnicodeBuffer::new().into_buffer().next_glyph();
+    }
+
+    #[test]
+    #[should_panic(expected = "self.have_output()")]
+    fn of_sync() {
+        let _ = UnicodeBuffer::new().into_buffer().sync();
+    }
+
+    #[test]
+    #[should_panic(expected = "start <= end")]
+    fn of_merge_clusters() {
+        UnicodeBuffer::new().into_buffer().merge_clusters(1, 0);
+    }
+}

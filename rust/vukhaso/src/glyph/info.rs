@@ -54,6 +54,7 @@ impl hb_glyph_info_t {
     /// ```
     #[inline]
     pub fn as_char(&self) -> char {
+        debug_assert!(char::from_u32(self.glyph_id).is_some());
         char::from_u32(self.glyph_id).unwrap()
     }
 

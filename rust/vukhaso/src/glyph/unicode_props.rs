@@ -43,6 +43,7 @@ impl hb_glyph_info_t {
         scratch_flags: &mut hb_buffer_scratch_flags_t,
         classes: &CombiningClasses,
     ) {
+        debug_assert!(char::from_u32(self.glyph_id).is_some());
         let c = self.as_char();
         let category = c.general_category();
         let mut props = category.to_rb() as u16;

@@ -24,6 +24,10 @@ fn is_neutral(script: Script) -> bool {
 /// ```
 #[inline]
 pub fn first_script(info: &[hb_glyph_info_t]) -> Option<Script> {
+    debug_assert!(
+        info.iter()
+            .all(|glyph| char::from_u32(glyph.glyph_id).is_some())
+    );
     info.iter()
         .map(|glyph| glyph.as_char().script())
         .find(|script| !is_neutral(*script))

@@ -1,7 +1,13 @@
 //! Each allocation refused in turn, by the global allocator of this test: a call that runs out of memory has changed
 //! nothing, and is then made again. The scenarios are those of the program `fault_runs`, written by
 //! `tools/plain_rust`.
-#![allow(clippy::style, clippy::complexity, unused_imports, dead_code)]
+#![allow(
+    clippy::style,
+    clippy::complexity,
+    unused_imports,
+    unused_variables,
+    dead_code
+)]
 
 use allocator::refusing;
 use fault_runs::growth::GROWTHS;
@@ -16,6 +22,9 @@ use fault_runs::written::Written;
 
 mod allocator;
 mod more;
+
+#[path = "../../examples/lines/shaping_session/mod.rs"]
+mod shaping_session;
 
 mod fault_runs {
     pub mod beginning;

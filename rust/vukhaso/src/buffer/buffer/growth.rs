@@ -21,6 +21,7 @@ impl hb_buffer_t {
     /// where memory ran out, which an empty text never asks for: then nothing changed.
     pub(crate) fn push_str(&mut self, text: &str) -> Result<bool, AllocError> {
         debug_assert!(!self.have_output());
+        debug_assert!(!self.have_positions());
         let more = count_characters(text);
         if more > self.max_len - self.sides.len() {
             self.successful = false;
@@ -71,6 +72,7 @@ impl hb_buffer_t {
     /// `Ok(false)` and `Err(AllocError)` come and leave the buffer as those of `push_str`.
     pub(crate) fn add(&mut self, codepoint: char, cluster: u32) -> Result<bool, AllocError> {
         debug_assert!(!self.have_output());
+        debug_assert!(!self.have_positions());
         if self.sides.len() >= self.max_len {
             self.successful = false;
             return Ok(false);

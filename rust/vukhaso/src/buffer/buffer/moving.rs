@@ -31,6 +31,7 @@ impl hb_buffer_t {
     /// ```
     #[inline]
     pub fn move_to(&mut self, i: usize) -> Result<bool, AllocError> {
+        debug_assert!(i <= self.backtrack_len() + self.lookahead_len());
         if !self.sides.is_open() {
             self.sides.go_to(i);
             return Ok(true);

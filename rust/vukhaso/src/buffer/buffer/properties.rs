@@ -55,6 +55,11 @@ impl hb_buffer_t {
     #[inline]
     pub fn guess_segment_properties(&mut self) {
         debug_assert!(!self.have_output());
+        debug_assert!(
+            self.info()
+                .iter()
+                .all(|glyph| char::from_u32(glyph.glyph_id).is_some())
+        );
         if self.script.is_none() {
             self.script = guess::first_script(self.sides.input());
         }

@@ -101,6 +101,7 @@ pub fn replace_in_place(buffer: &mut hb_buffer_t, id: u32) -> Result<bool, Alloc
 /// ```
 #[inline]
 pub fn move_in_place(buffer: &mut hb_buffer_t, i: usize) -> Result<bool, AllocError> {
+    debug_assert!(i <= buffer.backtrack_len() + buffer.lookahead_len());
     debug_assert!(!buffer.have_separate_output());
     buffer.move_to(i)
 }
