@@ -4,9 +4,14 @@
 //!
 //! Each function makes the rows of one table from the data of the kit's crate `ucd_normal` (Unicode 18).
 //! Its rows rise, so the table's `new` takes them, and what the table then answers is that crate's own word.
+mod canonical;
 mod mapping;
+mod mirror_rows;
+mod mirroring;
 mod rows;
 mod unicode_rows;
 
+pub use canonical::{compose, decompose};
+pub use mirroring::mirrors;
 pub use rows::{combining_classes, compositions, decompositions};
 pub use unicode_rows::UnicodeRows;

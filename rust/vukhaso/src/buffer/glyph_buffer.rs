@@ -117,13 +117,8 @@ impl GlyphBuffer {
     /// number alone, `NO_CLUSTERS` leaves the cluster out, `NO_POSITIONS` offsets and advances, and
     /// `NO_ADVANCES` the advances: then the sums of all earlier advances are added to the offsets.
     ///
-    /// With no glyph it never does.
-    ///
-    /// # Requires
-    ///
-    /// Numbers of at most 65535 where names or extents are written.
-    ///
-    /// - `asks_font flags ≡ true → AreGlyphs self.now.input`
+    /// A number past 65535 is no glyph's: the font is not asked for its name or its extents. With no glyph
+    /// it never does.
     ///
     /// # Errors
     ///

@@ -30,12 +30,7 @@ fn least_cluster(reads: &mut ClusterReads, start: usize, end: usize, first: u32,
 /// - `within: end ≤ length (both_clusters reads.old)`
 /// - `room: reads.old.reads < 2 ^ 100`
 #[inline(always)]
-pub(crate) fn run_start_before(
-    reads: &mut ClusterReads,
-    cluster: u32,
-    floor: usize,
-    end: usize,
-) -> usize {
+fn run_start_before(reads: &mut ClusterReads, cluster: u32, floor: usize, end: usize) -> usize {
     let mut start = end;
     while start > floor && reads.cluster(start - 1) == cluster {
         start -= 1;
@@ -50,7 +45,7 @@ pub(crate) fn run_start_before(
 /// - `within: start ≤ length (both_clusters reads.old)`
 /// - `room: reads.old.reads < 2 ^ 101`
 #[inline(always)]
-pub(crate) fn run_end_after(reads: &mut ClusterReads, cluster: u32, start: usize) -> usize {
+fn run_end_after(reads: &mut ClusterReads, cluster: u32, start: usize) -> usize {
     let len = reads.len();
     let mut end = start;
     while end < len && reads.cluster(end) == cluster {
@@ -108,4 +103,48 @@ pub fn merge_range(
         run_start_before(reads, first, floor, start)
     };
     (least, from, to)
+}
+
+/// What a merge of two glyphs changes: the run of the one in the higher cluster, which goes to the lower one.
+#[derive(Clone, Copy, PartialEq, Eq, Debug)]
+pub enum PairChange {
+    /// They share a cluster.
+    Nothing,
+    /// The second goes to this cluster, and its run up to its end, which is not in it.
+    Second(u32, usize),
+    /// The first goes to this cluster, and its run from its start on.
+    First(u32, usize),
+}
+
+/// What a merge of the two glyphs from `start` to `end` changes. The run of the first begins at `floor`
+/// or after it. The run of the glyph in the lower cluster stays, and is not walked: it reads no more
+/// than twice as many clusters as change, and four.
+///
+/// # Requires
+///
+/// - `fresh: reads.old.reads ≡ 0`
+/// - `pair: end ≡ start + 2`
+/// - `within: end ≤ length (reads.old.out ++ reads.old.input)`
+///
+/// # Proved
+///
+/// ```text
+/// ensures is { run_merge (reads.old.out ++ reads.old.input) start end floor
+///     ≡ pair_changed result start (reads.old.out ++ reads.old.input) }
+/// ensures range { IsPairRange result start (length (reads.old.out ++ reads.old.input)) }
+/// ensures same { SameLists reads.old reads.new }
+/// ensures cost { reads.new.reads ≤ 2 * changed_len result start + 4 }
+/// ```
+#[inline(always)]
+pub fn pair_change(reads: &mut ClusterReads, start: usize, end: usize, floor: usize) -> PairChange {
+    debug_assert!(end == start + 2);
+    let first = reads.cluster(start);
+    let last = reads.cluster(end - 1);
+    if first < last {
+        return PairChange::Second(first, run_end_after(reads, last, end));
+    }
+    if last < first {
+        return PairChange::First(last, run_start_before(reads, first, floor, start));
+    }
+    PairChange::Nothing
 }

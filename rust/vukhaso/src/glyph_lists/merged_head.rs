@@ -3,22 +3,24 @@
 //! The current glyph after a merge that changes no glyph behind it: mostly there is no need to write the others.
 
 use crate::glyph::hb_glyph_info_t;
+use crate::glyph_lists::cluster_reads::ClusterReads;
 use crate::glyph_lists::clusters::set_cluster;
 
 /// Whether the merge of the first two glyphs of the input leaves the first as it is, and all others
 /// that stay: its cluster is not the higher one, and that of the second, where it is, goes on in no run
-/// behind it.
+/// behind it. It reads three clusters at most, fewer than the merge may.
 ///
 /// # Requires
 ///
-/// - `2 ≤ length input.now`
+/// - `fresh: reads.old.reads ≡ 0`
+/// - `input_alone: reads.old.out ≡ []`
+/// - `pair: 2 ≤ length reads.old.input`
 #[inline(always)]
-fn pair_keeps_head(input: &[hb_glyph_info_t]) -> bool {
-    debug_assert!(2 <= input.len());
-    let head = input[0].cluster;
-    let next = input[1].cluster;
+fn pair_keeps_head(reads: &mut ClusterReads) -> bool {
+    let head = reads.cluster(0);
+    let next = reads.cluster(1);
     if head < next {
-        return input.len() == 2 || input[2].cluster != next;
+        return reads.len() == 2 || reads.cluster(2) != next;
     }
     head == next
 }
@@ -42,7 +44,24 @@ pub fn keeps_head(input: &[hb_glyph_info_t], count: usize, any_order: bool) -> b
     if count < 2 {
         return true;
     }
-    count == 2 && !any_order && pair_keeps_head(input)
+    count == 2 && !any_order && pair_keeps_head(&mut ClusterReads::new(&[], input))
+}
+
+/// Whether the merge of the two glyphs from `at` on lowers the first and no glyph before it: its
+/// cluster is the higher one, and no run of it ends before it. It reads three clusters at most, fewer
+/// than the merge may.
+///
+/// # Requires
+///
+/// - `fresh: reads.old.reads ≡ 0`
+/// - `within: at ≤ length reads.old.out + length reads.old.input`
+#[inline(always)]
+fn pair_lowers_head(reads: &mut ClusterReads, at: usize) -> bool {
+    if reads.len() - at < 2 {
+        return false;
+    }
+    let head = reads.cluster(at);
+    reads.cluster(at + 1) < head && (at == 0 || reads.cluster(at - 1) != head)
 }
 
 /// The current glyph as the merge of the input's first two glyphs lowers it. `None` where it does not,
@@ -65,13 +84,14 @@ pub fn lowered_head(
     any_order: bool,
 ) -> Option<hb_glyph_info_t> {
     debug_assert!(count <= input.len());
-    if count != 2 || any_order || input[0].cluster <= input[1].cluster {
+    if count != 2 || any_order {
+        return None;
+    }
+    let mut reads = ClusterReads::new(out, input);
+    if !pair_lowers_head(&mut reads, out.len()) {
         return None;
     }
     let mut head = input[0];
-    if !out.is_empty() && out[out.len() - 1].cluster == head.cluster {
-        return None;
-    }
     set_cluster(&mut head, input[1].cluster, 0);
     Some(head)
 }

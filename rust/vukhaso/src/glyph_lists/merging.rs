@@ -6,7 +6,7 @@ use crate::glyph::hb_glyph_info_t;
 use crate::glyph_lists::cluster_reads::ClusterReads;
 use crate::glyph_lists::clusters::{set_cluster, set_range, set_sides};
 use crate::glyph_lists::glyph_flags::{BREAK_BITS, scan_slice};
-use crate::glyph_lists::merge_range::{merge_range, run_end_after, run_start_before};
+use crate::glyph_lists::merge_range::{PairChange, merge_range, pair_change};
 
 /// Merges the glyphs from `start` to `end` of one list. It stands out of line, as most merges are of
 /// two glyphs.
@@ -53,14 +53,10 @@ fn merge_two(info: &mut [hb_glyph_info_t], start: usize, floor: usize) {
     debug_assert!(start + 2 <= info.len());
     let whole = &info[..];
     let mut reads = ClusterReads::new(&[], whole);
-    let first = reads.cluster(start);
-    let last = reads.cluster(start + 1);
-    if first < last {
-        let to = run_end_after(&mut reads, last, start + 2);
-        set_run(info, start + 1, to, first);
-    } else if last < first {
-        let from = run_start_before(&mut reads, first, floor, start);
-        set_run(info, from, start + 1, last);
+    match pair_change(&mut reads, start, start + 2, floor) {
+        PairChange::Nothing => {}
+        PairChange::Second(cluster, to) => set_run(info, start + 1, to, cluster),
+        PairChange::First(cluster, from) => set_run(info, from, start + 1, cluster),
     }
 }
 

@@ -72,8 +72,9 @@ fn shift_up(info: &mut Vec<hb_glyph_info_t>, start: usize, end: usize, at: usize
         .copy_within(start..end, at - (end - start));
 }
 
-/// Makes room for `ample` glyphs more, or where there is no memory for that, for `least`. Answers for
-/// how many.
+/// Makes room for more glyphs, from `least` to `ample` of them, and answers for how many. Where there
+/// is room for `least`, it takes what there is and asks for no memory. Else it asks for memory for
+/// `ample`, or where there is none for so many, for `least`.
 ///
 /// # Requires
 ///
@@ -84,6 +85,10 @@ pub(crate) fn reserve_ample(
     ample: usize,
 ) -> Result<usize, AllocError> {
     debug_assert!(least <= ample);
+    let spare = info.capacity() - info.len();
+    if least <= spare {
+        return Ok(ample.min(spare));
+    }
     if info.reserve(ample).is_ok() {
         return Ok(ample);
     }

@@ -3,6 +3,7 @@
 //! Glyphs as a text.
 
 use crate::bitflags::Flags;
+use crate::common::GlyphId;
 use crate::glyph::{
     GlyphExtents, GlyphNames, GlyphPosition, SerializeFlags, glyph_flag, hb_glyph_info_t,
 };
@@ -67,14 +68,13 @@ const LIKELY_LENGTH: usize = 16;
 ///
 /// Under `NO_ADVANCES` the sums of all earlier advances are added to the offsets.
 ///
-/// With no glyph it never does.
+/// A number past 65535 is no glyph's: the font is not asked for it. With no glyph it never does.
 ///
 /// # Requires
 ///
-/// As many positions as glyphs, and numbers of at most 65535 where names or extents are written.
+/// As many positions as glyphs.
 ///
-/// - `as_many: length positions.now ≡ length infos.now`
-/// - `glyphs: asks_font flags ≡ true → AreGlyphs infos.now`
+/// - `length positions.now ≡ length infos.now`
 ///
 /// # Errors
 ///
@@ -106,7 +106,6 @@ pub fn glyphs_text<F: GlyphNames>(
 /// # Requires
 ///
 /// - `as_many: length positions.now ≡ length infos.now`
-/// - `glyphs: asks_font flags ≡ true → AreGlyphs infos.now`
 /// - `empty: string_bytes text.old ≡ []`
 fn write_glyphs<F: GlyphNames>(
     text: &mut String,
@@ -129,10 +128,6 @@ fn write_glyphs<F: GlyphNames>(
 }
 
 /// The name of a glyph and its cluster, and what stands before them.
-///
-/// # Requires
-///
-/// - `has flags NO_GLYPH_NAMES ≡ false → info.now.glyph_id ≤ 65535`
 fn write_head<F: GlyphNames>(
     text: &mut String,
     font: &F,
@@ -194,22 +189,39 @@ fn write_number<I: Integer>(text: &mut String, number: I) -> Result<(), AllocErr
 }
 
 /// The name of a glyph, or its number where the font has none.
-///
-/// # Requires
-///
-/// - `info.now.glyph_id ≤ 65535`
 fn write_name<F: GlyphNames>(
     text: &mut String,
     font: &F,
     info: &hb_glyph_info_t,
 ) -> Result<(), AllocError> {
-    debug_assert!(info.glyph_id <= 65535);
-    match font.glyph_name(info.as_glyph()) {
+    match name_of(font, info) {
         Some(name) => text.push_str(name),
         None => {
             text.push_str("gid")?;
             write_number(text, info.glyph_id)
         }
+    }
+}
+
+/// The glyph of this number; none past 16 bits.
+fn glyph_of(info: &hb_glyph_info_t) -> Option<GlyphId> {
+    let number = u16::try_from(info.glyph_id).ok()?;
+    Some(GlyphId(number))
+}
+
+/// The name of a glyph, where the font has one for it.
+fn name_of<'a, F: GlyphNames>(font: &'a F, info: &hb_glyph_info_t) -> Option<&'a str> {
+    match glyph_of(info) {
+        Some(glyph) => font.glyph_name(glyph),
+        None => None,
+    }
+}
+
+/// The extents of a glyph, where the font knows them.
+fn extents_of<F: GlyphNames>(font: &F, info: &hb_glyph_info_t) -> Option<GlyphExtents> {
+    match glyph_of(info) {
+        Some(glyph) => font.glyph_extents(glyph),
+        None => None,
     }
 }
 
@@ -271,9 +283,6 @@ fn write_flags(
     write_behind(text, '#', defined)
 }
 
-/// # Requires
-///
-/// - `has flags GLYPH_EXTENTS ≡ true → info.now.glyph_id ≤ 65535`
 fn write_extents<F: GlyphNames>(
     text: &mut String,
     font: &F,
@@ -283,7 +292,7 @@ fn write_extents<F: GlyphNames>(
     if !flags.contains(SerializeFlags::GLYPH_EXTENTS) {
         return Ok(());
     }
-    let extents = font.glyph_extents(info.as_glyph()).unwrap_or(GlyphExtents {
+    let extents = extents_of(font, info).unwrap_or(GlyphExtents {
         x_bearing: 0,
         y_bearing: 0,
         width: 0,

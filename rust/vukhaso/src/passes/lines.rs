@@ -11,7 +11,8 @@ use crate::memory::{AllocError, Vec};
 /// at which it may. The last width is that of the lines after it too, and with no width at all nothing
 /// is cut. Widths and advances are in the units of the font.
 ///
-/// Lines are taken along the list, so a text from right to left is to be reversed before.
+/// Lines are taken along the list, so a text from right to left is to be reversed before. A text with
+/// no glyph takes no memory.
 ///
 /// # Requires
 ///
@@ -27,6 +28,7 @@ use crate::memory::{AllocError, Vec};
 /// ensures exact { IfOk result (λ ends. ends.items ≡ places.line_ends glyphs.now positions.now widths.now) }
 /// ensures cuts { IfOk result (λ ends. list_all (places.may_end glyphs.now) ends.items ≡ true) }
 /// ensures rises { IfOk result (λ ends. rise nat_lt ends.items ≡ true) }
+/// ensures memory { OnErr result (0 < length glyphs.now) }
 /// ```
 pub fn line_ends(
     glyphs: &[hb_glyph_info_t],

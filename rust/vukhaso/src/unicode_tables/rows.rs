@@ -21,7 +21,8 @@ fn decomposition_row(c: char) -> Option<(char, char, Option<char>)> {
     mapping(c).map(|parts| (c, parts.0, parts.1))
 }
 
-/// The rows of `CombiningClasses`: each character with a class other than 0.
+/// The rows of `CombiningClasses`: each character with a class other than 0. Memory is asked for where
+/// there is a row.
 ///
 /// # Errors
 ///
@@ -33,6 +34,7 @@ fn decomposition_row(c: char) -> Option<(char, char, Option<char>)> {
 /// ensures rises { IfOk result (λ rows. IsTrue (keys_rise rows.items)) }
 /// ensures exact { IfOk result (λ rows. (c : ℕ) → IsScalar c
 ///     → find (λ row. row.0 == c) rows.items ≡ class_row c) }
+/// ensures memory { OnErr result HasClasses }
 /// ```
 #[inline]
 pub fn combining_classes() -> Result<Vec<(char, u8)>, AllocError> {
@@ -48,7 +50,7 @@ pub fn combining_classes() -> Result<Vec<(char, u8)>, AllocError> {
 }
 
 /// The rows of `Decompositions`: each character with a canonical decomposition, and its parts in one
-/// step.
+/// step. Memory is asked for where there is a row.
 ///
 /// # Errors
 ///
@@ -60,6 +62,7 @@ pub fn combining_classes() -> Result<Vec<(char, u8)>, AllocError> {
 /// ensures rises { IfOk result (λ rows. IsTrue (decompositions_rise rows.items)) }
 /// ensures exact { IfOk result (λ rows. (c : ℕ) → IsScalar c
 ///     → find (λ row. row.0 == c) rows.items ≡ decomposition_row c) }
+/// ensures memory { OnErr result HasDecompositions }
 /// ```
 #[inline]
 pub fn decompositions() -> Result<Vec<(char, char, Option<char>)>, AllocError> {
@@ -93,12 +96,16 @@ fn pair_of(c: char) -> Option<(char, char)> {
     composed_parts(c, mapping(c))
 }
 
-/// The entries of a map, in the order of their pairs.
+/// The entries of a map, in the order of their pairs. An empty map takes no memory.
 fn entries(pairs: BTreeMap<(char, char), char>) -> Result<Vec<((char, char), char)>, AllocError> {
+    if pairs.is_empty() {
+        return Ok(Vec::new());
+    }
     pairs.into_iter().try_into_vec()
 }
 
-/// The rows of `Compositions`: each pair that composes, and the character that it composes to.
+/// The rows of `Compositions`: each pair that composes, and the character that it composes to. Memory
+/// is asked for where there is a row.
 ///
 /// # Errors
 ///
@@ -109,6 +116,7 @@ fn entries(pairs: BTreeMap<(char, char), char>) -> Result<Vec<((char, char), cha
 /// ```text
 /// ensures rises { IfOk result (λ rows. IsTrue (pairs_rise rows.items)) }
 /// ensures exact { IfOk result (λ rows. (a b : ℕ) → composition_of a b rows.items ≡ composite a b) }
+/// ensures memory { OnErr result HasCompositions }
 /// ```
 #[inline]
 pub fn compositions() -> Result<Vec<((char, char), char)>, AllocError> {

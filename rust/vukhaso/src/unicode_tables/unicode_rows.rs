@@ -32,11 +32,14 @@ impl UnicodeRows {
     ///
     /// # Errors
     ///
-    /// Fails if it runs out of memory. `Err(AllocError)` where memory ran out.
+    /// It fails only where memory runs out for a row of one of them. `Err(AllocError)` where memory ran
+    /// out.
     ///
     /// # Proved
     ///
-    /// That it returns.
+    /// ```text
+    /// ensures memory { OnErr result (HasClasses ⊎ (HasDecompositions ⊎ HasCompositions)) }
+    /// ```
     #[inline]
     pub fn new() -> Result<Self, AllocError> {
         let classes = combining_classes()?;

@@ -10,7 +10,8 @@ use vukhaso::text::{
     tags_from_script_and_language,
 };
 
-/// The feature that a text reads as: its tag in hexadecimal digits, its value, its start and its end.
+/// The feature that a text reads as: its tag in hexadecimal digits, its value, its start and its end. A
+/// text that is none takes no memory.
 ///
 /// # Errors
 ///
@@ -19,7 +20,8 @@ use vukhaso::text::{
 /// # Proved
 ///
 /// ```text
-/// ensures { IfOk result (λ reply. AnswersFeature text.now (reply_text reply)) }
+/// ensures answer { IfOk result (λ reply. AnswersFeature text.now (reply_text reply)) }
+/// ensures memory { OnErr result ((f : Feature) × ReadsAs text.now f) }
 /// ```
 #[inline]
 pub fn feature(text: &str) -> Result<Reply, AllocError> {
@@ -101,7 +103,8 @@ fn write_tag(text: &mut String, tag: u32) -> Result<(), AllocError> {
     write!(text, " {tag}")
 }
 
-/// The character that two characters compose to by the rule of Hangul alone, in hexadecimal digits.
+/// The character that two characters compose to by the rule of Hangul alone, in hexadecimal digits. Two
+/// that do not compose take no memory.
 ///
 /// # Errors
 ///
@@ -110,7 +113,8 @@ fn write_tag(text: &mut String, tag: u32) -> Result<(), AllocError> {
 /// # Proved
 ///
 /// ```text
-/// ensures { IfOk result (λ reply. AnswersCompose a b (reply_text reply)) }
+/// ensures answer { IfOk result (λ reply. AnswersCompose a b (reply_text reply)) }
+/// ensures memory { OnErr result (¬ ((s : ℕ) → ¬ HangulComposes s a b)) }
 /// ```
 #[inline]
 pub fn compose(a: char, b: char) -> Result<Reply, AllocError> {
@@ -122,7 +126,7 @@ pub fn compose(a: char, b: char) -> Result<Reply, AllocError> {
 }
 
 /// The two characters that a character decomposes to by the rule of Hangul alone, in hexadecimal
-/// digits.
+/// digits. One that does not decompose takes no memory.
 ///
 /// # Errors
 ///
@@ -131,7 +135,8 @@ pub fn compose(a: char, b: char) -> Result<Reply, AllocError> {
 /// # Proved
 ///
 /// ```text
-/// ensures { IfOk result (λ reply. AnswersDecompose c (reply_text reply)) }
+/// ensures answer { IfOk result (λ reply. AnswersDecompose c (reply_text reply)) }
+/// ensures memory { OnErr result (¬ ((a b : ℕ) → ¬ HangulComposes c a b)) }
 /// ```
 #[inline]
 pub fn decompose(c: char) -> Result<Reply, AllocError> {

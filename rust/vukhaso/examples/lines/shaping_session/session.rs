@@ -82,7 +82,7 @@ impl Session {
                 let reply = Reply::of_bool(buffer.push_str(text)?);
                 Ok((Session::Text(buffer), reply))
             }
-            Session::Turned(buffer) => Ok((Session::Turned(buffer), Reply::outside())),
+            Session::Turned(turned) => Ok((Session::Turned(turned), Reply::outside())),
         }
     }
 
@@ -186,8 +186,7 @@ fn flags_of(number: u8) -> SerializeFlags {
 ///
 /// # Requires
 ///
-/// - `closed: buffer.have_output ≡ false`
-/// - `glyphs: of_glyphs.asks_font flags ≡ true → AreGlyphs buffer.input`
+/// - `buffer.have_output ≡ false`
 fn print_glyphs(
     flags: SerializeFlags,
     buffer: hb_buffer_t,

@@ -41,9 +41,10 @@ impl Sides {
     }
 
     /// Out of a separate output they go into the places before the cursor, where glyphs were read, or that
-    /// stand free. Where these are too few, the input first moves up, by as many places as it has glyphs,
-    /// or as it takes back, so that many such moves together take no longer than the glyphs that they take
-    /// back. Where there is no memory for so many, it moves up by those that are missing.
+    /// stand free. Where these are too few, the input first moves up into the room behind it, by as many
+    /// places as it has glyphs, or as it takes back, so that many such moves together take no longer than
+    /// the glyphs that they take back. Memory is asked for only where that room is too small for the places
+    /// that are missing; where there is none for so many, the input moves up by those that are missing.
     ///
     /// # Requires
     ///

@@ -30,6 +30,7 @@ use crate::memory::AllocError;
 ///     ≡ composed compositions.now classes.now (cores buffer.old.input) }
 /// ensures glyphs { buffer.old.successful ≡ true → buffer.new.input
 ///     ≡ composed_glyphs (any_order buffer.old) compositions.now classes.now buffer.old.input }
+/// ensures monotone { IsMonotone buffer.old.input → IsMonotone buffer.new.input }
 /// ensures merges { any_order buffer.old ≡ false → IsCoarse buffer.old.input
 ///     → IsCoarse buffer.new.input }
 /// ensures others { buffer.old.successful ≡ true

@@ -27,8 +27,8 @@ type Parts = ArrayVec<u32, 9>;
 ///
 /// `Ok(false)` after an earlier refusal, with nothing changed, and where the list would grow too long:
 /// then the output stays open, with the decompositions that fit, and what was not read is left in the
-/// input. The same stands where memory runs out, which it does only where the list becomes longer.
-/// `Err(AllocError)` where memory ran out.
+/// input. The same stands where memory runs out, which it does only where the list becomes longer, and
+/// longer than its room. `Err(AllocError)` where memory ran out.
 ///
 /// # Proved
 ///

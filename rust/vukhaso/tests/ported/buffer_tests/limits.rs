@@ -59,6 +59,8 @@ fn limits_follow_the_length() {
 #[test]
 fn ligatures_have_numbers_from_one_to_seven() {
     let mut buffer = hb_buffer_t::new();
+    buffer.serial = 7;
+    assert!((buffer.allocate_lig_id(), buffer.serial) == (1, 9));
     buffer.serial = 254;
     assert!((buffer.allocate_lig_id(), buffer.serial) == (7, 255));
     assert!((buffer.allocate_lig_id(), buffer.serial) == (1, 1));

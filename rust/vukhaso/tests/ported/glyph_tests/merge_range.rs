@@ -2,7 +2,7 @@
 
 use crate::glyph_tests::lists::glyphs;
 use vukhaso::glyph_lists::cluster_reads::ClusterReads;
-use vukhaso::glyph_lists::merge_range::merge_range;
+use vukhaso::glyph_lists::merge_range::{PairChange, merge_range, pair_change};
 
 #[test]
 fn a_range_is_widened_through_the_runs_at_its_ends() {
@@ -18,5 +18,22 @@ fn a_range_is_widened_through_the_runs_at_its_ends() {
         assert!(cut <= 4 && start + 2 <= end && end <= 4);
         let mut reads = ClusterReads::new(&list[..cut], &list[cut..]);
         assert!(merge_range(&mut reads, start, end, floor) == want);
+    }
+}
+
+#[test]
+fn of_two_glyphs_the_run_of_the_higher_one_changes() {
+    let rows = [
+        (0, [4, 3, 3, 1], 0, 0, PairChange::First(3, 0)),
+        (0, [1, 2, 2, 2], 0, 0, PairChange::Second(1, 4)),
+        (2, [3, 2, 2, 1], 2, 0, PairChange::First(1, 1)),
+        (2, [3, 2, 2, 1], 2, 2, PairChange::First(1, 2)),
+        (1, [1, 1, 2, 3], 0, 0, PairChange::Nothing),
+    ];
+    for (cut, clusters, start, floor, want) in rows {
+        let list = glyphs(clusters);
+        assert!(cut <= 4 && start <= 2);
+        let mut reads = ClusterReads::new(&list[..cut], &list[cut..]);
+        assert!(pair_change(&mut reads, start, start + 2, floor) == want);
     }
 }

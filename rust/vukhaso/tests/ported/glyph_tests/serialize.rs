@@ -73,11 +73,6 @@ five#3<1,-2,3,-4>|gid6<0,0,0,0>\n\
 5#3<1,-2,3,-4>|6<0,0,0,0>\n\
 ";
 
-/// Whether the ids are numbers of glyphs.
-fn are_glyphs(infos: &[hb_glyph_info_t]) -> bool {
-    infos.iter().all(|info| info.glyph_id <= 65535)
-}
-
 fn glyph_five() -> hb_glyph_info_t {
     hb_glyph_info_t {
         glyph_id: 5,
@@ -104,7 +99,25 @@ fn placed() -> GlyphPosition {
     }
 }
 
-/// The text of the glyph 65535, the highest that a name may be asked of, and of no glyph.
+/// The text of a number past 16 bits, which is that of no glyph although its low 16 bits are the number
+/// of one.
+#[test]
+fn a_number_past_16_bits_has_no_name() -> Result<(), Fail> {
+    let info = hb_glyph_info_t {
+        glyph_id: 0x1_0005,
+        ..hb_glyph_info_t::default()
+    };
+    let text = glyphs_text(
+        &Five,
+        SerializeFlags::GLYPH_EXTENTS,
+        &[info],
+        &[GlyphPosition::default()],
+    )?;
+    assert!(text.as_str() == "gid65541=0+0<0,0,0,0>");
+    Ok(())
+}
+
+/// The text of the glyph 65535, the highest that a name is asked of, and of no glyph.
 #[test]
 fn the_highest_glyph_is_named_by_its_number() -> Result<(), Fail> {
     let info = hb_glyph_info_t {
@@ -125,8 +138,6 @@ fn the_highest_glyph_is_named_by_its_number() -> Result<(), Fail> {
 fn each_set_of_flags_tells_its_pieces() -> Result<(), Fail> {
     let infos = [glyph_five(), glyph_six()];
     let positions = [placed(), GlyphPosition::default()];
-    let in_range = are_glyphs(&infos);
-    assert!(in_range);
     for (bits, want) in (0u8..64).zip(TEXTS.lines()) {
         let flags = SerializeFlags::from_bits_retain(bits);
         let text = glyphs_text(&Five, flags, &infos, &positions)?;

@@ -7,6 +7,8 @@ mod kerning;
 #[cfg(test)]
 mod lines;
 #[cfg(test)]
+mod mark_order;
+#[cfg(test)]
 mod normalization;
 #[cfg(test)]
 mod substitution;

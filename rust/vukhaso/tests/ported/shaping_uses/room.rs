@@ -24,6 +24,8 @@ use vukhaso::memory::AllocError;
 /// # Proved
 ///
 /// ```text
+/// ensures marks { result ≡ Ok true
+///     → buffer.new.input ≡ with_marks mark buffer.old.input }
 /// ensures twice { result ≡ Ok true → length buffer.new.input ≡ 2 * length buffer.old.input }
 /// ensures long { result ≡ Ok false → buffer.old.max_len < 2 * length buffer.old.input }
 /// ensures refused { result ≡ Ok false → buffer.new ≡ buffer.old }
@@ -60,6 +62,7 @@ pub fn put_marks(buffer: &mut hb_buffer_t, mark: u32) -> Result<bool, AllocError
 ///
 /// ```text
 /// ensures done { result ≡ Ok true }
+/// ensures marks { buffer.new.input ≡ with_marks mark buffer.old.input }
 /// ensures twice { length buffer.new.input ≡ 2 * length buffer.old.input }
 /// ```
 #[inline]

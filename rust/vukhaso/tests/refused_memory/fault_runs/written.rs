@@ -4,7 +4,7 @@
 
 use crate::fault_runs::beginning::begun_buffer;
 use crate::fault_runs::scenario::{Lost, Scenario};
-use vukhaso::buffer::{Flags, GlyphBuffer, SerializeFlags, hb_glyph_info_t};
+use vukhaso::buffer::{Flags, GlyphBuffer, SerializeFlags};
 use vukhaso::glyph::{GlyphExtents, GlyphNames};
 use vukhaso::memory::{AllocError, String, Vec};
 use vukhaso::text::GlyphId;
@@ -90,14 +90,6 @@ fn glyphs() -> Result<GlyphBuffer, Lost> {
 }
 
 fn write(glyphs: &GlyphBuffer, bits: u8) -> Result<String, Lost> {
-    if !are_glyphs(glyphs.glyph_infos()) {
-        return Err(Lost::Refusal);
-    }
     let flags = SerializeFlags::from_bits_retain(bits);
     Ok(glyphs.serialize(&Known, flags)?)
-}
-
-/// Whether the ids are numbers of glyphs.
-fn are_glyphs(infos: &[hb_glyph_info_t]) -> bool {
-    infos.iter().all(|info| info.glyph_id <= 65535)
 }

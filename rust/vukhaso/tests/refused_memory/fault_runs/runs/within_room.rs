@@ -28,9 +28,7 @@ pub static WITHIN_ROOM: [Run<'static>; 4] = [
         ..PLAIN
     },
     Run {
-        // A rewind asks for more than it wants, and does with less.
         name: "rewinds past the cursor within their room",
-        least: 4,
         ensured: 20,
         calls: &[
             Call::ClearOutput,
@@ -46,9 +44,7 @@ pub static WITHIN_ROOM: [Run<'static>; 4] = [
         ..PLAIN
     },
     Run {
-        // A rewind asks for more than it wants, and does with less.
         name: "a separate output up to the last place of its room",
-        least: 4,
         ensured: 12,
         calls: &[
             Call::ClearOutput,
