@@ -21,12 +21,20 @@ mod unicode;
 #[allow(clippy::style, clippy::complexity)]
 pub mod buffer;
 #[allow(clippy::style, clippy::complexity)]
+pub mod character_maps;
+#[allow(clippy::style, clippy::complexity)]
 pub mod common;
+#[allow(clippy::style, clippy::complexity)]
+pub mod font_shaper;
+#[allow(clippy::style, clippy::complexity)]
+pub mod font_tables;
 #[allow(clippy::style, clippy::complexity)]
 pub mod glyph;
 #[allow(clippy::style, clippy::complexity)]
 #[doc(hidden)]
 pub mod glyph_lists;
+#[allow(clippy::style, clippy::complexity)]
+pub mod glyph_outlines;
 #[allow(clippy::style, clippy::complexity)]
 #[doc(hidden)]
 pub mod glyph_sides;

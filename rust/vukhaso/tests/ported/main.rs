@@ -6,8 +6,10 @@
 type Fail = Box<dyn std::error::Error>;
 
 mod buffer_tests;
+mod font_tests;
 mod glyph_tests;
 mod pass_tests;
+mod shaper_tests;
 mod shaping_uses;
 mod text_tests;
 mod unicode_tests;

@@ -1,0 +1,71 @@
+// Written by tools/plain_rust from crates/character_maps. Do not edit.
+
+//! Groups of codes, each with its first and last code and a glyph (OpenType specification, `cmap`, "Format 12" and
+//! "Format 13").
+
+use crate::character_maps::arrays::some_glyph;
+use crate::character_maps::counts::count_32;
+use crate::font_tables::bytes::u32_at;
+use crate::font_tables::rows::{Rows, first_row, rises};
+
+/// The groups of a subtable.
+#[derive(Clone, Copy, Debug)]
+pub(crate) struct Groups<'a>(&'a [u8]);
+
+///
+/// # Proved
+///
+/// ```text
+/// ghost last_of = { λ groups row. group_end groups.0.now row }
+/// ```
+impl Rows for Groups<'_> {
+    fn last(&self, row: usize) -> Option<u32> {
+        if row < self.0.len() / 12 {
+            u32_at(self.0, 20 + 12 * row)
+        } else {
+            None
+        }
+    }
+}
+
+/// How many groups there are.
+fn group_count(table: &[u8]) -> usize {
+    count_32(table, 12)
+}
+
+/// Whether the groups' last codes rise.
+pub(crate) fn groups_rise(table: &[u8]) -> bool {
+    rises(&Groups(table), group_count(table))
+}
+
+/// The glyph that a group gives to a code that it reaches.
+fn glyph_in_group(format: u16, code: u32, start: u32, glyph: u32) -> Option<u16> {
+    if code < start {
+        None
+    } else if format == 12 {
+        some_glyph(u64::from(glyph) + u64::from(code - start))
+    } else {
+        some_glyph(u64::from(glyph))
+    }
+}
+
+/// The glyph that a row gives to a code that it reaches.
+fn group_glyph(table: &[u8], format: u16, code: u32, row: usize) -> Option<u16> {
+    if row < table.len() / 12 {
+        let start = u32_at(table, 16 + 12 * row)?;
+        let glyph = u32_at(table, 24 + 12 * row)?;
+        glyph_in_group(format, code, start, glyph)
+    } else {
+        None
+    }
+}
+
+/// The glyph of a code by format 12 or 13.
+///
+/// # Requires
+///
+/// - `IsTrue are_rising → Rises (group_end table.now) (group_count table.now)`
+pub(crate) fn groups_glyph(table: &[u8], format: u16, code: u32, are_rising: bool) -> Option<u16> {
+    let row = first_row(&Groups(table), group_count(table), code, are_rising)?;
+    group_glyph(table, format, code, row)
+}

@@ -1,0 +1,113 @@
+// Written by tools/plain_rust from crates/character_maps. Do not edit.
+
+//! The map from characters to glyphs.
+
+use crate::character_maps::choice::{choose, variation_subtable};
+use crate::character_maps::codes::{Encoding, other_code, own_code};
+use crate::character_maps::subtable::{rows_rise, subtable_glyph};
+use crate::character_maps::variations::{GlyphVariant, glyph_variant, variations_rise};
+use crate::common::GlyphId;
+
+/// The map from characters to glyphs of a font (OpenType specification, `cmap`).
+///
+/// # Proved
+///
+/// ```text
+/// ghost rows: { IsTrue rows_rise → RowsRise subtable.now }
+/// ghost selectors: { IsTrue variations_rise → VariationsRise variations.now }
+/// ```
+#[derive(Clone, Copy, Debug)]
+pub struct CharacterMap<'a> {
+    /// The subtable that was chosen, from its format on; empty where the font has none that is understood.
+    pub subtable: &'a [u8],
+    /// What the codes of the subtable stand for.
+    pub encoding: Encoding,
+    /// The subtable of variation sequences, from its format on; empty where the font has none.
+    pub variations: &'a [u8],
+    rows_rise: bool,
+    variations_rise: bool,
+}
+
+impl<'a> CharacterMap<'a> {
+    /// The map of a font, from its table `cmap`.
+    ///
+    /// `font_page` says what the codes of a symbol font are: `fsSelection & 0xFF00` of a table `OS/2` of
+    /// version 0, and 0 for any other font.
+    ///
+    /// One subtable is chosen, as HarfBuzz chooses it: symbols, then all of Unicode, then its first 65,536
+    /// characters, and then the Macintosh's encodings. A subtable that does not lie whole in the table is
+    /// not there.
+    ///
+    /// # Proved
+    ///
+    /// ```text
+    /// ensures subtable { result.subtable.now ≡ chosen_subtable cmap.now }
+    /// ensures encoding { result.encoding ≡ chosen_encoding cmap.now font_page }
+    /// ensures variations { result.variations.now ≡ variation_subtable cmap.now }
+    /// ```
+    #[inline]
+    pub fn parse(cmap: &'a [u8], font_page: u16) -> Self {
+        let choice = choose(cmap, font_page);
+        let variations = variation_subtable(cmap);
+        CharacterMap {
+            subtable: choice.subtable,
+            encoding: choice.encoding,
+            variations,
+            rows_rise: rows_rise(choice.subtable),
+            variations_rise: variations_rise(variations),
+        }
+    }
+
+    /// The glyph of a character; `None` where the font has none.
+    ///
+    /// # Proved
+    ///
+    /// ```text
+    /// ensures { option_map (λ glyph. glyph.0) result
+    ///     ≡ glyph_index self.now.subtable.now self.now.encoding character }
+    /// ```
+    #[inline]
+    pub fn glyph_index(&self, character: u32) -> Option<GlyphId> {
+        let glyph = match self.glyph_of_code(own_code(self.encoding, character)) {
+            Some(glyph) => Some(glyph),
+            None => self.glyph_of_code(other_code(self.encoding, character)),
+        };
+        glyph.map(GlyphId)
+    }
+
+    /// The glyph of a code, if there is a code.
+    fn glyph_of_code(&self, code: Option<u32>) -> Option<u16> {
+        let code = code?;
+        subtable_glyph(self.subtable, code, self.rows_rise)
+    }
+
+    /// What the font says of a character before a variation selector.
+    ///
+    /// # Proved
+    ///
+    /// ```text
+    /// ensures { result ≡ glyph_variant self.now.variations.now character selector }
+    /// ```
+    #[inline]
+    pub fn glyph_variant(&self, character: u32, selector: u32) -> GlyphVariant {
+        glyph_variant(self.variations, character, selector, self.variations_rise)
+    }
+
+    /// The glyph of a character before a variation selector; `None` where the font does not have that
+    /// variation sequence, or no glyph for it.
+    ///
+    /// # Proved
+    ///
+    /// ```text
+    /// ensures { option_map (λ glyph. glyph.0) result
+    ///     ≡ glyph_variation_index self.now.subtable.now self.now.encoding self.now.variations.now character selector }
+    /// ```
+    #[inline]
+    pub fn glyph_variation_index(&self, character: u32, selector: u32) -> Option<GlyphId> {
+        match self.glyph_variant(character, selector) {
+            GlyphVariant::NotFound => None,
+            GlyphVariant::Found(glyph) => Some(glyph),
+            GlyphVariant::UseDefault => self.glyph_index(character),
+        }
+    }
+}

@@ -1,0 +1,154 @@
+// Written by tools/plain_rust from crates/font_shaper. Do not edit.
+
+//! What the steps of shaping ask of an item, and set: its Unicode properties, in the bits that HarfBuzz's
+//! `hb-ot-layout.hh` gives them.
+
+use crate::buffer::{CombiningClasses, Flags, GlyphPropsFlags, UnicodeProps, hb_glyph_info_t};
+use crate::glyph::hb_gc::{
+    RB_UNICODE_GENERAL_CATEGORY_DECIMAL_NUMBER, RB_UNICODE_GENERAL_CATEGORY_ENCLOSING_MARK,
+    RB_UNICODE_GENERAL_CATEGORY_FORMAT, RB_UNICODE_GENERAL_CATEGORY_LOWERCASE_LETTER,
+    RB_UNICODE_GENERAL_CATEGORY_NON_SPACING_MARK, RB_UNICODE_GENERAL_CATEGORY_SPACE_SEPARATOR,
+    RB_UNICODE_GENERAL_CATEGORY_SPACING_MARK, RB_UNICODE_GENERAL_CATEGORY_UPPERCASE_LETTER,
+};
+use crate::glyph::space_t;
+use crate::ucd_normal::canonical_combining_class;
+
+/// The number of the general category.
+pub(crate) fn general_category(info: &hb_glyph_info_t) -> u32 {
+    u32::from(info.unicode_props() & UnicodeProps::GENERAL_CATEGORY.bits())
+}
+
+/// Sets the general category, and takes away what the high byte says.
+fn set_general_category(info: &mut hb_glyph_info_t, category: u16) {
+    let low = 0xFF & !UnicodeProps::GENERAL_CATEGORY.bits();
+    info.set_unicode_props(category | info.unicode_props() & low);
+}
+
+/// Sets the properties of an item that is not shaped yet, and adds what is to be remembered of it.
+pub(crate) fn set_unicode_props(info: &mut hb_glyph_info_t, scratch_flags: &mut u32) {
+    let Some(character) = char::from_u32(info.glyph_id) else {
+        return;
+    };
+    let row = [(character, canonical_combining_class(character))];
+    if let Some(classes) = CombiningClasses::new(&row) {
+        info.init_unicode_props(scratch_flags, &classes);
+    }
+}
+
+/// Whether the character is a mark.
+pub(crate) fn is_unicode_mark(info: &hb_glyph_info_t) -> bool {
+    matches!(
+        general_category(info),
+        RB_UNICODE_GENERAL_CATEGORY_SPACING_MARK
+            | RB_UNICODE_GENERAL_CATEGORY_ENCLOSING_MARK
+            | RB_UNICODE_GENERAL_CATEGORY_NON_SPACING_MARK
+    )
+}
+
+/// Whether the character is a mark without width.
+pub(crate) fn is_nonspacing_mark(info: &hb_glyph_info_t) -> bool {
+    general_category(info) == RB_UNICODE_GENERAL_CATEGORY_NON_SPACING_MARK
+}
+
+/// Whether the character is a letter.
+pub(crate) fn is_letter(info: &hb_glyph_info_t) -> bool {
+    let category = general_category(info);
+    RB_UNICODE_GENERAL_CATEGORY_LOWERCASE_LETTER <= category
+        && category <= RB_UNICODE_GENERAL_CATEGORY_UPPERCASE_LETTER
+}
+
+/// Whether the character is a decimal digit.
+pub(crate) fn is_decimal_number(info: &hb_glyph_info_t) -> bool {
+    general_category(info) == RB_UNICODE_GENERAL_CATEGORY_DECIMAL_NUMBER
+}
+
+/// Whether the character is a regional indicator, two of which make a flag.
+pub(crate) fn is_regional_indicator(info: &hb_glyph_info_t) -> bool {
+    0x1F1E6 <= info.glyph_id && info.glyph_id <= 0x1F1FF
+}
+
+/// The class by which a mark is reordered; 0 for any other character.
+pub(crate) fn modified_combining_class(info: &hb_glyph_info_t) -> u16 {
+    if is_unicode_mark(info) {
+        info.unicode_props() >> 8
+    } else {
+        0
+    }
+}
+
+/// Whether the character goes on with the grapheme before it.
+pub(crate) fn is_continuation(info: &hb_glyph_info_t) -> bool {
+    info.unicode_props() & UnicodeProps::CONTINUATION.bits() != 0
+}
+
+/// Says that the character goes on with the grapheme before it.
+pub(crate) fn set_continuation(info: &mut hb_glyph_info_t) {
+    info.set_unicode_props(info.unicode_props() | UnicodeProps::CONTINUATION.bits());
+}
+
+/// Whether the second item goes on with the grapheme of the first.
+pub(crate) fn is_same_grapheme(_first: &hb_glyph_info_t, second: &hb_glyph_info_t) -> bool {
+    is_continuation(second)
+}
+
+/// Whether the character is the zero width joiner.
+pub(crate) fn is_zwj(info: &hb_glyph_info_t) -> bool {
+    is_format_with(info, UnicodeProps::CF_ZWJ)
+}
+
+/// Whether the item is a variation selector that the font does not know.
+pub(crate) fn is_variation_selector(info: &hb_glyph_info_t) -> bool {
+    is_format_with(info, UnicodeProps::CF_VS)
+}
+
+/// Whether the character is a format character with a flag.
+fn is_format_with(info: &hb_glyph_info_t, flag: UnicodeProps) -> bool {
+    general_category(info) == RB_UNICODE_GENERAL_CATEGORY_FORMAT
+        && info.unicode_props() & flag.bits() != 0
+}
+
+/// Says that the item is a variation selector that the font does not know.
+pub(crate) fn set_variation_selector(info: &mut hb_glyph_info_t) {
+    set_general_category(info, RB_UNICODE_GENERAL_CATEGORY_FORMAT as u16);
+    info.set_unicode_props(info.unicode_props() | UnicodeProps::CF_VS.bits());
+}
+
+/// Takes back that the item is a variation selector that the font does not know.
+pub(crate) fn clear_variation_selector(info: &mut hb_glyph_info_t) {
+    set_general_category(info, RB_UNICODE_GENERAL_CATEGORY_NON_SPACING_MARK as u16);
+}
+
+/// Whether the glyph is that of a character which is invisible by default, and no lookup put it there.
+pub(crate) fn is_default_ignorable(info: &hb_glyph_info_t) -> bool {
+    info.unicode_props() & UnicodeProps::IGNORABLE.bits() != 0
+        && info.glyph_props() & GlyphPropsFlags::SUBSTITUTED.bits() == 0
+}
+
+/// Says that the character is visible by default.
+pub(crate) fn clear_default_ignorable(info: &mut hb_glyph_info_t) {
+    info.set_unicode_props(info.unicode_props() & !UnicodeProps::IGNORABLE.bits());
+}
+
+/// Whether the character is a space.
+pub(crate) fn is_unicode_space(info: &hb_glyph_info_t) -> bool {
+    general_category(info) == RB_UNICODE_GENERAL_CATEGORY_SPACE_SEPARATOR
+}
+
+/// Keeps the kind of a space that the font has no glyph for.
+pub(crate) fn set_space_fallback(info: &mut hb_glyph_info_t, space: space_t) {
+    info.set_unicode_props(u16::from(space) * 256 | info.unicode_props() & 0xFF);
+}
+
+/// The kind of a space that the font has no glyph for; 0 for any other item.
+pub(crate) fn space_fallback(info: &hb_glyph_info_t) -> u8 {
+    if is_unicode_space(info) {
+        (info.unicode_props() >> 8) as u8
+    } else {
+        0
+    }
+}
+
+/// Whether the glyph is a mark by its font.
+pub(crate) fn is_mark(info: &hb_glyph_info_t) -> bool {
+    info.glyph_props() & GlyphPropsFlags::MARK.bits() != 0
+}

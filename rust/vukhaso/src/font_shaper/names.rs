@@ -1,0 +1,94 @@
+// Written by tools/plain_rust from crates/font_shaper. Do not edit.
+
+//! The names and the extents of a font's glyphs.
+
+use crate::common::{GlyphId, Tag};
+use crate::font_shaper::face::Face;
+use crate::font_tables::glyph_names::PostNames;
+use crate::glyph::{GlyphExtents, GlyphNames, hb_glyph_info_t};
+use crate::memory::AllocError;
+use crate::memory::BTreeMap;
+
+/// The names and the extents of a font's glyphs, as the text of shaped glyphs asks for them.
+pub struct FaceNames<'a> {
+    face: Face<'a>,
+    post: PostNames<'a>,
+    extents: BTreeMap<u16, GlyphExtents>,
+}
+
+impl<'a> FaceNames<'a> {
+    /// The names of the font's glyphs.
+    ///
+    /// # Errors
+    ///
+    /// `Err(AllocError)` where memory runs out.
+    ///
+    /// # Proved
+    ///
+    /// That it returns.
+    #[inline]
+    pub fn new(face: &Face<'a>) -> Result<Self, AllocError> {
+        let post = PostNames::new(face.tables.table(Tag::from_bytes(b"post")))?;
+        Ok(FaceNames {
+            face: *face,
+            post,
+            extents: BTreeMap::new(),
+        })
+    }
+
+    /// Finds the extents of glyphs, each of them once.
+    ///
+    /// # Errors
+    ///
+    /// `Err(AllocError)` where memory runs out.
+    ///
+    /// # Proved
+    ///
+    /// That it returns.
+    #[inline]
+    pub fn find_extents(&mut self, infos: &[hb_glyph_info_t]) -> Result<(), AllocError> {
+        for info in infos {
+            if let Ok(number) = u16::try_from(info.glyph_id)
+                && !self.extents.contains_key(&number)
+                && let Some(extents) = self.face.glyph_extents(GlyphId(number))
+            {
+                let _ = self.extents.insert(number, extents)?;
+            }
+        }
+        Ok(())
+    }
+
+    /// The bytes of a glyph's name.
+    fn name_bytes(&self, glyph: GlyphId) -> Option<&'a [u8]> {
+        match self.post.name(glyph) {
+            Some(name) => Some(name),
+            None => self.face.outlines.glyph_name(glyph),
+        }
+    }
+}
+
+/// The bytes, if they are text.
+fn text_of(bytes: &[u8]) -> Option<&str> {
+    match core::str::from_utf8(bytes) {
+        Ok(text) => Some(text),
+        Err(_) => None,
+    }
+}
+
+///
+/// # Proved
+///
+/// ```text
+/// ghost name_of = { λ names glyph. name_of names.post.table.now names.face.outlines glyph }
+/// ghost extents_of = { λ names glyph. get nat_cmp names.extents glyph }
+/// ```
+impl<'a> GlyphNames for FaceNames<'a> {
+    fn glyph_name(&self, glyph: GlyphId) -> Option<&str> {
+        text_of(self.name_bytes(glyph)?)
+    }
+
+    /// The extents of a glyph, among those that were found.
+    fn glyph_extents(&self, glyph: GlyphId) -> Option<GlyphExtents> {
+        self.extents.get(&glyph.0).copied()
+    }
+}

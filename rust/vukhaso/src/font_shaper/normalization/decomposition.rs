@@ -1,0 +1,264 @@
+// Written by tools/plain_rust from crates/font_shaper. Do not edit.
+
+//! The first round of normalization: a glyph is found for each character, or for its parts.
+
+use super::parts::{MOST_STEPS, Parts, add_parts};
+use super::variations::read_variations;
+use crate::buffer::{
+    CharExt, HB_BUFFER_SCRATCH_FLAG_HAS_SPACE_FALLBACK, hb_buffer_t, hb_glyph_info_t,
+};
+use crate::font_shaper::face::Face;
+use crate::font_shaper::glyph_info::{
+    is_unicode_mark, is_unicode_space, set_space_fallback, set_unicode_props,
+};
+use crate::glyph::hb_unicode_funcs_t::NOT_SPACE;
+use crate::memory::AllocError;
+
+/// The hyphen that no line is broken at, and the one that stands for it.
+const NON_BREAKING_HYPHEN: u32 = 0x2011;
+const HYPHEN: u32 = 0x2010;
+
+/// Finds a glyph for each character, or for its parts.
+///
+/// # Requires
+///
+/// - `buffer.old.have_output ≡ false`
+pub(crate) fn decompose_all(buffer: &mut hb_buffer_t, face: &Face) -> Result<bool, AllocError> {
+    debug_assert!(!buffer.have_output());
+    map_characters(buffer.info_slice_mut(), face);
+    buffer.clear_output();
+    for _turn in 0..buffer.len() {
+        if buffer.lookahead_len() == 0 {
+            break;
+        }
+        if !decompose_next(buffer, face)? {
+            return Ok(false);
+        }
+    }
+    buffer.sync()
+}
+
+/// Finds the glyph of each character, 0 where the font has none.
+fn map_characters(infos: &mut [hb_glyph_info_t], face: &Face) {
+    for info in infos.iter_mut() {
+        let glyph = face.glyph_index(info.glyph_id);
+        info.set_glyph_index(glyph.map_or(0, |glyph| u32::from(glyph.0)));
+    }
+}
+
+/// Reads characters up to the base of the next marks, and then that base with its marks.
+///
+/// # Requires
+///
+/// - `buffer.old.have_output ≡ true`
+fn decompose_next(buffer: &mut hb_buffer_t, face: &Face) -> Result<bool, AllocError> {
+    debug_assert!(buffer.have_output());
+    let simple = simple_length(buffer.info());
+    if !decompose_characters(buffer, face, simple, true)? {
+        return Ok(false);
+    }
+    let cluster = cluster_length(buffer.info());
+    if has_variation_selector(buffer.info(), cluster) {
+        read_variations(buffer, face, cluster)
+    } else {
+        decompose_characters(buffer, face, cluster, false)
+    }
+}
+
+/// How many characters stand before the base of the first marks.
+fn simple_length(infos: &[hb_glyph_info_t]) -> usize {
+    for i in 1..infos.len() {
+        if is_unicode_mark(&infos[i]) {
+            return i - 1;
+        }
+    }
+    infos.len()
+}
+
+/// How many characters a base and the marks behind it are.
+fn cluster_length(infos: &[hb_glyph_info_t]) -> usize {
+    for i in 1..infos.len() {
+        if !is_unicode_mark(&infos[i]) {
+            return i;
+        }
+    }
+    infos.len()
+}
+
+/// Whether one of the first characters is a variation selector.
+fn has_variation_selector(infos: &[hb_glyph_info_t], count: usize) -> bool {
+    infos
+        .iter()
+        .take(count)
+        .any(|info| is_variation_selector(info.glyph_id))
+}
+
+/// Whether the character selects a variation of the one before it.
+pub(crate) fn is_variation_selector(character: u32) -> bool {
+    match char::from_u32(character) {
+        Some(character) => character.is_variation_selector(),
+        None => false,
+    }
+}
+
+/// Reads so many characters: each that the font has a glyph for is kept where `shortest` holds, and
+/// else taken apart if the font has its parts.
+///
+/// # Requires
+///
+/// - `buffer.old.have_output ≡ true`
+fn decompose_characters(
+    buffer: &mut hb_buffer_t,
+    face: &Face,
+    count: usize,
+    shortest: bool,
+) -> Result<bool, AllocError> {
+    debug_assert!(buffer.have_output());
+    let mut left = count;
+    for _turn in 0..count {
+        let ready = ready_length(buffer.info(), left, shortest);
+        if !buffer.next_glyphs(ready)? {
+            return Ok(false);
+        }
+        left -= ready;
+        if left == 0 || buffer.lookahead_len() == 0 {
+            break;
+        }
+        if !decompose_current(buffer, face, shortest)? {
+            return Ok(false);
+        }
+        left -= 1;
+    }
+    Ok(true)
+}
+
+/// How many of the first characters are kept as they are.
+fn ready_length(infos: &[hb_glyph_info_t], count: usize, shortest: bool) -> usize {
+    if !shortest {
+        return 0;
+    }
+    let mut ready = 0;
+    while ready < infos.len() && ready < count && infos[ready].glyph_index() != 0 {
+        ready += 1;
+    }
+    ready
+}
+
+/// Reads one character: puts its parts out in its place, or itself with a glyph.
+///
+/// # Requires
+///
+/// - `opened: buffer.old.have_output ≡ true`
+/// - `glyph: 0 < length buffer.old.input`
+fn decompose_current(
+    buffer: &mut hb_buffer_t,
+    face: &Face,
+    shortest: bool,
+) -> Result<bool, AllocError> {
+    debug_assert!(buffer.have_output());
+    debug_assert!(!buffer.info().is_empty());
+    let mut parts = Parts::new();
+    if let Some(character) = char::from_u32(buffer.cur(0).glyph_id)
+        && add_parts(&mut parts, face, character, shortest, MOST_STEPS)
+    {
+        return put_parts(buffer, face, &parts);
+    }
+    if buffer.cur(0).glyph_index() == 0 {
+        find_fallback(buffer, face);
+    }
+    buffer.next_glyph()
+}
+
+/// Puts characters out in place of the current one.
+///
+/// # Requires
+///
+/// - `opened: buffer.old.have_output ≡ true`
+/// - `glyph: 0 < length buffer.old.input`
+fn put_parts(buffer: &mut hb_buffer_t, face: &Face, parts: &[char]) -> Result<bool, AllocError> {
+    debug_assert!(buffer.have_output());
+    debug_assert!(!buffer.info().is_empty());
+    for part in parts.iter() {
+        if !put_part(buffer, face, *part)? {
+            return Ok(false);
+        }
+    }
+    buffer.skip_glyph();
+    Ok(true)
+}
+
+/// Puts a character out in the cluster of the current one.
+///
+/// # Requires
+///
+/// - `opened: buffer.old.have_output ≡ true`
+/// - `glyph: 0 < length buffer.old.input`
+fn put_part(buffer: &mut hb_buffer_t, face: &Face, part: char) -> Result<bool, AllocError> {
+    debug_assert!(buffer.have_output());
+    debug_assert!(!buffer.info().is_empty());
+    let glyph = face.glyph_index(part as u32);
+    buffer
+        .cur_mut(0)
+        .set_glyph_index(glyph.map_or(0, |glyph| u32::from(glyph.0)));
+    if !buffer.output_glyph(part as u32)? {
+        return Ok(false);
+    }
+    set_last_properties(buffer);
+    Ok(true)
+}
+
+/// Sets the properties of the character that was put out last.
+pub(crate) fn set_last_properties(buffer: &mut hb_buffer_t) {
+    let mut scratch_flags = buffer.scratch_flags;
+    if let Some(last) = buffer.out_info_mut().last_mut() {
+        set_unicode_props(last, &mut scratch_flags);
+    }
+    buffer.scratch_flags = scratch_flags;
+}
+
+/// Finds another glyph for a character that the font lacks: for a space the font's space, of which the
+/// width is set later, and for the hyphen that no line is broken at another hyphen.
+///
+/// # Requires
+///
+/// - `opened: buffer.old.have_output ≡ true`
+/// - `glyph: 0 < length buffer.old.input`
+fn find_fallback(buffer: &mut hb_buffer_t, face: &Face) {
+    debug_assert!(buffer.have_output());
+    debug_assert!(!buffer.info().is_empty());
+    let character = buffer.cur(0).glyph_id;
+    if is_unicode_space(buffer.cur(0)) {
+        find_space(buffer, face, character);
+    } else if character == NON_BREAKING_HYPHEN
+        && let Some(glyph) = face.glyph_index(HYPHEN)
+    {
+        buffer.cur_mut(0).set_glyph_index(u32::from(glyph.0));
+    }
+}
+
+/// Takes the font's space, or the buffer's invisible glyph, for a space that the font lacks.
+///
+/// # Requires
+///
+/// - `opened: buffer.old.have_output ≡ true`
+/// - `glyph: 0 < length buffer.old.input`
+fn find_space(buffer: &mut hb_buffer_t, face: &Face, character: u32) {
+    debug_assert!(buffer.have_output());
+    debug_assert!(!buffer.info().is_empty());
+    let space = match char::from_u32(character) {
+        Some(character) => character.space_fallback(),
+        None => NOT_SPACE,
+    };
+    let glyph = match face.glyph_index(0x20) {
+        Some(glyph) => Some(glyph),
+        None => buffer.invisible,
+    };
+    if space != NOT_SPACE
+        && let Some(glyph) = glyph
+    {
+        let current = buffer.cur_mut(0);
+        set_space_fallback(current, space);
+        current.set_glyph_index(u32::from(glyph.0));
+        buffer.scratch_flags = buffer.scratch_flags | HB_BUFFER_SCRATCH_FLAG_HAS_SPACE_FALLBACK;
+    }
+}

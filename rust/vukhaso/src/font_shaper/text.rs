@@ -1,0 +1,190 @@
+// Written by tools/plain_rust from crates/font_shaper. Do not edit.
+
+//! The characters of a text, before they are mapped to glyphs: their properties, graphemes and direction.
+
+use crate::buffer::{
+    BufferFlags, CharExt, Direction, Flags, HB_BUFFER_CLUSTER_LEVEL_MONOTONE_CHARACTERS,
+    HB_BUFFER_CLUSTER_LEVEL_MONOTONE_GRAPHEMES, HB_BUFFER_SCRATCH_FLAG_HAS_NON_ASCII, hb_buffer_t,
+    hb_glyph_info_t,
+};
+use crate::font_shaper::face::Face;
+use crate::font_shaper::glyph_info::{
+    general_category, is_continuation, is_decimal_number, is_letter, is_regional_indicator,
+    is_same_grapheme, is_unicode_mark, is_zwj, set_continuation, set_unicode_props,
+};
+use crate::glyph::hb_gc::RB_UNICODE_GENERAL_CATEGORY_MODIFIER_SYMBOL;
+use crate::memory::AllocError;
+
+/// The dotted circle, which a mark without a base is put on.
+const DOTTED_CIRCLE: u32 = 0x25CC;
+
+/// Sets the properties of each character, and says which go on with the grapheme before them.
+///
+/// # Requires
+///
+/// - `buffer.old.have_output ≡ false`
+pub(crate) fn set_properties(buffer: &mut hb_buffer_t) {
+    debug_assert!(!buffer.have_output());
+    let mut scratch_flags = buffer.scratch_flags;
+    set_all_properties(buffer.info_slice_mut(), &mut scratch_flags);
+    buffer.scratch_flags = scratch_flags;
+}
+
+/// Sets the properties of each character.
+fn set_all_properties(infos: &mut [hb_glyph_info_t], scratch_flags: &mut u32) {
+    for i in 0..infos.len() {
+        set_unicode_props(&mut infos[i], scratch_flags);
+        if continues_grapheme(infos, i) {
+            set_continuation(&mut infos[i]);
+        }
+    }
+}
+
+/// Whether a character that is no mark goes on with the grapheme before it (Unicode Standard Annex 29):
+/// a modifier of an emoji, the second of two regional indicators, the zero width joiner and an emoji
+/// behind it, tags, and the voiced sound marks of halfwidth Katakana.
+///
+/// # Requires
+///
+/// - `i < length infos.now`
+fn continues_grapheme(infos: &[hb_glyph_info_t], i: usize) -> bool {
+    debug_assert!(i < infos.len());
+    let info = &infos[i];
+    let before = if i > 0 { infos.get(i - 1) } else { None };
+    match info.glyph_id {
+        0x1F3FB..=0x1F3FF => general_category(info) == RB_UNICODE_GENERAL_CATEGORY_MODIFIER_SYMBOL,
+        0x1F1E6..=0x1F1FF => {
+            before.is_some_and(|before| is_regional_indicator(before) && !is_continuation(before))
+        }
+        0xFF9E..=0xFF9F | 0xE0020..=0xE007F => true,
+        _ => is_zwj(info) || before.is_some_and(|before| is_zwj(before)) && is_pictographic(info),
+    }
+}
+
+/// Whether emoji are made from the character.
+fn is_pictographic(info: &hb_glyph_info_t) -> bool {
+    match char::from_u32(info.glyph_id) {
+        Some(character) => character.is_emoji_extended_pictographic(),
+        None => false,
+    }
+}
+
+/// Puts a dotted circle before a text that is the beginning of a paragraph and begins with a mark.
+///
+/// # Requires
+///
+/// - `buffer.old.have_output ≡ false`
+pub(crate) fn insert_dotted_circle(
+    buffer: &mut hb_buffer_t,
+    face: &Face,
+) -> Result<bool, AllocError> {
+    debug_assert!(!buffer.have_output());
+    if !wants_dotted_circle(buffer) || face.glyph_index(DOTTED_CIRCLE).is_none() {
+        return Ok(true);
+    }
+    buffer.clear_output();
+    put_dotted_circle(buffer)?;
+    buffer.sync()
+}
+
+/// Whether the text begins a paragraph, with a mark.
+fn wants_dotted_circle(buffer: &hb_buffer_t) -> bool {
+    if buffer
+        .flags
+        .contains(BufferFlags::DO_NOT_INSERT_DOTTED_CIRCLE)
+        || !buffer.flags.contains(BufferFlags::BEGINNING_OF_TEXT)
+        || !buffer.context(0).is_empty()
+    {
+        return false;
+    }
+    match buffer.info() {
+        [first, ..] => is_unicode_mark(first),
+        [] => false,
+    }
+}
+
+/// Puts a dotted circle out, in the cluster of the current character.
+///
+/// # Requires
+///
+/// - `buffer.old.have_output ≡ true`
+fn put_dotted_circle(buffer: &mut hb_buffer_t) -> Result<bool, AllocError> {
+    debug_assert!(buffer.have_output());
+    let Some(current) = buffer.info().first() else {
+        return Ok(true);
+    };
+    let mut circle = hb_glyph_info_t {
+        glyph_id: DOTTED_CIRCLE,
+        mask: current.mask,
+        cluster: current.cluster,
+        ..hb_glyph_info_t::default()
+    };
+    set_unicode_props(&mut circle, &mut 0);
+    buffer.output_info(circle)
+}
+
+/// Makes each grapheme one cluster, or unsafe to break where the cluster level keeps its characters
+/// apart.
+///
+/// # Requires
+///
+/// - `buffer.old.have_output ≡ false`
+pub(crate) fn form_clusters(buffer: &mut hb_buffer_t) {
+    debug_assert!(!buffer.have_output());
+    if buffer.scratch_flags & HB_BUFFER_SCRATCH_FLAG_HAS_NON_ASCII == 0 {
+        return;
+    }
+    let merges = buffer.cluster_level == HB_BUFFER_CLUSTER_LEVEL_MONOTONE_GRAPHEMES;
+    let mut start = 0;
+    for _turn in 0..buffer.len() {
+        if start >= buffer.len() {
+            break;
+        }
+        let end = buffer.group_end(start, is_same_grapheme);
+        if merges {
+            buffer.merge_clusters(start, end);
+        } else {
+            buffer.unsafe_to_break(Some(start), Some(end));
+        }
+        start = end;
+    }
+}
+
+/// Reverses a text that runs against its script, grapheme by grapheme.
+///
+/// # Requires
+///
+/// - `buffer.old.have_output ≡ false`
+pub(crate) fn ensure_native_direction(buffer: &mut hb_buffer_t) {
+    debug_assert!(!buffer.have_output());
+    let direction = buffer.direction;
+    let native = native_direction(buffer);
+    let is_against = direction.is_horizontal() && native.is_some_and(|native| native != direction)
+        || direction.is_vertical() && direction != Direction::TopToBottom;
+    if is_against {
+        let merges = buffer.cluster_level == HB_BUFFER_CLUSTER_LEVEL_MONOTONE_CHARACTERS;
+        buffer.reverse_groups(is_same_grapheme, merges);
+        buffer.direction = direction.reverse();
+    }
+}
+
+/// The direction in which the script runs, if it has one: numbers in a script that runs from right to
+/// left run from left to right.
+fn native_direction(buffer: &hb_buffer_t) -> Option<Direction> {
+    let native = Direction::from_script(buffer.script?)?;
+    if native == Direction::RightToLeft
+        && buffer.direction == Direction::LeftToRight
+        && are_numbers(buffer.info())
+    {
+        return Some(Direction::LeftToRight);
+    }
+    Some(native)
+}
+
+/// Whether the text has digits or regional indicators, and no letters.
+fn are_numbers(infos: &[hb_glyph_info_t]) -> bool {
+    !infos.iter().any(|info| is_letter(info))
+        && infos
+            .iter()
+            .any(|info| is_decimal_number(info) || is_regional_indicator(info))
+}

@@ -1,0 +1,29 @@
+// Written by tools/plain_rust from crates/glyph_outlines. Do not edit.
+
+//! The boxes of glyphs, and the glyph names of CFF fonts, as HarfBuzz gives them.
+//!
+//! Outlines are read from `glyf` and `loca`, where the header of an outline names its box, and from `CFF `, where a
+//! charstring is run for it. Nothing is drawn. Variations and the table `CFF2` are not read.
+//!
+//! A table is a slice of bytes that may be cut short or hold anything, and an empty one is a table that the font does not
+//! have. No memory is asked for. A charstring takes a limited number of steps, and calls subroutines to a limited depth.
+
+pub mod cff;
+pub mod charset;
+mod charstring;
+mod curves;
+mod dict;
+mod extents;
+mod font_dicts;
+pub mod glyf;
+pub mod index;
+mod operand;
+mod outlines;
+mod path;
+mod standard_encoding;
+pub mod standard_strings;
+mod subroutines;
+
+pub use cff::CffTable;
+pub use glyf::GlyfTables;
+pub use outlines::Outlines;

@@ -1,0 +1,10 @@
+// Written by tools/plain_rust from crates/font_tests. Do not edit.
+
+//! Tests of the crates that read fonts, over what they make public, as in the `tests/` folder of a Rust crate.
+
+#[cfg(test)]
+mod characters;
+#[cfg(test)]
+mod outlines;
+#[cfg(test)]
+mod tables;

@@ -1,0 +1,176 @@
+// Written by tools/plain_rust from crates/font_tests. Do not edit.
+
+//! Tests of `glyph_outlines`. The boxes of charstrings are those that HarfBuzz's `hb-shape --show-extents` prints.
+use vukhaso::common::GlyphId;
+use vukhaso::glyph::GlyphExtents;
+use vukhaso::glyph_outlines::charset::{predefined_charset, string_number, string_of};
+use vukhaso::glyph_outlines::glyf::outline;
+use vukhaso::glyph_outlines::index::{index_count, index_item, index_size, number_of_size};
+use vukhaso::glyph_outlines::standard_strings::standard_string;
+use vukhaso::glyph_outlines::{CffTable, GlyfTables, Outlines};
+
+/// The numbers of a box: its left side, its top, its width and its height.
+fn box_of(extents: Option<GlyphExtents>) -> Option<[i32; 4]> {
+    let found = extents?;
+    Some([found.x_bearing, found.y_bearing, found.width, found.height])
+}
+
+/// Outlines of two contours, of none, and of glyphs put together, each with a box; the last one is cut short.
+static GLYF: [u8; 34] = [
+    0, 2, 0, 10, 255, 236, 1, 44, 2, 188, 0, 0, // from (10, -20) to (300, 700)
+    0, 0, 0, 1, 0, 2, 0, 3, 0, 4, //
+    255, 255, 0, 5, 0, 6, 0, 1, 0, 2, // corners in another order
+    0, 1,
+];
+
+/// Their places, as halves.
+static LOCA: [u8; 10] = [0, 0, 0, 6, 0, 11, 0, 16, 0, 17];
+
+/// The same places in 32 bits.
+static LONG_LOCA: [u8; 20] = [
+    0, 0, 0, 0, 0, 0, 0, 12, 0, 0, 0, 22, 0, 0, 0, 32, 0, 0, 0, 34,
+];
+
+/// The left side bearing of each glyph of a font of five, and its box.
+static BOXES: [(Option<i16>, Option<[i32; 4]>); 5] = [
+    (Some(15), Some([15, 700, 290, -720])),
+    (Some(15), Some([0, 0, 0, 0])),
+    (None, Some([1, 6, 4, -4])),
+    (Some(15), Some([0, 0, 0, 0])),
+    (Some(15), None),
+];
+
+#[test]
+fn the_header_of_an_outline_names_its_box() {
+    for (loca, has_long_offsets) in [(LOCA.as_slice(), false), (LONG_LOCA.as_slice(), true)] {
+        let glyf = GlyfTables {
+            glyf: &GLYF,
+            loca,
+            has_long_offsets,
+            glyph_count: 5,
+        };
+        let outlines = Outlines::new(glyf, &[]);
+        for (glyph, &(bearing, found)) in (0..5).zip(&BOXES) {
+            let glyph = GlyphId(glyph);
+            assert!(box_of(glyf.glyph_extents(glyph, bearing)) == found);
+            assert!(box_of(outlines.glyph_extents(glyph, bearing)) == found);
+            assert!(outlines.glyph_name(glyph) == None);
+        }
+    }
+    assert!(outline(&GLYF, &LOCA, false, GlyphId(3)) == Some([0, 1].as_slice()));
+}
+
+/// The example font of The Compact Font Format Specification (Appendix D).
+static EXAMPLE: [u8; 147] = [
+    1, 0, 4, 1, 0, 1, 1, 1, 19, 65, 66, 67, 68, 69, 70, 43, 84, 105, 109, 101, 115, 45, 82, 111,
+    109, 97, 110, 0, 1, 1, 1, 31, 248, 27, 0, 248, 28, 2, 248, 29, 3, 248, 25, 4, 28, 111, 0, 13,
+    251, 60, 251, 110, 250, 124, 250, 22, 5, 233, 17, 184, 241, 18, 0, 3, 1, 1, 8, 19, 24, 48, 48,
+    49, 46, 48, 48, 55, 84, 105, 109, 101, 115, 32, 82, 111, 109, 97, 110, 84, 105, 109, 101, 115,
+    0, 0, 0, 2, 1, 1, 2, 3, 14, 14, 125, 153, 249, 42, 153, 251, 118, 149, 247, 115, 139, 6, 247,
+    154, 147, 252, 124, 140, 7, 125, 153, 248, 86, 149, 247, 94, 153, 8, 251, 110, 140, 248, 115,
+    147, 247, 16, 139, 9, 167, 10, 223, 11, 247, 142, 20,
+];
+
+#[test]
+fn the_example_of_the_specification_is_read() {
+    let cff = CffTable::parse(&EXAMPLE, 2);
+    assert!(cff.is_some());
+    if let Some(cff) = cff {
+        assert!(cff.glyph_name(GlyphId(0)) == Some(b".notdef".as_slice()));
+        assert!(cff.glyph_name(GlyphId(1)) == Some(b"space".as_slice()));
+        assert!(cff.glyph_name(GlyphId(2)) == None);
+        assert!(box_of(cff.glyph_extents(GlyphId(1))) == Some([0; 4]));
+        assert!(index_count(cff.strings) == 3);
+        assert!(index_size(cff.strings) == Some(30));
+        assert!(index_item(cff.strings, 1) == Some(b"Times Roman".as_slice()));
+        assert!(index_item(cff.strings, 3) == None);
+        assert!(string_of(cff.strings, 393) == Some(b"Times".as_slice()));
+    }
+    assert!(CffTable::parse(&EXAMPLE, 3).is_none());
+}
+
+/// A CFF font whose charstrings have every operator that draws, subroutines, a mask, fractions, and one that never ends.
+static DRAWN: [u8; 331] = [
+    1, 0, 4, 1, 0, 1, 1, 1, 5, 84, 101, 115, 116, 0, 1, 1, 1, 24, 29, 0, 0, 0, 67, 15, 29, 0, 0, 0,
+    86, 17, 29, 0, 0, 0, 2, 29, 0, 0, 1, 59, 18, 0, 1, 1, 1, 9, 111, 119, 110, 95, 110, 97, 109,
+    101, 0, 1, 1, 1, 9, 134, 133, 146, 147, 148, 149, 8, 11, 0, 0, 34, 0, 124, 0, 171, 0, 35, 0,
+    36, 0, 37, 0, 38, 0, 39, 1, 135, 0, 10, 1, 1, 2, 19, 37, 44, 59, 61, 95, 147, 195, 216, 14,
+    248, 136, 22, 129, 159, 21, 239, 247, 92, 109, 6, 144, 132, 150, 152, 5, 14, 149, 248, 136, 21,
+    159, 169, 179, 89, 199, 209, 8, 149, 159, 169, 179, 189, 30, 14, 169, 247, 92, 204, 247, 85,
+    14, 139, 159, 18, 149, 169, 23, 19, 192, 144, 4, 32, 10, 32, 29, 14, 33, 10, 255, 0, 0, 128, 0,
+    255, 255, 255, 128, 0, 21, 255, 0, 10, 64, 0, 255, 0, 20, 128, 0, 5, 255, 255, 236, 0, 0, 255,
+    255, 215, 192, 0, 5, 14, 146, 146, 21, 140, 141, 142, 143, 144, 145, 146, 147, 148, 149, 150,
+    151, 189, 12, 35, 149, 159, 169, 179, 189, 199, 209, 12, 34, 140, 141, 142, 143, 144, 145, 146,
+    147, 148, 12, 36, 140, 141, 142, 143, 144, 145, 146, 147, 148, 149, 150, 12, 37, 14, 146, 146,
+    21, 140, 149, 159, 169, 179, 27, 140, 149, 159, 169, 179, 26, 149, 159, 169, 179, 189, 199,
+    209, 219, 148, 31, 140, 141, 142, 143, 144, 145, 146, 147, 24, 140, 141, 142, 143, 144, 145,
+    146, 59, 25, 144, 145, 146, 7, 14, 139, 139, 21, 251, 192, 252, 36, 5, 250, 255, 254, 255, 5,
+    28, 58, 152, 28, 193, 128, 5, 14, 141, 19, 0, 2, 1, 1, 7, 9, 169, 179, 89, 199, 5, 11, 33, 10,
+];
+
+/// The names and boxes of its glyphs.
+static DRAWINGS: [(&str, Option<[i32; 4]>); 10] = [
+    (".notdef", Some([0, 0, 0, 0])),
+    ("A", Some([490, 226, 100, -206])),
+    ("grave", Some([10, 640, 180, -160])),
+    ("Aacute", Some([40, 840, 550, -820])),
+    ("B", Some([-25, 117, 55, -112])),
+    ("C", None),
+    ("D", Some([-9, 20, 20, -40])),
+    ("E", Some([7, 90, 342, -83])),
+    ("F", Some([7, 349, 299, -342])),
+    ("own_name", Some([-300, 0, 16131, -17531])),
+];
+
+#[test]
+fn a_charstring_is_run_for_its_box() {
+    let glyf = GlyfTables {
+        glyf: &[],
+        loca: &[],
+        has_long_offsets: false,
+        glyph_count: 10,
+    };
+    let outlines = Outlines::new(glyf, &DRAWN);
+    for (glyph, &(name, found)) in (0..10).zip(&DRAWINGS) {
+        let glyph = GlyphId(glyph);
+        assert!(outlines.glyph_name(glyph) == Some(name.as_bytes()));
+        assert!(box_of(outlines.glyph_extents(glyph, Some(15))) == found);
+    }
+}
+
+/// Predefined charsets, glyphs, and the names that they have by The Compact Font Format Specification (Appendix C).
+static PREDEFINED: [(u32, u16, &str); 8] = [
+    (0, 228, "zcaron"),
+    (0, 229, ".notdef"),
+    (1, 2, "exclamsmall"),
+    (1, 12, "comma"),
+    (1, 165, "Ydieresissmall"),
+    (2, 3, "dollarsuperior"),
+    (2, 47, "hyphensuperior"),
+    (2, 86, "commainferior"),
+];
+
+#[test]
+fn a_predefined_charset_names_glyphs() {
+    for &(number, glyph, name) in &PREDEFINED {
+        let charset = predefined_charset(number).unwrap_or(&[]);
+        let string = string_number(charset, GlyphId(glyph));
+        assert!(string_of(&[], string) == Some(name.as_bytes()));
+    }
+    assert!(predefined_charset(3) == None);
+}
+
+#[test]
+fn a_number_has_up_to_four_bytes() {
+    let table = [1, 2, 3, 4];
+    let read = [1, 2, 3, 4, 5].map(|size| number_of_size(size, &table, 0));
+    assert!(read == [Some(1), Some(258), Some(66051), Some(16909060), None]);
+}
+
+#[test]
+fn there_are_391_standard_strings() {
+    assert!(standard_string(0) == Some(".notdef"));
+    assert!(standard_string(34) == Some("A"));
+    assert!(standard_string(390) == Some("Semibold"));
+    assert!(standard_string(391) == None);
+}

@@ -1,0 +1,10 @@
+// Written by tools/plain_rust from crates/font_tests. Do not edit.
+
+//! Tests of `font_tables`, over small tables. Those of coverage and classes are the examples of the OpenType specification.
+
+mod directory;
+mod header;
+mod layout;
+mod metrics;
+mod names;
+mod numbers;

@@ -1,0 +1,51 @@
+// Written by tools/plain_rust from crates/font_tests. Do not edit.
+
+use vukhaso::common::GlyphId;
+use vukhaso::font_tables::bytes::part;
+use vukhaso::font_tables::metrics::Metrics;
+use vukhaso::font_tables::vertical_origins::VerticalOrigins;
+
+/// Two advances with a side bearing each, and two more side bearings.
+static HMTX: [u8; 12] = [1, 244, 0, 10, 2, 88, 255, 236, 0, 30, 0, 40];
+
+/// How many bytes of the table there are, a glyph, its advance and its side bearing.
+static ADVANCES: [(usize, u16, u16, Option<i16>); 8] = [
+    (12, 0, 500, Some(10)),
+    (12, 1, 600, Some(-20)),
+    (12, 3, 600, Some(40)),
+    (12, 4, 0, None),
+    (10, 2, 600, Some(30)),
+    (10, 3, 0, None),
+    (5, 0, 500, Some(10)),
+    (0, 3, 512, None),
+];
+
+#[test]
+fn the_last_advance_goes_on() {
+    for &(size, number, advance, bearing) in &ADVANCES {
+        let metrics = Metrics::new(part(&HMTX, 0, size), 2, 4, 512);
+        let glyph = GlyphId(number);
+        assert!(metrics.advance(glyph) == advance);
+        assert!(metrics.side_bearing(glyph) == bearing);
+        assert!(metrics.has_advance(glyph) == bearing.is_some());
+    }
+}
+
+/// A table `VORG`: 880 for each glyph but 5, which has 700.
+static VORG: [u8; 12] = [0, 1, 0, 0, 3, 112, 0, 1, 0, 5, 2, 188];
+
+/// How many bytes of the table there are, a glyph, and where it stands.
+static ORIGINS: [(usize, u16, Option<i16>); 4] = [
+    (12, 5, Some(700)),
+    (12, 4, Some(880)),
+    (12, 6, Some(880)),
+    (0, 5, None),
+];
+
+#[test]
+fn glyphs_have_vertical_origins() {
+    for &(size, glyph, y) in &ORIGINS {
+        let origins = VerticalOrigins::new(part(&VORG, 0, size));
+        assert!(origins.y_origin(GlyphId(glyph)) == y);
+    }
+}

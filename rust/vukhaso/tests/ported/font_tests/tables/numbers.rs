@@ -1,0 +1,61 @@
+// Written by tools/plain_rust from crates/font_tests. Do not edit.
+
+use vukhaso::font_tables::bytes::{
+    i16_at, part, table_at_16, table_at_32, tail, u8_at, u16_at, u24_at, u32_at,
+};
+use vukhaso::font_tables::rows::{Keys16, first_row, rises, rows_within};
+
+static TABLE: [u8; 8] = [0x01, 0x02, 0x03, 0x04, 0xFF, 0xFE, 0x00, 0x00];
+
+#[test]
+fn numbers_are_big_endian() {
+    let numbers = (
+        u8_at(&TABLE, 1),
+        u16_at(&TABLE, 1),
+        u24_at(&TABLE, 1),
+        u32_at(&TABLE, 0),
+    );
+    assert!(numbers == (Some(2), Some(0x0203), Some(0x020304), Some(0x01020304)));
+    assert!((i16_at(&TABLE, 4), i16_at(&TABLE, 0)) == (Some(-2), Some(0x0102)));
+    let outside = (
+        u8_at(&TABLE, 8),
+        u16_at(&TABLE, 7),
+        u24_at(&TABLE, 6),
+        u32_at(&TABLE, 5),
+    );
+    assert!(outside == (None, None, None, None));
+}
+
+#[test]
+fn an_offset_of_0_leads_nowhere() {
+    assert!(table_at_16(&TABLE, 6) == None);
+    assert!(table_at_16(&[0, 3, 7, 8], 0) == Some([8].as_slice()));
+    assert!(table_at_32(&[0, 0, 0, 4, 9], 0) == Some([9].as_slice()));
+    assert!(table_at_32(&TABLE, 4) == Some([].as_slice()));
+    assert!((tail(&TABLE, 6), part(&TABLE, 5, 9)) == ([0, 0].as_slice(), [0xFE, 0, 0].as_slice()));
+}
+
+/// Keys, and the first row whose key is not below it, of 2, 4, 4 and 9.
+static REACHED: [(u32, Option<usize>); 5] = [
+    (0, Some(0)),
+    (3, Some(1)),
+    (4, Some(1)),
+    (9, Some(3)),
+    (10, None),
+];
+
+#[test]
+fn the_first_row_reaches_a_key() {
+    let rows = Keys16 {
+        table: &[0, 2, 0, 4, 0, 4, 0, 9],
+        start: 0,
+        size: 2,
+    };
+    let are_rising = rises(&rows, 4);
+    assert!(are_rising);
+    for &(key, row) in &REACHED {
+        assert!(first_row(&rows, 4, key, are_rising) == row);
+        assert!(first_row(&rows, 4, key, false) == row);
+    }
+    assert!(rows_within(&TABLE, 2, 4, 9) == 1);
+}

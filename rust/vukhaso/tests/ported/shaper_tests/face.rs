@@ -1,0 +1,67 @@
+// Written by tools/plain_rust from crates/shaper_tests. Do not edit.
+
+//! What a font says of its glyphs.
+
+use crate::Fail;
+use crate::shaper_tests::upright::UPRIGHT;
+use vukhaso::common::GlyphId;
+use vukhaso::font_shaper::{Face, FaceNames};
+use vukhaso::glyph::{GlyphNames, hb_glyph_info_t};
+
+/// The glyphs, advances and origins of a letter.
+#[test]
+fn letters_have_glyphs_and_advances() -> Result<(), Fail> {
+    let face = Face::from_slice(UPRIGHT, 0).ok_or("no font")?;
+    assert_eq!(face.units_per_em(), 1000);
+    for (letter, glyph, across, origin) in [
+        ('a', 3, 410, (205, 850)),
+        ('b', 4, 420, (210, 880)),
+        ('c', 5, 430, (215, 850)),
+    ] {
+        assert_eq!(
+            face.glyph_index(letter as u32),
+            Some(GlyphId(glyph)),
+            "{letter}"
+        );
+        assert!(face.has_glyph(letter), "{letter}");
+        assert_eq!(face.glyph_hor_advance(GlyphId(glyph)), across, "{letter}");
+        assert_eq!(face.glyph_ver_advance(GlyphId(glyph)), 1000, "{letter}");
+        assert_eq!(face.vertical_origin(GlyphId(glyph)), origin, "{letter}");
+    }
+    assert_eq!(face.glyph_index(0x78), None);
+    assert!(!face.has_glyph('x'));
+    assert_eq!(face.glyph_variation_index(0x61, 0xFE00), None);
+    Ok(())
+}
+
+/// The bounds and the names of glyphs.
+#[test]
+fn letters_have_bounds_and_names() -> Result<(), Fail> {
+    let face = Face::from_slice(UPRIGHT, 0).ok_or("no font")?;
+    let mut names = FaceNames::new(&face)?;
+    assert_eq!(names.glyph_name(GlyphId(3)), Some("a"));
+    assert_eq!(names.glyph_name(GlyphId(999)), None);
+    let info = hb_glyph_info_t {
+        glyph_id: 3,
+        ..hb_glyph_info_t::default()
+    };
+    assert!(names.glyph_extents(GlyphId(3)).is_none());
+    names.find_extents(&[info])?;
+    let found = names.glyph_extents(GlyphId(3)).ok_or("no bounds")?;
+    assert_eq!((found.x_bearing, found.y_bearing), (20, 390));
+    assert_eq!((found.width, found.height), (300, -400));
+    let bounds = face.glyph_extents(GlyphId(4)).ok_or("no bounds")?;
+    assert_eq!((bounds.x_bearing, bounds.y_bearing), (100, 340));
+    assert_eq!((bounds.width, bounds.height), (290, -340));
+    Ok(())
+}
+
+/// Bytes that are no font, and how many glyphs there are.
+#[test]
+fn bytes_that_are_no_font_have_no_face() -> Result<(), Fail> {
+    assert!(Face::from_slice(b"no font", 0).is_none());
+    assert!(Face::from_slice(&[], 0).is_none());
+    let face = Face::from_slice(UPRIGHT, 0).ok_or("no font")?;
+    assert!(face.number_of_glyphs() > 5);
+    Ok(())
+}
