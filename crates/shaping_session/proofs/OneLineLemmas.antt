@@ -1,7 +1,8 @@
 -- No answer has a line feed in it.
 use Rattle.std.proofs.Common.{ℕ, ℤ, pos, negsuc, zero, suc, ◌≡◌, ◌==◌, ◌/◌, ◌%◌, ◌-◌, List, [], ◌∷◌, ◌++◌, map, length}
 use Rattle.std.proofs.Common.{replicate, codes, option_map, bit_and, ◌&&◌, ◌||◌, not, ◌+ℤ◌, None, Bool, true, false}
-use Rattle.std.proofs.Common.{if◌then◌else◌, refl, sym, subst, arith}
+use Rattle.std.proofs.Common.{if◌then◌else◌, refl, sym, subst, arith, Option}
+use Rattle.std.specs.Prelude.{nat_le}
 use Rattle.std.specs.Char.{to_ascii_lowercase}
 use Rattle.std.specs.Fmt.{decimal, signed_decimal, digits, digits_onto, digit_glyph}
 use Rattle.std.specs.Int.{from_bool}
@@ -14,6 +15,7 @@ use Rattle.rb_glyph.specs.declared.flag_sets.TheConstants.SerializeFlags.{NO_CLU
 use Rattle.rb_glyph.specs.declared.flag_sets.TheConstants.SerializeFlags.{GLYPH_EXTENTS, GLYPH_FLAGS, NO_ADVANCES}
 use Rattle.rb_glyph.specs.declared.glyph_flag.TheConstants.{DEFINED}
 use Rattle.rb_glyph.specs.declared.info.hb_glyph_info_t.{hb_glyph_info_t}
+use Rattle.rb_glyph.specs.declared.names.GlyphExtents.{GlyphExtents}
 use Rattle.rb_glyph.specs.declared.position.GlyphPosition.{GlyphPosition}
 use Rattle.rb_text.specs.declared.feature.Feature.{Feature}
 use Rattle.rb_text.specs.Tags.{scripts_of, languages_of}
@@ -22,7 +24,7 @@ use Rattle.shaping_buffer.specs.Pushed.{pushed, added}
 use Rattle.shaping_buffer.specs.State.{State}
 use Rattle.shaping_buffer.specs.Step.{Outcome}
 use Rattle.glyph_text.specs.Text.{nothing_known, has, name_text, cluster_text, offset_text, advance_text, position_text}
-use Rattle.glyph_text.specs.Text.{flags_text}
+use Rattle.glyph_text.specs.Text.{flags_text, said_of}
 use Rattle.glyph_text.specs.Text.{zero_extents, box_text, extents_text, x_advances, y_advances, glyph_text}
 use Rattle.glyph_text.specs.Text.{glyph_texts}
 use Rattle.shaping_buffer.specs.Text.{glyphs_of, text_of}
@@ -198,6 +200,12 @@ one_line-extents : (set : SerializeFlags) → IsOneLine (extents_text set None)
 unfolding digits
 one_line-extents set = one_line-if (has set GLYPH_EXTENTS) (box_text zero_extents) [] refl refl
 
+-- a font that knows nothing says nothing of any number
+nothing_said : {A : Type 0} (id : ℕ) → said_of {A = A} (λ _. None) id ≡ None
+nothing_said {A = A} id =
+    let none : Option A = None in
+    elim (nat_le id 65535) as (λ b. (if b then none else none) ≡ none) [ true ↦ refl | false ↦ refl ]
+
 one_line-glyph : (set : SerializeFlags) (earlier : List GlyphPosition) (g : hb_glyph_info_t × GlyphPosition)
     → IsOneLine (glyph_text nothing_known set earlier g)
 one_line-glyph set earlier g =
@@ -210,7 +218,8 @@ one_line-glyph set earlier g =
     let placed = one_line-append (name ++ cluster) position told
     (one_line-position set (x_advances earlier) (y_advances earlier) g.1) in
     let marked = one_line-append (name ++ cluster ++ position) marks placed (one_line-flags set g.0.mask) in
-    one_line-append (name ++ cluster ++ position ++ marks) box marked (one_line-extents set)
+    let whole = one_line-append (name ++ cluster ++ position ++ marks) box marked (one_line-extents set) in
+    rw (nothing_said {A = List ℕ} g.0.glyph_id, nothing_said {A = GlyphExtents} g.0.glyph_id) whole
 
 one_line-glyphs : (set : SerializeFlags) (earlier : List GlyphPosition) (gs : List (hb_glyph_info_t × GlyphPosition))
     → IsOneLine (join_with_byte 124 (glyph_texts nothing_known set earlier gs))
