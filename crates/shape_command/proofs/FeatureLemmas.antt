@@ -1,5 +1,5 @@
 -- Features that are read from texts, and from more texts.
-use Rattle.std.proofs.Common.{ℕ, ◌≡◌, ◌⊎◌, inl, inr, List, [], ◌∷◌, ◌++◌, refl, sym, ap, subst, ◌∙◌, append_assoc, append-nil}
+use Rattle.std.proofs.Common.{ℕ, ◌≡◌, inl, inr, List, [], ◌∷◌, ◌++◌, refl, sym, ap, subst, ◌∙◌, append_assoc, append-nil}
 use Rattle.std.proofs.Common.{◌+◌, ◌<◌, ◌≤◌, length, take, map, flat_map, get_or, Bor}
 use Rattle.std.proofs.lemmas.List.{take_more, map-append, take_all}
 use Rattle.std.proofs.lemmas.Grind.{flat_map-append}

@@ -1,6 +1,6 @@
 -- The characters in a text that writes them by their numbers, as in `U+0041,U+0301`.
 use Rattle.std.specs.Prelude.{ℕ, ◌+◌, ◌*◌, ◌%◌, ◌^◌, ◌==◌, Bool, true, false, ◌&&◌, ◌||◌, List, [], ◌∷◌, ◌++◌, Option, Some, None, codes}
-use Rattle.std.specs.Prelude.{nat_lt, nat_le, option_map, option_and_then, option_to_list, if◌then◌else◌, flat_map, replicate}
+use Rattle.std.specs.Prelude.{nat_lt, option_map, option_and_then, option_to_list, if◌then◌else◌, flat_map, replicate}
 use Rattle.std.specs.Prelude.{encode_utf8}
 use Rattle.std.specs.Char.{digit_value}
 use Rattle.std.specs.List.{list_any}

@@ -39,9 +39,17 @@ glyphs_line font flags s = if length s.input == 0 then [] else 91 ∷ text_of fo
 abbrev pub failure_line : List ℕ
 failure_line = codes "error: Shaping failed."
 
--- a line is answered with glyphs, or as too long; which glyphs shaping gives is not said here
-abbrev pub IsAnswer : Font → SerializeFlags → List ℕ → Type 0
-IsAnswer font flags answer = ((glyphs : State) × (answer ≡ glyphs_line font flags glyphs)) ⊎ (answer ≡ failure_line)
+-- the text of these glyphs, at their own positions or at others
+abbrev pub PrintsTextOf : Font → SerializeFlags → State → List ℕ → Type 0
+PrintsTextOf font flags s text = (placed : State) × (placed.input ≡ s.input) × (text ≡ text_of font flags placed)
+
+-- glyphs with names and extents are printed; which they are is not said here
+abbrev pub PrintsGlyphs : SerializeFlags → List ℕ → Type 0
+PrintsGlyphs flags answer = (font : Font) × (glyphs : State) × (answer ≡ glyphs_line font flags glyphs)
+
+-- a line is answered with glyphs, or as too long
+abbrev pub IsAnswer : SerializeFlags → List ℕ → Type 0
+IsAnswer flags answer = PrintsGlyphs flags answer ⊎ (answer ≡ failure_line)
 
 -- each line has its answer, in turn
 abbrev pub EachAnswered : (List ℕ → Type 0) → List (List ℕ) → List (List ℕ) → Type 0

@@ -1,6 +1,5 @@
 -- The text that a line is shaped as.
-use Rattle.std.specs.Prelude.{ℕ, ◌≡◌, ◌==◌, Bool, true, false, List, [], length, map, Option, Some, None, string_bytes, if◌then◌else◌}
-use Rattle.std.specs.Prelude.{Result, Ok}
+use Rattle.std.specs.Prelude.{ℕ, ◌==◌, Bool, List, length, map, Option, Some, None, string_bytes, if◌then◌else◌}
 use Rattle.std.specs.Char.{to_ascii_lowercase}
 use Rattle.shaping_buffer.specs.ClusterLevel.{level_of}
 use Rattle.shaping_buffer.specs.Properties.{with_pre_context, with_post_context, with_clusters_reset, guessed, or_else}

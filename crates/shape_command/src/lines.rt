@@ -6,8 +6,7 @@ ghost use Rattle.std.specs.Io.KnownBytes.{Appends};
 ghost use Rattle.shape_command.specs.Answer.{answer_text};
 ghost use Rattle.shape_command.specs.Lines.{TakesLine, without_line_feed, AnswersAll, AnswersParagraph, IsAnswer};
 
-use crate::shaper::{Answer, LineShaper};
-use shaping_buffer::GlyphNames;
+use crate::shaper::{Answer, LineNames, LineShaper};
 use std::alloc::{AllocError, Global};
 use std::io::{self, BufRead, ErrorKind, Read, Write};
 
@@ -38,15 +37,14 @@ fn read_error(error: io::Error) -> LinesError {
 
 /// Answers each line of a text with a line, and says whether all of them were shaped. A line feed ends a line, and the
 /// last line may lack it. One line is held at a time.
-pub fn answer_lines<N: GlyphNames + Drop, R: BufRead, W: Write>(
+pub fn answer_lines<N: LineNames, R: BufRead, W: Write>(
     alloc: Global,
-    shaper: &LineShaper<'_, N>,
+    shaper: &LineShaper<'_>,
+    names: &mut N,
     reader: &mut R,
     writer: &mut W,
 ) -> Result<bool, LinesError>
-    ensures { OnOk result (AnswersAll
-        (IsAnswer (record { name = N.name_of shaper.now.names; extents = N.extents_of shaper.now.names })
-        shaper.now.output)
+    ensures { OnOk result (AnswersAll (IsAnswer shaper.now.output)
         (R.remaining reader.old) (R.remaining reader.new)
         (W.contents writer.old) (W.contents writer.new)) }
 {
@@ -57,7 +55,7 @@ pub fn answer_lines<N: GlyphNames + Drop, R: BufRead, W: Write>(
         if !found {
             return Ok(all_shaped);
         }
-        let answer = shaper.answer(alloc, line.as_slice())?;
+        let answer = shaper.answer(alloc, names, line.as_slice())?;
         all_shaped &= !matches!(answer, Answer::Failed);
         write_answer(writer, &answer)?;
     }
@@ -65,15 +63,14 @@ pub fn answer_lines<N: GlyphNames + Drop, R: BufRead, W: Write>(
 }
 
 /// Answers a text as one line, unless it is empty, and says whether it was shaped.
-pub fn answer_paragraph<N: GlyphNames + Drop, R: Read, W: Write>(
+pub fn answer_paragraph<N: LineNames, R: Read, W: Write>(
     alloc: Global,
-    shaper: &LineShaper<'_, N>,
+    shaper: &LineShaper<'_>,
+    names: &mut N,
     reader: &mut R,
     writer: &mut W,
 ) -> Result<bool, LinesError>
-    ensures { OnOk result (AnswersParagraph
-        (IsAnswer (record { name = N.name_of shaper.now.names; extents = N.extents_of shaper.now.names })
-        shaper.now.output)
+    ensures { OnOk result (AnswersParagraph (IsAnswer shaper.now.output)
         (R.remaining reader.old) (R.remaining reader.new)
         (W.contents writer.old) (W.contents writer.new)) }
 {
@@ -85,7 +82,7 @@ pub fn answer_paragraph<N: GlyphNames + Drop, R: Read, W: Write>(
     if read == 0 {
         return Ok(true);
     }
-    let answer = shaper.answer(alloc, text.as_slice())?;
+    let answer = shaper.answer(alloc, names, text.as_slice())?;
     write_answer(writer, &answer)?;
     Ok(!matches!(answer, Answer::Failed))
 }

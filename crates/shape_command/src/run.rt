@@ -4,9 +4,9 @@ use crate::arguments::matches_of;
 use crate::font_file::FontFile;
 use crate::lines::{LinesError, answer_lines, answer_paragraph};
 use crate::options::{Options, OptionsError, TextSource};
-use crate::shaper::LineShaper;
+use crate::shaper::{LineNames, LineShaper};
 use font_shaper::{Face, FaceNames};
-use shaping_buffer::{Flags, GlyphNames, NoGlyphNames, SerializeFlags};
+use shaping_buffer::{Flags, NoGlyphNames, SerializeFlags};
 use std::alloc::{AllocError, Global};
 use std::convert::AsStr;
 use std::fs;
@@ -127,13 +127,18 @@ fn answer_face<'a, F: Files + AllocGlobal, R: BufRead, W: Write>(
     input: &mut R,
     output: &mut W,
 ) -> Result<bool, CommandError<'a>> {
+    let shaper = LineShaper {
+        face,
+        font_size: options.font_size,
+        options: &options.line,
+        output: options.output,
+        single_par: options.single_par,
+    };
     if asks_font(options.output) {
-        let names = FaceNames::new(rt.alloc(), &face)?;
-        let shaper = shaper_of(face, names, options);
-        answer_text(rt, &shaper, options, input, output)
+        let mut names = FaceNames::new(rt.alloc(), &face)?;
+        answer_text(rt, &shaper, &mut names, &options.text, input, output)
     } else {
-        let shaper = shaper_of(face, NoGlyphNames, options);
-        answer_text(rt, &shaper, options, input, output)
+        answer_text(rt, &shaper, &mut NoGlyphNames, &options.text, input, output)
     }
 }
 
@@ -142,57 +147,29 @@ fn asks_font(flags: SerializeFlags) -> bool {
     !flags.contains(SerializeFlags::NO_GLYPH_NAMES) || flags.contains(SerializeFlags::GLYPH_EXTENTS)
 }
 
-fn shaper_of<'a, N: GlyphNames + Drop>(
-    face: Face<'a>,
-    names: N,
-    options: &'a Options<'a>,
-) -> LineShaper<'a, N> {
-    LineShaper {
-        face,
-        names,
-        font_size: options.font_size,
-        options: &options.line,
-        output: options.output,
-    }
-}
-
-/// Answers the text that the options name.
-fn answer_text<'a, F: Files + AllocGlobal, N: GlyphNames + Drop, R: BufRead, W: Write>(
+/// Answers a text.
+fn answer_text<'a, F: Files + AllocGlobal, N: LineNames, R: BufRead, W: Write>(
     rt: &F,
-    shaper: &LineShaper<'_, N>,
-    options: &Options<'a>,
+    shaper: &LineShaper<'_>,
+    names: &mut N,
+    text: &TextSource<'a>,
     input: &mut R,
     output: &mut W,
 ) -> Result<bool, CommandError<'a>> {
-    match &options.text {
+    match text {
         TextSource::Given(text) => {
-            answer_all(
-                rt.alloc(),
-                shaper,
-                options,
-                "TEXT",
-                &mut text.as_bytes(),
-                output,
-            )
+            let mut bytes = text.as_bytes();
+            answer_all(rt.alloc(), shaper, names, "TEXT", &mut bytes, output)
         }
         TextSource::CodePoints(text) => {
-            answer_all(
-                rt.alloc(),
-                shaper,
-                options,
-                "TEXT",
-                &mut text.as_bytes(),
-                output,
-            )
+            let mut bytes = text.as_bytes();
+            answer_all(rt.alloc(), shaper, names, "TEXT", &mut bytes, output)
         }
-        TextSource::Input => answer_all(rt.alloc(), shaper, options, "-", input, output),
-        TextSource::File(file) => {
-            let mut reader = match open(rt, file) {
-                Ok(reader) => reader,
-                Err(error) => return Err(CommandError::Text { file: *file, error }),
-            };
-            answer_all(rt.alloc(), shaper, options, *file, &mut reader, output)
-        }
+        TextSource::Input => answer_all(rt.alloc(), shaper, names, "-", input, output),
+        TextSource::File(file) => match open(rt, file) {
+            Ok(mut reader) => { answer_all(rt.alloc(), shaper, names, *file, &mut reader, output) }
+            Err(error) => Err(CommandError::Text { file: *file, error }),
+        },
     }
 }
 
@@ -202,18 +179,18 @@ fn open<F: Files + AllocGlobal>(rt: &F, file: &str) -> io::Result<BufReader<F::F
 }
 
 /// Answers a text line by line, or as one line.
-fn answer_all<'a, N: GlyphNames + Drop, R: BufRead, W: Write>(
+fn answer_all<'a, N: LineNames, R: BufRead, W: Write>(
     alloc: Global,
-    shaper: &LineShaper<'_, N>,
-    options: &Options<'_>,
+    shaper: &LineShaper<'_>,
+    names: &mut N,
     file: &'a str,
     reader: &mut R,
     writer: &mut W,
 ) -> Result<bool, CommandError<'a>> {
-    let answered = if options.single_par {
-        answer_paragraph(alloc, shaper, reader, writer)
+    let answered = if shaper.single_par {
+        answer_paragraph(alloc, shaper, names, reader, writer)
     } else {
-        answer_lines(alloc, shaper, reader, writer)
+        answer_lines(alloc, shaper, names, reader, writer)
     };
     match answered {
         Ok(all_shaped) => Ok(all_shaped),

@@ -1,17 +1,36 @@
 //! What a line is answered with.
 
-ghost use Rattle.std.specs.Prelude.{◌<◌, length, IfOk};
+ghost use Rattle.std.specs.Prelude.{IfOk, string_bytes};
 ghost use Rattle.shape_command.specs.Answer.{answer_text};
-ghost use Rattle.shape_command.specs.Lines.{IsAnswer};
-ghost use Rattle.glyph_text.specs.Text.{AreGlyphs};
+ghost use Rattle.shape_command.specs.Lines.{IsAnswer, PrintsTextOf};
 
 use crate::options::LineOptions;
 use crate::scale::scaled_positions;
 use crate::text::{empty_text, fill, lossy_text};
-use font_shaper::{Face, ShapeError, shape};
+use font_shaper::{Face, FaceNames, ShapeError, shape};
 use glyph_text::serialize::glyphs_text;
-use shaping_buffer::{GlyphBuffer, GlyphNames, SerializeFlags, UnicodeBuffer};
+use shaping_buffer::{
+    Flags, GlyphBuffer, GlyphNames, NoGlyphNames, SerializeFlags, hb_glyph_info_t,
+};
 use std::alloc::{AllocError, Global};
+
+/// Names and extents of glyphs, where the extents are found before they are asked for.
+pub trait LineNames: GlyphNames {
+    /// Finds the extents of glyphs.
+    fn find(&mut self, infos: &[hb_glyph_info_t]) -> Result<(), AllocError>;
+}
+
+impl LineNames for NoGlyphNames {
+    fn find(&mut self, _infos: &[hb_glyph_info_t]) -> Result<(), AllocError> {
+        Ok(())
+    }
+}
+
+impl LineNames for FaceNames<'_> {
+    fn find(&mut self, infos: &[hb_glyph_info_t]) -> Result<(), AllocError> {
+        self.find_extents(infos)
+    }
+}
 
 /// What a line is answered with.
 #[derive(Debug, Drop)]
@@ -25,90 +44,126 @@ pub enum Answer {
 }
 
 /// A font, and how lines are shaped with it and printed.
-#[derive(Drop)]
-pub struct LineShaper<'a, N: GlyphNames + Drop> {
+#[derive(Clone, Copy)]
+pub struct LineShaper<'a> {
     /// The font.
     pub face: Face<'a>,
-    /// The names and the extents of its glyphs.
-    pub names: N,
     /// How large an em is, unless it is as large as in the font.
     pub font_size: Option<(i32, i32)>,
     /// How each line is shaped.
     pub options: &'a LineOptions<'a>,
     /// What is printed of glyphs.
     pub output: SerializeFlags,
+    /// Whether the text is a single line.
+    pub single_par: bool,
 }
 
-impl<'a, N: GlyphNames + Drop> LineShaper<'a, N> {
+impl LineShaper<'_> {
     /// The answer to a line.
-    pub fn answer(&self, alloc: Global, line: &[u8]) -> Result<Answer, AllocError>
-        ensures { IfOk result (λ answer. IsAnswer
-            (record { name = N.name_of self.now.names; extents = N.extents_of self.now.names })
-            self.now.output (answer_text answer)) }
+    pub fn answer<N: LineNames>(
+        &self,
+        alloc: Global,
+        names: &mut N,
+        line: &[u8],
+    ) -> Result<Answer, AllocError>
+        ensures { IfOk result (λ answer. IsAnswer self.now.output (answer_text answer)) }
     {
         match std::str::from_utf8(line) {
-            Ok(line) => self.answer_to_text(alloc, line),
+            Ok(line) => self.answer_to_text(alloc, names, line),
             Err(_) => {
                 let line = lossy_text(alloc, line)?;
-                self.answer_to_text(alloc, line.as_str())
+                self.answer_to_text(alloc, names, line.as_str())
             }
         }
     }
 
     /// The answer to a line that is UTF-8.
-    fn answer_to_text(&self, alloc: Global, line: &str) -> Result<Answer, AllocError>
-        ensures { IfOk result (λ answer. IsAnswer
-            (record { name = N.name_of self.now.names; extents = N.extents_of self.now.names })
-            self.now.output (answer_text answer)) }
+    fn answer_to_text<N: LineNames>(
+        &self,
+        alloc: Global,
+        names: &mut N,
+        line: &str,
+    ) -> Result<Answer, AllocError>
+        ensures { IfOk result (λ answer. IsAnswer self.now.output (answer_text answer)) }
     {
         let mut text = empty_text(alloc, self.options);
         if !fill(alloc, self.options, line, &mut text)? {
             return Ok(Answer::Failed);
         }
         match shape(&self.face, self.options.features.as_slice(), text) {
-            Ok(glyphs) => self.print(alloc, &glyphs),
+            Ok(glyphs) => self.print(alloc, names, &glyphs),
             Err(ShapeError::TooLong) => Ok(Answer::Failed),
             Err(ShapeError::Memory) => Err(AllocError),
         }
     }
 
-    /// The text of glyphs.
-    fn print(&self, alloc: Global, glyphs: &GlyphBuffer) -> Result<Answer, AllocError>
-        requires { AreGlyphs glyphs.now.input }
-        ensures { IfOk result (λ answer. IsAnswer
-            (record { name = N.name_of self.now.names; extents = N.extents_of self.now.names })
-            self.now.output (answer_text answer)) }
+    /// Prints glyphs.
+    fn print<N: LineNames>(
+        &self,
+        alloc: Global,
+        names: &mut N,
+        glyphs: &GlyphBuffer,
+    ) -> Result<Answer, AllocError>
+        ensures { IfOk result (λ answer. IsAnswer self.now.output (answer_text answer)) }
     {
         if glyphs.is_empty() {
             return Ok(Answer::Empty);
         }
+        self.find_extents(names, glyphs.glyph_infos())?;
+        let text = self.glyph_text(alloc, names, glyphs)?;
+        Ok(Answer::Glyphs(text))
+    }
+
+    /// Finds the extents of glyphs, where they are printed.
+    fn find_extents<N: LineNames>(
+        &self,
+        names: &mut N,
+        infos: &[hb_glyph_info_t],
+    ) -> Result<(), AllocError> {
+        if self.output.contains(SerializeFlags::GLYPH_EXTENTS) {
+            names.find(infos)?;
+        }
+        Ok(())
+    }
+
+    /// The text of glyphs.
+    fn glyph_text<N: LineNames>(
+        &self,
+        alloc: Global,
+        names: &N,
+        glyphs: &GlyphBuffer,
+    ) -> Result<String, AllocError>
+        ensures { IfOk result (λ text. PrintsTextOf
+            (record { name = N.name_of names.now; extents = N.extents_of names.now })
+            self.now.output glyphs.now (string_bytes text)) }
+    {
         match self.font_size {
-            Some((x, y)) => self.print_scaled(alloc, glyphs, x, y),
-            None => {
-                let text = glyphs.serialize(alloc, &self.names, self.output)?;
-                Ok(Answer::Glyphs(text))
-            }
+            Some((x, y)) => self.scaled_text(alloc, names, glyphs, x, y),
+            None => glyphs.serialize(alloc, names, self.output),
         }
     }
 
     /// The text of glyphs where an em is this wide and this high.
-    fn print_scaled(
+    fn scaled_text<N: LineNames>(
         &self,
         alloc: Global,
+        names: &N,
         glyphs: &GlyphBuffer,
         x: i32,
         y: i32,
-    ) -> Result<Answer, AllocError>
-        requires some { 0 < length glyphs.now.input }
-        requires glyphs { AreGlyphs glyphs.now.input }
-        ensures { IfOk result (λ answer. IsAnswer
-            (record { name = N.name_of self.now.names; extents = N.extents_of self.now.names })
-            self.now.output (answer_text answer)) }
+    ) -> Result<String, AllocError>
+        ensures { IfOk result (λ text. PrintsTextOf
+            (record { name = N.name_of names.now; extents = N.extents_of names.now })
+            self.now.output glyphs.now (string_bytes text)) }
     {
         let units_per_em = self.face.units_per_em();
         let positions = scaled_positions(alloc, glyphs.glyph_positions(), x, y, units_per_em)?;
-        let infos = glyphs.glyph_infos();
-        let text = glyphs_text(alloc, &self.names, self.output, infos, positions.as_slice())?;
-        Ok(Answer::Glyphs(text))
+        glyphs_text(
+            alloc,
+            names,
+            self.output,
+            glyphs.glyph_infos(),
+            positions.as_slice(),
+        )
     }
 }

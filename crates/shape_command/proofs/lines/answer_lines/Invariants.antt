@@ -5,8 +5,5 @@ use Rattle.shape_command.proofs.lines.answer_lines.Given as goal
 -- each line so far has its answer
 abbrev pub invariant-loop : goal.invariant-loop
 invariant-loop g l =
-    AnswersSoFar (IsAnswer (record {
-      name = g.N.GlyphNames.name_of l.shaper.names;
-      extents = g.N.GlyphNames.extents_of l.shaper.names;
-    }) l.shaper.output) (g.R.Read.remaining l.initial.reader) (g.R.Read.remaining l.reader)
+    AnswersSoFar (IsAnswer l.shaper.output) (g.R.Read.remaining l.initial.reader) (g.R.Read.remaining l.reader)
     (g.W.Write.contents l.initial.writer) (g.W.Write.contents l.writer)
