@@ -217,6 +217,21 @@ fn flags_have_operators() {
     assert_eq!(flags, BufferFlags::BEGINNING_OF_TEXT);
 }
 
+/// The lines of the README.
+#[test]
+fn two_letters_give_way_to_one_glyph() {
+    let mut text = UnicodeBuffer::new();
+    assert_eq!(text.push_str("fit"), Ok(true));
+    let mut buffer = text.into_buffer();
+    buffer.clear_output();
+    assert_eq!(buffer.replace_glyphs(2, 1, &[64257]), Ok(true));
+    assert_eq!(buffer.sync(), Ok(true));
+    buffer.clear_positions();
+    let said =
+        GlyphBuffer::from_buffer(buffer).serialize(&NoGlyphNames, SerializeFlags::NO_GLYPH_NAMES);
+    assert_eq!(said.unwrap(), "64257=0+0|116=2+0");
+}
+
 /// A font with one name.
 struct Five;
 
