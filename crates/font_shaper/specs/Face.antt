@@ -1,5 +1,5 @@
 -- What is kept of a font: its tables, by their tags, and what they say.
-use Rattle.std.specs.Prelude.{ℕ, ℤ, pos, List, Bool, not, Option, Some, None, ◌≡◌, ◌/◌, ◌*◌, ◌-ℤ◌, ◌==◌, nat_eq, codes, unwrap_or, if◌then◌else◌, bit_and}
+use Rattle.std.specs.Prelude.{ℕ, pos, List, not, ◌≡◌, ◌/◌, ◌*◌, ◌-ℤ◌, ◌==◌, codes, unwrap_or, if◌then◌else◌, bit_and}
 use Rattle.rb_common.specs.Tag.{tag_of}
 use Rattle.font_tables.specs.Bytes.{number_16, is_number}
 use Rattle.font_tables.specs.Directory.{table_of}

@@ -186,9 +186,7 @@ impl<'a> Face<'a> {
 
     /// How high horizontal lines are.
     fn line_height(&self) -> i32 {
-        self.extents
-            .ascender
-            .wrapping_sub(self.extents.descender)
+        self.extents.ascender.wrapping_sub(self.extents.descender)
     }
 }
 

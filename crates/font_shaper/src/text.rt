@@ -10,8 +10,8 @@ use crate::glyph_info::{
 use shaping_buffer::rb_glyph::hb_gc::RB_UNICODE_GENERAL_CATEGORY_MODIFIER_SYMBOL;
 use shaping_buffer::{
     BufferFlags, CharExt, Direction, Flags, HB_BUFFER_CLUSTER_LEVEL_MONOTONE_CHARACTERS,
-    HB_BUFFER_CLUSTER_LEVEL_MONOTONE_GRAPHEMES,
-    HB_BUFFER_SCRATCH_FLAG_HAS_NON_ASCII, hb_buffer_t, hb_glyph_info_t,
+    HB_BUFFER_CLUSTER_LEVEL_MONOTONE_GRAPHEMES, HB_BUFFER_SCRATCH_FLAG_HAS_NON_ASCII, hb_buffer_t,
+    hb_glyph_info_t,
 };
 use std::alloc::AllocError;
 
@@ -170,7 +170,5 @@ fn native_direction(buffer: &hb_buffer_t) -> Option<Direction> {
 /// Whether the text has digits or regional indicators, and no letters.
 fn are_numbers(infos: &[hb_glyph_info_t]) -> bool {
     !infos.iter().any(|info| is_letter(info))
-        && infos
-            .iter()
-            .any(|info| is_decimal_number(info) || is_regional_indicator(info))
+        && infos.iter().any(|info| is_decimal_number(info) || is_regional_indicator(info))
 }

@@ -1,5 +1,5 @@
 -- The fonts of a Macintosh resource file.
-use Rattle.std.specs.Prelude.{ℕ, List, Option, Some, None, Bool, ◌+◌, ◌*◌, if◌then◌else◌, nat_le, unwrap_or, codes, option_map, option_and_then}
+use Rattle.std.specs.Prelude.{ℕ, List, Option, None, Bool, ◌+◌, ◌*◌, if◌then◌else◌, nat_le, unwrap_or, codes, option_map, option_and_then}
 use Rattle.rb_common.specs.Tag.{tag_of}
 use Rattle.font_tables.specs.Bytes.{number_16, number_24, number_32, is_number}
 use Rattle.font_tables.specs.Rows.{first_below}

@@ -1,8 +1,6 @@
 -- Numbers that are read byte by byte, and characters that are written one by one.
-use Rattle.std.proofs.Common.{ℕ, ◌≡◌, ◌+◌, ◌<◌, List, [], ◌∷◌, ◌++◌, length, take, get_or, flat_map, Option, None, Some}
-use Rattle.std.proofs.Common.{option_map, option_and_then, option_to_list, refl, sym, ap, ◌∙◌, append_assoc, append-nil, arith}
-use Rattle.std.proofs.lemmas.List.{take_more}
-use Rattle.std.proofs.lemmas.Grind.{flat_map-append}
+use Rattle.std.proofs.Common.{ℕ, ◌≡◌, ◌+◌, List, [], ◌∷◌, ◌++◌, length, Option, None, Some}
+use Rattle.std.proofs.Common.{option_map, option_and_then, option_to_list, refl, sym, ap, ◌∙◌, append_assoc, arith}
 use Rattle.shape_command.specs.declared.code_points.Reading.{Reading}
 use Rattle.shape_command.specs.declared.code_points.Reading.TheVariants.{Between}
 use Rattle.shape_command.specs.CodePoints.{step, ended, numbers_from, numbers_in}
@@ -35,13 +33,6 @@ no_step reading b bytes numbers e = ap (λ s. option_map (λ ns. numbers ++ ns) 
 nothing_read : (o : Option (List ℕ)) → o ≡ option_map (λ ns. [] ++ ns) o
 nothing_read None = refl
 nothing_read (Some ns) = refl
-
--- one character more is written
-pub flat_map-one_more : (f : ℕ → List ℕ) (xs : List ℕ) (i : ℕ) → i < length xs
-    → flat_map f (take (i + 1) xs) ≡ flat_map f (take i xs) ++ f (get_or xs i 0)
-flat_map-one_more f xs i h =
-    ap (flat_map f) (take_more xs i 0 h) ∙ flat_map-append f (take i xs) (get_or xs i 0 ∷ [])
-    ∙ ap (λ l. flat_map f (take i xs) ++ l) (append-nil (f (get_or xs i 0)))
 
 -- ---- the loop
 

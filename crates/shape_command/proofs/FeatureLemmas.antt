@@ -1,5 +1,5 @@
 -- Features that are read from texts, and from more texts.
-use Rattle.std.proofs.Common.{ℕ, ◌≡◌, inl, inr, List, [], ◌∷◌, ◌++◌, refl, sym, ap, subst, ◌∙◌, append_assoc, append-nil}
+use Rattle.std.proofs.Common.{ℕ, ◌≡◌, inl, inr, List, [], ◌∷◌, ◌++◌, sym, ap, subst, ◌∙◌, append_assoc, append-nil}
 use Rattle.std.proofs.Common.{◌+◌, ◌<◌, ◌≤◌, length, take, map, flat_map, get_or, Bor}
 use Rattle.std.proofs.lemmas.List.{take_more, map-append, take_all}
 use Rattle.std.proofs.lemmas.Grind.{flat_map-append}
@@ -21,9 +21,6 @@ reads-append (x ∷ xs) ys fs gs (inl p) q =
       reads-append xs ys p.0 gs p.2 q,
     )
 reads-append (x ∷ xs) ys fs gs (inr p) q = inr (p.0, reads-append xs ys fs gs p.1 q)
-
-pub adds-none : (a : List Feature) → AddsFeatures a a []
-adds-none a = ([], refl, sym (append-nil a))
 
 pub adds-append : (a b c : List Feature) (xs ys : List (List ℕ)) → AddsFeatures a b xs → AddsFeatures b c ys
     → AddsFeatures a c (xs ++ ys)

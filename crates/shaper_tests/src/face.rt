@@ -16,7 +16,11 @@ fn letters_have_glyphs_and_advances(rt: HostRuntime) -> Result<(), Fail> {
         ('b', 4, 420, (210, 880)),
         ('c', 5, 430, (215, 850)),
     ] {
-        assert_eq!(rt; face.glyph_index(letter as u32), Some(GlyphId(glyph)), "{letter}");
+        assert_eq!(rt;
+            face.glyph_index(letter as u32),
+            Some(GlyphId(glyph)),
+            "{letter}"
+        );
         assert!(rt; face.has_glyph(letter), "{letter}");
         assert_eq!(rt; face.glyph_hor_advance(GlyphId(glyph)), across, "{letter}");
         assert_eq!(rt; face.glyph_ver_advance(GlyphId(glyph)), 1000, "{letter}");

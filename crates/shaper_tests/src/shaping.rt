@@ -37,7 +37,10 @@ fn from_right_to_left(rt: HostRuntime) -> Result<(), Fail> {
 #[test]
 fn from_top_to_bottom(rt: HostRuntime) -> Result<(), Fail> {
     let text = shaped(rt.alloc(), "bc", Direction::TopToBottom)?;
-    assert_eq!(rt; text.as_str(), "b=0@-210,-880+0,-1000|c=1@-215,-850+0,-1000");
+    assert_eq!(rt;
+        text.as_str(),
+        "b=0@-210,-880+0,-1000|c=1@-215,-850+0,-1000"
+    );
     Ok(())
 }
 
@@ -45,6 +48,9 @@ fn from_top_to_bottom(rt: HostRuntime) -> Result<(), Fail> {
 #[test]
 fn from_bottom_to_top(rt: HostRuntime) -> Result<(), Fail> {
     let text = shaped(rt.alloc(), "bc", Direction::BottomToTop)?;
-    assert_eq!(rt; text.as_str(), "c=1@-215,-850+0,-1000|b=0@-210,-880+0,-1000");
+    assert_eq!(rt;
+        text.as_str(),
+        "c=1@-215,-850+0,-1000|b=0@-210,-880+0,-1000"
+    );
     Ok(())
 }

@@ -5,9 +5,7 @@ ghost use Rattle.std.specs.Prelude.{◌≡◌, ◌+◌, ◌<◌, ◌≤◌, true
 use super::parts::{MOST_STEPS, Parts, add_parts};
 use super::variations::read_variations;
 use crate::face::Face;
-use crate::glyph_info::{
-    is_unicode_mark, is_unicode_space, set_space_fallback, set_unicode_props,
-};
+use crate::glyph_info::{is_unicode_mark, is_unicode_space, set_space_fallback, set_unicode_props};
 use shaping_buffer::rb_glyph::hb_unicode_funcs_t::NOT_SPACE;
 use shaping_buffer::{
     CharExt, HB_BUFFER_SCRATCH_FLAG_HAS_SPACE_FALLBACK, hb_buffer_t, hb_glyph_info_t,
@@ -16,6 +14,7 @@ use std::alloc::AllocError;
 
 /// The hyphen that no line is broken at, and the one that stands for it.
 const NON_BREAKING_HYPHEN: u32 = 0x2011;
+
 const HYPHEN: u32 = 0x2010;
 
 /// Finds a glyph for each character, or for its parts.

@@ -45,13 +45,7 @@ pub(crate) fn add_parts(
 
 /// Adds the first part of a character, or the parts of that.
 #[cycle(parts)]
-fn add_first(
-    parts: &mut Parts,
-    face: &Face,
-    first: char,
-    shortest: bool,
-    steps: usize,
-) -> bool
+fn add_first(parts: &mut Parts, face: &Face, first: char, shortest: bool, steps: usize) -> bool
     requires some { 0 < steps }
     requires room { length parts.old.items + steps < 9 }
     ensures most { length parts.new.items ≤ length parts.old.items + steps }

@@ -40,8 +40,7 @@ fn recompose_next(
     requires glyph { 0 < length buffer.old.input }
     ensures { IfOk result (λ _. buffer.new.have_output ≡ true) }
 {
-    if let Some((composed, glyph)) = composite_of(buffer.out_info(), buffer.cur(0), face, starter)
-    {
+    if let Some((composed, glyph)) = composite_of(buffer.out_info(), buffer.cur(0), face, starter) {
         let was_composed = compose_current(buffer, starter, composed, glyph)?;
         return Ok(if was_composed { Some(starter) } else { None });
     }

@@ -63,8 +63,8 @@ fn keep_both(buffer: &mut hb_buffer_t) -> Result<bool, AllocError>
     if !buffer.next_glyph()? || buffer.lookahead_len() == 0 {
         return Ok(false);
     }
-    buffer.scratch_flags =
-        buffer.scratch_flags | HB_BUFFER_SCRATCH_FLAG_HAS_VARIATION_SELECTOR_FALLBACK;
+    buffer.scratch_flags = buffer.scratch_flags
+        | HB_BUFFER_SCRATCH_FLAG_HAS_VARIATION_SELECTOR_FALLBACK;
     let is_shown = buffer.not_found_variation_selector.is_some();
     let selector = buffer.cur_mut(0);
     set_variation_selector(selector);

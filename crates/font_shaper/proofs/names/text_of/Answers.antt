@@ -1,4 +1,4 @@
-use Rattle.std.proofs.Common.{ℕ, List, Bool, true, false, ◌≡◌, Some, None, sym, ap, refl}
+use Rattle.std.proofs.Common.{ℕ, List, Bool, true, false, ◌≡◌, Some, None, sym, refl}
 use Rattle.std.specs.Str.{IsUtf8, is_utf8}
 use Rattle.std.proofs.lemmas.Str.{is_utf8-from_IsUtf8, IsUtf8-from_is_utf8}
 use Rattle.font_shaper.specs.FaceNames.{text_of}
