@@ -16,6 +16,7 @@ use crate::memory::AllocError;
 
 /// The hyphen that no line is broken at, and the one that stands for it.
 const NON_BREAKING_HYPHEN: u32 = 0x2011;
+
 const HYPHEN: u32 = 0x2010;
 
 /// Finds a glyph for each character, or for its parts.
