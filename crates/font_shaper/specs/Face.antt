@@ -54,3 +54,4 @@ pub record KeepsItsTables (face : Face) : Type 0 where
   pub long_offsets :
       face.outlines.glyf.has_long_offsets ≡ not (index_to_loc_format (table face (codes "head")) == 0)
   pub outlined : face.outlines.glyf.glyph_count ≡ face.glyph_count
+  pub positioned : face.has_gpos ≡ is_number (number_16 (table face (codes "GPOS")) 0) 1

@@ -108,7 +108,7 @@ fn position(buffer: &mut hb_buffer_t, face: &Face)
     ensures placed { IsSome buffer.new.positions }
 {
     position_glyphs(buffer, face);
-    let adjusts = buffer.direction.is_forward();
+    let adjusts = !face.has_gpos && buffer.direction.is_forward();
     zero_mark_widths(buffer, adjusts);
     zero_width_default_ignorables(buffer);
     if buffer.direction.is_backward() {
