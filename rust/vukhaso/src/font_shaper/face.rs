@@ -37,6 +37,8 @@ pub struct Face<'a> {
     pub definitions: Gdef<'a>,
     /// The outlines of the glyphs.
     pub outlines: Outlines<'a>,
+    /// Whether the font positions its marks itself: whether it has a table `GPOS`.
+    pub has_gpos: bool,
 }
 
 /// The outlines of a font.
@@ -87,6 +89,7 @@ impl<'a> Face<'a> {
             extents: line_extents(os2, hhea, units_per_em),
             definitions: Gdef::new(tables.table(Tag::from_bytes(b"GDEF"))),
             outlines: outlines_of(&tables, head, glyph_count),
+            has_gpos: matches!(u16_at(tables.table(Tag::from_bytes(b"GPOS")), 0), Some(1)),
         })
     }
 

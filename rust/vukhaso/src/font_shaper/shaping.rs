@@ -138,7 +138,7 @@ fn set_glyph_properties(info: &mut hb_glyph_info_t, face: &Face) {
 fn position(buffer: &mut hb_buffer_t, face: &Face) {
     debug_assert!(!buffer.have_output());
     position_glyphs(buffer, face);
-    let adjusts = buffer.direction.is_forward();
+    let adjusts = !face.has_gpos && buffer.direction.is_forward();
     zero_mark_widths(buffer, adjusts);
     zero_width_default_ignorables(buffer);
     if buffer.direction.is_backward() {
