@@ -39,10 +39,6 @@ glyphs_line font flags s = if length s.input == 0 then [] else 91 ∷ text_of fo
 abbrev pub failure_line : List ℕ
 failure_line = codes "error: Shaping failed."
 
--- the text of these glyphs, at their own positions or at others
-abbrev pub PrintsTextOf : Font → SerializeFlags → State → List ℕ → Type 0
-PrintsTextOf font flags s text = (placed : State) × (placed.input ≡ s.input) × (text ≡ text_of font flags placed)
-
 -- glyphs with names and extents are printed; which they are is not said here
 abbrev pub PrintsGlyphs : SerializeFlags → List ℕ → Type 0
 PrintsGlyphs flags answer = (font : Font) × (glyphs : State) × (answer ≡ glyphs_line font flags glyphs)

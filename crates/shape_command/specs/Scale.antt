@@ -1,7 +1,8 @@
 -- Positions at another size than the font's own.
-use Rattle.std.specs.Prelude.{ℕ, ℤ, pos, ◌+ℤ◌, ◌*ℤ◌, max, int_div}
+use Rattle.std.specs.Prelude.{ℕ, ℤ, pos, ◌+ℤ◌, ◌*ℤ◌, max, int_div, map, unwrap_or, [], Option, None, Some}
 use Rattle.std.specs.Int.{int_shr, saturate_signed, w32, w64}
 use Rattle.rb_glyph.specs.declared.position.GlyphPosition.{GlyphPosition}
+use Rattle.shaping_buffer.specs.State.{State}
 
 -- how long 2^16 font units are where an em has this length; a font with no units is taken to have one
 abbrev pub multiplier : ℤ → ℕ → ℤ
@@ -22,3 +23,9 @@ scaled_position x y units_per_em p = record p {
   x_offset = em_scale p.x_offset x units_per_em;
   y_offset = em_scale p.y_offset y units_per_em;
 }
+
+-- glyphs where an em has this size, or its own
+abbrev pub at_size : Option (ℤ × ℤ) → ℕ → State → State
+at_size None units_per_em s = s
+at_size (Some size) units_per_em s =
+    record s { positions = Some (map (scaled_position size.0 size.1 units_per_em) (unwrap_or s.positions [])) }

@@ -1,8 +1,10 @@
 //! What a line is answered with.
 
-ghost use Rattle.std.specs.Prelude.{IfOk, string_bytes};
+ghost use Rattle.std.specs.Prelude.{◌≡◌, Some, IfOk, string_bytes};
+ghost use Rattle.shaping_buffer.specs.Text.{text_of};
 ghost use Rattle.shape_command.specs.Answer.{answer_text};
-ghost use Rattle.shape_command.specs.Lines.{IsAnswer, PrintsTextOf};
+ghost use Rattle.shape_command.specs.Lines.{IsAnswer, glyphs_line};
+ghost use Rattle.shape_command.specs.Scale.{at_size};
 
 use crate::options::LineOptions;
 use crate::scale::scaled_positions;
@@ -97,14 +99,17 @@ impl LineShaper<'_> {
         }
     }
 
-    /// Prints glyphs.
-    fn print<N: LineNames>(
+    /// What is printed of glyphs: their text where an em has the size of the options. It is public for its clause, which
+    /// says more than that of `answer`.
+    pub fn print<N: LineNames>(
         &self,
         alloc: Global,
         names: &mut N,
         glyphs: &GlyphBuffer,
     ) -> Result<Answer, AllocError>
-        ensures { IfOk result (λ answer. IsAnswer self.now.output (answer_text answer)) }
+        ensures { IfOk result (λ answer. answer_text answer ≡ glyphs_line
+            (record { name = N.name_of names.new; extents = N.extents_of names.new }) self.now.output
+            (at_size self.now.font_size self.now.face.units_per_em glyphs.now)) }
     {
         if glyphs.is_empty() {
             return Ok(Answer::Empty);
@@ -133,9 +138,9 @@ impl LineShaper<'_> {
         names: &N,
         glyphs: &GlyphBuffer,
     ) -> Result<String, AllocError>
-        ensures { IfOk result (λ text. PrintsTextOf
-            (record { name = N.name_of names.now; extents = N.extents_of names.now })
-            self.now.output glyphs.now (string_bytes text)) }
+        ensures { IfOk result (λ text. string_bytes text ≡ text_of
+            (record { name = N.name_of names.now; extents = N.extents_of names.now }) self.now.output
+            (at_size self.now.font_size self.now.face.units_per_em glyphs.now)) }
     {
         match self.font_size {
             Some((x, y)) => self.scaled_text(alloc, names, glyphs, x, y),
@@ -152,9 +157,9 @@ impl LineShaper<'_> {
         x: i32,
         y: i32,
     ) -> Result<String, AllocError>
-        ensures { IfOk result (λ text. PrintsTextOf
-            (record { name = N.name_of names.now; extents = N.extents_of names.now })
-            self.now.output glyphs.now (string_bytes text)) }
+        ensures { IfOk result (λ text. string_bytes text ≡ text_of
+            (record { name = N.name_of names.now; extents = N.extents_of names.now }) self.now.output
+            (at_size (Some (x, y)) self.now.face.units_per_em glyphs.now)) }
     {
         let units_per_em = self.face.units_per_em();
         let positions = scaled_positions(alloc, glyphs.glyph_positions(), x, y, units_per_em)?;
