@@ -1,6 +1,6 @@
 -- What is printed of glyphs.
 use Rattle.std.proofs.Common.{ℕ, zero, suc, ℤ, ◌≡◌, ◌<◌, ◌==◌, List, [], ◌∷◌, ◌++◌, length, map, unwrap_or, false}
-use Rattle.std.proofs.Common.{Some, None, Option, inl, refl, sym, ap, subst, Result, Ok, Err, IfOk, arith, ◌∙◌}
+use Rattle.std.proofs.Common.{Some, None, Option, refl, sym, ap, subst, Result, Ok, Err, IfOk, arith, ◌∙◌}
 use Rattle.std.specs.List.{zip}
 use Rattle.std.proofs.lemmas.Bool.Decides.{nat_tests}
 use Rattle.rb_glyph.specs.declared.flag_sets.SerializeFlags.{SerializeFlags}
@@ -9,7 +9,7 @@ use Rattle.rb_glyph.specs.declared.position.GlyphPosition.{GlyphPosition}
 use Rattle.glyph_text.specs.Text.{Font, glyphs_text}
 use Rattle.shaping_buffer.specs.State.{State}
 use Rattle.shaping_buffer.specs.Text.{text_of}
-use Rattle.shape_command.specs.Lines.{glyphs_line, IsAnswer}
+use Rattle.shape_command.specs.Lines.{glyphs_line}
 use Rattle.shape_command.specs.Scale.{at_size, scaled_position}
 
 -- a size changes no glyph
@@ -50,10 +50,6 @@ text-scaled font flags x y units asked s infos own scaled given text same_infos 
     ∙ ap (λ o. map (scaled_position x y units) (unwrap_or o [])) same_own in
     e ∙ ap (λ l. glyphs_text font flags (zip l given)) same_infos
     ∙ ap (λ l. glyphs_text font flags (zip s.input l)) positions
-
-pub answers-some : (font : Font) (flags : SerializeFlags) (s : State) (answer : List ℕ)
-    → answer ≡ glyphs_line font flags s → IsAnswer flags answer
-answers-some font flags s answer e = inl (font, s, e)
 
 pub if_ok-map : {A E : Type 0} (P Q : A → Type 0) (r : Result A E) → ((x : A) → P x → Q x) → IfOk r P → IfOk r Q
 if_ok-map P Q (Ok x) f p = f x p
