@@ -10,7 +10,7 @@ from bodies import FOR_PROOFS, Bodies
 from paths import GONE, grouped, use_leaves
 
 # Methods of std that core does not have, and the trait of the package that has them.
-BEYOND_CORE = {"round": "Round"}
+BEYOND_CORE = {"round": "Round", "floor": "Round", "ceil": "Round"}
 
 # What C sees as it is laid out, as in rustybuzz.
 SEEN_BY_C = {"hb_glyph_info_t", "GlyphPosition"}
@@ -258,21 +258,25 @@ class Erased(Bodies):
     # The end.
 
     def finished(self):
-        pieces = [self.prefix.get(at, "") + text + self.added.get(at + 1, "") for at, text in enumerate(self.texts)]
-        text = "".join(pieces)
-        text = re.sub(r"[ \t]+\n", "\n", text)
-        return re.sub(r"\n{3,}", "\n\n", text)
+        # A space at the end of a line is part of a text, and of nothing else.
+        texts = [
+            text.replace(" \n", "\0\n") if word.kind == "text" else text
+            for word, text in zip(self.source.words, self.texts, strict=True)
+        ]
+        pieces = [self.prefix.get(at, "") + text + self.added.get(at + 1, "") for at, text in enumerate(texts)]
+        text = re.sub(r"[ \t]+\n", "\n", "".join(pieces))
+        return re.sub(r"\n{3,}", "\n\n", text).replace("\0", " ")
 
     def imports(self):
         """What the file names of the package's own modules, by the modules."""
-        return {self.paths.memory: self.names_of_memory(), self.paths.memory.replace("memory", "numbers"): self.traits_of_numbers()}
+        return {self.paths.memory: self.names_of_memory()}
 
     def traits_of_numbers(self):
         if self.paths.has_std:
             return []
         places = self.bare()
         called = {self.texts[at] for i, at in enumerate(places) if i and self.texts[places[i - 1]] == "."}
-        return sorted(BEYOND_CORE[name] for name in called & BEYOND_CORE.keys())
+        return sorted({BEYOND_CORE[name] for name in called & BEYOND_CORE.keys()})
 
     def names_of_memory(self):
         """Which of `Vec` and `String` the file names, by names that stand alone."""

@@ -17,6 +17,7 @@ fn options_are_read(rt: HostRuntime) -> Result<(), Fail> {
         "--face-index",
         "2",
         "--font-size=20,30",
+        "--font-ppem=9",
         "--cluster-level=1",
         "--unicodes-before=0627",
         "--text-after",
@@ -28,8 +29,9 @@ fn options_are_read(rt: HostRuntime) -> Result<(), Fail> {
         .ok()
         .ok_or("read")?;
     assert_eq!(rt; options.font_file, "font.ttf");
-    assert_eq!(rt; options.face_index, 2);
-    assert!(rt; options.font_size == Some((20, 30)));
+    assert_eq!(rt; options.font.index, 2);
+    assert!(rt; options.font.size == Some((20, 30)));
+    assert!(rt; options.font.pixels == Some((9, 9)));
     assert!(rt; matches!(&options.text, TextSource::Given("text")));
     let ned = SerializeFlags::NO_CLUSTERS.union(SerializeFlags::NO_ADVANCES);
     assert_eq!(rt; options.output.bits(), ned.bits());
@@ -61,8 +63,8 @@ static REFUSED: [(&[&str], &str); 10] = [
         "Cannot parse integer value 'x' for --face-index",
     ),
     (
-        &["program", "font", "--font-size=1.5"],
-        "--font-size argument should be one or two space-separated numbers, and not '1.5'",
+        &["program", "font", "--font-size=x"],
+        "--font-size argument should be one or two space-separated numbers, and not 'x'",
     ),
     (
         &["program", "font", "--shaper=fallback"],

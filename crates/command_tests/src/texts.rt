@@ -4,9 +4,8 @@
 use shape_command::batch::words_of_line;
 use shape_command::code_points::{CodePointsError, code_points, text_of_code_points};
 use shape_command::features::features;
-use shape_command::scale::{em_scale, scaled_positions};
+use shape_command::sizes::sizes;
 use shape_command::text::lossy_text;
-use shaping_buffer::GlyphPosition;
 use std::test::Fail;
 
 /// A list of characters, and its text.
@@ -97,40 +96,23 @@ fn bytes_that_are_no_text_are_replaced(rt: HostRuntime) -> Result<(), Fail> {
     Ok(())
 }
 
-/// A number of units, the size of an em, the units of an em, and the number at that size.
-static SIZES: [(i32, i32, u16, i32); 8] = [
-    (600, 1000, 1000, 600),
-    (1255, 1000, 2048, 613),
-    (-1255, 1000, 2048, -613),
-    (1, 1000, 2000, 1),
-    (-1, 1000, 2000, 0),
-    (410, 500, 1000, 205),
-    (410, -500, 1000, -205),
-    (410, 0, 0, 0),
+/// A size, and the length of an em across and upwards; none where it is refused.
+static SIZES: [(&str, Option<(i32, i32)>); 10] = [
+    ("20", Some((20, 20))),
+    ("20 30", Some((20, 30))),
+    ("20,30", Some((20, 30))),
+    (" 20, 30", Some((20, 30))),
+    ("12.7", Some((12, 12))),
+    ("-12.7 .5", Some((-12, 0))),
+    ("", None),
+    (".", None),
+    ("1.x", None),
+    ("20 30 40", None),
 ];
 
 #[test]
-fn sizes_are_rounded(rt: HostRuntime) -> Result<(), Fail> {
-    for (value, size, units, scaled) in &SIZES {
-        assert_eq!(rt;
-            em_scale(*value, *size, *units),
-            *scaled,
-            "{value} at {size} of {units}"
-        );
+fn sizes_are_read(rt: HostRuntime) {
+    for (text, size) in &SIZES {
+        assert!(rt; sizes(text) == *size, "{text}");
     }
-    let position = GlyphPosition {
-        x_advance: 100,
-        y_advance: -200,
-        x_offset: 10,
-        y_offset: 20,
-        ..GlyphPosition::default()
-    };
-    let scaled = scaled_positions(rt.alloc(), &[position], 500, 2000, 1000)?;
-    let wanted = (50, -400, 5, 40);
-    assert!(rt;
-        scaled.as_slice().first().is_some_and(|p| {
-            (p.x_advance, p.y_advance, p.x_offset, p.y_offset) == wanted
-        })
-    );
-    Ok(())
 }

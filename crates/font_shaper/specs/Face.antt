@@ -1,27 +1,39 @@
 -- What is kept of a font: its tables, by their tags, and what they say.
-use Rattle.std.specs.Prelude.{ℕ, pos, List, not, ◌≡◌, ◌/◌, ◌*◌, ◌-ℤ◌, ◌==◌, codes, unwrap_or, if◌then◌else◌, bit_and}
+use Rattle.std.specs.Prelude.{ℕ, List, [], length, not, ◌≡◌, ◌/◌, ◌==◌, codes, unwrap_or, if◌then◌else◌, bit_and}
 use Rattle.rb_common.specs.Tag.{tag_of}
 use Rattle.font_tables.specs.Bytes.{number_16, is_number}
 use Rattle.font_tables.specs.Directory.{table_of}
 use Rattle.font_tables.specs.Head.{units_per_em, glyph_count, index_to_loc_format}
+use Rattle.font_tables.specs.IgnoredGdef.{is_ignored}
 use Rattle.font_tables.specs.Extents.{long_metric_count, horizontal_extents}
-use Rattle.font_tables.specs.declared.extents.FontExtents.{FontExtents}
 use Rattle.font_tables.specs.declared.metrics.Metrics.{Metrics}
+use Rattle.font_tables.specs.declared.directory.Tables.{Tables}
 use Rattle.character_maps.specs.Choice.{chosen_subtable, chosen_encoding, variation_subtable}
 use Rattle.font_shaper.specs.declared.face.Face.{Face}
+use Rattle.font_shaper.specs.declared.layout.Layout.{Layout}
+
+-- the table with these letters in a directory
+abbrev pub table_in : Tables → List ℕ → List ℕ
+table_in tables letters = table_of tables.file.now tables.directory (tag_of letters)
 
 -- the table with these letters in the font's directory
 abbrev pub table : Face → List ℕ → List ℕ
-table face letters = table_of face.tables.file.now face.tables.directory (tag_of letters)
+table face letters = table_in face.tables letters
+
+-- these are the tables of lookups in a directory
+pub record IsLayoutOf (layout : Layout) (tables : Tables) : Type 0 where
+  pub substitutions : layout.gsub.now ≡ table_in tables (codes "GSUB")
+  pub positions : layout.gpos.now ≡ table_in tables (codes "GPOS")
+  pub kerning : layout.kern.now ≡ table_in tables (codes "kern")
+
+-- the table `GDEF`, unless it is one of those that are not believed, by their sizes
+abbrev pub believed : List ℕ → List ℕ → List ℕ → List ℕ
+believed gdef gsub gpos = if is_ignored (length gdef) (length gsub) (length gpos) then [] else gdef
 
 -- the font page of a symbol font: the high byte of the selection flags of the first version of `OS/2`
 abbrev pub font_page : List ℕ → ℕ
 font_page os2 =
     if is_number (number_16 os2 0) 0 then bit_and (unwrap_or (number_16 os2 62) 0) 0xFF00 else 0
-
--- how far lines reach where the font does not say it: four fifths of an em are above the baseline
-abbrev pub extents_of_em : ℕ → FontExtents
-extents_of_em em = record { ascender = pos (em * 4 / 5); descender = pos (em * 4 / 5) -ℤ pos em }
 
 -- these are the metrics of a table and of its header
 pub record AreMetricsOf (metrics : Metrics) (table header : List ℕ) (glyphs default : ℕ) : Type 0 where
@@ -44,14 +56,15 @@ pub record KeepsItsTables (face : Face) : Type 0 where
   pub vertical :
       AreMetricsOf face.vertical (table face (codes "vmtx")) (table face (codes "vhea")) face.glyph_count face.units_per_em
   pub origins : face.origins.table.now ≡ table face (codes "VORG")
-  pub extents :
-      face.extents
-      ≡ unwrap_or (horizontal_extents (table face (codes "OS/2")) (table face (codes "hhea")))
-      (extents_of_em face.units_per_em)
-  pub definitions : face.definitions.table.now ≡ table face (codes "GDEF")
+  pub extents : face.extents ≡ horizontal_extents (table face (codes "OS/2")) (table face (codes "hhea"))
+  pub layout : IsLayoutOf face.layout face.tables
+  pub definitions :
+      face.definitions.table.now
+      ≡ believed (table face (codes "GDEF")) (table face (codes "GSUB")) (table face (codes "GPOS"))
   pub outlines : face.outlines.glyf.glyf.now ≡ table face (codes "glyf")
   pub locations : face.outlines.glyf.loca.now ≡ table face (codes "loca")
   pub long_offsets :
       face.outlines.glyf.has_long_offsets ≡ not (index_to_loc_format (table face (codes "head")) == 0)
   pub outlined : face.outlines.glyf.glyph_count ≡ face.glyph_count
   pub positioned : face.has_gpos ≡ is_number (number_16 (table face (codes "GPOS")) 0) 1
+  pub scaled : face.scale.units_per_em ≡ face.units_per_em

@@ -1,2 +1,4 @@
 pub mod Face
 pub mod FaceNames
+pub mod Measures
+pub mod FallbackMarks

@@ -1,28 +1,41 @@
 //! A font, as far as shaping asks it.
 
-ghost use Rattle.std.specs.Prelude.{◌≡◌, ◌==◌, not, option_map, unwrap_or, codes, IfSome};
+ghost use Rattle.std.specs.Prelude.{◌≡◌, ◌==◌, not, option_map, codes, IfOk, IfSome};
 ghost use Rattle.rb_common.specs.Tag.{tag_of};
+ghost use Rattle.font_tables.specs.Bytes.{is_number, number_16};
 ghost use Rattle.font_tables.specs.Directory.{font_of, table_of};
-ghost use Rattle.font_tables.specs.Extents.{horizontal_extents};
 ghost use Rattle.font_tables.specs.Head.{index_to_loc_format};
-ghost use Rattle.font_shaper.specs.Face.{font_page, extents_of_em, KeepsItsTables};
+ghost use Rattle.font_shaper.specs.Face.{font_page, believed, IsLayoutOf, KeepsItsTables};
 ghost use Rattle.character_maps.specs.Codes.{glyph_index, glyph_variation_index};
-ghost use Rattle.font_tables.specs.Metrics.{advance};
 
+use crate::layout::Layout;
 use character_maps::CharacterMap;
 use font_tables::bytes::u16_at;
 use font_tables::directory::Tables;
 use font_tables::extents::{FontExtents, horizontal_extents, long_metric_count};
 use font_tables::gdef::Gdef;
 use font_tables::head::{glyph_count, index_to_loc_format, units_per_em};
+use font_tables::ignored_gdef::is_ignored;
 use font_tables::metrics::Metrics;
+use font_tables::scale::Scale;
 use font_tables::vertical_origins::VerticalOrigins;
+use glyph_layout::LookupList;
+use glyph_layout::lookup_list::{POSITIONING_EXTENSION, SUBSTITUTION_EXTENSION};
 use glyph_outlines::{GlyfTables, Outlines};
 use rb_common::{GlyphId, Tag};
-use rb_glyph::GlyphExtents;
+use std::alloc::{AllocError, Global};
+
+/// The lookups of a font.
+#[derive(Debug, Drop)]
+pub struct Lookups<'a> {
+    /// Those of `GSUB`.
+    pub substitutions: LookupList<'a>,
+    /// Those of `GPOS`.
+    pub positions: LookupList<'a>,
+}
 
 /// A font of a file: what shaping asks of it, found once.
-#[derive(Clone, Copy, Debug)]
+#[derive(Debug, Drop)]
 pub struct Face<'a> {
     /// The tables of the font.
     pub tables: Tables<'a>,
@@ -38,14 +51,22 @@ pub struct Face<'a> {
     pub vertical: Metrics<'a>,
     /// Where glyphs stand in vertical lines.
     pub origins: VerticalOrigins<'a>,
-    /// How far horizontal lines reach up and down.
-    pub extents: FontExtents,
+    /// How far horizontal lines reach up and down, in font units, where the font says it.
+    pub extents: Option<FontExtents>,
     /// The classes of the glyphs.
     pub definitions: Gdef<'a>,
     /// The outlines of the glyphs.
     pub outlines: Outlines<'a>,
+    /// The tables of the font's lookups.
+    pub layout: Layout<'a>,
+    /// The lookups.
+    pub lookups: Lookups<'a>,
+    /// What gives the memory for plans.
+    pub alloc: Global,
     /// Whether the font positions its marks itself: whether it has a table `GPOS`.
     pub has_gpos: bool,
+    /// The size at which the font is used.
+    pub scale: Scale,
 }
 
 /// The outlines of a font.
@@ -69,38 +90,29 @@ fn outlines_of<'a>(tables: &Tables<'a>, head: &[u8], glyph_count: u16) -> Outlin
 impl<'a> Face<'a> {
     /// The font with this index in a collection or in a Macintosh resource file, or the only one of a file, whatever the
     /// index. `None` where the bytes are no font, or there is no font with this index (OpenType specification, "OpenType
-    /// Font File").
-    pub fn from_slice(file: &'a [u8], index: u32) -> Option<Face<'a>>
-        ensures found { option_map (λ face. (face.tables.file.now, face.tables.directory)) result
-            ≡ font_of file.now index }
-        ensures keeps { IfSome result KeepsItsTables }
+    /// Font File"). `Err(AllocError)` where memory runs out.
+    pub fn parse(alloc: Global, file: &'a [u8], index: u32) -> Result<Option<Face<'a>>, AllocError>
+        ensures found { IfOk result (λ found.
+            option_map (λ face. (face.tables.file.now, face.tables.directory)) found ≡ font_of file.now index) }
+        ensures keeps { IfOk result (λ found. IfSome found KeepsItsTables) }
     {
-        let tables = Tables::new(file, index)?;
-        let head = tables.table(Tag::from_bytes(b"head"));
-        let units_per_em = units_per_em(head);
-        let glyph_count = glyph_count(tables.table(Tag::from_bytes(b"maxp")));
-        let os2 = tables.table(Tag::from_bytes(b"OS/2"));
-        let hhea = tables.table(Tag::from_bytes(b"hhea"));
-        let vmtx = tables.table(Tag::from_bytes(b"vmtx"));
-        let vhea = tables.table(Tag::from_bytes(b"vhea"));
-        Some(Face {
-            tables,
-            units_per_em,
-            glyph_count,
-            characters: CharacterMap::parse(tables.table(Tag::from_bytes(b"cmap")), font_page(os2)),
-            horizontal: Metrics::new(
-                tables.table(Tag::from_bytes(b"hmtx")),
-                long_metric_count(hhea),
-                glyph_count,
-                units_per_em / 2,
-            ),
-            vertical: Metrics::new(vmtx, long_metric_count(vhea), glyph_count, units_per_em),
-            origins: VerticalOrigins::new(tables.table(Tag::from_bytes(b"VORG"))),
-            extents: line_extents(os2, hhea, units_per_em),
-            definitions: Gdef::new(tables.table(Tag::from_bytes(b"GDEF"))),
-            outlines: outlines_of(&tables, head, glyph_count),
-            has_gpos: matches!(u16_at(tables.table(Tag::from_bytes(b"GPOS")), 0), Some(1)),
-        })
+        let Some(tables) = Tables::new(file, index) else {
+            return Ok(None);
+        };
+        let layout = Layout::new(&tables);
+        let definitions = definitions_of(tables.table(Tag::from_bytes(b"GDEF")), &layout);
+        let substitutions = LookupList::new(
+            alloc,
+            layout.gsub,
+            SUBSTITUTION_EXTENSION,
+            &definitions,
+        )?;
+        let positions = LookupList::new(alloc, layout.gpos, POSITIONING_EXTENSION, &definitions)?;
+        let lookups = Lookups {
+            substitutions,
+            positions,
+        };
+        Ok(Some(face_of(alloc, tables, layout, lookups)))
     }
 
     /// How many font units make an em (OpenType specification, `head`).
@@ -138,58 +150,88 @@ impl<'a> Face<'a> {
         self.characters.glyph_variation_index(character, selector)
     }
 
-    /// How far a glyph moves the pen in horizontal lines, in font units.
-    pub fn glyph_hor_advance(&self, glyph: GlyphId) -> u16
-        ensures { result ≡ advance self.now.horizontal glyph.0 }
+    /// Says how long an em is across and upwards. At first it is as long as it has font units; what is negative turns
+    /// glyphs round. All measures of glyphs are at this size. HarfBuzz's name is `hb_font_set_scale`.
+    pub fn set_scale(&mut self, x: i32, y: i32)
+        ensures across { self.new.scale.x ≡ x }
+        ensures upwards { self.new.scale.y ≡ y }
+        ensures kept { KeepsItsTables self.old → KeepsItsTables self.new }
     {
-        self.horizontal.advance(glyph)
+        let mut scale = Scale::new(self.units_per_em, x, y);
+        scale.x_ppem = self.scale.x_ppem;
+        scale.y_ppem = self.scale.y_ppem;
+        self.scale = scale;
     }
 
-    /// How far a glyph moves the pen down in vertical lines, in font units: by the font's vertical metrics, or else by the
-    /// height of its lines.
-    pub fn glyph_ver_advance(&self, glyph: GlyphId) -> i32 {
-        if self.vertical.has_advance(GlyphId(0)) {
-            i32::from(self.vertical.advance(glyph))
-        } else {
-            self.line_height()
-        }
+    /// Says how many pixels an em has across and upwards; 0 where glyphs are not drawn in pixels, as at first. The device
+    /// tables of a font move glyphs at some sizes in pixels. HarfBuzz's name is `hb_font_set_ppem`.
+    pub fn set_pixels_per_em(&mut self, x: u16, y: u16)
+        ensures across { self.new.scale.x_ppem ≡ x }
+        ensures upwards { self.new.scale.y_ppem ≡ y }
+        ensures kept { KeepsItsTables self.old → KeepsItsTables self.new }
+    {
+        self.scale.x_ppem = x;
+        self.scale.y_ppem = y;
     }
+}
 
-    /// Where a glyph's origin in vertical lines stands, in font units from its origin in horizontal ones.
-    pub fn vertical_origin(&self, glyph: GlyphId) -> (i32, i32) {
-        let x = i32::from(self.glyph_hor_advance(glyph) / 2);
-        (x, self.vertical_origin_y(glyph))
+/// The font of these tables, with these tables of lookups.
+fn face_of<'a>(
+    alloc: Global,
+    tables: Tables<'a>,
+    layout: Layout<'a>,
+    lookups: Lookups<'a>,
+) -> Face<'a>
+    requires { IsLayoutOf layout tables }
+    ensures tables { result.tables ≡ tables.entry }
+    ensures keeps { KeepsItsTables result }
+{
+    let head = tables.table(Tag::from_bytes(b"head"));
+    let units_per_em = units_per_em(head);
+    let glyph_count = glyph_count(tables.table(Tag::from_bytes(b"maxp")));
+    let os2 = tables.table(Tag::from_bytes(b"OS/2"));
+    let hhea = tables.table(Tag::from_bytes(b"hhea"));
+    let vmtx = tables.table(Tag::from_bytes(b"vmtx"));
+    let vhea = tables.table(Tag::from_bytes(b"vhea"));
+    Face {
+        tables,
+        units_per_em,
+        glyph_count,
+        characters: CharacterMap::parse(tables.table(Tag::from_bytes(b"cmap")), font_page(os2)),
+        horizontal: Metrics::new(
+            tables.table(Tag::from_bytes(b"hmtx")),
+            long_metric_count(hhea),
+            glyph_count,
+            units_per_em / 2,
+        ),
+        vertical: Metrics::new(vmtx, long_metric_count(vhea), glyph_count, units_per_em),
+        origins: VerticalOrigins::new(tables.table(Tag::from_bytes(b"VORG"))),
+        extents: horizontal_extents(os2, hhea),
+        definitions: definitions_of(tables.table(Tag::from_bytes(b"GDEF")), &layout),
+        outlines: outlines_of(&tables, head, glyph_count),
+        has_gpos: is_positioning(layout.gpos),
+        layout,
+        lookups,
+        alloc,
+        scale: Scale::of_em(units_per_em),
     }
+}
 
-    /// How far up a glyph's origin in vertical lines stands: by the table `VORG`, else by the top of its outline and its top
-    /// side bearing, or so that the outline stands in the middle of the line, else at the font's ascender.
-    fn vertical_origin_y(&self, glyph: GlyphId) -> i32 {
-        if let Some(y) = self.origins.y_origin(glyph) {
-            return i32::from(y);
-        }
-        let bearing = self.horizontal.side_bearing(glyph);
-        let Some(outline) = self.outlines.glyf.glyph_extents(glyph, bearing) else {
-            return self.extents.ascender;
-        };
-        match self.vertical.side_bearing(glyph) {
-            Some(bearing) => outline.y_bearing.wrapping_add(i32::from(bearing)),
-            None => {
-                let room = self.line_height().wrapping_add(outline.height);
-                outline.y_bearing.wrapping_add(room >> 1)
-            }
-        }
-    }
+/// Whether a table is a `GPOS` of the major version 1.
+fn is_positioning(gpos: &[u8]) -> bool
+    ensures { result ≡ is_number (number_16 gpos.now 0) 1 }
+{
+    matches!(u16_at(gpos, 0), Some(1))
+}
 
-    /// The bounds of a glyph, in font units; `None` where the font has no outline of it (OpenType specification, `glyf`
-    /// and `CFF `).
-    pub fn glyph_extents(&self, glyph: GlyphId) -> Option<GlyphExtents> {
-        self.outlines
-            .glyph_extents(glyph, self.horizontal.side_bearing(glyph))
-    }
-
-    /// How high horizontal lines are.
-    fn line_height(&self) -> i32 {
-        self.extents.ascender.wrapping_sub(self.extents.descender)
+/// The classes of the glyphs: none where `GDEF` is one of those that HarfBuzz does not believe.
+fn definitions_of<'a>(gdef: &'a [u8], layout: &Layout<'a>) -> Gdef<'a>
+    ensures { result.table.now ≡ believed gdef.now layout.now.gsub.now layout.now.gpos.now }
+{
+    if is_ignored(gdef.len(), layout.gsub.len(), layout.gpos.len()) {
+        Gdef::new(&[])
+    } else {
+        Gdef::new(gdef)
     }
 }
 
@@ -201,23 +243,5 @@ fn font_page(os2: &[u8]) -> u16
         u16_at(os2, 62).unwrap_or(0) & 0xFF00
     } else {
         0
-    }
-}
-
-/// How far horizontal lines reach up and down. A font that does not say it has four fifths of an em above the baseline, and
-/// the rest below.
-fn line_extents(os2: &[u8], hhea: &[u8], units_per_em: u16) -> FontExtents
-    ensures { result ≡ unwrap_or (horizontal_extents os2.now hhea.now) (extents_of_em units_per_em) }
-{
-    match horizontal_extents(os2, hhea) {
-        Some(extents) => extents,
-        None => {
-            let em = i32::from(units_per_em);
-            let ascender = em * 4 / 5;
-            FontExtents {
-                ascender,
-                descender: ascender - em,
-            }
-        }
     }
 }

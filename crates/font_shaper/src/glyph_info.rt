@@ -1,6 +1,8 @@
 //! What the steps of shaping ask of an item, and set: its Unicode properties, in the bits that HarfBuzz's
 //! `hb-ot-layout.hh` gives them.
 
+ghost use Rattle.std.specs.Prelude.{◌≡◌};
+
 use shaping_buffer::rb_glyph::hb_gc::{
     RB_UNICODE_GENERAL_CATEGORY_DECIMAL_NUMBER, RB_UNICODE_GENERAL_CATEGORY_ENCLOSING_MARK,
     RB_UNICODE_GENERAL_CATEGORY_FORMAT, RB_UNICODE_GENERAL_CATEGORY_LOWERCASE_LETTER,
@@ -17,13 +19,17 @@ pub(crate) fn general_category(info: &hb_glyph_info_t) -> u32 {
 }
 
 /// Sets the general category, and takes away what the high byte says.
-fn set_general_category(info: &mut hb_glyph_info_t, category: u16) {
+fn set_general_category(info: &mut hb_glyph_info_t, category: u16)
+    ensures { info.new.cluster ≡ info.old.cluster }
+{
     let low = 0xFF & !UnicodeProps::GENERAL_CATEGORY.bits();
     info.set_unicode_props(category | info.unicode_props() & low);
 }
 
 /// Sets the properties of an item that is not shaped yet, and adds what is to be remembered of it.
-pub(crate) fn set_unicode_props(info: &mut hb_glyph_info_t, scratch_flags: &mut u32) {
+pub(crate) fn set_unicode_props(info: &mut hb_glyph_info_t, scratch_flags: &mut u32)
+    ensures { info.new.cluster ≡ info.old.cluster }
+{
     let Some(character) = char::from_u32(info.glyph_id) else {
         return;
     };
@@ -74,13 +80,22 @@ pub(crate) fn modified_combining_class(info: &hb_glyph_info_t) -> u16 {
     }
 }
 
+/// Sets the class by which a mark is reordered, and later placed.
+pub(crate) fn set_modified_combining_class(info: &mut hb_glyph_info_t, class: u16) {
+    if is_unicode_mark(info) {
+        info.set_unicode_props(class.wrapping_mul(256) | info.unicode_props() & 0xFF);
+    }
+}
+
 /// Whether the character goes on with the grapheme before it.
 pub(crate) fn is_continuation(info: &hb_glyph_info_t) -> bool {
     info.unicode_props() & UnicodeProps::CONTINUATION.bits() != 0
 }
 
 /// Says that the character goes on with the grapheme before it.
-pub(crate) fn set_continuation(info: &mut hb_glyph_info_t) {
+pub(crate) fn set_continuation(info: &mut hb_glyph_info_t)
+    ensures { info.new.cluster ≡ info.old.cluster }
+{
     info.set_unicode_props(info.unicode_props() | UnicodeProps::CONTINUATION.bits());
 }
 
@@ -106,13 +121,17 @@ fn is_format_with(info: &hb_glyph_info_t, flag: UnicodeProps) -> bool {
 }
 
 /// Says that the item is a variation selector that the font does not know.
-pub(crate) fn set_variation_selector(info: &mut hb_glyph_info_t) {
+pub(crate) fn set_variation_selector(info: &mut hb_glyph_info_t)
+    ensures { info.new.cluster ≡ info.old.cluster }
+{
     set_general_category(info, RB_UNICODE_GENERAL_CATEGORY_FORMAT as u16);
     info.set_unicode_props(info.unicode_props() | UnicodeProps::CF_VS.bits());
 }
 
 /// Takes back that the item is a variation selector that the font does not know.
-pub(crate) fn clear_variation_selector(info: &mut hb_glyph_info_t) {
+pub(crate) fn clear_variation_selector(info: &mut hb_glyph_info_t)
+    ensures { info.new.cluster ≡ info.old.cluster }
+{
     set_general_category(info, RB_UNICODE_GENERAL_CATEGORY_NON_SPACING_MARK as u16);
 }
 
@@ -123,7 +142,9 @@ pub(crate) fn is_default_ignorable(info: &hb_glyph_info_t) -> bool {
 }
 
 /// Says that the character is visible by default.
-pub(crate) fn clear_default_ignorable(info: &mut hb_glyph_info_t) {
+pub(crate) fn clear_default_ignorable(info: &mut hb_glyph_info_t)
+    ensures { info.new.cluster ≡ info.old.cluster }
+{
     info.set_unicode_props(info.unicode_props() & !UnicodeProps::IGNORABLE.bits());
 }
 
@@ -133,7 +154,9 @@ pub(crate) fn is_unicode_space(info: &hb_glyph_info_t) -> bool {
 }
 
 /// Keeps the kind of a space that the font has no glyph for.
-pub(crate) fn set_space_fallback(info: &mut hb_glyph_info_t, space: space_t) {
+pub(crate) fn set_space_fallback(info: &mut hb_glyph_info_t, space: space_t)
+    ensures { info.new.cluster ≡ info.old.cluster }
+{
     info.set_unicode_props(u16::from(space) * 256 | info.unicode_props() & 0xFF);
 }
 
@@ -149,4 +172,37 @@ pub(crate) fn space_fallback(info: &hb_glyph_info_t) -> u8 {
 /// Whether the glyph is a mark by its font.
 pub(crate) fn is_mark(info: &hb_glyph_info_t) -> bool {
     info.glyph_props() & GlyphPropsFlags::MARK.bits() != 0
+}
+
+/// Whether a lookup made the glyph from several, and did not take it apart again.
+pub(crate) fn has_ligated(info: &hb_glyph_info_t) -> bool {
+    info.glyph_props() & GlyphPropsFlags::LIGATED.bits() != 0
+}
+
+/// The number of the ligature that a glyph is or belongs to, or 0.
+pub(crate) fn ligature_id(info: &hb_glyph_info_t) -> u8 {
+    info.lig_props() >> 5
+}
+
+/// Whether the glyph is a ligature itself.
+fn is_ligature_base(info: &hb_glyph_info_t) -> bool {
+    info.lig_props() & 0x10 != 0
+}
+
+/// The component of a ligature that a glyph belongs to, or 0.
+pub(crate) fn ligature_component(info: &hb_glyph_info_t) -> u8 {
+    if is_ligature_base(info) {
+        0
+    } else {
+        info.lig_props() & 0x0F
+    }
+}
+
+/// How many components a glyph has: 1 where it is no ligature.
+pub(crate) fn component_count(info: &hb_glyph_info_t) -> u8 {
+    if info.glyph_props() & GlyphPropsFlags::LIGATURE.bits() != 0 && is_ligature_base(info) {
+        info.lig_props() & 0x0F
+    } else {
+        1
+    }
 }

@@ -1,16 +1,32 @@
 //! A font, and the shaping of texts by it.
 #![tactic(auto)]
 
+mod comparison;
 mod ending;
 mod face;
+mod fallback_marks;
+mod fallback_spaces;
 mod glyph_info;
+mod layout;
+mod lookups;
+mod mark_placing;
+mod masks;
+mod measures;
 mod names;
 mod normalization;
+mod original;
+mod planning;
 mod positions;
 mod rotation;
 mod shaping;
 mod text;
+mod verification;
+mod watch;
 
-pub use face::Face;
+pub use comparison::{Differences, compare};
+pub use face::{Face, Lookups};
+pub use layout::Layout;
 pub use names::FaceNames;
-pub use shaping::{ShapeError, shape};
+pub use shaping::{ShapeError, shape, shape_watched};
+pub use verification::VerifyError;
+pub use watch::{Step, Unwatched, Watch};

@@ -5,7 +5,11 @@ ghost use Rattle.std.specs.Option.{option_copied};
 ghost use Rattle.font_shaper.specs.FaceNames.{name_of, name_bytes, text_of};
 
 use crate::face::Face;
+use crate::measures::bounds_of;
 use font_tables::glyph_names::PostNames;
+use font_tables::metrics::Metrics;
+use font_tables::scale::Scale;
+use glyph_outlines::Outlines;
 use rb_common::{GlyphId, Tag};
 use rb_glyph::{GlyphExtents, GlyphNames, hb_glyph_info_t};
 use std::alloc::{AllocError, Global};
@@ -14,17 +18,21 @@ use std::collections::BTreeMap;
 /// The names and the extents of a font's glyphs, as the text of shaped glyphs asks for them.
 #[derive(Drop)]
 pub struct FaceNames<'a> {
-    face: Face<'a>,
+    outlines: Outlines<'a>,
+    horizontal: Metrics<'a>,
+    scale: Scale,
     post: PostNames<'a>,
     extents: BTreeMap<u16, GlyphExtents>,
 }
 
 impl<'a> FaceNames<'a> {
-    /// The names of the font's glyphs. `Err(AllocError)` where memory runs out.
+    /// The names of the font's glyphs, and their extents at its size. `Err(AllocError)` where memory runs out.
     pub fn new(alloc: Global, face: &Face<'a>) -> Result<Self, AllocError> {
         let post = PostNames::new(alloc, face.tables.table(Tag::from_bytes(b"post")))?;
         Ok(FaceNames {
-            face: *face,
+            outlines: face.outlines,
+            horizontal: face.horizontal,
+            scale: face.scale,
             post,
             extents: BTreeMap::new(alloc),
         })
@@ -35,7 +43,7 @@ impl<'a> FaceNames<'a> {
         for info in infos {
             if let Ok(number) = u16::try_from(info.glyph_id)
                 && !self.extents.contains_key(&number)
-                && let Some(extents) = self.face.glyph_extents(GlyphId(number))
+                && let Some(extents) = self.bounds(GlyphId(number))
             {
                 let _ = self.extents.insert(number, extents)?;
             }
@@ -43,14 +51,19 @@ impl<'a> FaceNames<'a> {
         Ok(())
     }
 
+    /// The bounds of a glyph, as its outline has them.
+    fn bounds(&self, glyph: GlyphId) -> Option<GlyphExtents> {
+        bounds_of(&self.outlines, &self.horizontal, &self.scale, glyph)
+    }
+
     /// The bytes of a glyph's name.
     fn name_bytes(&self, glyph: GlyphId) -> Option<&'a [u8]>
         ensures { option_copied result
-            ≡ name_bytes self.now.post.table.now self.now.face.outlines glyph.0 }
+            ≡ name_bytes self.now.post.table.now self.now.outlines glyph.0 }
     {
         match self.post.name(glyph) {
             Some(name) => Some(name),
-            None => self.face.outlines.glyph_name(glyph),
+            None => self.outlines.glyph_name(glyph),
         }
     }
 }
@@ -69,7 +82,7 @@ impl<'a> GlyphNames for FaceNames<'a> {
     ghost use Rattle.std.specs.BTreeMap.{get};
     ghost use Rattle.std.specs.Ordering.{nat_cmp};
 
-    ghost name_of = { λ names glyph. name_of names.post.table.now names.face.outlines glyph };
+    ghost name_of = { λ names glyph. name_of names.post.table.now names.outlines glyph };
 
     ghost extents_of = { λ names glyph. get nat_cmp names.extents glyph };
 

@@ -3,12 +3,9 @@
 ghost use Rattle.std.specs.Prelude.{◌≡◌, false, length, IsSome};
 
 use crate::face::Face;
-use crate::glyph_info::{is_default_ignorable, is_mark, space_fallback};
+use crate::fallback_spaces::space_advance;
+use crate::glyph_info::{is_default_ignorable, is_mark};
 use rb_common::GlyphId;
-use shaping_buffer::rb_glyph::hb_unicode_funcs_t::{
-    SPACE_4_EM_18, SPACE_EM, SPACE_EM_2, SPACE_EM_3, SPACE_EM_4, SPACE_EM_5, SPACE_EM_6,
-    SPACE_EM_16, SPACE_FIGURE, SPACE_NARROW, SPACE_PUNCTUATION,
-};
 use shaping_buffer::{
     BufferFlags, Flags, GlyphPosition, HB_BUFFER_SCRATCH_FLAG_HAS_DEFAULT_IGNORABLES,
     HB_BUFFER_SCRATCH_FLAG_HAS_SPACE_FALLBACK, hb_buffer_t, hb_glyph_info_t,
@@ -22,14 +19,17 @@ pub(crate) fn position_glyphs(buffer: &mut hb_buffer_t, face: &Face)
 {
     let is_horizontal = buffer.direction.is_horizontal();
     let has_spaces = buffer.scratch_flags & HB_BUFFER_SCRATCH_FLAG_HAS_SPACE_FALLBACK != 0;
+    let invisible = buffer.invisible;
     buffer.clear_positions();
     for i in 0..buffer.len() {
         let Some(info) = buffer.info().get(i) else {
             break;
         };
         let mut position = font_position(face, glyph_of(info), is_horizontal);
-        let space = if has_spaces { space_fallback(info) } else { 0 };
-        set_space_width(&mut position, face, space, is_horizontal);
+        if has_spaces {
+            let advance = advance_of(&mut position, is_horizontal);
+            *advance = space_advance(info, *advance, face, is_horizontal, invisible);
+        }
         set_position(buffer, i, position);
     }
 }
@@ -51,64 +51,30 @@ fn set_position(buffer: &mut hb_buffer_t, place: usize, position: GlyphPosition)
     }
 }
 
+/// The advance in the direction of the line.
+fn advance_of(position: &mut GlyphPosition, is_horizontal: bool) -> &mut i32 {
+    if is_horizontal {
+        &mut position.x_advance
+    } else {
+        &mut position.y_advance
+    }
+}
+
 /// The position that the font gives a glyph.
 fn font_position(face: &Face, glyph: GlyphId, is_horizontal: bool) -> GlyphPosition {
     if is_horizontal {
         return GlyphPosition {
-            x_advance: i32::from(face.glyph_hor_advance(glyph)),
+            x_advance: face.glyph_hor_advance(glyph),
             ..GlyphPosition::default()
         };
     }
     let (x, y) = face.vertical_origin(glyph);
     GlyphPosition {
-        y_advance: face.glyph_ver_advance(glyph).wrapping_neg(),
+        y_advance: face.glyph_ver_advance(glyph),
         x_offset: x.wrapping_neg(),
         y_offset: y.wrapping_neg(),
         ..GlyphPosition::default()
     }
-}
-
-/// Sets the width of a space that the font has no glyph for, by its kind.
-fn set_space_width(position: &mut GlyphPosition, face: &Face, space: u8, is_horizontal: bool) {
-    let Some(width) = space_width(face, space, is_horizontal) else {
-        if space == SPACE_NARROW {
-            position.x_advance /= 2;
-            position.y_advance /= 2;
-        }
-        return;
-    };
-    if is_horizontal {
-        position.x_advance = width;
-    } else {
-        position.y_advance = width.wrapping_neg();
-    }
-}
-
-/// The width of a kind of space, which is a part of an em or that of another character.
-fn space_width(face: &Face, space: u8, is_horizontal: bool) -> Option<i32> {
-    let em = i32::from(face.units_per_em());
-    match space {
-        SPACE_EM | SPACE_EM_2 | SPACE_EM_3 | SPACE_EM_4 | SPACE_EM_5 | SPACE_EM_6 | SPACE_EM_16 => {
-            let parts = i32::from(space);
-            Some((em + parts / 2) / parts)
-        }
-        SPACE_4_EM_18 => Some(em * 4 / 18),
-        SPACE_FIGURE => first_width(face, "0123456789", is_horizontal),
-        SPACE_PUNCTUATION => first_width(face, ".,", is_horizontal),
-        _ => None,
-    }
-}
-
-/// The width of the first of the characters that the font has.
-fn first_width(face: &Face, characters: &str, is_horizontal: bool) -> Option<i32> {
-    let glyph = characters
-        .chars()
-        .find_map(|character| face.glyph_index(character as u32))?;
-    Some(if is_horizontal {
-        i32::from(face.glyph_hor_advance(glyph))
-    } else {
-        face.glyph_ver_advance(glyph)
-    })
 }
 
 /// Takes the advance of each mark; moves the mark back by it if `adjusts` says so.
@@ -128,7 +94,7 @@ pub(crate) fn zero_mark_widths(buffer: &mut hb_buffer_t, adjusts: bool)
 }
 
 /// Takes the advance of a mark.
-fn zero_mark_width(position: &mut GlyphPosition, adjusts: bool) {
+pub(crate) fn zero_mark_width(position: &mut GlyphPosition, adjusts: bool) {
     if adjusts {
         position.x_offset = position.x_offset.wrapping_sub(position.x_advance);
         position.y_offset = position.y_offset.wrapping_sub(position.y_advance);

@@ -1,6 +1,8 @@
 //! The characters of a text, before they are mapped to glyphs: their properties, graphemes and direction.
 
-ghost use Rattle.std.specs.Prelude.{◌≡◌, ◌<◌, true, false, length, IfOk};
+ghost use Rattle.std.specs.Prelude.{◌≡◌, ◌<◌, ◌≤◌, true, false, length, IfOk};
+ghost use Rattle.shaping_buffer.specs.Clusters.{clusters};
+ghost use Rattle.shaping_buffer.specs.KeepsClusters.{KeepsClusters};
 
 use crate::face::Face;
 use crate::glyph_info::{
@@ -21,15 +23,29 @@ const DOTTED_CIRCLE: u32 = 0x25CC;
 /// Sets the properties of each character, and says which go on with the grapheme before them.
 pub(crate) fn set_properties(buffer: &mut hb_buffer_t)
     requires { buffer.old.have_output ≡ false }
-    ensures { buffer.new.have_output ≡ false }
+    ensures closed { buffer.new.have_output ≡ false }
+    ensures keeps { KeepsClusters buffer.old buffer.new }
 {
-    let mut scratch_flags = buffer.scratch_flags;
-    set_all_properties(buffer.info_slice_mut(), &mut scratch_flags);
+    let scratch_flags = set_all_in(buffer);
     buffer.scratch_flags = scratch_flags;
 }
 
+/// Sets the properties of each character of a buffer; the scratch flags that then hold.
+fn set_all_in(buffer: &mut hb_buffer_t) -> u32
+    requires { buffer.old.have_output ≡ false }
+    ensures closed { buffer.new.have_output ≡ false }
+    ensures keeps { KeepsClusters buffer.old buffer.new }
+{
+    let mut scratch_flags = buffer.scratch_flags;
+    set_all_properties(buffer.info_slice_mut(), &mut scratch_flags);
+    scratch_flags
+}
+
 /// Sets the properties of each character.
-fn set_all_properties(infos: &mut [hb_glyph_info_t], scratch_flags: &mut u32) {
+#[tactic(auto, using(shaping_buffer::proofs::ClosedKeepsLemmas::clusters_written))]
+fn set_all_properties(infos: &mut [hb_glyph_info_t], scratch_flags: &mut u32)
+    ensures { clusters infos.new ≡ clusters infos.old }
+{
     for i in 0..infos.len() {
         set_unicode_props(&mut infos[i], scratch_flags);
         if continues_grapheme(infos, i) {
@@ -65,12 +81,14 @@ fn is_pictographic(info: &hb_glyph_info_t) -> bool {
 }
 
 /// Puts a dotted circle before a text that is the beginning of a paragraph and begins with a mark.
+#[tactic(auto, using(shaping_buffer::proofs::ClosedKeepsLemmas::kept))]
 pub(crate) fn insert_dotted_circle(
     buffer: &mut hb_buffer_t,
     face: &Face,
 ) -> Result<bool, AllocError>
     requires { buffer.old.have_output ≡ false }
-    ensures { IfOk result (λ done. done ≡ true → buffer.new.have_output ≡ false) }
+    ensures closed { IfOk result (λ done. done ≡ true → buffer.new.have_output ≡ false) }
+    ensures keeps { KeepsClusters buffer.old buffer.new }
 {
     if !wants_dotted_circle(buffer) || face.glyph_index(DOTTED_CIRCLE).is_none() {
         return Ok(true);
@@ -99,7 +117,8 @@ fn wants_dotted_circle(buffer: &hb_buffer_t) -> bool {
 /// Puts a dotted circle out, in the cluster of the current character.
 fn put_dotted_circle(buffer: &mut hb_buffer_t) -> Result<bool, AllocError>
     requires { buffer.old.have_output ≡ true }
-    ensures { IfOk result (λ _. buffer.new.have_output ≡ true) }
+    ensures opened { IfOk result (λ _. buffer.new.have_output ≡ true) }
+    ensures keeps { KeepsClusters buffer.old buffer.new }
 {
     let Some(current) = buffer.info().first() else {
         return Ok(true);
@@ -115,9 +134,11 @@ fn put_dotted_circle(buffer: &mut hb_buffer_t) -> Result<bool, AllocError>
 }
 
 /// Makes each grapheme one cluster, or unsafe to break where the cluster level keeps its characters apart.
+#[tactic(auto, using(shaping_buffer::proofs::ClosedKeepsLemmas::kept))]
 pub(crate) fn form_clusters(buffer: &mut hb_buffer_t)
     requires { buffer.old.have_output ≡ false }
-    ensures { buffer.new.have_output ≡ false }
+    ensures closed { buffer.new.have_output ≡ false }
+    ensures keeps { KeepsClusters buffer.old buffer.new }
 {
     if buffer.scratch_flags & HB_BUFFER_SCRATCH_FLAG_HAS_NON_ASCII == 0 {
         return;
@@ -129,12 +150,23 @@ pub(crate) fn form_clusters(buffer: &mut hb_buffer_t)
             break;
         }
         let end = buffer.group_end(start, is_same_grapheme);
-        if merges {
-            buffer.merge_clusters(start, end);
-        } else {
-            buffer.unsafe_to_break(Some(start), Some(end));
-        }
+        form_cluster(buffer, start, end, merges);
         start = end;
+    }
+}
+
+/// Makes a grapheme one cluster, or unsafe to break.
+fn form_cluster(buffer: &mut hb_buffer_t, start: usize, end: usize, merges: bool)
+    requires closed { buffer.old.have_output ≡ false }
+    requires order { start ≤ end }
+    requires within { end ≤ length buffer.old.input }
+    ensures closed { buffer.new.have_output ≡ false }
+    ensures keeps { KeepsClusters buffer.old buffer.new }
+{
+    if merges {
+        buffer.merge_clusters(start, end);
+    } else {
+        buffer.unsafe_to_break(Some(start), Some(end));
     }
 }
 
@@ -155,9 +187,12 @@ pub(crate) fn ensure_native_direction(buffer: &mut hb_buffer_t)
 }
 
 /// The direction in which the script runs, if it has one: numbers in a script that runs from right to left run from
-/// left to right.
+/// left to right, and so does a text of no script.
 fn native_direction(buffer: &hb_buffer_t) -> Option<Direction> {
-    let native = Direction::from_script(buffer.script?)?;
+    let native = match buffer.script {
+        Some(script) => Direction::from_script(script)?,
+        None => Direction::LeftToRight,
+    };
     if native == Direction::RightToLeft
         && buffer.direction == Direction::LeftToRight
         && are_numbers(buffer.info())

@@ -13,4 +13,5 @@ pub mod MetricRows
 pub mod Metrics
 pub mod Resources
 pub mod Rows
+pub mod Scale
 pub mod VerticalOrigins

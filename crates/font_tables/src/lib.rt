@@ -18,4 +18,5 @@ mod macintosh_names;
 pub mod metrics;
 mod resources;
 pub mod rows;
+pub mod scale;
 pub mod vertical_origins;

@@ -15,6 +15,7 @@ pub mod ClusterNumbers
 pub mod Groups
 pub mod DeletingWalk
 pub mod ClusterReads
+pub mod KeptClusters
 -- what the public clauses name of the crates below
 pub use Rattle.rb_common.specs.Tag
 pub use Rattle.rb_common.specs.declared.direction.Direction

@@ -10,6 +10,10 @@ pub trait Words: Copy {
     /// The same item, made of its words.
     fn by_words(&self) -> Self
         ensures { result ≡ self.now };
+
+    /// Makes it the same as another, word by word.
+    fn set_words(&mut self, other: Self)
+        ensures { self.new ≡ other };
 }
 
 impl Words for hb_glyph_info_t {
@@ -22,6 +26,15 @@ impl Words for hb_glyph_info_t {
             var1: self.var1,
             var2: self.var2,
         }
+    }
+
+    #[inline(always)]
+    fn set_words(&mut self, other: Self) {
+        self.glyph_id = other.glyph_id;
+        self.mask = other.mask;
+        self.cluster = other.cluster;
+        self.var1 = other.var1;
+        self.var2 = other.var2;
     }
 }
 
@@ -36,6 +49,15 @@ impl Words for GlyphPosition {
             var: self.var,
         }
     }
+
+    #[inline(always)]
+    fn set_words(&mut self, other: Self) {
+        self.x_advance = other.x_advance;
+        self.y_advance = other.y_advance;
+        self.x_offset = other.x_offset;
+        self.y_offset = other.y_offset;
+        self.var = other.var;
+    }
 }
 
 /// Puts the items into reverse order.
@@ -47,7 +69,7 @@ pub fn reverse<T: Words>(items: &mut [T])
     for i in 0..len / 2 {
         let first = items[i].by_words();
         let last = items[len - 1 - i].by_words();
-        items[i] = last;
-        items[len - 1 - i] = first;
+        items[i].set_words(last);
+        items[len - 1 - i].set_words(first);
     }
 }

@@ -2,14 +2,10 @@
 #![tactic(auto)]
 
 #[cfg(test)]
-mod kerning;
-#[cfg(test)]
 mod lines;
 #[cfg(test)]
 mod mark_order;
 #[cfg(test)]
 mod normalization;
-#[cfg(test)]
-mod substitution;
 #[cfg(test)]
 mod visible;

@@ -1,6 +1,6 @@
-use shaping_buffer::{GlyphPosition, UnicodeBuffer, hb_glyph_info_t};
+use shaping_buffer::{GlyphPosition, hb_glyph_info_t};
+use shaping_passes::line_ends;
 use shaping_passes::lines::cuts_of_monotone_clusters;
-use shaping_passes::{KerningTable, kern, line_ends};
 use std::alloc::{AllocError, Global};
 use std::process::Abort;
 use std::test::Fail;
@@ -156,18 +156,4 @@ fn ends_of(rt: &impl Abort, alloc: Global, case: &Case) -> Result<Vec<usize>, Al
     }
     assert!(rt; glyphs.len() == positions.len());
     line_ends(alloc, &glyphs, &positions, case.widths)
-}
-
-/// Each line is too wide, so it ends as soon as it may: A and V are kerned and stay together, and V and A are not.
-#[test]
-fn a_kerned_pair_is_not_parted(rt: HostRuntime) -> Result<(), Fail> {
-    let table = KerningTable::new(&[((65, 86), -80)]).ok_or("the pair rises")?;
-    let mut characters = UnicodeBuffer::new(rt.alloc());
-    assert!(rt; characters.push_str("AVA") == Ok(true));
-    let mut buffer = characters.into_buffer();
-    buffer.clear_positions();
-    kern(&mut buffer, &table);
-    let ends = line_ends(rt.alloc(), buffer.info(), buffer.pos(), &[-81])?;
-    assert!(rt; ends.as_slice() == [2, 3].as_slice());
-    Ok(())
 }

@@ -1,10 +1,11 @@
 -- What an answer reads as.
 use Rattle.std.specs.Prelude.{ℕ, List, [], ◌∷◌, ◌++◌, string_bytes}
 use Rattle.shape_command.specs.declared.shaper.Answer.{Answer}
-use Rattle.shape_command.specs.declared.shaper.Answer.TheVariants.{Empty, Glyphs, Failed}
-use Rattle.shape_command.specs.Lines.{failure_line}
+use Rattle.shape_command.specs.declared.shaper.Answer.TheVariants.{Empty, Glyphs, Failed, Unverified}
+use Rattle.shape_command.specs.Lines.{failure_line, unverified_line}
 
 abbrev pub answer_text : Answer → List ℕ
 answer_text Empty = []
 answer_text (Glyphs text) = 91 ∷ string_bytes text ++ 93 ∷ []
 answer_text Failed = failure_line
+answer_text (Unverified error) = unverified_line error

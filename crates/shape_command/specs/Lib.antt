@@ -4,5 +4,4 @@ pub mod CodePoints
 pub mod Features
 pub mod Lines
 pub mod Prepared
-pub mod Scale
 pub mod Status

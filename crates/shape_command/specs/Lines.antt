@@ -5,6 +5,8 @@ use Rattle.std.specs.Io.BufRead.{ends_with_byte}
 use Rattle.std.specs.Io.KnownBytes.{Appends}
 use Rattle.rb_glyph.specs.declared.flag_sets.SerializeFlags.{SerializeFlags}
 use Rattle.glyph_text.specs.Text.{Font}
+use Rattle.font_shaper.specs.declared.verification.VerifyError.{VerifyError}
+use Rattle.font_shaper.specs.declared.verification.VerifyError.TheVariants.{NotMonotone, UnsafeToBreak, UnsafeToConcat}
 use Rattle.shaping_buffer.specs.State.{State}
 use Rattle.shaping_buffer.specs.Text.{text_of}
 
@@ -39,13 +41,23 @@ glyphs_line font flags s = if length s.input == 0 then [] else 91 ∷ text_of fo
 abbrev pub failure_line : List ℕ
 failure_line = codes "error: Shaping failed."
 
+-- what is printed of a line whose glyphs are not what they say of themselves
+abbrev pub unverified_line : VerifyError → List ℕ
+unverified_line NotMonotone = codes "error: buffer verify error: clusters are not monotone."
+unverified_line UnsafeToBreak = codes "error: buffer verify error: unsafe-to-break test failed."
+unverified_line UnsafeToConcat = codes "error: buffer verify error: unsafe-to-concat test failed."
+
 -- glyphs with names and extents are printed; which they are is not said here
 abbrev pub PrintsGlyphs : SerializeFlags → List ℕ → Type 0
 PrintsGlyphs flags answer = (font : Font) × (glyphs : State) × (answer ≡ glyphs_line font flags glyphs)
 
--- a line is answered with glyphs, or as too long
+-- a test of glyphs is said to have failed
+abbrev pub IsUnverified : List ℕ → Type 0
+IsUnverified answer = (error : VerifyError) × (answer ≡ unverified_line error)
+
+-- a line is answered with glyphs, or as too long, or with the test of its glyphs that failed
 abbrev pub IsAnswer : SerializeFlags → List ℕ → Type 0
-IsAnswer flags answer = PrintsGlyphs flags answer ⊎ (answer ≡ failure_line)
+IsAnswer flags answer = PrintsGlyphs flags answer ⊎ ((answer ≡ failure_line) ⊎ IsUnverified answer)
 
 -- each line has its answer, in turn
 abbrev pub EachAnswered : (List ℕ → Type 0) → List (List ℕ) → List (List ℕ) → Type 0

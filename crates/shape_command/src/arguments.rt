@@ -10,7 +10,7 @@ type Flag = (&'static str, &'static str);
 /// An option with a value: its name, what its value is, and what it is for.
 type Value = (&'static str, &'static str, &'static str);
 
-const FLAGS: [Flag; 17] = [
+const FLAGS: [Flag; 18] = [
     ("bot", "Treat the text as the beginning of a paragraph"),
     ("eot", "Treat the text as the end of a paragraph"),
     (
@@ -33,7 +33,10 @@ const FLAGS: [Flag; 17] = [
         "utf8-clusters",
         "Number clusters by UTF-8 bytes, and not by characters",
     ),
-    ("verify", "Accepted for hb-shape's sake: nothing is checked"),
+    (
+        "verify",
+        "Test the glyphs: the order of clusters, and parts of the text that are shaped apart",
+    ),
     ("single-par", "Treat the text as a single line"),
     (
         "no-glyph-names",
@@ -46,12 +49,16 @@ const FLAGS: [Flag; 17] = [
     ("show-flags", "Print the flags of glyphs"),
     ("ned", "Print no clusters and no advances"),
     (
+        "svg",
+        "Draw each step of shaping as a picture in SVG, in place of the glyphs",
+    ),
+    (
         "batch",
         "Alone: answer the lines of standard input, each a command line parted by `;`",
     ),
 ];
 
-const VALUES: [Value; 22] = [
+const VALUES: [Value; 23] = [
     ("font-file", "FILE", "The font"),
     (
         "face-index",
@@ -61,7 +68,12 @@ const VALUES: [Value; 22] = [
     (
         "font-size",
         "SIZE",
-        "One or two whole numbers, or upem [default: upem]",
+        "How long an em is: one or two numbers, or upem [default: upem]",
+    ),
+    (
+        "font-ppem",
+        "SIZE",
+        "How many pixels an em has: one or two whole numbers [default: none]",
     ),
     (
         "font-ptem",

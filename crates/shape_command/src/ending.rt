@@ -4,19 +4,16 @@ ghost use Rattle.std.specs.Prelude.{◌≡◌};
 ghost use Rattle.std.specs.Process.{exit_status};
 ghost use Rattle.shape_command.specs.Status.{status_after};
 
-use crate::batch::words_of_line;
+use crate::batch_answers::answer_batch;
 use crate::font_file::FontFile;
-use crate::lines::{LinesError, next_line};
 use crate::run::{CommandError, answer_command};
-use std::alloc::Global;
-use std::convert::AsStr;
 use std::env;
-use std::io::{self, BufRead, BufReader, BufWriter, Write};
+use std::io::{self, BufReader, BufWriter, Write};
 use std::process::ExitCode;
 use std::rt::{Env, Files};
 
 /// The name of the program where it is not told.
-const NAME: &str = "vukhaso_shape";
+pub(crate) const NAME: &str = "vukhaso_shape";
 
 /// All that the program does. It gives the status to end with: 0, or 1 where something failed, which is said on
 /// standard error.
@@ -51,8 +48,8 @@ fn run<F: Files + AllocGlobal + Env + Input + Print + Eprint>(rt: &F) -> io::Res
             return answer_batch(rt, &mut input, &mut output);
         }
     }
-    let mut font = FontFile::new(alloc);
-    let answered = answer_command(rt, words.as_slice(), &mut font, &mut input, &mut output);
+    let mut file = FontFile::new(alloc);
+    let answered = answer_command(rt, words.as_slice(), &mut file, &mut input, &mut output);
     output.flush()?;
     match answered {
         Ok(all_shaped) => Ok(all_shaped),
@@ -68,53 +65,4 @@ fn run<F: Files + AllocGlobal + Env + Input + Print + Eprint>(rt: &F) -> io::Res
 fn say<F: Print + Eprint>(rt: &F, error: &clap::Error) -> io::Result<bool> {
     error.print(rt)?;
     Ok(!error.use_stderr())
-}
-
-/// Answers each line of a batch.
-fn answer_batch<F: Files + AllocGlobal, R: BufRead, W: Write>(
-    rt: &F,
-    input: &mut R,
-    output: &mut W,
-) -> io::Result<bool> {
-    let alloc = rt.alloc();
-    let mut font = FontFile::new(alloc);
-    let mut line = Vec::new(alloc);
-    let mut all_answered = true;
-    for _ in 0..u64::MAX {
-        match next_line(input, &mut line) {
-            Ok(false) => break,
-            Ok(true) => {}
-            Err(LinesError::Read(error) | LinesError::Write(error)) => return Err(error),
-            Err(LinesError::Memory) => return Err(io::Error::from(io::ErrorKind::OutOfMemory)),
-        }
-        all_answered &= answer_line(rt, line.as_slice(), &mut font, input, output)?;
-        output.flush()?;
-    }
-    Ok(all_answered)
-}
-
-/// Answers a line of a batch.
-fn answer_line<F: Files + AllocGlobal, R: BufRead, W: Write>(
-    rt: &F,
-    line: &[u8],
-    font: &mut FontFile,
-    input: &mut R,
-    output: &mut W,
-) -> io::Result<bool> {
-    let Ok(line) = std::str::from_utf8(line) else {
-        writeln!(output, "error: not UTF-8")?;
-        return Ok(false);
-    };
-    let words = words_of_line(rt.alloc(), NAME, line)?;
-    match answer_command(rt, words.as_slice(), font, input, output) {
-        Ok(all_shaped) => Ok(all_shaped),
-        Err(CommandError::Output(error)) => Err(error),
-        Err(error) => {
-            let message = error.to_string(rt.alloc())?;
-            let first = message.as_str().lines().next().unwrap_or("");
-            let reason = first.strip_prefix("error: ").unwrap_or(first);
-            writeln!(output, "error: {reason}")?;
-            Ok(false)
-        }
-    }
 }

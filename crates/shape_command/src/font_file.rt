@@ -20,18 +20,31 @@ impl FontFile {
         }
     }
 
-    /// The bytes of a file. They are read unless the file was read last. `-` is standard input.
-    pub fn read<F: Files + AllocGlobal>(&mut self, rt: &F, path: &str) -> io::Result<&[u8]> {
-        if !self.holds(path) {
+    /// Reads a file, unless it was read last. `-` is standard input.
+    pub fn read<F: Files + AllocGlobal>(&mut self, rt: &F, path: &str) -> io::Result<()> {
+        if !self.is_of(path) {
             self.path = None;
             self.data = fs::read(rt, if path == "-" { "/dev/stdin" } else { path })?;
             self.path = Some(String::from_str(rt.alloc(), path)?);
         }
-        Ok(self.data.as_slice())
+        Ok(())
+    }
+
+    /// The bytes of the file that was read last.
+    pub fn data(&self) -> &[u8] {
+        self.data.as_slice()
+    }
+
+    /// Its name; the empty text where none was read.
+    pub fn path(&self) -> &str {
+        match &self.path {
+            Some(path) => path.as_str(),
+            None => "",
+        }
     }
 
     /// Whether this file was read last.
-    fn holds(&self, path: &str) -> bool {
+    pub fn is_of(&self, path: &str) -> bool {
         match &self.path {
             Some(held) => held.as_str() == path,
             None => false,

@@ -3,13 +3,17 @@
 
 pub mod arguments;
 pub mod batch;
+mod batch_answers;
 pub mod code_points;
+mod drawing;
 pub mod ending;
 pub mod features;
 pub mod font_file;
 pub mod lines;
+mod loaded_font;
 pub mod options;
+mod picture;
 pub mod run;
-pub mod scale;
 pub mod shaper;
+pub mod sizes;
 pub mod text;

@@ -4,9 +4,10 @@ ghost use Rattle.std.specs.Prelude.{◌≡◌, ◌++◌, ◌∷◌, [], IfOk, On
 ghost use Rattle.std.specs.Io.BufRead.{ends_with_byte};
 ghost use Rattle.std.specs.Io.KnownBytes.{Appends};
 ghost use Rattle.shape_command.specs.Answer.{answer_text};
-ghost use Rattle.shape_command.specs.Lines.{TakesLine, without_line_feed, AnswersAll, AnswersParagraph, IsAnswer};
+ghost use Rattle.shape_command.specs.Lines.{TakesLine, without_line_feed, AnswersAll, AnswersParagraph, IsAnswer, unverified_line};
 
 use crate::shaper::{Answer, LineNames, LineShaper};
+use font_shaper::VerifyError;
 use std::alloc::{AllocError, Global};
 use std::io::{self, BufRead, ErrorKind, Read, Write};
 
@@ -56,7 +57,7 @@ pub fn answer_lines<N: LineNames, R: BufRead, W: Write>(
             return Ok(all_shaped);
         }
         let answer = shaper.answer(alloc, names, line.as_slice())?;
-        all_shaped &= !matches!(answer, Answer::Failed);
+        all_shaped &= answer.is_shaped();
         write_answer(writer, &answer)?;
     }
     Err(LinesError::Read(io::Error::from(ErrorKind::Other)))
@@ -84,7 +85,7 @@ pub fn answer_paragraph<N: LineNames, R: Read, W: Write>(
     }
     let answer = shaper.answer(alloc, names, text.as_slice())?;
     write_answer(writer, &answer)?;
-    Ok(!matches!(answer, Answer::Failed))
+    Ok(answer.is_shaped())
 }
 
 /// Reads a line in place of the one that is held, without the line feed that ends it. It says whether there was one.
@@ -125,10 +126,24 @@ pub fn write_answer<W: Write>(writer: &mut W, answer: &Answer) -> Result<(), Lin
     match answer {
         Answer::Empty => put(writer, b"\n"),
         Answer::Failed => put(writer, b"error: Shaping failed.\n"),
+        Answer::Unverified(error) => put(writer, unverified_line(*error)),
         Answer::Glyphs(text) => {
             put(writer, b"[")?;
             put(writer, text.as_bytes())?;
             put(writer, b"]\n")
+        }
+    }
+}
+
+/// What is printed of a line whose glyphs are not what they say of themselves.
+fn unverified_line(error: VerifyError) -> &'static [u8]
+    ensures { result.now ≡ unverified_line error ++ 10 ∷ [] }
+{
+    match error {
+        VerifyError::NotMonotone => b"error: buffer verify error: clusters are not monotone.\n",
+        VerifyError::UnsafeToBreak => b"error: buffer verify error: unsafe-to-break test failed.\n",
+        VerifyError::UnsafeToConcat => {
+            b"error: buffer verify error: unsafe-to-concat test failed.\n"
         }
     }
 }

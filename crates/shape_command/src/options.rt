@@ -2,6 +2,7 @@
 
 use crate::code_points::{CodePointsError, code_points, text_of_code_points};
 use crate::features::{features, unquoted};
+use crate::sizes::{one_or_two, sizes};
 use clap::ArgMatches;
 use shaping_buffer::{
     BufferClusterLevel, BufferFlags, Direction, Feature, Flags, GlyphId, Script, SerializeFlags,
@@ -32,8 +33,8 @@ pub enum OptionsError<'a> {
     #[error("Cannot parse integer value '{1}' for --{0}")]
     Number(&'static str, &'a str),
     /// A value is not one or two numbers.
-    #[error("--font-size argument should be one or two space-separated numbers, and not '{0}'")]
-    FontSize(&'a str),
+    #[error("--{0} argument should be one or two space-separated numbers, and not '{1}'")]
+    Size(&'static str, &'a str),
     /// A shaper of this name is not known.
     #[error("Unknown or unsupported shaper: {0}")]
     Shaper(&'a str),
@@ -43,6 +44,9 @@ pub enum OptionsError<'a> {
     /// Variations are asked for.
     #[error("--variations={0} is not supported: variable fonts are not read as such")]
     Variations(&'a str),
+    /// The steps of shaping are to be drawn of the lines of a file.
+    #[error("--svg draws one text, that of TEXT, --text or --unicodes")]
+    DrawnFile,
     /// There is no memory.
     #[error("out of memory")]
     Memory,
@@ -94,15 +98,24 @@ pub struct LineOptions<'a> {
     pub features: Vec<Feature>,
 }
 
+/// A font of a file, and the size at which it is used.
+#[derive(Clone, Copy, PartialEq, Eq, Debug)]
+pub struct FontChoice {
+    /// The number of the font in its file.
+    pub index: u32,
+    /// How long an em is across and upwards, unless it is as long as it has font units.
+    pub size: Option<(i32, i32)>,
+    /// How many pixels an em has across and upwards, where it is drawn in pixels.
+    pub pixels: Option<(u16, u16)>,
+}
+
 /// What a command line asks for.
 #[derive(Debug, Drop)]
 pub struct Options<'a> {
     /// The file of the font.
     pub font_file: &'a str,
-    /// The number of the font in its file.
-    pub face_index: u32,
-    /// How large an em is, in both directions, unless it is as large as in the font.
-    pub font_size: Option<(i32, i32)>,
+    /// Which font of the file, and at which size.
+    pub font: FontChoice,
     /// Where the text comes from.
     pub text: TextSource<'a>,
     /// Whether the text is a single line.
@@ -111,6 +124,8 @@ pub struct Options<'a> {
     pub line: LineOptions<'a>,
     /// What is printed of glyphs.
     pub output: SerializeFlags,
+    /// Whether the steps of shaping are drawn, in place of what is printed.
+    pub svg: bool,
 }
 
 impl<'a> Options<'a> {
@@ -120,12 +135,16 @@ impl<'a> Options<'a> {
         let (font_file, text) = font_and_text(matches)?;
         Ok(Options {
             font_file,
-            face_index: number(matches, "face-index")?.unwrap_or(0),
-            font_size: font_size(matches)?,
+            font: FontChoice {
+                index: number(matches, "face-index")?.unwrap_or(0),
+                size: font_size(matches)?,
+                pixels: pixels(matches)?,
+            },
             text: text_source(alloc, matches, text)?,
             single_par: matches.get_flag("single-par"),
             line: line_options(alloc, matches)?,
             output: output_flags(matches),
+            svg: matches.get_flag("svg"),
         })
     }
 }
@@ -280,22 +299,27 @@ fn cluster_level<'a>(matches: &ArgMatches<'a>) -> Result<BufferClusterLevel, Opt
     }
 }
 
-/// How large an em is.
+/// How long an em is across and upwards.
 fn font_size<'a>(matches: &ArgMatches<'a>) -> Result<Option<(i32, i32)>, OptionsError<'a>> {
     match matches.get_str("font-size") {
         None | Some("upem") => Ok(None),
-        Some(text) => match two_numbers(text) {
+        Some(text) => match sizes(text) {
             Some(size) => Ok(Some(size)),
-            None => Err(OptionsError::FontSize(text)),
+            None => Err(OptionsError::Size("font-size", text)),
         },
     }
 }
 
-/// One number, for both, or two numbers with a space or a comma between them.
-fn two_numbers(text: &str) -> Option<(i32, i32)> {
-    let parted = text.split_once(' ').or(text.split_once(','));
-    let (first, second) = parted.unwrap_or((text, text));
-    Some((first.parse::<i32>().ok()?, second.parse::<i32>().ok()?))
+/// How many pixels an em has across and upwards.
+fn pixels<'a>(matches: &ArgMatches<'a>) -> Result<Option<(u16, u16)>, OptionsError<'a>> {
+    let Some(text) = matches.get_str("font-ppem") else {
+        return Ok(None);
+    };
+    let (first, second) = one_or_two(text);
+    match (first.parse::<u16>(), second.parse::<u16>()) {
+        (Ok(first), Ok(second)) => Ok(Some((first, second))),
+        _ => Err(OptionsError::Size("font-ppem", text)),
+    }
 }
 
 /// How texts are treated.

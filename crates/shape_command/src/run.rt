@@ -1,11 +1,12 @@
 //! What the program does.
 
 use crate::arguments::matches_of;
+use crate::drawing::draw_text;
 use crate::font_file::FontFile;
 use crate::lines::{LinesError, answer_lines, answer_paragraph};
+use crate::loaded_font::LoadedFont;
 use crate::options::{Options, OptionsError, TextSource};
 use crate::shaper::{LineNames, LineShaper};
-use font_shaper::{Face, FaceNames};
 use shaping_buffer::{Flags, NoGlyphNames, SerializeFlags};
 use std::alloc::{AllocError, Global};
 use std::convert::AsStr;
@@ -81,16 +82,20 @@ impl<'a> CommandError<'a> {
 pub fn answer_command<'a, F: Files + AllocGlobal, S: AsStr, R: BufRead, W: Write>(
     rt: &F,
     words: &'a [S],
-    font: &mut FontFile,
+    file: &mut FontFile,
     input: &mut R,
     output: &mut W,
 ) -> Result<bool, CommandError<'a>> {
     let options = options_of(rt.alloc(), words)?;
-    answer_options(rt, &options, font, input, output)
+    read_font_file(rt, &options, file)?;
+    match LoadedFont::new(rt.alloc(), file, options.font)? {
+        Some(mut font) => answer_options(rt, &options, &mut font, input, output),
+        None => Err(CommandError::Face(options.font_file)),
+    }
 }
 
 /// What a command line asks for.
-fn options_of<'a, S: AsStr>(
+pub(crate) fn options_of<'a, S: AsStr>(
     alloc: Global,
     words: &'a [S],
 ) -> Result<Options<'a>, CommandError<'a>> {
@@ -100,45 +105,48 @@ fn options_of<'a, S: AsStr>(
     }
 }
 
-/// Answers what a command line asks for.
-fn answer_options<'a, F: Files + AllocGlobal, R: BufRead, W: Write>(
+/// Reads the file of the font, unless it was read last.
+pub(crate) fn read_font_file<'a, F: Files + AllocGlobal>(
     rt: &F,
     options: &Options<'a>,
-    font: &mut FontFile,
-    input: &mut R,
-    output: &mut W,
-) -> Result<bool, CommandError<'a>> {
-    let file = options.font_file;
-    let data = match font.read(rt, file) {
-        Ok(data) => data,
-        Err(error) => return Err(CommandError::Font { file, error }),
-    };
-    let Some(face) = Face::from_slice(data, options.face_index) else {
-        return Err(CommandError::Face(file));
-    };
-    answer_face(rt, face, options, input, output)
+    file: &mut FontFile,
+) -> Result<(), CommandError<'a>> {
+    let path = options.font_file;
+    match file.read(rt, path) {
+        Ok(()) => Ok(()),
+        Err(error) => Err(CommandError::Font { file: path, error }),
+    }
 }
 
-/// Answers with a font. Its names are read only where they are asked for.
-fn answer_face<'a, F: Files + AllocGlobal, R: BufRead, W: Write>(
+/// Answers what a command line asks for, with its font. The font's names are found only where they are asked for.
+pub(crate) fn answer_options<'a, F: Files + AllocGlobal, R: BufRead, W: Write>(
     rt: &F,
-    face: Face<'_>,
     options: &Options<'a>,
+    font: &mut LoadedFont<'_>,
     input: &mut R,
     output: &mut W,
 ) -> Result<bool, CommandError<'a>> {
-    let shaper = LineShaper {
-        face,
-        font_size: options.font_size,
+    if options.svg {
+        return draw_text(rt.alloc(), options, font, output);
+    }
+    if !asks_font(options.output) {
+        let shaper = shaper_of(font, options);
+        return answer_text(rt, &shaper, &mut NoGlyphNames, &options.text, input, output);
+    }
+    let mut names = font.take_names(rt.alloc())?;
+    let shaper = shaper_of(font, options);
+    let answered = answer_text(rt, &shaper, &mut names, &options.text, input, output);
+    font.names = Some(names);
+    answered
+}
+
+/// How lines are shaped with a font and printed.
+fn shaper_of<'a>(font: &'a LoadedFont<'_>, options: &'a Options<'_>) -> LineShaper<'a> {
+    LineShaper {
+        face: &font.face,
         options: &options.line,
         output: options.output,
         single_par: options.single_par,
-    };
-    if asks_font(options.output) {
-        let mut names = FaceNames::new(rt.alloc(), &face)?;
-        answer_text(rt, &shaper, &mut names, &options.text, input, output)
-    } else {
-        answer_text(rt, &shaper, &mut NoGlyphNames, &options.text, input, output)
     }
 }
 

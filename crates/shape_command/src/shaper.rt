@@ -1,16 +1,12 @@
 //! What a line is answered with.
 
-ghost use Rattle.std.specs.Prelude.{◌≡◌, Some, IfOk, string_bytes};
-ghost use Rattle.shaping_buffer.specs.Text.{text_of};
+ghost use Rattle.std.specs.Prelude.{◌≡◌, IfOk};
 ghost use Rattle.shape_command.specs.Answer.{answer_text};
 ghost use Rattle.shape_command.specs.Lines.{IsAnswer, glyphs_line};
-ghost use Rattle.shape_command.specs.Scale.{at_size};
 
 use crate::options::LineOptions;
-use crate::scale::scaled_positions;
 use crate::text::{empty_text, fill, lossy_text};
-use font_shaper::{Face, FaceNames, ShapeError, shape};
-use glyph_text::serialize::glyphs_text;
+use font_shaper::{Face, FaceNames, ShapeError, VerifyError, shape};
 use shaping_buffer::{
     Flags, GlyphBuffer, GlyphNames, NoGlyphNames, SerializeFlags, hb_glyph_info_t,
 };
@@ -43,15 +39,22 @@ pub enum Answer {
     Glyphs(String),
     /// It is too long to be shaped.
     Failed,
+    /// A test of its glyphs failed.
+    Unverified(VerifyError),
+}
+
+impl Answer {
+    /// Whether the line was shaped.
+    pub fn is_shaped(&self) -> bool {
+        matches!(self, Answer::Empty | Answer::Glyphs(_))
+    }
 }
 
 /// A font, and how lines are shaped with it and printed.
 #[derive(Clone, Copy)]
 pub struct LineShaper<'a> {
     /// The font.
-    pub face: Face<'a>,
-    /// How large an em is, unless it is as large as in the font.
-    pub font_size: Option<(i32, i32)>,
+    pub face: &'a Face<'a>,
     /// How each line is shaped.
     pub options: &'a LineOptions<'a>,
     /// What is printed of glyphs.
@@ -92,15 +95,15 @@ impl LineShaper<'_> {
         if !fill(alloc, self.options, line, &mut text)? {
             return Ok(Answer::Failed);
         }
-        match shape(&self.face, self.options.features.as_slice(), text) {
+        match shape(self.face, self.options.features.as_slice(), text) {
             Ok(glyphs) => self.print(alloc, names, &glyphs),
             Err(ShapeError::TooLong) => Ok(Answer::Failed),
+            Err(ShapeError::Unverified(error)) => Ok(Answer::Unverified(error)),
             Err(ShapeError::Memory) => Err(AllocError),
         }
     }
 
-    /// What is printed of glyphs: their text where an em has the size of the options. It is public for its clause, which
-    /// says more than that of `answer`.
+    /// What is printed of glyphs: their text. It is public for its clause, which says more than that of `answer`.
     pub fn print<N: LineNames>(
         &self,
         alloc: Global,
@@ -108,14 +111,13 @@ impl LineShaper<'_> {
         glyphs: &GlyphBuffer,
     ) -> Result<Answer, AllocError>
         ensures { IfOk result (λ answer. answer_text answer ≡ glyphs_line
-            (record { name = N.name_of names.new; extents = N.extents_of names.new }) self.now.output
-            (at_size self.now.font_size self.now.face.units_per_em glyphs.now)) }
+            (record { name = N.name_of names.new; extents = N.extents_of names.new }) self.now.output glyphs.now) }
     {
         if glyphs.is_empty() {
             return Ok(Answer::Empty);
         }
         self.find_extents(names, glyphs.glyph_infos())?;
-        let text = self.glyph_text(alloc, names, glyphs)?;
+        let text = glyphs.serialize(alloc, names, self.output)?;
         Ok(Answer::Glyphs(text))
     }
 
@@ -129,46 +131,5 @@ impl LineShaper<'_> {
             names.find(infos)?;
         }
         Ok(())
-    }
-
-    /// The text of glyphs.
-    fn glyph_text<N: LineNames>(
-        &self,
-        alloc: Global,
-        names: &N,
-        glyphs: &GlyphBuffer,
-    ) -> Result<String, AllocError>
-        ensures { IfOk result (λ text. string_bytes text ≡ text_of
-            (record { name = N.name_of names.now; extents = N.extents_of names.now }) self.now.output
-            (at_size self.now.font_size self.now.face.units_per_em glyphs.now)) }
-    {
-        match self.font_size {
-            Some((x, y)) => self.scaled_text(alloc, names, glyphs, x, y),
-            None => glyphs.serialize(alloc, names, self.output),
-        }
-    }
-
-    /// The text of glyphs where an em is this wide and this high.
-    fn scaled_text<N: LineNames>(
-        &self,
-        alloc: Global,
-        names: &N,
-        glyphs: &GlyphBuffer,
-        x: i32,
-        y: i32,
-    ) -> Result<String, AllocError>
-        ensures { IfOk result (λ text. string_bytes text ≡ text_of
-            (record { name = N.name_of names.now; extents = N.extents_of names.now }) self.now.output
-            (at_size (Some (x, y)) self.now.face.units_per_em glyphs.now)) }
-    {
-        let units_per_em = self.face.units_per_em();
-        let positions = scaled_positions(alloc, glyphs.glyph_positions(), x, y, units_per_em)?;
-        glyphs_text(
-            alloc,
-            names,
-            self.output,
-            glyphs.glyph_infos(),
-            positions.as_slice(),
-        )
     }
 }

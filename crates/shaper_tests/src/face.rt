@@ -9,7 +9,7 @@ use std::test::Fail;
 /// The glyphs, advances and origins of a letter.
 #[test]
 fn letters_have_glyphs_and_advances(rt: HostRuntime) -> Result<(), Fail> {
-    let face = Face::from_slice(UPRIGHT, 0).ok_or("no font")?;
+    let face = Face::parse(rt.alloc(), UPRIGHT, 0)?.ok_or("no font")?;
     assert_eq!(rt; face.units_per_em(), 1000);
     for (letter, glyph, across, origin) in [
         ('a', 3, 410, (205, 850)),
@@ -23,7 +23,7 @@ fn letters_have_glyphs_and_advances(rt: HostRuntime) -> Result<(), Fail> {
         );
         assert!(rt; face.has_glyph(letter), "{letter}");
         assert_eq!(rt; face.glyph_hor_advance(GlyphId(glyph)), across, "{letter}");
-        assert_eq!(rt; face.glyph_ver_advance(GlyphId(glyph)), 1000, "{letter}");
+        assert_eq!(rt; face.glyph_ver_advance(GlyphId(glyph)), -1000, "{letter}");
         assert_eq!(rt; face.vertical_origin(GlyphId(glyph)), origin, "{letter}");
     }
     assert_eq!(rt; face.glyph_index(0x78), None);
@@ -35,7 +35,7 @@ fn letters_have_glyphs_and_advances(rt: HostRuntime) -> Result<(), Fail> {
 /// The bounds and the names of glyphs.
 #[test]
 fn letters_have_bounds_and_names(rt: HostRuntime) -> Result<(), Fail> {
-    let face = Face::from_slice(UPRIGHT, 0).ok_or("no font")?;
+    let face = Face::parse(rt.alloc(), UPRIGHT, 0)?.ok_or("no font")?;
     let mut names = FaceNames::new(rt.alloc(), &face)?;
     assert_eq!(rt; names.glyph_name(GlyphId(3)), Some("a"));
     assert_eq!(rt; names.glyph_name(GlyphId(999)), None);
@@ -57,9 +57,49 @@ fn letters_have_bounds_and_names(rt: HostRuntime) -> Result<(), Fail> {
 /// Bytes that are no font, and how many glyphs there are.
 #[test]
 fn bytes_that_are_no_font_have_no_face(rt: HostRuntime) -> Result<(), Fail> {
-    assert!(rt; Face::from_slice(b"no font", 0).is_none());
-    assert!(rt; Face::from_slice(&[], 0).is_none());
-    let face = Face::from_slice(UPRIGHT, 0).ok_or("no font")?;
+    assert!(rt; Face::parse(rt.alloc(), b"no font", 0)?.is_none());
+    assert!(rt; Face::parse(rt.alloc(), &[], 0)?.is_none());
+    let face = Face::parse(rt.alloc(), UPRIGHT, 0)?.ok_or("no font")?;
     assert!(rt; face.number_of_glyphs() > 5);
+    Ok(())
+}
+
+/// The size of an em across and upwards, the advances and the origin of the letter a, and its bounds.
+type Measured = ((i32, i32), (i32, i32), (i32, i32), (i32, i32, i32, i32));
+
+static SIZES: [Measured; 5] = [
+    ((500, 2000), (205, -2000), (102, 1700), (10, 780, 150, -800)),
+    ((12, 12), (5, -12), (2, 10), (0, 4, 4, -4)),
+    ((333, 777), (137, -777), (68, 660), (6, 303, 101, -310)),
+    ((-500, 250), (-205, -250), (-102, 213), (-10, 97, -150, -99)),
+    (
+        (33333, 33333),
+        (13667, -33333),
+        (6833, 28333),
+        (666, 12999, 10001, -13332),
+    ),
+];
+
+/// The measures of a letter at other sizes.
+#[test]
+fn letters_are_scaled(rt: HostRuntime) -> Result<(), Fail> {
+    let mut face = Face::parse(rt.alloc(), UPRIGHT, 0)?.ok_or("no font")?;
+    let a = GlyphId(3);
+    for (size, advances, origin, bounds) in SIZES {
+        face.set_scale(size.0, size.1);
+        let found = (face.glyph_hor_advance(a), face.glyph_ver_advance(a));
+        assert_eq!(rt; found, advances);
+        assert_eq!(rt; face.vertical_origin(a), origin);
+        let box_of = face.glyph_extents(a).ok_or("no bounds")?;
+        let found = (
+            box_of.x_bearing,
+            box_of.y_bearing,
+            box_of.width,
+            box_of.height,
+        );
+        assert_eq!(rt; found, bounds);
+    }
+    face.set_pixels_per_em(9, 10);
+    assert_eq!(rt; (face.scale.x_ppem, face.scale.y_ppem), (9, 10));
     Ok(())
 }

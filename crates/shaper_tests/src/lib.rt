@@ -5,6 +5,8 @@
 #[cfg(test)]
 mod face;
 #[cfg(test)]
+mod marks;
+#[cfg(test)]
 mod shaping;
 #[cfg(test)]
 mod upright;

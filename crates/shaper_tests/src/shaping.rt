@@ -8,7 +8,7 @@ use std::test::Fail;
 
 /// The text of a string's glyphs.
 fn shaped(alloc: Global, text: &str, direction: Direction) -> Result<String, Fail> {
-    let face = Face::from_slice(UPRIGHT, 0).ok_or("no font")?;
+    let face = Face::parse(alloc, UPRIGHT, 0)?.ok_or("no font")?;
     let names = FaceNames::new(alloc, &face)?;
     let mut buffer = UnicodeBuffer::new(alloc);
     let _ = buffer.push_str(text)?;

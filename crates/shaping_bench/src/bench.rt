@@ -4,7 +4,7 @@ use crate::item::{PassItem, TextItem};
 use crate::measuring::{Item, Measured, measure};
 use crate::pass::Pass;
 use crate::shaper_passes::{ShaperItem, ShaperPass};
-use crate::shaper_tables::{TableRows, Tables};
+use crate::shaper_tables::Tables;
 use crate::tags::{TagsItem, long_keys, pairs, rows};
 use crate::texts::{FEATURES, FeaturesItem, NewTextItem, ReusedTextItem, mixed_text};
 use crate::workload::{WORKLOADS, Workload};
@@ -12,6 +12,7 @@ use rb_text::Tag;
 use std::alloc::{AllocError, Global};
 use std::io::Print;
 use std::time::Clock;
+use unicode_tables::UnicodeRows;
 
 /// How many glyphs the lists have.
 const SIZES: [usize; 3] = [100, 10_000, 1_000_000];
@@ -148,8 +149,8 @@ fn measure_shaper_pass<R: Clock>(
     pass: ShaperPass,
     size: usize,
 ) -> anyhow::Result<Measured> {
-    let rows = TableRows::new(alloc)?;
-    let tables = Tables::new(&rows)?;
+    let rows = UnicodeRows::new(alloc)?;
+    let tables = Tables::new(&rows);
     let mut items = Vec::new(alloc);
     for _ in 0..batch(size) {
         items.push(ShaperItem::new(alloc, pass, &tables, size))?;

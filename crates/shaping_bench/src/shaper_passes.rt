@@ -8,8 +8,7 @@ use crate::shaper_tables::Tables;
 use anyhow::bail;
 use shaping_buffer::{CombiningClasses, GlyphBuffer, UnicodeBuffer, hb_buffer_t};
 use shaping_passes::{
-    KerningTable, compose_marks, decompose_all, hide_default_ignorables, kern, line_ends,
-    order_marks, substitute,
+    compose_marks, decompose_all, hide_default_ignorables, line_ends, order_marks,
 };
 use std::alloc::{AllocError, Global};
 use std::mem;
@@ -25,19 +24,14 @@ static MARKS_OUT_OF_ORDER: [char; 12] = [
     '\u{30A}', '\u{331}',
 ];
 
-/// Of three pairs of letters the first is that of a ligature.
-static LIGATURE_PAIRS: [char; 18] = [
+/// Small letters.
+static LETTERS: [char; 18] = [
     'f', 'i', 'n', 'a', 'l', 'e', 'f', 'l', 'o', 'u', 'r', 'e', 's', 't', 'a', 'r', 'e', 'd',
 ];
 
 /// Each fourth character is invisible by default: spaces of no width, joiners of words, hyphens at which a word may end.
 static IGNORABLES: [char; 12] = [
     'w', 'o', 'r', '\u{200B}', 'd', 'b', 'r', '\u{2060}', 'e', 'a', 'k', '\u{AD}',
-];
-
-/// A capital and a small letter in turn. Each capital is kerned with the letter behind it.
-static CAPITALS: [char; 18] = [
-    'A', 'v', 'T', 'o', 'W', 'a', 'Y', 'e', 'L', 'y', 'P', 'r', 'V', 'u', 'K', 'i', 'F', 's',
 ];
 
 /// How far a glyph moves the pen, in units of the font.
@@ -52,9 +46,7 @@ pub enum ShaperPass {
     DecomposeAll,
     OrderMarks,
     ComposeMarks,
-    Substitute,
     HideDefaultIgnorables,
-    Kern,
     LineEnds,
 }
 
@@ -64,15 +56,14 @@ impl ShaperPass {
         match self {
             ShaperPass::DecomposeAll | ShaperPass::ComposeMarks => &ACCENTED,
             ShaperPass::OrderMarks => &MARKS_OUT_OF_ORDER,
-            ShaperPass::Substitute | ShaperPass::LineEnds => &LIGATURE_PAIRS,
+            ShaperPass::LineEnds => &LETTERS,
             ShaperPass::HideDefaultIgnorables => &IGNORABLES,
-            ShaperPass::Kern => &CAPITALS,
         }
     }
 
     /// Whether the glyphs have positions.
     fn has_positions(self) -> bool {
-        matches!(self, ShaperPass::Kern | ShaperPass::LineEnds)
+        matches!(self, ShaperPass::LineEnds)
     }
 
     /// Makes the pass, and gives a number that it decides. `Ok(None)` where a call was refused. Requires that no output
@@ -94,27 +85,14 @@ impl ShaperPass {
             ShaperPass::ComposeMarks => {
                 compose_marks(buffer, &tables.compositions, &tables.classes)?
             }
-            ShaperPass::Substitute => substitute(buffer, &tables.ligatures)?,
             ShaperPass::HideDefaultIgnorables => {
                 hide_default_ignorables(buffer);
                 true
             }
-            ShaperPass::Kern => kern_placed(&tables.kerning, buffer),
             ShaperPass::LineEnds => return count_lines(alloc, buffer),
         };
         Ok(done.then_some(buffer.len()))
     }
-}
-
-/// Kerns the glyphs. `false` where they have no positions.
-fn kern_placed(table: &KerningTable<'_>, buffer: &mut hb_buffer_t) -> bool
-    requires { buffer.old.have_output ≡ false }
-{
-    if !buffer.have_positions() {
-        return false;
-    }
-    kern(buffer, table);
-    true
 }
 
 /// How many lines the glyphs take. `Ok(None)` where they have no positions.

@@ -33,7 +33,7 @@ impl Workload {
 }
 
 /// Every workload with its name.
-pub static WORKLOADS: [(&str, Workload); 35] = [
+pub static WORKLOADS: [(&str, Workload); 33] = [
     ("push_str_new", Workload::NewText),
     ("push_str_reused", Workload::ReusedText),
     ("next_glyph_sync", Workload::Calls(Pass::NextGlyphSync)),
@@ -95,12 +95,10 @@ pub static WORKLOADS: [(&str, Workload); 35] = [
     ("decompose_all", Workload::Shaping(ShaperPass::DecomposeAll)),
     ("order_marks", Workload::Shaping(ShaperPass::OrderMarks)),
     ("compose_marks", Workload::Shaping(ShaperPass::ComposeMarks)),
-    ("substitute", Workload::Shaping(ShaperPass::Substitute)),
     (
         "hide_default_ignorables",
         Workload::Shaping(ShaperPass::HideDefaultIgnorables),
     ),
-    ("kern", Workload::Shaping(ShaperPass::Kern)),
     ("line_ends", Workload::Shaping(ShaperPass::LineEnds)),
     ("features", Workload::Features),
     ("tags_1_row", Workload::Tags { is_long: false }),

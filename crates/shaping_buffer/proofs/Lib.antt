@@ -1,3 +1,9 @@
+pub mod Steps
+pub mod ReadingSteps
+pub mod LeastSteps
+pub mod KeepsLemmas
+pub mod ClosedKeepsLemmas
+pub mod GroupKeepsLemmas
 pub mod MoveLemmas
 pub mod ScanLemmas
 pub mod ReplacementLemmas

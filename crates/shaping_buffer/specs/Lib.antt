@@ -10,6 +10,7 @@ pub mod Properties
 pub mod ClusterLevel
 pub mod Limits
 pub mod GroupStep
+pub mod KeepsClusters
 -- what the public clauses name of the crates below
 pub use Rattle.glyph_lists.specs.ClusterNumbers
 pub use Rattle.glyph_lists.specs.ClusterReads
@@ -19,6 +20,7 @@ pub use Rattle.glyph_lists.specs.DeletingWalk
 pub use Rattle.glyph_lists.specs.Deletion
 pub use Rattle.glyph_lists.specs.Groups
 pub use Rattle.glyph_lists.specs.Guess
+pub use Rattle.glyph_lists.specs.KeptClusters
 pub use Rattle.glyph_lists.specs.Marks
 pub use Rattle.glyph_lists.specs.Masks
 pub use Rattle.glyph_lists.specs.Parts

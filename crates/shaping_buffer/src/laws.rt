@@ -2,7 +2,8 @@
 //!
 //! Each function here is empty. Its contract is a fact of definitions, and holds for every state.
 
-ghost use Rattle.std.specs.Prelude.{◌≡◌, ◌≤◌, ◌+◌, ◌++◌, ℕ, pos, Bool, true, false, List, [], length};
+ghost use Rattle.std.specs.Prelude.{◌≡◌, ◌≤◌, ◌+◌, ◌-◌, ◌++◌, ℕ, pos, Bool, true, false, List, [], length};
+ghost use Rattle.std.specs.Prelude.{slice_index_or};
 ghost use Rattle.glyph_lists.specs.Replacement.{replacement};
 ghost use Rattle.shaping_buffer.specs.declared.buffer.TheConstants.hb_buffer_t.{MAX_LEN_DEFAULT, MAX_LEN_FACTOR};
 ghost use Rattle.shaping_buffer.specs.declared.buffer.TheConstants.hb_buffer_t.{MAX_LEN_MIN, MAX_OPS_DEFAULT};
@@ -14,7 +15,10 @@ ghost use Rattle.shaping_buffer.specs.declared.cluster_level.TheConstants.{HB_BU
 ghost use Rattle.shaping_buffer.specs.declared.cluster_level.TheConstants.{HB_BUFFER_CLUSTER_LEVEL_MONOTONE_CHARACTERS};
 ghost use Rattle.shaping_buffer.specs.ClusterStep.{both, any_order};
 ghost use Rattle.rb_glyph.specs.declared.info.hb_glyph_info_t.{hb_glyph_info_t};
-ghost use Rattle.shaping_buffer.specs.State.{State};
+ghost use Rattle.shaping_buffer.specs.State.{State, place_of};
+ghost use Rattle.shaping_buffer.specs.Lending.{with_input, with_out, with_cur, with_prev};
+ghost use Rattle.shaping_buffer.specs.KeepsClusters.{KeepsClusters, KeepsClusterOrder};
+ghost use Rattle.glyph_lists.specs.Clusters.{clusters};
 ghost use Rattle.shaping_buffer.specs.Step as step;
 ghost use Rattle.shaping_buffer.specs.GroupStep.{reverse, delete_glyphs_inplace, walk_by_calls};
 
@@ -72,4 +76,30 @@ pub fn deletion_in_place_is_deletion_by_calls()
         → let closed = step.sync (walk_by_calls test (length s.input) (step.clear_output s)) in
         (closed.done ≡ true) × (closed.state.input ≡ (delete_glyphs_inplace test s).input)
         × (closed.state.scratch_flags ≡ (delete_glyphs_inplace test s).scratch_flags) }
+{}
+
+/// Each buffer keeps its own clusters, and what keeps them in two steps keeps them. A buffer whose clusters are the same
+/// keeps them too.
+pub fn clusters_that_are_kept_stay_kept()
+    ensures none { (s : State) → KeepsClusters s s }
+    ensures steps { (s t u : State) → KeepsClusters s t → KeepsClusters t u → KeepsClusters s u }
+    ensures order_none { (s : State) → KeepsClusterOrder s s }
+    ensures order_steps { (s t u : State) → KeepsClusterOrder s t → KeepsClusterOrder t u
+        → KeepsClusterOrder s u }
+    ensures alike { (s t : State) → t.cluster_level ≡ s.cluster_level
+        → clusters t.out ≡ clusters s.out → clusters t.input ≡ clusters s.input → KeepsClusters s t }
+{}
+
+/// What is written through a reference of the buffer, and leaves the clusters as they are, keeps the clusters.
+pub fn writes_beside_clusters_keep_them()
+    ensures input { (s : State) (gs : List hb_glyph_info_t) → clusters gs ≡ clusters s.input
+        → KeepsClusters s (with_input s gs) }
+    ensures out { (s : State) (gs : List hb_glyph_info_t) → clusters gs ≡ clusters s.out
+        → KeepsClusters s (with_out s gs) }
+    ensures cur { (s : State) (k : ℕ) (g d : hb_glyph_info_t)
+        → g.cluster ≡ (slice_index_or s.input (place_of s k) d).cluster
+        → KeepsClusters s (with_cur s k g) }
+    ensures prev { (s : State) (g d : hb_glyph_info_t)
+        → g.cluster ≡ (slice_index_or s.out (length s.out - 1) d).cluster
+        → KeepsClusters s (with_prev s g) }
 {}

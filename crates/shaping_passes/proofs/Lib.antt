@@ -7,16 +7,6 @@ pub mod NormalizationPairLemmas
 pub mod NormalizationMergesLemmas
 pub mod NormalizationCompositionLemmas
 mod NormalizationRows
-pub mod PairRowsLemmas
-pub mod KerningLemmas
-pub mod KerningPassLemmas
-pub mod KerningSeamLemmas
-mod KerningRows
-pub mod SubstitutionLemmas
-pub mod SubstitutionStepLemmas
-pub mod SubstitutionCallsLemmas
-pub mod SubstitutionTurnLemmas
-mod SubstitutionRows
 pub mod LinesLemmas
 mod LinesRows
 pub mod NormalizationMarksLemmas

@@ -3,10 +3,6 @@ pub mod NormalizationParts
 pub mod NormalizationDecomposition
 pub mod NormalizationOrder
 pub mod NormalizationComposition
-pub mod PairRows
-pub mod Kerning
 pub mod Seams
 pub mod Ignorables
-pub mod Substitution
-pub mod SubstitutionCalls
 pub mod Lines

@@ -38,7 +38,8 @@ use Rattle.shaping_runs.specs.declared.call.Call.TheVariants.{MergeGraphemeClust
 use Rattle.shaping_runs.specs.Replay.{Turn, turn, after, may_be_made, outcome_of, answer_of, has_glyph}
 use Rattle.shaping_runs.specs.Dropped.{IsShut, dropped, brought, is_done, exchanged, dropped_by, brought_by, picked, IsPart}
 use Rattle.shaping_runs.specs.Dropped.{StayInOrder}
-use Rattle.shaping_runs.proofs.Steps.{input_order, input_within, end_kept, glyph_left, sides_order}
+use Rattle.shaping_buffer.proofs.Steps.{end_kept, glyph_left}
+use Rattle.shaping_runs.proofs.Steps.{input_order, input_within, sides_order}
 
 abbrev Glyphs : Type 0
 Glyphs = List hb_glyph_info_t

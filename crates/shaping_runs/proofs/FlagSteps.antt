@@ -13,7 +13,7 @@ use Rattle.shaping_buffer.specs.Step.{with_id}
 use Rattle.glyph_laws.proofs.GlyphFlagsLemmas.{deletion_keeps_flags, merge_or_mark_keeps_flags, mark_others_keeps_flags}
 use Rattle.glyph_laws.proofs.GlyphFlagsLemmas.{mark_part_keeps_flags, marked_keep_flags, new_part_keeps_flags}
 use Rattle.glyph_laws.proofs.ReplacementLemmas.{replaced_keeps_flags}
-use Rattle.shaping_runs.proofs.Steps.{StepsKeep}
+use Rattle.shaping_buffer.proofs.Steps.{StepsKeep}
 
 abbrev Agrees : hb_glyph_info_t → Type 0
 Agrees g = BreakImpliesConcat g.mask
@@ -55,35 +55,37 @@ module _ (bits : ℕ) (safe : BreakImpliesConcat bits) where
 
 pub flags_steps : StepsKeep FlagsAgree (λ _. ⊤)
 flags_steps = record {
-  lowest = tt;
+  keeping = record {
+    lowest = tt;
+    renamed = λ id out input h.
+        All-append Agrees (out ++ map (with_id id) (take 1 input)) (drop 1 input)
+        (All-append Agrees out (map (with_id id) (take 1 input)) (left_agrees out input h)
+        (renamed_agree id (take 1 input) (All-take Agrees 1 input (right_agrees out input h))))
+        (All-drop Agrees 1 input (right_agrees out input h));
+    copied = λ id out input h.
+        let model = cond (eqb (length input) 0) (drop (length out - 1) out) (take 1 input) in
+        All-append Agrees (out ++ map (with_id id) model) input
+        (All-append Agrees out (map (with_id id) model) (left_agrees out input h)
+        (renamed_agree id model (cond_both (eqb (length input) 0) _ _ FlagsAgree
+        (λ _. All-drop Agrees (length out - 1) out (left_agrees out input h))
+        (λ _. All-take Agrees 1 input (right_agrees out input h)))))
+        (right_agrees out input h);
+    doubled = λ out input h.
+        All-append Agrees (out ++ take 1 input) input
+        (All-append Agrees out (take 1 input) (left_agrees out input h)
+        (All-take Agrees 1 input (right_agrees out input h)))
+        (right_agrees out input h);
+    after_merge = λ any_order l p q floor _ in_l h. merge_or_mark_keeps_flags any_order l p q floor h;
+    after_scan = λ any_order bits k safe l p q up h.
+        new_part_keeps_flags l (two_part_scan any_order bits k (part l p q)) p q h
+        (two_part_scan_agrees bits safe any_order k (part l p q) (part_agrees l p q h));
+    after_mark = λ bits safe l p q up h.
+        new_part_keeps_flags l (map (with_glyph_flags bits) (part l p q)) p q h
+        (marked_keep_flags bits safe (part l p q) (part_agrees l p q h));
+  };
   cleared = right_agrees;
   dropped = λ out input h. All-append Agrees out (drop 1 input) (left_agrees out input h)
       (All-drop Agrees 1 input (right_agrees out input h));
-  renamed = λ id out input h.
-      All-append Agrees (out ++ map (with_id id) (take 1 input)) (drop 1 input)
-      (All-append Agrees out (map (with_id id) (take 1 input)) (left_agrees out input h)
-      (renamed_agree id (take 1 input) (All-take Agrees 1 input (right_agrees out input h))))
-      (All-drop Agrees 1 input (right_agrees out input h));
-  copied = λ id out input h.
-      let model = cond (eqb (length input) 0) (drop (length out - 1) out) (take 1 input) in
-      All-append Agrees (out ++ map (with_id id) model) input
-      (All-append Agrees out (map (with_id id) model) (left_agrees out input h)
-      (renamed_agree id model (cond_both (eqb (length input) 0) _ _ FlagsAgree
-      (λ _. All-drop Agrees (length out - 1) out (left_agrees out input h))
-      (λ _. All-take Agrees 1 input (right_agrees out input h)))))
-      (right_agrees out input h);
-  doubled = λ out input h.
-      All-append Agrees (out ++ take 1 input) input
-      (All-append Agrees out (take 1 input) (left_agrees out input h)
-      (All-take Agrees 1 input (right_agrees out input h)))
-      (right_agrees out input h);
   after_replacement = replaced_keeps_flags;
   after_deletion = deletion_keeps_flags;
-  after_merge = λ any_order l p q floor _ in_l h. merge_or_mark_keeps_flags any_order l p q floor h;
-  after_scan = λ any_order bits k safe l p q up h.
-      new_part_keeps_flags l (two_part_scan any_order bits k (part l p q)) p q h
-      (two_part_scan_agrees bits safe any_order k (part l p q) (part_agrees l p q h));
-  after_mark = λ bits safe l p q up h.
-      new_part_keeps_flags l (map (with_glyph_flags bits) (part l p q)) p q h
-      (marked_keep_flags bits safe (part l p q) (part_agrees l p q h));
 }

@@ -39,7 +39,8 @@ use Rattle.shaping_runs.specs.declared.call.Call.TheVariants.{MergeGraphemeClust
 use Rattle.shaping_runs.specs.Replay.{Turn, turn, may_be_made, outcome_of, has_glyph}
 use Rattle.shaping_runs.specs.Headline.{HasMonotoneClusters, ReachesBothSides, is_merge, is_break, from_place, to_place}
 use Rattle.shaping_runs.specs.Headline.{range_of}
-use Rattle.shaping_runs.proofs.Steps.{input_within, input_order, place_within, front_left, glyph_left, end_kept}
+use Rattle.shaping_buffer.proofs.Steps.{place_within, front_left, glyph_left, end_kept}
+use Rattle.shaping_runs.proofs.Steps.{input_within, input_order}
 
 -- what a call leaves within its condition
 made : (call : Call) (s : State) → may_be_made call s ≡ true → both (turn call s).state ≡ both (outcome_of call s).state

@@ -22,7 +22,7 @@ use Rattle.shaping_runs.specs.declared.call.Call.TheVariants.{MergeGraphemeClust
 use Rattle.shaping_runs.specs.declared.call.Answer.TheVariants.{Refused}
 use Rattle.shaping_runs.specs.Replay.{Turn, turn, after, answer_of, may_be_made, outcome_of, has_glyph}
 use Rattle.shaping_runs.specs.Headline.{held, held_open, moves_or_syncs, awaits_clear}
-use Rattle.shaping_runs.proofs.Steps.{front_left, glyph_left}
+use Rattle.shaping_buffer.proofs.Steps.{front_left, glyph_left}
 use Rattle.shaping_runs.proofs.Refusals.{refusal_after, sync_refused, move_refused}
 
 -- ---- outcomes

@@ -1,7 +1,6 @@
 pub mod ReplayLemmas
 pub mod Steps
 pub mod FlagSteps
-pub mod ReadingSteps
 pub mod RunLaws
 pub mod Rows
 pub mod Refusals

@@ -14,9 +14,10 @@ use Rattle.glyph_laws.proofs.NumbersLemmas.{run_merge_stands}
 use Rattle.shaping_runs.specs.declared.call.Call.{Call}
 use Rattle.shaping_runs.specs.Replay.{turn, after}
 use Rattle.shaping_runs.specs.Exceptions.{brings_glyph, NoMergeStopsAtCursor, NoGlyphIsBrought}
-use Rattle.shaping_runs.proofs.Steps.{StepsKeep, turn_keeps, after_keeps}
+use Rattle.shaping_buffer.proofs.Steps.{StepsKeep}
+use Rattle.shaping_runs.proofs.Steps.{turn_keeps, after_keeps}
 use Rattle.shaping_runs.proofs.FlagSteps.{flags_steps}
-use Rattle.shaping_runs.proofs.ReadingSteps.{reading_steps}
+use Rattle.shaping_buffer.proofs.ReadingSteps.{reading_steps}
 
 pub flags_after : (calls : List Call) (s : State) → NoGlyphIsBrought calls s → FlagsAgree (both s)
     → FlagsAgree (both (after calls s))

@@ -17,6 +17,14 @@ pub use crate::text::{Feature, Language, LanguageError};
 use core::ops::{BitAnd, BitAndAssign, BitOr, BitOrAssign, Sub, SubAssign};
 use core::str::FromStr;
 
+impl<'a> Face<'a> {
+    /// The font with this index in a file, as rustybuzz finds it: `None` also where memory runs out, which
+    /// [`Face::parse`] says.
+    pub fn from_slice(data: &'a [u8], index: u32) -> Option<Face<'a>> {
+        Face::parse(data, index).ok().flatten()
+    }
+}
+
 impl FromStr for Language {
     type Err = LanguageError;
 

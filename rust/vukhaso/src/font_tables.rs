@@ -19,4 +19,5 @@ mod macintosh_names;
 pub mod metrics;
 mod resources;
 pub mod rows;
+pub mod scale;
 pub mod vertical_origins;

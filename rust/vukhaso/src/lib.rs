@@ -31,18 +31,30 @@ pub mod font_tables;
 #[allow(clippy::style, clippy::complexity)]
 pub mod glyph;
 #[allow(clippy::style, clippy::complexity)]
+pub mod glyph_layout;
+#[allow(clippy::style, clippy::complexity)]
 #[doc(hidden)]
 pub mod glyph_lists;
 #[allow(clippy::style, clippy::complexity)]
 pub mod glyph_outlines;
 #[allow(clippy::style, clippy::complexity)]
+pub mod glyph_positions;
+#[allow(clippy::style, clippy::complexity)]
 #[doc(hidden)]
 pub mod glyph_sides;
+#[allow(clippy::style, clippy::complexity)]
+pub mod glyph_substitution;
 #[allow(clippy::style, clippy::complexity)]
 #[doc(hidden)]
 pub mod glyph_text;
 #[allow(clippy::style, clippy::complexity)]
+pub mod language_tags;
+#[allow(clippy::style, clippy::complexity)]
+pub mod layout_plan;
+#[allow(clippy::style, clippy::complexity)]
 pub mod passes;
+#[allow(clippy::style, clippy::complexity)]
+pub mod position_tables;
 #[allow(clippy::style, clippy::complexity)]
 pub mod runs;
 #[allow(clippy::style, clippy::complexity)]

@@ -16,12 +16,17 @@ pub fn saturating_f32_to_i32(number: f32) -> i32 {
 pub trait Round {
     /// The nearest whole number, and of two as near the one further from 0.
     fn round(self) -> Self;
+
+    /// The greatest whole number that is not above it.
+    fn floor(self) -> Self;
+
+    /// The least whole number that is not below it.
+    fn ceil(self) -> Self;
 }
 
 impl Round for f32 {
     fn round(self) -> f32 {
-        // From here on each number is whole.
-        if self.is_nan() || self.abs() >= 8_388_608.0 {
+        if is_whole(self) {
             return self;
         }
         let whole = self as i32 as f32;
@@ -33,4 +38,22 @@ impl Round for f32 {
         };
         rounded.copysign(self)
     }
+
+    fn floor(self) -> f32 {
+        if is_whole(self) {
+            return self;
+        }
+        let whole = self as i32 as f32;
+        let below = if whole > self { whole - 1. } else { whole };
+        below.copysign(self)
+    }
+
+    fn ceil(self) -> f32 {
+        -Round::floor(-self)
+    }
+}
+
+/// From 2^23 on each number is whole.
+fn is_whole(number: f32) -> bool {
+    number.is_nan() || number.abs() >= 8_388_608.0
 }

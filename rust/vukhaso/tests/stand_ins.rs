@@ -33,11 +33,16 @@ fn numbers_are_rounded_as_std_rounds_them() {
     let any = numbers(200_000).map(|bits| f32::from_bits(bits as u32));
     let near = numbers(200_000).map(|bits| (bits as i32 >> 12) as f32 / 64.0);
     for number in odd.into_iter().chain(any).chain(near) {
-        let (ours, theirs) = (Round::round(number), f32::round(number));
-        assert!(
-            ours.to_bits() == theirs.to_bits() || ours.is_nan() && theirs.is_nan(),
-            "{number}"
-        );
+        for (ours, theirs) in [
+            (Round::round(number), f32::round(number)),
+            (Round::floor(number), f32::floor(number)),
+            (Round::ceil(number), f32::ceil(number)),
+        ] {
+            assert!(
+                ours.to_bits() == theirs.to_bits() || ours.is_nan() && theirs.is_nan(),
+                "{number}"
+            );
+        }
     }
 }
 

@@ -63,7 +63,7 @@ impl Sides {
         ensures same { result ≡ false → self.new ≡ self.old }
     {
         if self.is_separate {
-            if ids.len() > self.out_info.capacity() - self.out_info.len() {
+            if self.out_info.len() + ids.len() > self.out_info.capacity() {
                 return false;
             }
             append_copies(&mut self.out_info, glyph, ids);

@@ -7,6 +7,7 @@ ghost use Rattle.std.specs.Prelude.{◌≡◌, ◌<◌, ◌≤◌, ◌∷◌, []
 ghost use Rattle.shaping_buffer.specs.State.{lookahead_len};
 ghost use Rattle.shaping_buffer.specs.Step as step;
 ghost use Rattle.shaping_buffer.specs.Step.{Meets};
+ghost use Rattle.shaping_buffer.specs.KeepsClusters.{KeepsClusterOrder, KeepsClusters, HasTwin, IsBeside};
 
 use super::hb_buffer_t;
 use rb_glyph::hb_glyph_info_t;
@@ -17,8 +18,10 @@ impl hb_buffer_t {
     /// Requires that no output is open.
     pub fn clear_output(&mut self)
         requires { self.old.have_output ≡ false }
-        ensures { self.new ≡ step.clear_output self.old }
+        ensures is { self.new ≡ step.clear_output self.old }
+        ensures keeps { KeepsClusters self.old self.new }
     {
+        prove!(!self.sides.is_open());
         self.sides.open();
         self.have_positions = false;
         self.pos.clear();
@@ -29,6 +32,7 @@ impl hb_buffer_t {
     pub fn next_glyph(&mut self) -> Result<bool, AllocError>
         requires { 0 < lookahead_len self.old }
         ensures meets { Meets (step.next_glyph self.old) self.old result self.new }
+        ensures keeps { KeepsClusters self.old self.new }
         ensures in_place { self.old.have_separate_output ≡ false → result ≡ Ok true }
     {
         if self.sides.next_exceeds(1, self.max_len) {
@@ -46,6 +50,7 @@ impl hb_buffer_t {
     pub fn next_glyphs(&mut self, n: usize) -> Result<bool, AllocError>
         requires { n ≤ lookahead_len self.old }
         ensures meets { Meets (step.next_glyphs n self.old) self.old result self.new }
+        ensures keeps { KeepsClusters self.old self.new }
         ensures in_place { self.old.have_separate_output ≡ false → result ≡ Ok true }
     {
         if self.sides.next_exceeds(n, self.max_len) {
@@ -59,7 +64,9 @@ impl hb_buffer_t {
     /// Drops the glyph at the cursor; with no output open the cursor moves over it. Requires a glyph there.
     pub fn skip_glyph(&mut self)
         requires { 0 < lookahead_len self.old }
-        ensures { self.new ≡ step.skip_glyph self.old }
+        ensures is { self.new ≡ step.skip_glyph self.old }
+        ensures keeps_order { KeepsClusterOrder self.old self.new }
+        ensures keeps { HasTwin self.old → KeepsClusters self.old self.new }
     {
         self.sides.skip(1);
     }
@@ -70,6 +77,7 @@ impl hb_buffer_t {
         requires opened { self.old.have_output ≡ true }
         requires glyph { 0 < lookahead_len self.old }
         ensures meets { Meets (step.replace_glyph glyph_index self.old) self.old result self.new }
+        ensures keeps { KeepsClusters self.old self.new }
         ensures in_place { self.old.have_separate_output ≡ false → result ≡ Ok true }
     {
         let glyph = self.sides.head();
@@ -87,7 +95,8 @@ impl hb_buffer_t {
     /// out side is full: then only `successful` changes.
     pub fn output_glyph(&mut self, glyph_index: u32) -> Result<bool, AllocError>
         requires { self.old.have_output ≡ true }
-        ensures { Meets (step.output_glyph glyph_index self.old) self.old result self.new }
+        ensures meets { Meets (step.output_glyph glyph_index self.old) self.old result self.new }
+        ensures keeps { KeepsClusters self.old self.new }
     {
         let glyph = if let Some(head) = self.sides.input().first() {
             *head
@@ -109,7 +118,8 @@ impl hb_buffer_t {
     /// changes.
     pub fn output_info(&mut self, glyph_info: hb_glyph_info_t) -> Result<bool, AllocError>
         requires { self.old.have_output ≡ true }
-        ensures { Meets (step.output_info glyph_info self.old) self.old result self.new }
+        ensures meets { Meets (step.output_info glyph_info self.old) self.old result self.new }
+        ensures keeps { IsBeside glyph_info.cluster self.old → KeepsClusters self.old self.new }
     {
         self.put(glyph_info, 0)
     }
@@ -119,7 +129,8 @@ impl hb_buffer_t {
     pub fn copy_glyph(&mut self) -> Result<bool, AllocError>
         requires opened { self.old.have_output ≡ true }
         requires glyph { 0 < lookahead_len self.old }
-        ensures { Meets (step.copy_glyph self.old) self.old result self.new }
+        ensures meets { Meets (step.copy_glyph self.old) self.old result self.new }
+        ensures keeps { KeepsClusters self.old self.new }
     {
         let glyph = self.sides.head();
         self.put(glyph, 0)
@@ -133,6 +144,7 @@ impl hb_buffer_t {
     pub fn sync(&mut self) -> Result<bool, AllocError>
         requires { self.old.have_output ≡ true }
         ensures meets { Meets (step.sync self.old) self.old result self.new }
+        ensures keeps { KeepsClusters self.old self.new }
         ensures in_place { self.old.have_separate_output ≡ false → result ≡ Ok self.old.successful }
     {
         if !self.successful {

@@ -3,6 +3,7 @@
 ghost use Rattle.std.specs.Prelude.{◌≡◌, ◌<◌, true, length};
 ghost use Rattle.shaping_buffer.specs.State.{lookahead_len};
 ghost use Rattle.shaping_buffer.specs.ClusterStep as step;
+ghost use Rattle.shaping_buffer.specs.KeepsClusters.{KeepsClusters};
 
 use super::hb_buffer_t;
 use glyph_lists::deletion;
@@ -17,7 +18,8 @@ impl hb_buffer_t {
     pub fn delete_glyph(&mut self)
         requires opened { self.old.have_output ≡ true }
         requires glyph { 0 < lookahead_len self.old }
-        ensures { self.new ≡ step.delete_glyph self.old }
+        ensures is { self.new ≡ step.delete_glyph self.old }
+        ensures keeps { KeepsClusters self.old self.new }
     {
         let any_order = self.any_order();
         if any_order && deletion::merges_next(self.sides.out(), self.sides.input()) {

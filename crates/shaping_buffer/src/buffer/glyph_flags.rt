@@ -12,6 +12,7 @@ ghost use Rattle.glyph_lists.specs.RangeChange.{changed, MayChange};
 ghost use Rattle.shaping_buffer.specs.State.{len};
 ghost use Rattle.shaping_buffer.specs.ClusterStep as step;
 ghost use Rattle.shaping_buffer.specs.ClusterStep.{any_order, range_start, range_end};
+ghost use Rattle.shaping_buffer.specs.KeepsClusters.{KeepsClusters};
 
 use super::hb_buffer_t;
 use glyph_lists::glyph_flags::BREAK_BITS;
@@ -33,7 +34,8 @@ impl hb_buffer_t {
     pub fn unsafe_to_break(&mut self, start: Option<usize>, end: Option<usize>)
         requires order { range_start start ≤ range_end end self.old }
         requires past_cursor { self.old.have_output ≡ true → self.old.idx ≤ range_start start }
-        ensures { self.new ≡ step.unsafe_to_break start end self.old }
+        ensures is { self.new ≡ step.unsafe_to_break start end self.old }
+        ensures keeps { KeepsClusters self.old self.new }
     {
         self.plain_scan(BREAK_BITS, start, end);
     }
@@ -45,7 +47,8 @@ impl hb_buffer_t {
         requires order { self.old.have_output ≡ false → range_start start ≤ range_end end self.old }
         requires from_out { self.old.have_output ≡ true → range_start start ≤ length self.old.out }
         requires past_cursor { self.old.have_output ≡ true → self.old.idx ≤ range_end end self.old }
-        ensures { self.new ≡ step.unsafe_to_break_from_outbuffer start end self.old }
+        ensures is { self.new ≡ step.unsafe_to_break_from_outbuffer start end self.old }
+        ensures keeps { KeepsClusters self.old self.new }
     {
         let to = self.both_place(self.range_end(end));
         let scan = RangeChange::Scan {
@@ -61,7 +64,8 @@ impl hb_buffer_t {
     pub fn safe_to_insert_tatweel(&mut self, start: Option<usize>, end: Option<usize>)
         requires order { range_start start ≤ range_end end self.old }
         requires past_cursor { self.old.have_output ≡ true → self.old.idx ≤ range_start start }
-        ensures { self.new ≡ step.safe_to_insert_tatweel start end self.old }
+        ensures is { self.new ≡ step.safe_to_insert_tatweel start end self.old }
+        ensures keeps { KeepsClusters self.old self.new }
     {
         let bits = if self.asks(BufferFlags::PRODUCE_SAFE_TO_INSERT_TATWEEL) {
             glyph_flag::SAFE_TO_INSERT_TATWEEL
@@ -77,7 +81,8 @@ impl hb_buffer_t {
     pub fn unsafe_to_concat(&mut self, start: Option<usize>, end: Option<usize>)
         requires order { range_start start ≤ range_end end self.old }
         requires past_cursor { self.old.have_output ≡ true → self.old.idx ≤ range_start start }
-        ensures { self.new ≡ step.unsafe_to_concat start end self.old }
+        ensures is { self.new ≡ step.unsafe_to_concat start end self.old }
+        ensures keeps { KeepsClusters self.old self.new }
     {
         if !self.asks(BufferFlags::PRODUCE_UNSAFE_TO_CONCAT) {
             return;
@@ -93,7 +98,8 @@ impl hb_buffer_t {
         requires order { self.old.have_output ≡ false → range_start start ≤ range_end end self.old }
         requires from_out { self.old.have_output ≡ true → range_start start ≤ length self.old.out }
         requires past_cursor { self.old.have_output ≡ true → self.old.idx ≤ range_end end self.old }
-        ensures { self.new ≡ step.unsafe_to_concat_from_outbuffer start end self.old }
+        ensures is { self.new ≡ step.unsafe_to_concat_from_outbuffer start end self.old }
+        ensures keeps { KeepsClusters self.old self.new }
     {
         if !self.asks(BufferFlags::PRODUCE_UNSAFE_TO_CONCAT) {
             return;

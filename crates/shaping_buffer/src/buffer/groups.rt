@@ -1,10 +1,11 @@
 //! Reversals, groups of neighbours, and deletion in place, as HarfBuzz's `hb_buffer_t` has them.
 
-ghost use Rattle.std.specs.Prelude.{◌≡◌, ◌+◌, ◌<◌, ◌≤◌, Bool, false, length};
+ghost use Rattle.std.specs.Prelude.{◌≡◌, ◌+◌, ◌<◌, ◌≤◌, Bool, true, false, length};
 ghost use Rattle.rb_glyph.specs.declared.info.hb_glyph_info_t.{hb_glyph_info_t};
 ghost use Rattle.glyph_lists.specs.Groups as groups_of;
 ghost use Rattle.shaping_buffer.specs.State.{len};
 ghost use Rattle.shaping_buffer.specs.GroupStep as step;
+ghost use Rattle.shaping_buffer.specs.KeepsClusters.{KeepsClusters, IsOneCluster};
 
 use super::hb_buffer_t;
 use glyph_lists::deletion_in_place::delete_in_place;
@@ -16,8 +17,10 @@ impl hb_buffer_t {
     /// open.
     pub fn reverse(&mut self)
         requires { self.old.have_output ≡ false }
-        ensures { self.new ≡ step.reverse self.old }
+        ensures is { self.new ≡ step.reverse self.old }
+        ensures keeps { KeepsClusters self.old self.new }
     {
+        prove!(!self.sides.is_open());
         reversal::reverse(self.sides.list_mut());
         reversal::reverse(&mut self.pos);
     }
@@ -28,8 +31,10 @@ impl hb_buffer_t {
         requires closed { self.old.have_output ≡ false }
         requires order { start ≤ end }
         requires within { end ≤ len self.old }
-        ensures { self.new ≡ step.reverse_range start end self.old }
+        ensures is { self.new ≡ step.reverse_range start end self.old }
+        ensures keeps { IsOneCluster start end self.old → KeepsClusters self.old self.new }
     {
+        prove!(!self.sides.is_open());
         groups::reverse_range(self.sides.list_mut(), start, end);
         if self.have_positions {
             groups::reverse_range(&mut self.pos, start, end);
@@ -86,6 +91,7 @@ impl hb_buffer_t {
             → self.new ≡ step.reverse_groups test merge_clusters self.old }
         ensures len { length self.new.input ≡ length self.old.input }
         ensures others { step.KeepsOthers self.old self.new }
+        ensures keeps { merge_clusters ≡ true → KeepsClusters self.old self.new }
     {
         let len = self.sides.len();
         let mut start = 0;
@@ -99,6 +105,7 @@ impl hb_buffer_t {
 
     /// Puts one group into reverse order in its place, merged before where it is to be.
     #[tactic(auto, using(crate::proofs::GroupStepLemmas::still_within))]
+    #[inline(always)]
     fn reverse_group(&mut self, start: usize, end: usize, merge_clusters: bool)
         requires closed { self.old.have_output ≡ false }
         requires order { start ≤ end }
@@ -122,7 +129,11 @@ impl hb_buffer_t {
             → self.new ≡ step.delete_glyphs_inplace test self.old }
         ensures within { length self.new.input ≤ length self.old.input }
         ensures others { step.KeepsOthers (record self.old { idx = 0 }) self.new }
+        ensures keeps { (test : hb_glyph_info_t → Bool)
+            → ((x : _) (r : _) → F.post filter x r → r ≡ test x.now)
+            → KeepsClusters self.old self.new }
     {
+        prove!(!self.sides.is_open());
         let any_order = self.any_order();
         let (kept, merges) = delete_in_place(
             self.sides.list_mut(),

@@ -6,6 +6,7 @@ ghost use Rattle.glyph_lists.specs.Guess.{AreCharacters};
 ghost use Rattle.shaping_buffer.specs.Pushed.{pushed, added};
 ghost use Rattle.shaping_buffer.specs.Step as step;
 ghost use Rattle.shaping_buffer.specs.Step.{GrowthMeets, RoomMeets};
+ghost use Rattle.shaping_buffer.specs.KeepsClusters.{KeepsClusters};
 
 use super::hb_buffer_t;
 use rb_glyph::hb_glyph_info_t;
@@ -38,7 +39,8 @@ impl hb_buffer_t {
     /// memory then. `Ok(false)` where these are more than `max_len`: then only `successful` changes. `Err(AllocError)`
     /// where memory ran out: then nothing changed.
     pub fn ensure(&mut self, size: usize) -> Result<bool, AllocError>
-        ensures { RoomMeets size (step.ensure size self.old) self.old result self.new }
+        ensures meets { RoomMeets size (step.ensure size self.old) self.old result self.new }
+        ensures keeps { KeepsClusters self.old self.new }
     {
         if size > self.max_len {
             self.successful = false;

@@ -4,6 +4,7 @@
 ghost use Rattle.std.specs.Prelude.{◌≡◌, ◌<◌, ◌≤◌, ◌%◌, false, length};
 ghost use Rattle.shaping_buffer.specs.State.{len};
 ghost use Rattle.shaping_buffer.specs.Limits as step;
+ghost use Rattle.shaping_buffer.specs.KeepsClusters.{KeepsClusters};
 
 use super::hb_buffer_t;
 use rb_glyph::HB_BUFFER_SCRATCH_FLAG_DEFAULT;
@@ -25,7 +26,8 @@ impl hb_buffer_t {
     pub fn set_max_len(&mut self, max_len: usize)
         requires input { len self.old ≤ max_len }
         requires out { length self.old.out ≤ max_len }
-        ensures { self.new ≡ step.set_max_len max_len self.old }
+        ensures is { self.new ≡ step.set_max_len max_len self.old }
+        ensures keeps { KeepsClusters self.old self.new }
     {
         self.max_len = max_len;
     }
@@ -34,7 +36,8 @@ impl hb_buffer_t {
     /// nothing was seen of the text. A limit that would be too large a number stays. Requires that no output is open.
     pub fn enter(&mut self)
         requires { self.old.have_output ≡ false }
-        ensures { self.new ≡ step.enter self.old }
+        ensures is { self.new ≡ step.enter self.old }
+        ensures keeps { KeepsClusters self.old self.new }
     {
         let len = self.sides.len();
         self.serial = 0;
@@ -52,7 +55,8 @@ impl hb_buffer_t {
     /// ligature has a number. Requires that no output is open.
     pub fn leave(&mut self)
         requires { self.old.have_output ≡ false }
-        ensures { self.new ≡ step.leave self.old }
+        ensures is { self.new ≡ step.leave self.old }
+        ensures keeps { KeepsClusters self.old self.new }
     {
         self.serial = 0;
         self.max_len = Self::MAX_LEN_DEFAULT.max(self.sides.len());
@@ -63,6 +67,7 @@ impl hb_buffer_t {
     /// not 0.
     pub fn allocate_lig_id(&mut self) -> u8
         ensures serial { self.new ≡ step.allocate_lig_id self.old }
+        ensures keeps { KeepsClusters self.old self.new }
         ensures number { result ≡ self.new.serial % 8 }
         ensures some { 0 < result }
     {

@@ -2,6 +2,7 @@
 
 ghost use Rattle.std.specs.Prelude.{◌≡◌, false};
 ghost use Rattle.shaping_buffer.specs.ClusterStep as step;
+ghost use Rattle.shaping_buffer.specs.KeepsClusters.{KeepsClusters};
 
 use super::hb_buffer_t;
 use glyph_lists::masks;
@@ -10,7 +11,8 @@ impl hb_buffer_t {
     /// Gives each glyph this mask. Requires that no output is open.
     pub fn reset_masks(&mut self, mask: u32)
         requires { self.old.have_output ≡ false }
-        ensures { self.new ≡ step.reset_masks mask self.old }
+        ensures is { self.new ≡ step.reset_masks mask self.old }
+        ensures keeps { KeepsClusters self.old self.new }
     {
         masks::reset_masks(self.sides.list_mut(), mask);
     }
@@ -20,7 +22,8 @@ impl hb_buffer_t {
     /// output is open.
     pub fn set_masks(&mut self, value: u32, mask: u32, cluster_start: u32, cluster_end: u32)
         requires { self.old.have_output ≡ false }
-        ensures { self.new ≡ step.set_masks value mask cluster_start cluster_end self.old }
+        ensures is { self.new ≡ step.set_masks value mask cluster_start cluster_end self.old }
+        ensures keeps { KeepsClusters self.old self.new }
     {
         masks::set_masks(
             self.sides.list_mut(),

@@ -8,6 +8,7 @@ ghost use Rattle.std.specs.Prelude.{◌≡◌, ◌≤◌, true, false, length};
 ghost use Rattle.shaping_buffer.specs.State.{len};
 ghost use Rattle.glyph_lists.specs.Clusters.{with_cluster, run_merge};
 ghost use Rattle.shaping_buffer.specs.ClusterStep as step;
+ghost use Rattle.shaping_buffer.specs.KeepsClusters.{KeepsClusters};
 
 use super::hb_buffer_t;
 use glyph_lists::clusters;
@@ -32,7 +33,8 @@ impl hb_buffer_t {
         requires order { start ≤ end }
         requires within { end ≤ len self.old }
         requires past_cursor { self.old.have_output ≡ true → self.old.idx ≤ start }
-        ensures { self.new ≡ step.merge_clusters start end self.old }
+        ensures is { self.new ≡ step.merge_clusters start end self.old }
+        ensures keeps { KeepsClusters self.old self.new }
     {
         if self.sides.is_open() || self.any_order() {
             self.merge_input(start, end);
@@ -49,7 +51,8 @@ impl hb_buffer_t {
         requires order { start ≤ end }
         requires within { end ≤ len self.old }
         requires past_cursor { self.old.have_output ≡ true → self.old.idx ≤ start }
-        ensures { self.new ≡ step.merge_grapheme_clusters start end self.old }
+        ensures is { self.new ≡ step.merge_grapheme_clusters start end self.old }
+        ensures keeps { KeepsClusters self.old self.new }
     {
         if !self.groups_graphemes() {
             self.unsafe_to_break(Some(start), Some(end));
@@ -113,7 +116,8 @@ impl hb_buffer_t {
         requires opened { self.old.have_output ≡ true }
         requires order { start ≤ end }
         requires within { end ≤ length self.old.out }
-        ensures { self.new ≡ step.merge_out_clusters start end self.old }
+        ensures is { self.new ≡ step.merge_out_clusters start end self.old }
+        ensures keeps { KeepsClusters self.old self.new }
     {
         if self.any_order() {
             return;

@@ -4,6 +4,7 @@
 ghost use Rattle.std.specs.Prelude.{◌≡◌, ◌+◌, ◌-◌, ◌<◌, ◌≤◌, ◌||◌, true, false, not, length, Ok};
 ghost use Rattle.shaping_buffer.specs.Step as step;
 ghost use Rattle.shaping_buffer.specs.Step.{Meets};
+ghost use Rattle.shaping_buffer.specs.KeepsClusters.{KeepsClusters};
 
 use super::hb_buffer_t;
 use std::alloc::AllocError;
@@ -17,6 +18,7 @@ impl hb_buffer_t {
     pub fn move_to(&mut self, i: usize) -> Result<bool, AllocError>
         requires { i ≤ step.last_place self.old }
         ensures meets { Meets (step.move_to i self.old) self.old result self.new }
+        ensures keeps { KeepsClusters self.old self.new }
         ensures in_place { self.old.have_separate_output ≡ false
             → result ≡ Ok (self.old.successful || not self.old.have_output) }
     {

@@ -3,6 +3,7 @@
 ghost use Rattle.std.specs.Prelude.{◌≡◌, false, Some, length, IsSome};
 ghost use Rattle.shaping_buffer.specs.State.{len};
 ghost use Rattle.shaping_buffer.specs.Positions.{with_zero_positions};
+ghost use Rattle.shaping_buffer.specs.KeepsClusters.{KeepsClusters};
 
 use super::hb_buffer_t;
 use rb_glyph::GlyphPosition;
@@ -20,7 +21,8 @@ impl hb_buffer_t {
     /// Turns positions on, all 0, one for each glyph. It takes no memory. Requires that no output is open.
     pub fn clear_positions(&mut self)
         requires { self.old.have_output ≡ false }
-        ensures { self.new ≡ with_zero_positions self.old }
+        ensures is { self.new ≡ with_zero_positions self.old }
+        ensures keeps { KeepsClusters self.old self.new }
     {
         let zero = GlyphPosition {
             x_advance: 0,

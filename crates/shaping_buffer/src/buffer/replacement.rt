@@ -5,6 +5,7 @@ ghost use Rattle.std.specs.Prelude.{◌≡◌, ◌<◌, ◌≤◌, true, length,
 ghost use Rattle.shaping_buffer.specs.State.{lookahead_len};
 ghost use Rattle.shaping_buffer.specs.Step as step;
 ghost use Rattle.shaping_buffer.specs.Step.{Meets};
+ghost use Rattle.shaping_buffer.specs.KeepsClusters.{KeepsClusterOrder, KeepsClusters};
 
 use super::hb_buffer_t;
 use std::alloc::AllocError;
@@ -27,8 +28,10 @@ impl hb_buffer_t {
         requires glyph { 0 < lookahead_len self.old }
         requires within { num_in ≤ lookahead_len self.old }
         requires ids { num_out ≤ length glyph_data.now }
-        ensures { Meets (step.replace_glyphs num_in (take num_out glyph_data.now) self.old)
+        ensures meets { Meets (step.replace_glyphs num_in (take num_out glyph_data.now) self.old)
             self.old result self.new }
+        ensures keeps_order { KeepsClusterOrder self.old self.new }
+        ensures keeps { 0 < num_out → KeepsClusters self.old self.new }
     {
         let ids = &glyph_data[..num_out];
         let any_order = self.any_order();

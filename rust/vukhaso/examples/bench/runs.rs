@@ -4,13 +4,14 @@ use crate::anyhow::Result;
 use crate::shaping_bench::item::{PassItem, TextItem};
 use crate::shaping_bench::measuring::{Item, measure};
 use crate::shaping_bench::shaper_passes::ShaperItem;
-use crate::shaping_bench::shaper_tables::{TableRows, Tables};
+use crate::shaping_bench::shaper_tables::Tables;
 use crate::shaping_bench::tags::{TagsItem, long_keys, pairs, rows};
 use crate::shaping_bench::texts::{
     FEATURES, FeaturesItem, NewTextItem, ReusedTextItem, mixed_text,
 };
 use crate::shaping_bench::workload::{WORKLOADS, Workload};
 use vukhaso::Tag;
+use vukhaso::unicode_tables::UnicodeRows;
 
 /// How many glyphs the lists have.
 const SIZES: [usize; 3] = [100, 10_000, 1_000_000];
@@ -79,8 +80,8 @@ fn measure_workload(workload: Workload, size: usize) -> Result<(u128, u32)> {
         Workload::Calls(pass) => many(size, || Ok(PassItem::new(pass, size))),
         Workload::Serialized { positions } => many(size, || TextItem::new(size, positions)),
         Workload::Shaping(pass) => {
-            let rows = TableRows::new()?;
-            let tables = Tables::new(&rows)?;
+            let rows = UnicodeRows::new()?;
+            let tables = Tables::new(&rows);
             many(size, || Ok(ShaperItem::new(pass, &tables, size)))
         }
         Workload::Features => many(size, || Ok(FeaturesItem::new(&FEATURES, size))),

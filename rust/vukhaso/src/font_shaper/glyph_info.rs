@@ -76,6 +76,13 @@ pub(crate) fn modified_combining_class(info: &hb_glyph_info_t) -> u16 {
     }
 }
 
+/// Sets the class by which a mark is reordered, and later placed.
+pub(crate) fn set_modified_combining_class(info: &mut hb_glyph_info_t, class: u16) {
+    if is_unicode_mark(info) {
+        info.set_unicode_props(class.wrapping_mul(256) | info.unicode_props() & 0xFF);
+    }
+}
+
 /// Whether the character goes on with the grapheme before it.
 pub(crate) fn is_continuation(info: &hb_glyph_info_t) -> bool {
     info.unicode_props() & UnicodeProps::CONTINUATION.bits() != 0
@@ -151,4 +158,37 @@ pub(crate) fn space_fallback(info: &hb_glyph_info_t) -> u8 {
 /// Whether the glyph is a mark by its font.
 pub(crate) fn is_mark(info: &hb_glyph_info_t) -> bool {
     info.glyph_props() & GlyphPropsFlags::MARK.bits() != 0
+}
+
+/// Whether a lookup made the glyph from several, and did not take it apart again.
+pub(crate) fn has_ligated(info: &hb_glyph_info_t) -> bool {
+    info.glyph_props() & GlyphPropsFlags::LIGATED.bits() != 0
+}
+
+/// The number of the ligature that a glyph is or belongs to, or 0.
+pub(crate) fn ligature_id(info: &hb_glyph_info_t) -> u8 {
+    info.lig_props() >> 5
+}
+
+/// Whether the glyph is a ligature itself.
+fn is_ligature_base(info: &hb_glyph_info_t) -> bool {
+    info.lig_props() & 0x10 != 0
+}
+
+/// The component of a ligature that a glyph belongs to, or 0.
+pub(crate) fn ligature_component(info: &hb_glyph_info_t) -> u8 {
+    if is_ligature_base(info) {
+        0
+    } else {
+        info.lig_props() & 0x0F
+    }
+}
+
+/// How many components a glyph has: 1 where it is no ligature.
+pub(crate) fn component_count(info: &hb_glyph_info_t) -> u8 {
+    if info.glyph_props() & GlyphPropsFlags::LIGATURE.bits() != 0 && is_ligature_base(info) {
+        info.lig_props() & 0x0F
+    } else {
+        1
+    }
 }

@@ -4,20 +4,26 @@
 
 use crate::common::{GlyphId, Tag};
 use crate::font_shaper::face::Face;
+use crate::font_shaper::measures::bounds_of;
 use crate::font_tables::glyph_names::PostNames;
+use crate::font_tables::metrics::Metrics;
+use crate::font_tables::scale::Scale;
 use crate::glyph::{GlyphExtents, GlyphNames, hb_glyph_info_t};
+use crate::glyph_outlines::Outlines;
 use crate::memory::AllocError;
 use crate::memory::BTreeMap;
 
 /// The names and the extents of a font's glyphs, as the text of shaped glyphs asks for them.
 pub struct FaceNames<'a> {
-    face: Face<'a>,
+    outlines: Outlines<'a>,
+    horizontal: Metrics<'a>,
+    scale: Scale,
     post: PostNames<'a>,
     extents: BTreeMap<u16, GlyphExtents>,
 }
 
 impl<'a> FaceNames<'a> {
-    /// The names of the font's glyphs.
+    /// The names of the font's glyphs, and their extents at its size.
     ///
     /// # Errors
     ///
@@ -30,7 +36,9 @@ impl<'a> FaceNames<'a> {
     pub fn new(face: &Face<'a>) -> Result<Self, AllocError> {
         let post = PostNames::new(face.tables.table(Tag::from_bytes(b"post")))?;
         Ok(FaceNames {
-            face: *face,
+            outlines: face.outlines,
+            horizontal: face.horizontal,
+            scale: face.scale,
             post,
             extents: BTreeMap::new(),
         })
@@ -50,7 +58,7 @@ impl<'a> FaceNames<'a> {
         for info in infos {
             if let Ok(number) = u16::try_from(info.glyph_id)
                 && !self.extents.contains_key(&number)
-                && let Some(extents) = self.face.glyph_extents(GlyphId(number))
+                && let Some(extents) = self.bounds(GlyphId(number))
             {
                 let _ = self.extents.insert(number, extents)?;
             }
@@ -58,11 +66,16 @@ impl<'a> FaceNames<'a> {
         Ok(())
     }
 
+    /// The bounds of a glyph, as its outline has them.
+    fn bounds(&self, glyph: GlyphId) -> Option<GlyphExtents> {
+        bounds_of(&self.outlines, &self.horizontal, &self.scale, glyph)
+    }
+
     /// The bytes of a glyph's name.
     fn name_bytes(&self, glyph: GlyphId) -> Option<&'a [u8]> {
         match self.post.name(glyph) {
             Some(name) => Some(name),
-            None => self.face.outlines.glyph_name(glyph),
+            None => self.outlines.glyph_name(glyph),
         }
     }
 }
@@ -79,7 +92,7 @@ fn text_of(bytes: &[u8]) -> Option<&str> {
 /// # Proved
 ///
 /// ```text
-/// ghost name_of = { λ names glyph. name_of names.post.table.now names.face.outlines glyph }
+/// ghost name_of = { λ names glyph. name_of names.post.table.now names.outlines glyph }
 /// ghost extents_of = { λ names glyph. get nat_cmp names.extents glyph }
 /// ```
 impl<'a> GlyphNames for FaceNames<'a> {

@@ -25,9 +25,20 @@ const DOTTED_CIRCLE: u32 = 0x25CC;
 /// - `buffer.old.have_output ≡ false`
 pub(crate) fn set_properties(buffer: &mut hb_buffer_t) {
     debug_assert!(!buffer.have_output());
+    let scratch_flags = set_all_in(buffer);
+    buffer.scratch_flags = scratch_flags;
+}
+
+/// Sets the properties of each character of a buffer; the scratch flags that then hold.
+///
+/// # Requires
+///
+/// - `buffer.old.have_output ≡ false`
+fn set_all_in(buffer: &mut hb_buffer_t) -> u32 {
+    debug_assert!(!buffer.have_output());
     let mut scratch_flags = buffer.scratch_flags;
     set_all_properties(buffer.info_slice_mut(), &mut scratch_flags);
-    buffer.scratch_flags = scratch_flags;
+    scratch_flags
 }
 
 /// Sets the properties of each character.
@@ -141,12 +152,26 @@ pub(crate) fn form_clusters(buffer: &mut hb_buffer_t) {
             break;
         }
         let end = buffer.group_end(start, is_same_grapheme);
-        if merges {
-            buffer.merge_clusters(start, end);
-        } else {
-            buffer.unsafe_to_break(Some(start), Some(end));
-        }
+        form_cluster(buffer, start, end, merges);
         start = end;
+    }
+}
+
+/// Makes a grapheme one cluster, or unsafe to break.
+///
+/// # Requires
+///
+/// - `closed: buffer.old.have_output ≡ false`
+/// - `order: start ≤ end`
+/// - `within: end ≤ length buffer.old.input`
+fn form_cluster(buffer: &mut hb_buffer_t, start: usize, end: usize, merges: bool) {
+    debug_assert!(!buffer.have_output());
+    debug_assert!(start <= end);
+    debug_assert!(end <= buffer.info().len());
+    if merges {
+        buffer.merge_clusters(start, end);
+    } else {
+        buffer.unsafe_to_break(Some(start), Some(end));
     }
 }
 
@@ -169,9 +194,12 @@ pub(crate) fn ensure_native_direction(buffer: &mut hb_buffer_t) {
 }
 
 /// The direction in which the script runs, if it has one: numbers in a script that runs from right to
-/// left run from left to right.
+/// left run from left to right, and so does a text of no script.
 fn native_direction(buffer: &hb_buffer_t) -> Option<Direction> {
-    let native = Direction::from_script(buffer.script?)?;
+    let native = match buffer.script {
+        Some(script) => Direction::from_script(script)?,
+        None => Direction::LeftToRight,
+    };
     if native == Direction::RightToLeft
         && buffer.direction == Direction::LeftToRight
         && are_numbers(buffer.info())

@@ -15,6 +15,15 @@ pub trait Words: Copy {
     /// ensures { result ≡ self.now }
     /// ```
     fn by_words(&self) -> Self;
+
+    /// Makes it the same as another, word by word.
+    ///
+    /// # Proved
+    ///
+    /// ```text
+    /// ensures { self.new ≡ other }
+    /// ```
+    fn set_words(&mut self, other: Self);
 }
 
 impl Words for hb_glyph_info_t {
@@ -28,6 +37,15 @@ impl Words for hb_glyph_info_t {
             var2: self.var2,
         }
     }
+
+    #[inline(always)]
+    fn set_words(&mut self, other: Self) {
+        self.glyph_id = other.glyph_id;
+        self.mask = other.mask;
+        self.cluster = other.cluster;
+        self.var1 = other.var1;
+        self.var2 = other.var2;
+    }
 }
 
 impl Words for GlyphPosition {
@@ -40,6 +58,15 @@ impl Words for GlyphPosition {
             y_offset: self.y_offset,
             var: self.var,
         }
+    }
+
+    #[inline(always)]
+    fn set_words(&mut self, other: Self) {
+        self.x_advance = other.x_advance;
+        self.y_advance = other.y_advance;
+        self.x_offset = other.x_offset;
+        self.y_offset = other.y_offset;
+        self.var = other.var;
     }
 }
 
@@ -56,7 +83,7 @@ pub fn reverse<T: Words>(items: &mut [T]) {
     for i in 0..len / 2 {
         let first = items[i].by_words();
         let last = items[len - 1 - i].by_words();
-        items[i] = last;
-        items[len - 1 - i] = first;
+        items[i].set_words(last);
+        items[len - 1 - i].set_words(first);
     }
 }

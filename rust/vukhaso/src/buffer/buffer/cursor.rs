@@ -21,11 +21,13 @@ impl hb_buffer_t {
     /// # Proved
     ///
     /// ```text
-    /// ensures { self.new ≡ step.clear_output self.old }
+    /// ensures is { self.new ≡ step.clear_output self.old }
+    /// ensures keeps { KeepsClusters self.old self.new }
     /// ```
     #[inline]
     pub fn clear_output(&mut self) {
         debug_assert!(!self.have_output());
+        debug_assert!(!self.sides.is_open());
         self.sides.open();
         self.have_positions = false;
         self.pos.clear();
@@ -48,6 +50,7 @@ impl hb_buffer_t {
     ///
     /// ```text
     /// ensures meets { Meets (step.next_glyph self.old) self.old result self.new }
+    /// ensures keeps { KeepsClusters self.old self.new }
     /// ensures in_place { self.old.have_separate_output ≡ false → result ≡ Ok true }
     /// ```
     #[inline]
@@ -79,6 +82,7 @@ impl hb_buffer_t {
     ///
     /// ```text
     /// ensures meets { Meets (step.next_glyphs n self.old) self.old result self.new }
+    /// ensures keeps { KeepsClusters self.old self.new }
     /// ensures in_place { self.old.have_separate_output ≡ false → result ≡ Ok true }
     /// ```
     #[inline(always)]
@@ -103,7 +107,9 @@ impl hb_buffer_t {
     /// # Proved
     ///
     /// ```text
-    /// ensures { self.new ≡ step.skip_glyph self.old }
+    /// ensures is { self.new ≡ step.skip_glyph self.old }
+    /// ensures keeps_order { KeepsClusterOrder self.old self.new }
+    /// ensures keeps { HasTwin self.old → KeepsClusters self.old self.new }
     /// ```
     #[inline]
     pub fn skip_glyph(&mut self) {
@@ -129,6 +135,7 @@ impl hb_buffer_t {
     ///
     /// ```text
     /// ensures meets { Meets (step.replace_glyph glyph_index self.old) self.old result self.new }
+    /// ensures keeps { KeepsClusters self.old self.new }
     /// ensures in_place { self.old.have_separate_output ≡ false → result ≡ Ok true }
     /// ```
     #[inline]
@@ -162,7 +169,8 @@ impl hb_buffer_t {
     /// # Proved
     ///
     /// ```text
-    /// ensures { Meets (step.output_glyph glyph_index self.old) self.old result self.new }
+    /// ensures meets { Meets (step.output_glyph glyph_index self.old) self.old result self.new }
+    /// ensures keeps { KeepsClusters self.old self.new }
     /// ```
     #[inline]
     pub fn output_glyph(&mut self, glyph_index: u32) -> Result<bool, AllocError> {
@@ -199,7 +207,8 @@ impl hb_buffer_t {
     /// # Proved
     ///
     /// ```text
-    /// ensures { Meets (step.output_info glyph_info self.old) self.old result self.new }
+    /// ensures meets { Meets (step.output_info glyph_info self.old) self.old result self.new }
+    /// ensures keeps { IsBeside glyph_info.cluster self.old → KeepsClusters self.old self.new }
     /// ```
     #[inline]
     pub fn output_info(&mut self, glyph_info: hb_glyph_info_t) -> Result<bool, AllocError> {
@@ -224,7 +233,8 @@ impl hb_buffer_t {
     /// # Proved
     ///
     /// ```text
-    /// ensures { Meets (step.copy_glyph self.old) self.old result self.new }
+    /// ensures meets { Meets (step.copy_glyph self.old) self.old result self.new }
+    /// ensures keeps { KeepsClusters self.old self.new }
     /// ```
     #[inline]
     pub fn copy_glyph(&mut self) -> Result<bool, AllocError> {
@@ -252,6 +262,7 @@ impl hb_buffer_t {
     ///
     /// ```text
     /// ensures meets { Meets (step.sync self.old) self.old result self.new }
+    /// ensures keeps { KeepsClusters self.old self.new }
     /// ensures in_place { self.old.have_separate_output ≡ false → result ≡ Ok self.old.successful }
     /// ```
     #[inline(always)]

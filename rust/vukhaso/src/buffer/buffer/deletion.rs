@@ -22,7 +22,8 @@ impl hb_buffer_t {
     /// # Proved
     ///
     /// ```text
-    /// ensures { self.new ≡ step.delete_glyph self.old }
+    /// ensures is { self.new ≡ step.delete_glyph self.old }
+    /// ensures keeps { KeepsClusters self.old self.new }
     /// ```
     #[inline(always)]
     pub fn delete_glyph(&mut self) {

@@ -35,7 +35,8 @@ impl hb_buffer_t {
     /// # Proved
     ///
     /// ```text
-    /// ensures { self.new ≡ step.unsafe_to_break start end self.old }
+    /// ensures is { self.new ≡ step.unsafe_to_break start end self.old }
+    /// ensures keeps { KeepsClusters self.old self.new }
     /// ```
     #[inline(always)]
     pub fn unsafe_to_break(&mut self, start: Option<usize>, end: Option<usize>) {
@@ -59,7 +60,8 @@ impl hb_buffer_t {
     /// # Proved
     ///
     /// ```text
-    /// ensures { self.new ≡ step.unsafe_to_break_from_outbuffer start end self.old }
+    /// ensures is { self.new ≡ step.unsafe_to_break_from_outbuffer start end self.old }
+    /// ensures keeps { KeepsClusters self.old self.new }
     /// ```
     #[inline]
     pub fn unsafe_to_break_from_outbuffer(&mut self, start: Option<usize>, end: Option<usize>) {
@@ -92,7 +94,8 @@ impl hb_buffer_t {
     /// # Proved
     ///
     /// ```text
-    /// ensures { self.new ≡ step.safe_to_insert_tatweel start end self.old }
+    /// ensures is { self.new ≡ step.safe_to_insert_tatweel start end self.old }
+    /// ensures keeps { KeepsClusters self.old self.new }
     /// ```
     #[inline]
     pub fn safe_to_insert_tatweel(&mut self, start: Option<usize>, end: Option<usize>) {
@@ -120,7 +123,8 @@ impl hb_buffer_t {
     /// # Proved
     ///
     /// ```text
-    /// ensures { self.new ≡ step.unsafe_to_concat start end self.old }
+    /// ensures is { self.new ≡ step.unsafe_to_concat start end self.old }
+    /// ensures keeps { KeepsClusters self.old self.new }
     /// ```
     #[inline]
     pub fn unsafe_to_concat(&mut self, start: Option<usize>, end: Option<usize>) {
@@ -148,7 +152,8 @@ impl hb_buffer_t {
     /// # Proved
     ///
     /// ```text
-    /// ensures { self.new ≡ step.unsafe_to_concat_from_outbuffer start end self.old }
+    /// ensures is { self.new ≡ step.unsafe_to_concat_from_outbuffer start end self.old }
+    /// ensures keeps { KeepsClusters self.old self.new }
     /// ```
     #[inline]
     pub fn unsafe_to_concat_from_outbuffer(&mut self, start: Option<usize>, end: Option<usize>) {

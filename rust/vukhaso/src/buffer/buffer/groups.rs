@@ -19,11 +19,13 @@ impl hb_buffer_t {
     /// # Proved
     ///
     /// ```text
-    /// ensures { self.new ≡ step.reverse self.old }
+    /// ensures is { self.new ≡ step.reverse self.old }
+    /// ensures keeps { KeepsClusters self.old self.new }
     /// ```
     #[inline]
     pub fn reverse(&mut self) {
         debug_assert!(!self.have_output());
+        debug_assert!(!self.sides.is_open());
         reversal::reverse(self.sides.list_mut());
         reversal::reverse(&mut self.pos);
     }
@@ -42,13 +44,15 @@ impl hb_buffer_t {
     /// # Proved
     ///
     /// ```text
-    /// ensures { self.new ≡ step.reverse_range start end self.old }
+    /// ensures is { self.new ≡ step.reverse_range start end self.old }
+    /// ensures keeps { IsOneCluster start end self.old → KeepsClusters self.old self.new }
     /// ```
     #[inline]
     pub fn reverse_range(&mut self, start: usize, end: usize) {
         debug_assert!(!self.have_output());
         debug_assert!(start <= end);
         debug_assert!(end <= self.len());
+        debug_assert!(!self.sides.is_open());
         groups::reverse_range(self.sides.list_mut(), start, end);
         if self.have_positions {
             groups::reverse_range(&mut self.pos, start, end);
@@ -130,6 +134,7 @@ impl hb_buffer_t {
     ///     → self.new ≡ step.reverse_groups test merge_clusters self.old }
     /// ensures len { length self.new.input ≡ length self.old.input }
     /// ensures others { step.KeepsOthers self.old self.new }
+    /// ensures keeps { merge_clusters ≡ true → KeepsClusters self.old self.new }
     /// ```
     #[inline]
     pub fn reverse_groups<F: Fn(&hb_glyph_info_t, &hb_glyph_info_t) -> bool>(
@@ -155,6 +160,7 @@ impl hb_buffer_t {
     /// - `closed: self.old.have_output ≡ false`
     /// - `order: start ≤ end`
     /// - `within: end ≤ len self.old`
+    #[inline(always)]
     fn reverse_group(&mut self, start: usize, end: usize, merge_clusters: bool) {
         debug_assert!(!self.have_output());
         debug_assert!(start <= end);
@@ -184,10 +190,14 @@ impl hb_buffer_t {
     ///     → self.new ≡ step.delete_glyphs_inplace test self.old }
     /// ensures within { length self.new.input ≤ length self.old.input }
     /// ensures others { step.KeepsOthers (record self.old { idx = 0 }) self.new }
+    /// ensures keeps { (test : hb_glyph_info_t → Bool)
+    ///     → ((x : _) (r : _) → F.post filter x r → r ≡ test x.now)
+    ///     → KeepsClusters self.old self.new }
     /// ```
     #[inline]
     pub fn delete_glyphs_inplace<F: Fn(&hb_glyph_info_t) -> bool>(&mut self, filter: F) {
         debug_assert!(!self.have_output());
+        debug_assert!(!self.sides.is_open());
         let any_order = self.any_order();
         let (kept, merges) =
             delete_in_place(self.sides.list_mut(), &mut self.pos, any_order, &filter);

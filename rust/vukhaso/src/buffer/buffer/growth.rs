@@ -45,7 +45,8 @@ impl hb_buffer_t {
     /// # Proved
     ///
     /// ```text
-    /// ensures { RoomMeets size (step.ensure size self.old) self.old result self.new }
+    /// ensures meets { RoomMeets size (step.ensure size self.old) self.old result self.new }
+    /// ensures keeps { KeepsClusters self.old self.new }
     /// ```
     #[inline]
     pub fn ensure(&mut self, size: usize) -> Result<bool, AllocError> {

@@ -31,7 +31,8 @@ impl hb_buffer_t {
     /// # Proved
     ///
     /// ```text
-    /// ensures { self.new ≡ step.set_max_len max_len self.old }
+    /// ensures is { self.new ≡ step.set_max_len max_len self.old }
+    /// ensures keeps { KeepsClusters self.old self.new }
     /// ```
     #[inline]
     pub fn set_max_len(&mut self, max_len: usize) {
@@ -52,7 +53,8 @@ impl hb_buffer_t {
     /// # Proved
     ///
     /// ```text
-    /// ensures { self.new ≡ step.enter self.old }
+    /// ensures is { self.new ≡ step.enter self.old }
+    /// ensures keeps { KeepsClusters self.old self.new }
     /// ```
     #[inline]
     pub fn enter(&mut self) {
@@ -81,7 +83,8 @@ impl hb_buffer_t {
     /// # Proved
     ///
     /// ```text
-    /// ensures { self.new ≡ step.leave self.old }
+    /// ensures is { self.new ≡ step.leave self.old }
+    /// ensures keeps { KeepsClusters self.old self.new }
     /// ```
     #[inline]
     pub fn leave(&mut self) {
@@ -98,6 +101,7 @@ impl hb_buffer_t {
     ///
     /// ```text
     /// ensures serial { self.new ≡ step.allocate_lig_id self.old }
+    /// ensures keeps { KeepsClusters self.old self.new }
     /// ensures number { result ≡ self.new.serial % 8 }
     /// ensures some { 0 < result }
     /// ```

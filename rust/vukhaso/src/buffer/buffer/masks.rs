@@ -17,7 +17,8 @@ impl hb_buffer_t {
     /// # Proved
     ///
     /// ```text
-    /// ensures { self.new ≡ step.reset_masks mask self.old }
+    /// ensures is { self.new ≡ step.reset_masks mask self.old }
+    /// ensures keeps { KeepsClusters self.old self.new }
     /// ```
     #[inline]
     pub fn reset_masks(&mut self, mask: u32) {
@@ -38,7 +39,8 @@ impl hb_buffer_t {
     /// # Proved
     ///
     /// ```text
-    /// ensures { self.new ≡ step.set_masks value mask cluster_start cluster_end self.old }
+    /// ensures is { self.new ≡ step.set_masks value mask cluster_start cluster_end self.old }
+    /// ensures keeps { KeepsClusters self.old self.new }
     /// ```
     #[inline]
     pub fn set_masks(&mut self, value: u32, mask: u32, cluster_start: u32, cluster_end: u32) {

@@ -42,7 +42,8 @@ impl hb_buffer_t {
     /// # Proved
     ///
     /// ```text
-    /// ensures { self.new ≡ step.merge_clusters start end self.old }
+    /// ensures is { self.new ≡ step.merge_clusters start end self.old }
+    /// ensures keeps { KeepsClusters self.old self.new }
     /// ```
     #[inline]
     pub fn merge_clusters(&mut self, start: usize, end: usize) {
@@ -72,7 +73,8 @@ impl hb_buffer_t {
     /// # Proved
     ///
     /// ```text
-    /// ensures { self.new ≡ step.merge_grapheme_clusters start end self.old }
+    /// ensures is { self.new ≡ step.merge_grapheme_clusters start end self.old }
+    /// ensures keeps { KeepsClusters self.old self.new }
     /// ```
     #[inline]
     pub fn merge_grapheme_clusters(&mut self, start: usize, end: usize) {
@@ -158,7 +160,8 @@ impl hb_buffer_t {
     /// # Proved
     ///
     /// ```text
-    /// ensures { self.new ≡ step.merge_out_clusters start end self.old }
+    /// ensures is { self.new ≡ step.merge_out_clusters start end self.old }
+    /// ensures keeps { KeepsClusters self.old self.new }
     /// ```
     #[inline]
     pub fn merge_out_clusters(&mut self, start: usize, end: usize) {

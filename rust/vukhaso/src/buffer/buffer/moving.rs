@@ -26,6 +26,7 @@ impl hb_buffer_t {
     ///
     /// ```text
     /// ensures meets { Meets (step.move_to i self.old) self.old result self.new }
+    /// ensures keeps { KeepsClusters self.old self.new }
     /// ensures in_place { self.old.have_separate_output ≡ false
     ///     → result ≡ Ok (self.old.successful || not self.old.have_output) }
     /// ```

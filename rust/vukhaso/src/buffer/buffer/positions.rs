@@ -37,7 +37,8 @@ impl hb_buffer_t {
     /// # Proved
     ///
     /// ```text
-    /// ensures { self.new ≡ with_zero_positions self.old }
+    /// ensures is { self.new ≡ with_zero_positions self.old }
+    /// ensures keeps { KeepsClusters self.old self.new }
     /// ```
     #[inline]
     pub fn clear_positions(&mut self) {

@@ -28,8 +28,10 @@ impl hb_buffer_t {
     /// # Proved
     ///
     /// ```text
-    /// ensures { Meets (step.replace_glyphs num_in (take num_out glyph_data.now) self.old)
+    /// ensures meets { Meets (step.replace_glyphs num_in (take num_out glyph_data.now) self.old)
     ///     self.old result self.new }
+    /// ensures keeps_order { KeepsClusterOrder self.old self.new }
+    /// ensures keeps { 0 < num_out → KeepsClusters self.old self.new }
     /// ```
     // Inlined as in HarfBuzz, where it is a template: a caller mostly knows both counts.
     #[inline(always)]

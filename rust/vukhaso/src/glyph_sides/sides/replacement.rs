@@ -74,7 +74,7 @@ impl Sides {
         debug_assert!(self.is_open());
         debug_assert!(read <= self.input().len());
         if self.is_separate {
-            if ids.len() > self.out_info.capacity() - self.out_info.len() {
+            if self.out_info.len() + ids.len() > self.out_info.capacity() {
                 return false;
             }
             append_copies(&mut self.out_info, glyph, ids);

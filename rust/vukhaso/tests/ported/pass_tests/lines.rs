@@ -1,9 +1,9 @@
 // Written by tools/plain_rust from crates/pass_tests. Do not edit.
 
 use crate::Fail;
-use vukhaso::buffer::{GlyphPosition, UnicodeBuffer, hb_glyph_info_t};
+use vukhaso::buffer::{GlyphPosition, hb_glyph_info_t};
 use vukhaso::memory::{AllocError, Vec};
-use vukhaso::passes::{KerningTable, kern, line_ends};
+use vukhaso::passes::line_ends;
 
 /// The cluster, the mask and the advance of each glyph, the widths of the lines, and where the lines end.
 struct Case {
@@ -154,19 +154,4 @@ fn ends_of(case: &Case) -> Result<Vec<usize>, AllocError> {
     }
     assert!(glyphs.len() == positions.len());
     line_ends(&glyphs, &positions, case.widths)
-}
-
-/// Each line is too wide, so it ends as soon as it may: A and V are kerned and stay together, and V and
-/// A are not.
-#[test]
-fn a_kerned_pair_is_not_parted() -> Result<(), Fail> {
-    let table = KerningTable::new(&[((65, 86), -80)]).ok_or("the pair rises")?;
-    let mut characters = UnicodeBuffer::new();
-    assert!(characters.push_str("AVA") == Ok(true));
-    let mut buffer = characters.into_buffer();
-    buffer.clear_positions();
-    kern(&mut buffer, &table);
-    let ends = line_ends(buffer.info(), buffer.pos(), &[-81])?;
-    assert!(ends.as_slice() == [2, 3].as_slice());
-    Ok(())
 }

@@ -3,14 +3,10 @@
 //! Tests of `shaping_passes`, over what it makes public, as in the `tests/` folder of a Rust crate.
 
 #[cfg(test)]
-mod kerning;
-#[cfg(test)]
 mod lines;
 #[cfg(test)]
 mod mark_order;
 #[cfg(test)]
 mod normalization;
-#[cfg(test)]
-mod substitution;
 #[cfg(test)]
 mod visible;

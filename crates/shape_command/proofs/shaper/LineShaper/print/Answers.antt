@@ -5,9 +5,9 @@ use Rattle.shape_command.proofs.shaper.LineShaper.print.Goals as goal
 pub returns-then-is_empty : goal.returns-then-is_empty
 returns-then-is_empty g c =
     let none : length c.args.glyphs.now.input ≡ 0 = search rules in
-    line-none _ c.args.self.now.output c.args.self.now.font_size c.args.self.now.face.units_per_em c.args.glyphs.now none
+    line-none _ c.args.self.now.output c.args.glyphs.now none
 
 pub returns : goal.returns
 returns g c =
-    line-some _ c.args.self.now.output c.args.self.now.font_size c.args.self.now.face.units_per_em c.args.glyphs.now _
-    (λ none. let bad : false ≡ true = c.if-is_empty.ensures.1 none in cc) c.in_ok-text.ensures
+    line-some _ c.args.self.now.output c.args.glyphs.now _
+    (λ none. let bad : false ≡ true = c.if-is_empty.ensures.1 none in cc) c.in_ok-text.ensures.is

@@ -1,9 +1,11 @@
-use Rattle.std.proofs.Common.{◌≡◌, ◌+◌, ◌-◌, ◌<◌, ◌≤◌, ◌∙◌, suc, false, [], sym, ap, subst, length, arith}
+use Rattle.std.proofs.Common.{◌≡◌, ◌+◌, ◌-◌, ◌<◌, ◌≤◌, ◌∙◌, suc, true, false, [], sym, ap, subst, length, arith}
 use Rattle.glyph_lists.specs.Groups as groups_of
 use Rattle.shaping_buffer.specs.State.{State}
-use Rattle.shaping_buffer.specs.GroupStep.{KeepsOthers, reverse}
+use Rattle.shaping_buffer.specs.GroupStep.{KeepsOthers, reverse, reverse_group}
 use Rattle.shaping_buffer.proofs.GroupStepLemmas.{reverse_each, each_done, each_turn, each_then_all}
-use Rattle.shaping_buffer.proofs.GroupStepLemmas.{group_keeps, keeps_then, length_group}
+use Rattle.shaping_buffer.proofs.GroupStepLemmas.{group_keeps, keeps_then as others_then, length_group}
+use Rattle.shaping_buffer.proofs.GroupKeepsLemmas.{keeps_group}
+use Rattle.shaping_buffer.proofs.KeepsLemmas.{keeps_then, kept_as}
 use Rattle.shaping_buffer.proofs.buffer.hb_buffer_t.reverse_groups.Goals as goal
 
 pub loop-start-preserved : goal.loop-start-preserved
@@ -15,6 +17,7 @@ loop-start-preserved g c =
     let s = c.loop-start.self in
     let b = c.self-in-loop-start.inside in
     let view = c.self-in-loop-start.view_is in
+    let closed : s.have_output ≡ false = ap (λ (t : State). t.have_output) inv.4 ∙ c.requires.closed in
     let shut : b.sides.is_open ≡ false =
     ap (λ (t : State). t.have_output) view ∙ ap (λ (t : State). t.have_output) inv.4 ∙ c.requires.closed in
     let none : s.out ≡ [] = sym (ap (λ (t : State). t.out) view) ∙ (c.input.ensures.sides.shut shut).1 in
@@ -31,7 +34,7 @@ loop-start-preserved g c =
       left,
       inv.2 ∙ sym same,
       same ∙ inv.3,
-      keeps_then c.args.self.now s c.reverse_group.new.self inv.4
+      others_then c.args.self.now s c.reverse_group.new.self inv.4
           (subst (KeepsOthers s) (sym new) (group_keeps merges start end s none)),
       inv.5,
       λ test by.
@@ -39,12 +42,20 @@ loop-start-preserved g c =
           ∙ each_turn merges test inv.0 (inv.0 - 1) start end s within fewer
           (c.group_end-end.ensures.is test by ∙ ap (groups_of.group_end test start) list)
           ∙ inv.6 test by,
+      λ e. keeps_then c.args.self.now s c.reverse_group.new.self (inv.7 e)
+          (kept_as s (reverse_group true start end s) c.reverse_group.new.self
+          (keeps_group start end s closed none up (omega (arith, c.group_end-end.ensures.until, ap length list)))
+          (new ∙ ap (λ b. reverse_group b start end s) e)),
     )
 
 pub returns-clause-is : goal.returns-clause-is
 returns-clause-is g c = λ test by.
     let inv = c.loop-start.invariant in
-    c.reverse.ensures
+    c.reverse.ensures.is
     ∙ ap reverse (sym (each_done c.args.merge_clusters test inv.0 c.loop-start.start c.loop-start.self (omega arith))
     ∙ inv.6 test by)
     ∙ each_then_all c.args.merge_clusters test c.args.self.now inv.5
+
+pub returns-clause-keeps : goal.returns-clause-keeps
+returns-clause-keeps g c = λ e.
+    keeps_then c.args.self.now c.loop-start.self c.reverse.new.self (c.loop-start.invariant.7 e) c.reverse.ensures.keeps

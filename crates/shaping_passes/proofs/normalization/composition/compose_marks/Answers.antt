@@ -12,7 +12,7 @@ pub loop-starter-init : goal.loop-starter-init
 loop-starter-init c =
     let s = c.args.buffer.now in
     let n : len s ≡ length s.input = cond-false _ _ _ c.requires in
-    turns_begun c.args.compositions.now c.args.classes.now s c.clear_output.new.self c.clear_output.ensures
+    turns_begun c.args.compositions.now c.args.classes.now s c.clear_output.new.self c.clear_output.ensures.is
     (search rules) (omega (arith, n, c.len.ensures.within))
 
 pub returns-clause-composed : goal.returns-clause-composed

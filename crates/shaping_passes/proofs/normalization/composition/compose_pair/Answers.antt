@@ -23,7 +23,7 @@ move_to-requires c =
       end_is s ready some at place end c.keep_one.new.buffer c.keep_one.ensures c.out_len-end.ensures.out_len,
       goes_back s ready some at place c.merge_out_clusters.new.self
           (two_is s ready some at place end c.keep_one.new.buffer c.merge_out_clusters.new.self c.keep_one.ensures
-          c.out_len-end.ensures.out_len c.merge_out_clusters.ensures),
+          c.out_len-end.ensures.out_len c.merge_out_clusters.ensures.is),
     )
 
 pub skip_glyph-requires : goal.skip_glyph-requires
@@ -35,7 +35,7 @@ skip_glyph-requires c =
     let place = c.requires.place in
     left_back s ready some at place c.move_to.new.self
     (three_is s ready some at place c.out_len-end.result c.keep_one.new.buffer c.merge_out_clusters.new.self
-    c.move_to.new.self c.move_to.result c.keep_one.ensures c.out_len-end.ensures.out_len c.merge_out_clusters.ensures
+    c.move_to.new.self c.move_to.result c.keep_one.ensures c.out_len-end.ensures.out_len c.merge_out_clusters.ensures.is
     c.move_to.ensures.meets)
 
 pub set_id-requires : goal.set_id-requires
@@ -47,7 +47,7 @@ set_id-requires c =
     let place = c.requires.place in
     let is = four_is s ready some at place c.out_len-end.result c.keep_one.new.buffer c.merge_out_clusters.new.self
     c.move_to.new.self c.skip_glyph.new.self c.move_to.result c.keep_one.ensures c.out_len-end.ensures.out_len
-    c.merge_out_clusters.ensures c.move_to.ensures.meets c.skip_glyph.ensures in
+    c.merge_out_clusters.ensures.is c.move_to.ensures.meets c.skip_glyph.ensures.is in
     omega (arith, out_left s ready some at place c.skip_glyph.new.self is)
 
 pub returns-clause-out : goal.returns-clause-out
@@ -59,7 +59,7 @@ returns-clause-out c =
     let place = c.requires.place in
     let is = four_is s ready some at place c.out_len-end.result c.keep_one.new.buffer c.merge_out_clusters.new.self
     c.move_to.new.self c.skip_glyph.new.self c.move_to.result c.keep_one.ensures c.out_len-end.ensures.out_len
-    c.merge_out_clusters.ensures c.move_to.ensures.meets c.skip_glyph.ensures in
+    c.merge_out_clusters.ensures.is c.move_to.ensures.meets c.skip_glyph.ensures.is in
     let l = take (length s.out) (merged s ready some at place) in
     ap (λ (t : State). cores t.out) c.set_id.ensures
     ∙ ap (λ (t : State). cores (set t.out at (with_id c.args.id (get_or t.out at zero_glyph)))) is
@@ -80,7 +80,7 @@ returns-clause-input c =
     let place = c.requires.place in
     let is = four_is s ready some at place c.out_len-end.result c.keep_one.new.buffer c.merge_out_clusters.new.self
     c.move_to.new.self c.skip_glyph.new.self c.move_to.result c.keep_one.ensures c.out_len-end.ensures.out_len
-    c.merge_out_clusters.ensures c.move_to.ensures.meets c.skip_glyph.ensures in
+    c.merge_out_clusters.ensures.is c.move_to.ensures.meets c.skip_glyph.ensures.is in
     ap (λ (t : State). cores t.input) c.set_id.ensures ∙ ap (λ (t : State). cores t.input) is
     ∙ input_cores s ready some at place
 
@@ -93,7 +93,7 @@ returns-clause-merges c = λ level coarse.
     let place = c.requires.place in
     let is = four_is s ready some at place c.out_len-end.result c.keep_one.new.buffer c.merge_out_clusters.new.self
     c.move_to.new.self c.skip_glyph.new.self c.move_to.result c.keep_one.ensures c.out_len-end.ensures.out_len
-    c.merge_out_clusters.ensures c.move_to.ensures.meets c.skip_glyph.ensures in
+    c.merge_out_clusters.ensures.is c.move_to.ensures.meets c.skip_glyph.ensures.is in
     let m = merged s ready some at place in
     let n = length s.out in
     subst IsCoarse
@@ -112,7 +112,7 @@ returns-clause-others c =
     let place = c.requires.place in
     let is = four_is s ready some at place c.out_len-end.result c.keep_one.new.buffer c.merge_out_clusters.new.self
     c.move_to.new.self c.skip_glyph.new.self c.move_to.result c.keep_one.ensures c.out_len-end.ensures.out_len
-    c.merge_out_clusters.ensures c.move_to.ensures.meets c.skip_glyph.ensures in
+    c.merge_out_clusters.ensures.is c.move_to.ensures.meets c.skip_glyph.ensures.is in
     framed s c.set_id.new.buffer _ _
     (c.set_id.ensures
     ∙ ap (λ (t : State). record t { out = set t.out at (with_id c.args.id (get_or t.out at zero_glyph)) }) is)
@@ -126,7 +126,7 @@ returns-clause-glyphs c =
     let place = c.requires.place in
     let is = four_is s ready some at place c.out_len-end.result c.keep_one.new.buffer c.merge_out_clusters.new.self
     c.move_to.new.self c.skip_glyph.new.self c.move_to.result c.keep_one.ensures c.out_len-end.ensures.out_len
-    c.merge_out_clusters.ensures c.move_to.ensures.meets c.skip_glyph.ensures in
+    c.merge_out_clusters.ensures.is c.move_to.ensures.meets c.skip_glyph.ensures.is in
     ap both c.set_id.ensures
     ∙ ap (λ (t : State). set t.out at (with_id c.args.id (get_or t.out at zero_glyph)) ++ t.input) is
     ∙ both_pair s ready some at place c.args.id

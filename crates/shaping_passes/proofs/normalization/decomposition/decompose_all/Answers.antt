@@ -6,7 +6,7 @@ use Rattle.shaping_passes.proofs.normalization.decomposition.decompose_all.Goals
 
 pub loop-buffer-init : goal.loop-buffer-init
 loop-buffer-init c =
-    (search rules, began c.args.decompositions.now c.args.buffer.now c.clear_output.new.self c.clear_output.ensures)
+    (search rules, began c.args.decompositions.now c.args.buffer.now c.clear_output.new.self c.clear_output.ensures.is)
 
 pub returns-in_err-decompose_current : goal.returns-in_err-decompose_current
 returns-in_err-decompose_current c =

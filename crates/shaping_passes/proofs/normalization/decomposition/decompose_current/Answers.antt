@@ -40,4 +40,4 @@ returns-in-Some c =
     (ap (λ l. replace_glyphs 1 l s) ids
     ∙ replaced_one (decomposition most_steps rows id) s c.requires.opened
     (left s c.requires.opened c.requires.some))
-    c.replace_glyphs.ensures
+    c.replace_glyphs.ensures.meets

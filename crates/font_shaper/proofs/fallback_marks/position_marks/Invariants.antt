@@ -1,0 +1,5 @@
+use Rattle.std.proofs.Common.{◌≡◌, false, IsSome}
+use Rattle.font_shaper.proofs.fallback_marks.position_marks.Given as goal
+
+abbrev pub invariant-loop-turn : goal.invariant-loop-turn
+invariant-loop-turn l = (l.buffer.have_output ≡ false) × IsSome l.buffer.positions

@@ -1,0 +1,8 @@
+use Rattle.std.proofs.Common.{◌≡◌, ◌≤◌, length}
+use Rattle.glyph_layout.specs.Budget.{IsNotMore}
+use Rattle.glyph_layout.proofs.matching.match_behind.Given as goal
+
+abbrev pub invariant-loop-index : goal.invariant-loop-index
+invariant-loop-index l =
+    (l.place ≤ length l.sides.out.now) × IsNotMore l.fn.search.budget l.search.budget
+    × (l.search.reach ≡ l.fn.search.reach) × (l.search.places ≡ l.fn.search.places)

@@ -1,0 +1,11 @@
+use Rattle.std.proofs.Common.{◌≡◌, ◌-◌, length}
+use Rattle.glyph_layout.specs.Budget.{IsNotMore}
+use Rattle.glyph_layout.specs.LigatureParts.{ligature_id}
+use Rattle.glyph_layout.specs.Match.{is_hidden_before}
+use Rattle.glyph_layout.proofs.matching.may_leave_ligature.Given as goal
+
+abbrev pub invariant-loop-turn : goal.invariant-loop-turn
+invariant-loop-turn l =
+    IsNotMore l.fn.budget l.budget
+    × (is_hidden_before l.sides.walk.filter (ligature_id l.first) l.sides.out.now (length l.sides.out.now)
+    ≡ is_hidden_before l.sides.walk.filter (ligature_id l.first) l.sides.out.now (length l.sides.out.now - l.turn))

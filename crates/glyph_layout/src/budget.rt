@@ -1,0 +1,67 @@
+//! How much work a text may still cost while it is shaped, so that no font makes it endless.
+
+ghost use Rattle.std.specs.Prelude.{◌≤◌, ◌<◌, ◌+◌, ◌≡◌, IsTrue, IsFalse};
+ghost use Rattle.glyph_layout.specs.Budget.{IsNotMore};
+
+/// What is left to spend. It never rises.
+#[derive(Clone, Copy, Debug)]
+pub struct Budget {
+    /// How many more lookups may be applied by others, as HarfBuzz counts them in `max_ops`.
+    pub nested: u32,
+    /// How many more steps may be made: subtables and rules that are tried, and glyphs that are looked at.
+    pub steps: u32,
+}
+
+impl Budget {
+    /// The budget of a text with so many glyphs, in which lookups may apply so many others.
+    pub fn new(nested: u32, glyphs: usize) -> Self
+        ensures { result.nested ≡ nested }
+    {
+        let glyphs = glyphs.min(65536) as u32;
+        Budget {
+            nested,
+            steps: 16384 + 1024 * glyphs,
+        }
+    }
+
+    /// Pays for steps. Where fewer are left, all of them are spent, and the answer is false.
+    pub fn pay(&mut self, steps: u32) -> bool
+        ensures spent { IsNotMore self.old self.new }
+        ensures paid { IsTrue result → self.new.steps + steps ≡ self.old.steps }
+        ensures empty { IsFalse result → self.new.steps ≡ 0 }
+    {
+        if self.steps < steps {
+            self.steps = 0;
+            return false;
+        }
+        self.steps -= steps;
+        true
+    }
+
+    /// Pays for going over so many glyphs.
+    pub fn pay_for(&mut self, glyphs: usize) -> bool
+        ensures spent { IsNotMore self.old self.new }
+        ensures empty { IsFalse result → self.new.steps ≡ 0 }
+    {
+        self.pay(glyphs.min(0x3FFF_FFFF) as u32)
+    }
+
+    /// Pays for a lookup that another one applies. Where none may be applied any more, the answer is false.
+    pub fn nest(&mut self) -> bool
+        ensures spent { IsNotMore self.old self.new }
+        ensures paid { IsTrue result → self.new.nested + 1 ≡ self.old.nested }
+    {
+        if self.nested == 0 {
+            return false;
+        }
+        self.nested -= 1;
+        true
+    }
+
+    /// Whether no more steps may be made.
+    pub fn is_spent(&self) -> bool
+        ensures { IsTrue result → self.now.steps ≡ 0 }
+    {
+        self.steps == 0
+    }
+}

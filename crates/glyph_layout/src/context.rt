@@ -1,0 +1,118 @@
+//! Contexts: rules of glyphs at the cursor, before them and behind them, as the kinds 5 and 6 of `GSUB` have them, and the
+//! kinds 7 and 8 of `GPOS` (OpenType specification, "OpenType Layout Common Table Formats", "Sequence Context").
+
+ghost use Rattle.std.specs.Prelude.{◌≡◌, ◌<◌, ◌≤◌, length, IfSome};
+ghost use Rattle.glyph_layout.specs.Budget.{IsNotMore};
+ghost use Rattle.glyph_layout.specs.Context.{IsFitWithin};
+
+use crate::filter::covered_index;
+use crate::lookup_list::LookupList;
+use crate::rule::{Meaning, Meanings, coverage_rule};
+use crate::rule_set::{first_fit, fit};
+use crate::search::{Search, Sides};
+use crate::subtable::Subtable;
+use crate::wanted::class_of;
+use font_tables::bytes::{table_at_16, u16_at};
+
+/// A rule that fits at the cursor. The places of its glyphs are in `Search::places`.
+#[derive(Clone, Copy, Debug)]
+pub struct Fit<'a> {
+    /// How many glyphs of the input it takes, with those that are passed over.
+    pub end: usize,
+    /// The first glyph before the cursor that it looked at, as its place in `out`.
+    pub from: usize,
+    /// How far it looked into the input.
+    pub to: usize,
+    /// How far other rules would have looked into the input.
+    pub beyond: usize,
+    /// How many lookups are applied.
+    pub record_count: u16,
+    /// The records of the lookups that are applied, of four bytes each.
+    pub records: &'a [u8],
+}
+
+/// A lookup that a rule applies.
+#[derive(Clone, Copy, Debug)]
+pub struct Record {
+    /// The number of the glyph at which it is applied, of those of the input.
+    pub sequence: usize,
+    /// The index of the lookup.
+    pub lookup: u16,
+}
+
+impl<'a> Fit<'a> {
+    /// The record of this number.
+    pub fn record(&self, index: usize) -> Option<Record> {
+        let at = index.saturating_mul(4);
+        Some(Record {
+            sequence: usize::from(u16_at(self.records, at)?),
+            lookup: u16_at(self.records, at.saturating_add(2))?,
+        })
+    }
+}
+
+/// The rule of a subtable that fits at the cursor. The subtable is one of the list, and a context, chained or not.
+pub fn fitting_rule<'a>(
+    list: &'a LookupList<'a>,
+    subtable: &Subtable<'a>,
+    is_chained: bool,
+    sides: &Sides,
+    search: &mut Search,
+) -> Option<Fit<'a>>
+    requires { 0 < length sides.now.input.now }
+    ensures spent { IsNotMore search.old.budget search.new.budget }
+    ensures fits { IfSome result (IsFitWithin (length sides.now.out.now) (length sides.now.input.now)) }
+{
+    let glyph = sides.input[0].glyph_id;
+    let index = covered_index(&subtable.coverage, glyph)?;
+    let table = subtable.table;
+    match subtable.format {
+        1 => {
+            let set = set_at(table, 4, index)?;
+            first_fit(
+                set,
+                &same_meaning(Meaning::Glyphs),
+                is_chained,
+                sides,
+                search,
+            )
+        }
+        2 => {
+            let class = class_of(&subtable.classes, glyph);
+            let set = set_at(table, if is_chained { 10 } else { 6 }, u32::from(class))?;
+            first_fit(set, &class_meanings(subtable), is_chained, sides, search)
+        }
+        3 => {
+            let coverages = list.coverages_from(subtable, 0);
+            fit(&coverage_rule(table, coverages, is_chained)?, sides, search)
+        }
+        _ => None,
+    }
+}
+
+/// The set of this number of a list of sets, their count standing at a place.
+fn set_at(table: &[u8], at: usize, number: u32) -> Option<&[u8]> {
+    if number < u32::from(u16_at(table, at)?) {
+        table_at_16(table, at.saturating_add(2 + 2 * number as usize))
+    } else {
+        None
+    }
+}
+
+/// The same meaning in all three parts.
+fn same_meaning<'a>(meaning: Meaning<'a>) -> Meanings<'a> {
+    Meanings {
+        behind: meaning,
+        input: meaning,
+        ahead: meaning,
+    }
+}
+
+/// The classes of the three parts.
+fn class_meanings<'a>(subtable: &Subtable<'a>) -> Meanings<'a> {
+    Meanings {
+        behind: Meaning::Classes(subtable.classes_behind),
+        input: Meaning::Classes(subtable.classes),
+        ahead: Meaning::Classes(subtable.classes_ahead),
+    }
+}

@@ -1,0 +1,317 @@
+//! The lookups of `GSUB` or `GPOS` (OpenType specification, "OpenType Layout Common Table Formats", "Lookup List table").
+
+ghost use Rattle.std.specs.Prelude.{◌≡◌, ◌≤◌, length, slice_get, slice_range, option_copied};
+
+use crate::filter::Filter;
+use crate::subtable::{
+    Form, Subtable, behind_list, positioning_form, substitution_form, table_or_empty,
+};
+use font_tables::bytes::{table_at_16, table_at_32, u16_at};
+use font_tables::class_definition::ClassDefinition;
+use font_tables::coverage::Coverage;
+use font_tables::gdef::Gdef;
+use std::alloc::{AllocError, Global};
+
+/// The kind of an extension in `GSUB`.
+pub const SUBSTITUTION_EXTENSION: u16 = 7;
+
+/// The kind of an extension in `GPOS`.
+pub const POSITIONING_EXTENSION: u16 = 9;
+
+/// The bit of a lookup's flag that says that a set of marks follows the subtables.
+const USE_MARK_FILTERING_SET: u16 = 0x0010;
+
+/// A lookup.
+#[derive(Clone, Copy, Debug)]
+pub struct Lookup<'a> {
+    /// The kind of its subtables. Where they are extensions, each subtable has the kind behind it.
+    pub kind: u16,
+    /// What it passes over.
+    pub filter: Filter<'a>,
+    /// The first of its subtables in `LookupList::subtables`.
+    pub first: usize,
+    /// Where its subtables end there.
+    pub last: usize,
+}
+
+/// The lookups of a table, which is read once.
+///
+/// Reading is limited to 64 times the length of the table, as HarfBuzz limits it: what lookups share is read for each of
+/// them, and a font whose lookups share too much has no subtables from there on.
+#[derive(Drop, Debug)]
+pub struct LookupList<'a> {
+    /// The bytes of the table.
+    pub table: &'a [u8],
+    /// The lookups, by their indices.
+    pub lookups: Vec<Lookup<'a>>,
+    /// Their subtables.
+    pub subtables: Vec<Subtable<'a>>,
+    /// The coverages of contexts by coverages.
+    pub coverages: Vec<Coverage<'a>>,
+    /// The kind of an extension.
+    extension: u16,
+    /// How many bytes may still be read.
+    room: usize,
+}
+
+impl<'a> LookupList<'a> {
+    /// The lookups of a table in which `extension` is the kind of an extension: 7 in `GSUB`, 9 in `GPOS`. A table that is
+    /// empty has none. `Err` where memory runs out.
+    pub fn new(
+        alloc: Global,
+        table: &'a [u8],
+        extension: u16,
+        gdef: &Gdef<'a>,
+    ) -> Result<Self, AllocError> {
+        let mut list = LookupList {
+            table,
+            lookups: Vec::new(alloc),
+            subtables: Vec::new(alloc),
+            coverages: Vec::new(alloc),
+            extension,
+            room: table.len().saturating_mul(64),
+        };
+        list.read_all(table_or_empty(table, 8), gdef)?;
+        Ok(list)
+    }
+
+    /// Whether the table is `GPOS`.
+    pub fn is_positioning(&self) -> bool {
+        self.extension == POSITIONING_EXTENSION
+    }
+
+    /// The lookup of this index.
+    pub fn lookup(&self, index: u16) -> Option<&Lookup<'a>>
+        ensures { option_copied result ≡ slice_get self.now.lookups.items index }
+    {
+        self.lookups.get(usize::from(index))
+    }
+
+    /// The subtables of a lookup, one after the other.
+    pub fn subtables_of(&self, lookup: &Lookup) -> &[Subtable<'a>]
+        ensures { lookup.now.first ≤ lookup.now.last → lookup.now.last ≤ length self.now.subtables.items
+            → result.now ≡ slice_range self.now.subtables.items lookup.now.first lookup.now.last }
+    {
+        if lookup.first <= lookup.last && lookup.last <= self.subtables.len() {
+            &self.subtables[lookup.first..lookup.last]
+        } else {
+            &[]
+        }
+    }
+
+    /// The coverages of a subtable from the one of this number on.
+    pub fn coverages_from(&self, subtable: &Subtable, number: usize) -> &[Coverage<'a>] {
+        let first = subtable.first_coverage.saturating_add(number);
+        if first <= self.coverages.len() {
+            &self.coverages[first..]
+        } else {
+            &[]
+        }
+    }
+
+    /// Reads the lookups of a list.
+    fn read_all(&mut self, list: &'a [u8], gdef: &Gdef<'a>) -> Result<(), AllocError> {
+        let count = usize::from(u16_at(list, 0).unwrap_or(0));
+        for index in 0..count {
+            if let Some(_offset) = u16_at(list, 2 + 2 * index) {
+                self.read_lookup(table_or_empty(list, 2 + 2 * index), gdef)?;
+            }
+        }
+        Ok(())
+    }
+
+    /// Reads a lookup.
+    fn read_lookup(&mut self, table: &'a [u8], gdef: &Gdef<'a>) -> Result<(), AllocError> {
+        let kind = u16_at(table, 0).unwrap_or(0);
+        let flags = u16_at(table, 2).unwrap_or(0);
+        let count = usize::from(u16_at(table, 4).unwrap_or(0));
+        let marks = if flags & USE_MARK_FILTERING_SET != 0 {
+            gdef.mark_glyph_set(u16_at(table, 6 + 2 * count).unwrap_or(0xFFFF))
+        } else {
+            Coverage::new(&[])
+        };
+        let first = self.subtables.len();
+        for index in 0..count {
+            if let Some(subtable) = table_at_16(table, 6 + 2 * index) {
+                self.read_subtable(kind, subtable)?;
+            }
+        }
+        self.lookups.push(Lookup {
+            kind,
+            filter: Filter { flags, marks },
+            first,
+            last: self.subtables.len(),
+        })?;
+        Ok(())
+    }
+
+    /// Reads a subtable, or that behind an extension, if there is room.
+    fn read_subtable(&mut self, kind: u16, table: &'a [u8]) -> Result<(), AllocError> {
+        let (kind, table) = if kind == self.extension {
+            behind_extension(table)
+        } else {
+            (kind, table)
+        };
+        if kind == self.extension || !self.pay(64) {
+            return Ok(());
+        }
+        let format = u16_at(table, 0).unwrap_or(0);
+        let form = if self.is_positioning() {
+            positioning_form(kind, format)
+        } else {
+            substitution_form(kind, format)
+        };
+        let first_coverage = self.coverages.len();
+        self.read_coverages(form, table)?;
+        let subtable = Subtable {
+            kind,
+            format,
+            table,
+            coverage: self.first_of(form, table, first_coverage),
+            bases: self.coverage_if(form == Form::Marks, table, 4),
+            classes: self.input_classes(form, table),
+            classes_behind: self.classes_if(form == Form::ChainedClasses, table, 4),
+            classes_ahead: self.ahead_classes(form, table),
+            first_coverage,
+        };
+        self.subtables.push(subtable)?;
+        Ok(())
+    }
+
+    /// Reads the coverages of a context by coverages, or around a reverse substitution.
+    fn read_coverages(&mut self, form: Form, table: &'a [u8]) -> Result<(), AllocError> {
+        match form {
+            Form::Coverages => {
+                let count = usize::from(u16_at(table, 2).unwrap_or(0));
+                self.read_offsets(table, 6, count)
+            }
+            Form::ChainedCoverages => {
+                let input = self.read_list(table, 2)?;
+                let ahead = self.read_list(table, input)?;
+                let _records = self.read_list(table, ahead)?;
+                Ok(())
+            }
+            Form::Reverse => {
+                let ahead = self.read_list(table, 4)?;
+                let _substitutes = self.read_list(table, ahead)?;
+                Ok(())
+            }
+            _ => Ok(()),
+        }
+    }
+
+    /// Reads the coverages of a list of offsets with their number before it, and says where it ends.
+    fn read_list(&mut self, table: &'a [u8], at: usize) -> Result<usize, AllocError> {
+        let count = usize::from(u16_at(table, at).unwrap_or(0));
+        self.read_offsets(table, at.saturating_add(2), count)?;
+        Ok(behind_list(table, at))
+    }
+
+    /// Reads the coverages of so many offsets from a place on.
+    fn read_offsets(&mut self, table: &'a [u8], at: usize, count: usize) -> Result<(), AllocError> {
+        for index in 0..count {
+            let coverage = self.coverage(table_or_empty(
+                table,
+                at.saturating_add(index.saturating_mul(2)),
+            ));
+            self.coverages.push(coverage)?;
+        }
+        Ok(())
+    }
+
+    /// The glyphs at the cursor: in a context by coverages the first of those of the input.
+    fn first_of(&mut self, form: Form, table: &'a [u8], first: usize) -> Coverage<'a> {
+        let input = match form {
+            Form::Coverages => first,
+            Form::ChainedCoverages => {
+                first.saturating_add(usize::from(u16_at(table, 2).unwrap_or(0)))
+            }
+            _ => return self.coverage(table_or_empty(table, 2)),
+        };
+        match self.coverages.get(input) {
+            Some(coverage) => *coverage,
+            None => Coverage::new(&[]),
+        }
+    }
+
+    /// The classes of the input.
+    fn input_classes(&mut self, form: Form, table: &'a [u8]) -> ClassDefinition<'a> {
+        match form {
+            Form::Classes => self.classes(table_or_empty(table, 4)),
+            Form::ChainedClasses => self.classes(table_or_empty(table, 6)),
+            Form::PairClasses => self.classes(table_or_empty(table, 8)),
+            _ => ClassDefinition::new(&[]),
+        }
+    }
+
+    /// The classes of what stands behind the input.
+    fn ahead_classes(&mut self, form: Form, table: &'a [u8]) -> ClassDefinition<'a> {
+        match form {
+            Form::ChainedClasses => self.classes(table_or_empty(table, 8)),
+            Form::PairClasses => self.classes(table_or_empty(table, 10)),
+            _ => ClassDefinition::new(&[]),
+        }
+    }
+
+    /// The coverage that the offset at a place leads to, if there is one in this form.
+    fn coverage_if(&mut self, is_there: bool, table: &'a [u8], at: usize) -> Coverage<'a> {
+        if is_there {
+            self.coverage(table_or_empty(table, at))
+        } else {
+            Coverage::new(&[])
+        }
+    }
+
+    /// The classes that the offset at a place leads to, if there are any in this form.
+    fn classes_if(&mut self, is_there: bool, table: &'a [u8], at: usize) -> ClassDefinition<'a> {
+        if is_there {
+            self.classes(table_or_empty(table, at))
+        } else {
+            ClassDefinition::new(&[])
+        }
+    }
+
+    /// The coverage in these bytes, or one that covers nothing where there is no room.
+    fn coverage(&mut self, table: &'a [u8]) -> Coverage<'a> {
+        if self.pay_for(table) {
+            Coverage::new(table)
+        } else {
+            Coverage::new(&[])
+        }
+    }
+
+    /// The classes in these bytes, or none where there is no room.
+    fn classes(&mut self, table: &'a [u8]) -> ClassDefinition<'a> {
+        if self.pay_for(table) {
+            ClassDefinition::new(table)
+        } else {
+            ClassDefinition::new(&[])
+        }
+    }
+
+    /// Whether a table of glyphs or ranges may be read.
+    fn pay_for(&mut self, table: &[u8]) -> bool {
+        let rows = usize::from(u16_at(table, 2).unwrap_or(0));
+        self.pay(16 + 6 * rows)
+    }
+
+    /// Whether so many bytes may be read.
+    fn pay(&mut self, bytes: usize) -> bool {
+        if self.room < bytes {
+            return false;
+        }
+        self.room -= bytes;
+        true
+    }
+}
+
+/// The kind and the subtable behind an extension.
+fn behind_extension(table: &[u8]) -> (u16, &[u8]) {
+    match u16_at(table, 0) {
+        Some(1) => (
+            u16_at(table, 2).unwrap_or(0),
+            table_at_32(table, 4).unwrap_or(&[]),
+        ),
+        _ => (0, &[]),
+    }
+}

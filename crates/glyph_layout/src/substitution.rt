@@ -1,0 +1,366 @@
+//! What a lookup of `GSUB` does at the cursor (OpenType specification, "GSUB - Glyph Substitution Table").
+
+ghost use Rattle.std.specs.Prelude.{◌≡◌, ◌<◌, ◌≤◌, length, IfSome, IsTrue, Some, is_some, true, false};
+ghost use Rattle.std.specs.Prelude.{option_map, option_and_then};
+ghost use Rattle.glyph_layout.specs.Budget.{IsNotMore};
+ghost use Rattle.glyph_layout.specs.Match.{AsksForOther, IsNext, first_ligature, ligated, ligature_at, ligature_of};
+ghost use Rattle.glyph_layout.specs.Rule.{input_walk};
+ghost use Rattle.glyph_layout.specs.Substitution.{IsSequence, alternate_of, feature_value, set_at, single};
+ghost use Rattle.glyph_layout.specs.Substitution.{IsMultiple, IsLigature, replaced_by, cursor_glyph};
+ghost use Rattle.glyph_layout.specs.Walk.{covered_index};
+ghost use Rattle.glyph_layout.specs.declared.substitution.Edit.TheVariants.{Replace};
+
+use crate::context::{Fit, fitting_rule};
+use crate::filter::covered_index;
+use crate::glyph_table::Glyphs;
+use crate::lookup_list::{Lookup, LookupList};
+use crate::matching::{match_ahead, match_behind, match_input};
+use crate::rule::{Meaning, Part};
+use crate::rule_set::{Next, next_kept};
+use crate::search::{Search, Sides};
+use crate::subtable::Subtable;
+use crate::walk::LookupOptions;
+use font_tables::bytes::{table_at_16, tail, u16_at};
+
+/// The value of a feature that stands for any of its alternates, where it is `rand` (HarfBuzz, `HB_OT_MAP_MAX_VALUE`).
+const ANY_ALTERNATE: u32 = 255;
+
+/// What a lookup does at the cursor.
+#[derive(Clone, Copy, Debug)]
+pub enum Edit<'a> {
+    /// The glyph becomes this one.
+    Replace(u16),
+    /// The glyph becomes one of these, by chance.
+    Choose(Glyphs<'a>),
+    /// The glyph becomes these; none where it is dropped.
+    Multiply(Glyphs<'a>),
+    /// The glyphs of the match become one, and what was passed over between them stays.
+    Ligate(Ligation),
+    /// Lookups are applied to the glyphs of the match.
+    Apply(Fit<'a>),
+    /// The glyph becomes this one in place, in a pass from the end.
+    ReplaceInPlace(InPlace),
+}
+
+/// A glyph that comes into the place of another one, in a pass from the end.
+#[derive(Clone, Copy, Debug)]
+pub struct InPlace {
+    /// The glyph.
+    pub glyph: u16,
+    /// The first glyph before it that was looked at, as its place in `out`.
+    pub from: usize,
+    /// How far the input was looked at.
+    pub to: usize,
+}
+
+/// A ligature of the glyphs of a match, whose places are in `Search::places`.
+#[derive(Clone, Copy, Debug)]
+pub struct Ligation {
+    /// The glyph that they become.
+    pub ligature: u16,
+    /// How many glyphs of the input it takes, with those that are passed over.
+    pub end: usize,
+    /// How far other ligatures would have looked into the input.
+    pub beyond: usize,
+}
+
+/// What a lookup does at the first glyph of the input: the edit of the first subtable that has one.
+///
+/// A lookup that another one applies is nested: it makes no reverse substitution.
+pub fn edit_at<'a>(
+    list: &'a LookupList<'a>,
+    lookup: &Lookup,
+    options: &LookupOptions,
+    is_nested: bool,
+    sides: &Sides,
+    search: &mut Search,
+) -> Option<Edit<'a>>
+    requires { 0 < length sides.now.input.now }
+    ensures spent { IsNotMore search.old.budget search.new.budget }
+{
+    for subtable in list.subtables_of(lookup) {
+        if !search.budget.pay(1) {
+            return None;
+        }
+        let edit = edit_of(list, subtable, options, is_nested, sides, search);
+        if edit.is_some() {
+            return edit;
+        }
+    }
+    None
+}
+
+/// What a subtable does at the first glyph of the input.
+fn edit_of<'a>(
+    list: &'a LookupList<'a>,
+    subtable: &Subtable<'a>,
+    options: &LookupOptions,
+    is_nested: bool,
+    sides: &Sides,
+    search: &mut Search,
+) -> Option<Edit<'a>>
+    requires { 0 < length sides.now.input.now }
+    ensures spent { IsNotMore search.old.budget search.new.budget }
+    ensures single { subtable.now.kind ≡ 1 → result ≡ replaced_by
+        (single subtable.now.format subtable.now.table.now (cursor_glyph sides.now).glyph_id)
+        (covered_index subtable.now.coverage.table.now (cursor_glyph sides.now).glyph_id) }
+    ensures multiple { subtable.now.kind ≡ 2 → IsMultiple subtable.now.table.now
+        (covered_index subtable.now.coverage.table.now (cursor_glyph sides.now).glyph_id) result }
+    ensures alternate { subtable.now.kind ≡ 3 → options.now.random ≡ false → result ≡ replaced_by
+        (λ index. alternate_of (set_at subtable.now.table.now index)
+        (feature_value options.now.mask (cursor_glyph sides.now).mask))
+        (covered_index subtable.now.coverage.table.now (cursor_glyph sides.now).glyph_id) }
+    ensures ligature { subtable.now.kind ≡ 4 → 0 < search.new.budget.steps → ligated result ≡ option_and_then
+        (λ index. first_ligature sides.now (set_at subtable.now.table.now index))
+        (covered_index subtable.now.coverage.table.now (cursor_glyph sides.now).glyph_id) }
+{
+    let glyph = &sides.input[0];
+    let index = covered_index(&subtable.coverage, glyph.glyph_id)?;
+    match subtable.kind {
+        1 => Some(Edit::Replace(single(subtable, glyph.glyph_id, index)?)),
+        2 => Some(multiple(subtable.table, index)),
+        3 => alternate(subtable.table, index, glyph.mask, options),
+        4 => ligature_in(set_at(subtable.table, index), sides, search),
+        5 => Some(Edit::Apply(fitting_rule(list, subtable, false, sides, search)?)),
+        6 => Some(Edit::Apply(fitting_rule(list, subtable, true, sides, search)?)),
+        8 if !is_nested => reverse(list, subtable, index, sides, search),
+        _ => None,
+    }
+}
+
+/// The single substitution of a glyph with this coverage index.
+#[tactic(auto, unfolding(crate::specs::Substitution::single))]
+fn single(subtable: &Subtable, glyph: u32, index: u32) -> Option<u16>
+    ensures { result ≡ single subtable.now.format subtable.now.table.now glyph index }
+{
+    match subtable.format {
+        1 => {
+            let delta = u16_at(subtable.table, 4)?;
+            let low = (glyph % 65536) as u16;
+            Some(low.wrapping_add(delta))
+        }
+        2 if index < u32::from(u16_at(subtable.table, 4)?) => {
+            u16_at(subtable.table, 6 + 2 * index as usize)
+        }
+        _ => None,
+    }
+}
+
+/// The table of this number of a list of tables whose count stands at the byte 4; an empty one where there is none.
+#[tactic(auto, unfolding(crate::specs::Substitution::set_at))]
+fn set_at(table: &[u8], index: u32) -> &[u8]
+    ensures { result.now ≡ set_at table.now index }
+{
+    if index < u32::from(u16_at(table, 4).unwrap_or(0)) {
+        table_at_16(table, 6 + 2 * index as usize).unwrap_or(&[])
+    } else {
+        &[]
+    }
+}
+
+/// The sequence of a glyph with this coverage index. One glyph is put in place.
+fn multiple<'a>(table: &'a [u8], index: u32) -> Edit<'a>
+    ensures { IsSequence (set_at table.now index) result }
+{
+    let sequence = Glyphs::new(set_at(table, index));
+    if sequence.len() == 1 {
+        Edit::Replace(sequence.glyph(0))
+    } else {
+        Edit::Multiply(sequence)
+    }
+}
+
+/// The alternate of a glyph with this coverage index that the value of its feature chooses.
+fn alternate<'a>(
+    table: &'a [u8],
+    index: u32,
+    mask: u32,
+    options: &LookupOptions,
+) -> Option<Edit<'a>>
+    ensures { options.now.random ≡ false → result
+        ≡ option_map Replace (alternate_of (set_at table.now index) (feature_value options.now.mask mask)) }
+{
+    let set = Glyphs::new(set_at(table, index));
+    let value = feature_value(options.mask, mask);
+    if set.len() > 0 && value == ANY_ALTERNATE && options.random {
+        return Some(Edit::Choose(set));
+    }
+    Some(Edit::Replace(alternate_of(&set, value)?))
+}
+
+/// The alternate that a value chooses: 1 chooses the first, and 0 none.
+fn alternate_of(set: &Glyphs, value: u32) -> Option<u16>
+    ensures { result ≡ alternate_of set.now.table.now value }
+{
+    if value == 0 || value > u32::from(set.len()) {
+        return None;
+    }
+    Some(set.glyph((value - 1) as u16))
+}
+
+/// The value of a feature, in the bits that the feature has in a glyph's mask.
+fn feature_value(feature: u32, mask: u32) -> u32
+    ensures { result ≡ feature_value feature mask }
+{
+    if feature == 0 {
+        0
+    } else {
+        (feature & mask) >> feature.trailing_zeros()
+    }
+}
+
+/// The first ligature of a set whose components stand at the cursor.
+#[tactic(auto, using(crate::proofs::MatchLemmas::first_steps))]
+fn ligature_in<'a>(set: &'a [u8], sides: &Sides, search: &mut Search) -> Option<Edit<'a>>
+    requires { 0 < length sides.now.input.now }
+    ensures spent { IsNotMore search.old.budget search.new.budget }
+    ensures is { 0 < search.new.budget.steps → ligated result ≡ first_ligature sides.now set.now }
+{
+    let count = usize::from(u16_at(set, 0)?);
+    let next = if count > 4 {
+        next_kept(&sides.input_walk(), sides.input, 0)
+    } else {
+        None
+    };
+    let mut beyond = 0;
+    for index in 0..count {
+        if !search.budget.pay(1) {
+            return None;
+        }
+        if let Some(edit) = ligature_at(set, index, &next, &mut beyond, sides, search) {
+            return Some(edit);
+        }
+    }
+    search.reach.extend(sides.out.len(), beyond);
+    None
+}
+
+/// The ligature of this number in a set, if its components stand at the cursor. One that asks for another second glyph than
+/// the next one is not tried, and `beyond` says that it was looked at.
+#[tactic(auto, using(crate::proofs::MatchLemmas::at_steps))]
+fn ligature_at<'a>(
+    set: &'a [u8],
+    index: usize,
+    next: &Option<Next>,
+    beyond: &mut usize,
+    sides: &Sides,
+    search: &mut Search,
+) -> Option<Edit<'a>>
+    requires some { 0 < length sides.now.input.now }
+    requires few { index < 65536 }
+    requires next { IfSome next.now (IsNext (input_walk sides.now) sides.now.input.now 0) }
+    ensures spent { IsNotMore search.old.budget search.new.budget }
+    ensures is { 0 < search.new.budget.steps → ligated result ≡ ligature_at sides.now set.now index }
+    ensures ligates { IfSome result (λ edit. is_some (ligated (Some edit)) ≡ true) }
+{
+    let table = table_at_16(set, 2 + 2 * index)?;
+    match *next {
+        Some(next) if is_other(table, next.glyph) => {
+            *beyond = next.end;
+            None
+        }
+        _ => ligature(table, *beyond, sides, search),
+    }
+}
+
+/// Whether a ligature asks for another second glyph than this one.
+fn is_other(table: &[u8], glyph: u32) -> bool
+    ensures { IsTrue result → AsksForOther table.now glyph }
+{
+    u16_at(table, 2).unwrap_or(0) > 1
+        && match u16_at(tail(table, 4), 0) {
+            Some(second) => u32::from(second) != glyph,
+            None => true,
+        }
+}
+
+/// The ligature, if its components stand at the cursor. One of a single component is put in place.
+#[tactic(auto, unfolding(crate::specs::Match::ligature_of))]
+fn ligature<'a>(
+    table: &'a [u8],
+    beyond: usize,
+    sides: &Sides,
+    search: &mut Search,
+) -> Option<Edit<'a>>
+    requires { 0 < length sides.now.input.now }
+    ensures spent { IsNotMore search.old.budget search.new.budget }
+    ensures is { IfSome result (IsLigature table.now sides.now search.new.places.items) }
+    ensures exact { 0 < search.new.budget.steps → ligated result ≡ ligature_of sides.now table.now }
+    ensures ligates { IfSome result (λ edit. is_some (ligated (Some edit)) ≡ true) }
+{
+    let glyph = u16_at(table, 0)?;
+    let count = u16_at(table, 2)?;
+    if count <= 1 {
+        return if count == 1 {
+            Some(Edit::Replace(glyph))
+        } else {
+            None
+        };
+    }
+    let components = Part {
+        meaning: Meaning::Glyphs,
+        numbers: tail(table, 4),
+        count: count - 1,
+    };
+    match match_input(sides, &components, search) {
+        Ok(end) => {
+            Some(Edit::Ligate(Ligation {
+                ligature: glyph,
+                end,
+                beyond,
+            }))
+        }
+        Err(to) => {
+            search.reach.extend(sides.out.len(), to);
+            None
+        }
+    }
+}
+
+/// The reverse substitution of a glyph with this coverage index, if the glyphs before it and behind it are covered.
+fn reverse<'a>(
+    list: &'a LookupList<'a>,
+    subtable: &Subtable<'a>,
+    index: u32,
+    sides: &Sides,
+    search: &mut Search,
+) -> Option<Edit<'a>>
+    requires { 0 < length sides.now.input.now }
+    ensures spent { IsNotMore search.old.budget search.new.budget }
+{
+    let table = subtable.table;
+    let behind = u16_at(table, 4)?;
+    let ahead_at = 6 + 2 * usize::from(behind);
+    let ahead = u16_at(table, ahead_at)?;
+    let substitutes_at = ahead_at + 2 + 2 * usize::from(ahead);
+    if index >= u32::from(u16_at(table, substitutes_at)?) {
+        return None;
+    }
+    let glyph = u16_at(table, substitutes_at + 2 + 2 * index as usize)?;
+    let parts = covered_part(list, subtable, 0, behind);
+    let Ok(from) = match_behind(sides, &parts, search) else {
+        return None;
+    };
+    let parts = covered_part(list, subtable, usize::from(behind), ahead);
+    match match_ahead(sides, &parts, 1, search) {
+        Ok(to) => Some(Edit::ReplaceInPlace(InPlace { glyph, from, to })),
+        Err(to) => {
+            search.reach.extend(from, to);
+            None
+        }
+    }
+}
+
+/// So many of the coverages of a subtable, from the one of this number on.
+fn covered_part<'a>(
+    list: &'a LookupList<'a>,
+    subtable: &Subtable<'a>,
+    first: usize,
+    count: u16,
+) -> Part<'a> {
+    Part {
+        meaning: Meaning::Coverages(list.coverages_from(subtable, first)),
+        numbers: &[],
+        count,
+    }
+}

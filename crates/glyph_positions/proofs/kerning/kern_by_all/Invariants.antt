@@ -1,0 +1,12 @@
+use Rattle.std.proofs.Common.{◌≡◌, false}
+use Rattle.std.specs.Prelude.{IsSome}
+use Rattle.glyph_lists.specs.Masks.{reset_masks}
+use Rattle.glyph_positions.proofs.kerning.kern_by_all.Given as goal
+
+abbrev pub invariant-loop-number : goal.invariant-loop-number
+invariant-loop-number l = record {
+  closed : l.buffer.have_output ≡ false;
+  placed : IsSome l.buffer.positions;
+  level : l.buffer.cluster_level ≡ l.fn.buffer.cluster_level;
+  glyphs : reset_masks 0 l.buffer.input ≡ reset_masks 0 l.fn.buffer.input;
+}

@@ -1,0 +1,117 @@
+//! Chains of glyphs that are attached to others: a chain is how many places away the glyph stands to which one is attached.
+
+ghost use Rattle.std.specs.Prelude.{◌≡◌};
+ghost use Rattle.glyph_positions.specs.Placing.{attached, chain_between};
+
+use rb_common::Direction;
+use rb_glyph::GlyphPosition;
+
+/// The attachment type of a mark.
+pub(crate) const ATTACH_TYPE_MARK: u8 = 1;
+
+/// The attachment type of a glyph that is joined to another one.
+pub(crate) const ATTACH_TYPE_CURSIVE: u8 = 2;
+
+/// Attaches the glyph at a place to that at another. One that is too far away for a chain stays where it is.
+#[tactic(auto, unfolding(crate::specs::Placing::attached))]
+pub(crate) fn attach(position: &mut GlyphPosition, place: usize, to: usize, kind: u8)
+    ensures { position.new ≡ attached place to kind position.old }
+{
+    position.set_attach_type(kind);
+    position.set_attach_chain(chain_between(place, to));
+}
+
+/// The chain from a place to another, or 0 where it is too long.
+fn chain_between(place: usize, to: usize) -> i16
+    ensures { result ≡ chain_between place to }
+{
+    if place <= to && to - place <= 32767 {
+        (to - place) as i16
+    } else if to < place && place - to <= 32767 {
+        -((place - to) as i16)
+    } else {
+        0
+    }
+}
+
+/// The place to which a chain leads; `None` where it leads out of the glyphs.
+pub(crate) fn place_behind(place: usize, chain: i16, len: usize) -> Option<usize> {
+    let to = if chain < 0 {
+        place.checked_sub(usize::from(chain.unsigned_abs()))?
+    } else {
+        place.saturating_add(usize::from(chain.unsigned_abs()))
+    };
+    if to < len { Some(to) } else { None }
+}
+
+/// A link of a chain: where it stands, its length, the kind of attachment, and the offset of its glyph.
+#[derive(Clone, Copy, Debug)]
+struct Link {
+    place: usize,
+    position: GlyphPosition,
+}
+
+/// Turns the chain of a glyph around, so that what it was attached to is attached to it, before the glyph gets a new parent. It ends
+/// where the new parent stands in the chain (HarfBuzz, `reverse_cursive_minor_offset`).
+pub(crate) fn reverse_chain(
+    positions: &mut [GlyphPosition],
+    child: usize,
+    direction: Direction,
+    parent: usize,
+) {
+    let len = positions.len();
+    let Some(mut link) = link_at(positions, child) else {
+        return;
+    };
+    cut(positions, child);
+    for _turn in 0..len {
+        let chain = link.position.attach_chain();
+        let Some(place) = place_behind(link.place, chain, len) else {
+            return;
+        };
+        if place == parent {
+            return;
+        }
+        let next = link_at(positions, place);
+        turn_link(positions, place, &link.position, direction);
+        match next {
+            Some(next) => link = next,
+            None => return,
+        }
+    }
+}
+
+/// The link at a place; `None` where the glyph is not joined to another one.
+fn link_at(positions: &[GlyphPosition], place: usize) -> Option<Link> {
+    let position = *positions.get(place)?;
+    if position.attach_chain() == 0 || position.attach_type() & ATTACH_TYPE_CURSIVE == 0 {
+        None
+    } else {
+        Some(Link { place, position })
+    }
+}
+
+/// Takes the chain of the glyph at a place.
+fn cut(positions: &mut [GlyphPosition], place: usize) {
+    if let Some(position) = positions.get_mut(place) {
+        position.set_attach_chain(0);
+    }
+}
+
+/// Attaches the glyph at a place to the one that was attached to it.
+fn turn_link(
+    positions: &mut [GlyphPosition],
+    place: usize,
+    from: &GlyphPosition,
+    direction: Direction,
+) {
+    if let Some(position) = positions.get_mut(place) {
+        if direction.is_horizontal() {
+            position.y_offset = from.y_offset.wrapping_neg();
+        } else {
+            position.x_offset = from.x_offset.wrapping_neg();
+        }
+        position.set_attach_type(from.attach_type());
+        position.set_attach_chain(from.attach_chain().wrapping_neg());
+    }
+}

@@ -1,0 +1,40 @@
+//! Contexts: which rule fits at a glyph (HarfBuzz, `ContextPos`, `ChainContextPos`).
+
+ghost use Rattle.std.specs.Prelude.{◌≡◌, false, IsSome};
+ghost use Rattle.glyph_layout.specs.Budget.{IsNotMore};
+
+use crate::turn::{Setting, Turn};
+use glyph_layout::context::{Fit, fitting_rule};
+use glyph_layout::search::{Reach, Search, Sides};
+use glyph_layout::walk::Walk;
+use rb_glyph::hb_glyph_info_t;
+
+/// The kind of chained contexts.
+pub(crate) const CHAINED_CONTEXT: u16 = 8;
+
+/// The rule that fits at the glyph; how far rules that do not fit have looked stands in the search. The places of the rule's glyphs
+/// are counted from the glyph.
+pub(crate) fn fit_at<'a>(
+    glyphs: &[hb_glyph_info_t],
+    setting: &Setting<'a>,
+    turn: &Turn<'a>,
+    context: &Walk<'a>,
+    search: &mut Search,
+) -> Option<Fit<'a>>
+    ensures { IsNotMore search.old.budget search.new.budget }
+{
+    search.reach = Reach::none(turn.place);
+    if turn.place >= glyphs.len() {
+        return None;
+    }
+    let sides = Sides {
+        out: &glyphs[..turn.place],
+        input: &glyphs[turn.place..],
+        walk: turn.walk,
+        context: *context,
+        syllable: 0,
+        is_level: true,
+    };
+    let is_chained = turn.subtable.kind == CHAINED_CONTEXT;
+    fitting_rule(setting.list, &turn.subtable, is_chained, &sides, search)
+}

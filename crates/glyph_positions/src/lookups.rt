@@ -1,0 +1,273 @@
+//! A lookup of `GPOS` over a buffer: each glyph that it is for is tried with its subtables, one after the other (HarfBuzz,
+//! `apply_forward`).
+
+ghost use Rattle.std.specs.Prelude.{◌≡◌, ◌+◌, false, IsSome, IfSome};
+ghost use Rattle.glyph_layout.specs.Budget.{IsNotMore};
+ghost use Rattle.glyph_lists.specs.Masks.{reset_masks};
+ghost use Rattle.shaping_buffer.specs.KeepsClusters.{KeepsClusters};
+
+use crate::contexts::fit_at;
+use crate::cursive::place_cursive;
+use crate::flags::{mark_break, mark_concat};
+use crate::marks::{LastBase, place_on_base, place_on_ligature, place_on_mark};
+use crate::pairs::{place_pair, place_single};
+use crate::turn::{Setting, Turn};
+use glyph_layout::context::Fit;
+use glyph_layout::filter::covered_index;
+use glyph_layout::lookup_list::Lookup;
+use glyph_layout::search::{Places, Search};
+use glyph_layout::subtable::Subtable;
+use glyph_layout::walk::{LookupOptions, Walk};
+use rb_glyph::hb_glyph_info_t;
+use shaping_buffer::hb_buffer_t;
+use std::mem;
+
+/// How deep lookups may apply others (HarfBuzz, `HB_MAX_NESTING_LEVEL`).
+const MAX_NESTING_LEVEL: u32 = 64;
+
+/// A lookup at a glyph.
+#[derive(Clone, Copy, Debug)]
+struct Task<'a> {
+    /// The font's lookups and its size.
+    setting: Setting<'a>,
+    /// The lookup.
+    lookup: Lookup<'a>,
+    /// How it is applied.
+    options: LookupOptions,
+    /// The place of the glyph.
+    place: usize,
+    /// How many levels of lookups it may apply.
+    depth: u32,
+}
+
+/// Positions the glyphs by the lookup of this index, where the buffer's glyphs have one of the options' bits. A budget that is spent
+/// ends the walk.
+#[tactic(auto, using(crate::proofs::FlagLemmas::keeps_by))]
+pub fn position(
+    buffer: &mut hb_buffer_t,
+    setting: &Setting,
+    lookup: u16,
+    options: &LookupOptions,
+    search: &mut Search,
+)
+    requires closed { buffer.old.have_output ≡ false }
+    requires placed { IsSome buffer.old.positions }
+    ensures closed { buffer.new.have_output ≡ false }
+    ensures placed { IsSome buffer.new.positions }
+    ensures level { buffer.new.cluster_level ≡ buffer.old.cluster_level }
+    ensures glyphs { reset_masks 0 buffer.new.input ≡ reset_masks 0 buffer.old.input }
+    ensures spent { IsNotMore search.old.budget search.new.budget }
+    ensures keeps { KeepsClusters buffer.old buffer.new }
+{
+    prove!(buffer.out_len() == 0);
+    place_all(buffer, setting, lookup, options, search);
+    prove!(buffer.out_len() == 0);
+}
+
+/// Positions the glyphs by a lookup, one after the other.
+fn place_all(
+    buffer: &mut hb_buffer_t,
+    setting: &Setting,
+    lookup: u16,
+    options: &LookupOptions,
+    search: &mut Search,
+)
+    requires closed { buffer.old.have_output ≡ false }
+    requires placed { IsSome buffer.old.positions }
+    ensures closed { buffer.new.have_output ≡ false }
+    ensures placed { IsSome buffer.new.positions }
+    ensures level { buffer.new.cluster_level ≡ buffer.old.cluster_level }
+    ensures glyphs { reset_masks 0 buffer.new.input ≡ reset_masks 0 buffer.old.input }
+    ensures spent { IsNotMore search.old.budget search.new.budget }
+{
+    let Some(lookup) = setting.list.lookup(lookup) else {
+        return;
+    };
+    let mut last = LastBase::none();
+    let mut next = 0;
+    for place in 0..buffer.len() {
+        if next <= place
+            && is_for(buffer.info(), place, lookup, options)
+            && !search.budget.is_spent()
+        {
+            let task = Task {
+                setting: *setting,
+                lookup: *lookup,
+                options: *options,
+                place,
+                depth: MAX_NESTING_LEVEL,
+            };
+            next = place_by_lookup(buffer, &task, search, &mut last).unwrap_or(0);
+        }
+    }
+}
+
+/// Whether the lookup is for the glyph at a place.
+fn is_for(
+    glyphs: &[hb_glyph_info_t],
+    place: usize,
+    lookup: &Lookup,
+    options: &LookupOptions,
+) -> bool {
+    match glyphs.get(place) {
+        Some(glyph) => glyph.mask & options.mask != 0 && !lookup.filter.passes_over(glyph),
+        None => false,
+    }
+}
+
+/// Positions the glyph by the first subtable that does, and says where the walk goes on.
+#[cycle(nested)]
+fn place_by_lookup<'a>(
+    buffer: &mut hb_buffer_t,
+    task: &Task<'a>,
+    search: &mut Search,
+    last: &mut LastBase,
+) -> Option<usize>
+    requires closed { buffer.old.have_output ≡ false }
+    requires placed { IsSome buffer.old.positions }
+    ensures closed { buffer.new.have_output ≡ false }
+    ensures placed { IsSome buffer.new.positions }
+    ensures level { buffer.new.cluster_level ≡ buffer.old.cluster_level }
+    ensures glyphs { reset_masks 0 buffer.new.input ≡ reset_masks 0 buffer.old.input }
+    ensures spent { IsNotMore search.old.budget search.new.budget }
+{
+    let glyph = buffer.info().get(task.place)?.glyph_id;
+    for subtable in task.setting.list.subtables_of(&task.lookup) {
+        if !search.budget.pay(1) {
+            return None;
+        }
+        if let Some(index) = covered_index(&subtable.coverage, glyph) {
+            let next = place_by_subtable(buffer, task, subtable, index, search, last);
+            if next.is_some() {
+                return next;
+            }
+        }
+    }
+    None
+}
+
+/// Positions the glyph, which has this coverage index in a subtable, by the subtable, and says where the walk goes on; `None` where the subtable does not fit.
+#[cycle(nested)]
+fn place_by_subtable<'a>(
+    buffer: &mut hb_buffer_t,
+    task: &Task<'a>,
+    subtable: &Subtable<'a>,
+    index: u32,
+    search: &mut Search,
+    last: &mut LastBase,
+) -> Option<usize>
+    requires closed { buffer.old.have_output ≡ false }
+    requires placed { IsSome buffer.old.positions }
+    ensures closed { buffer.new.have_output ≡ false }
+    ensures placed { IsSome buffer.new.positions }
+    ensures level { buffer.new.cluster_level ≡ buffer.old.cluster_level }
+    ensures glyphs { reset_masks 0 buffer.new.input ≡ reset_masks 0 buffer.old.input }
+    ensures spent { IsNotMore search.old.budget search.new.budget }
+{
+    let turn = Turn {
+        subtable: *subtable,
+        walk: Walk::over_input(task.lookup.filter, &task.options, true),
+        scale: task.setting.scale,
+        place: task.place,
+        index,
+    };
+    match subtable.kind {
+        1 => place_single(buffer, &turn),
+        2 => place_pair(buffer, &turn),
+        3 => place_cursive(buffer, &turn),
+        4 => place_on_base(buffer, &turn, last),
+        5 => place_on_ligature(buffer, &turn, last),
+        6 => place_on_mark(buffer, &turn),
+        7 | 8 => place_by_context(buffer, task, &turn, search, last),
+        _ => None,
+    }
+}
+
+/// Applies the lookups of the rule that fits at the glyph, and says where the walk goes on.
+#[cycle(nested)]
+fn place_by_context<'a>(
+    buffer: &mut hb_buffer_t,
+    task: &Task<'a>,
+    turn: &Turn<'a>,
+    search: &mut Search,
+    last: &mut LastBase,
+) -> Option<usize>
+    requires closed { buffer.old.have_output ≡ false }
+    requires placed { IsSome buffer.old.positions }
+    ensures closed { buffer.new.have_output ≡ false }
+    ensures placed { IsSome buffer.new.positions }
+    ensures level { buffer.new.cluster_level ≡ buffer.old.cluster_level }
+    ensures glyphs { reset_masks 0 buffer.new.input ≡ reset_masks 0 buffer.old.input }
+    ensures spent { IsNotMore search.old.budget search.new.budget }
+{
+    let context = Walk::over_context(task.lookup.filter, &task.options, true);
+    let fit = fit_at(buffer.info(), &task.setting, turn, &context, search);
+    let reached = turn.place.saturating_add(search.reach.to);
+    mark_concat(buffer, search.reach.from, reached);
+    let fit = fit?;
+    mark_break(buffer, fit.from, turn.place.saturating_add(fit.to));
+    let places = mem::replace(&mut search.places, Places::new());
+    apply_records(buffer, task, &fit, &places, search, last);
+    let end = turn.place.saturating_add(fit.end);
+    mark_concat(buffer, end, turn.place.saturating_add(fit.beyond));
+    Some(end)
+}
+
+/// Applies the lookups of a rule at the glyphs that it names, whose places are counted from the rule's first glyph.
+#[cycle(nested)]
+fn apply_records<'a>(
+    buffer: &mut hb_buffer_t,
+    task: &Task<'a>,
+    fit: &Fit<'a>,
+    places: &Places,
+    search: &mut Search,
+    last: &mut LastBase,
+)
+    requires closed { buffer.old.have_output ≡ false }
+    requires placed { IsSome buffer.old.positions }
+    ensures closed { buffer.new.have_output ≡ false }
+    ensures placed { IsSome buffer.new.positions }
+    ensures level { buffer.new.cluster_level ≡ buffer.old.cluster_level }
+    ensures glyphs { reset_masks 0 buffer.new.input ≡ reset_masks 0 buffer.old.input }
+    ensures spent { IsNotMore search.old.budget search.new.budget }
+{
+    for index in 0..usize::from(fit.record_count) {
+        if let Some(nested) = nested_task(task, fit, places, index) {
+            if !search.budget.nest() {
+                fail(buffer);
+                return;
+            }
+            let _next = place_by_lookup(buffer, &nested, search, last);
+        }
+    }
+}
+
+/// The lookup of a record, at the glyph that the record names; `None` where there is no such lookup or glyph, or no lookup may be
+/// applied so deep.
+fn nested_task<'a>(task: &Task<'a>, fit: &Fit, places: &Places, index: usize) -> Option<Task<'a>>
+    ensures { IfSome result (λ nested. nested.depth + 1 ≡ task.now.depth) }
+{
+    let record = fit.record(index)?;
+    let at = *places.as_slice().get(record.sequence)?;
+    let lookup = *task.setting.list.lookup(record.lookup)?;
+    let depth = task.depth.checked_sub(1)?;
+    Some(Task {
+        setting: task.setting,
+        lookup,
+        options: task.options,
+        place: task.place.saturating_add(at),
+        depth,
+    })
+}
+
+/// Says that the text could not be shaped as the font asks, as too many lookups were applied.
+fn fail(buffer: &mut hb_buffer_t)
+    requires closed { buffer.old.have_output ≡ false }
+    requires placed { IsSome buffer.old.positions }
+    ensures closed { buffer.new.have_output ≡ false }
+    ensures placed { IsSome buffer.new.positions }
+    ensures level { buffer.new.cluster_level ≡ buffer.old.cluster_level }
+    ensures glyphs { reset_masks 0 buffer.new.input ≡ reset_masks 0 buffer.old.input }
+{
+    buffer.shaping_failed = true;
+}

@@ -1,0 +1,30 @@
+//! What a subtable is given at a glyph.
+
+use font_tables::scale::Scale;
+use glyph_layout::lookup_list::LookupList;
+use glyph_layout::subtable::Subtable;
+use glyph_layout::walk::Walk;
+
+/// A font's lookups of `GPOS`, and the size at which it is used.
+#[derive(Clone, Copy, Debug)]
+pub struct Setting<'a> {
+    /// The lookups.
+    pub list: &'a LookupList<'a>,
+    /// The size.
+    pub scale: Scale,
+}
+
+/// A subtable at a glyph.
+#[derive(Clone, Copy, Debug)]
+pub(crate) struct Turn<'a> {
+    /// The subtable.
+    pub subtable: Subtable<'a>,
+    /// The walk over the glyphs that the lookup does not pass over.
+    pub walk: Walk<'a>,
+    /// The size of the font.
+    pub scale: Scale,
+    /// The place of the glyph.
+    pub place: usize,
+    /// The glyph's coverage index.
+    pub index: u32,
+}

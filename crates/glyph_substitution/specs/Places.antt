@@ -1,0 +1,23 @@
+-- The places of a match after a lookup that it applied put glyphs in, or took some out.
+use Rattle.std.specs.Prelude.{◌≡◌, ℕ, ◌+◌, ◌-◌, ◌^◌, ◌<◌, List, length, min, nat_le, slice_index, if◌then◌else◌}
+
+-- a place that moves up; none is more than 64 bits hold
+abbrev pub moved_up : ℕ → ℕ → ℕ
+moved_up place by = min (place + by) (2 ^ 64 - 1)
+
+-- Behind the glyph `number` so many were put in: they are the next glyphs of the match, and those behind move up.
+unfoldable pub grown_place : List ℕ → ℕ → ℕ → ℕ → ℕ
+grown_place places number added k =
+    if nat_le k number then slice_index places k
+    else if nat_le k (number + added) then moved_up (slice_index places number) (k - number)
+    else moved_up (slice_index places (k - added)) added
+
+-- Behind the glyph `number` so many of the match were taken out, and those behind move down.
+unfoldable pub shrunk_place : List ℕ → ℕ → ℕ → ℕ → ℕ
+shrunk_place places number removed k =
+    if nat_le k number then slice_index places k else slice_index places (k + removed) - removed
+
+-- the list has so many numbers, and these
+pub record AreAll (f : ℕ → ℕ) (count : ℕ) (xs : List ℕ) : Type 0 where
+  pub count_of : length xs ≡ count
+  pub each : (k : ℕ) → k < count → slice_index xs k ≡ f k

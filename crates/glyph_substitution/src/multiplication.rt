@@ -1,0 +1,153 @@
+//! Edits that put one glyph or several in the place of one.
+
+ghost use Rattle.std.specs.Prelude.{◌≡◌, ◌<◌, true, length, IfOk};
+ghost use Rattle.glyph_substitution.specs.Open.{IsLeftOpen};
+ghost use Rattle.shaping_buffer.specs.KeepsClusters.{KeepsClusters};
+
+use crate::properties::{BASE, LIGATURE, Way, substituted_props};
+use crate::substitution::Progress;
+use crate::writing::{drop_behind, write_properties};
+use font_tables::gdef::Gdef;
+use glyph_layout::glyph_table::Glyphs;
+use glyph_layout::ligature_parts::{ligature_id, mark_properties};
+use rb_glyph::hb_glyph_info_t;
+use shaping_buffer::hb_buffer_t;
+use std::alloc::AllocError;
+
+/// Sets the properties of the current glyph to those of the glyph that comes into its place.
+pub(crate) fn set_class(buffer: &mut hb_buffer_t, gdef: &Gdef, glyph: u16, way: Way, guess: u16)
+    requires opened { buffer.old.have_output ≡ true }
+    requires glyph { 0 < length buffer.old.input }
+    ensures opened { buffer.new.have_output ≡ true }
+    ensures same_length { length buffer.new.input ≡ length buffer.old.input }
+    ensures same_place { buffer.new.idx ≡ buffer.old.idx }
+    ensures keeps { KeepsClusters buffer.old buffer.new }
+{
+    let mut written = *buffer.cur(0);
+    let props = substituted_props(gdef, written.glyph_props(), glyph, way, guess);
+    written.set_glyph_props(props);
+    write_properties(buffer, 0, &written);
+}
+
+/// Replaces the current glyph.
+pub(crate) fn replace(buffer: &mut hb_buffer_t, gdef: &Gdef, glyph: u16) -> Result<bool, AllocError>
+    requires opened { buffer.old.have_output ≡ true }
+    requires glyph { 0 < length buffer.old.input }
+    ensures left { IsLeftOpen result buffer.new }
+    ensures keeps { KeepsClusters buffer.old buffer.new }
+{
+    set_class(buffer, gdef, glyph, Way::Replaced, 0);
+    buffer.replace_glyph(u32::from(glyph))
+}
+
+/// Replaces the current glyph by one of a set, by chance. As the next choice depends on this one, no line may be broken
+/// anywhere.
+pub(crate) fn choose(
+    buffer: &mut hb_buffer_t,
+    gdef: &Gdef,
+    set: &Glyphs,
+    progress: &mut Progress,
+) -> Result<bool, AllocError>
+    requires opened { buffer.old.have_output ≡ true }
+    requires glyph { 0 < length buffer.old.input }
+    ensures left { IsLeftOpen result buffer.new }
+    ensures same_search { progress.new.search ≡ progress.old.search }
+    ensures keeps { KeepsClusters buffer.old buffer.new }
+{
+    mark_all(buffer);
+    if buffer.lookahead_len() == 0 {
+        return Ok(true);
+    }
+    progress.random_state = next_random(progress.random_state);
+    let index = if set.len() == 0 {
+        0
+    } else {
+        progress.random_state % u32::from(set.len())
+    };
+    replace(buffer, gdef, set.glyph(index as u16))
+}
+
+/// Marks all glyphs as unsafe to break.
+fn mark_all(buffer: &mut hb_buffer_t)
+    requires { buffer.old.have_output ≡ true }
+    ensures opened { buffer.new.have_output ≡ true }
+    ensures keeps { KeepsClusters buffer.old buffer.new }
+{
+    let end = buffer.len();
+    buffer.unsafe_to_break_from_outbuffer(Some(0), Some(end));
+}
+
+/// The next random number (the generator `minstd_rand` of C++, in 32 bits as HarfBuzz computes it).
+fn next_random(state: u32) -> u32 {
+    state.wrapping_mul(48271) % 2147483647
+}
+
+/// Puts the glyphs of a sequence in the place of the current one, and none in the place of a glyph that is dropped.
+pub(crate) fn multiply(
+    buffer: &mut hb_buffer_t,
+    gdef: &Gdef,
+    sequence: &Glyphs,
+) -> Result<bool, AllocError>
+    requires opened { buffer.old.have_output ≡ true }
+    requires glyph { 0 < length buffer.old.input }
+    ensures left { IsLeftOpen result buffer.new }
+    ensures keeps { KeepsClusters buffer.old buffer.new }
+{
+    if sequence.len() == 0 {
+        buffer.delete_glyph();
+        return Ok(true);
+    }
+    let (guess, is_part) = part_of(buffer.cur(0));
+    for index in 0..sequence.len() {
+        set_component(buffer, index, is_part);
+        if !put_part(buffer, gdef, sequence.glyph(index), guess)? {
+            return Ok(false);
+        }
+    }
+    drop_behind(buffer);
+    Ok(true)
+}
+
+/// Puts one of the glyphs out that come into the place of the current one.
+fn put_part(
+    buffer: &mut hb_buffer_t,
+    gdef: &Gdef,
+    glyph: u16,
+    guess: u16,
+) -> Result<bool, AllocError>
+    requires opened { buffer.old.have_output ≡ true }
+    requires glyph { 0 < length buffer.old.input }
+    ensures left { IsLeftOpen result buffer.new }
+    ensures glyph { IfOk result (λ _. 0 < length buffer.new.input) }
+    ensures keeps { KeepsClusters buffer.old buffer.new }
+{
+    set_class(buffer, gdef, glyph, Way::Multiplied, guess);
+    buffer.output_glyph(u32::from(glyph))
+}
+
+/// The class that is guessed for the parts of a glyph, and whether it belongs to a ligature: then that stays.
+fn part_of(glyph: &hb_glyph_info_t) -> (u16, bool) {
+    let guess = if glyph.glyph_props() & LIGATURE != 0 {
+        BASE
+    } else {
+        0
+    };
+    (guess, ligature_id(glyph) != 0)
+}
+
+/// Sets of which number the current glyph is, of those that come into the place of one that is no part of a ligature.
+fn set_component(buffer: &mut hb_buffer_t, index: u16, is_part: bool)
+    requires opened { buffer.old.have_output ≡ true }
+    requires glyph { 0 < length buffer.old.input }
+    ensures opened { buffer.new.have_output ≡ true }
+    ensures same_length { length buffer.new.input ≡ length buffer.old.input }
+    ensures same_place { buffer.new.idx ≡ buffer.old.idx }
+    ensures keeps { KeepsClusters buffer.old buffer.new }
+{
+    if is_part {
+        return;
+    }
+    let mut written = *buffer.cur(0);
+    written.set_lig_props(mark_properties(0, (index % 16) as u8));
+    write_properties(buffer, 0, &written);
+}

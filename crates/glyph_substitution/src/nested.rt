@@ -1,0 +1,311 @@
+//! A lookup at the cursor, and the lookups that it applies.
+
+ghost use Rattle.std.specs.Prelude.{◌≡◌, ◌+◌, ◌<◌, ◌≤◌, true, false, length, IfOk};
+ghost use Rattle.glyph_layout.specs.Budget.{IsNotMore};
+ghost use Rattle.glyph_substitution.specs.Open.{IsLeftOpen};
+ghost use Rattle.shaping_buffer.specs.KeepsClusters.{KeepsClusters};
+
+use crate::ligation::ligate;
+use crate::multiplication::{choose, multiply, replace};
+use crate::places::Matched;
+use crate::substitution::{Progress, Substitutions};
+use crate::writing::fail;
+use glyph_layout::context::{Fit, Record};
+use glyph_layout::substitution::{Edit, edit_at};
+use glyph_layout::{Lookup, Reach, Sides, Walk};
+use shaping_buffer::hb_buffer_t;
+use std::alloc::AllocError;
+
+/// How deep lookups may apply others (HarfBuzz, `HB_MAX_NESTING_LEVEL`).
+pub(crate) const MAX_NESTING_LEVEL: u32 = 64;
+
+/// What became of a lookup at the cursor.
+#[derive(Clone, Copy, PartialEq, Eq, Debug)]
+pub(crate) enum Step {
+    /// It was applied, and the cursor is behind what it took.
+    Applied,
+    /// It does nothing there.
+    Passed,
+    /// The buffer refused a call for length.
+    Refused,
+}
+
+/// Applies a lookup to the glyph at the cursor. Lookups may apply others, so many levels deep.
+#[cycle(nested)]
+pub(crate) fn apply_at(
+    buffer: &mut hb_buffer_t,
+    substitutions: &Substitutions,
+    lookup: &Lookup,
+    progress: &mut Progress,
+    depth: u32,
+) -> Result<Step, AllocError>
+    requires opened { buffer.old.have_output ≡ true }
+    requires glyph { 0 < length buffer.old.input }
+    ensures left { IsLeftOpen result buffer.new }
+    ensures spent { IsNotMore progress.old.search.budget progress.new.search.budget }
+    ensures keeps { KeepsClusters buffer.old buffer.new }
+{
+    let edit = decide(buffer, substitutions, lookup, progress, depth);
+    mark_reach(buffer, &progress.search.reach);
+    let Some(edit) = edit else {
+        return Ok(Step::Passed);
+    };
+    let rest = rest_beyond(buffer, &edit);
+    if !make(buffer, substitutions, &edit, progress, depth)? {
+        return Ok(Step::Refused);
+    }
+    mark_beyond(buffer, rest);
+    Ok(Step::Applied)
+}
+
+/// What the lookup does at the cursor, and in `progress` how far it looked.
+fn decide<'a>(
+    buffer: &hb_buffer_t,
+    substitutions: &Substitutions<'a>,
+    lookup: &Lookup,
+    progress: &mut Progress,
+    depth: u32,
+) -> Option<Edit<'a>>
+    requires { 0 < length buffer.now.input }
+    ensures same_random { progress.new.random_state ≡ progress.old.random_state }
+    ensures spent { IsNotMore progress.old.search.budget progress.new.search.budget }
+{
+    let options = &substitutions.options;
+    let input = buffer.info();
+    let sides = Sides {
+        out: buffer.out_info(),
+        input,
+        walk: Walk::over_input(lookup.filter, options, false),
+        context: Walk::over_context(lookup.filter, options, false),
+        syllable: if options.per_syllable {
+            input[0].syllable()
+        } else {
+            0
+        },
+        is_level: buffer.out_len() == buffer.idx(),
+    };
+    progress.search.reach = Reach::none(sides.out.len());
+    let is_nested = depth < MAX_NESTING_LEVEL;
+    edit_at(
+        substitutions.list,
+        lookup,
+        options,
+        is_nested,
+        &sides,
+        &mut progress.search,
+    )
+}
+
+/// Marks the glyphs that rules looked at which did not fit.
+fn mark_reach(buffer: &mut hb_buffer_t, reach: &Reach)
+    requires { buffer.old.have_output ≡ true }
+    ensures opened { buffer.new.have_output ≡ true }
+    ensures same_length { length buffer.new.input ≡ length buffer.old.input }
+    ensures keeps { KeepsClusters buffer.old buffer.new }
+{
+    if reach.to == 0 && reach.from >= buffer.out_len() {
+        return;
+    }
+    let from = reach.from.min(buffer.out_len());
+    let end = buffer.idx().saturating_add(reach.to);
+    buffer.unsafe_to_concat_from_outbuffer(Some(from), Some(end));
+}
+
+/// How many glyphs are left beyond those that other rules would have looked at; none where all rules were tried.
+fn rest_beyond(buffer: &hb_buffer_t, edit: &Edit) -> usize {
+    let beyond = match *edit {
+        Edit::Ligate(ligation) => ligation.beyond,
+        Edit::Apply(fit) => fit.beyond,
+        _ => 0,
+    };
+    buffer.lookahead_len().saturating_sub(beyond)
+}
+
+/// Marks the glyphs from the cursor on that are not among so many at the end.
+fn mark_beyond(buffer: &mut hb_buffer_t, rest: usize)
+    requires { buffer.old.have_output ≡ true }
+    ensures opened { buffer.new.have_output ≡ true }
+    ensures keeps { KeepsClusters buffer.old buffer.new }
+{
+    let left = buffer.lookahead_len();
+    let len = buffer.len();
+    if rest < left {
+        let start = buffer.idx();
+        buffer.unsafe_to_concat(Some(start), Some(len - rest));
+    }
+}
+
+/// Makes an edit. `Ok(false)` where the buffer refused a call for length.
+#[cycle(nested)]
+fn make(
+    buffer: &mut hb_buffer_t,
+    substitutions: &Substitutions,
+    edit: &Edit,
+    progress: &mut Progress,
+    depth: u32,
+) -> Result<bool, AllocError>
+    requires opened { buffer.old.have_output ≡ true }
+    requires glyph { 0 < length buffer.old.input }
+    ensures left { IsLeftOpen result buffer.new }
+    ensures spent { IsNotMore progress.old.search.budget progress.new.search.budget }
+    ensures keeps { KeepsClusters buffer.old buffer.new }
+{
+    let gdef = substitutions.gdef;
+    match *edit {
+        Edit::Replace(glyph) => replace(buffer, gdef, glyph),
+        Edit::Choose(set) => choose(buffer, gdef, &set, progress),
+        Edit::Multiply(sequence) => multiply(buffer, gdef, &sequence),
+        Edit::Ligate(ligation) => ligate(buffer, gdef, &ligation, &progress.search.places),
+        Edit::Apply(fit) => apply_fit(buffer, substitutions, &fit, progress, depth),
+        Edit::ReplaceInPlace(_) => Ok(true),
+    }
+}
+
+/// Applies the lookups of a rule that fits at the cursor, and leaves the cursor behind its input.
+#[cycle(nested)]
+fn apply_fit(
+    buffer: &mut hb_buffer_t,
+    substitutions: &Substitutions,
+    fit: &Fit,
+    progress: &mut Progress,
+    depth: u32,
+) -> Result<bool, AllocError>
+    requires opened { buffer.old.have_output ≡ true }
+    ensures left { IsLeftOpen result buffer.new }
+    ensures spent { IsNotMore progress.old.search.budget progress.new.search.budget }
+    ensures keeps { KeepsClusters buffer.old buffer.new }
+{
+    mark_fit(buffer, fit);
+    let out_len = buffer.out_len();
+    let mut matched = Matched::new(&progress.search.places, fit.end, out_len);
+    for index in 0..usize::from(fit.record_count) {
+        let Some(record) = fit.record(index) else {
+            break;
+        };
+        match apply_record(
+            buffer,
+            substitutions,
+            &record,
+            &mut matched,
+            progress,
+            depth,
+        )? {
+            Turn::On => {}
+            Turn::Enough => break,
+            Turn::Refused => return Ok(false),
+        }
+    }
+    go_to(buffer, matched.end)
+}
+
+/// Marks the glyphs of a rule that fits, and those around it.
+fn mark_fit(buffer: &mut hb_buffer_t, fit: &Fit)
+    requires { buffer.old.have_output ≡ true }
+    ensures opened { buffer.new.have_output ≡ true }
+    ensures keeps { KeepsClusters buffer.old buffer.new }
+{
+    let from = fit.from.min(buffer.out_len());
+    let end = buffer.idx().saturating_add(fit.to);
+    buffer.unsafe_to_break_from_outbuffer(Some(from), Some(end));
+}
+
+/// Moves the cursor to a place of both sides, or to their end.
+fn go_to(buffer: &mut hb_buffer_t, place: usize) -> Result<bool, AllocError>
+    requires { buffer.old.have_output ≡ true }
+    ensures left { IsLeftOpen result buffer.new }
+    ensures keeps { KeepsClusters buffer.old buffer.new }
+{
+    let count = both_len(buffer);
+    buffer.move_to(place.min(count))
+}
+
+/// How many glyphs both sides have together.
+fn both_len(buffer: &hb_buffer_t) -> usize
+    requires { buffer.now.have_output ≡ true }
+    ensures { result ≤ length buffer.now.out + length buffer.now.input }
+{
+    buffer.out_len().saturating_add(buffer.info().len())
+}
+
+/// What became of one of the lookups of a rule.
+#[derive(Clone, Copy, PartialEq, Eq, Debug)]
+enum Turn {
+    /// The next one follows.
+    On,
+    /// No other one is applied.
+    Enough,
+    /// The buffer refused a call for length.
+    Refused,
+}
+
+/// Applies the lookup of a record at its place, and lets the places of the match follow.
+#[cycle(nested)]
+fn apply_record(
+    buffer: &mut hb_buffer_t,
+    substitutions: &Substitutions,
+    record: &Record,
+    matched: &mut Matched,
+    progress: &mut Progress,
+    depth: u32,
+) -> Result<Turn, AllocError>
+    requires { buffer.old.have_output ≡ true }
+    ensures left { IsLeftOpen result buffer.new }
+    ensures spent { IsNotMore progress.old.search.budget progress.new.search.budget }
+    ensures keeps { KeepsClusters buffer.old buffer.new }
+{
+    let before = both_len(buffer);
+    if !progress.search.budget.pay(1) {
+        return Ok(Turn::Enough);
+    }
+    let Some(place) = matched.place(record.sequence) else {
+        return Ok(Turn::On);
+    };
+    if place >= before {
+        return Ok(Turn::On);
+    }
+    let distance = buffer.out_len().abs_diff(place);
+    if !progress.search.budget.pay_for(distance) {
+        return Ok(Turn::Enough);
+    }
+    if !buffer.move_to(place)? {
+        return Ok(Turn::Refused);
+    }
+    match apply_other(buffer, substitutions, record.lookup, progress, depth)? {
+        Step::Passed => return Ok(Turn::On),
+        Step::Refused => return Ok(Turn::Refused),
+        Step::Applied => {}
+    }
+    let after = both_len(buffer);
+    Ok(if matched.follow(record.sequence, before, after) {
+        Turn::On
+    } else {
+        Turn::Enough
+    })
+}
+
+/// Applies another lookup at the cursor, if lookups may still apply others.
+#[cycle(nested)]
+fn apply_other(
+    buffer: &mut hb_buffer_t,
+    substitutions: &Substitutions,
+    index: u16,
+    progress: &mut Progress,
+    depth: u32,
+) -> Result<Step, AllocError>
+    requires { buffer.old.have_output ≡ true }
+    ensures left { IsLeftOpen result buffer.new }
+    ensures spent { IsNotMore progress.old.search.budget progress.new.search.budget }
+    ensures keeps { KeepsClusters buffer.old buffer.new }
+{
+    if depth == 0 || !progress.search.budget.nest() {
+        fail(buffer);
+        return Ok(Step::Passed);
+    }
+    if buffer.lookahead_len() == 0 {
+        return Ok(Step::Passed);
+    }
+    match substitutions.list.lookup(index) {
+        Some(lookup) => apply_at(buffer, substitutions, lookup, progress, depth - 1),
+        None => Ok(Step::Passed),
+    }
+}

@@ -1,0 +1,134 @@
+//! The glyphs of a match while lookups are applied to them: their places follow glyphs that are put in or taken out.
+
+ghost use Rattle.std.specs.Prelude.{◌≡◌, ◌+◌, ◌-◌, ◌<◌, ◌≤◌, length, slice_index};
+ghost use Rattle.glyph_substitution.specs.Places.{AreAll, grown_place, moved_up, shrunk_place};
+
+use glyph_layout::Places;
+
+/// The place of this number after so many glyphs were put in behind the glyph `number`: they are the next glyphs of the
+/// match, and those behind them move up.
+#[tactic(auto, unfolding(crate::specs::Places::grown_place))]
+fn grown_place(places: &[usize], number: usize, added: usize, index: usize) -> usize
+    requires number { number < length places.now }
+    requires few { length places.now + added ≤ 64 }
+    requires index { index < length places.now + added }
+    ensures { result ≡ grown_place places.now number added index }
+{
+    if index <= number {
+        places[index]
+    } else if index <= number + added {
+        places[number].saturating_add(index - number)
+    } else {
+        places[index - added].saturating_add(added)
+    }
+}
+
+/// The places after so many glyphs were put in behind the glyph `number`.
+fn grown(places: &[usize], number: usize, added: usize) -> Places
+    requires number { number < length places.now }
+    requires few { length places.now + added ≤ 64 }
+    ensures { AreAll (grown_place places.now number added) (length places.now + added) result.items }
+{
+    let mut grown = Places::new();
+    for index in 0..places.len() + added {
+        grown.push(grown_place(places, number, added, index));
+    }
+    grown
+}
+
+/// The place of this number after so many glyphs of the match were taken out behind the glyph `number`: those behind them
+/// move down.
+#[tactic(auto, unfolding(crate::specs::Places::shrunk_place))]
+fn shrunk_place(places: &[usize], number: usize, removed: usize, index: usize) -> usize
+    requires { index + removed < length places.now }
+    ensures { result ≡ shrunk_place places.now number removed index }
+{
+    if index <= number {
+        places[index]
+    } else {
+        places[index + removed].saturating_sub(removed)
+    }
+}
+
+/// The places after so many glyphs of the match were taken out behind the glyph `number`.
+fn shrunk(places: &[usize], number: usize, removed: usize) -> Places
+    requires removed { removed ≤ length places.now }
+    requires few { length places.now ≤ 64 }
+    ensures { AreAll (shrunk_place places.now number removed) (length places.now - removed) result.items }
+{
+    let mut shrunk = Places::new();
+    for index in 0..places.len() - removed {
+        shrunk.push(shrunk_place(places, number, removed, index));
+    }
+    shrunk
+}
+
+/// The places, counted from so many glyphs before them.
+fn all_moved_up(places: &[usize], by: usize) -> Places
+    requires { length places.now ≤ 64 }
+    ensures { AreAll (λ k. moved_up (slice_index places.now k) by) (length places.now) result.items }
+{
+    let mut moved = Places::new();
+    for index in 0..places.len() {
+        moved.push(places[index].saturating_add(by));
+    }
+    moved
+}
+
+/// The glyphs of a match, by their places in both sides as one list.
+#[derive(Drop, Debug)]
+pub(crate) struct Matched {
+    /// The places of the glyphs.
+    places: Places,
+    /// Where the match ends.
+    pub(crate) end: usize,
+}
+
+impl Matched {
+    /// The match with these places and this end, counted from a cursor that so many glyphs stand before.
+    pub(crate) fn new(places: &Places, end: usize, before: usize) -> Self {
+        Matched {
+            places: all_moved_up(places.as_slice(), before),
+            end: before.saturating_add(end),
+        }
+    }
+
+    /// The place of the glyph of this number.
+    pub(crate) fn place(&self, number: usize) -> Option<usize> {
+        self.places.get(number).copied()
+    }
+
+    /// Lets the places follow a lookup that was applied to the glyph of this number, where both sides had so many glyphs
+    /// before and have so many after it. Where there would be more places than a match has, the answer is false.
+    ///
+    /// HarfBuzz takes it that glyphs were put in, or taken out, right behind the one that the lookup was applied to.
+    pub(crate) fn follow(&mut self, number: usize, before: usize, after: usize) -> bool {
+        if after >= before {
+            return self.grow(number, after - before);
+        }
+        self.shrink(number, before - after);
+        true
+    }
+
+    /// Lets the places follow so many glyphs that were put in.
+    fn grow(&mut self, number: usize, added: usize) -> bool {
+        self.end = self.end.saturating_add(added);
+        if self.places.len() > 64 || added > 64 - self.places.len() {
+            return false;
+        }
+        if added > 0 && number < self.places.len() {
+            self.places = grown(self.places.as_slice(), number, added);
+        }
+        true
+    }
+
+    /// Lets the places follow so many glyphs that were taken out. The end does not come before the glyph itself.
+    fn shrink(&mut self, number: usize, removed: usize) {
+        let place = self.place(number).unwrap_or(0);
+        let end = self.end.saturating_sub(removed).max(place);
+        let behind = self.places.len().saturating_sub(number.saturating_add(1));
+        let removed = self.end.saturating_sub(end).min(behind);
+        self.end = end;
+        self.places = shrunk(self.places.as_slice(), number, removed);
+    }
+}

@@ -1,0 +1,62 @@
+//! What lookups write besides the glyphs themselves: properties of glyphs that are left to read, and what is said of the
+//! buffer. No cluster changes by it.
+
+ghost use Rattle.std.specs.Prelude.{◌≡◌, ◌<◌, true, length};
+ghost use Rattle.shaping_buffer.specs.ClusterStep.{any_order};
+ghost use Rattle.shaping_buffer.specs.KeepsClusters.{KeepsClusters};
+
+use rb_glyph::hb_glyph_info_t;
+use shaping_buffer::cluster_level::{
+    HB_BUFFER_CLUSTER_LEVEL_CHARACTERS, HB_BUFFER_CLUSTER_LEVEL_GRAPHEMES,
+};
+use shaping_buffer::hb_buffer_t;
+
+/// Writes the properties of a glyph so many places ahead of the cursor: the words `var1` and `var2`.
+pub(crate) fn write_properties(buffer: &mut hb_buffer_t, ahead: usize, glyph: &hb_glyph_info_t)
+    requires opened { buffer.old.have_output ≡ true }
+    requires glyph { ahead < length buffer.old.input }
+    ensures opened { buffer.new.have_output ≡ true }
+    ensures same_length { length buffer.new.input ≡ length buffer.old.input }
+    ensures same_place { buffer.new.idx ≡ buffer.old.idx }
+    ensures same_out { length buffer.new.out ≡ length buffer.old.out }
+    ensures keeps { KeepsClusters buffer.old buffer.new }
+{
+    let written = buffer.cur_mut(ahead);
+    written.var1 = glyph.var1;
+    written.var2 = glyph.var2;
+}
+
+/// Says that shaping met a limit.
+pub(crate) fn fail(buffer: &mut hb_buffer_t)
+    ensures same_output { buffer.new.have_output ≡ buffer.old.have_output }
+    ensures same_length { length buffer.new.input ≡ length buffer.old.input }
+    ensures keeps { KeepsClusters buffer.old buffer.new }
+{
+    buffer.shaping_failed = true;
+}
+
+/// Drops the current glyph, for which the last glyph that was put out stands: it is in the same cluster, unless clusters may
+/// stand in any order. Were it in another, that would go to a neighbour.
+pub(crate) fn drop_behind(buffer: &mut hb_buffer_t)
+    requires opened { buffer.old.have_output ≡ true }
+    requires glyph { 0 < length buffer.old.input }
+    ensures opened { buffer.new.have_output ≡ true }
+    ensures same_out { length buffer.new.out ≡ length buffer.old.out }
+    ensures keeps { KeepsClusters buffer.old buffer.new }
+{
+    if buffer.out_len() > 0 && buffer.prev().cluster == buffer.cur(0).cluster {
+        buffer.skip_glyph();
+    } else if may_stand_in_any_order(buffer) {
+        buffer.skip_glyph();
+    } else {
+        buffer.delete_glyph();
+    }
+}
+
+/// Whether clusters may stand in any order.
+fn may_stand_in_any_order(buffer: &hb_buffer_t) -> bool
+    ensures { result ≡ any_order buffer.now }
+{
+    buffer.cluster_level == HB_BUFFER_CLUSTER_LEVEL_CHARACTERS
+        || buffer.cluster_level == HB_BUFFER_CLUSTER_LEVEL_GRAPHEMES
+}

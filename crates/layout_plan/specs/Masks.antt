@@ -1,0 +1,10 @@
+-- The bits of a glyph's mask.
+use Rattle.std.specs.Prelude.{ℕ, ◌+◌, ◌-◌, ◌*◌, ◌%◌, ◌^◌}
+
+-- the mask of neighbouring bits: the number in which these are 1, and all others 0
+unfoldable pub mask_of : ℕ → ℕ → ℕ
+mask_of shift count = 2 ^ (shift + count) - 2 ^ shift
+
+-- a value in such bits: of a value that has more, the low ones
+unfoldable pub value_in : ℕ → ℕ → ℕ → ℕ
+value_in shift count value = value % 2 ^ count * 2 ^ shift

@@ -1,0 +1,132 @@
+//! Which lookups of a font are applied, in which order, and to which glyphs: HarfBuzz's `hb_ot_map_t`.
+
+use crate::bits::FeatureBits;
+use crate::request::FeatureFlags;
+use rb_common::Tag;
+
+/// What a shaper does between two stages of substitution.
+#[derive(Clone, Copy, PartialEq, Eq, Debug)]
+pub enum Pause {
+    /// Nothing: the lookups of the next stage are only applied after all those before.
+    Nothing,
+    /// It forgets which glyphs were substituted.
+    ClearSubstitutionFlags,
+    /// It forgets the syllables.
+    ClearSyllables,
+    /// It finds the syllables.
+    SetUpSyllables,
+    /// It puts the glyphs of each syllable in order before the basic features.
+    InitialReordering,
+    /// It puts the glyphs of each syllable in order after the basic features.
+    FinalReordering,
+    /// It notes which glyphs `rphf` made.
+    RecordRphf,
+    /// It notes which glyphs `pref` made.
+    RecordPref,
+    /// It notes which glyphs `stch` made.
+    RecordStch,
+    /// It shapes Arabic letters of a font without features for them.
+    ArabicFallback,
+}
+
+/// A feature of the plan, with the bits of its value.
+#[derive(Clone, Copy, PartialEq, Eq, Debug)]
+pub struct PlannedFeature {
+    /// The feature's tag.
+    pub tag: Tag,
+    /// The number of the feature in `GSUB`; `None` where the language system does not have it.
+    pub gsub: Option<u16>,
+    /// The number of the feature in `GPOS`; `None` where the language system does not have it.
+    pub gpos: Option<u16>,
+    /// The stage of substitution in which it is applied.
+    pub stage: usize,
+    /// The bits of a glyph's mask that hold its value: the bit of every glyph for a feature of all of them with the value 1, and
+    /// else bits of its own.
+    pub bits: FeatureBits,
+    /// The value of each glyph that none is set for.
+    pub default_value: u32,
+    /// Whether the font does not have it, and a fallback stands in its place.
+    pub needs_fallback: bool,
+    /// How it is applied.
+    pub flags: FeatureFlags,
+}
+
+/// A lookup of the plan.
+#[derive(Clone, Copy, PartialEq, Eq, Debug)]
+pub struct PlannedLookup {
+    /// The number of the lookup in its table.
+    pub index: u16,
+    /// It is applied to glyphs whose mask has one of these bits.
+    pub mask: u32,
+    /// Whether a context passes over a zero width non-joiner.
+    pub auto_zwnj: bool,
+    /// Whether an input passes over a zero width joiner.
+    pub auto_zwj: bool,
+    /// Whether one of the alternates is chosen at random.
+    pub random: bool,
+    /// Whether a match ends with its syllable.
+    pub per_syllable: bool,
+}
+
+/// A stage of substitution.
+#[derive(Clone, Copy, PartialEq, Eq, Debug)]
+pub struct Stage {
+    /// The place behind its last lookup, in the list of all.
+    pub end: usize,
+    /// What is done after it.
+    pub pause: Pause,
+}
+
+/// Which lookups of a font are applied, in which order, and to which glyphs.
+#[derive(Debug, Drop)]
+pub struct LayoutPlan {
+    /// The mask of a glyph that no feature of a range reaches.
+    pub global_mask: u32,
+    /// The script of `GSUB` that was chosen; the null tag for none.
+    pub gsub_script: Tag,
+    /// The script of `GPOS` that was chosen; the null tag for none.
+    pub gpos_script: Tag,
+    /// The features, in the order of their tags.
+    pub features: Vec<PlannedFeature>,
+    /// The lookups of substitution, stage by stage, and in each in the order of their numbers.
+    pub gsub_lookups: Vec<PlannedLookup>,
+    /// The stages of substitution.
+    pub stages: Vec<Stage>,
+    /// The lookups of positioning, in the order of their numbers.
+    pub gpos_lookups: Vec<PlannedLookup>,
+}
+
+impl LayoutPlan {
+    /// The feature with a tag; `None` where the plan has none.
+    pub fn feature(&self, tag: Tag) -> Option<&PlannedFeature> {
+        let place = self
+            .features
+            .binary_search_by_key(&tag, |feature| feature.tag)
+            .ok()?;
+        self.features.get(place)
+    }
+
+    /// The mask of a feature; 0 where the plan has none with this tag.
+    pub fn mask(&self, tag: Tag) -> u32 {
+        match self.feature(tag) {
+            Some(feature) => feature.bits.mask(),
+            None => 0,
+        }
+    }
+
+    /// The mask of the value 1 of a feature; 0 where the plan has none with this tag.
+    pub fn one_mask(&self, tag: Tag) -> u32 {
+        match self.feature(tag) {
+            Some(feature) => feature.bits.of_value(1),
+            None => 0,
+        }
+    }
+
+    /// Whether a feature has to be made by a fallback.
+    pub fn needs_fallback(&self, tag: Tag) -> bool {
+        match self.feature(tag) {
+            Some(feature) => feature.needs_fallback,
+            None => false,
+        }
+    }
+}

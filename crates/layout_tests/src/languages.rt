@@ -1,0 +1,102 @@
+//! The OpenType tags of languages, as OpenType's registry of language systems and HarfBuzz have them.
+
+use language_tags::LanguageTags;
+use rb_text::{Language, LanguageTable, Tag, tags_from_script_and_language};
+use std::test::Fail;
+
+/// Languages, and their tags of four bytes each.
+static LANGUAGES: [(&str, &str); 68] = [
+    ("zh", "ZHS "),
+    ("zh-cn", "ZHS "),
+    ("zh-sg", "ZHS "),
+    ("zh-tw", "ZHT "),
+    ("zh-hans", "ZHS "),
+    ("zh-hant", "ZHT "),
+    ("zh-hant-hk", "ZHH "),
+    ("zh-hk", "ZHH "),
+    ("zh-mo", "ZHTMZHH "),
+    ("zh-hant-mo", "ZHTMZHH "),
+    ("zh-hant-tw", "ZHT "),
+    ("zh-latn-hk", "ZHH "),
+    ("dv", "DIV DHV "),
+    ("ro", "ROM "),
+    ("ro-md", "MOL ROM "),
+    ("mo", "MOL ROM "),
+    ("sr", "SRB "),
+    ("en", "ENG "),
+    ("ja", "JAN "),
+    ("fa", "FAR "),
+    ("tr", "TRK "),
+    ("de", "DEU "),
+    ("sh", "BOS HRV SRB "),
+    ("abs", "CPP "),
+    ("aba", ""),
+    ("mrj", "HMA "),
+    ("xyz", "XYZ "),
+    ("xyz-latn", "XYZ "),
+    ("q", ""),
+    ("qq", ""),
+    ("ga", "IRI IRT "),
+    ("ga-latg", "IRT "),
+    ("el", "ELL "),
+    ("el-polyton", "PGR "),
+    ("hy", "HYE0HYE "),
+    ("hy-arevela", "HYE0HYE "),
+    ("hy-arevmda", "HYE "),
+    ("oc-provenc", "PRO "),
+    ("und-fonipa", "IPPH"),
+    ("en-fonnapa-x-y", "APPH"),
+    ("ka-geok", "KGE "),
+    ("syr", "SYR "),
+    ("syr-syre", "SYRE"),
+    ("syr-syrj", "SYRJ"),
+    ("syr-syrn", "SYRN"),
+    ("mnw", "MON MONT"),
+    ("mnw-th", "MONT"),
+    ("yue", "ZHH "),
+    ("yue-hans", "ZHS "),
+    ("zh-yue", "ZHH "),
+    ("zh-yue-hk", "ZHH "),
+    ("lzh-hans", "ZHS "),
+    ("nan-tw", "ZHT "),
+    ("art-lojban", "JBO "),
+    ("art-lojban-x-a", "ART "),
+    ("i-hak", "ZHS "),
+    ("i-lux", "LTZ "),
+    ("i-navajo", "NAV ATH "),
+    ("no-bok", "NOR "),
+    ("no-nyn", "NYN "),
+    ("zh-min", "ZHS "),
+    ("zh-min-nan", "ZHS "),
+    ("zh-u-co-hk", "ZHS "),
+    ("en-u-hk", "ENG "),
+    ("qq-abc", ""),
+    ("qq-aao", "ARA "),
+    ("aa", "AFR "),
+    ("zyp", "QIN "),
+];
+
+#[test]
+fn languages_have_their_tags(rt: HostRuntime) -> Result<(), Fail> {
+    let table = LanguageTable::new(&[]).ok_or("no table")?;
+    for &(name, expected) in &LANGUAGES {
+        let language = Language::from_str(rt.alloc(), name)?;
+        let found = LanguageTags::of(Some(&language));
+        let (_, tags) = tags_from_script_and_language(None, Some(&language), &table, &found);
+        assert!(rt; tags.len() * 4 == expected.len(), "{name}");
+        for (tag, bytes) in tags.iter().zip(expected.as_bytes().chunks(4)) {
+            assert!(rt; *tag == Tag::from_bytes_lossy(bytes), "{name}");
+        }
+    }
+    Ok(())
+}
+
+/// No language has no tags.
+#[test]
+fn no_language_has_no_tags(rt: HostRuntime) -> Result<(), Fail> {
+    let table = LanguageTable::new(&[]).ok_or("no table")?;
+    let none = LanguageTags::of(None);
+    let (_, tags) = tags_from_script_and_language(None, None, &table, &none);
+    assert!(rt; tags.is_empty());
+    Ok(())
+}

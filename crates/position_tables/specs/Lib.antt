@@ -1,0 +1,6 @@
+pub mod Anchors
+pub mod Devices
+pub mod KernTable
+pub mod Pairs
+pub mod SortedRows
+pub mod Values

@@ -1,0 +1,69 @@
+-- Value records: by how much a glyph is moved, and its advance changed.
+use Rattle.std.specs.Prelude.{ℕ, ℤ, List, Option, None, Some, Bool, ◌+◌, ◌*◌, ◌/◌, ◌%◌, nat_eq, nat_le, length}
+use Rattle.std.specs.Prelude.{if◌then◌else◌, unwrap_or}
+use Rattle.std.specs.Int.{w16, w32, cast_signed, int_wrapping_add, int_wrapping_sub}
+use Rattle.std.specs.Int.Count.{ones}
+use Rattle.font_tables.specs.Bytes.{number_16}
+use Rattle.font_tables.specs.Scale.{em_scale}
+use Rattle.font_tables.specs.declared.scale.Scale.{Scale}
+use Rattle.rb_glyph.specs.declared.position.GlyphPosition.{GlyphPosition}
+use Rattle.position_tables.specs.Devices.{device_delta}
+use Rattle.position_tables.specs.declared.values.ValueRecord.{ValueRecord}
+
+-- whether a format names the field of a bit, which is a power of 2
+abbrev pub names : ℕ → ℕ → Bool
+names format bit = nat_eq (format / bit % 2) 1
+
+-- The field of a bit in the record at a place: before it stand the fields of the lower bits that the format names, two bytes
+-- each. It is 0 where the format does not name it.
+abbrev pub field : List ℕ → ℕ → ℕ → ℕ → ℕ
+field table format bit at = if names format bit then unwrap_or (number_16 table (at + 2 * ones (format % bit))) 0 else 0
+
+-- how many bytes a record has
+abbrev pub record_size : ℕ → ℕ
+record_size format = 2 * ones format
+
+-- the record of a format at a place; `None` unless the table holds all of it
+unfoldable pub value_record : List ℕ → ℕ → ℕ → Option ValueRecord
+value_record table format at =
+    if nat_le (at + record_size format) (length table) then Some (record {
+      x_placement = cast_signed w16 (field table format 1 at);
+      y_placement = cast_signed w16 (field table format 2 at);
+      x_advance = cast_signed w16 (field table format 4 at);
+      y_advance = cast_signed w16 (field table format 8 at);
+      x_placement_device = field table format 16 at;
+      y_placement_device = field table format 32 at;
+      x_advance_device = field table format 64 at;
+      y_advance_device = field table format 128 at;
+    }) else None
+
+-- a number and its correction in pixels are added
+abbrev pub plus : ℤ → ℤ → ℤ → ℤ
+plus n length delta = int_wrapping_add w32 (int_wrapping_add w32 n length) delta
+
+-- or subtracted
+abbrev pub minus : ℤ → ℤ → ℤ → ℤ
+minus n length delta = int_wrapping_sub w32 (int_wrapping_sub w32 n length) delta
+
+-- a number across, and one upwards, moved by a value and its device table, whose offset is counted from the start of `base`
+unfoldable pub moved_x : List ℕ → Scale → ℤ → ℕ → ℤ → ℤ
+moved_x base scale value device n =
+    plus n (em_scale value scale.x scale.units_per_em) (device_delta base device scale.x_ppem scale.x)
+
+unfoldable pub moved_y : List ℕ → Scale → ℤ → ℕ → ℤ → ℤ
+moved_y base scale value device n =
+    plus n (em_scale value scale.y scale.units_per_em) (device_delta base device scale.y_ppem scale.y)
+
+-- a number that is counted downwards
+unfoldable pub moved_back : List ℕ → Scale → ℤ → ℕ → ℤ → ℤ
+moved_back base scale value device n =
+    minus n (em_scale value scale.y scale.units_per_em) (device_delta base device scale.y_ppem scale.y)
+
+-- the position of a glyph that a record moves; of the advances only that along the line changes
+abbrev pub moved : List ℕ → Scale → Bool → ValueRecord → GlyphPosition → GlyphPosition
+moved base scale is_horizontal v p = record p {
+  x_offset = moved_x base scale v.x_placement v.x_placement_device p.x_offset;
+  y_offset = moved_y base scale v.y_placement v.y_placement_device p.y_offset;
+  x_advance = if is_horizontal then moved_x base scale v.x_advance v.x_advance_device p.x_advance else p.x_advance;
+  y_advance = if is_horizontal then p.y_advance else moved_back base scale v.y_advance v.y_advance_device p.y_advance;
+}

@@ -1,0 +1,90 @@
+//! Device tables: corrections of numbers where glyphs are drawn in pixels (OpenType specification, "OpenType Layout Common
+//! Table Formats", "Device and VariationIndex tables"). A table of variations corrects nothing.
+
+ghost use Rattle.std.specs.Prelude.{◌≡◌, ◌<◌, ◌≤◌, ◌^◌};
+ghost use Rattle.std.specs.Int.{saturate_signed, w32};
+ghost use Rattle.position_tables.specs.Devices.{delta_pixels, packed_value, signed_of_bits, device_delta};
+
+use font_tables::bytes::{tail, u16_at};
+
+/// The correction by the device table that an offset leads to, from the start of `table`, where an em has `ppem` pixels and
+/// is `size` long. It is 0 where there are no pixels, or no such table.
+pub fn device_delta(table: &[u8], offset: u16, ppem: u16, size: i32) -> i32
+    ensures { result ≡ device_delta table.now offset ppem size }
+{
+    if offset == 0 || ppem == 0 {
+        return 0;
+    }
+    let pixels = delta_pixels(tail(table, usize::from(offset)), ppem);
+    saturated(i64::from(pixels).saturating_mul(i64::from(size)) / i64::from(ppem))
+}
+
+/// By how many pixels a number is corrected at a size.
+#[tactic(auto, unfolding(crate::specs::Devices::delta_pixels))]
+pub fn delta_pixels(device: &[u8], ppem: u16) -> i32
+    ensures { result ≡ delta_pixels device.now ppem }
+{
+    let first = u16_at(device, 0).unwrap_or(0);
+    let last = u16_at(device, 2).unwrap_or(0);
+    if ppem < first || last < ppem {
+        return 0;
+    }
+    let place = ppem - first;
+    match u16_at(device, 4).unwrap_or(0) {
+        1 => packed_value_2(device, place),
+        2 => packed_value_4(device, place),
+        3 => packed_value_8(device, place),
+        _ => 0,
+    }
+}
+
+/// The value at a place among values of 2 bits.
+fn packed_value_2(device: &[u8], place: u16) -> i32
+    ensures { result ≡ packed_value device.now 2 place }
+{
+    let word = u16_at(device, 6 + 2 * usize::from(place / 8)).unwrap_or(0);
+    signed_of_bits(2, (word >> (16 - 2 * (place % 8 + 1))) % 4)
+}
+
+/// The value at a place among values of 4 bits.
+fn packed_value_4(device: &[u8], place: u16) -> i32
+    ensures { result ≡ packed_value device.now 4 place }
+{
+    let word = u16_at(device, 6 + 2 * usize::from(place / 4)).unwrap_or(0);
+    signed_of_bits(4, (word >> (16 - 4 * (place % 4 + 1))) % 16)
+}
+
+/// The value at a place among values of 8 bits.
+fn packed_value_8(device: &[u8], place: u16) -> i32
+    ensures { result ≡ packed_value device.now 8 place }
+{
+    let word = u16_at(device, 6 + 2 * usize::from(place / 2)).unwrap_or(0);
+    signed_of_bits(8, (word >> (16 - 8 * (place % 2 + 1))) % 256)
+}
+
+/// A number of so many bits, in two's complement.
+fn signed_of_bits(bits: u32, number: u16) -> i32
+    requires some { 0 < bits }
+    requires few { bits < 9 }
+    ensures { result ≡ signed_of_bits bits number }
+{
+    let number = i32::from(number);
+    if number < 1 << (bits - 1) {
+        number
+    } else {
+        number - (1 << bits)
+    }
+}
+
+/// The nearest number of 32 bits.
+fn saturated(value: i64) -> i32
+    ensures { result ≡ saturate_signed w32 value }
+{
+    if value < -0x8000_0000 {
+        i32::MIN
+    } else if value > 0x7FFF_FFFF {
+        i32::MAX
+    } else {
+        value as i32
+    }
+}

@@ -1,0 +1,12 @@
+//! Positions by a font's tables `GPOS` and `kern`: how far glyphs are moved, and to which others they are attached.
+//!
+//! No bytes of a font make a walk go outside of a table or a list of glyphs, or go on without an end. What a table does not
+//! hold whole is passed over.
+#![tactic(auto)]
+
+pub mod anchors;
+pub mod devices;
+pub mod kern_table;
+pub mod pairs;
+pub mod sorted_rows;
+pub mod values;

@@ -1,2 +1,0 @@
-mod RulesLemmas
-mod ShapeLemmas

@@ -1,0 +1,210 @@
+// Written by tools/plain_rust from crates/glyph_layout. Do not edit.
+
+//! The rules of a set, of which the first that fits is taken.
+
+use crate::font_tables::bytes::{table_at_16, u16_at};
+use crate::glyph::hb_glyph_info_t;
+use crate::glyph_layout::context::Fit;
+use crate::glyph_layout::matching::{match_ahead, match_behind, match_input};
+use crate::glyph_layout::rule::{Meanings, Part, Rule, rule_in};
+use crate::glyph_layout::search::{Search, Sides};
+use crate::glyph_layout::walk::{Found, Skip, Walk};
+use crate::glyph_layout::wanted::Wanted;
+
+/// The rule, if it fits at the cursor.
+///
+/// # Requires
+///
+/// - `0 < length sides.now.input.now`
+pub(crate) fn fit<'a>(rule: &Rule<'a>, sides: &Sides, search: &mut Search) -> Option<Fit<'a>> {
+    let end = match match_input(sides, &rule.input, search) {
+        Ok(end) => end,
+        Err(to) => {
+            if !rule.is_chained {
+                search.reach.extend(sides.out.len(), to);
+            }
+            return None;
+        }
+    };
+    let to = match match_ahead(sides, &rule.ahead, end, search) {
+        Ok(to) => to,
+        Err(to) => {
+            search.reach.extend(sides.out.len(), to);
+            return None;
+        }
+    };
+    match match_behind(sides, &rule.behind, search) {
+        Ok(from) => Some(Fit {
+            end,
+            from,
+            to,
+            beyond: 0,
+            record_count: rule.record_count,
+            records: rule.records,
+        }),
+        Err(from) => {
+            search.reach.extend(from, to);
+            None
+        }
+    }
+}
+
+/// The first rule of a set that fits.
+///
+/// # Requires
+///
+/// - `0 < length sides.now.input.now`
+pub(crate) fn first_fit<'a>(
+    set: &'a [u8],
+    meanings: &Meanings<'a>,
+    is_chained: bool,
+    sides: &Sides,
+    search: &mut Search,
+) -> Option<Fit<'a>> {
+    let count = usize::from(u16_at(set, 0)?);
+    let ahead = if count > 4 {
+        next_two(sides, is_chained)
+    } else {
+        Neighbours::Unknown
+    };
+    let mut beyond = Beyond::new(&ahead, is_chained);
+    for index in 0..count {
+        if !search.budget.pay(1) {
+            return None;
+        }
+        if let Some(table) = table_at_16(set, 2 + 2 * index)
+            && let Some(rule) = rule_in(table, meanings, is_chained)
+            && may_fit(&rule, &ahead, &mut beyond)
+        {
+            let found = fit(&rule, sides, search);
+            if let Some(found) = found {
+                return Some(Fit {
+                    beyond: beyond.to,
+                    ..found
+                });
+            }
+        }
+    }
+    search.reach.extend(sides.out.len(), beyond.to);
+    None
+}
+
+/// A glyph behind the cursor.
+#[derive(Clone, Copy, Debug)]
+pub(crate) struct Next {
+    /// The glyph.
+    pub(crate) glyph: u32,
+    /// The place behind it.
+    pub(crate) end: usize,
+}
+
+/// The glyphs behind the cursor, looked at once for many rules.
+#[derive(Clone, Copy, Debug)]
+enum Neighbours {
+    /// They were not looked at.
+    Unknown,
+    /// There is none.
+    None,
+    /// The next glyph, and the one behind it, if it counts.
+    Some(Next, Option<Next>),
+}
+
+/// How far the glyphs were looked at for rules that were not tried.
+#[derive(Clone, Copy, Debug)]
+struct Beyond {
+    to: usize,
+}
+
+impl Beyond {
+    /// Before the first rule. HarfBuzz has seen the next glyph by then, where the rules have no context.
+    fn new(ahead: &Neighbours, is_chained: bool) -> Self {
+        match *ahead {
+            Neighbours::Some(next, _) if !is_chained => Beyond { to: next.end },
+            _ => Beyond { to: 0 },
+        }
+    }
+}
+
+/// The glyphs behind the cursor, where each of them counts.
+///
+/// # Requires
+///
+/// - `0 < length sides.now.input.now`
+fn next_two(sides: &Sides, is_chained: bool) -> Neighbours {
+    if is_chained && !(sides.context.ignores_zwnj && sides.walk.ignores_zwj) {
+        return Neighbours::Unknown;
+    }
+    let walk = sides.input_walk();
+    let Found::At(first) = walk.next(&Wanted::Any, sides.input, 0) else {
+        return Neighbours::None;
+    };
+    if walk.skip(&sides.input[first]) != Skip::No {
+        return Neighbours::Unknown;
+    }
+    let next = Next {
+        glyph: sides.input[first].glyph_id,
+        end: first + 1,
+    };
+    Neighbours::Some(next, next_kept(&walk, sides.input, first))
+}
+
+/// The next glyph behind a place, if it counts whatever is asked for.
+///
+/// # Requires
+///
+/// - `place < length glyphs.now`
+pub(crate) fn next_kept(walk: &Walk, glyphs: &[hb_glyph_info_t], place: usize) -> Option<Next> {
+    debug_assert!(place < glyphs.len());
+    let Found::At(next) = walk.next(&Wanted::Any, glyphs, place) else {
+        return None;
+    };
+    if walk.skip(&glyphs[next]) != Skip::No {
+        return None;
+    }
+    Some(Next {
+        glyph: glyphs[next].glyph_id,
+        end: next + 1,
+    })
+}
+
+/// Whether a rule may fit, by the next two glyphs.
+fn may_fit(rule: &Rule, ahead: &Neighbours, beyond: &mut Beyond) -> bool {
+    match *ahead {
+        Neighbours::Unknown => true,
+        Neighbours::None => rule.input.count == 0 && rule.ahead.count == 0,
+        Neighbours::Some(first, second) => {
+            if !fits_at(rule, 0, first.glyph) {
+                if beyond.to == 0 {
+                    beyond.to = first.end;
+                }
+                return false;
+            }
+            let Some(second) = second else {
+                return true;
+            };
+            if fits_at(rule, 1, second.glyph) {
+                return true;
+            }
+            beyond.to = second.end;
+            false
+        }
+    }
+}
+
+/// Whether a glyph is what a rule asks for at this number behind the cursor, if it asks for anything
+/// there.
+fn fits_at(rule: &Rule, number: u16, glyph: u32) -> bool {
+    if number < rule.input.count {
+        return asks_for(&rule.input, number, glyph);
+    }
+    let number = number - rule.input.count;
+    number >= rule.ahead.count || asks_for(&rule.ahead, number, glyph)
+}
+
+/// Whether a glyph is what a part asks for.
+fn asks_for(part: &Part, number: u16, glyph: u32) -> bool {
+    match part.wanted(number) {
+        Some(wanted) => wanted.fits(glyph),
+        None => false,
+    }
+}

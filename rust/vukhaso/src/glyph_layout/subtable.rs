@@ -1,0 +1,117 @@
+// Written by tools/plain_rust from crates/glyph_layout. Do not edit.
+
+//! The subtables of lookups, with what several kinds have in common parsed once.
+
+use crate::font_tables::bytes::{table_at_16, u16_at};
+use crate::font_tables::class_definition::ClassDefinition;
+use crate::font_tables::coverage::Coverage;
+
+/// A subtable of a lookup.
+#[derive(Clone, Copy, Debug)]
+pub struct Subtable<'a> {
+    /// Its kind, that of an extension being the one behind it.
+    pub kind: u16,
+    /// Its format.
+    pub format: u16,
+    /// The bytes of the subtable, and what stands behind it.
+    pub table: &'a [u8],
+    /// The glyphs that it is for: those at the cursor.
+    pub coverage: Coverage<'a>,
+    /// The bases, ligatures or marks that marks are attached to (kinds 4, 5 and 6 of `GPOS`).
+    pub bases: Coverage<'a>,
+    /// The classes of glyphs, those of the input in a chained context, and of the first glyph in a pair.
+    pub classes: ClassDefinition<'a>,
+    /// The classes of the glyphs before the input in a chained context.
+    pub classes_behind: ClassDefinition<'a>,
+    /// The classes of the glyphs behind the input in a chained context, and of the second glyph in a pair.
+    pub classes_ahead: ClassDefinition<'a>,
+    /// Where the coverages of a context of format 3 begin, or those around a reverse substitution, in
+    /// `LookupList::coverages`.
+    pub first_coverage: usize,
+}
+
+/// What the tables of a subtable are called in its layout.
+#[derive(Clone, Copy, PartialEq, Eq, Debug)]
+pub enum Form {
+    /// A coverage at the byte 2, and nothing else that is parsed.
+    Plain,
+    /// A context by glyphs: a coverage at the byte 2.
+    Glyphs,
+    /// A context by classes: a coverage at the byte 2, and classes behind it.
+    Classes,
+    /// A chained context by classes: a coverage at the byte 2, and three tables of classes behind it.
+    ChainedClasses,
+    /// A context by coverages.
+    Coverages,
+    /// A chained context by coverages.
+    ChainedCoverages,
+    /// A reverse substitution: a coverage at the byte 2, and then coverages before and behind the glyph.
+    Reverse,
+    /// Pairs by classes: a coverage at the byte 2, and two tables of classes from the byte 8 on.
+    PairClasses,
+    /// Marks and what they are attached to: coverages at the bytes 2 and 4.
+    Marks,
+}
+
+/// The form of a subtable of `GSUB`.
+///
+/// # Proved
+///
+/// That it returns.
+#[inline]
+pub fn substitution_form(kind: u16, format: u16) -> Form {
+    match kind {
+        5 => context_form(format, false),
+        6 => context_form(format, true),
+        8 => Form::Reverse,
+        _ => Form::Plain,
+    }
+}
+
+/// The form of a subtable of `GPOS`.
+///
+/// # Proved
+///
+/// That it returns.
+#[inline]
+pub fn positioning_form(kind: u16, format: u16) -> Form {
+    match kind {
+        2 if format == 2 => Form::PairClasses,
+        4 | 5 | 6 => Form::Marks,
+        7 => context_form(format, false),
+        8 => context_form(format, true),
+        _ => Form::Plain,
+    }
+}
+
+/// The form of a context.
+fn context_form(format: u16, is_chained: bool) -> Form {
+    match format {
+        2 if is_chained => Form::ChainedClasses,
+        2 => Form::Classes,
+        3 if is_chained => Form::ChainedCoverages,
+        3 => Form::Coverages,
+        _ => Form::Glyphs,
+    }
+}
+
+/// Where the list of offsets of coverages at a place ends, the number of them standing there.
+///
+/// # Proved
+///
+/// That it returns.
+#[inline]
+pub fn behind_list(table: &[u8], at: usize) -> usize {
+    let count = usize::from(u16_at(table, at).unwrap_or(0));
+    at.saturating_add(2 + 2 * count)
+}
+
+/// The table that the offset at a place leads to, or an empty one.
+///
+/// # Proved
+///
+/// That it returns.
+#[inline]
+pub fn table_or_empty(table: &[u8], at: usize) -> &[u8] {
+    table_at_16(table, at).unwrap_or(&[])
+}

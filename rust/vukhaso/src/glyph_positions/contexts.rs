@@ -1,0 +1,37 @@
+// Written by tools/plain_rust from crates/glyph_positions. Do not edit.
+
+//! Contexts: which rule fits at a glyph (HarfBuzz, `ContextPos`, `ChainContextPos`).
+
+use crate::glyph::hb_glyph_info_t;
+use crate::glyph_layout::context::{Fit, fitting_rule};
+use crate::glyph_layout::search::{Reach, Search, Sides};
+use crate::glyph_layout::walk::Walk;
+use crate::glyph_positions::turn::{Setting, Turn};
+
+/// The kind of chained contexts.
+pub(crate) const CHAINED_CONTEXT: u16 = 8;
+
+/// The rule that fits at the glyph; how far rules that do not fit have looked stands in the search. The
+/// places of the rule's glyphs are counted from the glyph.
+pub(crate) fn fit_at<'a>(
+    glyphs: &[hb_glyph_info_t],
+    setting: &Setting<'a>,
+    turn: &Turn<'a>,
+    context: &Walk<'a>,
+    search: &mut Search,
+) -> Option<Fit<'a>> {
+    search.reach = Reach::none(turn.place);
+    if turn.place >= glyphs.len() {
+        return None;
+    }
+    let sides = Sides {
+        out: &glyphs[..turn.place],
+        input: &glyphs[turn.place..],
+        walk: turn.walk,
+        context: *context,
+        syllable: 0,
+        is_level: true,
+    };
+    let is_chained = turn.subtable.kind == CHAINED_CONTEXT;
+    fitting_rule(setting.list, &turn.subtable, is_chained, &sides, search)
+}

@@ -1,0 +1,204 @@
+// Written by tools/plain_rust from crates/glyph_positions. Do not edit.
+
+//! Single glyphs and pairs that are moved (HarfBuzz, `SinglePos`, `PairPos`).
+
+use crate::buffer::hb_buffer_t;
+use crate::font_tables::scale::Scale;
+use crate::glyph::{GlyphPosition, hb_glyph_info_t};
+use crate::glyph_layout::walk::Found;
+use crate::glyph_layout::wanted::{Wanted, class_of};
+use crate::glyph_positions::flags::{mark_break, mark_concat};
+use crate::glyph_positions::turn::Turn;
+use crate::position_tables::pairs::{
+    PairValues, classed_pair, listed_pair, pair_formats, pair_set, single_values,
+};
+use crate::position_tables::values::ValueRecord;
+
+/// What a subtable finds at a glyph.
+#[derive(Clone, Copy, Debug)]
+enum PairFound<'a> {
+    /// It is not for the glyph.
+    Nothing,
+    /// It has no pair with what comes up to this place.
+    NoPair(usize),
+    /// A pair.
+    Pair(Pair<'a>),
+}
+
+/// A pair of glyphs.
+#[derive(Clone, Copy, Debug)]
+struct Pair<'a> {
+    /// The place of the first.
+    first: usize,
+    /// The place of the second.
+    second: usize,
+    /// By how much they are moved.
+    values: PairValues,
+    /// From where the offsets of device tables are counted.
+    base: &'a [u8],
+    /// Whether there are values for the second.
+    uses_second: bool,
+    /// Whether a pair that is not moved is unsafe to concatenate.
+    is_classed: bool,
+}
+
+/// Moves the glyph, and says where the walk goes on; `None` where the subtable is not for it.
+///
+/// # Requires
+///
+/// - `closed: buffer.old.have_output ≡ false`
+/// - `placed: IsSome buffer.old.positions`
+pub(crate) fn place_single(buffer: &mut hb_buffer_t, turn: &Turn) -> Option<usize> {
+    debug_assert!(!buffer.have_output());
+    debug_assert!(buffer.have_positions());
+    let values = single_values(turn.subtable.table, turn.index)?;
+    let is_horizontal = buffer.direction.is_horizontal();
+    let table = turn.subtable.table;
+    move_at(
+        buffer.pos_mut(),
+        turn.place,
+        &values,
+        table,
+        &turn.scale,
+        is_horizontal,
+    );
+    Some(turn.place.saturating_add(1))
+}
+
+/// Moves the glyph at a place.
+fn move_at(
+    positions: &mut [GlyphPosition],
+    place: usize,
+    values: &ValueRecord,
+    base: &[u8],
+    scale: &Scale,
+    is_horizontal: bool,
+) {
+    if place < positions.len() {
+        values.move_glyph(base, scale, is_horizontal, &mut positions[place]);
+    }
+}
+
+/// Moves the glyph and the next one, and says where the walk goes on; `None` where the subtable has no
+/// such pair.
+///
+/// # Requires
+///
+/// - `closed: buffer.old.have_output ≡ false`
+/// - `placed: IsSome buffer.old.positions`
+pub(crate) fn place_pair(buffer: &mut hb_buffer_t, turn: &Turn) -> Option<usize> {
+    debug_assert!(!buffer.have_output());
+    debug_assert!(buffer.have_positions());
+    match pair_of(buffer.info(), turn) {
+        PairFound::Nothing => None,
+        PairFound::NoPair(end) => {
+            mark_concat(buffer, turn.place, end);
+            None
+        }
+        PairFound::Pair(pair) => {
+            move_pair(buffer, &pair, &turn.scale);
+            Some(if pair.uses_second {
+                pair.second.saturating_add(1)
+            } else {
+                pair.second
+            })
+        }
+    }
+}
+
+/// The pair of the glyph and the next one that is not passed over.
+fn pair_of<'a>(glyphs: &[hb_glyph_info_t], turn: &Turn<'a>) -> PairFound<'a> {
+    let Some(first) = glyphs.get(turn.place) else {
+        return PairFound::Nothing;
+    };
+    match turn.walk.next(&Wanted::Shown, glyphs, turn.place) {
+        Found::At(place) => match glyphs.get(place) {
+            Some(second) => pair_with(turn, (first.glyph_id, second.glyph_id), place),
+            None => PairFound::Nothing,
+        },
+        Found::Other(place) => PairFound::NoPair(place.saturating_add(1)),
+        Found::End => PairFound::NoPair(glyphs.len()),
+    }
+}
+
+/// The pair of these glyphs, of which the second stands at a place.
+fn pair_with<'a>(turn: &Turn<'a>, glyphs: (u32, u32), second: usize) -> PairFound<'a> {
+    let table = turn.subtable.table;
+    let is_classed = turn.subtable.format == 2;
+    let base = if is_classed {
+        table
+    } else {
+        pair_set(table, turn.index).unwrap_or(&[])
+    };
+    match values_of(turn, base, glyphs) {
+        Some(values) => PairFound::Pair(Pair {
+            first: turn.place,
+            second,
+            values,
+            base,
+            uses_second: pair_formats(table).1 != 0,
+            is_classed,
+        }),
+        None => PairFound::NoPair(second.saturating_add(1)),
+    }
+}
+
+/// The records of a pair.
+fn values_of(turn: &Turn, base: &[u8], glyphs: (u32, u32)) -> Option<PairValues> {
+    let (first, second) = glyphs;
+    match turn.subtable.format {
+        1 => {
+            let second = u16::try_from(second).ok()?;
+            listed_pair(base, pair_formats(turn.subtable.table), second)
+        }
+        2 => {
+            let first = class_of(&turn.subtable.classes, first);
+            classed_pair(base, first, class_of(&turn.subtable.classes_ahead, second))
+        }
+        _ => None,
+    }
+}
+
+/// Moves the glyphs of a pair, and marks what may not be parted any more.
+///
+/// # Requires
+///
+/// - `closed: buffer.old.have_output ≡ false`
+/// - `placed: IsSome buffer.old.positions`
+fn move_pair(buffer: &mut hb_buffer_t, pair: &Pair, scale: &Scale) {
+    debug_assert!(!buffer.have_output());
+    debug_assert!(buffer.have_positions());
+    let is_horizontal = buffer.direction.is_horizontal();
+    move_both(buffer.pos_mut(), pair, scale, is_horizontal);
+    let end = pair.second.saturating_add(1);
+    if pair.values.first.has_effect(scale, is_horizontal)
+        || pair.values.second.has_effect(scale, is_horizontal)
+    {
+        mark_break(buffer, pair.first, end);
+    } else if pair.is_classed {
+        mark_concat(buffer, pair.first, end);
+    }
+    if pair.uses_second {
+        mark_break(buffer, pair.first, end.saturating_add(1));
+    }
+}
+
+/// Moves the glyphs of a pair.
+fn move_both(positions: &mut [GlyphPosition], pair: &Pair, scale: &Scale, is_horizontal: bool) {
+    move_at(
+        positions,
+        pair.first,
+        &pair.values.first,
+        pair.base,
+        scale,
+        is_horizontal,
+    );
+    move_at(
+        positions,
+        pair.second,
+        &pair.values.second,
+        pair.base,
+        scale,
+        is_horizontal,
+    );
+}

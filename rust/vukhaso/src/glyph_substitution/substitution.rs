@@ -1,0 +1,162 @@
+// Written by tools/plain_rust from crates/glyph_substitution. Do not edit.
+
+//! One lookup, applied to all glyphs of a buffer.
+
+use crate::buffer::hb_buffer_t;
+use crate::font_tables::gdef::Gdef;
+use crate::glyph_layout::{Budget, Lookup, LookupList, LookupOptions, Search};
+use crate::glyph_substitution::nested::{MAX_NESTING_LEVEL, Step, apply_at};
+use crate::glyph_substitution::reverse::substitute_reverse;
+use crate::glyph_substitution::writing::fail;
+use crate::memory::AllocError;
+
+/// The kind of reverse substitutions.
+const REVERSE: u16 = 8;
+
+/// The lookups, and how one of them is applied.
+#[derive(Clone, Copy, Debug)]
+pub struct Substitutions<'a> {
+    /// The lookups of `GSUB`.
+    pub list: &'a LookupList<'a>,
+    /// The classes of the font's glyphs.
+    pub gdef: &'a Gdef<'a>,
+    /// How the lookup is applied.
+    pub options: LookupOptions,
+}
+
+/// What is carried from lookup to lookup while a text is shaped.
+#[derive(Debug)]
+pub struct Progress {
+    /// What the lookups may still cost, and what the last search found.
+    pub search: Search,
+    /// The state of the random numbers, which choose alternates.
+    pub random_state: u32,
+}
+
+impl Progress {
+    /// The progress of a text of which nothing is substituted yet.
+    ///
+    /// # Proved
+    ///
+    /// ```text
+    /// ensures { result.search.budget ≡ budget }
+    /// ```
+    #[inline]
+    pub fn new(budget: Budget) -> Self {
+        Progress {
+            search: Search::new(budget),
+            random_state: 1,
+        }
+    }
+}
+
+/// Applies the lookup of this index at each glyph, in one walk. Where the budget is spent, the rest of
+/// the text stays as it is, and `buffer.shaping_failed` says so.
+///
+/// # Requires
+///
+/// - `buffer.old.have_output ≡ false`
+///
+/// # Errors
+///
+/// `Ok(false)` where the buffer refused a call for length: the output is then still open.
+/// `Err(AllocError)` where memory ran out.
+///
+/// # Proved
+///
+/// ```text
+/// ensures left { IsLeftClosed result buffer.new }
+/// ensures spent { IsNotMore progress.old.search.budget progress.new.search.budget }
+/// ensures keeps { KeepsClusters buffer.old buffer.new }
+/// ```
+#[inline]
+pub fn substitute(
+    buffer: &mut hb_buffer_t,
+    substitutions: &Substitutions,
+    index: u16,
+    progress: &mut Progress,
+) -> Result<bool, AllocError> {
+    debug_assert!(!buffer.have_output());
+    let Some(lookup) = substitutions.list.lookup(index) else {
+        return Ok(true);
+    };
+    if substitutions.options.mask == 0 || buffer.is_empty() {
+        return Ok(true);
+    }
+    if is_reverse(substitutions.list, lookup) {
+        substitute_reverse(buffer, substitutions, lookup, progress);
+        return Ok(true);
+    }
+    substitute_forward(buffer, substitutions, lookup, progress)
+}
+
+/// Whether a lookup is applied from the end.
+fn is_reverse(list: &LookupList, lookup: &Lookup) -> bool {
+    match list.subtables_of(lookup).first() {
+        Some(subtable) => subtable.kind == REVERSE,
+        None => false,
+    }
+}
+
+/// Applies a lookup from the first glyph on.
+///
+/// # Requires
+///
+/// - `buffer.old.have_output ≡ false`
+fn substitute_forward(
+    buffer: &mut hb_buffer_t,
+    substitutions: &Substitutions,
+    lookup: &Lookup,
+    progress: &mut Progress,
+) -> Result<bool, AllocError> {
+    debug_assert!(!buffer.have_output());
+    buffer.clear_output();
+    for _turn in 0..buffer.len() {
+        if buffer.lookahead_len() > 0 && !substitute_next(buffer, substitutions, lookup, progress)?
+        {
+            return Ok(false);
+        }
+    }
+    if progress.search.budget.is_spent() {
+        fail(buffer);
+    }
+    buffer.sync()
+}
+
+/// Applies a lookup at the cursor, or puts the current glyph out.
+///
+/// # Requires
+///
+/// - `opened: buffer.old.have_output ≡ true`
+/// - `glyph: 0 < length buffer.old.input`
+fn substitute_next(
+    buffer: &mut hb_buffer_t,
+    substitutions: &Substitutions,
+    lookup: &Lookup,
+    progress: &mut Progress,
+) -> Result<bool, AllocError> {
+    debug_assert!(buffer.have_output());
+    debug_assert!(!buffer.info().is_empty());
+    let glyph = buffer.cur(0);
+    if glyph.mask & substitutions.options.mask == 0 || lookup.filter.passes_over(glyph) {
+        return buffer.next_glyph();
+    }
+    match apply_at(buffer, substitutions, lookup, progress, MAX_NESTING_LEVEL)? {
+        Step::Applied => Ok(true),
+        Step::Refused => Ok(false),
+        Step::Passed => go_on(buffer),
+    }
+}
+
+/// Puts the current glyph out, if there is one.
+///
+/// # Requires
+///
+/// - `buffer.old.have_output ≡ true`
+fn go_on(buffer: &mut hb_buffer_t) -> Result<bool, AllocError> {
+    debug_assert!(buffer.have_output());
+    if buffer.lookahead_len() == 0 {
+        return Ok(true);
+    }
+    buffer.next_glyph()
+}

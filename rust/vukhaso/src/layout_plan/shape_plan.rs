@@ -1,0 +1,148 @@
+// Written by tools/plain_rust from crates/layout_plan. Do not edit.
+
+//! How a text is shaped by a font: HarfBuzz's `hb_ot_shape_plan_t`, for the default shaper.
+
+use crate::common::{Direction, Tag};
+use crate::layout_plan::builder::{ChosenTable, PlanBuilder};
+use crate::layout_plan::default_features::{
+    add_first_features, add_last_features, add_user_features,
+};
+use crate::layout_plan::plan::LayoutPlan;
+use crate::memory::AllocError;
+use crate::text::Feature;
+
+/// What a plan asks of a font's table `kern`.
+#[derive(Clone, Copy, PartialEq, Eq, Debug)]
+pub struct KernLayout {
+    /// Whether the font has the table.
+    pub is_there: bool,
+    /// Whether a subtable moves glyphs across the line.
+    pub is_cross_stream: bool,
+    /// Whether a subtable is a state machine.
+    pub has_machine: bool,
+}
+
+/// What a plan asks of a font.
+#[derive(Clone, Copy, Debug)]
+pub struct FontLayout<'a> {
+    /// The table `GSUB`; empty where the font has none.
+    pub gsub: &'a [u8],
+    /// The table `GPOS`; empty where the font has none.
+    pub gpos: &'a [u8],
+    /// Its table `kern`.
+    pub kern: KernLayout,
+}
+
+/// What a plan asks of a text.
+#[derive(Clone, Copy, Debug)]
+pub struct TextProperties<'a> {
+    /// The direction.
+    pub direction: Direction,
+    /// The OpenType tags of the script, the best first.
+    pub scripts: &'a [Tag],
+    /// The OpenType tags of the language, the best first.
+    pub languages: &'a [Tag],
+}
+
+/// How a text is shaped by a font.
+#[derive(Debug)]
+pub struct ShapePlan {
+    /// The lookups and the features.
+    pub layout: LayoutPlan,
+    /// The bit of fractions.
+    pub frac_mask: u32,
+    /// The bit of numerators.
+    pub numr_mask: u32,
+    /// The bit of denominators.
+    pub dnom_mask: u32,
+    /// Whether the font makes fractions.
+    pub has_frac: bool,
+    /// The bit of mirrored forms in lines from right to left.
+    pub rtlm_mask: u32,
+    /// Whether the font has glyphs for vertical lines.
+    pub has_vert: bool,
+    /// The bits of kerning.
+    pub kern_mask: u32,
+    /// Whether kerning was not turned off.
+    pub requested_kerning: bool,
+    /// Whether the lookups of `GPOS` position the glyphs.
+    pub apply_gpos: bool,
+    /// Whether the table `kern` does.
+    pub apply_kern: bool,
+    /// Whether neither does.
+    pub apply_fallback_kern: bool,
+    /// Whether marks have no width.
+    pub zero_marks: bool,
+    /// Whether `GPOS` has a feature that attaches marks.
+    pub has_gpos_mark: bool,
+    /// Whether a mark that loses its width is moved back by it.
+    pub adjust_mark_positioning_when_zeroing: bool,
+    /// Whether marks are placed by the bounds of glyphs.
+    pub fallback_mark_positioning: bool,
+}
+
+impl ShapePlan {
+    /// The plan for a text and a user's features.
+    ///
+    /// # Errors
+    ///
+    /// `Err(AllocError)` where memory ran out.
+    ///
+    /// # Proved
+    ///
+    /// ```text
+    /// ensures { IfOk result (λ plan. IsPlan plan.layout) }
+    /// ```
+    #[inline]
+    pub fn new(
+        font: &FontLayout,
+        text: &TextProperties,
+        features: &[Feature],
+    ) -> Result<ShapePlan, AllocError> {
+        let gsub = ChosenTable::new(font.gsub, text.scripts, text.languages);
+        let gpos = ChosenTable::new(font.gpos, text.scripts, text.languages);
+        let mut builder = PlanBuilder::new(gsub, gpos);
+        add_first_features(&mut builder, text.direction)?;
+        add_last_features(&mut builder, text.direction)?;
+        add_user_features(&mut builder, features)?;
+        let layout = builder.compile()?;
+        Ok(decided(layout, font, text.direction))
+    }
+}
+
+/// What follows from the features of a plan and the tables of a font.
+fn decided(layout: LayoutPlan, font: &FontLayout, direction: Direction) -> ShapePlan {
+    let kern_tag = if direction.is_horizontal() {
+        Tag::from_bytes(b"kern")
+    } else {
+        Tag::from_bytes(b"vkrn")
+    };
+    let frac_mask = layout.one_mask(Tag::from_bytes(b"frac"));
+    let numr_mask = layout.one_mask(Tag::from_bytes(b"numr"));
+    let dnom_mask = layout.one_mask(Tag::from_bytes(b"dnom"));
+    let kern_mask = layout.mask(kern_tag);
+    let has_gpos_kern = layout
+        .feature(kern_tag)
+        .is_some_and(|feature| feature.gpos.is_some());
+    let apply_gpos = !font.gpos.is_empty();
+    let apply_kern = font.kern.is_there && !(has_gpos_kern && apply_gpos);
+    let adjusts = !apply_gpos && !(apply_kern && font.kern.is_cross_stream);
+    ShapePlan {
+        frac_mask,
+        numr_mask,
+        dnom_mask,
+        has_frac: frac_mask != 0 || numr_mask != 0 && dnom_mask != 0,
+        rtlm_mask: layout.one_mask(Tag::from_bytes(b"rtlm")),
+        has_vert: layout.one_mask(Tag::from_bytes(b"vert")) != 0,
+        kern_mask,
+        requested_kerning: kern_mask != 0,
+        apply_gpos,
+        apply_kern,
+        apply_fallback_kern: !apply_gpos && !apply_kern,
+        zero_marks: !(apply_kern && font.kern.has_machine),
+        has_gpos_mark: layout.one_mask(Tag::from_bytes(b"mark")) != 0,
+        adjust_mark_positioning_when_zeroing: adjusts,
+        fallback_mark_positioning: adjusts,
+        layout,
+    }
+}

@@ -1,0 +1,211 @@
+// Written by tools/plain_rust from crates/position_tests. Do not edit.
+
+//! Lookups of `GPOS` and the table `kern` over small tables. What is expected follows from the OpenType specification, and is what
+//! HarfBuzz makes of the same tables.
+
+use vukhaso::buffer::{UnicodeBuffer, hb_buffer_t, hb_glyph_info_t};
+use vukhaso::common::Direction;
+use vukhaso::font_tables::bytes::tail;
+use vukhaso::font_tables::gdef::Gdef;
+use vukhaso::font_tables::scale::Scale;
+use vukhaso::glyph::GlyphPosition;
+use vukhaso::glyph_layout::budget::Budget;
+use vukhaso::glyph_layout::lookup_list::LookupList;
+use vukhaso::glyph_layout::search::Search;
+use vukhaso::glyph_layout::walk::LookupOptions;
+use vukhaso::glyph_positions::{Setting, kern, position, position_finish_offsets, position_start};
+use vukhaso::memory::{AllocError, Vec};
+use vukhaso::position_tables::kern_table::KernTable;
+
+/// The bits of the only feature.
+const OPTIONS: LookupOptions = LookupOptions {
+    mask: 8,
+    auto_zwnj: true,
+    auto_zwj: true,
+    per_syllable: false,
+    random: false,
+};
+
+/// A table in numbers of 16 bits.
+fn bytes_of(words: &[u16]) -> Result<Vec<u8>, AllocError> {
+    let mut bytes = Vec::new();
+    for word in words {
+        bytes.push((*word / 256) as u8)?;
+        bytes.push((*word % 256) as u8)?;
+    }
+    Ok(bytes)
+}
+
+/// A table `GPOS` with one lookup of this kind and flag, which has one subtable.
+fn gpos_of(kind: u16, flag: u16, subtable: &[u16]) -> Result<Vec<u8>, AllocError> {
+    let mut gpos = bytes_of(&[1, 0, 0, 0, 10, 1, 4, kind, flag, 1, 8])?;
+    for byte in bytes_of(subtable)?.iter() {
+        gpos.push(*byte)?;
+    }
+    Ok(gpos)
+}
+
+/// The glyphs of a line; those from 20 on are marks.
+fn fill(infos: &mut [hb_glyph_info_t], glyphs: &[u32]) {
+    for (place, info) in infos.iter_mut().enumerate() {
+        let glyph = glyphs.get(place).copied().unwrap_or(0);
+        *info = hb_glyph_info_t {
+            glyph_id: glyph,
+            mask: 8,
+            cluster: (place % 1000) as u32,
+            var1: if glyph < 20 { 2 } else { 8 },
+            var2: 0,
+        };
+    }
+}
+
+/// Each glyph is 600 units wide, and marks have no width.
+fn widen(positions: &mut [GlyphPosition], glyphs: &[u32]) {
+    for (place, position) in positions.iter_mut().enumerate() {
+        let glyph = glyphs.get(place).copied().unwrap_or(0);
+        position.x_advance = if glyph < 20 { 600 } else { 0 };
+    }
+}
+
+/// A line of these glyphs.
+fn line_of(direction: Direction, glyphs: &[u32]) -> Result<hb_buffer_t, AllocError> {
+    let mut text = UnicodeBuffer::new();
+    for _glyph in glyphs {
+        let _ = text.push_str("a")?;
+    }
+    let mut buffer = text.into_buffer();
+    fill(buffer.info_slice_mut(), glyphs);
+    buffer.clear_positions();
+    widen(buffer.pos_mut(), glyphs);
+    buffer.direction = direction;
+    Ok(buffer)
+}
+
+/// No classes of glyphs: a table `GDEF` with no bytes of another table.
+fn no_definitions<'a>(table: &'a [u8]) -> Gdef<'a> {
+    Gdef::new(tail(table, table.len()))
+}
+
+/// Positions a line by the only lookup of a table.
+fn positioned(
+    gpos: &[u8],
+    direction: Direction,
+    glyphs: &[u32],
+) -> Result<hb_buffer_t, AllocError> {
+    let gdef = no_definitions(gpos);
+    let list = LookupList::new(gpos, 9, &gdef)?;
+    let mut buffer = line_of(direction, glyphs)?;
+    position_all(&mut buffer, &list, glyphs.len());
+    Ok(buffer)
+}
+
+/// Positions a line by the first lookup.
+///
+/// # Requires
+///
+/// - `closed: buffer.old.have_output ≡ false`
+/// - `placed: IsSome buffer.old.positions`
+fn position_all(buffer: &mut hb_buffer_t, list: &LookupList, count: usize) {
+    debug_assert!(!buffer.have_output());
+    debug_assert!(buffer.have_positions());
+    let setting = Setting {
+        list: &*list,
+        scale: Scale::of_em(1000),
+    };
+    let mut search = Search::new(Budget::new(1000, count));
+    position_start(buffer);
+    position(buffer, &setting, 0, &OPTIONS, &mut search);
+    position_finish_offsets(buffer);
+}
+
+/// Kerns a line.
+fn kerned(
+    table: &KernTable,
+    direction: Direction,
+    glyphs: &[u32],
+) -> Result<hb_buffer_t, AllocError> {
+    let mut buffer = line_of(direction, glyphs)?;
+    kern(&mut buffer, table, &Scale::of_em(1000), &OPTIONS);
+    Ok(buffer)
+}
+
+/// The advance and the offsets at a place.
+///
+/// # Requires
+///
+/// - `IsSome buffer.now.positions`
+fn at(buffer: &hb_buffer_t, place: usize) -> (i32, i32, i32) {
+    debug_assert!(buffer.have_positions());
+    match buffer.pos().get(place) {
+        Some(position) => (position.x_advance, position.x_offset, position.y_offset),
+        None => (0, 0, 0),
+    }
+}
+
+/// Whether a line may not be broken before the glyph at a place.
+fn is_unsafe(buffer: &hb_buffer_t, place: usize) -> bool {
+    match buffer.info().get(place) {
+        Some(glyph) => glyph.unsafe_to_break(),
+        None => false,
+    }
+}
+
+#[test]
+fn the_second_glyph_of_a_pair() -> Result<(), AllocError> {
+    let pairs = [
+        1, 12, 4, 1, 1, 18, 1, 1, 10, 2, 11, 0xFFCE, 7, 12, 0xFFC4, 8,
+    ];
+    let gpos = gpos_of(2, 0, &pairs)?;
+    let buffer = positioned(&gpos, Direction::LeftToRight, &[10, 12, 10, 11])?;
+    assert_eq!(at(&buffer, 0), (540, 0, 0));
+    assert_eq!(at(&buffer, 1), (600, 8, 0));
+    assert_eq!(at(&buffer, 2), (550, 0, 0));
+    assert_eq!(at(&buffer, 3), (600, 7, 0));
+    assert!(!is_unsafe(&buffer, 0));
+    assert!(is_unsafe(&buffer, 1));
+    assert!(is_unsafe(&buffer, 3));
+    Ok(())
+}
+
+#[test]
+fn a_mark_on_its_base() -> Result<(), AllocError> {
+    let marks = [
+        1, 12, 18, 1, 24, 36, 1, 1, 20, 1, 1, 10, 1, 0, 6, 1, 100, 200, 1, 4, 1, 300, 500,
+    ];
+    let gpos = gpos_of(4, 0, &marks)?;
+    let forward = positioned(&gpos, Direction::LeftToRight, &[10, 20, 20])?;
+    assert_eq!(at(&forward, 1), (0, -400, 300));
+    assert_eq!(at(&forward, 2), (0, -400, 300));
+    let backward = positioned(&gpos, Direction::RightToLeft, &[10, 20])?;
+    assert_eq!(at(&backward, 1), (0, 200, 300));
+    Ok(())
+}
+
+#[test]
+fn an_exit_meets_an_entry() -> Result<(), AllocError> {
+    let anchors = [1, 14, 2, 0, 22, 28, 0, 1, 2, 10, 11, 1, 500, 100, 1, 50, 20];
+    let gpos = gpos_of(3, 0, &anchors)?;
+    let buffer = positioned(&gpos, Direction::LeftToRight, &[10, 11])?;
+    assert_eq!(at(&buffer, 0), (500, 0, 0));
+    assert_eq!(at(&buffer, 1), (550, -50, 80));
+    let hanging = gpos_of(3, 1, &anchors)?;
+    let buffer = positioned(&hanging, Direction::RightToLeft, &[10, 11])?;
+    assert_eq!(at(&buffer, 0), (100, -500, -80));
+    assert_eq!(at(&buffer, 1), (50, 0, 0));
+    Ok(())
+}
+
+#[test]
+fn half_of_a_kerning_value() -> Result<(), AllocError> {
+    let words = [0, 1, 0, 20, 1, 1, 0, 0, 0, 10, 11, 0xFFCD];
+    let bytes = bytes_of(&words)?;
+    let table = KernTable::new(&bytes);
+    assert!(table.has_kerning());
+    let forward = kerned(&table, Direction::LeftToRight, &[10, 20, 11])?;
+    assert_eq!(at(&forward, 0), (574, 0, 0));
+    assert_eq!(at(&forward, 2), (575, -25, 0));
+    let backward = kerned(&table, Direction::RightToLeft, &[11, 10])?;
+    assert_eq!(at(&backward, 0), (575, -25, 0));
+    assert_eq!(at(&backward, 1), (574, 0, 0));
+    Ok(())
+}
