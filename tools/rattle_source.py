@@ -418,6 +418,13 @@ class Reader:
         self.end_item(item, end)
 
 
+def every(items):
+    """These items and those in them."""
+    for item in items:
+        yield item
+        yield from every(item.items)
+
+
 def functions(items, owner=None, trait=None):
     """The functions among these items that have a body, each with its type and its trait."""
     for item in items:

@@ -20,6 +20,10 @@ PLANTS = (
     ("src/buffer/buffer/moving.rs", "left > self.max_len - count", "left > self.max_len", "a rewind grows past the limit"),
     ("src/glyph_text/serialize.rs", "if position.y_advance == 0 {", "if position.x_advance == 0 {", "vertical advances are lost"),
     ("src/text/tags.rs", "if tag != Tag::from_bytes(b\"mym2\") {", "if true {", "Myanmar gets a tag that there is not"),
+    ("src/script_features/features.rs", "builder.disable_feature(Tag::from_bytes(b\"calt\"))", "Ok(())",
+     "jamo have contextual alternates"),
+    ("src/script_features/arabic.rs", "if !builder.has_feature(", "if builder.has_feature(",
+     "ligatures of Arabic are made together with contextual alternates"),
     ("src/arrayvec.rs", "&self.items[..self.len]", "&self.items[..]", "elements are read that are not there"),
     ("src/ucd_normal.rs", "} else if last < code {", "} else if last <= code {", "marks lose their class"),
 )

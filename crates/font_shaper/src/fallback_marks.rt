@@ -2,8 +2,10 @@
 //! class of the mark (HarfBuzz's `_hb_ot_shape_fallback_mark_position`; Unicode Standard, "Combining Classes").
 
 ghost use Rattle.std.specs.Prelude.{◌≡◌, false, IsSome};
+ghost use Rattle.shaping_buffer.specs.Clusters.{clusters};
 ghost use Rattle.font_shaper.specs.FallbackMarks.{fallback_class, placed_by_character, class_of_character, is_thai_above, is_lao_above};
 ghost use Rattle.font_shaper.specs.FallbackMarks.{placed_by_class, placed_at_a_side, is_ordered_below, is_ordered_above, within};
+ghost use Rattle.shaping_buffer.specs.KeepsClusters.{KeepsClusters};
 
 use crate::face::Face;
 use crate::glyph_info::{
@@ -17,12 +19,31 @@ use shaping_buffer::{GlyphPosition, hb_buffer_t, hb_glyph_info_t};
 
 /// Says of each mark without width where it stands, by a class from 200 on, in place of the class that it is ordered by. The
 /// items are still characters.
-pub(crate) fn recategorize_marks(infos: &mut [hb_glyph_info_t]) {
-    for info in infos.iter_mut() {
-        if is_nonspacing_mark(info) {
-            let class = fallback_class(info.glyph_id, modified_combining_class(info));
-            set_modified_combining_class(info, class);
-        }
+pub(crate) fn recategorize_marks(buffer: &mut hb_buffer_t)
+    requires { buffer.old.have_output ≡ false }
+    ensures closed { buffer.new.have_output ≡ false }
+    ensures keeps { KeepsClusters buffer.old buffer.new }
+{
+    recategorize_all(buffer.info_slice_mut());
+}
+
+/// Says of each of the marks without width where it stands.
+#[tactic(auto, using(shaping_buffer::proofs::ClosedKeepsLemmas::clusters_written))]
+fn recategorize_all(infos: &mut [hb_glyph_info_t])
+    ensures { clusters infos.new ≡ clusters infos.old }
+{
+    for i in 0..infos.len() {
+        recategorize(&mut infos[i]);
+    }
+}
+
+/// Says of a mark without width where it stands.
+fn recategorize(info: &mut hb_glyph_info_t)
+    ensures { info.new.cluster ≡ info.old.cluster }
+{
+    if is_nonspacing_mark(info) {
+        let class = fallback_class(info.glyph_id, modified_combining_class(info));
+        set_modified_combining_class(info, class);
     }
 }
 
@@ -143,6 +164,7 @@ fn within(low: u32, high: u32, number: u32) -> bool
 
 /// Positions the marks behind each base. `direction` is the way in which the line was said to run. The advances of marks are
 /// taken; where the font has no bounds of a base, its marks are moved back by theirs if `adjusts` says so.
+#[tactic(auto, using(shaping_buffer::proofs::ClosedKeepsLemmas::kept))]
 pub(crate) fn position_marks(
     buffer: &mut hb_buffer_t,
     face: &Face,
@@ -153,6 +175,7 @@ pub(crate) fn position_marks(
     requires placed { IsSome buffer.old.positions }
     ensures closed { buffer.new.have_output ≡ false }
     ensures placed { IsSome buffer.new.positions }
+    ensures keeps { KeepsClusters buffer.old buffer.new }
 {
     let line = line_of(buffer, direction);
     let mut start = 0;
@@ -167,11 +190,13 @@ pub(crate) fn position_marks(
 }
 
 /// Says that the text is not to be broken between these places.
+#[tactic(auto, using(shaping_buffer::proofs::ClosedKeepsLemmas::kept))]
 fn keep_together(buffer: &mut hb_buffer_t, start: usize, end: usize)
     requires closed { buffer.old.have_output ≡ false }
     requires placed { IsSome buffer.old.positions }
     ensures closed { buffer.new.have_output ≡ false }
     ensures placed { IsSome buffer.new.positions }
+    ensures keeps { KeepsClusters buffer.old buffer.new }
 {
     if start <= end && end <= buffer.len() {
         buffer.unsafe_to_break(Some(start), Some(end));
@@ -209,6 +234,7 @@ fn next_marked(infos: &[hb_glyph_info_t], start: usize) -> Option<(usize, usize)
 }
 
 /// Positions the marks of a base, which stand behind it up to the end of `range`.
+#[tactic(auto, using(shaping_buffer::proofs::ClosedKeepsLemmas::kept))]
 fn position_around(
     buffer: &mut hb_buffer_t,
     face: &Face,
@@ -220,6 +246,7 @@ fn position_around(
     requires placed { IsSome buffer.old.positions }
     ensures closed { buffer.new.have_output ≡ false }
     ensures placed { IsSome buffer.new.positions }
+    ensures keeps { KeepsClusters buffer.old buffer.new }
 {
     let mut marks = marks_of(buffer, face, line, range.0);
     for place in range.0.saturating_add(1)..range.1 {

@@ -2,6 +2,7 @@
 //! `hb-ot-layout.hh` gives them.
 
 ghost use Rattle.std.specs.Prelude.{◌≡◌};
+ghost use Rattle.font_shaper.specs.Graphemes.{is_continuation, is_same_grapheme};
 
 use shaping_buffer::rb_glyph::hb_gc::{
     RB_UNICODE_GENERAL_CATEGORY_DECIMAL_NUMBER, RB_UNICODE_GENERAL_CATEGORY_ENCLOSING_MARK,
@@ -81,14 +82,18 @@ pub(crate) fn modified_combining_class(info: &hb_glyph_info_t) -> u16 {
 }
 
 /// Sets the class by which a mark is reordered, and later placed.
-pub(crate) fn set_modified_combining_class(info: &mut hb_glyph_info_t, class: u16) {
+pub(crate) fn set_modified_combining_class(info: &mut hb_glyph_info_t, class: u16)
+    ensures { info.new.cluster ≡ info.old.cluster }
+{
     if is_unicode_mark(info) {
         info.set_unicode_props(class.wrapping_mul(256) | info.unicode_props() & 0xFF);
     }
 }
 
 /// Whether the character goes on with the grapheme before it.
-pub(crate) fn is_continuation(info: &hb_glyph_info_t) -> bool {
+pub(crate) fn is_continuation(info: &hb_glyph_info_t) -> bool
+    ensures { result ≡ is_continuation info.now }
+{
     info.unicode_props() & UnicodeProps::CONTINUATION.bits() != 0
 }
 
@@ -100,7 +105,9 @@ pub(crate) fn set_continuation(info: &mut hb_glyph_info_t)
 }
 
 /// Whether the second item goes on with the grapheme of the first.
-pub(crate) fn is_same_grapheme(_first: &hb_glyph_info_t, second: &hb_glyph_info_t) -> bool {
+pub(crate) fn is_same_grapheme(_first: &hb_glyph_info_t, second: &hb_glyph_info_t) -> bool
+    ensures { result ≡ is_same_grapheme _first.now second.now }
+{
     is_continuation(second)
 }
 

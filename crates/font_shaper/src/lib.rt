@@ -1,12 +1,15 @@
 //! A font, and the shaping of texts by it.
 #![tactic(auto)]
 
+mod cluster_level;
 mod comparison;
 mod ending;
 mod face;
 mod fallback_marks;
 mod fallback_spaces;
 mod glyph_info;
+mod glyphs_of_font;
+mod kept_plan;
 mod layout;
 mod lookups;
 mod mark_placing;
@@ -19,12 +22,14 @@ mod planning;
 mod positions;
 mod rotation;
 mod shaping;
+mod substitution;
 mod text;
 mod verification;
 mod watch;
 
 pub use comparison::{Differences, compare};
 pub use face::{Face, Lookups};
+pub use kept_plan::{ShapePlan, shape_with_plan, shape_with_plan_watched};
 pub use layout::Layout;
 pub use names::FaceNames;
 pub use shaping::{ShapeError, shape, shape_watched};

@@ -1,19 +1,19 @@
-//! The lookups of a font, applied to a text in the order of its plan.
+//! The lookups that position glyphs, applied to a text in the order of its plan.
 
-ghost use Rattle.std.specs.Prelude.{◌≡◌, true, false, IfOk, IsSome};
+ghost use Rattle.std.specs.Prelude.{◌≡◌, false, IsSome};
+ghost use Rattle.shaping_buffer.specs.KeepsClusters.{KeepsClusters};
 
 use crate::face::Face;
 use crate::watch::{Step, Watch};
-use glyph_layout::{Budget, LookupOptions, Search};
+use glyph_layout::{Budget, Digest, LookupOptions, Search};
 use glyph_positions::{Setting, position_start};
-use glyph_substitution::{Progress, Substitutions};
 use layout_plan::{LayoutPlan, PlannedLookup, ShapePlan};
 use position_tables::kern_table::KernTable;
 use shaping_buffer::hb_buffer_t;
 use std::alloc::AllocError;
 
 /// How a lookup of the plan is applied.
-fn options_of(planned: &PlannedLookup) -> LookupOptions {
+pub(crate) fn options_of(planned: &PlannedLookup) -> LookupOptions {
     LookupOptions {
         mask: planned.mask,
         auto_zwnj: planned.auto_zwnj,
@@ -24,37 +24,13 @@ fn options_of(planned: &PlannedLookup) -> LookupOptions {
 }
 
 /// What the lookups of a text may cost.
-fn budget_of(buffer: &hb_buffer_t) -> Budget {
+pub(crate) fn budget_of(buffer: &hb_buffer_t) -> Budget {
     let most = u32::try_from(buffer.max_ops).unwrap_or(0);
     Budget::new(most, buffer.len())
 }
 
-/// Applies the lookups of `GSUB`, stage by stage. `Ok(false)` where a call was refused for length.
-pub(crate) fn substitute<W: Watch>(
-    buffer: &mut hb_buffer_t,
-    face: &Face,
-    layout: &LayoutPlan,
-    watch: &mut W,
-) -> Result<bool, AllocError>
-    requires { buffer.old.have_output ≡ false }
-    ensures { IfOk result (λ done. done ≡ true → buffer.new.have_output ≡ false) }
-{
-    let mut progress = Progress::new(budget_of(buffer));
-    for planned in &layout.gsub_lookups {
-        let substitutions = Substitutions {
-            list: &face.lookups.substitutions,
-            gdef: &face.definitions,
-            options: options_of(planned),
-        };
-        if !glyph_substitution::substitute(buffer, &substitutions, planned.index, &mut progress)? {
-            return Ok(false);
-        }
-        watch.step(Step::Substituted(planned.index), buffer)?;
-    }
-    Ok(true)
-}
-
 /// Positions the glyphs by the lookups of `GPOS`, and by the table `kern` where `GPOS` does not kern.
+#[tactic(auto, using(shaping_buffer::proofs::ClosedKeepsLemmas::kept))]
 pub(crate) fn position_by_lookups<W: Watch>(
     buffer: &mut hb_buffer_t,
     face: &Face,
@@ -65,11 +41,47 @@ pub(crate) fn position_by_lookups<W: Watch>(
     requires placed { IsSome buffer.old.positions }
     ensures closed { buffer.new.have_output ≡ false }
     ensures placed { IsSome buffer.new.positions }
+    ensures keeps { KeepsClusters buffer.old buffer.new }
 {
     position_start(buffer);
+    position_by_gpos(buffer, face, plan, watch)?;
+    kern_by_table(buffer, face, plan, watch)
+}
+
+/// Applies the lookups of `GPOS`, where the plan has them.
+#[tactic(auto, using(shaping_buffer::proofs::ClosedKeepsLemmas::kept))]
+fn position_by_gpos<W: Watch>(
+    buffer: &mut hb_buffer_t,
+    face: &Face,
+    plan: &ShapePlan,
+    watch: &mut W,
+) -> Result<(), AllocError>
+    requires closed { buffer.old.have_output ≡ false }
+    requires placed { IsSome buffer.old.positions }
+    ensures closed { buffer.new.have_output ≡ false }
+    ensures placed { IsSome buffer.new.positions }
+    ensures keeps { KeepsClusters buffer.old buffer.new }
+{
     if plan.apply_gpos {
         apply_positions(buffer, face, &plan.layout, watch)?;
     }
+    Ok(())
+}
+
+/// Kerns by the table `kern`, where the plan has it.
+#[tactic(auto, using(shaping_buffer::proofs::ClosedKeepsLemmas::kept))]
+fn kern_by_table<W: Watch>(
+    buffer: &mut hb_buffer_t,
+    face: &Face,
+    plan: &ShapePlan,
+    watch: &mut W,
+) -> Result<(), AllocError>
+    requires closed { buffer.old.have_output ≡ false }
+    requires placed { IsSome buffer.old.positions }
+    ensures closed { buffer.new.have_output ≡ false }
+    ensures placed { IsSome buffer.new.positions }
+    ensures keeps { KeepsClusters buffer.old buffer.new }
+{
     if plan.apply_kern {
         apply_kern(buffer, face, plan.kern_mask);
         watch.step(Step::Kerned, buffer)?;
@@ -78,6 +90,7 @@ pub(crate) fn position_by_lookups<W: Watch>(
 }
 
 /// Applies the lookups of `GPOS`.
+#[tactic(auto, using(shaping_buffer::proofs::ClosedKeepsLemmas::kept))]
 fn apply_positions<W: Watch>(
     buffer: &mut hb_buffer_t,
     face: &Face,
@@ -88,26 +101,32 @@ fn apply_positions<W: Watch>(
     requires placed { IsSome buffer.old.positions }
     ensures closed { buffer.new.have_output ≡ false }
     ensures placed { IsSome buffer.new.positions }
+    ensures keeps { KeepsClusters buffer.old buffer.new }
 {
     let setting = Setting {
         list: &face.lookups.positions,
         scale: face.scale,
     };
     let mut search = Search::new(budget_of(buffer));
+    let glyphs = Digest::of_glyphs(buffer.info());
     for planned in &layout.gpos_lookups {
-        let options = options_of(planned);
-        glyph_positions::position(buffer, &setting, planned.index, &options, &mut search);
-        watch.step(Step::Positioned(planned.index), buffer)?;
+        if setting.list.may_apply(planned.index, &glyphs) {
+            let options = options_of(planned);
+            glyph_positions::position(buffer, &setting, planned.index, &options, &mut search);
+            watch.step(Step::Positioned(planned.index), buffer)?;
+        }
     }
     Ok(())
 }
 
 /// Kerns by the table `kern`.
+#[tactic(auto, using(shaping_buffer::proofs::ClosedKeepsLemmas::kept))]
 fn apply_kern(buffer: &mut hb_buffer_t, face: &Face, mask: u32)
     requires closed { buffer.old.have_output ≡ false }
     requires placed { IsSome buffer.old.positions }
     ensures closed { buffer.new.have_output ≡ false }
     ensures placed { IsSome buffer.new.positions }
+    ensures keeps { KeepsClusters buffer.old buffer.new }
 {
     let options = LookupOptions {
         mask,

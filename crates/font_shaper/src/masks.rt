@@ -1,11 +1,15 @@
-//! Which glyphs have a feature: the masks of fractions, and of features that are asked for in a part of the text.
+//! Which glyphs have a feature: the masks of fractions, of the forms of letters, and of features that are asked for in a part of the text.
 
 ghost use Rattle.std.specs.Prelude.{◌≡◌, ◌<◌, ◌≤◌, false, length};
+ghost use Rattle.shaping_buffer.specs.Clusters.{clusters};
+ghost use Rattle.shaping_buffer.specs.KeepsClusters.{KeepsClusters};
 
 use crate::glyph_info::is_decimal_number;
+use crate::planning::TextPlan;
 use layout_plan::{LayoutPlan, ShapePlan};
 use rb_text::Feature;
 use shaping_buffer::{HB_BUFFER_SCRATCH_FLAG_HAS_NON_ASCII, hb_buffer_t, hb_glyph_info_t};
+use std::ops::Range;
 
 /// The slash of a fraction.
 const FRACTION_SLASH: u32 = 0x2044;
@@ -18,26 +22,44 @@ struct FractionMasks {
     behind: u32,
 }
 
+impl FractionMasks {
+    /// The mask of a place of the fraction.
+    fn at(&self, place: usize, slash: usize) -> u32 {
+        if place < slash {
+            self.before
+        } else if place == slash {
+            self.slash
+        } else {
+            self.behind
+        }
+    }
+}
+
 /// Sets the masks of a text that is mapped to glyphs, but has its characters yet.
-pub(crate) fn set_masks(buffer: &mut hb_buffer_t, plan: &ShapePlan, features: &[Feature])
+#[tactic(auto, using(shaping_buffer::proofs::ClosedKeepsLemmas::kept))]
+pub(crate) fn set_masks(buffer: &mut hb_buffer_t, plan: &TextPlan, features: &[Feature])
     requires { buffer.old.have_output ≡ false }
-    ensures { buffer.new.have_output ≡ false }
+    ensures closed { buffer.new.have_output ≡ false }
+    ensures keeps { KeepsClusters buffer.old buffer.new }
 {
-    if buffer.scratch_flags & HB_BUFFER_SCRATCH_FLAG_HAS_NON_ASCII != 0 && plan.has_frac {
-        let masks = fraction_masks(plan, buffer.direction.is_forward());
+    if buffer.scratch_flags & HB_BUFFER_SCRATCH_FLAG_HAS_NON_ASCII != 0 && plan.shape.has_frac {
+        let masks = fraction_masks(&plan.shape, buffer.direction.is_forward());
         set_fraction_masks(buffer, masks);
     }
+    plan.script.setup_masks(buffer);
     for feature in features {
         if !feature.is_global() {
-            set_feature_mask(buffer, &plan.layout, feature);
+            set_feature_mask(buffer, &plan.shape.layout, feature);
         }
     }
 }
 
 /// Gives the glyphs of a part of the text the value of a feature.
+#[tactic(auto, using(shaping_buffer::proofs::ClosedKeepsLemmas::kept))]
 fn set_feature_mask(buffer: &mut hb_buffer_t, layout: &LayoutPlan, feature: &Feature)
     requires { buffer.old.have_output ≡ false }
-    ensures { buffer.new.have_output ≡ false }
+    ensures closed { buffer.new.have_output ≡ false }
+    ensures keeps { KeepsClusters buffer.old buffer.new }
 {
     if let Some(planned) = layout.feature(feature.tag) {
         let bits = planned.bits;
@@ -63,9 +85,11 @@ fn fraction_masks(plan: &ShapePlan, is_forward: bool) -> FractionMasks {
 }
 
 /// Sets the masks of each fraction: digits, a slash, and digits.
+#[tactic(auto, using(shaping_buffer::proofs::ClosedKeepsLemmas::kept))]
 fn set_fraction_masks(buffer: &mut hb_buffer_t, masks: FractionMasks)
     requires { buffer.old.have_output ≡ false }
-    ensures { buffer.new.have_output ≡ false }
+    ensures closed { buffer.new.have_output ≡ false }
+    ensures keeps { KeepsClusters buffer.old buffer.new }
 {
     let mut place = 0;
     for _turn in 0..buffer.len() {
@@ -77,48 +101,54 @@ fn set_fraction_masks(buffer: &mut hb_buffer_t, masks: FractionMasks)
 }
 
 /// Sets the masks of a fraction, if its slash is at a place, and says where to go on.
+#[tactic(auto, using(shaping_buffer::proofs::ClosedKeepsLemmas::kept))]
 fn set_fraction_mask(buffer: &mut hb_buffer_t, place: usize, masks: FractionMasks) -> usize
     requires closed { buffer.old.have_output ≡ false }
     requires there { place < length buffer.old.input }
-    ensures { buffer.new.have_output ≡ false }
+    ensures closed { buffer.new.have_output ≡ false }
+    ensures keeps { KeepsClusters buffer.old buffer.new }
 {
     if buffer.info()[place].glyph_id != FRACTION_SLASH {
         return place + 1;
     }
     let start = digits_before(buffer.info(), place);
     let end = digits_behind(buffer.info(), place + 1);
-    if start == place {
-        buffer.unsafe_to_concat(Some(start), Some(start + 1));
-    }
-    if end == place + 1 {
-        buffer.unsafe_to_concat(Some(end - 1), Some(end));
-    }
     if start == place || end == place + 1 {
+        buffer.unsafe_to_concat(Some(place), Some(place + 1));
         return place + 1;
     }
     buffer.unsafe_to_break(Some(start), Some(end));
-    add_fraction_masks(buffer.info_slice_mut(), start, place, end, masks);
+    add_fraction_masks(buffer, start..end, place, masks);
     end
 }
 
 /// Adds the masks of a fraction to its glyphs.
 fn add_fraction_masks(
-    infos: &mut [hb_glyph_info_t],
-    start: usize,
+    buffer: &mut hb_buffer_t,
+    places: Range<usize>,
     slash: usize,
-    end: usize,
     masks: FractionMasks,
-) {
-    for place in start..end {
-        if let Some(info) = infos.get_mut(place) {
-            info.mask |= if place < slash {
-                masks.before
-            } else if place == slash {
-                masks.slash
-            } else {
-                masks.behind
-            };
-        }
+)
+    requires { buffer.old.have_output ≡ false }
+    ensures closed { buffer.new.have_output ≡ false }
+    ensures keeps { KeepsClusters buffer.old buffer.new }
+{
+    add_masks(buffer.info_slice_mut(), places, slash, masks);
+}
+
+/// Adds the masks of a fraction to the glyphs at these places.
+#[tactic(auto, using(shaping_buffer::proofs::ClosedKeepsLemmas::clusters_written))]
+fn add_masks(
+    infos: &mut [hb_glyph_info_t],
+    places: Range<usize>,
+    slash: usize,
+    masks: FractionMasks,
+)
+    ensures { clusters infos.new ≡ clusters infos.old }
+{
+    for place in places.start..places.end.min(infos.len()) {
+        let mask = masks.at(place, slash);
+        infos[place].mask |= mask;
     }
 }
 

@@ -1,6 +1,7 @@
 //! Where glyphs stand before any lookup moves them.
 
 ghost use Rattle.std.specs.Prelude.{◌≡◌, false, length, IsSome};
+ghost use Rattle.shaping_buffer.specs.KeepsClusters.{KeepsClusters};
 
 use crate::face::Face;
 use crate::fallback_spaces::space_advance;
@@ -12,10 +13,12 @@ use shaping_buffer::{
 };
 
 /// Gives each glyph the font's advance, and in vertical lines its vertical origin.
+#[tactic(auto, using(shaping_buffer::proofs::ClosedKeepsLemmas::kept))]
 pub(crate) fn position_glyphs(buffer: &mut hb_buffer_t, face: &Face)
     requires { buffer.old.have_output ≡ false }
     ensures closed { buffer.new.have_output ≡ false }
     ensures placed { IsSome buffer.new.positions }
+    ensures keeps { KeepsClusters buffer.old buffer.new }
 {
     let is_horizontal = buffer.direction.is_horizontal();
     let has_spaces = buffer.scratch_flags & HB_BUFFER_SCRATCH_FLAG_HAS_SPACE_FALLBACK != 0;
@@ -40,11 +43,13 @@ fn glyph_of(info: &hb_glyph_info_t) -> GlyphId {
 }
 
 /// Sets the position at a place.
+#[tactic(auto, using(shaping_buffer::proofs::ClosedKeepsLemmas::kept))]
 fn set_position(buffer: &mut hb_buffer_t, place: usize, position: GlyphPosition)
     requires closed { buffer.old.have_output ≡ false }
     requires placed { IsSome buffer.old.positions }
     ensures closed { buffer.new.have_output ≡ false }
     ensures placed { IsSome buffer.new.positions }
+    ensures keeps { KeepsClusters buffer.old buffer.new }
 {
     if let Some(own) = buffer.pos_mut().get_mut(place) {
         *own = position;
@@ -78,11 +83,13 @@ fn font_position(face: &Face, glyph: GlyphId, is_horizontal: bool) -> GlyphPosit
 }
 
 /// Takes the advance of each mark; moves the mark back by it if `adjusts` says so.
+#[tactic(auto, using(shaping_buffer::proofs::ClosedKeepsLemmas::kept))]
 pub(crate) fn zero_mark_widths(buffer: &mut hb_buffer_t, adjusts: bool)
     requires closed { buffer.old.have_output ≡ false }
     requires placed { IsSome buffer.old.positions }
     ensures closed { buffer.new.have_output ≡ false }
     ensures placed { IsSome buffer.new.positions }
+    ensures keeps { KeepsClusters buffer.old buffer.new }
 {
     for i in 0..buffer.len() {
         if buffer.info().get(i).is_some_and(|info| is_mark(info))
@@ -104,11 +111,13 @@ pub(crate) fn zero_mark_width(position: &mut GlyphPosition, adjusts: bool) {
 }
 
 /// Takes the width of characters that are invisible by default.
+#[tactic(auto, using(shaping_buffer::proofs::ClosedKeepsLemmas::kept))]
 pub(crate) fn zero_width_default_ignorables(buffer: &mut hb_buffer_t)
     requires closed { buffer.old.have_output ≡ false }
     requires placed { IsSome buffer.old.positions }
     ensures closed { buffer.new.have_output ≡ false }
     ensures placed { IsSome buffer.new.positions }
+    ensures keeps { KeepsClusters buffer.old buffer.new }
 {
     if buffer.scratch_flags & HB_BUFFER_SCRATCH_FLAG_HAS_DEFAULT_IGNORABLES == 0
         || buffer
@@ -125,15 +134,28 @@ pub(crate) fn zero_width_default_ignorables(buffer: &mut hb_buffer_t)
             .info()
             .get(i)
             .is_some_and(|info| is_default_ignorable(info))
-            && let Some(position) = buffer.pos_mut().get_mut(i)
         {
-            take_width(position);
+            take_width_at(buffer, i);
         }
     }
 }
 
+/// Takes all width and every offset of the glyph at a place.
+#[tactic(auto, using(shaping_buffer::proofs::ClosedKeepsLemmas::kept))]
+pub(crate) fn take_width_at(buffer: &mut hb_buffer_t, place: usize)
+    requires closed { buffer.old.have_output ≡ false }
+    requires placed { IsSome buffer.old.positions }
+    ensures closed { buffer.new.have_output ≡ false }
+    ensures placed { IsSome buffer.new.positions }
+    ensures keeps { KeepsClusters buffer.old buffer.new }
+{
+    if let Some(own) = buffer.pos_mut().get_mut(place) {
+        take_width(own);
+    }
+}
+
 /// Takes all width and every offset of a glyph; what it is attached to stays.
-pub(crate) fn take_width(position: &mut GlyphPosition) {
+fn take_width(position: &mut GlyphPosition) {
     *position = GlyphPosition {
         var: position.var,
         ..GlyphPosition::default()

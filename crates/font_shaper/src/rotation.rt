@@ -1,6 +1,8 @@
 //! Characters that have another form in text which runs from right to left or in vertical lines.
 
 ghost use Rattle.std.specs.Prelude.{◌≡◌, false};
+ghost use Rattle.shaping_buffer.specs.Clusters.{clusters};
+ghost use Rattle.shaping_buffer.specs.KeepsClusters.{KeepsClusters};
 
 use crate::face::Face;
 use layout_plan::ShapePlan;
@@ -17,29 +19,49 @@ pub(crate) fn rotate_characters(
     direction: Direction,
 )
     requires { buffer.old.have_output ≡ false }
-    ensures { buffer.new.have_output ≡ false }
+    ensures closed { buffer.new.have_output ≡ false }
+    ensures keeps { KeepsClusters buffer.old buffer.new }
+{
+    rotate_all(buffer.info_slice_mut(), face, plan, direction);
+}
+
+/// Replaces each of the characters so.
+fn rotate_all(infos: &mut [hb_glyph_info_t], face: &Face, plan: &ShapePlan, direction: Direction)
+    ensures { clusters infos.new ≡ clusters infos.old }
 {
     if direction.is_backward()
         && let Some(mirrors) = mirrors()
     {
-        mirror_all(buffer.info_slice_mut(), face, &mirrors, plan.rtlm_mask);
+        mirror_all(infos, face, &mirrors, plan.rtlm_mask);
     }
     if direction.is_vertical() && !plan.has_vert {
-        make_all_vertical(buffer.info_slice_mut(), face);
+        make_all_vertical(infos, face);
     }
 }
 
 /// Replaces each character by its mirror image, or gives it the mask.
-fn mirror_all(infos: &mut [hb_glyph_info_t], face: &Face, mirrors: &Mirrors, mask: u32) {
-    for info in infos.iter_mut() {
-        if !is_mirrored(info, face, mirrors) {
-            info.mask |= mask;
-        }
+#[tactic(auto, using(shaping_buffer::proofs::ClosedKeepsLemmas::clusters_written))]
+fn mirror_all(infos: &mut [hb_glyph_info_t], face: &Face, mirrors: &Mirrors, mask: u32)
+    ensures { clusters infos.new ≡ clusters infos.old }
+{
+    for i in 0..infos.len() {
+        mirror(&mut infos[i], face, mirrors, mask);
+    }
+}
+
+/// Replaces a character by its mirror image, or gives it the mask.
+fn mirror(info: &mut hb_glyph_info_t, face: &Face, mirrors: &Mirrors, mask: u32)
+    ensures { info.new.cluster ≡ info.old.cluster }
+{
+    if !is_mirrored(info, face, mirrors) {
+        info.mask |= mask;
     }
 }
 
 /// Replaces a character by its mirror image, and says whether the font has a glyph for that.
-fn is_mirrored(info: &mut hb_glyph_info_t, face: &Face, mirrors: &Mirrors) -> bool {
+fn is_mirrored(info: &mut hb_glyph_info_t, face: &Face, mirrors: &Mirrors) -> bool
+    ensures { info.new.cluster ≡ info.old.cluster }
+{
     match char::from_u32(info.glyph_id) {
         Some(character) => match character.mirrored(mirrors) {
             Some(mirrored) => replace_character(info, face, mirrored),
@@ -50,18 +72,30 @@ fn is_mirrored(info: &mut hb_glyph_info_t, face: &Face, mirrors: &Mirrors) -> bo
 }
 
 /// Replaces each character by its vertical form.
-fn make_all_vertical(infos: &mut [hb_glyph_info_t], face: &Face) {
-    for info in infos.iter_mut() {
-        if let Some(character) = char::from_u32(info.glyph_id)
-            && let Some(vertical) = character.vertical()
-        {
-            let _ = replace_character(info, face, vertical);
-        }
+#[tactic(auto, using(shaping_buffer::proofs::ClosedKeepsLemmas::clusters_written))]
+fn make_all_vertical(infos: &mut [hb_glyph_info_t], face: &Face)
+    ensures { clusters infos.new ≡ clusters infos.old }
+{
+    for i in 0..infos.len() {
+        make_vertical(&mut infos[i], face);
+    }
+}
+
+/// Replaces a character by its vertical form.
+fn make_vertical(info: &mut hb_glyph_info_t, face: &Face)
+    ensures { info.new.cluster ≡ info.old.cluster }
+{
+    if let Some(character) = char::from_u32(info.glyph_id)
+        && let Some(vertical) = character.vertical()
+    {
+        let _ = replace_character(info, face, vertical);
     }
 }
 
 /// Replaces a character by another one, if the font has a glyph for that, and says whether it has.
-fn replace_character(info: &mut hb_glyph_info_t, face: &Face, other: char) -> bool {
+fn replace_character(info: &mut hb_glyph_info_t, face: &Face, other: char) -> bool
+    ensures { info.new.cluster ≡ info.old.cluster }
+{
     if face.glyph_index(other as u32).is_none() {
         return false;
     }

@@ -1,25 +1,35 @@
 //! The shaping of a text by a font: HarfBuzz's steps, one after the other.
 
-ghost use Rattle.std.specs.Prelude.{◌≡◌, true, false, IfOk, IsSome};
+ghost use Rattle.std.specs.Prelude.{◌≡◌, ◌≤◌, [], true, false, not, length, IfOk, IsSome, if◌then◌else◌};
+ghost use Rattle.rb_common.specs.Direction.{is_forward};
+ghost use Rattle.shaping_buffer.specs.Clusters.{clusters};
+ghost use Rattle.shaping_buffer.specs.Limits.{enter};
+ghost use Rattle.shaping_buffer.specs.Properties.{guessed};
+ghost use Rattle.shaping_buffer.specs.State.{HasPositions};
+ghost use Rattle.font_shaper.specs.ShapedClusters.{ShapedClusters, KeepsOrTurns};
+ghost use Rattle.shaping_buffer.specs.KeepsClusters.{KeepsClusters};
 
 use crate::ending::{hide_ignorables, propagate_flags, show_variation_selectors};
 use crate::face::Face;
 use crate::fallback_marks::{position_marks, recategorize_marks};
-use crate::glyph_info::{is_default_ignorable, is_nonspacing_mark};
-use crate::lookups::{position_by_lookups, substitute};
+use crate::lookups::position_by_lookups;
 use crate::masks::set_masks;
 use crate::normalization::normalize;
+use crate::planning::TextPlan;
 use crate::positions::{position_glyphs, zero_mark_widths, zero_width_default_ignorables};
 use crate::rotation::rotate_characters;
-use crate::text::{ensure_native_direction, form_clusters, insert_dotted_circle, set_properties};
+use crate::substitution::substitute;
+use crate::text::{
+    ensure_native_direction, form_clusters, insert_dotted_circle, set_direction, set_properties,
+};
 use crate::verification::VerifyError;
 use crate::watch::{Step, Unwatched, Watch};
 use glyph_positions::position_finish_offsets;
+use glyph_substitution::substitute_start;
 use layout_plan::ShapePlan;
-use rb_common::GlyphId;
 use shaping_buffer::{
-    BufferFlags, Direction, Feature, Flags, GlyphBuffer, GlyphPropsFlags, UnicodeBuffer,
-    hb_buffer_t, hb_glyph_info_t,
+    BufferFlags, Direction, Feature, Flags, GlyphBuffer, UnicodeBuffer, hb_buffer_t,
+    hb_glyph_info_t,
 };
 use std::alloc::AllocError;
 use thiserror::Error;
@@ -33,6 +43,9 @@ pub enum ShapeError {
     /// There is no memory.
     #[error("out of memory")]
     Memory,
+    /// The text has another script, language or direction than the plan by which it was to be shaped.
+    #[error("the plan is for other texts")]
+    OtherPlan,
     /// The buffer was to be verified, and a test of its glyphs failed.
     #[error("buffer verify error: {0}")]
     Unverified(VerifyError),
@@ -47,13 +60,23 @@ impl From<AllocError> for ShapeError {
 /// Shapes a text by a font: finds a glyph for each of its characters, and says where each is drawn. A script and a
 /// direction that were not said are guessed.
 ///
+/// The glyphs have as many positions, and are no more than 64 for each character, or 16384. Each is in a cluster of the
+/// text's. Where the characters' clusters rise, as `push_str` leaves them, and the cluster level is a monotone one, the
+/// glyphs' clusters rise in a line that runs forward, and fall in one that runs backward, so that a caret has a place
+/// at each glyph, whatever the font.
+///
 /// Under `BufferFlags::VERIFY` the glyphs are tested: whether clusters stand in order, and whether parts of the text that are
 /// shaped apart, cut where this is said to be safe, have the same glyphs.
 pub fn shape(
     face: &Face,
     features: &[Feature],
     text: UnicodeBuffer,
-) -> Result<GlyphBuffer, ShapeError> {
+) -> Result<GlyphBuffer, ShapeError>
+    ensures placed { IfOk result HasPositions }
+    ensures within { IfOk result (λ glyphs. length glyphs.input ≤ (enter text).max_len) }
+    ensures direction { IfOk result (λ glyphs. glyphs.direction ≡ (guessed text).direction) }
+    ensures clusters { IfOk result (ShapedClusters text) }
+{
     shape_watched(face, features, text, &mut Unwatched)
 }
 
@@ -63,7 +86,12 @@ pub fn shape_watched<W: Watch>(
     features: &[Feature],
     text: UnicodeBuffer,
     watch: &mut W,
-) -> Result<GlyphBuffer, ShapeError> {
+) -> Result<GlyphBuffer, ShapeError>
+    ensures placed { IfOk result HasPositions }
+    ensures within { IfOk result (λ glyphs. length glyphs.input ≤ (enter text).max_len) }
+    ensures direction { IfOk result (λ glyphs. glyphs.direction ≡ (guessed text).direction) }
+    ensures clusters { IfOk result (ShapedClusters text) }
+{
     let mut text = text;
     text.guess_segment_properties();
     let buffer = text.into_buffer();
@@ -82,11 +110,32 @@ pub(crate) fn shape_once<W: Watch>(
     watch: &mut W,
 ) -> Result<GlyphBuffer, ShapeError>
     requires { buffer.have_output ≡ false }
+    ensures placed { IfOk result HasPositions }
+    ensures within { IfOk result (λ glyphs. length glyphs.input ≤ (enter buffer).max_len) }
+    ensures direction { IfOk result (λ glyphs. glyphs.direction ≡ buffer.direction) }
+    ensures clusters { IfOk result (ShapedClusters buffer) }
+{
+    let plan = face.plan(&buffer, features)?;
+    shape_planned(face, &plan, features, buffer, watch)
+}
+
+/// Shapes the text of a buffer by a plan, without tests.
+pub(crate) fn shape_planned<W: Watch>(
+    face: &Face,
+    plan: &TextPlan,
+    features: &[Feature],
+    buffer: hb_buffer_t,
+    watch: &mut W,
+) -> Result<GlyphBuffer, ShapeError>
+    requires { buffer.have_output ≡ false }
+    ensures placed { IfOk result HasPositions }
+    ensures within { IfOk result (λ glyphs. length glyphs.input ≤ (enter buffer).max_len) }
+    ensures direction { IfOk result (λ glyphs. glyphs.direction ≡ buffer.direction) }
+    ensures clusters { IfOk result (ShapedClusters buffer) }
 {
     let mut buffer = buffer;
     buffer.enter();
-    let plan = face.plan(&buffer, features)?;
-    if !shape_buffer(&mut buffer, face, &plan, features, watch)? {
+    if !shape_buffer(&mut buffer, face, plan, features, watch)? {
         return Err(ShapeError::TooLong);
     }
     Ok(GlyphBuffer::from_buffer(buffer))
@@ -96,85 +145,243 @@ pub(crate) fn shape_once<W: Watch>(
 fn shape_buffer<W: Watch>(
     buffer: &mut hb_buffer_t,
     face: &Face,
-    plan: &ShapePlan,
+    plan: &TextPlan,
     features: &[Feature],
     watch: &mut W,
 ) -> Result<bool, AllocError>
     requires { buffer.old.have_output ≡ false }
     ensures closed { IfOk result (λ done. done ≡ true → buffer.new.have_output ≡ false) }
     ensures placed { IfOk result (λ done. done ≡ true → IsSome buffer.new.positions) }
+    ensures within { IfOk result (λ done. done ≡ true
+        → length buffer.new.input ≤ buffer.old.max_len) }
+    ensures direction { IfOk result (λ done. done ≡ true
+        → buffer.new.direction ≡ buffer.old.direction) }
+    ensures clusters { IfOk result (λ done. done ≡ true → ShapedClusters buffer.old buffer.new) }
 {
+    prove!(buffer.out_len() == 0);
+    let limit = buffer.max_len();
     let direction = buffer.direction;
-    if !prepare_characters(buffer, face, plan)? {
+    if !make_glyphs(buffer, face, plan, features, watch)? || buffer.len() > limit {
         return Ok(false);
     }
-    set_masks(buffer, plan, features);
-    if plan.fallback_mark_positioning {
-        recategorize_marks(buffer.info_slice_mut());
-    }
-    watch.step(Step::Characters, buffer)?;
-    map_glyphs(buffer, face);
-    watch.step(Step::Glyphs, buffer)?;
-    if !substitute(buffer, face, &plan.layout, watch)? {
-        return Ok(false);
-    }
-    position(buffer, face, plan, direction, watch)?;
-    show_variation_selectors(buffer);
-    hide_ignorables(buffer, face);
-    propagate_flags(buffer);
-    buffer.direction = direction;
-    buffer.leave();
+    end_line(buffer, direction);
     watch.step(Step::Shaped, buffer)?;
     Ok(true)
 }
 
-/// Puts the characters in order, and finds a glyph for each. `Ok(false)` where a call was refused for length.
-fn prepare_characters(
+/// Ends the shaping of a line that was said to run in this direction.
+#[tactic(auto, using(shaping_buffer::proofs::ClosedKeepsLemmas::kept))]
+fn end_line(buffer: &mut hb_buffer_t, direction: Direction)
+    requires closed { buffer.old.have_output ≡ false }
+    requires placed { IsSome buffer.old.positions }
+    ensures closed { buffer.new.have_output ≡ false }
+    ensures placed { IsSome buffer.new.positions }
+    ensures empty { buffer.new.out ≡ [] }
+    ensures length { length buffer.new.input ≡ length buffer.old.input }
+    ensures direction { buffer.new.direction ≡ direction }
+    ensures keeps { KeepsClusters buffer.old buffer.new }
+{
+    set_direction(buffer, direction);
+    prove!(buffer.out_len() == 0);
+    buffer.leave();
+}
+
+/// Makes glyphs of the characters of a buffer, with their positions. `Ok(false)` where a call was refused for length.
+fn make_glyphs<W: Watch>(
     buffer: &mut hb_buffer_t,
     face: &Face,
-    plan: &ShapePlan,
+    plan: &TextPlan,
+    features: &[Feature],
+    watch: &mut W,
 ) -> Result<bool, AllocError>
     requires { buffer.old.have_output ≡ false }
-    ensures { IfOk result (λ done. done ≡ true → buffer.new.have_output ≡ false) }
+    ensures closed { IfOk result (λ done. done ≡ true → buffer.new.have_output ≡ false) }
+    ensures placed { IfOk result (λ done. done ≡ true → IsSome buffer.new.positions) }
+    ensures runs { IfOk result (λ done. done ≡ true
+        → KeepsOrTurns (not (is_forward buffer.old.direction)) buffer.old buffer.new) }
 {
     let direction = buffer.direction;
-    buffer.reset_masks(plan.layout.global_mask);
+    if !begin_characters(buffer, face, plan)? {
+        return Ok(false);
+    }
+    let is_turned = ensure_native_direction(buffer);
+    if !shape_native(buffer, face, plan, features, direction, watch)? {
+        return Ok(false);
+    }
+    reverse_if(buffer, is_against(direction.is_forward(), is_turned));
+    finish_glyphs(buffer, face, plan)
+}
+
+/// Whether the glyphs stand against the line: it runs forward and the text was turned, or it runs backward and the text was not.
+fn is_against(is_forward: bool, is_turned: bool) -> bool
+    ensures { result ≡ (if is_forward then is_turned else not is_turned) }
+{
+    if is_forward { is_turned } else { !is_turned }
+}
+
+/// Reverses the glyphs where this is said.
+fn reverse_if(buffer: &mut hb_buffer_t, is_against: bool)
+    requires closed { buffer.old.have_output ≡ false }
+    requires placed { IsSome buffer.old.positions }
+    ensures closed { buffer.new.have_output ≡ false }
+    ensures placed { IsSome buffer.new.positions }
+    ensures runs { KeepsOrTurns is_against buffer.old buffer.new }
+{
+    if is_against {
+        buffer.reverse();
+    }
+}
+
+/// Makes glyphs of characters that stand in the direction of their script. `direction` is the way in which the line was said to
+/// run. `Ok(false)` where a call was refused for length.
+#[tactic(auto, using(shaping_buffer::proofs::ClosedKeepsLemmas::kept))]
+fn shape_native<W: Watch>(
+    buffer: &mut hb_buffer_t,
+    face: &Face,
+    plan: &TextPlan,
+    features: &[Feature],
+    direction: Direction,
+    watch: &mut W,
+) -> Result<bool, AllocError>
+    requires { buffer.old.have_output ≡ false }
+    ensures closed { IfOk result (λ done. done ≡ true → buffer.new.have_output ≡ false) }
+    ensures placed { IfOk result (λ done. done ≡ true → IsSome buffer.new.positions) }
+    ensures keeps { KeepsClusters buffer.old buffer.new }
+{
+    if !prepare_characters(buffer, face, plan, direction)? {
+        return Ok(false);
+    }
+    find_glyphs(buffer, face, plan, features, watch)?;
+    if !substitute(buffer, face, plan, watch)? {
+        return Ok(false);
+    }
+    position(buffer, face, &plan.shape, direction, watch)?;
+    Ok(true)
+}
+
+/// Finds the glyph of each character, and the features that it has.
+#[tactic(auto, using(shaping_buffer::proofs::ClosedKeepsLemmas::kept))]
+fn find_glyphs<W: Watch>(
+    buffer: &mut hb_buffer_t,
+    face: &Face,
+    plan: &TextPlan,
+    features: &[Feature],
+    watch: &mut W,
+) -> Result<(), AllocError>
+    requires { buffer.old.have_output ≡ false }
+    ensures closed { IfOk result (λ _. buffer.new.have_output ≡ false) }
+    ensures keeps { KeepsClusters buffer.old buffer.new }
+{
+    mask_characters(buffer, plan, features);
+    watch.step(Step::Characters, buffer)?;
+    map_glyphs(buffer, face);
+    watch.step(Step::Glyphs, buffer)
+}
+
+/// Sets the features that each character has, and the classes of marks that are placed without the font's help.
+#[tactic(auto, using(shaping_buffer::proofs::ClosedKeepsLemmas::kept))]
+fn mask_characters(buffer: &mut hb_buffer_t, plan: &TextPlan, features: &[Feature])
+    requires { buffer.old.have_output ≡ false }
+    ensures closed { buffer.new.have_output ≡ false }
+    ensures keeps { KeepsClusters buffer.old buffer.new }
+{
+    set_masks(buffer, plan, features);
+    if plan.shape.fallback_mark_positioning {
+        recategorize_marks(buffer);
+    }
+}
+
+/// The last steps: what is not to be seen is hidden, marks are stretched, and the glyphs of a cluster have the same
+/// flags. `Ok(false)` where a call was refused for length.
+#[tactic(auto, using(shaping_buffer::proofs::ClosedKeepsLemmas::kept))]
+fn finish_glyphs(buffer: &mut hb_buffer_t, face: &Face, plan: &TextPlan) -> Result<bool, AllocError>
+    requires closed { buffer.old.have_output ≡ false }
+    requires placed { IsSome buffer.old.positions }
+    ensures closed { IfOk result (λ done. done ≡ true → buffer.new.have_output ≡ false) }
+    ensures placed { IfOk result (λ done. done ≡ true → IsSome buffer.new.positions) }
+    ensures keeps { KeepsClusters buffer.old buffer.new }
+{
+    show_variation_selectors(buffer);
+    hide_ignorables(buffer, face);
+    if !face.stretch_marks(buffer, &plan.script)? {
+        return Ok(false);
+    }
+    propagate_flags(buffer);
+    Ok(true)
+}
+
+/// Sets the properties of the characters, and makes clusters of them. `Ok(false)` where a call was refused for length.
+#[tactic(auto, using(shaping_buffer::proofs::ClosedKeepsLemmas::kept))]
+fn begin_characters(
+    buffer: &mut hb_buffer_t,
+    face: &Face,
+    plan: &TextPlan,
+) -> Result<bool, AllocError>
+    requires { buffer.old.have_output ≡ false }
+    ensures closed { IfOk result (λ done. done ≡ true → buffer.new.have_output ≡ false) }
+    ensures keeps { KeepsClusters buffer.old buffer.new }
+{
+    buffer.reset_masks(plan.shape.layout.global_mask);
     set_properties(buffer);
     if !insert_dotted_circle(buffer, face)? {
         return Ok(false);
     }
     form_clusters(buffer);
-    ensure_native_direction(buffer);
-    rotate_characters(buffer, face, plan, direction);
-    normalize(buffer, face)
+    Ok(true)
+}
+
+/// Prepares the characters by their script, and finds a glyph for each. `Ok(false)` where a call was refused for length.
+#[tactic(auto, using(shaping_buffer::proofs::ClosedKeepsLemmas::kept))]
+fn prepare_characters(
+    buffer: &mut hb_buffer_t,
+    face: &Face,
+    plan: &TextPlan,
+    direction: Direction,
+) -> Result<bool, AllocError>
+    requires { buffer.old.have_output ≡ false }
+    ensures closed { IfOk result (λ done. done ≡ true → buffer.new.have_output ≡ false) }
+    ensures keeps { KeepsClusters buffer.old buffer.new }
+{
+    if !plan.script.preprocess_text(buffer, face)? {
+        return Ok(false);
+    }
+    rotate_characters(buffer, face, &plan.shape, direction);
+    normalize(buffer, face, &plan.script)
 }
 
 /// Puts the glyph of each character in its place, with the properties that the font gives it.
+#[tactic(auto, using(shaping_buffer::proofs::ClosedKeepsLemmas::kept))]
 fn map_glyphs(buffer: &mut hb_buffer_t, face: &Face)
     requires { buffer.old.have_output ≡ false }
-    ensures { buffer.new.have_output ≡ false }
+    ensures closed { buffer.new.have_output ≡ false }
+    ensures keeps { KeepsClusters buffer.old buffer.new }
 {
-    for info in buffer.info_slice_mut() {
-        info.glyph_id = info.glyph_index();
-        set_glyph_properties(info, face);
-    }
+    put_glyphs(buffer);
+    substitute_start(buffer, &face.definitions);
 }
 
-/// Sets the properties of a glyph: those of its class in the font, or by its character where the font has no classes.
-fn set_glyph_properties(info: &mut hb_glyph_info_t, face: &Face) {
-    let properties = if face.definitions.has_glyph_classes() {
-        let glyph = GlyphId(u16::try_from(info.glyph_id).unwrap_or(0));
-        face.definitions.glyph_props(glyph)
-    } else if is_nonspacing_mark(info) && !is_default_ignorable(info) {
-        GlyphPropsFlags::MARK.bits()
-    } else {
-        GlyphPropsFlags::BASE_GLYPH.bits()
-    };
-    info.var1 = u32::from(properties);
+/// Puts the glyph of each character in its place.
+fn put_glyphs(buffer: &mut hb_buffer_t)
+    requires { buffer.old.have_output ≡ false }
+    ensures closed { buffer.new.have_output ≡ false }
+    ensures keeps { KeepsClusters buffer.old buffer.new }
+{
+    put_all(buffer.info_slice_mut());
+}
+
+/// Puts the glyph of each of the characters in its place.
+#[tactic(auto, using(shaping_buffer::proofs::ClosedKeepsLemmas::clusters_written))]
+fn put_all(infos: &mut [hb_glyph_info_t])
+    ensures { clusters infos.new ≡ clusters infos.old }
+{
+    for i in 0..infos.len() {
+        infos[i].glyph_id = infos[i].glyph_index();
+    }
 }
 
 /// Positions the glyphs: by the font's advances, by its lookups, and marks without a width of their own. `direction` is the way in
 /// which the line was said to run.
+#[tactic(auto, using(shaping_buffer::proofs::ClosedKeepsLemmas::kept))]
 fn position<W: Watch>(
     buffer: &mut hb_buffer_t,
     face: &Face,
@@ -185,21 +392,54 @@ fn position<W: Watch>(
     requires { buffer.old.have_output ≡ false }
     ensures closed { IfOk result (λ _. buffer.new.have_output ≡ false) }
     ensures placed { IfOk result (λ _. IsSome buffer.new.positions) }
+    ensures keeps { KeepsClusters buffer.old buffer.new }
 {
     position_glyphs(buffer, face);
     watch.step(Step::Advances, buffer)?;
     position_by_lookups(buffer, face, plan, watch)?;
+    finish_positions(buffer, face, plan, direction);
+    Ok(())
+}
+
+/// Takes the width of marks and of what is not to be seen, and places the glyphs that stand by others.
+#[tactic(auto, using(shaping_buffer::proofs::ClosedKeepsLemmas::kept))]
+fn finish_positions(buffer: &mut hb_buffer_t, face: &Face, plan: &ShapePlan, direction: Direction)
+    requires closed { buffer.old.have_output ≡ false }
+    requires placed { IsSome buffer.old.positions }
+    ensures closed { buffer.new.have_output ≡ false }
+    ensures placed { IsSome buffer.new.positions }
+    ensures keeps { KeepsClusters buffer.old buffer.new }
+{
     let adjusts = plan.adjust_mark_positioning_when_zeroing && buffer.direction.is_forward();
-    if plan.zero_marks {
-        zero_mark_widths(buffer, adjusts);
-    }
-    zero_width_default_ignorables(buffer);
+    zero_widths(buffer, plan, adjusts);
     position_finish_offsets(buffer);
     if plan.fallback_mark_positioning {
         position_marks(buffer, face, direction, adjusts);
     }
-    if buffer.direction.is_backward() {
-        buffer.reverse();
+}
+
+/// Takes the width of marks, where the plan has that, and of what is not to be seen.
+#[tactic(auto, using(shaping_buffer::proofs::ClosedKeepsLemmas::kept))]
+fn zero_widths(buffer: &mut hb_buffer_t, plan: &ShapePlan, adjusts: bool)
+    requires closed { buffer.old.have_output ≡ false }
+    requires placed { IsSome buffer.old.positions }
+    ensures closed { buffer.new.have_output ≡ false }
+    ensures placed { IsSome buffer.new.positions }
+    ensures keeps { KeepsClusters buffer.old buffer.new }
+{
+    zero_marks(buffer, plan, adjusts);
+    zero_width_default_ignorables(buffer);
+}
+
+/// Takes the width of marks, where the plan has that.
+fn zero_marks(buffer: &mut hb_buffer_t, plan: &ShapePlan, adjusts: bool)
+    requires closed { buffer.old.have_output ≡ false }
+    requires placed { IsSome buffer.old.positions }
+    ensures closed { buffer.new.have_output ≡ false }
+    ensures placed { IsSome buffer.new.positions }
+    ensures keeps { KeepsClusters buffer.old buffer.new }
+{
+    if plan.zero_marks {
+        zero_mark_widths(buffer, adjusts);
     }
-    Ok(())
 }

@@ -2,8 +2,10 @@
 
 ghost use Rattle.std.specs.Prelude.{◌≡◌, ◌<◌, ◌≤◌, true, false, length, IfOk};
 ghost use Rattle.shaping_buffer.specs.Clusters.{clusters};
-ghost use Rattle.shaping_buffer.specs.KeepsClusters.{KeepsClusters};
+ghost use Rattle.shaping_buffer.specs.KeepsClusters.{KeepsClusters, TurnsClusters};
+ghost use Rattle.font_shaper.specs.ShapedClusters.{KeepsOrTurns};
 
+use crate::cluster_level::allows_any_order;
 use crate::face::Face;
 use crate::glyph_info::{
     general_category, is_continuation, is_decimal_number, is_letter, is_regional_indicator,
@@ -11,9 +13,8 @@ use crate::glyph_info::{
 };
 use shaping_buffer::rb_glyph::hb_gc::RB_UNICODE_GENERAL_CATEGORY_MODIFIER_SYMBOL;
 use shaping_buffer::{
-    BufferFlags, CharExt, Direction, Flags, HB_BUFFER_CLUSTER_LEVEL_MONOTONE_CHARACTERS,
-    HB_BUFFER_CLUSTER_LEVEL_MONOTONE_GRAPHEMES, HB_BUFFER_SCRATCH_FLAG_HAS_NON_ASCII, hb_buffer_t,
-    hb_glyph_info_t,
+    BufferFlags, CharExt, Direction, Flags, HB_BUFFER_CLUSTER_LEVEL_MONOTONE_GRAPHEMES,
+    HB_BUFFER_SCRATCH_FLAG_HAS_NON_ASCII, hb_buffer_t, hb_glyph_info_t,
 };
 use std::alloc::AllocError;
 
@@ -170,20 +171,41 @@ fn form_cluster(buffer: &mut hb_buffer_t, start: usize, end: usize, merges: bool
     }
 }
 
-/// Reverses a text that runs against its script, grapheme by grapheme.
-pub(crate) fn ensure_native_direction(buffer: &mut hb_buffer_t)
+/// Reverses a text that runs against its script, grapheme by grapheme, and says whether it did.
+pub(crate) fn ensure_native_direction(buffer: &mut hb_buffer_t) -> bool
     requires { buffer.old.have_output ≡ false }
-    ensures { buffer.new.have_output ≡ false }
+    ensures closed { buffer.new.have_output ≡ false }
+    ensures runs { KeepsOrTurns result buffer.old buffer.new }
 {
     let direction = buffer.direction;
     let native = native_direction(buffer);
     let is_against = direction.is_horizontal() && native.is_some_and(|native| native != direction)
         || direction.is_vertical() && direction != Direction::TopToBottom;
     if is_against {
-        let merges = buffer.cluster_level == HB_BUFFER_CLUSTER_LEVEL_MONOTONE_CHARACTERS;
-        buffer.reverse_groups(is_same_grapheme, merges);
-        buffer.direction = direction.reverse();
+        reverse_graphemes(buffer, direction.reverse());
     }
+    is_against
+}
+
+/// Puts the graphemes into reverse order, each in its own order, so that the text runs in this direction. Where clusters have to
+/// stay in order each grapheme is made one cluster before; at the level of graphemes it is one already.
+fn reverse_graphemes(buffer: &mut hb_buffer_t, direction: Direction)
+    requires { buffer.old.have_output ≡ false }
+    ensures closed { buffer.new.have_output ≡ false }
+    ensures turns { TurnsClusters buffer.old buffer.new }
+{
+    let merges = !allows_any_order(buffer);
+    buffer.reverse_groups(is_same_grapheme, merges);
+    set_direction(buffer, direction);
+}
+
+/// Says how the text runs.
+pub(crate) fn set_direction(buffer: &mut hb_buffer_t, direction: Direction)
+    requires { buffer.old.have_output ≡ false }
+    ensures is { buffer.new ≡ record buffer.old { direction = direction } }
+    ensures keeps { KeepsClusters buffer.old buffer.new }
+{
+    buffer.direction = direction;
 }
 
 /// The direction in which the script runs, if it has one: numbers in a script that runs from right to left run from

@@ -1,6 +1,9 @@
 //! Tests of shaped glyphs by shaping parts of their text again (HarfBuzz's `hb_buffer_t::verify`).
 
-ghost use Rattle.std.specs.Prelude.{◌≡◌, false, IfOk};
+ghost use Rattle.std.specs.Prelude.{◌≡◌, ◌≤◌, false, length, IfOk};
+ghost use Rattle.shaping_buffer.specs.Limits.{enter};
+ghost use Rattle.shaping_buffer.specs.State.{HasPositions};
+ghost use Rattle.font_shaper.specs.ShapedClusters.{ShapedClusters};
 
 use crate::comparison::is_elsewhere;
 use crate::face::Face;
@@ -91,6 +94,10 @@ impl Face<'_> {
         buffer: hb_buffer_t,
     ) -> Result<GlyphBuffer, ShapeError>
         requires { buffer.have_output ≡ false }
+        ensures placed { IfOk result HasPositions }
+        ensures within { IfOk result (λ glyphs. length glyphs.input ≤ (enter buffer).max_len) }
+        ensures direction { IfOk result (λ glyphs. glyphs.direction ≡ buffer.direction) }
+        ensures clusters { IfOk result (ShapedClusters buffer) }
     {
         let text = Original::of(self.alloc, &buffer)?;
         let glyphs = shape_once(self, features, buffer, &mut Unwatched)?;

@@ -1,11 +1,12 @@
 -- What a merge of a range keeps: the order of all clusters, and coarse lists.
 use Rattle.std.proofs.Common.{◌≡◌, ℕ, ◌-◌, ◌<◌, ◌≤◌, ◌⊎◌, inl, inr, List, length, get_or, refl, sym, ap, ◌∙◌, arith}
-use Rattle.std.proofs.Common.{true, false, subst}
+use Rattle.std.proofs.Common.{Bool, true, false, subst}
 use Rattle.std.proofs.lemmas.Bool.{cond-true, cond-false, cases_Bool, cases_lt, false≢true}
 use Rattle.rb_glyph.specs.declared.info.hb_glyph_info_t.{hb_glyph_info_t}
 use Rattle.glyph_lists.specs.Parts.{part}
 use Rattle.glyph_lists.specs.Clusters.{clusters, occurs, run_merge, widened_start, widened_end, range_least, least}
 use Rattle.glyph_lists.specs.Clusters.{NeverFalls, NeverRises, IsMonotone, IsCoarse, zero_glyph}
+use Rattle.glyph_lists.specs.KeptClusters.{Runs}
 use Rattle.glyph_lists.proofs.PartsLemmas.{length-part, get_or-part}
 use Rattle.glyph_lists.proofs.ClustersLemmas.{length-clusters, get_or-clusters, clusters-part, occurs_part_at}
 use Rattle.glyph_lists.proofs.ClustersLemmas.{occurs_part_place, IsContiguous-from_monotone, least-le, range_least-le}
@@ -162,16 +163,33 @@ module _ (l : List hb_glyph_info_t) (p q floor : ℕ) (some : p < q) (in_l : q �
       ]
 
 -- down to any floor
+run_merge_keeps_rising : (l : List hb_glyph_info_t) (p q floor : ℕ) → q ≤ length l → NeverFalls (clusters l)
+    → NeverFalls (clusters (run_merge l p q floor))
+run_merge_keeps_rising l p q floor in_l up =
+    elim (cases_lt p q) [
+      | inl some ↦ rising l p q floor some in_l up
+      | inr none ↦
+          subst (λ m. NeverFalls (clusters m)) (sym (run_merge_short l p q floor (omega arith) in_l)) up
+    ]
+
+run_merge_keeps_falling : (l : List hb_glyph_info_t) (p q floor : ℕ) → q ≤ length l → NeverRises (clusters l)
+    → NeverRises (clusters (run_merge l p q floor))
+run_merge_keeps_falling l p q floor in_l down =
+    elim (cases_lt p q) [
+      | inl some ↦ falling l p q floor some in_l down
+      | inr none ↦
+          subst (λ m. NeverRises (clusters m)) (sym (run_merge_short l p q floor (omega arith) in_l)) down
+    ]
+
+pub run_merge_keeps_running : (up : Bool) (l : List hb_glyph_info_t) (p q floor : ℕ) → q ≤ length l
+    → Runs up (clusters l) → Runs up (clusters (run_merge l p q floor))
+run_merge_keeps_running true = run_merge_keeps_rising
+run_merge_keeps_running false = run_merge_keeps_falling
+
 pub run_merge_keeps_order : (l : List hb_glyph_info_t) (p q floor : ℕ) → q ≤ length l → IsMonotone l
     → IsMonotone (run_merge l p q floor)
-run_merge_keeps_order l p q floor in_l mono =
-    elim (cases_lt p q) [
-      | inl some ↦ elim mono [
-        | inl up ↦ inl (rising l p q floor some in_l up)
-        | inr down ↦ inr (falling l p q floor some in_l down)
-      ]
-      | inr none ↦ subst IsMonotone (sym (run_merge_short l p q floor (omega arith) in_l)) mono
-    ]
+run_merge_keeps_order l p q floor in_l (inl up) = inl (run_merge_keeps_rising l p q floor in_l up)
+run_merge_keeps_order l p q floor in_l (inr down) = inr (run_merge_keeps_falling l p q floor in_l down)
 
 -- ---- a cluster merge of all equal numbers keeps the order of all numbers, also of those far apart
 

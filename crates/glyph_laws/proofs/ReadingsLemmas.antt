@@ -2,11 +2,13 @@
 use Rattle.std.proofs.Common.{zero, [], take, drop, subst, length-take, length-drop, refl, ◌≡◌, ℕ, suc, ◌+◌, ◌-◌, ◌<◌}
 use Rattle.std.proofs.Common.{◌≤◌, inl, inr, List, ◌∷◌, ◌++◌, length, get_or, map, sym, ap, ◌∙◌, arith, ltb, cond}
 use Rattle.std.proofs.Common.{length-append}
+use Rattle.std.proofs.Common.{Bool, true, false}
 use Rattle.std.proofs.lemmas.List.{take_at, drop_at, append-nil, append_assoc, get_or-take, get_or-drop}
 use Rattle.std.proofs.lemmas.List.{get_or-append_right, get_or_append_left, get_or-map, get_or-append-add}
 use Rattle.std.proofs.lemmas.Bool.{cond-true, cond-false, cases_lt, lt-ltb, le-ltb}
 use Rattle.rb_glyph.specs.declared.info.hb_glyph_info_t.{hb_glyph_info_t}
-use Rattle.glyph_lists.specs.Clusters.{clusters, IsMonotone, IsCoarse, zero_glyph}
+use Rattle.glyph_lists.specs.Clusters.{clusters, IsMonotone, IsCoarse, NeverFalls, NeverRises, zero_glyph}
+use Rattle.glyph_lists.specs.KeptClusters.{Runs}
 use Rattle.glyph_lists.specs.Parts.{part}
 use Rattle.glyph_lists.specs.Masks.{with_mask, reset_masks}
 use Rattle.glyph_lists.proofs.PartsLemmas.{map-map_same, length-part, get_or-part}
@@ -23,28 +25,43 @@ pub record Reading (xs ys : List hb_glyph_info_t) : Type 0 where
   pub cluster : (j : ℕ) → j < length ys → (at ys j).cluster ≡ (at xs (from j)).cluster
   pub var2 : (j : ℕ) → j < length ys → (at ys j).var2 ≡ (at xs (from j)).var2
 
--- what reads a monotone list is monotone, and what reads a coarse one is coarse
-pub monotone_reading : (xs ys : List hb_glyph_info_t) → Reading xs ys → IsMonotone xs → IsMonotone ys
-monotone_reading xs ys r mono =
+cluster_read : (xs ys : List hb_glyph_info_t) (r : Reading xs ys) (j : ℕ) → j < length ys
+    → get_or (clusters ys) j 0 ≡ get_or (clusters xs) (r.from j) 0
+cluster_read xs ys r j h =
+    get_or-clusters ys j zero_glyph h ∙ r.cluster j h
+    ∙ sym (get_or-clusters xs (r.from j) zero_glyph (r.within j h))
+
+-- what reads clusters that run up runs up, and so with those that run down, and with monotone and coarse ones
+rising_reading : (xs ys : List hb_glyph_info_t) → Reading xs ys → NeverFalls (clusters xs) → NeverFalls (clusters ys)
+rising_reading xs ys r up i j h h2 =
     let n = length-clusters xs in
     let n2 = length-clusters ys in
-    let c : (j : ℕ) → j < length ys → get_or (clusters ys) j 0 ≡ get_or (clusters xs) (r.from j) 0 =
-    λ j h. get_or-clusters ys j zero_glyph h ∙ r.cluster j h
-    ∙ sym (get_or-clusters xs (r.from j) zero_glyph (r.within j h)) in
-    elim mono [
-      | inl up ↦ inl (λ i j h h2. omega (
-        arith,
-        c i (omega arith),
-        c j (omega arith),
-        up (r.from i) (r.from j) (r.up i j h) (omega (arith, r.within j (omega arith))),
-      ))
-      | inr down ↦ inr (λ i j h h2. omega (
-        arith,
-        c i (omega arith),
-        c j (omega arith),
-        down (r.from i) (r.from j) (r.up i j h) (omega (arith, r.within j (omega arith))),
-      ))
-    ]
+    omega (
+      arith,
+      cluster_read xs ys r i (omega arith),
+      cluster_read xs ys r j (omega arith),
+      up (r.from i) (r.from j) (r.up i j h) (omega (arith, r.within j (omega arith))),
+    )
+
+falling_reading : (xs ys : List hb_glyph_info_t) → Reading xs ys → NeverRises (clusters xs) → NeverRises (clusters ys)
+falling_reading xs ys r down i j h h2 =
+    let n = length-clusters xs in
+    let n2 = length-clusters ys in
+    omega (
+      arith,
+      cluster_read xs ys r i (omega arith),
+      cluster_read xs ys r j (omega arith),
+      down (r.from i) (r.from j) (r.up i j h) (omega (arith, r.within j (omega arith))),
+    )
+
+pub running_reading : (up : Bool) (xs ys : List hb_glyph_info_t) → Reading xs ys → Runs up (clusters xs)
+    → Runs up (clusters ys)
+running_reading true = rising_reading
+running_reading false = falling_reading
+
+pub monotone_reading : (xs ys : List hb_glyph_info_t) → Reading xs ys → IsMonotone xs → IsMonotone ys
+monotone_reading xs ys r (inl up) = inl (rising_reading xs ys r up)
+monotone_reading xs ys r (inr down) = inr (falling_reading xs ys r down)
 
 pub coarse_reading : (xs ys : List hb_glyph_info_t) → Reading xs ys → IsCoarse xs → IsCoarse ys
 coarse_reading xs ys r co = record {

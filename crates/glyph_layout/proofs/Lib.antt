@@ -1,2 +1,3 @@
+pub mod DigestLemmas
 pub mod MatchLemmas
 pub mod WalkLemmas

@@ -1,5 +1,6 @@
 pub mod Budget
 pub mod Context
+pub mod Digest
 pub mod GlyphTable
 pub mod LigatureParts
 pub mod Match

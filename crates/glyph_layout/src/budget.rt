@@ -3,6 +3,12 @@
 ghost use Rattle.std.specs.Prelude.{◌≤◌, ◌<◌, ◌+◌, ◌≡◌, IsTrue, IsFalse};
 ghost use Rattle.glyph_layout.specs.Budget.{IsNotMore};
 
+/// How many steps a subtable costs that is tried.
+pub const SUBTABLE_STEPS: u32 = 4;
+
+/// How many glyphs or subtables are passed over by their digests in a step.
+pub const PASSED_A_STEP: usize = 16;
+
 /// What is left to spend. It never rises.
 #[derive(Clone, Copy, Debug)]
 pub struct Budget {

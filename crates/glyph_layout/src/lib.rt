@@ -8,6 +8,7 @@
 
 pub mod budget;
 pub mod context;
+pub mod digest;
 pub mod filter;
 pub mod glyph_table;
 pub mod ligature_parts;
@@ -22,6 +23,7 @@ pub mod walk;
 pub mod wanted;
 
 pub use budget::Budget;
+pub use digest::Digest;
 pub use filter::Filter;
 pub use lookup_list::{Lookup, LookupList};
 pub use search::{Places, Reach, Search, Sides};

@@ -10,6 +10,7 @@ ghost use Rattle.glyph_layout.specs.Substitution.{IsMultiple, IsLigature, replac
 ghost use Rattle.glyph_layout.specs.Walk.{covered_index};
 ghost use Rattle.glyph_layout.specs.declared.substitution.Edit.TheVariants.{Replace};
 
+use crate::budget::{PASSED_A_STEP, SUBTABLE_STEPS};
 use crate::context::{Fit, fitting_rule};
 use crate::filter::covered_index;
 use crate::glyph_table::Glyphs;
@@ -78,13 +79,18 @@ pub fn edit_at<'a>(
     requires { 0 < length sides.now.input.now }
     ensures spent { IsNotMore search.old.budget search.new.budget }
 {
-    for subtable in list.subtables_of(lookup) {
-        if !search.budget.pay(1) {
-            return None;
-        }
-        let edit = edit_of(list, subtable, options, is_nested, sides, search);
-        if edit.is_some() {
-            return edit;
+    let glyph = sides.input[0].glyph_id;
+    let subtables = list.subtables_of(lookup);
+    search.budget.pay_for(subtables.len() / PASSED_A_STEP);
+    for subtable in subtables {
+        if subtable.digest.may_have(glyph) {
+            if !search.budget.pay(SUBTABLE_STEPS) {
+                return None;
+            }
+            let edit = edit_of(list, subtable, options, is_nested, sides, search);
+            if edit.is_some() {
+                return edit;
+            }
         }
     }
     None

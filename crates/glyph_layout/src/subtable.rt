@@ -1,5 +1,10 @@
 //! The subtables of lookups, with what several kinds have in common parsed once.
 
+ghost use Rattle.std.specs.Prelude.{◌≡◌, is_some, true};
+ghost use Rattle.glyph_layout.specs.Digest.{HasAll};
+ghost use Rattle.glyph_layout.specs.Walk.{covered_index};
+
+use crate::digest::Digest;
 use font_tables::bytes::{table_at_16, u16_at};
 use font_tables::class_definition::ClassDefinition;
 use font_tables::coverage::Coverage;
@@ -15,6 +20,8 @@ pub struct Subtable<'a> {
     pub table: &'a [u8],
     /// The glyphs that it is for: those at the cursor.
     pub coverage: Coverage<'a>,
+    /// The digest of these glyphs.
+    pub digest: Digest,
     /// The bases, ligatures or marks that marks are attached to (kinds 4, 5 and 6 of `GPOS`).
     pub bases: Coverage<'a>,
     /// The classes of glyphs, those of the input in a chained context, and of the first glyph in a pair.
@@ -26,6 +33,7 @@ pub struct Subtable<'a> {
     /// Where the coverages of a context of format 3 begin, or those around a reverse substitution, in
     /// `LookupList::coverages`.
     pub first_coverage: usize,
+    ghost digests: { HasAll (λ glyph. is_some (covered_index coverage.table.now glyph) ≡ true) digest },
 }
 
 /// What the tables of a subtable are called in its layout.

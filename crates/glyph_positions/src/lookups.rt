@@ -1,7 +1,7 @@
 //! A lookup of `GPOS` over a buffer: each glyph that it is for is tried with its subtables, one after the other (HarfBuzz,
 //! `apply_forward`).
 
-ghost use Rattle.std.specs.Prelude.{◌≡◌, ◌+◌, false, IsSome, IfSome};
+ghost use Rattle.std.specs.Prelude.{◌≡◌, ◌≤◌, ◌+◌, false, length, IsSome, IfSome};
 ghost use Rattle.glyph_layout.specs.Budget.{IsNotMore};
 ghost use Rattle.glyph_lists.specs.Masks.{reset_masks};
 ghost use Rattle.shaping_buffer.specs.KeepsClusters.{KeepsClusters};
@@ -12,6 +12,7 @@ use crate::flags::{mark_break, mark_concat};
 use crate::marks::{LastBase, place_on_base, place_on_ligature, place_on_mark};
 use crate::pairs::{place_pair, place_single};
 use crate::turn::{Setting, Turn};
+use glyph_layout::budget::{PASSED_A_STEP, SUBTABLE_STEPS};
 use glyph_layout::context::Fit;
 use glyph_layout::filter::covered_index;
 use glyph_layout::lookup_list::Lookup;
@@ -83,36 +84,32 @@ fn place_all(
     let Some(lookup) = setting.list.lookup(lookup) else {
         return;
     };
+    search.budget.pay_for(1 + buffer.len() / PASSED_A_STEP);
     let mut last = LastBase::none();
     let mut next = 0;
-    for place in 0..buffer.len() {
-        if next <= place
-            && is_for(buffer.info(), place, lookup, options)
-            && !search.budget.is_spent()
-        {
-            let task = Task {
-                setting: *setting,
-                lookup: *lookup,
-                options: *options,
-                place,
-                depth: MAX_NESTING_LEVEL,
-            };
-            next = place_by_lookup(buffer, &task, search, &mut last).unwrap_or(0);
+    for _turn in 0..buffer.len() {
+        let place = next_place(buffer.info(), lookup, options.mask, next);
+        if place == buffer.len() || search.budget.is_spent() {
+            return;
         }
+        let task = Task {
+            setting: *setting,
+            lookup: *lookup,
+            options: *options,
+            place,
+            depth: MAX_NESTING_LEVEL,
+        };
+        next = place_by_lookup(buffer, &task, search, &mut last)
+            .unwrap_or(0)
+            .max(place + 1);
     }
 }
 
-/// Whether the lookup is for the glyph at a place.
-fn is_for(
-    glyphs: &[hb_glyph_info_t],
-    place: usize,
-    lookup: &Lookup,
-    options: &LookupOptions,
-) -> bool {
-    match glyphs.get(place) {
-        Some(glyph) => glyph.mask & options.mask != 0 && !lookup.filter.passes_over(glyph),
-        None => false,
-    }
+/// The first place from this one on at which the lookup may do something, or the number of glyphs.
+fn next_place(glyphs: &[hb_glyph_info_t], lookup: &Lookup, mask: u32, from: usize) -> usize
+    ensures { result ≤ length glyphs.now }
+{
+    lookup.first_place(mask, glyphs, from.min(glyphs.len()))
 }
 
 /// Positions the glyph by the first subtable that does, and says where the walk goes on.
@@ -132,11 +129,13 @@ fn place_by_lookup<'a>(
     ensures spent { IsNotMore search.old.budget search.new.budget }
 {
     let glyph = buffer.info().get(task.place)?.glyph_id;
-    for subtable in task.setting.list.subtables_of(&task.lookup) {
-        if !search.budget.pay(1) {
-            return None;
-        }
-        if let Some(index) = covered_index(&subtable.coverage, glyph) {
+    let subtables = task.setting.list.subtables_of(&task.lookup);
+    search.budget.pay_for(subtables.len() / PASSED_A_STEP);
+    for subtable in subtables {
+        if subtable.digest.may_have(glyph)
+            && search.budget.pay(SUBTABLE_STEPS)
+            && let Some(index) = covered_index(&subtable.coverage, glyph)
+        {
             let next = place_by_subtable(buffer, task, subtable, index, search, last);
             if next.is_some() {
                 return next;

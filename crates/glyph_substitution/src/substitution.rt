@@ -9,6 +9,7 @@ use crate::nested::{MAX_NESTING_LEVEL, Step, apply_at};
 use crate::reverse::substitute_reverse;
 use crate::writing::fail;
 use font_tables::gdef::Gdef;
+use glyph_layout::budget::PASSED_A_STEP;
 use glyph_layout::{Budget, Lookup, LookupList, LookupOptions, Search};
 use shaping_buffer::hb_buffer_t;
 use std::alloc::AllocError;
@@ -51,6 +52,8 @@ impl Progress {
 /// Applies the lookup of this index at each glyph, in one walk. `Ok(false)` where the buffer refused a call for length:
 /// the output is then still open. Where the budget is spent, the rest of the text stays as it is, and
 /// `buffer.shaping_failed` says so. `Err(AllocError)` where memory ran out.
+///
+/// A lookup that is for no glyph of the text costs a test of each, mostly by the digest.
 pub fn substitute(
     buffer: &mut hb_buffer_t,
     substitutions: &Substitutions,
@@ -62,10 +65,34 @@ pub fn substitute(
     ensures spent { IsNotMore progress.old.search.budget progress.new.search.budget }
     ensures keeps { KeepsClusters buffer.old buffer.new }
 {
+    let mask = substitutions.options.mask;
     let Some(lookup) = substitutions.list.lookup(index) else {
         return Ok(true);
     };
-    if substitutions.options.mask == 0 || buffer.is_empty() {
+    progress
+        .search
+        .budget
+        .pay_for(1 + buffer.len() / PASSED_A_STEP);
+    if mask == 0 || lookup.first_place(mask, buffer.info(), 0) == buffer.len() {
+        return Ok(true);
+    }
+    apply(buffer, substitutions, lookup, progress)
+}
+
+/// Applies a lookup at each glyph, from the side that it is applied from.
+fn apply(
+    buffer: &mut hb_buffer_t,
+    substitutions: &Substitutions,
+    lookup: &Lookup,
+    progress: &mut Progress,
+) -> Result<bool, AllocError>
+    requires { buffer.old.have_output ≡ false }
+    ensures left { IsLeftClosed result buffer.new }
+    ensures spent { IsNotMore progress.old.search.budget progress.new.search.budget }
+    ensures keeps { KeepsClusters buffer.old buffer.new }
+{
+    if progress.search.budget.is_spent() {
+        fail(buffer);
         return Ok(true);
     }
     if is_reverse(substitutions.list, lookup) {
@@ -97,9 +124,10 @@ fn substitute_forward(
 {
     buffer.clear_output();
     for _turn in 0..buffer.len() {
-        if buffer.lookahead_len() > 0
-            && !substitute_next(buffer, substitutions, lookup, progress)?
-        {
+        if buffer.lookahead_len() == 0 || progress.search.budget.is_spent() {
+            break;
+        }
+        if !substitute_next(buffer, substitutions, lookup, progress)? {
             return Ok(false);
         }
     }
@@ -109,22 +137,24 @@ fn substitute_forward(
     buffer.sync()
 }
 
-/// Applies a lookup at the cursor, or puts the current glyph out.
+/// Puts out the glyphs that the lookup is not for, and applies it at the next one, if there is one.
 fn substitute_next(
     buffer: &mut hb_buffer_t,
     substitutions: &Substitutions,
     lookup: &Lookup,
     progress: &mut Progress,
 ) -> Result<bool, AllocError>
-    requires opened { buffer.old.have_output ≡ true }
-    requires glyph { 0 < length buffer.old.input }
+    requires { buffer.old.have_output ≡ true }
     ensures left { IsLeftOpen result buffer.new }
     ensures spent { IsNotMore progress.old.search.budget progress.new.search.budget }
     ensures keeps { KeepsClusters buffer.old buffer.new }
 {
-    let glyph = buffer.cur(0);
-    if glyph.mask & substitutions.options.mask == 0 || lookup.filter.passes_over(glyph) {
-        return buffer.next_glyph();
+    let passed = lookup.first_place(substitutions.options.mask, buffer.info(), 0);
+    if passed > 0 && !buffer.next_glyphs(passed)? {
+        return Ok(false);
+    }
+    if buffer.lookahead_len() == 0 {
+        return Ok(true);
     }
     match apply_at(buffer, substitutions, lookup, progress, MAX_NESTING_LEVEL)? {
         Step::Applied => Ok(true),

@@ -1,4 +1,4 @@
-//! How a text is shaped by a font: HarfBuzz's `hb_ot_shape_plan_t`, for the default shaper.
+//! How a text is shaped by a font: HarfBuzz's `hb_ot_shape_plan_t`.
 
 ghost use Rattle.std.specs.Prelude.{◌≡◌, IfOk};
 ghost use Rattle.layout_plan.specs.Plan.{IsPlan};
@@ -43,6 +43,26 @@ pub struct TextProperties<'a> {
     pub languages: &'a [Tag],
 }
 
+/// What the shaper of a text's script says of positions.
+#[derive(Clone, Copy, PartialEq, Eq, Debug)]
+pub struct ShaperRules {
+    /// The script that `GPOS` has to have for its lookups to be applied; `None` where any will do.
+    pub gpos_script: Option<Tag>,
+    /// Whether marks lose their width.
+    pub zero_marks: bool,
+    /// Whether marks are placed by the bounds of glyphs where the font does not place them.
+    pub fallback_position: bool,
+}
+
+impl ShaperRules {
+    /// Those of the default shaper.
+    pub const DEFAULT: ShaperRules = ShaperRules {
+        gpos_script: None,
+        zero_marks: true,
+        fallback_position: true,
+    };
+}
+
 /// How a text is shaped by a font.
 #[derive(Debug, Drop)]
 pub struct ShapePlan {
@@ -81,7 +101,7 @@ pub struct ShapePlan {
 }
 
 impl ShapePlan {
-    /// The plan for a text and a user's features.
+    /// The plan of the default shaper, for a text and a user's features.
     pub fn new(
         alloc: Global,
         font: &FontLayout,
@@ -90,19 +110,56 @@ impl ShapePlan {
     ) -> Result<ShapePlan, AllocError>
         ensures { IfOk result (λ plan. IsPlan plan.layout) }
     {
+        let mut builder = ShapePlan::begin(alloc, font, text)?;
+        ShapePlan::add_common_features(&mut builder, text.direction, features)?;
+        ShapePlan::complete(alloc, builder, font, text.direction, ShaperRules::DEFAULT)
+    }
+
+    /// What is chosen of a font for a text, and the features that come before those of a script's shaper.
+    pub fn begin<'a>(
+        alloc: Global,
+        font: &FontLayout<'a>,
+        text: &TextProperties,
+    ) -> Result<PlanBuilder<'a>, AllocError> {
         let gsub = ChosenTable::new(font.gsub, text.scripts, text.languages);
         let gpos = ChosenTable::new(font.gpos, text.scripts, text.languages);
         let mut builder = PlanBuilder::new(alloc, gsub, gpos);
         add_first_features(&mut builder, text.direction)?;
-        add_last_features(&mut builder, text.direction)?;
-        add_user_features(&mut builder, features)?;
+        Ok(builder)
+    }
+
+    /// Asks for the features that come behind those of a script's shaper, and then for a user's.
+    pub fn add_common_features(
+        builder: &mut PlanBuilder,
+        direction: Direction,
+        features: &[Feature],
+    ) -> Result<(), AllocError> {
+        add_last_features(builder, direction)?;
+        add_user_features(builder, features)
+    }
+
+    /// The plan of all features that were asked for.
+    pub fn complete(
+        alloc: Global,
+        builder: PlanBuilder,
+        font: &FontLayout,
+        direction: Direction,
+        rules: ShaperRules,
+    ) -> Result<ShapePlan, AllocError>
+        ensures { IfOk result (λ plan. IsPlan plan.layout) }
+    {
         let layout = builder.compile(alloc)?;
-        Ok(decided(layout, font, text.direction))
+        Ok(decided(layout, font, direction, rules))
     }
 }
 
-/// What follows from the features of a plan and the tables of a font.
-fn decided(layout: LayoutPlan, font: &FontLayout, direction: Direction) -> ShapePlan
+/// What follows from the features of a plan, the tables of a font and the shaper of a script.
+fn decided(
+    layout: LayoutPlan,
+    font: &FontLayout,
+    direction: Direction,
+    rules: ShaperRules,
+) -> ShapePlan
     ensures { result.layout ≡ layout }
 {
     let kern_tag = if direction.is_horizontal() {
@@ -117,7 +174,11 @@ fn decided(layout: LayoutPlan, font: &FontLayout, direction: Direction) -> Shape
     let has_gpos_kern = layout
         .feature(kern_tag)
         .is_some_and(|feature| feature.gpos.is_some());
-    let apply_gpos = !font.gpos.is_empty();
+    let is_script = match rules.gpos_script {
+        Some(script) => script == layout.gpos_script,
+        None => true,
+    };
+    let apply_gpos = is_script && !font.gpos.is_empty();
     let apply_kern = font.kern.is_there && !(has_gpos_kern && apply_gpos);
     let adjusts = !apply_gpos && !(apply_kern && font.kern.is_cross_stream);
     ShapePlan {
@@ -132,10 +193,10 @@ fn decided(layout: LayoutPlan, font: &FontLayout, direction: Direction) -> Shape
         apply_gpos,
         apply_kern,
         apply_fallback_kern: !apply_gpos && !apply_kern,
-        zero_marks: !(apply_kern && font.kern.has_machine),
+        zero_marks: rules.zero_marks && !(apply_kern && font.kern.has_machine),
         has_gpos_mark: layout.one_mask(Tag::from_bytes(b"mark")) != 0,
         adjust_mark_positioning_when_zeroing: adjusts,
-        fallback_mark_positioning: adjusts,
+        fallback_mark_positioning: adjusts && rules.fallback_position,
         layout,
     }
 }

@@ -98,6 +98,7 @@ impl LineShaper<'_> {
         match shape(self.face, self.options.features.as_slice(), text) {
             Ok(glyphs) => self.print(alloc, names, &glyphs),
             Err(ShapeError::TooLong) => Ok(Answer::Failed),
+            Err(ShapeError::OtherPlan) => Ok(Answer::Failed),
             Err(ShapeError::Unverified(error)) => Ok(Answer::Unverified(error)),
             Err(ShapeError::Memory) => Err(AllocError),
         }

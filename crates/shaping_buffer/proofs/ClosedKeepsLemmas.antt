@@ -1,16 +1,17 @@
 -- What calls keep of the clusters that no output is open at: writes, masks, reversals and deletion in place.
-use Rattle.std.proofs.Common.{◌≡◌, ◌⊎◌, inl, inr, ℕ, zero, suc, ◌-◌, ◌<◌, ◌≤◌, Bool, true, false, cond, List, []}
+use Rattle.std.proofs.Common.{◌≡◌, ℕ, zero, suc, ◌-◌, ◌<◌, ◌≤◌, Bool, true, false, cond, List, []}
 use Rattle.std.proofs.Common.{◌++◌, length, reverse, take, drop, refl, sym, ap, ◌∙◌, subst, arith}
 use Rattle.std.proofs.Common.{append_assoc, eqb, length-drop}
 use Rattle.std.proofs.lemmas.Bool.{cond_both}
 use Rattle.std.proofs.lemmas.List.{take-append-drop, get_or-reverse, length-reverse, map-append}
 use Rattle.std.proofs.lemmas.List.{drop_all, take_all, append-nil}
 use Rattle.std.proofs.Math.Seq.{map-set_same}
-use Rattle.std.specs.Prelude.{slice_index, slice_index_or, slice_set}
+use Rattle.std.specs.Prelude.{not, slice_index, slice_index_or, slice_set}
 use Rattle.glyph_sides.specs.LendingLists.{refilled}
 use Rattle.shaping_buffer.specs.Lending.{with_input, with_out, with_cur, with_prev}
 use Rattle.rb_glyph.specs.declared.info.hb_glyph_info_t.{hb_glyph_info_t}
-use Rattle.glyph_lists.specs.Clusters.{clusters, occurs, IsMonotone, NeverFalls, NeverRises, zero_glyph}
+use Rattle.glyph_lists.specs.Clusters.{clusters, occurs, NeverFalls, NeverRises, zero_glyph}
+use Rattle.glyph_lists.specs.KeptClusters.{BringsNoCluster, KeepsLeast, Runs}
 use Rattle.glyph_lists.specs.Deletion.{Sides}
 use Rattle.glyph_lists.specs.DeletingWalk.{head_of, after_turn, after_walk}
 use Rattle.glyph_lists.specs.Masks as masks
@@ -24,7 +25,7 @@ use Rattle.shaping_buffer.specs.State.{State, place_of}
 use Rattle.shaping_buffer.specs.ClusterStep as cluster_step
 use Rattle.shaping_buffer.specs.ClusterStep.{both, any_order, delete_glyph}
 use Rattle.shaping_buffer.specs.GroupStep as group_step
-use Rattle.shaping_buffer.specs.KeepsClusters.{KeepsClusters}
+use Rattle.shaping_buffer.specs.KeepsClusters.{KeepsClusters, TurnsClusters}
 use Rattle.shaping_buffer.proofs.KeepsLemmas.{keeps_none, keeps_then, keeps_alike, keeps_delete_glyph}
 use Rattle.shaping_buffer.proofs.LeastSteps.{least_by, least_stays}
 
@@ -81,9 +82,6 @@ pub keeps_with_prev : (s : State) (g d : hb_glyph_info_t)
 keeps_with_prev s g d same =
     keeps_sides s (with_prev s g) refl (clusters_written s.out (length s.out - 1) g d same) refl
 
-pub monotone_alike : (l m : List hb_glyph_info_t) → clusters m ≡ clusters l → IsMonotone l → IsMonotone m
-monotone_alike l m e h = subst (λ cs. NeverFalls cs ⊎ NeverRises cs) (sym e) h
-
 -- ---- masks
 
 clusters-reset_masks : (mask : ℕ) (l : List hb_glyph_info_t) → clusters (masks.reset_masks mask l) ≡ clusters l
@@ -118,19 +116,25 @@ at_reversed l k h =
     ∙ ap (λ g. g.cluster) (get_or-reverse l k zero_glyph h)
     ∙ sym (get_or-clusters l (length l - 1 - k) zero_glyph (omega arith))
 
-monotone-reverse : (l : List hb_glyph_info_t) → IsMonotone l → IsMonotone (reverse l)
-monotone-reverse l (inl rises) = inr (λ i j up in_r.
+rising-reverse : (l : List hb_glyph_info_t) → NeverFalls (clusters l) → NeverRises (clusters (reverse l))
+rising-reverse l rises i j up in_r =
     let n = length-clusters (reverse l) in
     let m = length-reverse l in
     let k = length-clusters l in
     let le = rises (length l - 1 - j) (length l - 1 - i) (omega arith) (omega arith) in
-    omega (arith, le, at_reversed l i (omega arith), at_reversed l j (omega arith)))
-monotone-reverse l (inr falls) = inl (λ i j up in_r.
+    omega (arith, le, at_reversed l i (omega arith), at_reversed l j (omega arith))
+
+falling-reverse : (l : List hb_glyph_info_t) → NeverRises (clusters l) → NeverFalls (clusters (reverse l))
+falling-reverse l falls i j up in_r =
     let n = length-clusters (reverse l) in
     let m = length-reverse l in
     let k = length-clusters l in
     let le = falls (length l - 1 - j) (length l - 1 - i) (omega arith) (omega arith) in
-    omega (arith, le, at_reversed l i (omega arith), at_reversed l j (omega arith)))
+    omega (arith, le, at_reversed l i (omega arith), at_reversed l j (omega arith))
+
+running-reverse : (up : Bool) (l : List hb_glyph_info_t) → Runs up (clusters l) → Runs (not up) (clusters (reverse l))
+running-reverse true = rising-reverse
+running-reverse false = falling-reverse
 
 pub stands-reverse : (c : ℕ) (l : List hb_glyph_info_t) → Stands c (reverse l) → Stands c l
 stands-reverse c l w =
@@ -154,33 +158,51 @@ closed_both : (s : State) → s.out ≡ [] → both s ≡ s.input
 closed_both s e = ap (λ l. l ++ s.input) e
 
 -- no output is open, and the list gives way to another of the same numbers
+module _ (s t : State) (e : s.out ≡ []) (e2 : t.out ≡ []) (back : (c : ℕ) → Stands c t.input → Stands c s.input)
+    (on : any_order s ≡ false → (c : ℕ) → Stands c s.input → Stands c t.input) where
+  pub list_numbers : BringsNoCluster (both s) (both t)
+  list_numbers c in_t = subst (λ l. occurs c (clusters l) ≡ true) (sym (closed_both s e))
+      (occurs-from_stands c s.input (back c
+      (Stands-from_occurs c t.input (subst (λ l. occurs c (clusters l) ≡ true) (closed_both t e2) in_t))))
+
+  pub list_least : KeepsLeast (any_order s) (both s) (both t)
+  list_least any some = least_stays (both s) (both t) list_numbers
+      (λ c low. least_by c (both s) (both t)
+      (λ d w. subst (Stands d) (sym (closed_both s e)) (back d (subst (Stands d) (closed_both t e2) w)))
+      (λ w. subst (Stands c) (sym (closed_both t e2)) (on any c (subst (Stands c) (closed_both s e) w))) low) some
+
+-- such a list that is turned
+pub turns_reverse : (s : State) → s.out ≡ [] → TurnsClusters s (group_step.reverse s)
+turns_reverse s e =
+    let t = group_step.reverse s in
+    let back : (c : ℕ) → Stands c t.input → Stands c s.input = λ c. stands-reverse c s.input in
+    let is = closed_both s e in
+    let is2 = closed_both t e in
+    record {
+      level = refl;
+      order = λ any up h. subst (λ l. Runs (not up) (clusters l)) (sym is2)
+          (running-reverse up s.input (subst (λ l. Runs up (clusters l)) is h));
+      numbers = list_numbers s t e e back (λ any c. stands-in_reverse c s.input);
+      least = list_least s t e e back (λ any c. stands-in_reverse c s.input);
+    }
+
+-- and one of the same clusters at the monotone levels
 pub keeps_list : (s t : State) → s.out ≡ [] → t.out ≡ [] → t.cluster_level ≡ s.cluster_level
-    → (any_order s ≡ false → IsMonotone s.input → IsMonotone t.input)
+    → (any_order s ≡ false → clusters t.input ≡ clusters s.input)
     → ((c : ℕ) → Stands c t.input → Stands c s.input)
     → (any_order s ≡ false → (c : ℕ) → Stands c s.input → Stands c t.input)
     → KeepsClusters s t
-keeps_list s t e e2 level order back on =
-    let is = closed_both s e in
-    let is2 = closed_both t e2 in
-    let numbers : (c : ℕ) → occurs c (clusters (both t)) ≡ true → occurs c (clusters (both s)) ≡ true =
-    λ c in_t. subst (λ l. occurs c (clusters l) ≡ true) (sym is)
-    (occurs-from_stands c s.input (back c
-    (Stands-from_occurs c t.input (subst (λ l. occurs c (clusters l) ≡ true) is2 in_t)))) in
+keeps_list s t e e2 level alike back on =
+    let same : any_order s ≡ false → clusters (both t) ≡ clusters (both s) = λ any.
+    ap clusters (closed_both t e2) ∙ alike any ∙ sym (ap clusters (closed_both s e)) in
     record {
       ordered = record {
         level = level;
-        order = λ any h. subst IsMonotone (sym is2) (order any (subst IsMonotone is h));
-        numbers = numbers;
+        order = λ any up. subst (Runs up) (sym (same any));
+        numbers = list_numbers s t e e2 back on;
       };
-      least = λ any some. least_stays (both s) (both t) numbers
-          (λ c low. least_by c (both s) (both t)
-          (λ d w. subst (Stands d) (sym is) (back d (subst (Stands d) is2 w)))
-          (λ w. subst (Stands c) (sym is2) (on any c (subst (Stands c) is w))) low) some;
+      least = list_least s t e e2 back on;
     }
-
-pub keeps_reverse : (s : State) → s.out ≡ [] → KeepsClusters s (group_step.reverse s)
-keeps_reverse s e = keeps_list s (group_step.reverse s) e e refl (λ any. monotone-reverse s.input)
-    (λ c. stands-reverse c s.input) (λ any c. stands-in_reverse c s.input)
 
 -- ---- deletion in place
 

@@ -1,7 +1,7 @@
 -- What each call keeps of the clusters of both sides.
 use Rattle.std.proofs.Common.{◌≡◌, ◌⊎◌, inl, inr, ℕ, zero, suc, ◌+◌, ◌-◌, ◌<◌, ◌≤◌, Bool, true, false, List, [], ◌∷◌, ◌++◌, length, map, take}
 use Rattle.std.proofs.Common.{drop, cond, append_assoc, refl, sym, ap, ◌∙◌, subst, arith, leb, ltb, length-append}
-use Rattle.std.specs.Prelude.{⊤, Result, Ok, Err, Option, Some, slice_index_or}
+use Rattle.std.specs.Prelude.{⊤, not, Result, Ok, Err, Option, Some, slice_index_or}
 use Rattle.std.specs.declared.alloc.AllocError.{AllocError}
 use Rattle.std.proofs.lemmas.Bool.{cond_both}
 use Rattle.std.proofs.lemmas.List.{map-append, take_more, take_all}
@@ -10,18 +10,18 @@ use Rattle.rb_glyph.specs.declared.info.hb_glyph_info_t.{hb_glyph_info_t}
 use Rattle.rb_glyph.specs.declared.glyph_flag.TheConstants.{UNSAFE_TO_CONCAT, SAFE_TO_INSERT_TATWEEL}
 use Rattle.rb_glyph.specs.declared.flag_sets.TheConstants.BufferFlags.{PRODUCE_UNSAFE_TO_CONCAT}
 use Rattle.rb_glyph.specs.declared.flag_sets.TheConstants.BufferFlags.{PRODUCE_SAFE_TO_INSERT_TATWEEL}
-use Rattle.glyph_lists.specs.Clusters.{clusters, occurs, least, zero_glyph, IsMonotone, NeverFalls, NeverRises}
+use Rattle.glyph_lists.specs.Clusters.{clusters, occurs, least, zero_glyph}
 use Rattle.glyph_lists.specs.Deletion.{deletion}
 use Rattle.glyph_lists.specs.GlyphFlags.{BreakImpliesConcat}
-use Rattle.glyph_lists.specs.KeptClusters.{BringsNoCluster}
+use Rattle.glyph_lists.specs.KeptClusters.{BringsNoCluster, Runs}
 use Rattle.glyph_lists.specs.Replacement.{copies, replacement}
 use Rattle.glyph_lists.specs.declared.glyph_flags.TheConstants.{BREAK_BITS}
 use Rattle.glyph_lists.proofs.LengthsLemmas.{length-deletion}
 use Rattle.glyph_laws.proofs.GlyphFlagsLemmas.{two_agrees, three_agrees, four_agrees}
 use Rattle.glyph_laws.proofs.NumbersLemmas.{Stands, Stands-from_occurs, occurs-from_stands, least-deletion}
 use Rattle.glyph_laws.proofs.NumbersLemmas.{stands_left, stands_right}
-use Rattle.glyph_laws.proofs.OrderLemmas.{run_merge_keeps_order}
-use Rattle.glyph_laws.proofs.ReadingsLemmas.{at, monotone_reading}
+use Rattle.glyph_laws.proofs.OrderLemmas.{run_merge_keeps_running}
+use Rattle.glyph_laws.proofs.ReadingsLemmas.{at, running_reading}
 use Rattle.glyph_laws.proofs.ReplacementLemmas.{least-replacement}
 use Rattle.shaping_buffer.specs.State.{State, len, lookahead_len}
 use Rattle.shaping_buffer.specs.Step as step
@@ -31,7 +31,7 @@ use Rattle.shaping_buffer.specs.ClusterLevel.{allows_any_order, groups_graphemes
 use Rattle.shaping_buffer.specs.ClusterStep as cluster_step
 use Rattle.shaping_buffer.specs.ClusterStep.{both, both_place, any_order, head_of, merge_input, plain_scan}
 use Rattle.shaping_buffer.specs.ClusterStep.{flag_all, range_start, range_end, asks}
-use Rattle.shaping_buffer.specs.KeepsClusters.{KeepsClusterOrder, KeepsClusters, HasTwin, IsBeside}
+use Rattle.shaping_buffer.specs.KeepsClusters.{KeepsClusterOrder, KeepsClusters, TurnsClusters, HasTwin, IsBeside}
 use Rattle.shaping_buffer.proofs.ReplacementLemmas.{replaced_sides, replaced_both}
 use Rattle.shaping_buffer.proofs.Steps.{StepsKeep, KeepingSteps, end_kept, front_left, next_keeps, rename_keeps}
 use Rattle.shaping_buffer.proofs.Steps.{output_keeps, copy_keeps, move_keeps, skip_keeps, merge_keeps}
@@ -44,7 +44,7 @@ use Rattle.shaping_buffer.proofs.LeastSteps.{stands_split}
 -- ---- the relations
 
 pub ordered_none : (s : State) → KeepsClusterOrder s s
-ordered_none s = record { level = refl; order = λ any h. h; numbers = λ c on. on }
+ordered_none s = record { level = refl; order = λ any up h. h; numbers = λ c on. on }
 
 pub keeps_none : (s : State) → KeepsClusters s s
 keeps_none s = record { ordered = ordered_none s; least = λ any some. refl }
@@ -55,7 +55,7 @@ same_order s t level any = ap allows_any_order level ∙ any
 pub ordered_then : (s t u : State) → KeepsClusterOrder s t → KeepsClusterOrder t u → KeepsClusterOrder s u
 ordered_then s t u a b = record {
   level = b.level ∙ a.level;
-  order = λ any h. b.order (same_order s t a.level any) (a.order any h);
+  order = λ any up h. b.order (same_order s t a.level any) up (a.order any up h);
   numbers = λ c on. a.numbers c (b.numbers c on);
 }
 
@@ -74,13 +74,52 @@ keeps_then s t u a b = record {
       ∙ a.least any (some_before (both t) (both u) b.ordered.numbers some);
 }
 
+-- a list that is turned, before or behind steps that keep clusters
+pub keeps_then_turns : (s t u : State) → KeepsClusters s t → TurnsClusters t u → TurnsClusters s u
+keeps_then_turns s t u a b = record {
+  level = b.level ∙ a.ordered.level;
+  order = λ any up h. b.order (same_order s t a.ordered.level any) up (a.ordered.order any up h);
+  numbers = λ c on. a.ordered.numbers c (b.numbers c on);
+  least = λ any some.
+      b.least (same_order s t a.ordered.level any) some
+      ∙ a.least any (some_before (both t) (both u) b.numbers some);
+}
+
+pub turns_then_keeps : (s t u : State) → TurnsClusters s t → KeepsClusters t u → TurnsClusters s u
+turns_then_keeps s t u a b = record {
+  level = b.ordered.level ∙ a.level;
+  order = λ any up h. b.ordered.order (same_order s t a.level any) (not up) (a.order any up h);
+  numbers = λ c on. a.numbers c (b.ordered.numbers c on);
+  least = λ any some.
+      b.least (same_order s t a.level any) some
+      ∙ a.least any (some_before (both t) (both u) b.ordered.numbers some);
+}
+
+turned_back : (up : Bool) → not (not up) ≡ up
+turned_back true = refl
+turned_back false = refl
+
+-- a list that is turned twice keeps its order
+pub turns_twice : (s t u : State) → TurnsClusters s t → TurnsClusters t u → KeepsClusters s u
+turns_twice s t u a b = record {
+  ordered = record {
+    level = b.level ∙ a.level;
+    order = λ any up h. subst (λ way. Runs way (clusters (both u))) (turned_back up)
+        (b.order (same_order s t a.level any) (not up) (a.order any up h));
+    numbers = λ c on. a.numbers c (b.numbers c on);
+  };
+  least = λ any some.
+      b.least (same_order s t a.level any) some
+      ∙ a.least any (some_before (both t) (both u) b.numbers some);
+}
+
 -- the clusters of both sides are the same
 pub keeps_alike : (s t : State) → t.cluster_level ≡ s.cluster_level → clusters (both t) ≡ clusters (both s)
     → KeepsClusters s t
 keeps_alike s t level e = record {
   ordered = record {
     level = level;
-    order = λ any h. subst (λ cs. NeverFalls cs ⊎ NeverRises cs) (sym e) h;
+    order = λ any up. subst (Runs up) (sym e);
     numbers = λ c on. subst (λ cs. occurs c cs ≡ true) e on;
   };
   least = λ any some. ap least e;
@@ -92,8 +131,9 @@ ordered_by : (s t : State) → t.cluster_level ≡ s.cluster_level
     → ((P : List hb_glyph_info_t → Type 0) → StepsKeep P (λ _. ⊤) → P (both s) → P (both t)) → KeepsClusterOrder s t
 ordered_by s t level f = record {
   level = level;
-  order = λ any. f IsMonotone
-      (reading_steps IsMonotone (λ _. ⊤) tt monotone_reading (λ floor _ l p q. run_merge_keeps_order l p q floor));
+  order = λ any up. f (λ l. Runs up (clusters l))
+      (reading_steps (λ l. Runs up (clusters l)) (λ _. ⊤) tt (running_reading up)
+      (λ floor _ l p q. run_merge_keeps_running up l p q floor));
   numbers = λ c on. occurs-from_stands c (both s)
       (f (StoodIn (both s) c) (stood_steps (both s) c) (λ w. w) (Stands-from_occurs c (both t) on));
 }
@@ -394,6 +434,9 @@ keeps_unsafe_to_concat_from_outbuffer start end s closed opened =
 -- another name for what it leaves
 pub kept_as : (s u t : State) → KeepsClusters s u → t ≡ u → KeepsClusters s t
 kept_as s u t kept e = subst (KeepsClusters s) (sym e) kept
+
+pub turned_as : (s u t : State) → TurnsClusters s u → t ≡ u → TurnsClusters s t
+turned_as s u t turned e = subst (TurnsClusters s) (sym e) turned
 
 pub ordered_as : (s u t : State) → KeepsClusterOrder s u → t ≡ u → KeepsClusterOrder s t
 ordered_as s u t kept e = subst (KeepsClusterOrder s) (sym e) kept

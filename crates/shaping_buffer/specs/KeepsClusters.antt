@@ -1,12 +1,15 @@
 -- What a call keeps of the clusters of both sides, whatever its answer.
-use Rattle.std.specs.Prelude.{◌≡◌, ◌<◌, ◌≤◌, ◌⊎◌, ◌++◌, ◌-◌, ℕ, true, false, length, drop, slice_index}
+use Rattle.std.specs.Prelude.{◌≡◌, ◌<◌, ◌≤◌, ◌⊎◌, ◌++◌, ◌+◌, ◌-◌, ℕ, true, false, List, length, drop, slice_index}
 use Rattle.std.specs.Prelude.{slice_index_or}
+use Rattle.rb_glyph.specs.declared.info.hb_glyph_info_t.{hb_glyph_info_t}
 use Rattle.glyph_lists.specs.Clusters.{clusters, occurs, zero_glyph}
-use Rattle.glyph_lists.specs.KeptClusters.{KeepsOrder, BringsNoCluster, KeepsLeast}
+use Rattle.glyph_lists.specs.Groups.{Test}
+use Rattle.glyph_lists.specs.KeptClusters.{KeepsOrder, TurnsOrder, BringsNoCluster, KeepsLeast}
 use Rattle.shaping_buffer.specs.State.{State}
 use Rattle.shaping_buffer.specs.ClusterStep.{both, any_order, head_of}
 
--- The level stays, at the monotone levels monotone clusters stay monotone, and at every level no cluster number is new.
+-- The level stays, at the monotone levels clusters that rise still rise and those that fall still fall, and at every level
+-- no cluster number is new.
 pub record KeepsClusterOrder (old new : State) : Type 0 where
   pub level : new.cluster_level ≡ old.cluster_level
   pub order : KeepsOrder (any_order old) (both old) (both new)
@@ -15,6 +18,13 @@ pub record KeepsClusterOrder (old new : State) : Type 0 where
 -- And at the monotone levels the least cluster stays while a glyph does.
 pub record KeepsClusters (old new : State) : Type 0 where
   pub ordered : KeepsClusterOrder old new
+  pub least : KeepsLeast (any_order old) (both old) (both new)
+
+-- The same of a list that is turned: at the monotone levels clusters that rose fall, and those that fell rise.
+pub record TurnsClusters (old new : State) : Type 0 where
+  pub level : new.cluster_level ≡ old.cluster_level
+  pub order : TurnsOrder (any_order old) (both old) (both new)
+  pub numbers : BringsNoCluster (both old) (both new)
   pub least : KeepsLeast (any_order old) (both old) (both new)
 
 -- While an output is open another glyph is in the cluster of the current one.
@@ -32,3 +42,10 @@ abbrev pub IsOneCluster : ℕ → ℕ → State → Type 0
 IsOneCluster start end s =
     any_order s ≡ false → (k : ℕ) → start ≤ k → k < end
     → slice_index (clusters s.input) k ≡ slice_index (clusters s.input) start
+
+-- Neighbours that the test puts into one group are in one cluster.
+abbrev pub ShareClusters : Test → List hb_glyph_info_t → Type 0
+ShareClusters test l =
+    (k : ℕ) → k + 1 < length l
+    → test (slice_index_or l k zero_glyph) (slice_index_or l (k + 1) zero_glyph) ≡ true
+    → (slice_index_or l (k + 1) zero_glyph).cluster ≡ (slice_index_or l k zero_glyph).cluster

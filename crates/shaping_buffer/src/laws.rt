@@ -17,7 +17,7 @@ ghost use Rattle.shaping_buffer.specs.ClusterStep.{both, any_order};
 ghost use Rattle.rb_glyph.specs.declared.info.hb_glyph_info_t.{hb_glyph_info_t};
 ghost use Rattle.shaping_buffer.specs.State.{State, place_of};
 ghost use Rattle.shaping_buffer.specs.Lending.{with_input, with_out, with_cur, with_prev};
-ghost use Rattle.shaping_buffer.specs.KeepsClusters.{KeepsClusters, KeepsClusterOrder};
+ghost use Rattle.shaping_buffer.specs.KeepsClusters.{KeepsClusters, KeepsClusterOrder, TurnsClusters};
 ghost use Rattle.glyph_lists.specs.Clusters.{clusters};
 ghost use Rattle.shaping_buffer.specs.Step as step;
 ghost use Rattle.shaping_buffer.specs.GroupStep.{reverse, delete_glyphs_inplace, walk_by_calls};
@@ -88,6 +88,13 @@ pub fn clusters_that_are_kept_stay_kept()
         → KeepsClusterOrder s u }
     ensures alike { (s t : State) → t.cluster_level ≡ s.cluster_level
         → clusters t.out ≡ clusters s.out → clusters t.input ≡ clusters s.input → KeepsClusters s t }
+{}
+
+/// A list that is turned, before or behind steps that keep its clusters, is turned. One that is turned twice keeps its clusters.
+pub fn clusters_that_are_turned_twice_are_kept()
+    ensures behind { (s t u : State) → KeepsClusters s t → TurnsClusters t u → TurnsClusters s u }
+    ensures before { (s t u : State) → TurnsClusters s t → KeepsClusters t u → TurnsClusters s u }
+    ensures twice { (s t u : State) → TurnsClusters s t → TurnsClusters t u → KeepsClusters s u }
 {}
 
 /// What is written through a reference of the buffer, and leaves the clusters as they are, keeps the clusters.

@@ -58,6 +58,10 @@ pub mod position_tables;
 #[allow(clippy::style, clippy::complexity)]
 pub mod runs;
 #[allow(clippy::style, clippy::complexity)]
+pub mod script_features;
+#[allow(clippy::style, clippy::complexity)]
+pub mod script_shapers;
+#[allow(clippy::style, clippy::complexity)]
 pub mod text;
 #[allow(clippy::style, clippy::complexity)]
 pub mod unicode_tables;
@@ -66,5 +70,6 @@ pub mod unicode_tables;
 #[allow(unsafe_code)]
 pub mod capi;
 mod facade;
+pub mod rustybuzz;
 
 pub use facade::*;

@@ -1,12 +1,17 @@
 //! The first round of normalization: a glyph is found for each character, or for its parts.
 
 ghost use Rattle.std.specs.Prelude.{◌≡◌, ◌+◌, ◌<◌, ◌≤◌, true, false, length, IfOk};
+ghost use Rattle.shaping_buffer.specs.Clusters.{clusters};
+ghost use Rattle.shaping_buffer.specs.KeepsClusters.{KeepsClusters};
 
+use super::drop_behind;
 use super::parts::{MOST_STEPS, Parts, add_parts};
 use super::variations::read_variations;
 use crate::face::Face;
 use crate::glyph_info::{is_unicode_mark, is_unicode_space, set_space_fallback, set_unicode_props};
+use rb_common::GlyphId;
 use shaping_buffer::rb_glyph::hb_unicode_funcs_t::NOT_SPACE;
+use shaping_buffer::rb_glyph::space_t;
 use shaping_buffer::{
     CharExt, HB_BUFFER_SCRATCH_FLAG_HAS_SPACE_FALLBACK, hb_buffer_t, hb_glyph_info_t,
 };
@@ -17,18 +22,25 @@ const NON_BREAKING_HYPHEN: u32 = 0x2011;
 
 const HYPHEN: u32 = 0x2010;
 
-/// Finds a glyph for each character, or for its parts.
-pub(crate) fn decompose_all(buffer: &mut hb_buffer_t, face: &Face) -> Result<bool, AllocError>
+/// Finds a glyph for each character, or for its parts. Where `always_shortest` holds, a character with marks is kept too if the font
+/// has a glyph for it.
+#[tactic(auto, using(shaping_buffer::proofs::ClosedKeepsLemmas::kept))]
+pub(crate) fn decompose_all(
+    buffer: &mut hb_buffer_t,
+    face: &Face,
+    always_shortest: bool,
+) -> Result<bool, AllocError>
     requires { buffer.old.have_output ≡ false }
-    ensures { IfOk result (λ done. done ≡ true → buffer.new.have_output ≡ false) }
+    ensures closed { IfOk result (λ done. done ≡ true → buffer.new.have_output ≡ false) }
+    ensures keeps { KeepsClusters buffer.old buffer.new }
 {
-    map_characters(buffer.info_slice_mut(), face);
+    map_characters(buffer, face);
     buffer.clear_output();
     for _turn in 0..buffer.len() {
         if buffer.lookahead_len() == 0 {
             break;
         }
-        if !decompose_next(buffer, face)? {
+        if !decompose_next(buffer, face, always_shortest)? {
             return Ok(false);
         }
     }
@@ -36,17 +48,35 @@ pub(crate) fn decompose_all(buffer: &mut hb_buffer_t, face: &Face) -> Result<boo
 }
 
 /// Finds the glyph of each character, 0 where the font has none.
-fn map_characters(infos: &mut [hb_glyph_info_t], face: &Face) {
-    for info in infos.iter_mut() {
-        let glyph = face.glyph_index(info.glyph_id);
-        info.set_glyph_index(glyph.map_or(0, |glyph| u32::from(glyph.0)));
+fn map_characters(buffer: &mut hb_buffer_t, face: &Face)
+    requires { buffer.old.have_output ≡ false }
+    ensures closed { buffer.new.have_output ≡ false }
+    ensures keeps { KeepsClusters buffer.old buffer.new }
+{
+    map_all(buffer.info_slice_mut(), face);
+}
+
+/// Finds the glyph of each of the characters.
+#[tactic(auto, using(shaping_buffer::proofs::ClosedKeepsLemmas::clusters_written))]
+fn map_all(infos: &mut [hb_glyph_info_t], face: &Face)
+    ensures { clusters infos.new ≡ clusters infos.old }
+{
+    for i in 0..infos.len() {
+        let glyph = face.glyph_index(infos[i].glyph_id);
+        infos[i].set_glyph_index(glyph.map_or(0, |glyph| u32::from(glyph.0)));
     }
 }
 
 /// Reads characters up to the base of the next marks, and then that base with its marks.
-fn decompose_next(buffer: &mut hb_buffer_t, face: &Face) -> Result<bool, AllocError>
+#[tactic(auto, using(shaping_buffer::proofs::ClosedKeepsLemmas::kept))]
+fn decompose_next(
+    buffer: &mut hb_buffer_t,
+    face: &Face,
+    always_shortest: bool,
+) -> Result<bool, AllocError>
     requires { buffer.old.have_output ≡ true }
-    ensures { IfOk result (λ _. buffer.new.have_output ≡ true) }
+    ensures opened { IfOk result (λ _. buffer.new.have_output ≡ true) }
+    ensures keeps { KeepsClusters buffer.old buffer.new }
 {
     let simple = simple_length(buffer.info());
     if !decompose_characters(buffer, face, simple, true)? {
@@ -56,7 +86,7 @@ fn decompose_next(buffer: &mut hb_buffer_t, face: &Face) -> Result<bool, AllocEr
     if has_variation_selector(buffer.info(), cluster) {
         read_variations(buffer, face, cluster)
     } else {
-        decompose_characters(buffer, face, cluster, false)
+        decompose_characters(buffer, face, cluster, always_shortest)
     }
 }
 
@@ -98,6 +128,7 @@ pub(crate) fn is_variation_selector(character: u32) -> bool {
 
 /// Reads so many characters: each that the font has a glyph for is kept where `shortest` holds, and else taken apart if
 /// the font has its parts.
+#[tactic(auto, using(shaping_buffer::proofs::ClosedKeepsLemmas::kept))]
 fn decompose_characters(
     buffer: &mut hb_buffer_t,
     face: &Face,
@@ -105,7 +136,8 @@ fn decompose_characters(
     shortest: bool,
 ) -> Result<bool, AllocError>
     requires { buffer.old.have_output ≡ true }
-    ensures { IfOk result (λ _. buffer.new.have_output ≡ true) }
+    ensures opened { IfOk result (λ _. buffer.new.have_output ≡ true) }
+    ensures keeps { KeepsClusters buffer.old buffer.new }
 {
     let mut left = count;
     for _turn in 0..count {
@@ -141,6 +173,7 @@ fn ready_length(infos: &[hb_glyph_info_t], count: usize, shortest: bool) -> usiz
 }
 
 /// Reads one character: puts its parts out in its place, or itself with a glyph.
+#[tactic(auto, using(shaping_buffer::proofs::ClosedKeepsLemmas::kept))]
 fn decompose_current(
     buffer: &mut hb_buffer_t,
     face: &Face,
@@ -148,7 +181,8 @@ fn decompose_current(
 ) -> Result<bool, AllocError>
     requires opened { buffer.old.have_output ≡ true }
     requires glyph { 0 < length buffer.old.input }
-    ensures { IfOk result (λ _. buffer.new.have_output ≡ true) }
+    ensures opened { IfOk result (λ _. buffer.new.have_output ≡ true) }
+    ensures keeps { KeepsClusters buffer.old buffer.new }
 {
     let mut parts = Parts::new();
     if let Some(character) = char::from_u32(buffer.cur(0).glyph_id)
@@ -163,31 +197,33 @@ fn decompose_current(
 }
 
 /// Puts characters out in place of the current one.
+#[tactic(auto, using(shaping_buffer::proofs::ClosedKeepsLemmas::kept))]
 fn put_parts(buffer: &mut hb_buffer_t, face: &Face, parts: &[char]) -> Result<bool, AllocError>
     requires opened { buffer.old.have_output ≡ true }
     requires glyph { 0 < length buffer.old.input }
-    ensures { IfOk result (λ _. buffer.new.have_output ≡ true) }
+    ensures opened { IfOk result (λ _. buffer.new.have_output ≡ true) }
+    ensures keeps { KeepsClusters buffer.old buffer.new }
 {
     for part in parts.iter() {
         if !put_part(buffer, face, *part)? {
             return Ok(false);
         }
     }
-    buffer.skip_glyph();
+    drop_behind(buffer);
     Ok(true)
 }
 
 /// Puts a character out in the cluster of the current one.
+#[tactic(auto, using(shaping_buffer::proofs::ClosedKeepsLemmas::kept))]
 fn put_part(buffer: &mut hb_buffer_t, face: &Face, part: char) -> Result<bool, AllocError>
     requires opened { buffer.old.have_output ≡ true }
     requires glyph { 0 < length buffer.old.input }
     ensures opened { IfOk result (λ _. buffer.new.have_output ≡ true) }
     ensures glyph { IfOk result (λ _. 0 < length buffer.new.input) }
+    ensures keeps { KeepsClusters buffer.old buffer.new }
 {
     let glyph = face.glyph_index(part as u32);
-    buffer
-        .cur_mut(0)
-        .set_glyph_index(glyph.map_or(0, |glyph| u32::from(glyph.0)));
+    set_current_glyph(buffer, glyph.map_or(0, |glyph| u32::from(glyph.0)));
     if !buffer.output_glyph(part as u32)? {
         return Ok(false);
     }
@@ -195,25 +231,66 @@ fn put_part(buffer: &mut hb_buffer_t, face: &Face, part: char) -> Result<bool, A
     Ok(true)
 }
 
+/// Sets the glyph of the current character.
+pub(crate) fn set_current_glyph(buffer: &mut hb_buffer_t, glyph: u32)
+    requires opened { buffer.old.have_output ≡ true }
+    requires glyph { 0 < length buffer.old.input }
+    ensures opened { buffer.new.have_output ≡ true }
+    ensures input { length buffer.new.input ≡ length buffer.old.input }
+    ensures keeps { KeepsClusters buffer.old buffer.new }
+{
+    set_glyph(buffer.cur_mut(0), glyph);
+}
+
+/// Sets the glyph of a character.
+fn set_glyph(info: &mut hb_glyph_info_t, glyph: u32)
+    ensures { info.new.cluster ≡ info.old.cluster }
+{
+    info.set_glyph_index(glyph);
+}
+
 /// Sets the properties of the character that was put out last.
-pub(crate) fn set_last_properties(buffer: &mut hb_buffer_t)
+#[tactic(auto, using(shaping_buffer::proofs::ClosedKeepsLemmas::kept))]
+fn set_last_properties(buffer: &mut hb_buffer_t)
     ensures open { buffer.new.have_output ≡ buffer.old.have_output }
     ensures input { buffer.new.input ≡ buffer.old.input }
+    ensures keeps { KeepsClusters buffer.old buffer.new }
+{
+    let scratch_flags = set_last_in(buffer);
+    buffer.scratch_flags = scratch_flags;
+}
+
+/// Sets the properties of the last character of a buffer's out side; the scratch flags that then hold.
+fn set_last_in(buffer: &mut hb_buffer_t) -> u32
+    ensures open { buffer.new.have_output ≡ buffer.old.have_output }
+    ensures input { buffer.new.input ≡ buffer.old.input }
+    ensures keeps { KeepsClusters buffer.old buffer.new }
 {
     let mut scratch_flags = buffer.scratch_flags;
-    if let Some(last) = buffer.out_info_mut().last_mut() {
-        set_unicode_props(last, &mut scratch_flags);
+    set_last(buffer.out_info_mut(), &mut scratch_flags);
+    scratch_flags
+}
+
+/// Sets the properties of the last of these characters.
+#[tactic(auto, using(shaping_buffer::proofs::ClosedKeepsLemmas::clusters_written))]
+fn set_last(infos: &mut [hb_glyph_info_t], scratch_flags: &mut u32)
+    ensures { clusters infos.new ≡ clusters infos.old }
+{
+    if !infos.is_empty() {
+        let last = infos.len() - 1;
+        set_unicode_props(&mut infos[last], scratch_flags);
     }
-    buffer.scratch_flags = scratch_flags;
 }
 
 /// Finds another glyph for a character that the font lacks: for a space the font's space, of which the width is set later,
 /// and for the hyphen that no line is broken at another hyphen.
+#[tactic(auto, using(shaping_buffer::proofs::ClosedKeepsLemmas::kept))]
 fn find_fallback(buffer: &mut hb_buffer_t, face: &Face)
     requires opened { buffer.old.have_output ≡ true }
     requires glyph { 0 < length buffer.old.input }
     ensures opened { buffer.new.have_output ≡ true }
     ensures input { length buffer.new.input ≡ length buffer.old.input }
+    ensures keeps { KeepsClusters buffer.old buffer.new }
 {
     let character = buffer.cur(0).glyph_id;
     if is_unicode_space(buffer.cur(0)) {
@@ -221,16 +298,18 @@ fn find_fallback(buffer: &mut hb_buffer_t, face: &Face)
     } else if character == NON_BREAKING_HYPHEN
         && let Some(glyph) = face.glyph_index(HYPHEN)
     {
-        buffer.cur_mut(0).set_glyph_index(u32::from(glyph.0));
+        set_current_glyph(buffer, u32::from(glyph.0));
     }
 }
 
 /// Takes the font's space, or the buffer's invisible glyph, for a space that the font lacks.
+#[tactic(auto, using(shaping_buffer::proofs::ClosedKeepsLemmas::kept))]
 fn find_space(buffer: &mut hb_buffer_t, face: &Face, character: u32)
     requires opened { buffer.old.have_output ≡ true }
     requires glyph { 0 < length buffer.old.input }
     ensures opened { buffer.new.have_output ≡ true }
     ensures input { length buffer.new.input ≡ length buffer.old.input }
+    ensures keeps { KeepsClusters buffer.old buffer.new }
 {
     let space = match char::from_u32(character) {
         Some(character) => character.space_fallback(),
@@ -243,9 +322,36 @@ fn find_space(buffer: &mut hb_buffer_t, face: &Face, character: u32)
     if space != NOT_SPACE
         && let Some(glyph) = glyph
     {
-        let current = buffer.cur_mut(0);
-        set_space_fallback(current, space);
-        current.set_glyph_index(u32::from(glyph.0));
-        buffer.scratch_flags = buffer.scratch_flags | HB_BUFFER_SCRATCH_FLAG_HAS_SPACE_FALLBACK;
+        set_space(buffer, space, glyph);
+        note_space(buffer);
     }
+}
+
+/// Says that a space of the text is one that the font lacks.
+fn note_space(buffer: &mut hb_buffer_t)
+    requires opened { buffer.old.have_output ≡ true }
+    ensures opened { buffer.new.have_output ≡ true }
+    ensures input { length buffer.new.input ≡ length buffer.old.input }
+    ensures keeps { KeepsClusters buffer.old buffer.new }
+{
+    buffer.scratch_flags = buffer.scratch_flags | HB_BUFFER_SCRATCH_FLAG_HAS_SPACE_FALLBACK;
+}
+
+/// Sets the glyph of the current character, a space of this kind.
+fn set_space(buffer: &mut hb_buffer_t, space: space_t, glyph: GlyphId)
+    requires opened { buffer.old.have_output ≡ true }
+    requires glyph { 0 < length buffer.old.input }
+    ensures opened { buffer.new.have_output ≡ true }
+    ensures input { length buffer.new.input ≡ length buffer.old.input }
+    ensures keeps { KeepsClusters buffer.old buffer.new }
+{
+    take_space(buffer.cur_mut(0), space, glyph);
+}
+
+/// Sets the glyph of a space of this kind.
+fn take_space(info: &mut hb_glyph_info_t, space: space_t, glyph: GlyphId)
+    ensures { info.new.cluster ≡ info.old.cluster }
+{
+    set_space_fallback(info, space);
+    info.set_glyph_index(u32::from(glyph.0));
 }

@@ -2,18 +2,27 @@
 //! character.
 
 ghost use Rattle.std.specs.Prelude.{◌≡◌, ◌+◌, ◌-◌, ◌<◌, ◌≤◌, true, false, length, IfOk, IfSome};
+ghost use Rattle.shaping_buffer.specs.Clusters.{clusters};
+ghost use Rattle.shaping_buffer.specs.KeepsClusters.{KeepsClusters};
 
+use super::drop_behind;
 use crate::face::Face;
 use crate::glyph_info::{is_unicode_mark, modified_combining_class, set_unicode_props};
 use rb_common::GlyphId;
+use script_shapers::ScriptPlan;
 use shaping_buffer::{hb_buffer_t, hb_glyph_info_t};
 use std::alloc::AllocError;
-use unicode_tables::compose;
 
 /// Composes marks with the last starter before them, unless a mark between blocks them.
-pub(crate) fn recompose_all(buffer: &mut hb_buffer_t, face: &Face) -> Result<bool, AllocError>
+#[tactic(auto, using(shaping_buffer::proofs::ClosedKeepsLemmas::kept))]
+pub(crate) fn recompose_all(
+    buffer: &mut hb_buffer_t,
+    face: &Face,
+    script: &ScriptPlan,
+) -> Result<bool, AllocError>
     requires { buffer.old.have_output ≡ false }
-    ensures { IfOk result (λ done. done ≡ true → buffer.new.have_output ≡ false) }
+    ensures closed { IfOk result (λ done. done ≡ true → buffer.new.have_output ≡ false) }
+    ensures keeps { KeepsClusters buffer.old buffer.new }
 {
     buffer.clear_output();
     let mut starter = 0;
@@ -21,7 +30,7 @@ pub(crate) fn recompose_all(buffer: &mut hb_buffer_t, face: &Face) -> Result<boo
         if buffer.lookahead_len() == 0 {
             break;
         }
-        match recompose_next(buffer, face, starter)? {
+        match recompose_next(buffer, face, script, starter)? {
             Some(next) => starter = next,
             None => return Ok(false),
         }
@@ -31,16 +40,22 @@ pub(crate) fn recompose_all(buffer: &mut hb_buffer_t, face: &Face) -> Result<boo
 
 /// Reads a character, and composes it with the starter at a place of the out side, or puts it out. Gives the place of the
 /// last starter; `None` where a call was refused.
+#[tactic(auto, using(shaping_buffer::proofs::ClosedKeepsLemmas::kept))]
 fn recompose_next(
     buffer: &mut hb_buffer_t,
     face: &Face,
+    script: &ScriptPlan,
     starter: usize,
 ) -> Result<Option<usize>, AllocError>
     requires opened { buffer.old.have_output ≡ true }
     requires glyph { 0 < length buffer.old.input }
-    ensures { IfOk result (λ _. buffer.new.have_output ≡ true) }
+    ensures opened { IfOk result (λ _. buffer.new.have_output ≡ true) }
+    ensures keeps { KeepsClusters buffer.old buffer.new }
 {
-    if let Some((composed, glyph)) = composite_of(buffer.out_info(), buffer.cur(0), face, starter) {
+    let composite = composite_of(buffer.out_info(), buffer.cur(0), script, starter);
+    if let Some(composed) = composite
+        && let Some(glyph) = face.glyph_index(composed as u32)
+    {
         let was_composed = compose_current(buffer, starter, composed, glyph)?;
         return Ok(if was_composed { Some(starter) } else { None });
     }
@@ -52,13 +67,13 @@ fn recompose_next(
     Ok(Some(if is_starter { place } else { starter }))
 }
 
-/// What the starter and a mark compose to, and its glyph: the marks between them have lower classes.
+/// What the starter and a mark compose to: the marks between them have lower classes.
 fn composite_of(
     out: &[hb_glyph_info_t],
     mark: &hb_glyph_info_t,
-    face: &Face,
+    script: &ScriptPlan,
     starter: usize,
-) -> Option<(char, GlyphId)> {
+) -> Option<char> {
     if !is_unicode_mark(mark) {
         return None;
     }
@@ -69,15 +84,15 @@ fn composite_of(
     if is_blocked {
         return None;
     }
-    let composed = compose(
+    script.shaper.compose(
         char::from_u32(first.glyph_id)?,
         char::from_u32(mark.glyph_id)?,
-    )?;
-    let glyph = face.glyph_index(composed as u32)?;
-    Some((composed, glyph))
+        script.has_gpos_mark,
+    )
 }
 
 /// Merges the current character into the starter, which becomes another character.
+#[tactic(auto, using(shaping_buffer::proofs::ClosedKeepsLemmas::kept))]
 fn compose_current(
     buffer: &mut hb_buffer_t,
     starter: usize,
@@ -86,7 +101,8 @@ fn compose_current(
 ) -> Result<bool, AllocError>
     requires opened { buffer.old.have_output ≡ true }
     requires glyph { 0 < length buffer.old.input }
-    ensures { IfOk result (λ _. buffer.new.have_output ≡ true) }
+    ensures opened { IfOk result (λ _. buffer.new.have_output ≡ true) }
+    ensures keeps { KeepsClusters buffer.old buffer.new }
 {
     if !buffer.next_glyph()? {
         return Ok(false);
@@ -100,21 +116,66 @@ fn compose_current(
     if count == 0 || !buffer.move_to(count - 1)? || buffer.lookahead_len() == 0 {
         return Ok(false);
     }
-    buffer.skip_glyph();
+    drop_behind(buffer);
     set_composed(buffer, starter, composed, glyph);
     Ok(true)
 }
 
 /// Sets the character at a place of the out side.
+#[tactic(auto, using(shaping_buffer::proofs::ClosedKeepsLemmas::kept))]
 fn set_composed(buffer: &mut hb_buffer_t, place: usize, composed: char, glyph: GlyphId)
     requires { buffer.old.have_output ≡ true }
-    ensures { buffer.new.have_output ≡ true }
+    ensures opened { buffer.new.have_output ≡ true }
+    ensures keeps { KeepsClusters buffer.old buffer.new }
+{
+    let scratch_flags = set_in_out(buffer, place, composed, glyph);
+    buffer.scratch_flags = scratch_flags;
+}
+
+/// Sets the character at a place of a buffer's out side; the scratch flags that then hold.
+fn set_in_out(buffer: &mut hb_buffer_t, place: usize, composed: char, glyph: GlyphId) -> u32
+    requires { buffer.old.have_output ≡ true }
+    ensures opened { buffer.new.have_output ≡ true }
+    ensures keeps { KeepsClusters buffer.old buffer.new }
 {
     let mut scratch_flags = buffer.scratch_flags;
-    if let Some(info) = buffer.out_info_mut().get_mut(place) {
-        info.glyph_id = composed as u32;
-        info.set_glyph_index(u32::from(glyph.0));
-        set_unicode_props(info, &mut scratch_flags);
+    if place < buffer.out_len() {
+        set_at(
+            buffer.out_info_mut(),
+            place,
+            composed,
+            glyph,
+            &mut scratch_flags,
+        );
     }
-    buffer.scratch_flags = scratch_flags;
+    scratch_flags
+}
+
+/// Sets the character at a place.
+#[tactic(auto, using(shaping_buffer::proofs::ClosedKeepsLemmas::clusters_written))]
+fn set_at(
+    infos: &mut [hb_glyph_info_t],
+    place: usize,
+    composed: char,
+    glyph: GlyphId,
+    scratch_flags: &mut u32,
+)
+    requires { place < length infos.old }
+    ensures { clusters infos.new ≡ clusters infos.old }
+{
+    set_character(&mut infos[place], composed, glyph, scratch_flags);
+}
+
+/// Makes another character of this one, with its glyph.
+fn set_character(
+    info: &mut hb_glyph_info_t,
+    composed: char,
+    glyph: GlyphId,
+    scratch_flags: &mut u32,
+)
+    ensures { info.new.cluster ≡ info.old.cluster }
+{
+    info.glyph_id = composed as u32;
+    info.set_glyph_index(u32::from(glyph.0));
+    set_unicode_props(info, scratch_flags);
 }

@@ -5,7 +5,8 @@ ghost use Rattle.rb_glyph.specs.declared.info.hb_glyph_info_t.{hb_glyph_info_t};
 ghost use Rattle.glyph_lists.specs.Groups as groups_of;
 ghost use Rattle.shaping_buffer.specs.State.{len};
 ghost use Rattle.shaping_buffer.specs.GroupStep as step;
-ghost use Rattle.shaping_buffer.specs.KeepsClusters.{KeepsClusters, IsOneCluster};
+ghost use Rattle.shaping_buffer.specs.ClusterStep.{any_order};
+ghost use Rattle.shaping_buffer.specs.KeepsClusters.{KeepsClusters, TurnsClusters, IsOneCluster, ShareClusters};
 
 use super::hb_buffer_t;
 use glyph_lists::deletion_in_place::delete_in_place;
@@ -18,7 +19,7 @@ impl hb_buffer_t {
     pub fn reverse(&mut self)
         requires { self.old.have_output ≡ false }
         ensures is { self.new ≡ step.reverse self.old }
-        ensures keeps { KeepsClusters self.old self.new }
+        ensures turns { TurnsClusters self.old self.new }
     {
         prove!(!self.sides.is_open());
         reversal::reverse(self.sides.list_mut());
@@ -91,8 +92,13 @@ impl hb_buffer_t {
             → self.new ≡ step.reverse_groups test merge_clusters self.old }
         ensures len { length self.new.input ≡ length self.old.input }
         ensures others { step.KeepsOthers self.old self.new }
-        ensures keeps { merge_clusters ≡ true → KeepsClusters self.old self.new }
+        ensures merging_turns { merge_clusters ≡ true → TurnsClusters self.old self.new }
+        ensures turns { (test : groups_of.Test)
+            → ((x y : _) (r : _) → F.post group x y r → r ≡ test x.now y.now)
+            → (any_order self.old ≡ false → ShareClusters test self.old.input)
+            → TurnsClusters self.old self.new }
     {
+        prove!(!self.sides.is_open());
         let len = self.sides.len();
         let mut start = 0;
         while start < len {

@@ -7,9 +7,10 @@ use crate::buffer::{
     HB_BUFFER_SCRATCH_FLAG_HAS_GLYPH_FLAGS, HB_BUFFER_SCRATCH_FLAG_HAS_VARIATION_SELECTOR_FALLBACK,
     glyph_flag, hb_buffer_t, hb_glyph_info_t,
 };
+use crate::common::GlyphId;
 use crate::font_shaper::face::Face;
 use crate::font_shaper::glyph_info::{clear_variation_selector, is_variation_selector};
-use crate::font_shaper::positions::take_width;
+use crate::font_shaper::positions::take_width_at;
 use crate::passes::hide_default_ignorables;
 
 /// Gives each variation selector that the font does not know the glyph that the buffer has for it,
@@ -29,24 +30,45 @@ pub(crate) fn show_variation_selectors(buffer: &mut hb_buffer_t) {
         return;
     }
     for i in 0..buffer.len() {
-        if show_variation_selector(buffer.info_slice_mut(), i, glyph)
-            && let Some(position) = buffer.pos_mut().get_mut(i)
-        {
-            take_width(position);
-        }
+        show_without_width(buffer, i, glyph);
+    }
+}
+
+/// Gives the item at a place this glyph, without width, if it is a variation selector that the font
+/// does not know.
+///
+/// # Requires
+///
+/// - `closed: buffer.old.have_output ≡ false`
+/// - `placed: IsSome buffer.old.positions`
+fn show_without_width(buffer: &mut hb_buffer_t, place: usize, glyph: u32) {
+    debug_assert!(!buffer.have_output());
+    debug_assert!(buffer.have_positions());
+    if show_at(buffer, place, glyph) {
+        take_width_at(buffer, place);
     }
 }
 
 /// Gives the item at a place this glyph, if it is a variation selector that the font does not know.
+///
+/// # Requires
+///
+/// - `closed: buffer.old.have_output ≡ false`
+/// - `placed: IsSome buffer.old.positions`
+fn show_at(buffer: &mut hb_buffer_t, place: usize, glyph: u32) -> bool {
+    debug_assert!(!buffer.have_output());
+    debug_assert!(buffer.have_positions());
+    show_variation_selector(buffer.info_slice_mut(), place, glyph)
+}
+
+/// Gives the item at a place this glyph, if it is a variation selector that the font does not know.
 fn show_variation_selector(infos: &mut [hb_glyph_info_t], place: usize, glyph: u32) -> bool {
-    match infos.get_mut(place) {
-        Some(info) if is_variation_selector(info) => {
-            info.glyph_id = glyph;
-            clear_variation_selector(info);
-            true
-        }
-        _ => false,
+    if place >= infos.len() || !is_variation_selector(&infos[place]) {
+        return false;
     }
+    infos[place].glyph_id = glyph;
+    clear_variation_selector(&mut infos[place]);
+    true
 }
 
 /// Hides the glyphs of characters that are invisible by default: the font's space stands for them,
@@ -63,11 +85,38 @@ pub(crate) fn hide_ignorables(buffer: &mut hb_buffer_t, face: &Face) {
         return;
     }
     let invisible = buffer.invisible;
-    if invisible.is_none() {
-        buffer.invisible = face.glyph_index(0x20);
-    }
+    let glyph = match invisible {
+        Some(glyph) => Some(glyph),
+        None => face.glyph_index(0x20),
+    };
+    set_invisible(buffer, glyph);
+    hide_all(buffer);
+    set_invisible(buffer, invisible);
+}
+
+/// Sets the glyph that stands for what is not to be seen.
+///
+/// # Requires
+///
+/// - `closed: buffer.old.have_output ≡ false`
+/// - `placed: IsSome buffer.old.positions`
+fn set_invisible(buffer: &mut hb_buffer_t, glyph: Option<GlyphId>) {
+    debug_assert!(!buffer.have_output());
+    debug_assert!(buffer.have_positions());
+    buffer.invisible = glyph;
+}
+
+/// Hides these glyphs.
+///
+/// # Requires
+///
+/// - `closed: buffer.old.have_output ≡ false`
+/// - `placed: IsSome buffer.old.positions`
+fn hide_all(buffer: &mut hb_buffer_t) {
+    debug_assert!(!buffer.have_output());
+    debug_assert!(buffer.have_positions());
+    debug_assert!(buffer.out_len() == 0);
     hide_default_ignorables(buffer);
-    buffer.invisible = invisible;
 }
 
 /// Gives all glyphs of a cluster the same glyph flags, and takes away those that the buffer was not
@@ -84,6 +133,18 @@ pub(crate) fn propagate_flags(buffer: &mut hb_buffer_t) {
         return;
     }
     let flags = buffer.flags;
+    propagate_in(buffer, flags);
+}
+
+/// Gives all glyphs of each cluster of a buffer the same glyph flags.
+///
+/// # Requires
+///
+/// - `closed: buffer.old.have_output ≡ false`
+/// - `placed: IsSome buffer.old.positions`
+fn propagate_in(buffer: &mut hb_buffer_t, flags: BufferFlags) {
+    debug_assert!(!buffer.have_output());
+    debug_assert!(buffer.have_positions());
     propagate_all(buffer.info_slice_mut(), flags);
 }
 
@@ -92,20 +153,30 @@ fn propagate_all(infos: &mut [hb_glyph_info_t], flags: BufferFlags) {
     let mut start = 0;
     while start < infos.len() {
         let end = cluster_end(infos, start);
-        propagate_in_cluster(&mut infos[start..end], flags);
+        let mask = flags_of_cluster(all_flags(&infos[start..end]), flags);
+        set_masks(infos, start, end, mask);
         start = end;
     }
 }
 
-/// Gives all glyphs of a cluster the same glyph flags.
-fn propagate_in_cluster(cluster: &mut [hb_glyph_info_t], flags: BufferFlags) {
+/// All glyph flags of some glyphs.
+fn all_flags(infos: &[hb_glyph_info_t]) -> u32 {
     let mut all = 0;
-    for info in cluster.iter() {
+    for info in infos.iter() {
         all = all | info.mask & glyph_flag::DEFINED;
     }
-    let mask = flags_of_cluster(all, flags);
-    for info in cluster.iter_mut() {
-        info.mask = mask;
+    all
+}
+
+/// Gives the glyphs from a place to another one this mask.
+///
+/// # Requires
+///
+/// - `end ≤ length infos.old`
+fn set_masks(infos: &mut [hb_glyph_info_t], start: usize, end: usize, mask: u32) {
+    debug_assert!(end <= infos.len());
+    for place in start..end {
+        infos[place].mask = mask;
     }
 }
 

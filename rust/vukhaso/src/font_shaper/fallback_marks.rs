@@ -15,12 +15,27 @@ use crate::font_shaper::positions::zero_mark_width;
 
 /// Says of each mark without width where it stands, by a class from 200 on, in place of the class that
 /// it is ordered by. The items are still characters.
-pub(crate) fn recategorize_marks(infos: &mut [hb_glyph_info_t]) {
-    for info in infos.iter_mut() {
-        if is_nonspacing_mark(info) {
-            let class = fallback_class(info.glyph_id, modified_combining_class(info));
-            set_modified_combining_class(info, class);
-        }
+///
+/// # Requires
+///
+/// - `buffer.old.have_output ≡ false`
+pub(crate) fn recategorize_marks(buffer: &mut hb_buffer_t) {
+    debug_assert!(!buffer.have_output());
+    recategorize_all(buffer.info_slice_mut());
+}
+
+/// Says of each of the marks without width where it stands.
+fn recategorize_all(infos: &mut [hb_glyph_info_t]) {
+    for i in 0..infos.len() {
+        recategorize(&mut infos[i]);
+    }
+}
+
+/// Says of a mark without width where it stands.
+fn recategorize(info: &mut hb_glyph_info_t) {
+    if is_nonspacing_mark(info) {
+        let class = fallback_class(info.glyph_id, modified_combining_class(info));
+        set_modified_combining_class(info, class);
     }
 }
 

@@ -1,19 +1,18 @@
 // Written by tools/plain_rust from crates/font_shaper. Do not edit.
 
-//! The lookups of a font, applied to a text in the order of its plan.
+//! The lookups that position glyphs, applied to a text in the order of its plan.
 
 use crate::buffer::hb_buffer_t;
 use crate::font_shaper::face::Face;
 use crate::font_shaper::watch::{Step, Watch};
-use crate::glyph_layout::{Budget, LookupOptions, Search};
+use crate::glyph_layout::{Budget, Digest, LookupOptions, Search};
 use crate::glyph_positions::{Setting, position_start};
-use crate::glyph_substitution::{Progress, Substitutions};
 use crate::layout_plan::{LayoutPlan, PlannedLookup, ShapePlan};
 use crate::memory::AllocError;
 use crate::position_tables::kern_table::KernTable;
 
 /// How a lookup of the plan is applied.
-fn options_of(planned: &PlannedLookup) -> LookupOptions {
+pub(crate) fn options_of(planned: &PlannedLookup) -> LookupOptions {
     LookupOptions {
         mask: planned.mask,
         auto_zwnj: planned.auto_zwnj,
@@ -24,45 +23,9 @@ fn options_of(planned: &PlannedLookup) -> LookupOptions {
 }
 
 /// What the lookups of a text may cost.
-fn budget_of(buffer: &hb_buffer_t) -> Budget {
+pub(crate) fn budget_of(buffer: &hb_buffer_t) -> Budget {
     let most = u32::try_from(buffer.max_ops).unwrap_or(0);
     Budget::new(most, buffer.len())
-}
-
-/// Applies the lookups of `GSUB`, stage by stage.
-///
-/// # Requires
-///
-/// - `buffer.old.have_output ≡ false`
-///
-/// # Errors
-///
-/// `Ok(false)` where a call was refused for length.
-pub(crate) fn substitute<W: Watch>(
-    buffer: &mut hb_buffer_t,
-    face: &Face,
-    layout: &LayoutPlan,
-    watch: &mut W,
-) -> Result<bool, AllocError> {
-    debug_assert!(!buffer.have_output());
-    let mut progress = Progress::new(budget_of(buffer));
-    for planned in &layout.gsub_lookups {
-        let substitutions = Substitutions {
-            list: &face.lookups.substitutions,
-            gdef: &face.definitions,
-            options: options_of(planned),
-        };
-        if !crate::glyph_substitution::substitute(
-            buffer,
-            &substitutions,
-            planned.index,
-            &mut progress,
-        )? {
-            return Ok(false);
-        }
-        watch.step(Step::Substituted(planned.index), buffer)?;
-    }
-    Ok(true)
 }
 
 /// Positions the glyphs by the lookups of `GPOS`, and by the table `kern` where `GPOS` does not kern.
@@ -80,9 +43,44 @@ pub(crate) fn position_by_lookups<W: Watch>(
     debug_assert!(!buffer.have_output());
     debug_assert!(buffer.have_positions());
     position_start(buffer);
+    position_by_gpos(buffer, face, plan, watch)?;
+    kern_by_table(buffer, face, plan, watch)
+}
+
+/// Applies the lookups of `GPOS`, where the plan has them.
+///
+/// # Requires
+///
+/// - `closed: buffer.old.have_output ≡ false`
+/// - `placed: IsSome buffer.old.positions`
+fn position_by_gpos<W: Watch>(
+    buffer: &mut hb_buffer_t,
+    face: &Face,
+    plan: &ShapePlan,
+    watch: &mut W,
+) -> Result<(), AllocError> {
+    debug_assert!(!buffer.have_output());
+    debug_assert!(buffer.have_positions());
     if plan.apply_gpos {
         apply_positions(buffer, face, &plan.layout, watch)?;
     }
+    Ok(())
+}
+
+/// Kerns by the table `kern`, where the plan has it.
+///
+/// # Requires
+///
+/// - `closed: buffer.old.have_output ≡ false`
+/// - `placed: IsSome buffer.old.positions`
+fn kern_by_table<W: Watch>(
+    buffer: &mut hb_buffer_t,
+    face: &Face,
+    plan: &ShapePlan,
+    watch: &mut W,
+) -> Result<(), AllocError> {
+    debug_assert!(!buffer.have_output());
+    debug_assert!(buffer.have_positions());
     if plan.apply_kern {
         apply_kern(buffer, face, plan.kern_mask);
         watch.step(Step::Kerned, buffer)?;
@@ -109,10 +107,19 @@ fn apply_positions<W: Watch>(
         scale: face.scale,
     };
     let mut search = Search::new(budget_of(buffer));
+    let glyphs = Digest::of_glyphs(buffer.info());
     for planned in &layout.gpos_lookups {
-        let options = options_of(planned);
-        crate::glyph_positions::position(buffer, &setting, planned.index, &options, &mut search);
-        watch.step(Step::Positioned(planned.index), buffer)?;
+        if setting.list.may_apply(planned.index, &glyphs) {
+            let options = options_of(planned);
+            crate::glyph_positions::position(
+                buffer,
+                &setting,
+                planned.index,
+                &options,
+                &mut search,
+            );
+            watch.step(Step::Positioned(planned.index), buffer)?;
+        }
     }
     Ok(())
 }

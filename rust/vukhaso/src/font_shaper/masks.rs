@@ -1,11 +1,13 @@
 // Written by tools/plain_rust from crates/font_shaper. Do not edit.
 
-//! Which glyphs have a feature: the masks of fractions, and of features that are asked for in a part of the text.
+//! Which glyphs have a feature: the masks of fractions, of the forms of letters, and of features that are asked for in a part of the text.
 
 use crate::buffer::{HB_BUFFER_SCRATCH_FLAG_HAS_NON_ASCII, hb_buffer_t, hb_glyph_info_t};
 use crate::font_shaper::glyph_info::is_decimal_number;
+use crate::font_shaper::planning::TextPlan;
 use crate::layout_plan::{LayoutPlan, ShapePlan};
 use crate::text::Feature;
+use core::ops::Range;
 
 /// The slash of a fraction.
 const FRACTION_SLASH: u32 = 0x2044;
@@ -18,20 +20,34 @@ struct FractionMasks {
     behind: u32,
 }
 
+impl FractionMasks {
+    /// The mask of a place of the fraction.
+    fn at(&self, place: usize, slash: usize) -> u32 {
+        if place < slash {
+            self.before
+        } else if place == slash {
+            self.slash
+        } else {
+            self.behind
+        }
+    }
+}
+
 /// Sets the masks of a text that is mapped to glyphs, but has its characters yet.
 ///
 /// # Requires
 ///
 /// - `buffer.old.have_output ≡ false`
-pub(crate) fn set_masks(buffer: &mut hb_buffer_t, plan: &ShapePlan, features: &[Feature]) {
+pub(crate) fn set_masks(buffer: &mut hb_buffer_t, plan: &TextPlan, features: &[Feature]) {
     debug_assert!(!buffer.have_output());
-    if buffer.scratch_flags & HB_BUFFER_SCRATCH_FLAG_HAS_NON_ASCII != 0 && plan.has_frac {
-        let masks = fraction_masks(plan, buffer.direction.is_forward());
+    if buffer.scratch_flags & HB_BUFFER_SCRATCH_FLAG_HAS_NON_ASCII != 0 && plan.shape.has_frac {
+        let masks = fraction_masks(&plan.shape, buffer.direction.is_forward());
         set_fraction_masks(buffer, masks);
     }
+    plan.script.setup_masks(buffer);
     for feature in features {
         if !feature.is_global() {
-            set_feature_mask(buffer, &plan.layout, feature);
+            set_feature_mask(buffer, &plan.shape.layout, feature);
         }
     }
 }
@@ -96,38 +112,40 @@ fn set_fraction_mask(buffer: &mut hb_buffer_t, place: usize, masks: FractionMask
     }
     let start = digits_before(buffer.info(), place);
     let end = digits_behind(buffer.info(), place + 1);
-    if start == place {
-        buffer.unsafe_to_concat(Some(start), Some(start + 1));
-    }
-    if end == place + 1 {
-        buffer.unsafe_to_concat(Some(end - 1), Some(end));
-    }
     if start == place || end == place + 1 {
+        buffer.unsafe_to_concat(Some(place), Some(place + 1));
         return place + 1;
     }
     buffer.unsafe_to_break(Some(start), Some(end));
-    add_fraction_masks(buffer.info_slice_mut(), start, place, end, masks);
+    add_fraction_masks(buffer, start..end, place, masks);
     end
 }
 
 /// Adds the masks of a fraction to its glyphs.
+///
+/// # Requires
+///
+/// - `buffer.old.have_output ≡ false`
 fn add_fraction_masks(
-    infos: &mut [hb_glyph_info_t],
-    start: usize,
+    buffer: &mut hb_buffer_t,
+    places: Range<usize>,
     slash: usize,
-    end: usize,
     masks: FractionMasks,
 ) {
-    for place in start..end {
-        if let Some(info) = infos.get_mut(place) {
-            info.mask |= if place < slash {
-                masks.before
-            } else if place == slash {
-                masks.slash
-            } else {
-                masks.behind
-            };
-        }
+    debug_assert!(!buffer.have_output());
+    add_masks(buffer.info_slice_mut(), places, slash, masks);
+}
+
+/// Adds the masks of a fraction to the glyphs at these places.
+fn add_masks(
+    infos: &mut [hb_glyph_info_t],
+    places: Range<usize>,
+    slash: usize,
+    masks: FractionMasks,
+) {
+    for place in places.start..places.end.min(infos.len()) {
+        let mask = masks.at(place, slash);
+        infos[place].mask |= mask;
     }
 }
 

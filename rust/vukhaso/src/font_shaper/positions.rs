@@ -132,15 +132,28 @@ pub(crate) fn zero_width_default_ignorables(buffer: &mut hb_buffer_t) {
             .info()
             .get(i)
             .is_some_and(|info| is_default_ignorable(info))
-            && let Some(position) = buffer.pos_mut().get_mut(i)
         {
-            take_width(position);
+            take_width_at(buffer, i);
         }
     }
 }
 
+/// Takes all width and every offset of the glyph at a place.
+///
+/// # Requires
+///
+/// - `closed: buffer.old.have_output ≡ false`
+/// - `placed: IsSome buffer.old.positions`
+pub(crate) fn take_width_at(buffer: &mut hb_buffer_t, place: usize) {
+    debug_assert!(!buffer.have_output());
+    debug_assert!(buffer.have_positions());
+    if let Some(own) = buffer.pos_mut().get_mut(place) {
+        take_width(own);
+    }
+}
+
 /// Takes all width and every offset of a glyph; what it is attached to stays.
-pub(crate) fn take_width(position: &mut GlyphPosition) {
+fn take_width(position: &mut GlyphPosition) {
     *position = GlyphPosition {
         var: position.var,
         ..GlyphPosition::default()

@@ -21,22 +21,32 @@ pub(crate) fn rotate_characters(
     direction: Direction,
 ) {
     debug_assert!(!buffer.have_output());
+    rotate_all(buffer.info_slice_mut(), face, plan, direction);
+}
+
+/// Replaces each of the characters so.
+fn rotate_all(infos: &mut [hb_glyph_info_t], face: &Face, plan: &ShapePlan, direction: Direction) {
     if direction.is_backward()
         && let Some(mirrors) = mirrors()
     {
-        mirror_all(buffer.info_slice_mut(), face, &mirrors, plan.rtlm_mask);
+        mirror_all(infos, face, &mirrors, plan.rtlm_mask);
     }
     if direction.is_vertical() && !plan.has_vert {
-        make_all_vertical(buffer.info_slice_mut(), face);
+        make_all_vertical(infos, face);
     }
 }
 
 /// Replaces each character by its mirror image, or gives it the mask.
 fn mirror_all(infos: &mut [hb_glyph_info_t], face: &Face, mirrors: &Mirrors, mask: u32) {
-    for info in infos.iter_mut() {
-        if !is_mirrored(info, face, mirrors) {
-            info.mask |= mask;
-        }
+    for i in 0..infos.len() {
+        mirror(&mut infos[i], face, mirrors, mask);
+    }
+}
+
+/// Replaces a character by its mirror image, or gives it the mask.
+fn mirror(info: &mut hb_glyph_info_t, face: &Face, mirrors: &Mirrors, mask: u32) {
+    if !is_mirrored(info, face, mirrors) {
+        info.mask |= mask;
     }
 }
 
@@ -53,12 +63,17 @@ fn is_mirrored(info: &mut hb_glyph_info_t, face: &Face, mirrors: &Mirrors) -> bo
 
 /// Replaces each character by its vertical form.
 fn make_all_vertical(infos: &mut [hb_glyph_info_t], face: &Face) {
-    for info in infos.iter_mut() {
-        if let Some(character) = char::from_u32(info.glyph_id)
-            && let Some(vertical) = character.vertical()
-        {
-            let _ = replace_character(info, face, vertical);
-        }
+    for i in 0..infos.len() {
+        make_vertical(&mut infos[i], face);
+    }
+}
+
+/// Replaces a character by its vertical form.
+fn make_vertical(info: &mut hb_glyph_info_t, face: &Face) {
+    if let Some(character) = char::from_u32(info.glyph_id)
+        && let Some(vertical) = character.vertical()
+    {
+        let _ = replace_character(info, face, vertical);
     }
 }
 

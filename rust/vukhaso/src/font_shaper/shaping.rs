@@ -3,27 +3,28 @@
 //! The shaping of a text by a font: HarfBuzz's steps, one after the other.
 
 use crate::buffer::{
-    BufferFlags, Direction, Feature, Flags, GlyphBuffer, GlyphPropsFlags, UnicodeBuffer,
-    hb_buffer_t, hb_glyph_info_t,
+    BufferFlags, Direction, Feature, Flags, GlyphBuffer, UnicodeBuffer, hb_buffer_t,
+    hb_glyph_info_t,
 };
-use crate::common::GlyphId;
 use crate::font_shaper::ending::{hide_ignorables, propagate_flags, show_variation_selectors};
 use crate::font_shaper::face::Face;
 use crate::font_shaper::fallback_marks::{position_marks, recategorize_marks};
-use crate::font_shaper::glyph_info::{is_default_ignorable, is_nonspacing_mark};
-use crate::font_shaper::lookups::{position_by_lookups, substitute};
+use crate::font_shaper::lookups::position_by_lookups;
 use crate::font_shaper::masks::set_masks;
 use crate::font_shaper::normalization::normalize;
+use crate::font_shaper::planning::TextPlan;
 use crate::font_shaper::positions::{
     position_glyphs, zero_mark_widths, zero_width_default_ignorables,
 };
 use crate::font_shaper::rotation::rotate_characters;
+use crate::font_shaper::substitution::substitute;
 use crate::font_shaper::text::{
-    ensure_native_direction, form_clusters, insert_dotted_circle, set_properties,
+    ensure_native_direction, form_clusters, insert_dotted_circle, set_direction, set_properties,
 };
 use crate::font_shaper::verification::VerifyError;
 use crate::font_shaper::watch::{Step, Unwatched, Watch};
 use crate::glyph_positions::position_finish_offsets;
+use crate::glyph_substitution::substitute_start;
 use crate::layout_plan::ShapePlan;
 use crate::memory::AllocError;
 
@@ -34,6 +35,8 @@ pub enum ShapeError {
     TooLong,
     /// There is no memory.
     Memory,
+    /// The text has another script, language or direction than the plan by which it was to be shaped.
+    OtherPlan,
     /// The buffer was to be verified, and a test of its glyphs failed.
     Unverified(VerifyError),
 }
@@ -43,6 +46,7 @@ impl core::fmt::Display for ShapeError {
         match self {
             Self::TooLong => write!(f, "the text is too long"),
             Self::Memory => write!(f, "out of memory"),
+            Self::OtherPlan => write!(f, "the plan is for other texts"),
             Self::Unverified(n0) => write!(f, "buffer verify error: {n0}"),
         }
     }
@@ -59,6 +63,11 @@ impl From<AllocError> for ShapeError {
 /// Shapes a text by a font: finds a glyph for each of its characters, and says where each is drawn. A
 /// script and a direction that were not said are guessed.
 ///
+/// The glyphs have as many positions, and are no more than 64 for each character, or 16384. Each is in
+/// a cluster of the text's. Where the characters' clusters rise, as `push_str` leaves them, and the
+/// cluster level is a monotone one, the glyphs' clusters rise in a line that runs forward, and fall in
+/// one that runs backward, so that a caret has a place at each glyph, whatever the font.
+///
 /// Under `BufferFlags::VERIFY` the glyphs are tested: whether clusters stand in order, and whether
 /// parts of the text that are shaped apart, cut where this is said to be safe, have the same glyphs.
 ///
@@ -68,7 +77,12 @@ impl From<AllocError> for ShapeError {
 ///
 /// # Proved
 ///
-/// That it returns.
+/// ```text
+/// ensures placed { IfOk result HasPositions }
+/// ensures within { IfOk result (λ glyphs. length glyphs.input ≤ (enter text).max_len) }
+/// ensures direction { IfOk result (λ glyphs. glyphs.direction ≡ (guessed text).direction) }
+/// ensures clusters { IfOk result (ShapedClusters text) }
+/// ```
 #[inline]
 pub fn shape(
     face: &Face,
@@ -86,7 +100,12 @@ pub fn shape(
 ///
 /// # Proved
 ///
-/// That it returns.
+/// ```text
+/// ensures placed { IfOk result HasPositions }
+/// ensures within { IfOk result (λ glyphs. length glyphs.input ≤ (enter text).max_len) }
+/// ensures direction { IfOk result (λ glyphs. glyphs.direction ≡ (guessed text).direction) }
+/// ensures clusters { IfOk result (ShapedClusters text) }
+/// ```
 #[inline]
 pub fn shape_watched<W: Watch>(
     face: &Face,
@@ -116,10 +135,26 @@ pub(crate) fn shape_once<W: Watch>(
     watch: &mut W,
 ) -> Result<GlyphBuffer, ShapeError> {
     debug_assert!(!buffer.have_output());
+    let plan = face.plan(&buffer, features)?;
+    shape_planned(face, &plan, features, buffer, watch)
+}
+
+/// Shapes the text of a buffer by a plan, without tests.
+///
+/// # Requires
+///
+/// - `buffer.have_output ≡ false`
+pub(crate) fn shape_planned<W: Watch>(
+    face: &Face,
+    plan: &TextPlan,
+    features: &[Feature],
+    buffer: hb_buffer_t,
+    watch: &mut W,
+) -> Result<GlyphBuffer, ShapeError> {
+    debug_assert!(!buffer.have_output());
     let mut buffer = buffer;
     buffer.enter();
-    let plan = face.plan(&buffer, features)?;
-    if !shape_buffer(&mut buffer, face, &plan, features, watch)? {
+    if !shape_buffer(&mut buffer, face, plan, features, watch)? {
         return Err(ShapeError::TooLong);
     }
     Ok(GlyphBuffer::from_buffer(buffer))
@@ -137,36 +172,200 @@ pub(crate) fn shape_once<W: Watch>(
 fn shape_buffer<W: Watch>(
     buffer: &mut hb_buffer_t,
     face: &Face,
-    plan: &ShapePlan,
+    plan: &TextPlan,
+    features: &[Feature],
+    watch: &mut W,
+) -> Result<bool, AllocError> {
+    debug_assert!(!buffer.have_output());
+    debug_assert!(buffer.out_len() == 0);
+    let limit = buffer.max_len();
+    let direction = buffer.direction;
+    if !make_glyphs(buffer, face, plan, features, watch)? || buffer.len() > limit {
+        return Ok(false);
+    }
+    end_line(buffer, direction);
+    watch.step(Step::Shaped, buffer)?;
+    Ok(true)
+}
+
+/// Ends the shaping of a line that was said to run in this direction.
+///
+/// # Requires
+///
+/// - `closed: buffer.old.have_output ≡ false`
+/// - `placed: IsSome buffer.old.positions`
+fn end_line(buffer: &mut hb_buffer_t, direction: Direction) {
+    debug_assert!(!buffer.have_output());
+    debug_assert!(buffer.have_positions());
+    set_direction(buffer, direction);
+    debug_assert!(buffer.out_len() == 0);
+    buffer.leave();
+}
+
+/// Makes glyphs of the characters of a buffer, with their positions.
+///
+/// # Requires
+///
+/// - `buffer.old.have_output ≡ false`
+///
+/// # Errors
+///
+/// `Ok(false)` where a call was refused for length.
+fn make_glyphs<W: Watch>(
+    buffer: &mut hb_buffer_t,
+    face: &Face,
+    plan: &TextPlan,
     features: &[Feature],
     watch: &mut W,
 ) -> Result<bool, AllocError> {
     debug_assert!(!buffer.have_output());
     let direction = buffer.direction;
-    if !prepare_characters(buffer, face, plan)? {
+    if !begin_characters(buffer, face, plan)? {
         return Ok(false);
     }
-    set_masks(buffer, plan, features);
-    if plan.fallback_mark_positioning {
-        recategorize_marks(buffer.info_slice_mut());
-    }
-    watch.step(Step::Characters, buffer)?;
-    map_glyphs(buffer, face);
-    watch.step(Step::Glyphs, buffer)?;
-    if !substitute(buffer, face, &plan.layout, watch)? {
+    let is_turned = ensure_native_direction(buffer);
+    if !shape_native(buffer, face, plan, features, direction, watch)? {
         return Ok(false);
     }
-    position(buffer, face, plan, direction, watch)?;
-    show_variation_selectors(buffer);
-    hide_ignorables(buffer, face);
-    propagate_flags(buffer);
-    buffer.direction = direction;
-    buffer.leave();
-    watch.step(Step::Shaped, buffer)?;
+    reverse_if(buffer, is_against(direction.is_forward(), is_turned));
+    finish_glyphs(buffer, face, plan)
+}
+
+/// Whether the glyphs stand against the line: it runs forward and the text was turned, or it runs
+/// backward and the text was not.
+fn is_against(is_forward: bool, is_turned: bool) -> bool {
+    if is_forward { is_turned } else { !is_turned }
+}
+
+/// Reverses the glyphs where this is said.
+///
+/// # Requires
+///
+/// - `closed: buffer.old.have_output ≡ false`
+/// - `placed: IsSome buffer.old.positions`
+fn reverse_if(buffer: &mut hb_buffer_t, is_against: bool) {
+    debug_assert!(!buffer.have_output());
+    debug_assert!(buffer.have_positions());
+    if is_against {
+        buffer.reverse();
+    }
+}
+
+/// Makes glyphs of characters that stand in the direction of their script. `direction` is the way in
+/// which the line was said to run.
+///
+/// # Requires
+///
+/// - `buffer.old.have_output ≡ false`
+///
+/// # Errors
+///
+/// `Ok(false)` where a call was refused for length.
+fn shape_native<W: Watch>(
+    buffer: &mut hb_buffer_t,
+    face: &Face,
+    plan: &TextPlan,
+    features: &[Feature],
+    direction: Direction,
+    watch: &mut W,
+) -> Result<bool, AllocError> {
+    debug_assert!(!buffer.have_output());
+    if !prepare_characters(buffer, face, plan, direction)? {
+        return Ok(false);
+    }
+    find_glyphs(buffer, face, plan, features, watch)?;
+    if !substitute(buffer, face, plan, watch)? {
+        return Ok(false);
+    }
+    position(buffer, face, &plan.shape, direction, watch)?;
     Ok(true)
 }
 
-/// Puts the characters in order, and finds a glyph for each.
+/// Finds the glyph of each character, and the features that it has.
+///
+/// # Requires
+///
+/// - `buffer.old.have_output ≡ false`
+fn find_glyphs<W: Watch>(
+    buffer: &mut hb_buffer_t,
+    face: &Face,
+    plan: &TextPlan,
+    features: &[Feature],
+    watch: &mut W,
+) -> Result<(), AllocError> {
+    debug_assert!(!buffer.have_output());
+    mask_characters(buffer, plan, features);
+    watch.step(Step::Characters, buffer)?;
+    map_glyphs(buffer, face);
+    watch.step(Step::Glyphs, buffer)
+}
+
+/// Sets the features that each character has, and the classes of marks that are placed without the
+/// font's help.
+///
+/// # Requires
+///
+/// - `buffer.old.have_output ≡ false`
+fn mask_characters(buffer: &mut hb_buffer_t, plan: &TextPlan, features: &[Feature]) {
+    debug_assert!(!buffer.have_output());
+    set_masks(buffer, plan, features);
+    if plan.shape.fallback_mark_positioning {
+        recategorize_marks(buffer);
+    }
+}
+
+/// The last steps: what is not to be seen is hidden, marks are stretched, and the glyphs of a cluster
+/// have the same flags.
+///
+/// # Requires
+///
+/// - `closed: buffer.old.have_output ≡ false`
+/// - `placed: IsSome buffer.old.positions`
+///
+/// # Errors
+///
+/// `Ok(false)` where a call was refused for length.
+fn finish_glyphs(
+    buffer: &mut hb_buffer_t,
+    face: &Face,
+    plan: &TextPlan,
+) -> Result<bool, AllocError> {
+    debug_assert!(!buffer.have_output());
+    debug_assert!(buffer.have_positions());
+    show_variation_selectors(buffer);
+    hide_ignorables(buffer, face);
+    if !face.stretch_marks(buffer, &plan.script)? {
+        return Ok(false);
+    }
+    propagate_flags(buffer);
+    Ok(true)
+}
+
+/// Sets the properties of the characters, and makes clusters of them.
+///
+/// # Requires
+///
+/// - `buffer.old.have_output ≡ false`
+///
+/// # Errors
+///
+/// `Ok(false)` where a call was refused for length.
+fn begin_characters(
+    buffer: &mut hb_buffer_t,
+    face: &Face,
+    plan: &TextPlan,
+) -> Result<bool, AllocError> {
+    debug_assert!(!buffer.have_output());
+    buffer.reset_masks(plan.shape.layout.global_mask);
+    set_properties(buffer);
+    if !insert_dotted_circle(buffer, face)? {
+        return Ok(false);
+    }
+    form_clusters(buffer);
+    Ok(true)
+}
+
+/// Prepares the characters by their script, and finds a glyph for each.
 ///
 /// # Requires
 ///
@@ -178,19 +377,15 @@ fn shape_buffer<W: Watch>(
 fn prepare_characters(
     buffer: &mut hb_buffer_t,
     face: &Face,
-    plan: &ShapePlan,
+    plan: &TextPlan,
+    direction: Direction,
 ) -> Result<bool, AllocError> {
     debug_assert!(!buffer.have_output());
-    let direction = buffer.direction;
-    buffer.reset_masks(plan.layout.global_mask);
-    set_properties(buffer);
-    if !insert_dotted_circle(buffer, face)? {
+    if !plan.script.preprocess_text(buffer, face)? {
         return Ok(false);
     }
-    form_clusters(buffer);
-    ensure_native_direction(buffer);
-    rotate_characters(buffer, face, plan, direction);
-    normalize(buffer, face)
+    rotate_characters(buffer, face, &plan.shape, direction);
+    normalize(buffer, face, &plan.script)
 }
 
 /// Puts the glyph of each character in its place, with the properties that the font gives it.
@@ -200,24 +395,25 @@ fn prepare_characters(
 /// - `buffer.old.have_output ≡ false`
 fn map_glyphs(buffer: &mut hb_buffer_t, face: &Face) {
     debug_assert!(!buffer.have_output());
-    for info in buffer.info_slice_mut() {
-        info.glyph_id = info.glyph_index();
-        set_glyph_properties(info, face);
-    }
+    put_glyphs(buffer);
+    substitute_start(buffer, &face.definitions);
 }
 
-/// Sets the properties of a glyph: those of its class in the font, or by its character where the font
-/// has no classes.
-fn set_glyph_properties(info: &mut hb_glyph_info_t, face: &Face) {
-    let properties = if face.definitions.has_glyph_classes() {
-        let glyph = GlyphId(u16::try_from(info.glyph_id).unwrap_or(0));
-        face.definitions.glyph_props(glyph)
-    } else if is_nonspacing_mark(info) && !is_default_ignorable(info) {
-        GlyphPropsFlags::MARK.bits()
-    } else {
-        GlyphPropsFlags::BASE_GLYPH.bits()
-    };
-    info.var1 = u32::from(properties);
+/// Puts the glyph of each character in its place.
+///
+/// # Requires
+///
+/// - `buffer.old.have_output ≡ false`
+fn put_glyphs(buffer: &mut hb_buffer_t) {
+    debug_assert!(!buffer.have_output());
+    put_all(buffer.info_slice_mut());
+}
+
+/// Puts the glyph of each of the characters in its place.
+fn put_all(infos: &mut [hb_glyph_info_t]) {
+    for i in 0..infos.len() {
+        infos[i].glyph_id = infos[i].glyph_index();
+    }
 }
 
 /// Positions the glyphs: by the font's advances, by its lookups, and marks without a width of their
@@ -237,17 +433,50 @@ fn position<W: Watch>(
     position_glyphs(buffer, face);
     watch.step(Step::Advances, buffer)?;
     position_by_lookups(buffer, face, plan, watch)?;
+    finish_positions(buffer, face, plan, direction);
+    Ok(())
+}
+
+/// Takes the width of marks and of what is not to be seen, and places the glyphs that stand by others.
+///
+/// # Requires
+///
+/// - `closed: buffer.old.have_output ≡ false`
+/// - `placed: IsSome buffer.old.positions`
+fn finish_positions(buffer: &mut hb_buffer_t, face: &Face, plan: &ShapePlan, direction: Direction) {
+    debug_assert!(!buffer.have_output());
+    debug_assert!(buffer.have_positions());
     let adjusts = plan.adjust_mark_positioning_when_zeroing && buffer.direction.is_forward();
-    if plan.zero_marks {
-        zero_mark_widths(buffer, adjusts);
-    }
-    zero_width_default_ignorables(buffer);
+    zero_widths(buffer, plan, adjusts);
     position_finish_offsets(buffer);
     if plan.fallback_mark_positioning {
         position_marks(buffer, face, direction, adjusts);
     }
-    if buffer.direction.is_backward() {
-        buffer.reverse();
+}
+
+/// Takes the width of marks, where the plan has that, and of what is not to be seen.
+///
+/// # Requires
+///
+/// - `closed: buffer.old.have_output ≡ false`
+/// - `placed: IsSome buffer.old.positions`
+fn zero_widths(buffer: &mut hb_buffer_t, plan: &ShapePlan, adjusts: bool) {
+    debug_assert!(!buffer.have_output());
+    debug_assert!(buffer.have_positions());
+    zero_marks(buffer, plan, adjusts);
+    zero_width_default_ignorables(buffer);
+}
+
+/// Takes the width of marks, where the plan has that.
+///
+/// # Requires
+///
+/// - `closed: buffer.old.have_output ≡ false`
+/// - `placed: IsSome buffer.old.positions`
+fn zero_marks(buffer: &mut hb_buffer_t, plan: &ShapePlan, adjusts: bool) {
+    debug_assert!(!buffer.have_output());
+    debug_assert!(buffer.have_positions());
+    if plan.zero_marks {
+        zero_mark_widths(buffer, adjusts);
     }
-    Ok(())
 }

@@ -3,10 +3,10 @@
 //! The characters of a text, before they are mapped to glyphs: their properties, graphemes and direction.
 
 use crate::buffer::{
-    BufferFlags, CharExt, Direction, Flags, HB_BUFFER_CLUSTER_LEVEL_MONOTONE_CHARACTERS,
-    HB_BUFFER_CLUSTER_LEVEL_MONOTONE_GRAPHEMES, HB_BUFFER_SCRATCH_FLAG_HAS_NON_ASCII, hb_buffer_t,
-    hb_glyph_info_t,
+    BufferFlags, CharExt, Direction, Flags, HB_BUFFER_CLUSTER_LEVEL_MONOTONE_GRAPHEMES,
+    HB_BUFFER_SCRATCH_FLAG_HAS_NON_ASCII, hb_buffer_t, hb_glyph_info_t,
 };
+use crate::font_shaper::cluster_level::allows_any_order;
 use crate::font_shaper::face::Face;
 use crate::font_shaper::glyph_info::{
     general_category, is_continuation, is_decimal_number, is_letter, is_regional_indicator,
@@ -175,22 +175,45 @@ fn form_cluster(buffer: &mut hb_buffer_t, start: usize, end: usize, merges: bool
     }
 }
 
-/// Reverses a text that runs against its script, grapheme by grapheme.
+/// Reverses a text that runs against its script, grapheme by grapheme, and says whether it did.
 ///
 /// # Requires
 ///
 /// - `buffer.old.have_output ≡ false`
-pub(crate) fn ensure_native_direction(buffer: &mut hb_buffer_t) {
+pub(crate) fn ensure_native_direction(buffer: &mut hb_buffer_t) -> bool {
     debug_assert!(!buffer.have_output());
     let direction = buffer.direction;
     let native = native_direction(buffer);
     let is_against = direction.is_horizontal() && native.is_some_and(|native| native != direction)
         || direction.is_vertical() && direction != Direction::TopToBottom;
     if is_against {
-        let merges = buffer.cluster_level == HB_BUFFER_CLUSTER_LEVEL_MONOTONE_CHARACTERS;
-        buffer.reverse_groups(is_same_grapheme, merges);
-        buffer.direction = direction.reverse();
+        reverse_graphemes(buffer, direction.reverse());
     }
+    is_against
+}
+
+/// Puts the graphemes into reverse order, each in its own order, so that the text runs in this
+/// direction. Where clusters have to stay in order each grapheme is made one cluster before; at the
+/// level of graphemes it is one already.
+///
+/// # Requires
+///
+/// - `buffer.old.have_output ≡ false`
+fn reverse_graphemes(buffer: &mut hb_buffer_t, direction: Direction) {
+    debug_assert!(!buffer.have_output());
+    let merges = !allows_any_order(buffer);
+    buffer.reverse_groups(is_same_grapheme, merges);
+    set_direction(buffer, direction);
+}
+
+/// Says how the text runs.
+///
+/// # Requires
+///
+/// - `buffer.old.have_output ≡ false`
+pub(crate) fn set_direction(buffer: &mut hb_buffer_t, direction: Direction) {
+    debug_assert!(!buffer.have_output());
+    buffer.direction = direction;
 }
 
 /// The direction in which the script runs, if it has one: numbers in a script that runs from right to

@@ -2,6 +2,12 @@
 
 //! How much work a text may still cost while it is shaped, so that no font makes it endless.
 
+/// How many steps a subtable costs that is tried.
+pub const SUBTABLE_STEPS: u32 = 4;
+
+/// How many glyphs or subtables are passed over by their digests in a step.
+pub const PASSED_A_STEP: usize = 16;
+
 /// What is left to spend. It never rises.
 #[derive(Clone, Copy, Debug)]
 pub struct Budget {

@@ -6,6 +6,9 @@ use crate::font_tables::bytes::{table_at_16, table_at_32, u16_at};
 use crate::font_tables::class_definition::ClassDefinition;
 use crate::font_tables::coverage::Coverage;
 use crate::font_tables::gdef::Gdef;
+use crate::font_tables::rows::{Keys16, rises, rows_within};
+use crate::glyph::hb_glyph_info_t;
+use crate::glyph_layout::digest::Digest;
 use crate::glyph_layout::filter::Filter;
 use crate::glyph_layout::subtable::{
     Form, Subtable, behind_list, positioning_form, substitution_form, table_or_empty,
@@ -18,6 +21,9 @@ pub const SUBSTITUTION_EXTENSION: u16 = 7;
 /// The kind of an extension in `GPOS`.
 pub const POSITIONING_EXTENSION: u16 = 9;
 
+/// So many rows are soon looked through.
+const FEW_ROWS: usize = 64;
+
 /// The bit of a lookup's flag that says that a set of marks follows the subtables.
 const USE_MARK_FILTERING_SET: u16 = 0x0010;
 
@@ -28,16 +34,61 @@ pub struct Lookup<'a> {
     pub kind: u16,
     /// What it passes over.
     pub filter: Filter<'a>,
+    /// The digest of the glyphs that its subtables are for.
+    pub digest: Digest,
     /// The first of its subtables in `LookupList::subtables`.
     pub first: usize,
     /// Where its subtables end there.
     pub last: usize,
 }
 
+impl<'a> Lookup<'a> {
+    /// Whether the lookup may do something at a glyph: its subtables may be for it, it has one of the
+    /// feature's bits, and is not passed over.
+    ///
+    /// # Proved
+    ///
+    /// ```text
+    /// ensures { result ≡ is_for self.now mask glyph.now }
+    /// ```
+    #[inline]
+    pub fn is_for(&self, mask: u32, glyph: &hb_glyph_info_t) -> bool {
+        self.digest.may_have(glyph.glyph_id)
+            && glyph.mask & mask != 0
+            && !self.filter.passes_over(glyph)
+    }
+
+    /// The first place from this one on at which the lookup may do something, or the number of glyphs.
+    ///
+    /// # Requires
+    ///
+    /// - `start ≤ length glyphs.now`
+    ///
+    /// # Proved
+    ///
+    /// ```text
+    /// ensures from { start ≤ result }
+    /// ensures within { result ≤ length glyphs.now }
+    /// ensures at { result < length glyphs.now → is_for self.now mask (glyph_at glyphs.now result) ≡ true }
+    /// ensures passed { (place : ℕ) → start ≤ place → place < result → is_for self.now mask (glyph_at glyphs.now place) ≡ false }
+    /// ```
+    #[inline]
+    pub fn first_place(&self, mask: u32, glyphs: &[hb_glyph_info_t], start: usize) -> usize {
+        debug_assert!(start <= glyphs.len());
+        for place in start..glyphs.len() {
+            if self.is_for(mask, &glyphs[place]) {
+                return place;
+            }
+        }
+        glyphs.len()
+    }
+}
+
 /// The lookups of a table, which is read once.
 ///
 /// Reading is limited to 64 times the length of the table, as HarfBuzz limits it: what lookups share is read for each of
-/// them, and a font whose lookups share too much has no subtables from there on.
+/// them, and a font whose lookups share too much has no subtables from there on. A coverage or a table of classes with many
+/// rows that do not rise names no glyph, since it would have to be looked through for each.
 #[derive(Debug)]
 pub struct LookupList<'a> {
     /// The bytes of the table.
@@ -101,6 +152,19 @@ impl<'a> LookupList<'a> {
         self.lookups.get(usize::from(index))
     }
 
+    /// Whether the lookup of this index may do something in a text of such glyphs.
+    ///
+    /// # Proved
+    ///
+    /// That it returns.
+    #[inline]
+    pub fn may_apply(&self, index: u16, glyphs: &Digest) -> bool {
+        match self.lookup(index) {
+            Some(lookup) => lookup.digest.meets(glyphs),
+            None => false,
+        }
+    }
+
     /// The subtables of a lookup, one after the other.
     ///
     /// # Proved
@@ -113,6 +177,15 @@ impl<'a> LookupList<'a> {
     pub fn subtables_of(&self, lookup: &Lookup) -> &[Subtable<'a>] {
         if lookup.first <= lookup.last && lookup.last <= self.subtables.len() {
             &self.subtables[lookup.first..lookup.last]
+        } else {
+            &[]
+        }
+    }
+
+    /// The subtables from the one of this number on.
+    fn subtables_from(&self, first: usize) -> &[Subtable<'a>] {
+        if first <= self.subtables.len() {
+            &self.subtables[first..]
         } else {
             &[]
         }
@@ -160,9 +233,11 @@ impl<'a> LookupList<'a> {
                 self.read_subtable(kind, subtable)?;
             }
         }
+        let digest = digest_of(self.subtables_from(first));
         self.lookups.push(Lookup {
             kind,
             filter: Filter { flags, marks },
+            digest,
             first,
             last: self.subtables.len(),
         })?;
@@ -187,11 +262,13 @@ impl<'a> LookupList<'a> {
         };
         let first_coverage = self.coverages.len();
         self.read_coverages(form, table)?;
+        let coverage = self.first_of(form, table, first_coverage);
         let subtable = Subtable {
             kind,
             format,
             table,
-            coverage: self.first_of(form, table, first_coverage),
+            coverage,
+            digest: Digest::of_coverage(&coverage),
             bases: self.coverage_if(form == Form::Marks, table, 4),
             classes: self.input_classes(form, table),
             classes_behind: self.classes_if(form == Form::ChainedClasses, table, 4),
@@ -295,18 +372,19 @@ impl<'a> LookupList<'a> {
         }
     }
 
-    /// The coverage in these bytes, or one that covers nothing where there is no room.
+    /// The coverage in these bytes, or one that covers nothing where there is no room, or it is slow to
+    /// ask.
     fn coverage(&mut self, table: &'a [u8]) -> Coverage<'a> {
-        if self.pay_for(table) {
+        if self.pay_for(table) && is_quick(table, true) {
             Coverage::new(table)
         } else {
             Coverage::new(&[])
         }
     }
 
-    /// The classes in these bytes, or none where there is no room.
+    /// The classes in these bytes, or none where there is no room, or they are slow to ask.
     fn classes(&mut self, table: &'a [u8]) -> ClassDefinition<'a> {
-        if self.pay_for(table) {
+        if self.pay_for(table) && is_quick(table, false) {
             ClassDefinition::new(table)
         } else {
             ClassDefinition::new(&[])
@@ -327,6 +405,28 @@ impl<'a> LookupList<'a> {
         self.room -= bytes;
         true
     }
+}
+
+/// Whether a glyph is found soon in a table of glyphs or ranges: there are few rows, or they rise, as
+/// they have to. A list of classes has a row for each glyph.
+fn is_quick(table: &[u8], lists_glyphs: bool) -> bool {
+    let declared = usize::from(u16_at(table, 2).unwrap_or(0));
+    let (start, size) = match u16_at(table, 0) {
+        Some(1) if lists_glyphs => (4, 2),
+        Some(2) => (6, 6),
+        _ => return true,
+    };
+    let count = rows_within(table, 4, size, declared);
+    count <= FEW_ROWS || rises(&Keys16 { table, start, size }, count)
+}
+
+/// The digest of the glyphs that any of these subtables is for.
+fn digest_of(subtables: &[Subtable]) -> Digest {
+    let mut digest = Digest::new();
+    for subtable in subtables {
+        digest.add_all(&subtable.digest);
+    }
+    digest
 }
 
 /// The kind and the subtable behind an extension.

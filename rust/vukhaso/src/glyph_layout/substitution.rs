@@ -3,6 +3,7 @@
 //! What a lookup of `GSUB` does at the cursor (OpenType specification, "GSUB - Glyph Substitution Table").
 
 use crate::font_tables::bytes::{table_at_16, tail, u16_at};
+use crate::glyph_layout::budget::{PASSED_A_STEP, SUBTABLE_STEPS};
 use crate::glyph_layout::context::{Fit, fitting_rule};
 use crate::glyph_layout::filter::covered_index;
 use crate::glyph_layout::glyph_table::Glyphs;
@@ -78,13 +79,18 @@ pub fn edit_at<'a>(
     sides: &Sides,
     search: &mut Search,
 ) -> Option<Edit<'a>> {
-    for subtable in list.subtables_of(lookup) {
-        if !search.budget.pay(1) {
-            return None;
-        }
-        let edit = edit_of(list, subtable, options, is_nested, sides, search);
-        if edit.is_some() {
-            return edit;
+    let glyph = sides.input[0].glyph_id;
+    let subtables = list.subtables_of(lookup);
+    search.budget.pay_for(subtables.len() / PASSED_A_STEP);
+    for subtable in subtables {
+        if subtable.digest.may_have(glyph) {
+            if !search.budget.pay(SUBTABLE_STEPS) {
+                return None;
+            }
+            let edit = edit_of(list, subtable, options, is_nested, sides, search);
+            if edit.is_some() {
+                return edit;
+            }
         }
     }
     None

@@ -5,8 +5,15 @@
 use crate::font_tables::bytes::{table_at_16, u16_at};
 use crate::font_tables::class_definition::ClassDefinition;
 use crate::font_tables::coverage::Coverage;
+use crate::glyph_layout::digest::Digest;
 
 /// A subtable of a lookup.
+///
+/// # Proved
+///
+/// ```text
+/// ghost digests: { HasAll (λ glyph. is_some (covered_index coverage.table.now glyph) ≡ true) digest }
+/// ```
 #[derive(Clone, Copy, Debug)]
 pub struct Subtable<'a> {
     /// Its kind, that of an extension being the one behind it.
@@ -17,6 +24,8 @@ pub struct Subtable<'a> {
     pub table: &'a [u8],
     /// The glyphs that it is for: those at the cursor.
     pub coverage: Coverage<'a>,
+    /// The digest of these glyphs.
+    pub digest: Digest,
     /// The bases, ligatures or marks that marks are attached to (kinds 4, 5 and 6 of `GPOS`).
     pub bases: Coverage<'a>,
     /// The classes of glyphs, those of the input in a chained context, and of the first glyph in a pair.

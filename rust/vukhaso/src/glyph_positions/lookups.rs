@@ -5,6 +5,7 @@
 
 use crate::buffer::hb_buffer_t;
 use crate::glyph::hb_glyph_info_t;
+use crate::glyph_layout::budget::{PASSED_A_STEP, SUBTABLE_STEPS};
 use crate::glyph_layout::context::Fit;
 use crate::glyph_layout::filter::covered_index;
 use crate::glyph_layout::lookup_list::Lookup;
@@ -88,36 +89,30 @@ fn place_all(
     let Some(lookup) = setting.list.lookup(lookup) else {
         return;
     };
+    search.budget.pay_for(1 + buffer.len() / PASSED_A_STEP);
     let mut last = LastBase::none();
     let mut next = 0;
-    for place in 0..buffer.len() {
-        if next <= place
-            && is_for(buffer.info(), place, lookup, options)
-            && !search.budget.is_spent()
-        {
-            let task = Task {
-                setting: *setting,
-                lookup: *lookup,
-                options: *options,
-                place,
-                depth: MAX_NESTING_LEVEL,
-            };
-            next = place_by_lookup(buffer, &task, search, &mut last).unwrap_or(0);
+    for _turn in 0..buffer.len() {
+        let place = next_place(buffer.info(), lookup, options.mask, next);
+        if place == buffer.len() || search.budget.is_spent() {
+            return;
         }
+        let task = Task {
+            setting: *setting,
+            lookup: *lookup,
+            options: *options,
+            place,
+            depth: MAX_NESTING_LEVEL,
+        };
+        next = place_by_lookup(buffer, &task, search, &mut last)
+            .unwrap_or(0)
+            .max(place + 1);
     }
 }
 
-/// Whether the lookup is for the glyph at a place.
-fn is_for(
-    glyphs: &[hb_glyph_info_t],
-    place: usize,
-    lookup: &Lookup,
-    options: &LookupOptions,
-) -> bool {
-    match glyphs.get(place) {
-        Some(glyph) => glyph.mask & options.mask != 0 && !lookup.filter.passes_over(glyph),
-        None => false,
-    }
+/// The first place from this one on at which the lookup may do something, or the number of glyphs.
+fn next_place(glyphs: &[hb_glyph_info_t], lookup: &Lookup, mask: u32, from: usize) -> usize {
+    lookup.first_place(mask, glyphs, from.min(glyphs.len()))
 }
 
 /// Positions the glyph by the first subtable that does, and says where the walk goes on.
@@ -135,11 +130,13 @@ fn place_by_lookup<'a>(
     debug_assert!(!buffer.have_output());
     debug_assert!(buffer.have_positions());
     let glyph = buffer.info().get(task.place)?.glyph_id;
-    for subtable in task.setting.list.subtables_of(&task.lookup) {
-        if !search.budget.pay(1) {
-            return None;
-        }
-        if let Some(index) = covered_index(&subtable.coverage, glyph) {
+    let subtables = task.setting.list.subtables_of(&task.lookup);
+    search.budget.pay_for(subtables.len() / PASSED_A_STEP);
+    for subtable in subtables {
+        if subtable.digest.may_have(glyph)
+            && search.budget.pay(SUBTABLE_STEPS)
+            && let Some(index) = covered_index(&subtable.coverage, glyph)
+        {
             let next = place_by_subtable(buffer, task, subtable, index, search, last);
             if next.is_some() {
                 return next;

@@ -72,10 +72,7 @@ fn decide<'a>(
 ) -> Option<Edit<'a>> {
     let options = &substitutions.options;
     progress.search.reach = Reach::none(0);
-    if place >= glyphs.len()
-        || glyphs[place].mask & options.mask == 0
-        || lookup.filter.passes_over(&glyphs[place])
-    {
+    if place >= glyphs.len() || !lookup.is_for(options.mask, &glyphs[place]) {
         return None;
     }
     let sides = Sides {

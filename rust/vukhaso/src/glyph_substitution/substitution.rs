@@ -4,6 +4,7 @@
 
 use crate::buffer::hb_buffer_t;
 use crate::font_tables::gdef::Gdef;
+use crate::glyph_layout::budget::PASSED_A_STEP;
 use crate::glyph_layout::{Budget, Lookup, LookupList, LookupOptions, Search};
 use crate::glyph_substitution::nested::{MAX_NESTING_LEVEL, Step, apply_at};
 use crate::glyph_substitution::reverse::substitute_reverse;
@@ -53,6 +54,8 @@ impl Progress {
 /// Applies the lookup of this index at each glyph, in one walk. Where the budget is spent, the rest of
 /// the text stays as it is, and `buffer.shaping_failed` says so.
 ///
+/// A lookup that is for no glyph of the text costs a test of each, mostly by the digest.
+///
 /// # Requires
 ///
 /// - `buffer.old.have_output ≡ false`
@@ -77,10 +80,34 @@ pub fn substitute(
     progress: &mut Progress,
 ) -> Result<bool, AllocError> {
     debug_assert!(!buffer.have_output());
+    let mask = substitutions.options.mask;
     let Some(lookup) = substitutions.list.lookup(index) else {
         return Ok(true);
     };
-    if substitutions.options.mask == 0 || buffer.is_empty() {
+    progress
+        .search
+        .budget
+        .pay_for(1 + buffer.len() / PASSED_A_STEP);
+    if mask == 0 || lookup.first_place(mask, buffer.info(), 0) == buffer.len() {
+        return Ok(true);
+    }
+    apply(buffer, substitutions, lookup, progress)
+}
+
+/// Applies a lookup at each glyph, from the side that it is applied from.
+///
+/// # Requires
+///
+/// - `buffer.old.have_output ≡ false`
+fn apply(
+    buffer: &mut hb_buffer_t,
+    substitutions: &Substitutions,
+    lookup: &Lookup,
+    progress: &mut Progress,
+) -> Result<bool, AllocError> {
+    debug_assert!(!buffer.have_output());
+    if progress.search.budget.is_spent() {
+        fail(buffer);
         return Ok(true);
     }
     if is_reverse(substitutions.list, lookup) {
@@ -112,8 +139,10 @@ fn substitute_forward(
     debug_assert!(!buffer.have_output());
     buffer.clear_output();
     for _turn in 0..buffer.len() {
-        if buffer.lookahead_len() > 0 && !substitute_next(buffer, substitutions, lookup, progress)?
-        {
+        if buffer.lookahead_len() == 0 || progress.search.budget.is_spent() {
+            break;
+        }
+        if !substitute_next(buffer, substitutions, lookup, progress)? {
             return Ok(false);
         }
     }
@@ -123,12 +152,11 @@ fn substitute_forward(
     buffer.sync()
 }
 
-/// Applies a lookup at the cursor, or puts the current glyph out.
+/// Puts out the glyphs that the lookup is not for, and applies it at the next one, if there is one.
 ///
 /// # Requires
 ///
-/// - `opened: buffer.old.have_output ≡ true`
-/// - `glyph: 0 < length buffer.old.input`
+/// - `buffer.old.have_output ≡ true`
 fn substitute_next(
     buffer: &mut hb_buffer_t,
     substitutions: &Substitutions,
@@ -136,10 +164,12 @@ fn substitute_next(
     progress: &mut Progress,
 ) -> Result<bool, AllocError> {
     debug_assert!(buffer.have_output());
-    debug_assert!(!buffer.info().is_empty());
-    let glyph = buffer.cur(0);
-    if glyph.mask & substitutions.options.mask == 0 || lookup.filter.passes_over(glyph) {
-        return buffer.next_glyph();
+    let passed = lookup.first_place(substitutions.options.mask, buffer.info(), 0);
+    if passed > 0 && !buffer.next_glyphs(passed)? {
+        return Ok(false);
+    }
+    if buffer.lookahead_len() == 0 {
+        return Ok(true);
     }
     match apply_at(buffer, substitutions, lookup, progress, MAX_NESTING_LEVEL)? {
         Step::Applied => Ok(true),

@@ -1,6 +1,6 @@
 // Written by tools/plain_rust from crates/layout_plan. Do not edit.
 
-//! How a text is shaped by a font: HarfBuzz's `hb_ot_shape_plan_t`, for the default shaper.
+//! How a text is shaped by a font: HarfBuzz's `hb_ot_shape_plan_t`.
 
 use crate::common::{Direction, Tag};
 use crate::layout_plan::builder::{ChosenTable, PlanBuilder};
@@ -44,6 +44,26 @@ pub struct TextProperties<'a> {
     pub languages: &'a [Tag],
 }
 
+/// What the shaper of a text's script says of positions.
+#[derive(Clone, Copy, PartialEq, Eq, Debug)]
+pub struct ShaperRules {
+    /// The script that `GPOS` has to have for its lookups to be applied; `None` where any will do.
+    pub gpos_script: Option<Tag>,
+    /// Whether marks lose their width.
+    pub zero_marks: bool,
+    /// Whether marks are placed by the bounds of glyphs where the font does not place them.
+    pub fallback_position: bool,
+}
+
+impl ShaperRules {
+    /// Those of the default shaper.
+    pub const DEFAULT: ShaperRules = ShaperRules {
+        gpos_script: None,
+        zero_marks: true,
+        fallback_position: true,
+    };
+}
+
 /// How a text is shaped by a font.
 #[derive(Debug)]
 pub struct ShapePlan {
@@ -82,7 +102,7 @@ pub struct ShapePlan {
 }
 
 impl ShapePlan {
-    /// The plan for a text and a user's features.
+    /// The plan of the default shaper, for a text and a user's features.
     ///
     /// # Errors
     ///
@@ -99,19 +119,81 @@ impl ShapePlan {
         text: &TextProperties,
         features: &[Feature],
     ) -> Result<ShapePlan, AllocError> {
+        let mut builder = ShapePlan::begin(font, text)?;
+        ShapePlan::add_common_features(&mut builder, text.direction, features)?;
+        ShapePlan::complete(builder, font, text.direction, ShaperRules::DEFAULT)
+    }
+
+    /// What is chosen of a font for a text, and the features that come before those of a script's shaper.
+    ///
+    /// # Errors
+    ///
+    /// `Err(AllocError)` where memory ran out.
+    ///
+    /// # Proved
+    ///
+    /// That it returns.
+    #[inline]
+    pub fn begin<'a>(
+        font: &FontLayout<'a>,
+        text: &TextProperties,
+    ) -> Result<PlanBuilder<'a>, AllocError> {
         let gsub = ChosenTable::new(font.gsub, text.scripts, text.languages);
         let gpos = ChosenTable::new(font.gpos, text.scripts, text.languages);
         let mut builder = PlanBuilder::new(gsub, gpos);
         add_first_features(&mut builder, text.direction)?;
-        add_last_features(&mut builder, text.direction)?;
-        add_user_features(&mut builder, features)?;
+        Ok(builder)
+    }
+
+    /// Asks for the features that come behind those of a script's shaper, and then for a user's.
+    ///
+    /// # Errors
+    ///
+    /// `Err(AllocError)` where memory ran out.
+    ///
+    /// # Proved
+    ///
+    /// That it returns.
+    #[inline]
+    pub fn add_common_features(
+        builder: &mut PlanBuilder,
+        direction: Direction,
+        features: &[Feature],
+    ) -> Result<(), AllocError> {
+        add_last_features(builder, direction)?;
+        add_user_features(builder, features)
+    }
+
+    /// The plan of all features that were asked for.
+    ///
+    /// # Errors
+    ///
+    /// `Err(AllocError)` where memory ran out.
+    ///
+    /// # Proved
+    ///
+    /// ```text
+    /// ensures { IfOk result (λ plan. IsPlan plan.layout) }
+    /// ```
+    #[inline]
+    pub fn complete(
+        builder: PlanBuilder,
+        font: &FontLayout,
+        direction: Direction,
+        rules: ShaperRules,
+    ) -> Result<ShapePlan, AllocError> {
         let layout = builder.compile()?;
-        Ok(decided(layout, font, text.direction))
+        Ok(decided(layout, font, direction, rules))
     }
 }
 
-/// What follows from the features of a plan and the tables of a font.
-fn decided(layout: LayoutPlan, font: &FontLayout, direction: Direction) -> ShapePlan {
+/// What follows from the features of a plan, the tables of a font and the shaper of a script.
+fn decided(
+    layout: LayoutPlan,
+    font: &FontLayout,
+    direction: Direction,
+    rules: ShaperRules,
+) -> ShapePlan {
     let kern_tag = if direction.is_horizontal() {
         Tag::from_bytes(b"kern")
     } else {
@@ -124,7 +206,11 @@ fn decided(layout: LayoutPlan, font: &FontLayout, direction: Direction) -> Shape
     let has_gpos_kern = layout
         .feature(kern_tag)
         .is_some_and(|feature| feature.gpos.is_some());
-    let apply_gpos = !font.gpos.is_empty();
+    let is_script = match rules.gpos_script {
+        Some(script) => script == layout.gpos_script,
+        None => true,
+    };
+    let apply_gpos = is_script && !font.gpos.is_empty();
     let apply_kern = font.kern.is_there && !(has_gpos_kern && apply_gpos);
     let adjusts = !apply_gpos && !(apply_kern && font.kern.is_cross_stream);
     ShapePlan {
@@ -139,10 +225,10 @@ fn decided(layout: LayoutPlan, font: &FontLayout, direction: Direction) -> Shape
         apply_gpos,
         apply_kern,
         apply_fallback_kern: !apply_gpos && !apply_kern,
-        zero_marks: !(apply_kern && font.kern.has_machine),
+        zero_marks: rules.zero_marks && !(apply_kern && font.kern.has_machine),
         has_gpos_mark: layout.one_mask(Tag::from_bytes(b"mark")) != 0,
         adjust_mark_positioning_when_zeroing: adjusts,
-        fallback_mark_positioning: adjusts,
+        fallback_mark_positioning: adjusts && rules.fallback_position,
         layout,
     }
 }

@@ -11,6 +11,7 @@ mod glyph_tests;
 mod layout_tests;
 mod pass_tests;
 mod position_tests;
+mod script_tests;
 mod shaper_tests;
 mod shaping_uses;
 mod text_tests;

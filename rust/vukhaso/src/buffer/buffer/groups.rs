@@ -20,7 +20,7 @@ impl hb_buffer_t {
     ///
     /// ```text
     /// ensures is { self.new ≡ step.reverse self.old }
-    /// ensures keeps { KeepsClusters self.old self.new }
+    /// ensures turns { TurnsClusters self.old self.new }
     /// ```
     #[inline]
     pub fn reverse(&mut self) {
@@ -134,7 +134,11 @@ impl hb_buffer_t {
     ///     → self.new ≡ step.reverse_groups test merge_clusters self.old }
     /// ensures len { length self.new.input ≡ length self.old.input }
     /// ensures others { step.KeepsOthers self.old self.new }
-    /// ensures keeps { merge_clusters ≡ true → KeepsClusters self.old self.new }
+    /// ensures merging_turns { merge_clusters ≡ true → TurnsClusters self.old self.new }
+    /// ensures turns { (test : groups_of.Test)
+    ///     → ((x y : _) (r : _) → F.post group x y r → r ≡ test x.now y.now)
+    ///     → (any_order self.old ≡ false → ShareClusters test self.old.input)
+    ///     → TurnsClusters self.old self.new }
     /// ```
     #[inline]
     pub fn reverse_groups<F: Fn(&hb_glyph_info_t, &hb_glyph_info_t) -> bool>(
@@ -143,6 +147,7 @@ impl hb_buffer_t {
         merge_clusters: bool,
     ) {
         debug_assert!(!self.have_output());
+        debug_assert!(!self.sides.is_open());
         let len = self.sides.len();
         let mut start = 0;
         while start < len {

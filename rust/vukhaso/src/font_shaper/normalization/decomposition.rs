@@ -2,16 +2,19 @@
 
 //! The first round of normalization: a glyph is found for each character, or for its parts.
 
+use super::drop_behind;
 use super::parts::{MOST_STEPS, Parts, add_parts};
 use super::variations::read_variations;
 use crate::buffer::{
     CharExt, HB_BUFFER_SCRATCH_FLAG_HAS_SPACE_FALLBACK, hb_buffer_t, hb_glyph_info_t,
 };
+use crate::common::GlyphId;
 use crate::font_shaper::face::Face;
 use crate::font_shaper::glyph_info::{
     is_unicode_mark, is_unicode_space, set_space_fallback, set_unicode_props,
 };
 use crate::glyph::hb_unicode_funcs_t::NOT_SPACE;
+use crate::glyph::space_t;
 use crate::memory::AllocError;
 
 /// The hyphen that no line is broken at, and the one that stands for it.
@@ -19,20 +22,25 @@ const NON_BREAKING_HYPHEN: u32 = 0x2011;
 
 const HYPHEN: u32 = 0x2010;
 
-/// Finds a glyph for each character, or for its parts.
+/// Finds a glyph for each character, or for its parts. Where `always_shortest` holds, a character with
+/// marks is kept too if the font has a glyph for it.
 ///
 /// # Requires
 ///
 /// - `buffer.old.have_output ≡ false`
-pub(crate) fn decompose_all(buffer: &mut hb_buffer_t, face: &Face) -> Result<bool, AllocError> {
+pub(crate) fn decompose_all(
+    buffer: &mut hb_buffer_t,
+    face: &Face,
+    always_shortest: bool,
+) -> Result<bool, AllocError> {
     debug_assert!(!buffer.have_output());
-    map_characters(buffer.info_slice_mut(), face);
+    map_characters(buffer, face);
     buffer.clear_output();
     for _turn in 0..buffer.len() {
         if buffer.lookahead_len() == 0 {
             break;
         }
-        if !decompose_next(buffer, face)? {
+        if !decompose_next(buffer, face, always_shortest)? {
             return Ok(false);
         }
     }
@@ -40,10 +48,20 @@ pub(crate) fn decompose_all(buffer: &mut hb_buffer_t, face: &Face) -> Result<boo
 }
 
 /// Finds the glyph of each character, 0 where the font has none.
-fn map_characters(infos: &mut [hb_glyph_info_t], face: &Face) {
-    for info in infos.iter_mut() {
-        let glyph = face.glyph_index(info.glyph_id);
-        info.set_glyph_index(glyph.map_or(0, |glyph| u32::from(glyph.0)));
+///
+/// # Requires
+///
+/// - `buffer.old.have_output ≡ false`
+fn map_characters(buffer: &mut hb_buffer_t, face: &Face) {
+    debug_assert!(!buffer.have_output());
+    map_all(buffer.info_slice_mut(), face);
+}
+
+/// Finds the glyph of each of the characters.
+fn map_all(infos: &mut [hb_glyph_info_t], face: &Face) {
+    for i in 0..infos.len() {
+        let glyph = face.glyph_index(infos[i].glyph_id);
+        infos[i].set_glyph_index(glyph.map_or(0, |glyph| u32::from(glyph.0)));
     }
 }
 
@@ -52,7 +70,11 @@ fn map_characters(infos: &mut [hb_glyph_info_t], face: &Face) {
 /// # Requires
 ///
 /// - `buffer.old.have_output ≡ true`
-fn decompose_next(buffer: &mut hb_buffer_t, face: &Face) -> Result<bool, AllocError> {
+fn decompose_next(
+    buffer: &mut hb_buffer_t,
+    face: &Face,
+    always_shortest: bool,
+) -> Result<bool, AllocError> {
     debug_assert!(buffer.have_output());
     let simple = simple_length(buffer.info());
     if !decompose_characters(buffer, face, simple, true)? {
@@ -62,7 +84,7 @@ fn decompose_next(buffer: &mut hb_buffer_t, face: &Face) -> Result<bool, AllocEr
     if has_variation_selector(buffer.info(), cluster) {
         read_variations(buffer, face, cluster)
     } else {
-        decompose_characters(buffer, face, cluster, false)
+        decompose_characters(buffer, face, cluster, always_shortest)
     }
 }
 
@@ -184,7 +206,7 @@ fn put_parts(buffer: &mut hb_buffer_t, face: &Face, parts: &[char]) -> Result<bo
             return Ok(false);
         }
     }
-    buffer.skip_glyph();
+    drop_behind(buffer);
     Ok(true)
 }
 
@@ -198,9 +220,7 @@ fn put_part(buffer: &mut hb_buffer_t, face: &Face, part: char) -> Result<bool, A
     debug_assert!(buffer.have_output());
     debug_assert!(!buffer.info().is_empty());
     let glyph = face.glyph_index(part as u32);
-    buffer
-        .cur_mut(0)
-        .set_glyph_index(glyph.map_or(0, |glyph| u32::from(glyph.0)));
+    set_current_glyph(buffer, glyph.map_or(0, |glyph| u32::from(glyph.0)));
     if !buffer.output_glyph(part as u32)? {
         return Ok(false);
     }
@@ -208,13 +228,42 @@ fn put_part(buffer: &mut hb_buffer_t, face: &Face, part: char) -> Result<bool, A
     Ok(true)
 }
 
+/// Sets the glyph of the current character.
+///
+/// # Requires
+///
+/// - `opened: buffer.old.have_output ≡ true`
+/// - `glyph: 0 < length buffer.old.input`
+pub(crate) fn set_current_glyph(buffer: &mut hb_buffer_t, glyph: u32) {
+    debug_assert!(buffer.have_output());
+    debug_assert!(!buffer.info().is_empty());
+    set_glyph(buffer.cur_mut(0), glyph);
+}
+
+/// Sets the glyph of a character.
+fn set_glyph(info: &mut hb_glyph_info_t, glyph: u32) {
+    info.set_glyph_index(glyph);
+}
+
 /// Sets the properties of the character that was put out last.
-pub(crate) fn set_last_properties(buffer: &mut hb_buffer_t) {
-    let mut scratch_flags = buffer.scratch_flags;
-    if let Some(last) = buffer.out_info_mut().last_mut() {
-        set_unicode_props(last, &mut scratch_flags);
-    }
+fn set_last_properties(buffer: &mut hb_buffer_t) {
+    let scratch_flags = set_last_in(buffer);
     buffer.scratch_flags = scratch_flags;
+}
+
+/// Sets the properties of the last character of a buffer's out side; the scratch flags that then hold.
+fn set_last_in(buffer: &mut hb_buffer_t) -> u32 {
+    let mut scratch_flags = buffer.scratch_flags;
+    set_last(buffer.out_info_mut(), &mut scratch_flags);
+    scratch_flags
+}
+
+/// Sets the properties of the last of these characters.
+fn set_last(infos: &mut [hb_glyph_info_t], scratch_flags: &mut u32) {
+    if !infos.is_empty() {
+        let last = infos.len() - 1;
+        set_unicode_props(&mut infos[last], scratch_flags);
+    }
 }
 
 /// Finds another glyph for a character that the font lacks: for a space the font's space, of which the
@@ -233,7 +282,7 @@ fn find_fallback(buffer: &mut hb_buffer_t, face: &Face) {
     } else if character == NON_BREAKING_HYPHEN
         && let Some(glyph) = face.glyph_index(HYPHEN)
     {
-        buffer.cur_mut(0).set_glyph_index(u32::from(glyph.0));
+        set_current_glyph(buffer, u32::from(glyph.0));
     }
 }
 
@@ -257,9 +306,35 @@ fn find_space(buffer: &mut hb_buffer_t, face: &Face, character: u32) {
     if space != NOT_SPACE
         && let Some(glyph) = glyph
     {
-        let current = buffer.cur_mut(0);
-        set_space_fallback(current, space);
-        current.set_glyph_index(u32::from(glyph.0));
-        buffer.scratch_flags = buffer.scratch_flags | HB_BUFFER_SCRATCH_FLAG_HAS_SPACE_FALLBACK;
+        set_space(buffer, space, glyph);
+        note_space(buffer);
     }
+}
+
+/// Says that a space of the text is one that the font lacks.
+///
+/// # Requires
+///
+/// - `opened: buffer.old.have_output ≡ true`
+fn note_space(buffer: &mut hb_buffer_t) {
+    debug_assert!(buffer.have_output());
+    buffer.scratch_flags = buffer.scratch_flags | HB_BUFFER_SCRATCH_FLAG_HAS_SPACE_FALLBACK;
+}
+
+/// Sets the glyph of the current character, a space of this kind.
+///
+/// # Requires
+///
+/// - `opened: buffer.old.have_output ≡ true`
+/// - `glyph: 0 < length buffer.old.input`
+fn set_space(buffer: &mut hb_buffer_t, space: space_t, glyph: GlyphId) {
+    debug_assert!(buffer.have_output());
+    debug_assert!(!buffer.info().is_empty());
+    take_space(buffer.cur_mut(0), space, glyph);
+}
+
+/// Sets the glyph of a space of this kind.
+fn take_space(info: &mut hb_glyph_info_t, space: space_t, glyph: GlyphId) {
+    set_space_fallback(info, space);
+    info.set_glyph_index(u32::from(glyph.0));
 }

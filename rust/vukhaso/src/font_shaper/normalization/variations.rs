@@ -2,8 +2,10 @@
 
 //! A base and its marks, with a variation selector among them.
 
-use super::decomposition::is_variation_selector;
-use crate::buffer::{HB_BUFFER_SCRATCH_FLAG_HAS_VARIATION_SELECTOR_FALLBACK, hb_buffer_t};
+use super::decomposition::{is_variation_selector, set_current_glyph};
+use crate::buffer::{
+    HB_BUFFER_SCRATCH_FLAG_HAS_VARIATION_SELECTOR_FALLBACK, hb_buffer_t, hb_glyph_info_t,
+};
 use crate::font_shaper::face::Face;
 use crate::font_shaper::glyph_info::{clear_default_ignorable, set_variation_selector};
 use crate::memory::AllocError;
@@ -22,21 +24,35 @@ pub(crate) fn read_variations(
     debug_assert!(buffer.have_output());
     let end = buffer.idx().saturating_add(count);
     for _turn in 0..count {
-        let was_kept = if buffer.idx() >= end || buffer.lookahead_len() == 0 {
+        if buffer.idx() >= end || buffer.lookahead_len() == 0 {
             break;
-        } else if buffer.idx() + 1 < end
-            && buffer.lookahead_len() > 1
-            && is_variation_selector(buffer.cur(1).glyph_id)
-        {
-            read_variation(buffer, face)? && keep_selectors(buffer, end)?
-        } else {
-            buffer.next_glyph()?
-        };
-        if !was_kept {
+        }
+        if !read_next(buffer, face, end)? {
             return Ok(false);
         }
     }
     Ok(true)
+}
+
+/// Reads a character, and the variation selectors behind it that stand before a place of the input.
+///
+/// # Requires
+///
+/// - `opened: buffer.old.have_output ≡ true`
+/// - `glyph: 0 < length buffer.old.input`
+fn read_next(buffer: &mut hb_buffer_t, face: &Face, end: usize) -> Result<bool, AllocError> {
+    debug_assert!(buffer.have_output());
+    debug_assert!(!buffer.info().is_empty());
+    if buffer.idx().saturating_add(1) >= end
+        || buffer.lookahead_len() == 1
+        || !is_variation_selector(buffer.cur(1).glyph_id)
+    {
+        return buffer.next_glyph();
+    }
+    if !read_variation(buffer, face)? {
+        return Ok(false);
+    }
+    keep_selectors(buffer, end)
 }
 
 /// Reads a character and the variation selector behind it.
@@ -52,7 +68,7 @@ fn read_variation(buffer: &mut hb_buffer_t, face: &Face) -> Result<bool, AllocEr
     let selector = buffer.cur(1).glyph_id;
     match face.glyph_variation_index(character, selector) {
         Some(glyph) => {
-            buffer.cur_mut(0).set_glyph_index(u32::from(glyph.0));
+            set_current_glyph(buffer, u32::from(glyph.0));
             buffer.replace_glyphs(2, 1, &[character])
         }
         None => keep_both(buffer),
@@ -74,12 +90,29 @@ fn keep_both(buffer: &mut hb_buffer_t) -> Result<bool, AllocError> {
     buffer.scratch_flags =
         buffer.scratch_flags | HB_BUFFER_SCRATCH_FLAG_HAS_VARIATION_SELECTOR_FALLBACK;
     let is_shown = buffer.not_found_variation_selector.is_some();
-    let selector = buffer.cur_mut(0);
-    set_variation_selector(selector);
-    if is_shown {
-        clear_default_ignorable(selector);
-    }
+    note_selector(buffer, is_shown);
     buffer.next_glyph()
+}
+
+/// Says that the current character is a variation selector that the font does not know, and whether it
+/// is shown.
+///
+/// # Requires
+///
+/// - `opened: buffer.old.have_output ≡ true`
+/// - `glyph: 0 < length buffer.old.input`
+fn note_selector(buffer: &mut hb_buffer_t, is_shown: bool) {
+    debug_assert!(buffer.have_output());
+    debug_assert!(!buffer.info().is_empty());
+    note(buffer.cur_mut(0), is_shown);
+}
+
+/// Says that a character is a variation selector that the font does not know, and whether it is shown.
+fn note(info: &mut hb_glyph_info_t, is_shown: bool) {
+    set_variation_selector(info);
+    if is_shown {
+        clear_default_ignorable(info);
+    }
 }
 
 /// Reads the variation selectors that are left before a place of the input.

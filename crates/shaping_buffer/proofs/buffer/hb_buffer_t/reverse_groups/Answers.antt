@@ -1,11 +1,14 @@
-use Rattle.std.proofs.Common.{◌≡◌, ◌+◌, ◌-◌, ◌<◌, ◌≤◌, ◌∙◌, suc, true, false, [], sym, ap, subst, length, arith}
+use Rattle.std.proofs.Common.{◌≡◌, ◌+◌, ◌-◌, ◌<◌, ◌≤◌, ◌∙◌, inl, inr, suc, true, false, [], sym, ap, subst, length, arith}
+use Rattle.std.proofs.lemmas.Bool.{cases_Bool}
+use Rattle.std.proofs.lemmas.Grind.{common_steps}
 use Rattle.glyph_lists.specs.Groups as groups_of
 use Rattle.shaping_buffer.specs.State.{State}
+use Rattle.shaping_buffer.specs.KeepsClusters.{KeepsClusters}
 use Rattle.shaping_buffer.specs.GroupStep.{KeepsOthers, reverse, reverse_group}
 use Rattle.shaping_buffer.proofs.GroupStepLemmas.{reverse_each, each_done, each_turn, each_then_all}
 use Rattle.shaping_buffer.proofs.GroupStepLemmas.{group_keeps, keeps_then as others_then, length_group}
-use Rattle.shaping_buffer.proofs.GroupKeepsLemmas.{keeps_group}
-use Rattle.shaping_buffer.proofs.KeepsLemmas.{keeps_then, kept_as}
+use Rattle.shaping_buffer.proofs.GroupKeepsLemmas.{keeps_group, shared_each}
+use Rattle.shaping_buffer.proofs.KeepsLemmas.{keeps_then, keeps_then_turns, kept_as}
 use Rattle.shaping_buffer.proofs.buffer.hb_buffer_t.reverse_groups.Goals as goal
 
 pub loop-start-preserved : goal.loop-start-preserved
@@ -56,6 +59,22 @@ returns-clause-is g c = λ test by.
     ∙ inv.6 test by)
     ∙ each_then_all c.args.merge_clusters test c.args.self.now inv.5
 
-pub returns-clause-keeps : goal.returns-clause-keeps
-returns-clause-keeps g c = λ e.
-    keeps_then c.args.self.now c.loop-start.self c.reverse.new.self (c.loop-start.invariant.7 e) c.reverse.ensures.keeps
+pub returns-clause-merging_turns : goal.returns-clause-merging_turns
+returns-clause-merging_turns g c = λ e.
+    keeps_then_turns c.args.self.now c.loop-start.self c.reverse.new.self (c.loop-start.invariant.7 e)
+    c.reverse.ensures.turns
+
+pub returns-clause-turns : goal.returns-clause-turns
+returns-clause-turns g c = λ test by share.
+    let inv = c.loop-start.invariant in
+    let none : c.args.self.now.out ≡ [] = grind (arith, common_steps) in
+    let each : c.loop-start.self ≡ reverse_each c.args.merge_clusters test (length c.args.self.now.input) 0 c.args.self.now =
+    sym (each_done c.args.merge_clusters test inv.0 c.loop-start.start c.loop-start.self (omega arith))
+    ∙ inv.6 test by in
+    let kept : KeepsClusters c.args.self.now c.loop-start.self = elim (cases_Bool c.args.merge_clusters) [
+      | inl merges ↦ inv.7 merges
+      | inr plain ↦ kept_as _ _ _
+          (shared_each test (length c.args.self.now.input) 0 c.args.self.now none share)
+          (each ∙ ap (λ b. reverse_each b test (length c.args.self.now.input) 0 c.args.self.now) plain)
+    ] in
+    keeps_then_turns c.args.self.now c.loop-start.self c.reverse.new.self kept c.reverse.ensures.turns

@@ -1,0 +1,179 @@
+//! The lookups that substitute glyphs, applied to a text stage by stage, and what the shaper of its script does between two stages.
+
+ghost use Rattle.std.specs.Prelude.{◌≡◌, true, false, IfOk};
+ghost use Rattle.shaping_buffer.specs.KeepsClusters.{KeepsClusters};
+
+use crate::face::Face;
+use crate::lookups::{budget_of, options_of};
+use crate::planning::TextPlan;
+use crate::watch::{Step, Watch};
+use font_tables::gdef::Gdef;
+use glyph_layout::lookup_list::SUBSTITUTION_EXTENSION;
+use glyph_layout::{LookupList, LookupOptions};
+use glyph_substitution::{Progress, Substitutions};
+use layout_plan::{Pause, PlannedLookup};
+use script_shapers::{FallbackLookups, ScriptPlan};
+use shaping_buffer::hb_buffer_t;
+use std::alloc::AllocError;
+
+/// Applies the lookups of `GSUB`, stage by stage. `Ok(false)` where a call was refused for length.
+#[tactic(auto, using(shaping_buffer::proofs::ClosedKeepsLemmas::kept))]
+pub(crate) fn substitute<W: Watch>(
+    buffer: &mut hb_buffer_t,
+    face: &Face,
+    plan: &TextPlan,
+    watch: &mut W,
+) -> Result<bool, AllocError>
+    requires { buffer.old.have_output ≡ false }
+    ensures closed { IfOk result (λ done. done ≡ true → buffer.new.have_output ≡ false) }
+    ensures keeps { KeepsClusters buffer.old buffer.new }
+{
+    let mut progress = Progress::new(budget_of(buffer));
+    let mut start = 0;
+    for stage in &plan.shape.layout.stages {
+        let lookups = &plan.shape.layout.gsub_lookups;
+        let lookups = lookups.get(start..stage.end).unwrap_or(&[]);
+        if !apply_stage(buffer, face, lookups, &mut progress, watch)? {
+            return Ok(false);
+        }
+        if !pause(buffer, face, &plan.script, stage.pause, &mut progress)? {
+            return Ok(false);
+        }
+        start = stage.end;
+    }
+    Ok(true)
+}
+
+/// Applies the lookups of a stage. `Ok(false)` where a call was refused for length.
+#[tactic(auto, using(shaping_buffer::proofs::ClosedKeepsLemmas::kept))]
+fn apply_stage<W: Watch>(
+    buffer: &mut hb_buffer_t,
+    face: &Face,
+    lookups: &[PlannedLookup],
+    progress: &mut Progress,
+    watch: &mut W,
+) -> Result<bool, AllocError>
+    requires { buffer.old.have_output ≡ false }
+    ensures closed { IfOk result (λ done. done ≡ true → buffer.new.have_output ≡ false) }
+    ensures keeps { KeepsClusters buffer.old buffer.new }
+{
+    for planned in lookups {
+        let substitutions = Substitutions {
+            list: &face.lookups.substitutions,
+            gdef: &face.definitions,
+            options: options_of(planned),
+        };
+        if !glyph_substitution::substitute(buffer, &substitutions, planned.index, progress)? {
+            return Ok(false);
+        }
+        watch.step(Step::Substituted(planned.index), buffer)?;
+    }
+    Ok(true)
+}
+
+/// What is done after a stage. `Ok(false)` where a call was refused for length.
+#[tactic(auto, using(shaping_buffer::proofs::ClosedKeepsLemmas::kept))]
+fn pause(
+    buffer: &mut hb_buffer_t,
+    face: &Face,
+    plan: &ScriptPlan,
+    pause: Pause,
+    progress: &mut Progress,
+) -> Result<bool, AllocError>
+    requires { buffer.old.have_output ≡ false }
+    ensures closed { IfOk result (λ done. done ≡ true → buffer.new.have_output ≡ false) }
+    ensures keeps { KeepsClusters buffer.old buffer.new }
+{
+    match pause {
+        Pause::RecordStch => {
+            plan.record_stch(buffer);
+            Ok(true)
+        }
+        Pause::ArabicFallback if plan.does_fallback => {
+            face.join_by_fallback(buffer, plan, progress)
+        }
+        _ => Ok(true),
+    }
+}
+
+impl Face<'_> {
+    /// Joins Arabic letters of a font that has their forms as characters, and no features for them. `Ok(false)` where a call was refused
+    /// for length.
+    fn join_by_fallback(
+        &self,
+        buffer: &mut hb_buffer_t,
+        plan: &ScriptPlan,
+        progress: &mut Progress,
+    ) -> Result<bool, AllocError>
+        requires { buffer.old.have_output ≡ false }
+        ensures closed { IfOk result (λ done. done ≡ true → buffer.new.have_output ≡ false) }
+        ensures keeps { KeepsClusters buffer.old buffer.new }
+    {
+        let fallback = FallbackLookups::new(self.alloc, self, plan)?;
+        self.apply_fallback(buffer, &fallback, progress)
+    }
+
+    /// Applies the lookups of a fallback. `Ok(false)` where a call was refused for length.
+    fn apply_fallback(
+        &self,
+        buffer: &mut hb_buffer_t,
+        fallback: &FallbackLookups,
+        progress: &mut Progress,
+    ) -> Result<bool, AllocError>
+        requires { buffer.old.have_output ≡ false }
+        ensures closed { IfOk result (λ done. done ≡ true → buffer.new.have_output ≡ false) }
+        ensures keeps { KeepsClusters buffer.old buffer.new }
+    {
+        let list = LookupList::new(
+            self.alloc,
+            fallback.table.as_slice(),
+            SUBSTITUTION_EXTENSION,
+            &self.definitions,
+        )?;
+        apply_each(
+            buffer,
+            &list,
+            &self.definitions,
+            fallback.masks.as_slice(),
+            progress,
+        )
+    }
+}
+
+/// Applies each lookup of a list to the glyphs that have its mask. `Ok(false)` where a call was refused for length.
+#[tactic(auto, using(shaping_buffer::proofs::ClosedKeepsLemmas::kept))]
+fn apply_each(
+    buffer: &mut hb_buffer_t,
+    list: &LookupList,
+    definitions: &Gdef,
+    masks: &[u32],
+    progress: &mut Progress,
+) -> Result<bool, AllocError>
+    requires { buffer.old.have_output ≡ false }
+    ensures closed { IfOk result (λ done. done ≡ true → buffer.new.have_output ≡ false) }
+    ensures keeps { KeepsClusters buffer.old buffer.new }
+{
+    for index in 0..masks.len() {
+        let substitutions = Substitutions {
+            list,
+            gdef: definitions,
+            options: options_of_fallback(masks[index]),
+        };
+        let index = u16::try_from(index).unwrap_or(0);
+        if !glyph_substitution::substitute(buffer, &substitutions, index, progress)? {
+            return Ok(false);
+        }
+    }
+    Ok(true)
+}
+
+/// How a lookup of the fallback is applied.
+fn options_of_fallback(mask: u32) -> LookupOptions {
+    LookupOptions {
+        mask,
+        auto_zwnj: true,
+        auto_zwj: true,
+        per_syllable: false,
+        random: false,
+    }
+}

@@ -1,0 +1,11 @@
+pub mod Item
+pub mod Joining
+pub mod JoiningRows
+pub mod Listed
+pub mod Search
+pub mod Flags
+pub mod Hangul
+pub mod Hebrew
+pub mod Masks
+pub mod Moves
+pub mod Thai

@@ -1,0 +1,155 @@
+//! The features that shapers ask for, and what those of a font make of a shaper (OpenType, "Developing OpenType Fonts for Arabic
+//! Script" and "for Hangul Script").
+
+use layout_plan::builder::ChosenTable;
+use layout_plan::{FeatureFlags, Pause, PlanBuilder};
+use rb_common::{Script, Tag, script};
+use script_features::{collect_features, override_features, script_plan};
+use script_shapers::{ScriptPlan, ScriptShaper};
+use std::alloc::{AllocError, Global};
+use std::test::Fail;
+
+/// A table `GSUB` whose script `DFLT` has one feature, of the tag at the places 32 to 35, with the table's one lookup.
+const TABLE: [u8; 54] = [
+    0, 1, 0, 0, 0, 10, 0, 30, 0, 44, 0, 1, 68, 70, 76, 84, 0, 8, 0, 4, 0, 0, 0, 0, 255, 255, 0, 1,
+    0, 0, 0, 1, 0, 0, 0, 0, 0, 8, 0, 0, 0, 1, 0, 0, 0, 1, 0, 4, 0, 1, 0, 0, 0, 0,
+];
+
+/// The table, in which its feature has this tag.
+fn table_of(feature: [u8; 4]) -> [u8; 54] {
+    let mut table = TABLE;
+    for (byte, letter) in table.iter_mut().skip(32).zip(feature) {
+        *byte = letter;
+    }
+    table
+}
+
+/// No features yet, for a font with this table.
+fn builder(alloc: Global, gsub: &[u8]) -> PlanBuilder<'_> {
+    let gsub = ChosenTable::new(gsub, &[], &[]);
+    PlanBuilder::new(alloc, gsub, ChosenTable::new(&[], &[], &[]))
+}
+
+/// The stage in which a feature is asked for.
+fn stage_of(builder: &PlanBuilder<'_>, name: &[u8; 4]) -> Option<usize> {
+    let tag = Tag::from_bytes(name);
+    for request in builder.requests.iter() {
+        if request.tag == tag {
+            return Some(request.stage);
+        }
+    }
+    None
+}
+
+/// The plan of a shaper for a font that has one feature, or none where the table is empty.
+fn plan_for(
+    alloc: Global,
+    shaper: ScriptShaper,
+    script: Script,
+    gsub: &[u8],
+) -> Result<ScriptPlan, AllocError> {
+    let mut builder = builder(alloc, gsub);
+    collect_features(shaper, &mut builder, Some(script))?;
+    override_features(shaper, &mut builder)?;
+    let layout = builder.compile(alloc)?;
+    Ok(script_plan(shaper, Some(script), &layout, false))
+}
+
+/// Arabic asks for each form in a stage of its own, for ligatures behind them, and may make forms in the fallback's place.
+#[test]
+fn stages_of_arabic(rt: HostRuntime) -> Result<(), Fail> {
+    let mut builder = builder(rt.alloc(), &[]);
+    collect_features(ScriptShaper::Arabic, &mut builder, Some(script::ARABIC))?;
+    let stages: [(&[u8; 4], usize); 15] = [
+        (b"stch", 0),
+        (b"ccmp", 1),
+        (b"locl", 1),
+        (b"isol", 2),
+        (b"fina", 3),
+        (b"fin2", 4),
+        (b"fin3", 5),
+        (b"medi", 6),
+        (b"med2", 7),
+        (b"init", 8),
+        (b"rlig", 9),
+        (b"calt", 10),
+        (b"liga", 11),
+        (b"clig", 11),
+        (b"mset", 11),
+    ];
+    for (name, stage) in stages {
+        assert_eq!(rt; stage_of(&builder, name), Some(stage));
+    }
+    assert_eq!(rt; builder.requests.len(), 15);
+    let mut pauses = [Pause::Nothing; 11];
+    pauses[0] = Pause::RecordStch;
+    pauses[9] = Pause::ArabicFallback;
+    assert_eq!(rt; builder.pauses.as_slice(), pauses.as_slice());
+    Ok(())
+}
+
+/// Syriac has no fallback, and no pause behind `calt` where the font has contextual forms that it requires.
+#[test]
+fn stages_of_syriac(rt: HostRuntime) -> Result<(), Fail> {
+    let table = table_of(*b"rclt");
+    let mut builder = builder(rt.alloc(), &table);
+    collect_features(ScriptShaper::Arabic, &mut builder, Some(script::SYRIAC))?;
+    assert_eq!(rt; builder.pauses.len(), 9);
+    assert!(rt; !builder.pauses.contains(&Pause::ArabicFallback));
+    assert_eq!(rt; stage_of(&builder, b"calt"), Some(9));
+    assert_eq!(rt; stage_of(&builder, b"liga"), Some(9));
+    Ok(())
+}
+
+/// Hangul has three features for the jamo, and no contextual alternates, though they were asked for. Others ask for nothing.
+#[test]
+fn features_of_hangul(rt: HostRuntime) -> Result<(), Fail> {
+    let table = table_of(*b"calt");
+    let mut hangul = builder(rt.alloc(), &table);
+    let alternates = Tag::from_bytes(b"calt");
+    hangul.enable_feature(alternates, FeatureFlags::NONE)?;
+    collect_features(ScriptShaper::Hangul, &mut hangul, Some(script::HANGUL))?;
+    for name in [b"ljmo", b"vjmo", b"tjmo"] {
+        assert_eq!(rt; stage_of(&hangul, name), Some(0));
+    }
+    override_features(ScriptShaper::Hangul, &mut hangul)?;
+    assert!(rt; hangul.compile(rt.alloc())?.feature(alternates).is_none());
+    let mut hebrew = builder(rt.alloc(), &table);
+    collect_features(ScriptShaper::Hebrew, &mut hebrew, Some(script::HEBREW))?;
+    override_features(ScriptShaper::Hebrew, &mut hebrew)?;
+    assert!(rt; hebrew.requests.is_empty() && hebrew.pauses.is_empty());
+    Ok(())
+}
+
+/// A font with no forms for Arabic has the fallback, with a mask for each form of Arabic; one with a form has not, nor has Syriac.
+#[test]
+fn plans_of_arabic(rt: HostRuntime) -> Result<(), Fail> {
+    let plain = plan_for(rt.alloc(), ScriptShaper::Arabic, script::ARABIC, &[])?;
+    assert!(rt; plain.does_fallback && !plain.has_stch && plain.rlig_mask != 0);
+    let [none, isol, fina, fin2, fin3, medi, med2, init] = plain.masks;
+    assert!(rt; isol != 0 && fina != 0 && medi != 0 && init != 0);
+    assert!(rt; isol & fina == 0 && medi & init == 0 && fina & medi == 0);
+    assert_eq!(rt; (none, fin2, fin3, med2), (0, 0, 0, 0));
+    let table = table_of(*b"init");
+    let formed = plan_for(rt.alloc(), ScriptShaper::Arabic, script::ARABIC, &table)?;
+    assert!(rt; !formed.does_fallback && formed.masks[7] != 0);
+    let syriac = plan_for(rt.alloc(), ScriptShaper::Arabic, script::SYRIAC, &[])?;
+    assert!(rt; !syriac.does_fallback && syriac.masks == [0; 8]);
+    let table = table_of(*b"stch");
+    let stretched = plan_for(rt.alloc(), ScriptShaper::Arabic, script::SYRIAC, &table)?;
+    assert!(rt; stretched.has_stch);
+    Ok(())
+}
+
+/// Of Hangul a jamo has the mask of the font's feature for it; Thai without a script in the font has glyphs of the private use area.
+#[test]
+fn plans_of_hangul_and_thai(rt: HostRuntime) -> Result<(), Fail> {
+    let table = table_of(*b"vjmo");
+    let hangul = plan_for(rt.alloc(), ScriptShaper::Hangul, script::HANGUL, &table)?;
+    assert!(rt; hangul.masks[1] == 0 && hangul.masks[2] != 0 && hangul.masks[3] == 0);
+    let thai = plan_for(rt.alloc(), ScriptShaper::Thai, script::THAI, &[])?;
+    assert!(rt; thai.has_private_use);
+    let lao = plan_for(rt.alloc(), ScriptShaper::Thai, script::LAO, &[])?;
+    assert!(rt; !lao.has_private_use);
+    Ok(())
+}

@@ -1,0 +1,20 @@
+//! Tests of `script_shapers` and `script_features`, as in the `tests/` folder of a Rust crate. What is expected comes from the
+//! Unicode Standard, the OpenType specification and HarfBuzz's tests.
+#![tactic(auto)]
+
+#[cfg(test)]
+mod arabic;
+#[cfg(test)]
+mod features;
+#[cfg(test)]
+mod hangul;
+#[cfg(test)]
+mod hebrew;
+#[cfg(test)]
+mod joining;
+#[cfg(test)]
+mod shapers;
+#[cfg(test)]
+mod texts;
+#[cfg(test)]
+mod thai;

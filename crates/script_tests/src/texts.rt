@@ -1,0 +1,118 @@
+//! Texts, a font and plans for tests.
+
+ghost use Rattle.std.specs.Prelude.{◌≡◌, false};
+
+use script_shapers::{FontGlyphs, ScriptPlan, ScriptShaper};
+use shaping_buffer::{CombiningClasses, UnicodeBuffer, hb_buffer_t, hb_glyph_info_t};
+use std::alloc::Global;
+use std::process::Abort;
+
+/// Classes of the marks that are in the tests.
+static CLASSES: [(char, u8); 10] = [
+    ('\u{5b0}', 10),
+    ('\u{5b4}', 14),
+    ('\u{5b7}', 17),
+    ('\u{5bd}', 22),
+    ('\u{64b}', 27),
+    ('\u{64e}', 30),
+    ('\u{651}', 33),
+    ('\u{653}', 230),
+    ('\u{654}', 230),
+    ('\u{655}', 220),
+];
+
+/// A font that has glyphs for the characters from one to another. Some have no width.
+#[derive(Clone, Copy, Debug)]
+pub(crate) struct TestFont {
+    pub first: u32,
+    pub last: u32,
+    pub without_width: u32,
+}
+
+impl FontGlyphs for TestFont {
+    ghost use Rattle.std.specs.Prelude.{nat_le, ◌&&◌};
+
+    ghost has = { λ font c. nat_le font.first c && nat_le c font.last };
+
+    fn has_glyph(&self, character: u32) -> bool {
+        self.first <= character && character <= self.last
+    }
+
+    fn glyph_of(&self, character: u32) -> Option<u16> {
+        if self.has_glyph(character) {
+            u16::try_from(character).ok()
+        } else {
+            None
+        }
+    }
+
+    fn horizontal_advance(&self, glyph: u32) -> i32 {
+        if glyph == self.without_width {
+            0
+        } else if glyph < 10 {
+            100
+        } else {
+            500
+        }
+    }
+}
+
+/// A buffer over a text whose characters have their properties.
+pub(crate) fn buffer_of(rt: &impl Abort, alloc: Global, text: &str) -> hb_buffer_t
+    ensures { result.have_output ≡ false }
+{
+    buffer_between(rt, alloc, "", text, "")
+}
+
+/// The same, with texts before it and behind it.
+pub(crate) fn buffer_between(
+    rt: &impl Abort,
+    alloc: Global,
+    before: &str,
+    text: &str,
+    behind: &str,
+) -> hb_buffer_t
+    ensures { result.have_output ≡ false }
+{
+    let mut characters = UnicodeBuffer::new(alloc);
+    characters.set_pre_context(before);
+    characters.set_post_context(behind);
+    assert!(rt; characters.push_str(text) == Ok(true));
+    let mut buffer = characters.into_buffer();
+    set_properties(rt, buffer.info_slice_mut());
+    buffer
+}
+
+/// Sets the properties of characters.
+fn set_properties(rt: &impl Abort, infos: &mut [hb_glyph_info_t]) {
+    let Some(classes) = CombiningClasses::new(&CLASSES) else {
+        return;
+    };
+    for info in infos.iter_mut() {
+        assert!(rt; char::from_u32(info.glyph_id).is_some());
+        info.init_unicode_props(&mut 0, &classes);
+    }
+}
+
+/// A plan in which each number that an item keeps has a mask of its own.
+pub(crate) fn plan_of(shaper: ScriptShaper) -> ScriptPlan {
+    ScriptPlan {
+        shaper,
+        is_mongolian: false,
+        has_private_use: false,
+        has_stch: false,
+        does_fallback: false,
+        has_gpos_mark: false,
+        rlig_mask: 0x800,
+        masks: [0, 0x10, 0x20, 0x40, 0x80, 0x100, 0x200, 0x400],
+    }
+}
+
+/// Asserts the characters of a buffer, and their clusters.
+pub(crate) fn assert_characters(rt: &impl Abort, buffer: &hb_buffer_t, want: &[(u32, u32)]) {
+    assert!(rt; buffer.info().len() == want.len());
+    for (info, (character, cluster)) in buffer.info().iter().zip(want) {
+        assert!(rt; info.glyph_id == *character);
+        assert!(rt; info.cluster == *cluster);
+    }
+}

@@ -1,0 +1,203 @@
+// Written by tools/plain_rust from crates/font_shaper. Do not edit.
+
+//! The lookups that substitute glyphs, applied to a text stage by stage, and what the shaper of its script does between two stages.
+
+use crate::buffer::hb_buffer_t;
+use crate::font_shaper::face::Face;
+use crate::font_shaper::lookups::{budget_of, options_of};
+use crate::font_shaper::planning::TextPlan;
+use crate::font_shaper::watch::{Step, Watch};
+use crate::font_tables::gdef::Gdef;
+use crate::glyph_layout::lookup_list::SUBSTITUTION_EXTENSION;
+use crate::glyph_layout::{LookupList, LookupOptions};
+use crate::glyph_substitution::{Progress, Substitutions};
+use crate::layout_plan::{Pause, PlannedLookup};
+use crate::memory::AllocError;
+use crate::script_shapers::{FallbackLookups, ScriptPlan};
+
+/// Applies the lookups of `GSUB`, stage by stage.
+///
+/// # Requires
+///
+/// - `buffer.old.have_output ≡ false`
+///
+/// # Errors
+///
+/// `Ok(false)` where a call was refused for length.
+pub(crate) fn substitute<W: Watch>(
+    buffer: &mut hb_buffer_t,
+    face: &Face,
+    plan: &TextPlan,
+    watch: &mut W,
+) -> Result<bool, AllocError> {
+    debug_assert!(!buffer.have_output());
+    let mut progress = Progress::new(budget_of(buffer));
+    let mut start = 0;
+    for stage in &plan.shape.layout.stages {
+        let lookups = &plan.shape.layout.gsub_lookups;
+        let lookups = lookups.get(start..stage.end).unwrap_or(&[]);
+        if !apply_stage(buffer, face, lookups, &mut progress, watch)? {
+            return Ok(false);
+        }
+        if !pause(buffer, face, &plan.script, stage.pause, &mut progress)? {
+            return Ok(false);
+        }
+        start = stage.end;
+    }
+    Ok(true)
+}
+
+/// Applies the lookups of a stage.
+///
+/// # Requires
+///
+/// - `buffer.old.have_output ≡ false`
+///
+/// # Errors
+///
+/// `Ok(false)` where a call was refused for length.
+fn apply_stage<W: Watch>(
+    buffer: &mut hb_buffer_t,
+    face: &Face,
+    lookups: &[PlannedLookup],
+    progress: &mut Progress,
+    watch: &mut W,
+) -> Result<bool, AllocError> {
+    debug_assert!(!buffer.have_output());
+    for planned in lookups {
+        let substitutions = Substitutions {
+            list: &face.lookups.substitutions,
+            gdef: &face.definitions,
+            options: options_of(planned),
+        };
+        if !crate::glyph_substitution::substitute(buffer, &substitutions, planned.index, progress)?
+        {
+            return Ok(false);
+        }
+        watch.step(Step::Substituted(planned.index), buffer)?;
+    }
+    Ok(true)
+}
+
+/// What is done after a stage.
+///
+/// # Requires
+///
+/// - `buffer.old.have_output ≡ false`
+///
+/// # Errors
+///
+/// `Ok(false)` where a call was refused for length.
+fn pause(
+    buffer: &mut hb_buffer_t,
+    face: &Face,
+    plan: &ScriptPlan,
+    pause: Pause,
+    progress: &mut Progress,
+) -> Result<bool, AllocError> {
+    debug_assert!(!buffer.have_output());
+    match pause {
+        Pause::RecordStch => {
+            plan.record_stch(buffer);
+            Ok(true)
+        }
+        Pause::ArabicFallback if plan.does_fallback => {
+            face.join_by_fallback(buffer, plan, progress)
+        }
+        _ => Ok(true),
+    }
+}
+
+impl Face<'_> {
+    /// Joins Arabic letters of a font that has their forms as characters, and no features for them.
+    ///
+    /// # Requires
+    ///
+    /// - `buffer.old.have_output ≡ false`
+    ///
+    /// # Errors
+    ///
+    /// `Ok(false)` where a call was refused for length.
+    fn join_by_fallback(
+        &self,
+        buffer: &mut hb_buffer_t,
+        plan: &ScriptPlan,
+        progress: &mut Progress,
+    ) -> Result<bool, AllocError> {
+        debug_assert!(!buffer.have_output());
+        let fallback = FallbackLookups::new(self, plan)?;
+        self.apply_fallback(buffer, &fallback, progress)
+    }
+
+    /// Applies the lookups of a fallback.
+    ///
+    /// # Requires
+    ///
+    /// - `buffer.old.have_output ≡ false`
+    ///
+    /// # Errors
+    ///
+    /// `Ok(false)` where a call was refused for length.
+    fn apply_fallback(
+        &self,
+        buffer: &mut hb_buffer_t,
+        fallback: &FallbackLookups,
+        progress: &mut Progress,
+    ) -> Result<bool, AllocError> {
+        debug_assert!(!buffer.have_output());
+        let list = LookupList::new(
+            fallback.table.as_slice(),
+            SUBSTITUTION_EXTENSION,
+            &self.definitions,
+        )?;
+        apply_each(
+            buffer,
+            &list,
+            &self.definitions,
+            fallback.masks.as_slice(),
+            progress,
+        )
+    }
+}
+
+/// Applies each lookup of a list to the glyphs that have its mask.
+///
+/// # Requires
+///
+/// - `buffer.old.have_output ≡ false`
+///
+/// # Errors
+///
+/// `Ok(false)` where a call was refused for length.
+fn apply_each(
+    buffer: &mut hb_buffer_t,
+    list: &LookupList,
+    definitions: &Gdef,
+    masks: &[u32],
+    progress: &mut Progress,
+) -> Result<bool, AllocError> {
+    debug_assert!(!buffer.have_output());
+    for index in 0..masks.len() {
+        let substitutions = Substitutions {
+            list,
+            gdef: definitions,
+            options: options_of_fallback(masks[index]),
+        };
+        let index = u16::try_from(index).unwrap_or(0);
+        if !crate::glyph_substitution::substitute(buffer, &substitutions, index, progress)? {
+            return Ok(false);
+        }
+    }
+    Ok(true)
+}
+
+/// How a lookup of the fallback is applied.
+fn options_of_fallback(mask: u32) -> LookupOptions {
+    LookupOptions {
+        mask,
+        auto_zwnj: true,
+        auto_zwj: true,
+        per_syllable: false,
+        random: false,
+    }
+}

@@ -1,0 +1,103 @@
+// Written by tools/plain_rust from crates/script_tests. Do not edit.
+
+//! Which shaper a text has, and what each says of itself, as HarfBuzz's `hb_ot_shaper_categorize` and its shapers have it; and how
+//! characters join, by Unicode's ArabicShaping.txt.
+
+use crate::Fail;
+use vukhaso::common::{Direction, Script, Tag, script};
+use vukhaso::script_shapers::{
+    JoiningType, NormalizationMode, ScriptShaper, ZeroWidthMarks, joining_type,
+};
+
+/// The shaper of a text in a script that the font has.
+fn shaper_of(script: Script, direction: Direction) -> ScriptShaper {
+    ScriptShaper::of(Some(script), direction, Tag::from_bytes(b"some"))
+}
+
+/// Each script has its shaper. Vertical Arabic does not join, nor does Syriac of a font that has only
+/// the default script.
+#[test]
+fn scripts_have_shapers() -> Result<(), Fail> {
+    let left = Direction::RightToLeft;
+    let right = Direction::LeftToRight;
+    assert_eq!(shaper_of(script::ARABIC, left), ScriptShaper::Arabic);
+    assert_eq!(shaper_of(script::SYRIAC, left), ScriptShaper::Arabic);
+    assert_eq!(shaper_of(script::HEBREW, left), ScriptShaper::Hebrew);
+    assert_eq!(shaper_of(script::HANGUL, right), ScriptShaper::Hangul);
+    assert_eq!(shaper_of(script::THAI, right), ScriptShaper::Thai);
+    assert_eq!(shaper_of(script::LAO, right), ScriptShaper::Thai);
+    assert_eq!(shaper_of(script::LATIN, right), ScriptShaper::Default);
+    let down = Direction::TopToBottom;
+    assert_eq!(shaper_of(script::ARABIC, down), ScriptShaper::Default);
+    assert_eq!(shaper_of(script::HANGUL, down), ScriptShaper::Hangul);
+    let default = Tag::from_bytes(b"DFLT");
+    let syriac = ScriptShaper::of(Some(script::SYRIAC), left, default);
+    assert_eq!(syriac, ScriptShaper::Default);
+    let arabic = ScriptShaper::of(Some(script::ARABIC), left, default);
+    assert_eq!(arabic, ScriptShaper::Arabic);
+    let none = ScriptShaper::of(None, left, default);
+    assert_eq!(none, ScriptShaper::Default);
+    Ok(())
+}
+
+/// Hebrew wants a script of its own in `GPOS`; Hangul composes nothing, and its marks keep their width;
+/// marks of Hangul and Thai are not placed without a font's help.
+#[test]
+fn shapers_differ() -> Result<(), Fail> {
+    let hebrew = Some(Tag::from_bytes(b"hebr"));
+    assert_eq!(ScriptShaper::Hebrew.gpos_script(), hebrew);
+    assert_eq!(ScriptShaper::Arabic.gpos_script(), None);
+    let nothing = NormalizationMode::Nothing;
+    assert_eq!(ScriptShaper::Hangul.normalization_mode(), nothing);
+    let auto = NormalizationMode::Auto;
+    assert_eq!(ScriptShaper::Thai.normalization_mode(), auto);
+    let never = ZeroWidthMarks::Never;
+    assert_eq!(ScriptShaper::Hangul.zero_width_marks(), never);
+    let late = ZeroWidthMarks::Late;
+    assert_eq!(ScriptShaper::Hebrew.zero_width_marks(), late);
+    assert!(ScriptShaper::Arabic.fallback_position());
+    assert!(!ScriptShaper::Hangul.fallback_position());
+    assert!(!ScriptShaper::Thai.fallback_position());
+    Ok(())
+}
+
+/// A character decomposes as Unicode says: an alef with a madda above, and a Hangul syllable.
+#[test]
+fn characters_decompose() -> Result<(), Fail> {
+    let alef = ScriptShaper::Arabic.decompose('\u{622}');
+    assert_eq!(alef, Some(('\u{627}', Some('\u{653}'))));
+    let syllable = ScriptShaper::Default.decompose('\u{ac01}');
+    assert_eq!(syllable, Some(('\u{ac00}', Some('\u{11a8}'))));
+    assert_eq!(ScriptShaper::Hebrew.decompose('\u{5d0}'), None);
+    Ok(())
+}
+
+/// A letter of each type: hamza, Manichaean heth, alef, beh, and Syriac alaph and dalath. A fatha is a
+/// mark, a zero width joiner makes its neighbours join, and a non-joiner does not.
+#[test]
+fn letters_have_types() -> Result<(), Fail> {
+    assert_eq!(joining_type(0x621, false), JoiningType::NonJoining);
+    assert_eq!(joining_type(0x10AD7, false), JoiningType::Left);
+    assert_eq!(joining_type(0x627, false), JoiningType::Right);
+    assert_eq!(joining_type(0x628, false), JoiningType::Dual);
+    assert_eq!(joining_type(0x710, false), JoiningType::Alaph);
+    assert_eq!(joining_type(0x715, false), JoiningType::DalathRish);
+    assert_eq!(joining_type(0x64E, true), JoiningType::Transparent);
+    assert_eq!(joining_type(0x200D, true), JoiningType::Dual);
+    assert_eq!(joining_type(0x200C, true), JoiningType::NonJoining);
+    assert_eq!(joining_type(0x41, false), JoiningType::NonJoining);
+    Ok(())
+}
+
+/// On which sides letters join, and that what is transparent gives way to what stands beyond.
+#[test]
+fn types_join() -> Result<(), Fail> {
+    let dual = JoiningType::Dual;
+    assert!(dual.joins_next() && dual.joins_previous());
+    assert!(JoiningType::Left.joins_next() && !JoiningType::Left.joins_previous());
+    assert!(!JoiningType::Right.joins_next() && JoiningType::Right.joins_previous());
+    assert!(!JoiningType::NonJoining.joins_next());
+    assert_eq!(JoiningType::Transparent.or_beyond(dual), dual);
+    assert_eq!(JoiningType::Right.or_beyond(dual), JoiningType::Right);
+    Ok(())
+}
