@@ -188,6 +188,9 @@ impl<'a> LookupList<'a> {
         };
         let first = self.subtables.len();
         for index in 0..count {
+            if !self.pay(2) {
+                break;
+            }
             if let Some(subtable) = table_at_16(table, 6 + 2 * index) {
                 self.read_subtable(kind, subtable)?;
             }
