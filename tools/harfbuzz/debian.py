@@ -1,6 +1,7 @@
-"""Fonts, word lists and Unicode's files of Debian's packages, which are fetched where they are missing and installed nowhere."""
+"""Fonts, word lists, translations and Unicode's files of Debian's packages, which are fetched where they are missing and installed nowhere."""
 
 import functools
+import gettext
 import re
 import tempfile
 import unicodedata
@@ -44,6 +45,33 @@ DICTIONARIES = {
     "Lao": [("hunspell-lo", "lo_LA.dic")],
 }
 
+# The languages of a script into which names of countries, languages and scripts are translated, as Debian's `iso-codes` has them.
+TRANSLATIONS = {
+    "Arabic": ["ar", "fa", "ug"],
+    "Hebrew": ["he"],
+    "Hangul": ["ko"],
+    "Thai": ["th"],
+    "Lao": ["lo"],
+    "Devanagari": ["hi", "mr", "ne"],
+    "Bengali": ["bn", "as"],
+    "Gujarati": ["gu"],
+    "Gurmukhi": ["pa"],
+    "Kannada": ["kn"],
+    "Malayalam": ["ml"],
+    "Oriya": ["or"],
+    "Tamil": ["ta"],
+    "Telugu": ["te"],
+    "Sinhala": ["si"],
+    "Khmer": ["km"],
+    "Tibetan": ["dz"],
+    "Ethiopic": ["am", "ti"],
+    "Georgian": ["ka"],
+    "Armenian": ["hy"],
+    "Latin": ["vi", "tr", "pl"],
+    "Greek": ["el"],
+    "Cyrillic": ["ru", "sr", "mn"],
+}
+
 
 @dataclass(frozen=True)
 class Font:
@@ -69,9 +97,19 @@ def fonts(rows=FONTS):
     return [Font(name, found(package, file), index) for name, package, file, index in rows]
 
 
+def noto_font(script):
+    """Noto's font of a script: that without serifs, if there is one."""
+    [folder] = unpacked(["fonts-noto-core"], PACKAGES)
+    files = {file.name.lower(): file for file in folder.rglob("*-Regular.ttf")}
+    for kind in ("Sans", "Serif"):
+        file = files.get(f"noto{kind}{script.replace('_', '')}-Regular.ttf".lower())
+        if file:
+            return Font(file.name.removesuffix("-Regular.ttf"), file)
+    raise FileNotFoundError(f"fonts-noto-core has no font of {script}")
+
+
 def fonts_of(script):
-    name = f"NotoSans{script.replace('_', '')}"
-    return fonts(SCRIPT_FONTS.get(script, [(name, "fonts-noto-core", f"{name}-Regular.ttf", 0)]))
+    return fonts(SCRIPT_FONTS[script]) if script in SCRIPT_FONTS else [noto_font(script)]
 
 
 def named_fonts(names):
@@ -92,6 +130,18 @@ def words_of(script):
         coding = re.search(rb"^SET\s+(\S+)", affixes.read_bytes(), re.MULTILINE)[1].decode() if affixes.exists() else "utf-8"
         lines = file.read_bytes().decode(coding, errors="ignore").splitlines()
         yield [unicodedata.normalize("NFC", re.split(r"[/\t ]", line)[0]) for line in lines if line[:1].isalpha()]
+
+
+def translations_of(script):
+    """Texts of a script: translations of the names of countries, languages and scripts."""
+    [folder] = unpacked(["iso-codes"], PACKAGES)
+    texts = []
+    for language in TRANSLATIONS[script]:
+        for file in sorted(folder.rglob(f"locale/{language}/LC_MESSAGES/*.mo")):
+            with file.open("rb") as stream:
+                catalog = gettext.GNUTranslations(stream)._catalog
+            texts += [text for key, text in catalog.items() if key and "\n" not in text]
+    return list(dict.fromkeys(texts))
 
 
 @functools.cache

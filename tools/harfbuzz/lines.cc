@@ -36,6 +36,15 @@ static std::string rest_of (Words &words)
 
 static std::string called (bool done) { return done ? DONE : "refused"; }
 
+// A call that is never refused: it is made where its condition holds.
+template <typename Call>
+static std::string made_if (bool condition, Call call)
+{
+  if (!condition) return OUTSIDE;
+  call ();
+  return DONE;
+}
+
 // ---- conditions
 
 static bool has_glyphs (const hb_buffer_t *b, unsigned n) { return n <= b->len - b->idx; }
@@ -57,11 +66,13 @@ static std::string flag_call (hb_buffer_t *b, const std::string &name, Words &wo
   words >> start >> end;
   unsigned cut = hb_min (end, b->len);
   bool input = is_input_range (b, start, cut), both = is_range_of_both (b, start, cut);
-  if (name == "unsafe_to_break") return input ? b->unsafe_to_break (start, end), DONE : OUTSIDE;
-  if (name == "safe_to_insert_tatweel") return input ? b->safe_to_insert_tatweel (start, end), DONE : OUTSIDE;
-  if (name == "unsafe_to_concat") return input ? b->unsafe_to_concat (start, end), DONE : OUTSIDE;
-  if (name == "unsafe_to_break_from_outbuffer") return both ? b->unsafe_to_break_from_outbuffer (start, end), DONE : OUTSIDE;
-  if (name == "unsafe_to_concat_from_outbuffer") return both ? b->unsafe_to_concat_from_outbuffer (start, end), DONE : OUTSIDE;
+  if (name == "unsafe_to_break") return made_if (input, [&] { b->unsafe_to_break (start, end); });
+  if (name == "safe_to_insert_tatweel") return made_if (input, [&] { b->safe_to_insert_tatweel (start, end); });
+  if (name == "unsafe_to_concat") return made_if (input, [&] { b->unsafe_to_concat (start, end); });
+  if (name == "unsafe_to_break_from_outbuffer")
+    return made_if (both, [&] { b->unsafe_to_break_from_outbuffer (start, end); });
+  if (name == "unsafe_to_concat_from_outbuffer")
+    return made_if (both, [&] { b->unsafe_to_concat_from_outbuffer (start, end); });
   return "";
 }
 
@@ -71,13 +82,13 @@ static std::string merge_call (hb_buffer_t *b, const std::string &name, Words &w
   if (name == "merge_clusters")
   {
     words >> start >> end;
-    return is_input_range (b, start, end) ? b->merge_clusters (start, end), DONE : OUTSIDE;
+    return made_if (is_input_range (b, start, end), [&] { b->merge_clusters (start, end); });
   }
   if (name == "merge_out_clusters")
   {
     words >> start >> end;
     bool within = b->have_output && start <= end && end <= b->out_len;
-    return within ? b->merge_out_clusters (start, end), DONE : OUTSIDE;
+    return made_if (within, [&] { b->merge_out_clusters (start, end); });
   }
   return flag_call (b, name, words);
 }
@@ -88,7 +99,7 @@ static std::string output_call (hb_buffer_t *b, const std::string &name, Words &
   bool glyph = b->have_output && has_glyphs (b, 1);
   if (name == "replace_glyph") { words >> id; return glyph ? called (b->replace_glyph (id)) : OUTSIDE; }
   if (name == "copy_glyph") return glyph ? called (b->copy_glyph ()) : OUTSIDE;
-  if (name == "delete_glyph") return glyph ? b->delete_glyph (), DONE : OUTSIDE;
+  if (name == "delete_glyph") return made_if (glyph, [&] { b->delete_glyph (); });
   if (name == "output_glyph")
   {
     words >> id;
@@ -109,10 +120,10 @@ static std::string output_call (hb_buffer_t *b, const std::string &name, Words &
 static std::string call (hb_buffer_t *b, const std::string &name, Words &words)
 {
   unsigned n = 1;
-  if (name == "clear_output") return b->have_output ? OUTSIDE : (b->clear_output (), DONE);
+  if (name == "clear_output") return made_if (!b->have_output, [&] { b->clear_output (); });
   if (name == "sync") return b->have_output ? called (b->sync ()) : OUTSIDE;
   if (name == "next_glyph") return has_glyphs (b, 1) ? called (b->next_glyph ()) : OUTSIDE;
-  if (name == "skip_glyph") return has_glyphs (b, 1) ? b->skip_glyph (), DONE : OUTSIDE;
+  if (name == "skip_glyph") return made_if (has_glyphs (b, 1), [&] { b->skip_glyph (); });
   if (name == "next_glyphs") { words >> n; return has_glyphs (b, n) ? called (b->next_glyphs (n)) : OUTSIDE; }
   if (name == "move_to") { words >> n; return n <= last_place (b) ? called (b->move_to (n)) : OUTSIDE; }
   return output_call (b, name, words);
@@ -223,17 +234,30 @@ static std::string grow (Session &s, const std::string &name, Words &words)
   return "true";
 }
 
+static unsigned number_of (Words &words)
+{
+  unsigned number = 0;
+  words >> number;
+  return number;
+}
+
+static std::string set (Session &s, const std::string &name, Words &words)
+{
+  unsigned number = number_of (words);
+  if (name == "level") s.buffer->cluster_level = (hb_buffer_cluster_level_t) number;
+  else s.buffer->flags = (hb_buffer_flags_t) number;
+  return OK;
+}
+
 static std::string obey (Session &s, const std::string &name, Words &words)
 {
-  unsigned n;
   if (name == "push" || name == "add") return grow (s, name, words);
-  if (name == "new") return s.renew (), OK;
-  if (name == "level") return words >> n, s.buffer->cluster_level = (hb_buffer_cluster_level_t) n, OK;
-  if (name == "flags") return words >> n, s.buffer->flags = (hb_buffer_flags_t) n, OK;
+  if (name == "new") { s.renew (); return OK; }
+  if (name == "level" || name == "flags") return set (s, name, words);
   if (name == "feature" || name == "tags" || name == "compose" || name == "decompose") return query (name, words);
   s.turned = true;
   if (name == "state") return state (s.buffer);
-  if (name == "serialize") return words >> n, serialize (s, n);
+  if (name == "serialize") return serialize (s, number_of (words));
   return call (s.buffer, name, words);
 }
 

@@ -30,6 +30,7 @@ const OUTSIDE: Answer = Answer::Outside;
 /// A text of the letters from a on, in these clusters; calls on it, and what they answer and leave.
 #[derive(Clone, Copy)]
 struct Run<'a> {
+    name: &'a str,
     clusters: &'a [u32],
     level: BufferClusterLevel,
     flags: u32,
@@ -47,6 +48,7 @@ struct Run<'a> {
 
 /// What is not said of a run.
 const PLAIN: Run<'static> = Run {
+    name: "",
     clusters: &[],
     level: BufferClusterLevel::MonotoneGraphemes,
     flags: 0,
@@ -82,27 +84,34 @@ fn buffer_of_run(rt: &impl Abort, alloc: Global, run: &Run<'_>) -> Result<hb_buf
     Ok(buffer)
 }
 
-fn assert_glyphs(rt: &impl Abort, glyphs: &[hb_glyph_info_t], want: &[Seen]) {
-    assert!(rt; glyphs.len() == want.len());
+fn assert_glyphs(rt: &impl Abort, name: &str, glyphs: &[hb_glyph_info_t], want: &[Seen]) {
+    assert!(rt; glyphs.len() == want.len(), "{name}");
     for (glyph, want) in glyphs.iter().zip(want) {
-        assert!(rt; (glyph.glyph_id, glyph.cluster, glyph.mask & 7) == *want);
+        assert!(rt;
+            (glyph.glyph_id, glyph.cluster, glyph.mask & 7) == *want,
+            "{name}"
+        );
     }
 }
 
 fn assert_run(rt: &impl Abort, alloc: Global, run: &Run<'_>) -> Result<(), Fail> {
+    let name = run.name;
     let mut buffer = buffer_of_run(rt, alloc, run)?;
     let mut answers = [REFUSED; 12];
     let count = run.calls.len();
-    assert!(rt; count <= 12);
-    assert!(rt; replay(&mut buffer, run.calls, &mut answers[..count]) == Ok(()));
-    assert!(rt; &answers[..count] == run.answers);
-    assert!(rt; buffer.have_output() == run.open);
-    assert!(rt; buffer.have_separate_output() == run.separate);
-    assert!(rt; buffer.idx() == run.idx);
-    assert!(rt; buffer.successful() == run.successful);
-    assert_glyphs(rt, buffer.out_info(), run.out);
-    assert_glyphs(rt, buffer.info(), run.input);
-    assert!(rt; buffer.scratch_flags == run.scratch_flags);
+    assert!(rt; count <= 12, "{name}");
+    assert!(rt;
+        replay(&mut buffer, run.calls, &mut answers[..count]) == Ok(()),
+        "{name}"
+    );
+    assert!(rt; &answers[..count] == run.answers, "{name}");
+    assert!(rt; buffer.have_output() == run.open, "{name}");
+    assert!(rt; buffer.have_separate_output() == run.separate, "{name}");
+    assert!(rt; buffer.idx() == run.idx, "{name}");
+    assert!(rt; buffer.successful() == run.successful, "{name}");
+    assert_glyphs(rt, name, buffer.out_info(), run.out);
+    assert_glyphs(rt, name, buffer.info(), run.input);
+    assert!(rt; buffer.scratch_flags == run.scratch_flags, "{name}");
     Ok(())
 }
 
@@ -117,6 +126,7 @@ fn cursor_calls_answer_and_leave_what_is_written(rt: HostRuntime) -> Result<(), 
 /// A text, calls on it, and what they leave: in one vector to its end, or not.
 #[derive(Clone, Copy)]
 struct Stored<'a> {
+    name: &'a str,
     text: &'a str,
     calls: &'a [Call<'a>],
     separate: bool,
@@ -126,16 +136,23 @@ struct Stored<'a> {
 }
 
 fn assert_stored(rt: &impl Abort, alloc: Global, run: &Stored<'_>) -> Result<(), Fail> {
+    let name = run.name;
     let mut buffer = buffer_of(rt, alloc, run.text);
     let mut answers = [OUTSIDE; 12];
     let count = run.calls.len();
-    assert!(rt; count <= 12);
-    assert!(rt; replay(&mut buffer, run.calls, &mut answers[..count]) == Ok(()));
-    assert!(rt; answers[..count].iter().all(|answer| *answer == DONE));
-    assert!(rt; buffer.have_separate_output() == run.separate);
-    assert!(rt; buffer.idx() == run.idx);
-    assert_glyphs(rt, buffer.out_info(), run.out);
-    assert_glyphs(rt, buffer.info(), run.input);
+    assert!(rt; count <= 12, "{name}");
+    assert!(rt;
+        replay(&mut buffer, run.calls, &mut answers[..count]) == Ok(()),
+        "{name}"
+    );
+    assert!(rt;
+        answers[..count].iter().all(|answer| *answer == DONE),
+        "{name}"
+    );
+    assert!(rt; buffer.have_separate_output() == run.separate, "{name}");
+    assert!(rt; buffer.idx() == run.idx, "{name}");
+    assert_glyphs(rt, name, buffer.out_info(), run.out);
+    assert_glyphs(rt, name, buffer.info(), run.input);
     if !buffer.have_separate_output() {
         assert_ends(rt, buffer.storage(), run);
     }
@@ -144,10 +161,11 @@ fn assert_stored(rt: &impl Abort, alloc: Global, run: &Stored<'_>) -> Result<(),
 
 /// Asserts the glyphs at the two ends of the one vector.
 fn assert_ends(rt: &impl Abort, storage: &[hb_glyph_info_t], run: &Stored<'_>) {
+    let name = run.name;
     let (out_len, left) = (run.out.len(), run.input.len());
-    assert!(rt; out_len <= storage.len() && left <= storage.len());
-    assert_glyphs(rt, &storage[..out_len], run.out);
-    assert_glyphs(rt, &storage[storage.len() - left..], run.input);
+    assert!(rt; out_len <= storage.len() && left <= storage.len(), "{name}");
+    assert_glyphs(rt, name, &storage[..out_len], run.out);
+    assert_glyphs(rt, name, &storage[storage.len() - left..], run.input);
 }
 
 #[test]
@@ -281,25 +299,53 @@ fn answer_at(
     buffer.set_max_len(max_len);
     let before = (buffer.idx(), buffer.out_len(), buffer.len());
     let mut answers = [OUTSIDE];
-    assert!(rt; replay(&mut buffer, &[held.1], &mut answers) == Ok(()));
+    let call = held.1;
+    assert!(rt;
+        replay(&mut buffer, &[call], &mut answers) == Ok(()),
+        "{call:?}"
+    );
     if answers == [REFUSED] {
-        assert!(rt; (buffer.idx(), buffer.out_len(), buffer.len()) == before);
+        assert!(rt;
+            (buffer.idx(), buffer.out_len(), buffer.len()) == before,
+            "{call:?}"
+        );
     }
-    assert!(rt; buffer.successful() == (answers == [DONE]));
+    assert!(rt; buffer.successful() == (answers == [DONE]), "{call:?}");
     answers[0]
+}
+
+fn assert_answered(
+    rt: &impl Abort,
+    alloc: Global,
+    level: u32,
+    held: &Held<'_>,
+    max_len: usize,
+    want: Answer,
+) {
+    let call = held.1;
+    let answer = answer_at(rt, alloc, level, held, max_len);
+    assert!(rt;
+        answer == want,
+        "{call:?} at level {level} and limit {max_len}"
+    );
 }
 
 #[test]
 fn a_limit_is_met_and_one_below_is_refused(rt: HostRuntime) {
     for level in [0, 1, 2, 3, 4, 4_294_967_295] {
         for held in &HELD {
-            assert!(rt; answer_at(&rt, rt.alloc(), level, held, held.2) == DONE);
-            assert!(rt;
-                answer_at(&rt, rt.alloc(), level, held, held.2.saturating_sub(1)) == REFUSED
+            assert_answered(&rt, rt.alloc(), level, held, held.2, DONE);
+            assert_answered(
+                &rt,
+                rt.alloc(),
+                level,
+                held,
+                held.2.saturating_sub(1),
+                REFUSED,
             );
         }
         for held in &NEVER_REFUSED {
-            assert!(rt; answer_at(&rt, rt.alloc(), level, held, held.2) == DONE);
+            assert_answered(&rt, rt.alloc(), level, held, held.2, DONE);
         }
     }
 }

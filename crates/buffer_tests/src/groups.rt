@@ -26,20 +26,20 @@ fn place(rt: &impl Abort, buffer: &mut hb_buffer_t) {
 }
 
 /// Asserts the id, the cluster, the mask and the advance of each glyph, and where the cursor is.
-fn assert_list(rt: &impl Abort, buffer: &hb_buffer_t, want: &[(u32, u32, u32, i32)]) {
-    assert!(rt; buffer.idx() == 0);
-    assert!(rt; buffer.have_positions());
-    assert!(rt; buffer.len() == want.len());
+fn assert_list(rt: &impl Abort, name: &str, buffer: &hb_buffer_t, want: &[(u32, u32, u32, i32)]) {
+    assert!(rt; buffer.idx() == 0, "{name}");
+    assert!(rt; buffer.have_positions(), "{name}");
+    assert!(rt; buffer.len() == want.len(), "{name}");
     for ((glyph, pos), (id, cluster, mask, advance)) in buffer
         .info()
         .iter()
         .zip(buffer.pos())
         .zip(want)
     {
-        assert!(rt; glyph.glyph_id == *id);
-        assert!(rt; glyph.cluster == *cluster);
-        assert!(rt; glyph.mask == *mask);
-        assert!(rt; pos.x_advance == *advance);
+        assert!(rt; glyph.glyph_id == *id, "{name}");
+        assert!(rt; glyph.cluster == *cluster, "{name}");
+        assert!(rt; glyph.mask == *mask, "{name}");
+        assert!(rt; pos.x_advance == *advance, "{name}");
     }
 }
 
@@ -93,12 +93,14 @@ fn positions_follow_reversals(rt: HostRuntime) {
     reverse(&rt, &mut buffer);
     assert_list(
         &rt,
+        "the whole list",
         &buffer,
         &[(99, 2, 3, 30), (98, 1, 2, 20), (97, 0, 1, 10)],
     );
     reverse_range(&rt, &mut buffer, 1, 3);
     assert_list(
         &rt,
+        "a range",
         &buffer,
         &[(99, 2, 3, 30), (97, 0, 1, 10), (98, 1, 2, 20)],
     );
@@ -126,7 +128,7 @@ fn groups_change_places(rt: HostRuntime) {
         (97, 0, 0, 10),
         (98, 0, 0, 20),
     ];
-    assert_list(&rt, &buffer, &reversed);
+    assert_list(&rt, "clusters", &buffer, &reversed);
     reverse_merged(&rt, &mut buffer, 0);
     let as_before = [
         (98, 0, 0, 20),
@@ -135,72 +137,102 @@ fn groups_change_places(rt: HostRuntime) {
         (101, 2, 0, 50),
         (100, 2, 0, 40),
     ];
-    assert_list(&rt, &buffer, &as_before);
+    assert_list(&rt, "glyph by glyph", &buffer, &as_before);
 }
 
-/// Groups that go on at `b`, merged.
-fn assert_merged(
-    rt: &impl Abort,
-    alloc: Global,
+/// Glyphs at a cluster level, and what a call leaves of them.
+struct Row<'a> {
+    name: &'a str,
     level: u32,
-    glyphs: &[(u32, u32)],
-    want: &[(u32, u32, u32, i32)],
-) {
-    let mut buffer = buffer_at(rt, alloc, level, glyphs);
-    reverse_merged(rt, &mut buffer, 98);
-    assert_list(rt, &buffer, want);
-    assert_told(rt, &buffer, level == 2);
+    glyphs: &'a [(u32, u32)],
+    want: &'a [(u32, u32, u32, i32)],
 }
+
+const RISING: &[(u32, u32)] = &[(0, 0), (1, 0), (2, 0)];
+
+/// Groups that go on at `b`, merged.
+static MERGED: [Row<'static>; 3] = [
+    Row {
+        name: "two clusters become one",
+        level: 0,
+        glyphs: RISING,
+        want: &[(99, 2, 0, 30), (97, 0, 0, 10), (98, 0, 0, 20)],
+    },
+    Row {
+        name: "the run of the last goes along",
+        level: 0,
+        glyphs: &[(0, 0), (1, 0), (1, 0)],
+        want: &[(99, 0, 0, 30), (97, 0, 0, 10), (98, 0, 0, 20)],
+    },
+    Row {
+        name: "at level 2 they are marked",
+        level: 2,
+        glyphs: RISING,
+        want: &[(99, 2, 0, 30), (97, 0, 0, 10), (98, 1, 3, 20)],
+    },
+];
 
 #[test]
 fn groups_are_merged(rt: HostRuntime) {
-    let apart = [(0, 0), (1, 0), (2, 0)];
-    let merged = [(99, 2, 0, 30), (97, 0, 0, 10), (98, 0, 0, 20)];
-    assert_merged(&rt, rt.alloc(), 0, &apart, &merged);
-    let widened = [(99, 0, 0, 30), (97, 0, 0, 10), (98, 0, 0, 20)];
-    assert_merged(&rt, rt.alloc(), 0, &[(0, 0), (1, 0), (1, 0)], &widened);
-    let marked = [(99, 2, 0, 30), (97, 0, 0, 10), (98, 1, 3, 20)];
-    assert_merged(&rt, rt.alloc(), 2, &apart, &marked);
+    for row in &MERGED {
+        let mut buffer = buffer_at(&rt, rt.alloc(), row.level, row.glyphs);
+        reverse_merged(&rt, &mut buffer, 98);
+        assert_list(&rt, row.name, &buffer, row.want);
+        assert_told(&rt, &buffer, row.level == 2);
+    }
 }
 
 /// What deletion of one glyph leaves, after the cursor was moved; then none is deleted, and then all.
-fn assert_deleted(
-    rt: &impl Abort,
-    alloc: Global,
-    level: u32,
-    id: u32,
-    glyphs: &[(u32, u32)],
-    want: &[(u32, u32, u32, i32)],
-) {
-    let mut buffer = buffer_at(rt, alloc, level, glyphs);
+fn assert_deleted(rt: &impl Abort, alloc: Global, id: u32, row: &Row<'_>) {
+    let mut buffer = buffer_at(rt, alloc, row.level, row.glyphs);
     skip(rt, &mut buffer);
     delete(rt, &mut buffer, &[id]);
-    assert_list(rt, &buffer, want);
-    assert_told(rt, &buffer, level == 2);
+    assert_list(rt, row.name, &buffer, row.want);
+    assert_told(rt, &buffer, row.level == 2);
     delete(rt, &mut buffer, &[]);
-    assert_list(rt, &buffer, want);
+    assert_list(rt, row.name, &buffer, row.want);
     delete(rt, &mut buffer, &[97, 98, 99]);
-    assert_list(rt, &buffer, &[]);
+    assert_list(rt, row.name, &buffer, &[]);
 }
+
+static FIRST_DELETED: [Row<'static>; 2] = [
+    Row {
+        name: "the next glyph takes the lower cluster",
+        level: 0,
+        glyphs: RISING,
+        want: &[(98, 0, 0, 20), (99, 2, 0, 30)],
+    },
+    Row {
+        name: "at level 2 the next glyph is marked",
+        level: 2,
+        glyphs: RISING,
+        want: &[(98, 1, 3, 20), (99, 2, 0, 30)],
+    },
+];
+
+static SECOND_DELETED: [Row<'static>; 2] = [
+    Row {
+        name: "the glyph before takes the lower cluster",
+        level: 0,
+        glyphs: &[(2, 0), (1, 0), (0, 0)],
+        want: &[(97, 1, 0, 10), (99, 0, 0, 30)],
+    },
+    Row {
+        name: "and the flags of the deleted glyph",
+        level: 0,
+        glyphs: &[(2, 8), (1, 3), (0, 0)],
+        want: &[(97, 1, 11, 10), (99, 0, 0, 30)],
+    },
+];
 
 #[test]
 fn glyphs_are_deleted_in_place(rt: HostRuntime) {
-    let rising = [(0, 0), (1, 0), (2, 0)];
-    let rest = [(98, 0, 0, 20), (99, 2, 0, 30)];
-    assert_deleted(&rt, rt.alloc(), 0, 97, &rising, &rest);
-    let lowered = [(97, 1, 0, 10), (99, 0, 0, 30)];
-    assert_deleted(&rt, rt.alloc(), 0, 98, &[(2, 0), (1, 0), (0, 0)], &lowered);
-    let handed_down = [(97, 1, 11, 10), (99, 0, 0, 30)];
-    assert_deleted(
-        &rt,
-        rt.alloc(),
-        0,
-        98,
-        &[(2, 8), (1, 3), (0, 0)],
-        &handed_down,
-    );
-    let marked = [(98, 1, 3, 20), (99, 2, 0, 30)];
-    assert_deleted(&rt, rt.alloc(), 2, 97, &rising, &marked);
+    for row in &FIRST_DELETED {
+        assert_deleted(&rt, rt.alloc(), 97, row);
+    }
+    for row in &SECOND_DELETED {
+        assert_deleted(&rt, rt.alloc(), 98, row);
+    }
 }
 
 /// Where the group and the syllable of a glyph end.

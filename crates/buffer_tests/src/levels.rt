@@ -11,6 +11,7 @@ use std::test::Fail;
 /// have these clusters and glyph flags.
 #[derive(Clone, Copy)]
 struct Row<'a> {
+    name: &'a str,
     levels: &'a [hb_buffer_cluster_level_t],
     clusters: &'a [u32],
     calls: &'a [Call<'a>],
@@ -21,6 +22,7 @@ struct Row<'a> {
 
 /// What is not said of a row.
 const PLAIN: Row<'static> = Row {
+    name: "",
     levels: &[],
     clusters: &[],
     calls: &[],
@@ -45,8 +47,8 @@ const CHARACTERS: &[hb_buffer_cluster_level_t] = &[1, 2];
 const ALL: &[hb_buffer_cluster_level_t] = &[0, 1, 2, 3, 4, 4_294_967_295];
 
 static ROWS: [Row<'static>; 19] = [
-    // a merge of clusters marks where they may stand in any order
     Row {
+        name: "a merge of clusters",
         levels: MONOTONE,
         clusters: &[0, 1, 2],
         calls: &[Call::ClearOutput, Call::MergeClusters(0, 2)],
@@ -54,6 +56,7 @@ static ROWS: [Row<'static>; 19] = [
         ..PLAIN
     },
     Row {
+        name: "a merge of clusters in any order",
         levels: ANY_ORDER,
         clusters: &[0, 1, 2],
         calls: &[Call::ClearOutput, Call::MergeClusters(0, 2)],
@@ -61,8 +64,8 @@ static ROWS: [Row<'static>; 19] = [
         scratch_flags: FLAGGED,
         ..PLAIN
     },
-    // a grapheme becomes one cluster, or is marked
     Row {
+        name: "a grapheme becomes one cluster",
         levels: GRAPHEMES,
         clusters: &[0, 1, 2],
         calls: &[Call::ClearOutput, Call::MergeGraphemeClusters(0, 2)],
@@ -70,6 +73,7 @@ static ROWS: [Row<'static>; 19] = [
         ..PLAIN
     },
     Row {
+        name: "a grapheme is marked",
         levels: CHARACTERS,
         clusters: &[0, 1, 2],
         calls: &[Call::ClearOutput, Call::MergeGraphemeClusters(0, 2)],
@@ -77,8 +81,8 @@ static ROWS: [Row<'static>; 19] = [
         scratch_flags: FLAGGED,
         ..PLAIN
     },
-    // a scan reads all clusters, or those at the ends of its range alone
     Row {
+        name: "a scan in any order that begins high",
         levels: ANY_ORDER,
         clusters: &[2, 1, 3, 1],
         calls: &[Call::ClearOutput, Call::UnsafeToBreak(Some(0), Some(4))],
@@ -87,6 +91,7 @@ static ROWS: [Row<'static>; 19] = [
         ..PLAIN
     },
     Row {
+        name: "a scan of the ends that begins high",
         levels: MONOTONE,
         clusters: &[2, 1, 3, 1],
         calls: &[Call::ClearOutput, Call::UnsafeToBreak(Some(0), Some(4))],
@@ -95,6 +100,7 @@ static ROWS: [Row<'static>; 19] = [
         ..PLAIN
     },
     Row {
+        name: "a scan in any order that ends high",
         levels: ANY_ORDER,
         clusters: &[1, 3, 1, 2],
         calls: &[Call::ClearOutput, Call::UnsafeToBreak(Some(0), Some(4))],
@@ -103,6 +109,7 @@ static ROWS: [Row<'static>; 19] = [
         ..PLAIN
     },
     Row {
+        name: "a scan of the ends that ends high",
         levels: MONOTONE,
         clusters: &[1, 3, 1, 2],
         calls: &[Call::ClearOutput, Call::UnsafeToBreak(Some(0), Some(4))],
@@ -110,8 +117,8 @@ static ROWS: [Row<'static>; 19] = [
         scratch_flags: FLAGGED,
         ..PLAIN
     },
-    // a deletion with nothing put out merges the next glyph, or marks it
     Row {
+        name: "a deletion with nothing put out marks the next glyph",
         levels: ANY_ORDER,
         clusters: &[0, 1, 2],
         calls: &[Call::ClearOutput, Call::DeleteGlyph],
@@ -120,14 +127,15 @@ static ROWS: [Row<'static>; 19] = [
         ..PLAIN
     },
     Row {
+        name: "a deletion with nothing put out merges the next glyph",
         levels: MONOTONE,
         clusters: &[0, 1, 2],
         calls: &[Call::ClearOutput, Call::DeleteGlyph],
         both: &[(0, 0), (2, 0)],
         ..PLAIN
     },
-    // a merge of the out side
     Row {
+        name: "a merge of the out side",
         levels: MONOTONE,
         clusters: &[0, 1, 2],
         calls: &[
@@ -140,6 +148,7 @@ static ROWS: [Row<'static>; 19] = [
         ..PLAIN
     },
     Row {
+        name: "a merge of the out side in any order changes nothing",
         levels: ANY_ORDER,
         clusters: &[0, 1, 2],
         calls: &[
@@ -151,8 +160,8 @@ static ROWS: [Row<'static>; 19] = [
         both: &[(0, 0), (1, 0), (2, 0)],
         ..PLAIN
     },
-    // the run of a grapheme goes down through the out side
     Row {
+        name: "the run of a grapheme goes down through the out side",
         levels: GRAPHEMES,
         clusters: &[2, 2, 1],
         calls: &[
@@ -165,6 +174,7 @@ static ROWS: [Row<'static>; 19] = [
         ..PLAIN
     },
     Row {
+        name: "a grapheme across the cursor is marked",
         levels: CHARACTERS,
         clusters: &[2, 2, 1],
         calls: &[
@@ -177,8 +187,8 @@ static ROWS: [Row<'static>; 19] = [
         scratch_flags: FLAGGED,
         ..PLAIN
     },
-    // at level 1 a grapheme is scanned from its ends, and at level 2 all of it
     Row {
+        name: "at level 1 a grapheme is scanned from its ends",
         levels: &[1],
         clusters: &[2, 1, 3, 1],
         calls: &[Call::ClearOutput, Call::MergeGraphemeClusters(0, 4)],
@@ -187,6 +197,7 @@ static ROWS: [Row<'static>; 19] = [
         ..PLAIN
     },
     Row {
+        name: "at level 2 a grapheme is scanned whole",
         levels: &[2],
         clusters: &[2, 1, 3, 1],
         calls: &[Call::ClearOutput, Call::MergeGraphemeClusters(0, 4)],
@@ -194,8 +205,8 @@ static ROWS: [Row<'static>; 19] = [
         scratch_flags: FLAGGED,
         ..PLAIN
     },
-    // with no output open it is not widened past the cursor
     Row {
+        name: "with no output open a grapheme is not widened past the cursor",
         levels: GRAPHEMES,
         clusters: &[5, 5, 3],
         calls: &[Call::NextGlyph, Call::MergeGraphemeClusters(1, 3)],
@@ -203,6 +214,7 @@ static ROWS: [Row<'static>; 19] = [
         ..PLAIN
     },
     Row {
+        name: "with no output open a grapheme is marked",
         levels: CHARACTERS,
         clusters: &[5, 5, 3],
         calls: &[Call::NextGlyph, Call::MergeGraphemeClusters(1, 3)],
@@ -210,8 +222,8 @@ static ROWS: [Row<'static>; 19] = [
         scratch_flags: FLAGGED,
         ..PLAIN
     },
-    // fewer than two glyphs stay as they are
     Row {
+        name: "fewer than two glyphs stay as they are",
         levels: ALL,
         clusters: &[0, 1, 2],
         calls: &[
@@ -231,10 +243,10 @@ fn buffer_in(alloc: Global, clusters: &[u32]) -> Result<hb_buffer_t, Fail> {
     Ok(text.into_buffer())
 }
 
-fn assert_clusters(rt: &impl Abort, glyphs: &[hb_glyph_info_t], want: &[(u32, u32)]) {
-    assert!(rt; glyphs.len() == want.len());
+fn assert_clusters(rt: &impl Abort, name: &str, glyphs: &[hb_glyph_info_t], want: &[(u32, u32)]) {
+    assert!(rt; glyphs.len() == want.len(), "{name}");
     for (glyph, want) in glyphs.iter().zip(want) {
-        assert!(rt; (glyph.cluster, glyph.mask & 7) == *want);
+        assert!(rt; (glyph.cluster, glyph.mask & 7) == *want, "{name}");
     }
 }
 
@@ -244,22 +256,28 @@ fn assert_row(
     row: &Row<'_>,
     level: hb_buffer_cluster_level_t,
 ) -> Result<(), Fail> {
+    let name = row.name;
     let mut buffer = buffer_in(alloc, row.clusters)?;
     buffer.cluster_level = level;
     let mut answers = [Answer::Outside; 3];
     let count = row.calls.len();
-    assert!(rt; count <= 3);
-    assert!(rt; replay(&mut buffer, row.calls, &mut answers[..count]) == Ok(()));
+    assert!(rt; count <= 3, "{name} at level {level}");
     assert!(rt;
-        answers[..count]
-            .iter()
-            .all(|answer| *answer == Answer::Done)
+        replay(&mut buffer, row.calls, &mut answers[..count]) == Ok(()),
+        "{name} at level {level}"
     );
-    assert!(rt; row.out_len <= row.both.len());
-    assert_clusters(rt, buffer.out_info(), &row.both[..row.out_len]);
-    assert_clusters(rt, buffer.info(), &row.both[row.out_len..]);
-    assert!(rt; buffer.scratch_flags == row.scratch_flags);
-    assert!(rt; buffer.cluster_level == level);
+    let done = answers[..count]
+        .iter()
+        .all(|answer| *answer == Answer::Done);
+    assert!(rt; done, "{name} at level {level}");
+    assert!(rt; row.out_len <= row.both.len(), "{name} at level {level}");
+    assert_clusters(rt, name, buffer.out_info(), &row.both[..row.out_len]);
+    assert_clusters(rt, name, buffer.info(), &row.both[row.out_len..]);
+    assert!(rt;
+        buffer.scratch_flags == row.scratch_flags,
+        "{name} at level {level}"
+    );
+    assert!(rt; buffer.cluster_level == level, "{name} at level {level}");
     Ok(())
 }
 
@@ -287,7 +305,12 @@ fn a_grapheme_lies_in_the_input(rt: HostRuntime) -> Result<(), Fail> {
     assert!(rt; replay(&mut buffer, &calls, &mut answers) == Ok(()));
     assert!(rt; answers[..2] == [Answer::Outside; 2]);
     assert!(rt; answers[2..] == [Answer::Done, Answer::Done, Answer::Outside]);
-    assert_clusters(&rt, buffer.info(), &[(1, 0), (2, 0)]);
+    assert_clusters(
+        &rt,
+        "a grapheme in the input",
+        buffer.info(),
+        &[(1, 0), (2, 0)],
+    );
     Ok(())
 }
 

@@ -75,8 +75,8 @@ static REFUSED: [(&[&str], &str); 10] = [
         "Unknown font function implementation 'ft'; supported values are: ot",
     ),
     (
-        &["program", "font", "--variations=wght=700"],
-        "--variations=wght=700 is not supported: variable fonts are not read as such",
+        &["program", "font", "--named-instance=x"],
+        "Cannot parse integer value 'x' for --named-instance",
     ),
     (
         &["program", "font", "--text-before=a", "--unicodes-before=41"],

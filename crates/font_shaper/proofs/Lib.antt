@@ -1,2 +1,5 @@
 pub mod ClusterLemmas
 pub mod TurnLemmas
+pub mod RisingLemmas
+pub mod StageLemmas
+pub mod CourseLemmas

@@ -4,3 +4,4 @@ pub mod Measures
 pub mod FallbackMarks
 pub mod Graphemes
 pub mod ShapedClusters
+pub mod ClusterOrder

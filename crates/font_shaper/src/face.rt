@@ -9,6 +9,7 @@ ghost use Rattle.font_shaper.specs.Face.{font_page, believed, IsLayoutOf, KeepsI
 ghost use Rattle.character_maps.specs.Codes.{glyph_index, glyph_variation_index};
 
 use crate::layout::Layout;
+use crate::variations::FaceVariations;
 use character_maps::CharacterMap;
 use font_tables::bytes::u16_at;
 use font_tables::directory::Tables;
@@ -67,6 +68,8 @@ pub struct Face<'a> {
     pub has_gpos: bool,
     /// The size at which the font is used.
     pub scale: Scale,
+    /// What the font says of its variations, and those that are chosen.
+    pub variations: FaceVariations<'a>,
 }
 
 /// The outlines of a font.
@@ -187,6 +190,7 @@ fn face_of<'a>(
     ensures keeps { KeepsItsTables result }
 {
     let head = tables.table(Tag::from_bytes(b"head"));
+    let definitions = definitions_of(tables.table(Tag::from_bytes(b"GDEF")), &layout);
     let units_per_em = units_per_em(head);
     let glyph_count = glyph_count(tables.table(Tag::from_bytes(b"maxp")));
     let os2 = tables.table(Tag::from_bytes(b"OS/2"));
@@ -207,13 +211,14 @@ fn face_of<'a>(
         vertical: Metrics::new(vmtx, long_metric_count(vhea), glyph_count, units_per_em),
         origins: VerticalOrigins::new(tables.table(Tag::from_bytes(b"VORG"))),
         extents: horizontal_extents(os2, hhea),
-        definitions: definitions_of(tables.table(Tag::from_bytes(b"GDEF")), &layout),
+        definitions,
         outlines: outlines_of(&tables, head, glyph_count),
         has_gpos: is_positioning(layout.gpos),
         layout,
         lookups,
         alloc,
         scale: Scale::of_em(units_per_em),
+        variations: FaceVariations::new(alloc, &tables, definitions.table, glyph_count),
     }
 }
 

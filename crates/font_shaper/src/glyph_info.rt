@@ -38,6 +38,18 @@ pub(crate) fn set_unicode_props(info: &mut hb_glyph_info_t, scratch_flags: &mut 
     if let Some(classes) = CombiningClasses::new(&row) {
         info.init_unicode_props(scratch_flags, &classes);
     }
+    set_telugu_class(info);
+}
+
+/// Gives the Telugu length marks the classes that HarfBuzz reorders them by: they come before a halant.
+fn set_telugu_class(info: &mut hb_glyph_info_t)
+    ensures { info.new.cluster ≡ info.old.cluster }
+{
+    match info.glyph_id {
+        0xC55 => set_modified_combining_class(info, 4),
+        0xC56 => set_modified_combining_class(info, 5),
+        _ => {}
+    }
 }
 
 /// Whether the character is a mark.

@@ -1,12 +1,15 @@
 //! A font, and the shaping of texts by it.
 #![tactic(auto)]
 
+mod bounds;
 mod cluster_level;
+mod cluster_order;
 mod comparison;
 mod ending;
 mod face;
 mod fallback_marks;
 mod fallback_spaces;
+mod forms_of_font;
 mod glyph_info;
 mod glyphs_of_font;
 mod kept_plan;
@@ -24,14 +27,17 @@ mod rotation;
 mod shaping;
 mod substitution;
 mod text;
+mod variations;
 mod verification;
 mod watch;
 
 pub use comparison::{Differences, compare};
 pub use face::{Face, Lookups};
+pub use font_variations::{Axis, Variation};
 pub use kept_plan::{ShapePlan, shape_with_plan, shape_with_plan_watched};
 pub use layout::Layout;
 pub use names::FaceNames;
 pub use shaping::{ShapeError, shape, shape_watched};
+pub use variations::FaceVariations;
 pub use verification::VerifyError;
 pub use watch::{Step, Unwatched, Watch};

@@ -105,7 +105,7 @@ fn apply_positions<W: Watch>(
 {
     let setting = Setting {
         list: &face.lookups.positions,
-        scale: face.scale,
+        instance: face.instance(),
     };
     let mut search = Search::new(budget_of(buffer));
     let glyphs = Digest::of_glyphs(buffer.info());

@@ -47,20 +47,32 @@ pub(crate) fn set_masks(buffer: &mut hb_buffer_t, plan: &TextPlan, features: &[F
         set_fraction_masks(buffer, masks);
     }
     plan.script.setup_masks(buffer);
+    plan.syllables.setup_masks(buffer);
+    set_feature_masks(buffer, &plan.shape.layout, features);
+}
+
+/// Gives the glyphs of parts of the text the values of features that are asked for there.
+#[tactic(auto, using(shaping_buffer::proofs::ClosedKeepsLemmas::kept))]
+fn set_feature_masks(buffer: &mut hb_buffer_t, layout: &LayoutPlan, features: &[Feature])
+    requires { buffer.old.have_output ≡ false }
+    ensures closed { buffer.new.have_output ≡ false }
+    ensures keeps { KeepsClusters buffer.old buffer.new }
+{
     for feature in features {
-        if !feature.is_global() {
-            set_feature_mask(buffer, &plan.shape.layout, feature);
-        }
+        set_feature_mask(buffer, layout, feature);
     }
 }
 
-/// Gives the glyphs of a part of the text the value of a feature.
+/// Gives the glyphs of a part of the text the value of a feature, unless it is asked for in the whole text.
 #[tactic(auto, using(shaping_buffer::proofs::ClosedKeepsLemmas::kept))]
 fn set_feature_mask(buffer: &mut hb_buffer_t, layout: &LayoutPlan, feature: &Feature)
     requires { buffer.old.have_output ≡ false }
     ensures closed { buffer.new.have_output ≡ false }
     ensures keeps { KeepsClusters buffer.old buffer.new }
 {
+    if feature.is_global() {
+        return;
+    }
     if let Some(planned) = layout.feature(feature.tag) {
         let bits = planned.bits;
         let value = bits.of_value(feature.value);

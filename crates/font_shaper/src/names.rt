@@ -4,11 +4,9 @@ ghost use Rattle.std.specs.Prelude.{◌≡◌};
 ghost use Rattle.std.specs.Option.{option_copied};
 ghost use Rattle.font_shaper.specs.FaceNames.{name_of, name_bytes, text_of};
 
+use crate::bounds::BoundsSource;
 use crate::face::Face;
-use crate::measures::bounds_of;
 use font_tables::glyph_names::PostNames;
-use font_tables::metrics::Metrics;
-use font_tables::scale::Scale;
 use glyph_outlines::Outlines;
 use rb_common::{GlyphId, Tag};
 use rb_glyph::{GlyphExtents, GlyphNames, hb_glyph_info_t};
@@ -19,20 +17,23 @@ use std::collections::BTreeMap;
 #[derive(Drop)]
 pub struct FaceNames<'a> {
     outlines: Outlines<'a>,
-    horizontal: Metrics<'a>,
-    scale: Scale,
+    alloc: Global,
+    bounds: BoundsSource<'a>,
+    coordinates: Vec<i32>,
     post: PostNames<'a>,
     extents: BTreeMap<u16, GlyphExtents>,
 }
 
 impl<'a> FaceNames<'a> {
-    /// The names of the font's glyphs, and their extents at its size. `Err(AllocError)` where memory runs out.
+    /// The names of the font's glyphs, and their extents at its size and at the variations that are chosen.
+    /// `Err(AllocError)` where memory runs out.
     pub fn new(alloc: Global, face: &Face<'a>) -> Result<Self, AllocError> {
         let post = PostNames::new(alloc, face.tables.table(Tag::from_bytes(b"post")))?;
         Ok(FaceNames {
             outlines: face.outlines,
-            horizontal: face.horizontal,
-            scale: face.scale,
+            alloc,
+            bounds: BoundsSource::new(face),
+            coordinates: copied(alloc, face.coordinates())?,
             post,
             extents: BTreeMap::new(alloc),
         })
@@ -43,7 +44,7 @@ impl<'a> FaceNames<'a> {
         for info in infos {
             if let Ok(number) = u16::try_from(info.glyph_id)
                 && !self.extents.contains_key(&number)
-                && let Some(extents) = self.bounds(GlyphId(number))
+                && let Some(extents) = self.bounds(GlyphId(number))?
             {
                 let _ = self.extents.insert(number, extents)?;
             }
@@ -52,8 +53,9 @@ impl<'a> FaceNames<'a> {
     }
 
     /// The bounds of a glyph, as its outline has them.
-    fn bounds(&self, glyph: GlyphId) -> Option<GlyphExtents> {
-        bounds_of(&self.outlines, &self.horizontal, &self.scale, glyph)
+    fn bounds(&self, glyph: GlyphId) -> Result<Option<GlyphExtents>, AllocError> {
+        self.bounds
+            .bounds(self.alloc, glyph, self.coordinates.as_slice())
     }
 
     /// The bytes of a glyph's name.
@@ -66,6 +68,15 @@ impl<'a> FaceNames<'a> {
             None => self.outlines.glyph_name(glyph),
         }
     }
+}
+
+/// The same coordinates once more.
+fn copied(alloc: Global, coordinates: &[i32]) -> Result<Vec<i32>, AllocError> {
+    let mut copied = Vec::new(alloc);
+    for coordinate in coordinates {
+        copied.push(*coordinate)?;
+    }
+    Ok(copied)
 }
 
 /// The bytes, if they are text.

@@ -36,8 +36,8 @@ pub(crate) fn normalize(
     ensures keeps { KeepsClusters buffer.old buffer.new }
 {
     let has_marks = has_marks(buffer.info());
-    let composes = script.shaper.normalization_mode() == NormalizationMode::Auto;
-    if !decompose_all(buffer, face, !composes)? {
+    let composes = script.shaper.normalization_mode() != NormalizationMode::Nothing;
+    if !decompose_all(buffer, face, script.shaper)? {
         return Ok(false);
     }
     if !has_marks {

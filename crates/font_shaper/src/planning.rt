@@ -1,16 +1,21 @@
 //! How a text is shaped: the plan of its script, its language and its features.
 
+ghost use Rattle.std.specs.Prelude.{◌≡◌};
+ghost use Rattle.font_shaper.specs.ClusterOrder.{orders_syllables};
+
 use crate::face::Face;
+use font_variations::substitutions_of;
 use language_tags::LanguageTags;
 use layout_plan::{FontLayout, KernLayout, PlanBuilder, ShapePlan, ShaperRules, TextProperties};
 use position_tables::kern_table::KernTable;
 use rb_common::{Direction, Script};
 use rb_text::tags::tags_from_script_and_language;
 use rb_text::{Feature, Language, LanguageTable};
-use script_features::{collect_features, override_features, script_plan};
+use script_features::{collect_features, override_features, script_plan, syllable_plan};
 use script_shapers::{ScriptPlan, ScriptShaper, ZeroWidthMarks};
 use shaping_buffer::hb_buffer_t;
 use std::alloc::AllocError;
+use syllabic_shapers::SyllablePlan;
 
 /// How a text is shaped by a font: its features and lookups, and what the shaper of its script makes of them.
 #[derive(Debug, Drop)]
@@ -19,6 +24,23 @@ pub(crate) struct TextPlan {
     pub shape: ShapePlan,
     /// What the shaper of the script does.
     pub script: ScriptPlan,
+    /// What it does with syllables.
+    pub syllables: SyllablePlan,
+}
+
+impl TextPlan {
+    /// Whether the glyphs of syllables are put in another order between the stages of substitution.
+    pub(crate) fn orders_syllables(&self) -> bool
+        ensures { result ≡ orders_syllables self.now.syllables }
+    {
+        match self.syllables {
+            SyllablePlan::None => false,
+            SyllablePlan::Indic(_)
+            | SyllablePlan::Khmer(_)
+            | SyllablePlan::Myanmar
+            | SyllablePlan::Universal(_) => true,
+        }
+    }
 }
 
 /// What is said of a text, as HarfBuzz's `hb_segment_properties_t`.
@@ -82,6 +104,8 @@ impl Face<'_> {
             gsub: self.layout.gsub,
             gpos: self.layout.gpos,
             kern: kern_layout(self),
+            gsub_substitutions: substitutions_of(self.layout.gsub, self.coordinates()),
+            gpos_substitutions: substitutions_of(self.layout.gpos, self.coordinates()),
         };
         let mut builder = ShapePlan::begin(self.alloc, &font, text)?;
         let chosen = add_features(&mut builder, segment, features)?;
@@ -92,13 +116,18 @@ impl Face<'_> {
             segment.direction,
             rules_of(chosen.shaper),
         )?;
+        let syllables = syllable_plan(chosen.shaper, segment.script, &shape.layout);
         let script = script_plan(
             chosen.shaper,
             segment.script,
             &shape.layout,
             chosen.finds_script,
         );
-        Ok(TextPlan { shape, script })
+        Ok(TextPlan {
+            shape,
+            script,
+            syllables,
+        })
     }
 }
 

@@ -11,10 +11,11 @@ use shaping_buffer::{
     BufferFlags, Flags, GlyphPosition, HB_BUFFER_SCRATCH_FLAG_HAS_DEFAULT_IGNORABLES,
     HB_BUFFER_SCRATCH_FLAG_HAS_SPACE_FALLBACK, hb_buffer_t, hb_glyph_info_t,
 };
+use std::alloc::AllocError;
 
 /// Gives each glyph the font's advance, and in vertical lines its vertical origin.
 #[tactic(auto, using(shaping_buffer::proofs::ClosedKeepsLemmas::kept))]
-pub(crate) fn position_glyphs(buffer: &mut hb_buffer_t, face: &Face)
+pub(crate) fn position_glyphs(buffer: &mut hb_buffer_t, face: &Face) -> Result<(), AllocError>
     requires { buffer.old.have_output ≡ false }
     ensures closed { buffer.new.have_output ≡ false }
     ensures placed { IsSome buffer.new.positions }
@@ -28,13 +29,14 @@ pub(crate) fn position_glyphs(buffer: &mut hb_buffer_t, face: &Face)
         let Some(info) = buffer.info().get(i) else {
             break;
         };
-        let mut position = font_position(face, glyph_of(info), is_horizontal);
+        let mut position = font_position(face, glyph_of(info), is_horizontal)?;
         if has_spaces {
             let advance = advance_of(&mut position, is_horizontal);
             *advance = space_advance(info, *advance, face, is_horizontal, invisible);
         }
         set_position(buffer, i, position);
     }
+    Ok(())
 }
 
 /// The glyph of an item.
@@ -66,20 +68,24 @@ fn advance_of(position: &mut GlyphPosition, is_horizontal: bool) -> &mut i32 {
 }
 
 /// The position that the font gives a glyph.
-fn font_position(face: &Face, glyph: GlyphId, is_horizontal: bool) -> GlyphPosition {
+fn font_position(
+    face: &Face,
+    glyph: GlyphId,
+    is_horizontal: bool,
+) -> Result<GlyphPosition, AllocError> {
     if is_horizontal {
-        return GlyphPosition {
+        return Ok(GlyphPosition {
             x_advance: face.glyph_hor_advance(glyph),
             ..GlyphPosition::default()
-        };
+        });
     }
-    let (x, y) = face.vertical_origin(glyph);
-    GlyphPosition {
+    let (x, y) = face.vertical_origin(glyph)?;
+    Ok(GlyphPosition {
         y_advance: face.glyph_ver_advance(glyph),
         x_offset: x.wrapping_neg(),
         y_offset: y.wrapping_neg(),
         ..GlyphPosition::default()
-    }
+    })
 }
 
 /// Takes the advance of each mark; moves the mark back by it if `adjusts` says so.

@@ -27,6 +27,7 @@ use crate::watch::{Step, Unwatched, Watch};
 use glyph_positions::position_finish_offsets;
 use glyph_substitution::substitute_start;
 use layout_plan::ShapePlan;
+use script_shapers::ZeroWidthMarks;
 use shaping_buffer::{
     BufferFlags, Direction, Feature, Flags, GlyphBuffer, UnicodeBuffer, hb_buffer_t,
     hb_glyph_info_t,
@@ -246,7 +247,7 @@ fn shape_native<W: Watch>(
     requires { buffer.old.have_output ≡ false }
     ensures closed { IfOk result (λ done. done ≡ true → buffer.new.have_output ≡ false) }
     ensures placed { IfOk result (λ done. done ≡ true → IsSome buffer.new.positions) }
-    ensures keeps { KeepsClusters buffer.old buffer.new }
+    ensures keeps { IfOk result (λ done. done ≡ true → KeepsClusters buffer.old buffer.new) }
 {
     if !prepare_characters(buffer, face, plan, direction)? {
         return Ok(false);
@@ -255,7 +256,7 @@ fn shape_native<W: Watch>(
     if !substitute(buffer, face, plan, watch)? {
         return Ok(false);
     }
-    position(buffer, face, &plan.shape, direction, watch)?;
+    position(buffer, face, plan, direction, watch)?;
     Ok(true)
 }
 
@@ -385,7 +386,7 @@ fn put_all(infos: &mut [hb_glyph_info_t])
 fn position<W: Watch>(
     buffer: &mut hb_buffer_t,
     face: &Face,
-    plan: &ShapePlan,
+    plan: &TextPlan,
     direction: Direction,
     watch: &mut W,
 ) -> Result<(), AllocError>
@@ -394,52 +395,53 @@ fn position<W: Watch>(
     ensures placed { IfOk result (λ _. IsSome buffer.new.positions) }
     ensures keeps { KeepsClusters buffer.old buffer.new }
 {
-    position_glyphs(buffer, face);
+    position_glyphs(buffer, face)?;
     watch.step(Step::Advances, buffer)?;
-    position_by_lookups(buffer, face, plan, watch)?;
-    finish_positions(buffer, face, plan, direction);
+    let adjusts = adjusts_marks(buffer, &plan.shape);
+    let early = plan.script.shaper.zero_width_marks() == ZeroWidthMarks::Early;
+    zero_marks(buffer, plan.shape.zero_marks && early, adjusts);
+    position_by_lookups(buffer, face, &plan.shape, watch)?;
+    zero_marks(buffer, plan.shape.zero_marks && !early, adjusts);
+    finish_positions(buffer, face, &plan.shape, direction)
+}
+
+/// Whether a mark that loses its width is moved back by it.
+fn adjusts_marks(buffer: &hb_buffer_t, plan: &ShapePlan) -> bool {
+    plan.adjust_mark_positioning_when_zeroing && buffer.direction.is_forward()
+}
+
+/// Takes the width of what is not to be seen, and places the glyphs that stand by others.
+#[tactic(auto, using(shaping_buffer::proofs::ClosedKeepsLemmas::kept))]
+fn finish_positions(
+    buffer: &mut hb_buffer_t,
+    face: &Face,
+    plan: &ShapePlan,
+    direction: Direction,
+) -> Result<(), AllocError>
+    requires closed { buffer.old.have_output ≡ false }
+    requires placed { IsSome buffer.old.positions }
+    ensures closed { IfOk result (λ _. buffer.new.have_output ≡ false) }
+    ensures placed { IfOk result (λ _. IsSome buffer.new.positions) }
+    ensures keeps { KeepsClusters buffer.old buffer.new }
+{
+    let adjusts = adjusts_marks(buffer, plan);
+    zero_width_default_ignorables(buffer);
+    position_finish_offsets(buffer);
+    if plan.fallback_mark_positioning {
+        position_marks(buffer, face, direction, adjusts)?;
+    }
     Ok(())
 }
 
-/// Takes the width of marks and of what is not to be seen, and places the glyphs that stand by others.
-#[tactic(auto, using(shaping_buffer::proofs::ClosedKeepsLemmas::kept))]
-fn finish_positions(buffer: &mut hb_buffer_t, face: &Face, plan: &ShapePlan, direction: Direction)
+/// Takes the width of marks, where that is said.
+fn zero_marks(buffer: &mut hb_buffer_t, zeroes: bool, adjusts: bool)
     requires closed { buffer.old.have_output ≡ false }
     requires placed { IsSome buffer.old.positions }
     ensures closed { buffer.new.have_output ≡ false }
     ensures placed { IsSome buffer.new.positions }
     ensures keeps { KeepsClusters buffer.old buffer.new }
 {
-    let adjusts = plan.adjust_mark_positioning_when_zeroing && buffer.direction.is_forward();
-    zero_widths(buffer, plan, adjusts);
-    position_finish_offsets(buffer);
-    if plan.fallback_mark_positioning {
-        position_marks(buffer, face, direction, adjusts);
-    }
-}
-
-/// Takes the width of marks, where the plan has that, and of what is not to be seen.
-#[tactic(auto, using(shaping_buffer::proofs::ClosedKeepsLemmas::kept))]
-fn zero_widths(buffer: &mut hb_buffer_t, plan: &ShapePlan, adjusts: bool)
-    requires closed { buffer.old.have_output ≡ false }
-    requires placed { IsSome buffer.old.positions }
-    ensures closed { buffer.new.have_output ≡ false }
-    ensures placed { IsSome buffer.new.positions }
-    ensures keeps { KeepsClusters buffer.old buffer.new }
-{
-    zero_marks(buffer, plan, adjusts);
-    zero_width_default_ignorables(buffer);
-}
-
-/// Takes the width of marks, where the plan has that.
-fn zero_marks(buffer: &mut hb_buffer_t, plan: &ShapePlan, adjusts: bool)
-    requires closed { buffer.old.have_output ≡ false }
-    requires placed { IsSome buffer.old.positions }
-    ensures closed { buffer.new.have_output ≡ false }
-    ensures placed { IsSome buffer.new.positions }
-    ensures keeps { KeepsClusters buffer.old buffer.new }
-{
-    if plan.zero_marks {
+    if zeroes {
         zero_mark_widths(buffer, adjusts);
     }
 }

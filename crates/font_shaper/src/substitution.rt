@@ -2,7 +2,9 @@
 
 ghost use Rattle.std.specs.Prelude.{◌≡◌, true, false, IfOk};
 ghost use Rattle.shaping_buffer.specs.KeepsClusters.{KeepsClusters};
+ghost use Rattle.font_shaper.specs.ClusterOrder.{KeepsStage};
 
+use crate::cluster_order::ClusterCourse;
 use crate::face::Face;
 use crate::lookups::{budget_of, options_of};
 use crate::planning::TextPlan;
@@ -15,9 +17,10 @@ use layout_plan::{Pause, PlannedLookup};
 use script_shapers::{FallbackLookups, ScriptPlan};
 use shaping_buffer::hb_buffer_t;
 use std::alloc::AllocError;
+use syllabic_shapers::SyllablePause;
 
-/// Applies the lookups of `GSUB`, stage by stage. `Ok(false)` where a call was refused for length.
-#[tactic(auto, using(shaping_buffer::proofs::ClosedKeepsLemmas::kept))]
+/// Applies the lookups of `GSUB`, stage by stage, and lets clusters run as they ran before, also where the shaper of the script
+/// puts the glyphs of syllables in another order. `Ok(false)` where a call was refused for length.
 pub(crate) fn substitute<W: Watch>(
     buffer: &mut hb_buffer_t,
     face: &Face,
@@ -26,7 +29,30 @@ pub(crate) fn substitute<W: Watch>(
 ) -> Result<bool, AllocError>
     requires { buffer.old.have_output ≡ false }
     ensures closed { IfOk result (λ done. done ≡ true → buffer.new.have_output ≡ false) }
-    ensures keeps { KeepsClusters buffer.old buffer.new }
+    ensures keeps { IfOk result (λ done. done ≡ true → KeepsClusters buffer.old buffer.new) }
+{
+    if !plan.orders_syllables() {
+        return apply_stages(buffer, face, plan, watch);
+    }
+    let course = ClusterCourse::of(buffer);
+    if !apply_stages(buffer, face, plan, watch)? {
+        return Ok(false);
+    }
+    course.restore(buffer);
+    Ok(true)
+}
+
+/// Applies the lookups of all stages, with what is done between them. `Ok(false)` where a call was refused for length.
+#[tactic(auto, using(crate::proofs::StageLemmas::stages))]
+fn apply_stages<W: Watch>(
+    buffer: &mut hb_buffer_t,
+    face: &Face,
+    plan: &TextPlan,
+    watch: &mut W,
+) -> Result<bool, AllocError>
+    requires { buffer.old.have_output ≡ false }
+    ensures closed { IfOk result (λ done. done ≡ true → buffer.new.have_output ≡ false) }
+    ensures keeps { KeepsStage plan.now.syllables buffer.old buffer.new }
 {
     let mut progress = Progress::new(budget_of(buffer));
     let mut start = 0;
@@ -36,7 +62,7 @@ pub(crate) fn substitute<W: Watch>(
         if !apply_stage(buffer, face, lookups, &mut progress, watch)? {
             return Ok(false);
         }
-        if !pause(buffer, face, &plan.script, stage.pause, &mut progress)? {
+        if !pause(buffer, face, plan, stage.pause, &mut progress)? {
             return Ok(false);
         }
         start = stage.end;
@@ -72,26 +98,38 @@ fn apply_stage<W: Watch>(
 }
 
 /// What is done after a stage. `Ok(false)` where a call was refused for length.
-#[tactic(auto, using(shaping_buffer::proofs::ClosedKeepsLemmas::kept))]
+#[tactic(auto, using(crate::proofs::StageLemmas::stages))]
 fn pause(
     buffer: &mut hb_buffer_t,
     face: &Face,
-    plan: &ScriptPlan,
+    plan: &TextPlan,
     pause: Pause,
     progress: &mut Progress,
 ) -> Result<bool, AllocError>
     requires { buffer.old.have_output ≡ false }
     ensures closed { IfOk result (λ done. done ≡ true → buffer.new.have_output ≡ false) }
-    ensures keeps { KeepsClusters buffer.old buffer.new }
+    ensures keeps { KeepsStage plan.now.syllables buffer.old buffer.new }
 {
     match pause {
         Pause::RecordStch => {
-            plan.record_stch(buffer);
+            plan.script.record_stch(buffer);
             Ok(true)
         }
-        Pause::ArabicFallback if plan.does_fallback => {
-            face.join_by_fallback(buffer, plan, progress)
+        Pause::ArabicFallback if plan.script.does_fallback => {
+            face.join_by_fallback(buffer, &plan.script, progress)
         }
+        Pause::SetUpSyllables => face.work_on_syllables(buffer, plan, SyllablePause::SetUp),
+        Pause::InitialReordering => {
+            face.work_on_syllables(buffer, plan, SyllablePause::InitialReordering)
+        }
+        Pause::FinalReordering => {
+            face.work_on_syllables(buffer, plan, SyllablePause::FinalReordering)
+        }
+        Pause::ClearSubstitutionFlags => {
+            face.work_on_syllables(buffer, plan, SyllablePause::ForgetSubstitutions)
+        }
+        Pause::RecordRphf => face.work_on_syllables(buffer, plan, SyllablePause::RecordRphf),
+        Pause::RecordPref => face.work_on_syllables(buffer, plan, SyllablePause::RecordPref),
         _ => Ok(true),
     }
 }

@@ -1,13 +1,15 @@
 -- What the subtables of `GSUB` say of a glyph.
-use Rattle.std.specs.Prelude.{◌≡◌, ◌≢◌, ℕ, ◌+◌, ◌-◌, ◌*◌, ◌%◌, ◌/◌, ◌^◌, ◌==◌, ◌&&◌, List, [], Option, Some, None, nat_lt, nat_le, unwrap_or, option_map, option_and_then, drop, slice_index, if◌then◌else◌, bit_and, IsTrue, false}
+use Rattle.std.specs.Prelude.{◌≡◌, ◌≢◌, ℕ, ◌+◌, ◌-◌, ◌*◌, ◌%◌, ◌/◌, ◌^◌, ◌==◌, ◌&&◌, List, [], Option, Some, None, nat_lt, nat_le, unwrap_or, option_map, option_and_then, drop, slice_index, if◌then◌else◌, bit_and, IsTrue, false, Bool, is_some}
+use Rattle.std.specs.List.{list_any}
 use Rattle.std.specs.Int.{trailing_zeros, w32}
 use Rattle.font_tables.specs.Bytes.{number_16, table_at_16}
 use Rattle.rb_glyph.specs.declared.info.hb_glyph_info_t.{hb_glyph_info_t}
-use Rattle.glyph_layout.specs.Walk.{glyph_at}
+use Rattle.glyph_layout.specs.Walk.{glyph_at, covered_index}
 use Rattle.glyph_layout.specs.GlyphTable.{listed, listed_glyph}
 use Rattle.glyph_layout.specs.Rule.{ArePlaces, input_walk, wanted_by}
 use Rattle.glyph_layout.specs.declared.rule.Meaning.TheVariants as rule
 use Rattle.glyph_layout.specs.declared.search.Sides.{Sides}
+use Rattle.glyph_layout.specs.declared.subtable.Subtable.{Subtable}
 use Rattle.glyph_layout.specs.declared.substitution.Edit.{Edit}
 use Rattle.glyph_layout.specs.declared.substitution.Edit.TheVariants.{Replace, Choose, Multiply, Ligate, Apply, ReplaceInPlace}
 
@@ -69,3 +71,7 @@ IsLigature table sides places (ReplaceInPlace change) = IsTrue false
 -- the glyph at the cursor
 abbrev pub cursor_glyph : Sides → hb_glyph_info_t
 cursor_glyph sides = glyph_at sides.input.now 0
+
+-- whether one of these subtables has something to do at a glyph: its coverage has it
+abbrev pub begins_with : List Subtable → ℕ → Bool
+begins_with subtables glyph = list_any (λ subtable. is_some (covered_index subtable.coverage.table.now glyph)) subtables

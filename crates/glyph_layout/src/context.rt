@@ -91,7 +91,7 @@ pub fn fitting_rule<'a>(
 }
 
 /// The set of this number of a list of sets, their count standing at a place.
-fn set_at(table: &[u8], at: usize, number: u32) -> Option<&[u8]> {
+pub(crate) fn set_at(table: &[u8], at: usize, number: u32) -> Option<&[u8]> {
     if number < u32::from(u16_at(table, at)?) {
         table_at_16(table, at.saturating_add(2 + 2 * number as usize))
     } else {
@@ -100,7 +100,7 @@ fn set_at(table: &[u8], at: usize, number: u32) -> Option<&[u8]> {
 }
 
 /// The same meaning in all three parts.
-fn same_meaning<'a>(meaning: Meaning<'a>) -> Meanings<'a> {
+pub(crate) fn same_meaning<'a>(meaning: Meaning<'a>) -> Meanings<'a> {
     Meanings {
         behind: meaning,
         input: meaning,
@@ -109,7 +109,7 @@ fn same_meaning<'a>(meaning: Meaning<'a>) -> Meanings<'a> {
 }
 
 /// The classes of the three parts.
-fn class_meanings<'a>(subtable: &Subtable<'a>) -> Meanings<'a> {
+pub(crate) fn class_meanings<'a>(subtable: &Subtable<'a>) -> Meanings<'a> {
     Meanings {
         behind: Meaning::Classes(subtable.classes_behind),
         input: Meaning::Classes(subtable.classes),

@@ -21,6 +21,7 @@ pub mod substitution;
 pub mod subtable;
 pub mod walk;
 pub mod wanted;
+mod would;
 
 pub use budget::Budget;
 pub use digest::Digest;
@@ -30,3 +31,4 @@ pub use search::{Places, Reach, Search, Sides};
 pub use subtable::Subtable;
 pub use walk::{Found, LookupOptions, Walk};
 pub use wanted::Wanted;
+pub use would::would_substitute;

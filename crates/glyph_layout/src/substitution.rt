@@ -154,7 +154,7 @@ fn single(subtable: &Subtable, glyph: u32, index: u32) -> Option<u16>
 
 /// The table of this number of a list of tables whose count stands at the byte 4; an empty one where there is none.
 #[tactic(auto, unfolding(crate::specs::Substitution::set_at))]
-fn set_at(table: &[u8], index: u32) -> &[u8]
+pub(crate) fn set_at(table: &[u8], index: u32) -> &[u8]
     ensures { result.now ≡ set_at table.now index }
 {
     if index < u32::from(u16_at(table, 4).unwrap_or(0)) {

@@ -1,5 +1,5 @@
 -- Deletion, case by case.
-use Rattle.std.proofs.Common.{◌≡◌, ℕ, ◌-◌, ◌<◌, List, [], ◌∷◌, ◌++◌, length, get_or, take, drop, refl, sym, ap}
+use Rattle.std.proofs.Common.{◌≡◌, ℕ, ◌+◌, ◌-◌, ◌<◌, List, [], ◌∷◌, ◌++◌, length, get_or, take, drop, refl, sym, ap}
 use Rattle.std.proofs.Common.{◌∙◌, ◌≤◌, arith, eqb, true, false, Bool}
 use Rattle.std.specs.Prelude.{◌&&◌, not, nat_lt}
 use Rattle.std.proofs.lemmas.List.{drop_more}
@@ -72,13 +72,13 @@ nothing_taken [] l h = refl
 nothing_taken (g ∷ out) l h = absurd (omega arith)
 
 nothing_before : (any_order : Bool) (out l : List hb_glyph_info_t) → length out ≡ 0
-    → drop (length out) (merge_or_mark any_order (out ++ l) 0 2 0) ≡ merge_or_mark any_order l 0 2 0
+    → drop (length out) (merge_or_mark any_order (out ++ l) (length out + 0) (length out + 2) 0) ≡ merge_or_mark any_order l 0 2 0
 nothing_before any_order [] l h = refl
 nothing_before any_order (g ∷ out) l h = absurd (omega arith)
 
 -- the rest of the input, once its first glyph has left
 pub rest_merged : (any_order : Bool) (out l l2 : List hb_glyph_info_t) → 0 < length l → length out ≡ 0
-    → l2 ≡ drop (length out) (merge_or_mark any_order (out ++ l) 0 2 0)
+    → l2 ≡ drop (length out) (merge_or_mark any_order (out ++ l) (length out + 0) (length out + 2) 0)
     → drop 1 l2 ≡ drop 1 (merge_or_mark any_order (get_or l 0 zero_glyph ∷ drop 1 l) 0 2 0)
 rest_merged any_order out l l2 h none e =
     ap (drop 1) (e ∙ nothing_before any_order out l none)

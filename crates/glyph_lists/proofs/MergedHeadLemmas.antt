@@ -1,5 +1,5 @@
 -- The head of the input after a merge of its first glyphs that changes no glyph behind them.
-use Rattle.std.proofs.Common.{[], ◌≡◌, ℕ, ◌+◌, ◌-◌, ◌<◌, ◌≤◌, inl, inr, Bool, true, false, List, ◌++◌, length, get_or, take}
+use Rattle.std.proofs.Common.{[], ◌≡◌, ℕ, ◌+◌, ◌-◌, ◌<◌, ◌≤◌, inl, inr, Bool, false, List, ◌++◌, length, get_or, take}
 use Rattle.std.proofs.Common.{drop, min, refl, sym, ap, ◌∙◌, arith, length-append, subst}
 use Rattle.std.proofs.lemmas.Bool.{cases_lt}
 use Rattle.std.proofs.lemmas.List.{get_or-append_right}
@@ -13,7 +13,7 @@ use Rattle.glyph_lists.proofs.ClustersLemmas.{length_clusters-append, get_or-clu
 use Rattle.glyph_lists.proofs.ClustersLemmas.{range_least_last}
 use Rattle.glyph_lists.proofs.RunsLemmas.{run_start_here, run_start_none, run_end_here, run_end_none}
 use Rattle.glyph_lists.proofs.RunsLemmas.{widened_start_plain, widened_start_run, widened_end_plain, widened_end_run}
-use Rattle.glyph_lists.proofs.MergesLemmas.{run_merge_short, with_cluster-same}
+use Rattle.glyph_lists.proofs.MergesLemmas.{with_cluster-same}
 use Rattle.glyph_lists.proofs.RunMergeLemmas.{run_merge_from}
 use Rattle.glyph_lists.proofs.SidesLemmas.{range_in_out, range_in_input, merge_or_mark_merges, merge_or_mark_short}
 
@@ -21,11 +21,8 @@ use Rattle.glyph_lists.proofs.SidesLemmas.{range_in_out, range_in_input, merge_o
 
 short_merged : (any_order : Bool) (n : ℕ) (out input : List hb_glyph_info_t) → n < 2 → n ≤ length input
     → front_merged any_order n out input ≡ out ++ input
-short_merged true n out input short within =
-    merge_or_mark_short true (out ++ input) (length out) (length out + n) 0 refl (omega arith)
-short_merged false n out input short within =
-    merge_or_mark_merges false (out ++ input) (length out) (length out + n) 0 refl
-    ∙ run_merge_short (out ++ input) (length out) (length out + n) 0 (omega arith)
+short_merged any_order n out input short within =
+    merge_or_mark_short any_order (out ++ input) (length out) (length out + n) 0 (omega arith)
     (omega (arith, length-append out input))
 
 pub short_leaves : (any_order : Bool) (n : ℕ) (out input : List hb_glyph_info_t) → n < 2 → n ≤ length input

@@ -1,14 +1,16 @@
 -- The run merge of a range as a body makes it: from the least cluster and the widened range, and of two glyphs.
-use Rattle.std.proofs.Common.{◌≡◌, ℕ, ◌+◌, ◌-◌, ◌<◌, ◌≤◌, List, get_or, min, sym, ap, ◌∙◌, arith, length}
-use Rattle.std.proofs.lemmas.Bool.{cond-false, lt-leb}
+use Rattle.std.proofs.Common.{◌≡◌, ℕ, ◌+◌, ◌-◌, ◌<◌, ◌≤◌, List, get_or, set, min, inl, inr, refl, sym, ap, ◌∙◌, arith, length, length-append}
+use Rattle.std.proofs.lemmas.Bool.{cases_lt, cond-false, lt-leb}
 use Rattle.rb_glyph.specs.declared.info.hb_glyph_info_t.{hb_glyph_info_t}
 use Rattle.glyph_lists.specs.Parts.{map_range}
 use Rattle.glyph_lists.specs.Clusters.{clusters, with_cluster, run_merge, run_start, run_end}
 use Rattle.glyph_lists.specs.Clusters.{range_least, widened_start, widened_end, zero_glyph}
-use Rattle.glyph_lists.proofs.PartsLemmas.{map_range_none, map_range_after_first, map_range_to_last}
+use Rattle.glyph_lists.specs.PairChange.{moved_to}
+use Rattle.glyph_lists.proofs.PartsLemmas.{map_range_none, map_range_front, map_range_after_first, map_range_to_last}
 use Rattle.glyph_lists.proofs.ClustersLemmas.{length-clusters, get_or-clusters, range_least_one, range_least_more}
 use Rattle.glyph_lists.proofs.RunsLemmas.{widened_start-le, widened_end-ge, widened_start_plain, widened_start_run}
-use Rattle.glyph_lists.proofs.RunsLemmas.{widened_end_plain, widened_end_run}
+use Rattle.glyph_lists.proofs.RunsLemmas.{widened_end_plain, widened_end_run, run_end_here, run_end_none}
+use Rattle.glyph_lists.proofs.RunsLemmas.{run_start_here, run_start_none, run_start_more, run_start-le, run_end_more, run_end-ge}
 use Rattle.glyph_lists.proofs.MergesLemmas.{with_cluster-same}
 
 -- ---- the parts of `run_merge`, as a body finds them
@@ -118,4 +120,76 @@ run_merge_level l p floor x in_l ex ey =
     (sym (widened_start_plain cs p (p + 2) floor (sym ex ∙ least)))
     (sym (widened_end_plain cs p (p + 2) (ap (λ k. get_or cs k 0) place ∙ sym ey ∙ least)))
 
-pub ruleset merges_of_two = (run_merge_rising, run_merge_falling, run_merge_level)
+-- ---- one of the two, where no run of it goes on
+
+one_mapped : (f : hb_glyph_info_t → hb_glyph_info_t) (l : List hb_glyph_info_t) (k : ℕ) → k < length l
+    → map_range f l k (k + 1) ≡ set l k (f (get_or l k zero_glyph))
+one_mapped f l k in_l =
+    sym (ap (λ xs. set xs k (f (get_or l k zero_glyph))) (sym (map_range_none f l (k + 1)))
+    ∙ map_range_front f l k (k + 1) (f (get_or l k zero_glyph)) zero_glyph (omega arith) in_l refl)
+
+pub run_merge_second : (l : List hb_glyph_info_t) (p floor x y : ℕ) → p + 2 ≤ length l → x ≡ get_or (clusters l) p 0
+    → y ≡ get_or (clusters l) (p + 1) 0 → x < y → (p + 2 < length l → get_or (clusters l) (p + 2) 0 ≡ y → ⊥)
+    → run_merge l p (p + 2) floor ≡ moved_to x (p + 1) l
+run_merge_second l p floor x y in_l ex ey up alone =
+    let cs = clusters l in
+    let n = length-clusters l in
+    let e : p + 2 ≡ p + 1 + 1 = omega arith in
+    let end : p + 2 ≡ run_end cs y (p + 2) = elim (cases_lt (p + 2) (length l)) [
+      | inl lt ↦ sym (run_end_here cs y (p + 2) (omega (arith, n, lt)) (alone lt))
+      | inr ge ↦ sym (run_end_none cs y (p + 2) (omega (arith, n, ge)))
+    ] in
+    sym (run_merge_rising l p floor x y (p + 2) in_l ex ey up end)
+    ∙ ap (map_range (with_cluster x 0) l (p + 1)) e ∙ one_mapped (with_cluster x 0) l (p + 1) (omega arith)
+
+pub run_merge_first : (l : List hb_glyph_info_t) (p floor x y : ℕ) → p + 2 ≤ length l → x ≡ get_or (clusters l) p 0
+    → y ≡ get_or (clusters l) (p + 1) 0 → y < x → (floor < p → get_or (clusters l) (p - 1) 0 ≡ x → ⊥)
+    → run_merge l p (p + 2) floor ≡ moved_to y p l
+run_merge_first l p floor x y in_l ex ey down alone =
+    let cs = clusters l in
+    let n = length-clusters l in
+    let start : p ≡ run_start cs x floor p = elim (cases_lt floor p) [
+      | inl lt ↦ sym (run_start_here cs x floor p lt (omega (arith, n, in_l)) (alone lt))
+      | inr ge ↦ sym (run_start_none cs x floor p ge)
+    ] in
+    sym (run_merge_falling l p floor x y p in_l ex ey down start) ∙ one_mapped (with_cluster y 0) l p (omega arith)
+
+-- ---- one of the two, whose run goes on: the widened range has a third glyph
+
+pair_least : (cs : List ℕ) (p q : ℕ) → q ≡ p + 2 → q ≤ length cs
+    → range_least cs p q ≡ min (get_or cs p 0) (get_or cs (q - 1) 0)
+pair_least cs p q pair in_cs =
+    let last : p + 1 ≡ q - 1 = omega (arith, pair) in
+    ap (range_least cs p) pair ∙ two_least cs p (omega (arith, pair, in_cs))
+    ∙ ap (λ k. min (get_or cs p 0) (get_or cs k 0)) last
+
+pub widened_by_second : (cs : List ℕ) (p q floor x y : ℕ) → q ≡ p + 2 → q < length cs → x ≡ get_or cs p 0
+    → y ≡ get_or cs (q - 1) 0 → x < y → get_or cs q 0 ≡ y → widened_start cs p q floor + 2 < widened_end cs p q
+widened_by_second cs p q floor x y pair in_cs ex ey up on =
+    let off : get_or cs (q - 1) 0 ≡ range_least cs p q → ⊥ =
+    λ h. omega (arith, h, ex, ey, up, pair_least cs p q pair (omega (arith, in_cs))) in
+    let end = widened_end_run cs p q off ∙ ap (λ k. run_end cs k q) (sym ey) in
+    omega (
+      arith,
+      end,
+      run_end_more cs y q in_cs on,
+      run_end-ge cs y (q + 1),
+      widened_start-le cs p q floor,
+    )
+
+pub widened_by_first : (cs : List ℕ) (p q floor x y : ℕ) → q ≡ p + 2 → q ≤ length cs → x ≡ get_or cs p 0
+    → y ≡ get_or cs (q - 1) 0 → y < x → floor < p → get_or cs (p - 1) 0 ≡ x
+    → widened_start cs p q floor + 2 < widened_end cs p q
+widened_by_first cs p q floor x y pair in_cs ex ey down above on =
+    let off : get_or cs p 0 ≡ range_least cs p q → ⊥ =
+    λ h. omega (arith, h, ex, ey, down, pair_least cs p q pair in_cs) in
+    let start = widened_start_run cs p q floor off ∙ ap (λ k. run_start cs k floor p) (sym ex) in
+    omega (
+      arith,
+      start,
+      run_start_more cs x floor p above (omega arith) on,
+      run_start-le cs x floor (p - 1),
+      widened_end-ge cs p q,
+    )
+
+pub ruleset merges_of_two = (run_merge_second, run_merge_first, run_merge_level, length-append)

@@ -4,10 +4,11 @@ use Rattle.std.proofs.Common.{take, drop, length, length-append, length-drop, le
 use Rattle.std.proofs.Common.{append_assoc}
 use Rattle.std.specs.List.{prefix_len, suffix_len}
 use Rattle.std.proofs.lemmas.Bool.{cond_both, cases_lt}
-use Rattle.std.proofs.lemmas.List.{append-nil, length-map, drop_all, take_all, take_rest, take_at, drop_at}
+use Rattle.std.proofs.lemmas.List.{append-nil, drop-drop, length-map, drop_all, take_all, take_rest, take_at, drop_at}
 use Rattle.std.proofs.lemmas.List.{take-append-le, drop-append-le}
 use Rattle.std.proofs.Math.Seq.{take-append-add, drop-append-add}
 use Rattle.std.specs.Prelude.{slice_index}
+use borrow.Rule.Slice.PartMut.{put_mid}
 use Rattle.rb_glyph.specs.declared.info.hb_glyph_info_t.{hb_glyph_info_t}
 use Rattle.glyph_lists.specs.Parts.{part, on_part}
 use Rattle.glyph_lists.specs.Clusters.{clusters, least}
@@ -74,6 +75,14 @@ module _ {X : Type 0} (xs : List X) (p : ℕ) where
       ∙ append-nil (take start xs ++ g (part xs start (length xs)))
       ∙ ap (λ ys. take start xs ++ g ys) slice_end
       ∙ ap (λ ys. ys ++ g (drop p xs)) before_slice
+
+-- a slice that was written
+written : {X : Type 0} (g : List X → List X) (xs : List X) (a b : ℕ) → a ≤ b
+    → put_mid a (b - a) xs (g (part xs a b)) ≡ on_part g xs a b
+written g xs a b up =
+    let e : a + (b - a) ≡ b = omega arith in
+    sym (append_assoc (take a xs) (g (part xs a b)) (drop (b - a) (drop a xs)))
+    ∙ ap (λ ys. take a xs ++ g (part xs a b) ++ ys) (drop-drop (b - a) a xs ∙ ap (λ k. drop k xs) e)
 
 -- ---- two parts
 
@@ -167,27 +176,35 @@ module _ (any_order : Bool) (bits : ℕ) where
     scanned_input = cut_input out (take p out ++ scanned_part in_out)
         (on_part scanned_part rest (p - length out) (q - length out)) _ as_long two_sides
 
-    -- the two slices that a scan changes, m being the least cluster of both
-    module _ (seam from to m : ℕ) (es : seam ≡ min p (length out)) (ef : from ≡ p - length out)
-        (et : to ≡ q - length out) (em : m ≡ scan_least any_order (part out seam (length out)) (part rest from to)) where
+    -- the two slices that a scan writes
+    module _ (seam from to : ℕ) (es : seam ≡ min p (length out)) (ef : from ≡ p - length out) (et : to ≡ q - length out)
+        (ys : List hb_glyph_info_t) where
+      abbrev m : ℕ
+      m = scan_least any_order (part out seam (length out)) (part rest from to)
+
       least_is : m ≡ scan_least any_order in_out in_rest
       least_is =
-          em ∙ ap (λ k. scan_least any_order (part out k (length out)) (part rest from to)) es
+          ap (λ k. scan_least any_order (part out k (length out)) (part rest from to)) es
           ∙ ap (λ xs. scan_least any_order xs (part rest from to)) (slice_end out p)
           ∙ ap (λ k. scan_least any_order in_out (part rest k to)) ef
           ∙ ap (λ k. scan_least any_order in_out (part rest (p - length out) k)) et
 
-      pub slice_scanned_out : on_part (part_scan any_order bits m) out seam (length out)
+      pub slice_scanned_out : ys ≡ part_scan any_order bits m (part out seam (length out))
+          → put_mid seam (length out - seam) out ys
           ≡ take (length out) (on_part (two_part_scan any_order bits (length out - p)) (out ++ rest) p q)
-      slice_scanned_out =
-          ap (λ k. on_part (part_scan any_order bits m) out k (length out)) es
+      slice_scanned_out e =
+          ap (put_mid seam (length out - seam) out) e
+          ∙ written (part_scan any_order bits m) out seam (length out) (omega arith)
+          ∙ ap (λ k. on_part (part_scan any_order bits m) out k (length out)) es
           ∙ on_slice_end out p (part_scan any_order bits m)
           ∙ ap (λ k. take p out ++ part_scan any_order bits k in_out) least_is ∙ scanned_out
 
-      pub slice_scanned_input : on_part (part_scan any_order bits m) rest from to
+      pub slice_scanned_input : ys ≡ part_scan any_order bits m (part rest from to)
+          → put_mid from (to - from) rest ys
           ≡ drop (length out) (on_part (two_part_scan any_order bits (length out - p)) (out ++ rest) p q)
-      slice_scanned_input =
-          ap (λ k. on_part (part_scan any_order bits m) rest k to) ef
+      slice_scanned_input e =
+          ap (put_mid from (to - from) rest) e ∙ written (part_scan any_order bits m) rest from to (omega arith)
+          ∙ ap (λ k. on_part (part_scan any_order bits m) rest k to) ef
           ∙ ap (λ k. on_part (part_scan any_order bits m) rest (p - length out) k) et
           ∙ ap (λ k. on_part (part_scan any_order bits k) rest (p - length out) (q - length out)) least_is
           ∙ scanned_input

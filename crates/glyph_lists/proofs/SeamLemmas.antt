@@ -187,41 +187,33 @@ module _ (xs ys : List hb_glyph_info_t) (apart : NoRunCrosses (clusters xs) (clu
   n = length xs
 
   -- a range in the second list
-  pub run_merge_right : n ≤ p → q ≤ n + length ys → run_merge (xs ++ ys) p q floor
-      ≡ xs ++ run_merge ys (p - n) (q - n) (floor - n)
+  pub run_merge_right : q ≤ length ys → run_merge (xs ++ ys) (n + p) (n + q) floor ≡ xs ++ run_merge ys p q (floor - n)
   unfolding run_merge
-  run_merge_right past within =
+  run_merge_right within =
       let cs = clusters xs in
       let ds = clusters ys in
       let len : length cs ≡ n = length-clusters xs in
       let len2 = length-clusters ys in
-      let a = p - n in
-      let b = q - n in
-      let ea : n + a ≡ p = omega arith in
-      let eb : n + b ≡ q = omega arith in
-      let M : List ℕ → ℕ → ℕ → List hb_glyph_info_t =
-      λ zs i j. map_range (with_cluster (range_least zs i j) 0) (xs ++ ys) (widened_start zs i j floor)
-      (widened_end zs i j) in
-      let m = range_least ds a b in
-      let A = widened_start ds a b (floor - n) in
-      let B = widened_end ds a b in
-      let f = with_cluster m 0 in
-      let up : A ≤ B = omega (arith, widened_start-le ds a b (floor - n), widened_end-ge ds a b) in
+      let M : List ℕ → List hb_glyph_info_t = λ zs. map_range (with_cluster (range_least zs (n + p) (n + q)) 0) (xs ++ ys)
+      (widened_start zs (n + p) (n + q) floor) (widened_end zs (n + p) (n + q)) in
+      let A = widened_start ds p q (floor - n) in
+      let B = widened_end ds p q in
+      let f = with_cluster (range_least ds p q) 0 in
+      let up : A ≤ B = omega (arith, widened_start-le ds p q (floor - n), widened_end-ge ds p q) in
       let za : n + A - n ≡ A = omega arith in
       let zb : n + B - n ≡ B = omega arith in
-      cond-false _ _ _ (lt-leb q p some)
-      ∙ ap (λ zs. M zs p q) (clusters-append xs ys)
-      ∙ ap (λ i. M (cs ++ ds) i q) (sym ea) ∙ ap (M (cs ++ ds) (n + a)) (sym eb)
-      ∙ ap (λ k. map_range (with_cluster k 0) (xs ++ ys) (widened_start (cs ++ ds) (n + a) (n + b) floor)
-      (widened_end (cs ++ ds) (n + a) (n + b))) (least_in_right cs ds apart n len a b)
-      ∙ ap (λ k. map_range f (xs ++ ys) k (widened_end (cs ++ ds) (n + a) (n + b)))
-      (widened_start_right cs ds apart n len a b floor (omega arith) (omega arith))
-      ∙ ap (map_range f (xs ++ ys) (n + A)) (widened_end_right cs ds apart n len a b (omega arith) (omega arith))
+      cond-false _ _ _ (lt-leb (n + q) (n + p) (omega arith))
+      ∙ ap M (clusters-append xs ys)
+      ∙ ap (λ k. map_range (with_cluster k 0) (xs ++ ys) (widened_start (cs ++ ds) (n + p) (n + q) floor)
+      (widened_end (cs ++ ds) (n + p) (n + q))) (least_in_right cs ds apart n len p q)
+      ∙ ap (λ k. map_range f (xs ++ ys) k (widened_end (cs ++ ds) (n + p) (n + q)))
+      (widened_start_right cs ds apart n len p q floor some (omega arith))
+      ∙ ap (map_range f (xs ++ ys) (n + A)) (widened_end_right cs ds apart n len p q some (omega arith))
       ∙ map_range-append f xs ys (n + A) (n + B) (omega arith)
       ∙ ap (λ zs. zs ++ map_range f ys (n + A - n) (n + B - n))
       (map_range_past f xs (n + A) (n + B) (omega arith) (omega arith))
       ∙ ap (λ k. xs ++ map_range f ys k (n + B - n)) za ∙ ap (λ k. xs ++ map_range f ys A k) zb
-      ∙ ap (λ zs. xs ++ zs) (sym (cond-false _ _ _ (lt-leb b a (omega arith))))
+      ∙ ap (λ zs. xs ++ zs) (sym (cond-false _ _ _ (lt-leb q p some)))
 
   -- a range in the first list
   pub run_merge_left : q ≤ n → run_merge (xs ++ ys) p q floor ≡ run_merge xs p q floor ++ ys

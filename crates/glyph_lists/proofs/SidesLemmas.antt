@@ -1,8 +1,8 @@
 -- Two lists as one, the one behind the other.
 use Rattle.std.proofs.Common.{◌≡◌, ℕ, ◌+◌, ◌-◌, ◌≤◌, List, ◌++◌, length, take, drop, min, refl, sym, ap, ◌∙◌, arith}
-use Rattle.std.proofs.Common.{append_assoc, Bool, true, false, inl, inr}
+use Rattle.std.proofs.Common.{append_assoc, Bool, true, false}
 use Rattle.std.proofs.lemmas.List.{drop-drop}
-use Rattle.std.proofs.lemmas.Bool.{cond-true, cond-false, lt-ltb, le-ltb, cases_lt}
+use Rattle.std.proofs.lemmas.Bool.{cond-true, cond-false, lt-ltb, le-ltb}
 use Rattle.std.proofs.Math.Seq.{take-append_seam, drop-append_seam, take-append-add, drop-append-add, take-add}
 use Rattle.glyph_lists.specs.Parts.{map_range, on_part, part}
 use Rattle.rb_glyph.specs.declared.info.hb_glyph_info_t.{hb_glyph_info_t}
@@ -12,6 +12,7 @@ use Rattle.glyph_lists.specs.Deletion.{merge_or_mark}
 use Rattle.glyph_lists.specs.declared.glyph_flags.TheConstants.{BREAK_BITS}
 use Rattle.glyph_lists.proofs.PartsLemmas.{map_range-append, map_range_none, map_range_past, map_range_cut}
 use Rattle.glyph_lists.proofs.PartsLemmas.{length-map_range}
+use Rattle.glyph_lists.proofs.MergesLemmas.{run_merge_short}
 
 -- a range that ends past the list, or at its end
 pub range_cut : {X : Type 0} (f : X → X) (xs : List X) (a b n : ℕ) → length xs ≡ n → a ≤ b → a ≤ n
@@ -55,11 +56,11 @@ unfolding merge_or_mark
 merge_or_mark_merges true l p q floor e = cc
 merge_or_mark_merges false l p q floor e = refl
 
-pub merge_or_mark_short : (any_order : Bool) (l : List hb_glyph_info_t) (p q floor : ℕ) → any_order ≡ true → q ≤ p + 1
-    → merge_or_mark any_order l p q floor ≡ l
+pub merge_or_mark_short : (any_order : Bool) (l : List hb_glyph_info_t) (p q floor : ℕ) → q ≤ p + 1
+    → q ≤ length l → merge_or_mark any_order l p q floor ≡ l
 unfolding merge_or_mark
-merge_or_mark_short true l p q floor e h = cond-true _ _ _ (lt-ltb (q - p) 2 (omega arith))
-merge_or_mark_short false l p q floor e h = cc
+merge_or_mark_short true l p q floor h in_l = cond-true _ _ _ (lt-ltb (q - p) 2 (omega arith))
+merge_or_mark_short false l p q floor h in_l = run_merge_short l p q floor h in_l
 
 pub merge_or_mark_marks : (any_order : Bool) (l : List hb_glyph_info_t) (p q floor : ℕ) → any_order ≡ true → p + 2 ≤ q
     → merge_or_mark any_order l p q floor ≡ on_part (mark BREAK_BITS) l p q
@@ -90,20 +91,6 @@ on_part-past g xs ys p q h up =
     ∙ ap (λ zs. zs ++ drop (q - n) ys) (append_assoc xs (take (p - n) ys) (g (part ys (p - n) (q - n))))
     ∙ append_assoc xs (take (p - n) ys ++ g (part ys (p - n) (q - n))) (drop (q - n) ys)
 
--- a range of the second list is marked there alone
-pub merge_or_mark_past : (any_order : Bool) (xs ys : List hb_glyph_info_t) (p q floor : ℕ) → any_order ≡ true
-    → length xs ≤ p → p ≤ q → merge_or_mark any_order (xs ++ ys) p q floor
-    ≡ xs ++ merge_or_mark true ys (p - length xs) (q - length xs) 0
-merge_or_mark_past any_order xs ys p q floor is h up =
-    let n = length xs in
-    elim (cases_lt (q - p) 2) [
-      | inl lt ↦ merge_or_mark_short any_order (xs ++ ys) p q floor is (omega arith)
-          ∙ ap (λ zs. xs ++ zs) (sym (merge_or_mark_short true ys (p - n) (q - n) 0 refl (omega arith)))
-      | inr ge ↦ merge_or_mark_marks any_order (xs ++ ys) p q floor is (omega arith)
-          ∙ on_part-past (mark BREAK_BITS) xs ys p q h up
-          ∙ ap (λ zs. xs ++ zs) (sym (merge_or_mark_marks true ys (p - n) (q - n) 0 refl (omega arith)))
-    ]
-
 pub on_part-at : {X : Type 0} (g : List X → List X) (l : List X) (i c d : ℕ) → c ≤ d
     → on_part g l (i + c) (i + d) ≡ take i l ++ on_part g (drop i l) c d
 on_part-at g l i c d up =
@@ -115,12 +102,22 @@ on_part-at g l i c d up =
     ∙ ap (λ zs. zs ++ drop d (drop i l)) (append_assoc (take i l) (take c (drop i l)) (g (part (drop i l) c d)))
     ∙ append_assoc (take i l) (take c (drop i l) ++ g (part (drop i l) c d)) (drop d (drop i l))
 
+-- a range of the second list is marked there alone
+pub merge_or_mark_past : (any_order : Bool) (xs ys : List hb_glyph_info_t) (a b floor : ℕ) → any_order ≡ true
+    → a + 2 ≤ b → merge_or_mark any_order (xs ++ ys) (length xs + a) (length xs + b) floor
+    ≡ xs ++ on_part (mark BREAK_BITS) ys a b
+merge_or_mark_past any_order xs ys a b floor e h =
+    merge_or_mark_marks any_order (xs ++ ys) (length xs + a) (length xs + b) floor e (omega arith)
+    ∙ on_part-at (mark BREAK_BITS) (xs ++ ys) (length xs) a b (omega arith)
+    ∙ ap (λ zs. zs ++ on_part (mark BREAK_BITS) (drop (length xs) (xs ++ ys)) a b) (take-append_seam xs ys)
+    ∙ ap (λ zs. xs ++ on_part (mark BREAK_BITS) zs a b) (drop-append_seam xs ys)
+
 pub ruleset sides = (range_cut, range_in_out, range_in_input, map_range_none, map_range_past)
 
-pub ruleset marks = (
+pub ruleset merges = (
   merge_or_mark_merges,
-  merge_or_mark_short,
   merge_or_mark_marks,
+  merge_or_mark_short,
   merge_or_mark_past,
   take-append_seam,
   drop-append_seam,

@@ -1,5 +1,6 @@
 pub mod Parts
 pub mod Clusters
+pub mod ClusterOrder
 pub mod PairChange
 pub mod Marks
 pub mod Scans

@@ -2,12 +2,14 @@
 
 ghost use Rattle.std.specs.Prelude.{◌≡◌, ◌<◌, ◌≤◌, ◌==◌, ◌&&◌, length, drop};
 ghost use Rattle.std.specs.Prelude.{slice_index_or};
+ghost use Rattle.glyph_lists.specs.ClusterOrder.{is_any};
 ghost use Rattle.glyph_lists.specs.Clusters.{clusters, run_start, zero_glyph};
 ghost use Rattle.glyph_lists.specs.Deletion.{begins_with, is_not_empty, last_cluster, has_neighbour_in, lowers_run};
 ghost use Rattle.glyph_lists.specs.Deletion.{merges_next, with_trailing_run, deletion};
 
+use crate::cluster_order::ClusterOrder;
 use crate::clusters::set_range;
-use crate::merging::merge_or_mark;
+use crate::merging::merge_input;
 use rb_glyph::hb_glyph_info_t;
 
 /// Whether the first glyph is in the cluster.
@@ -93,29 +95,29 @@ pub fn set_trailing_run(out: &mut [hb_glyph_info_t], cluster: u32, mask: u32)
 /// Keeps the cluster of the first glyph of the input, which then leaves it: what stands there afterwards is left open.
 #[inline(always)]
 #[tactic(auto, using(crate::proofs::DeletionCases::kept))]
-pub fn delete_head(out: &mut [hb_glyph_info_t], input: &mut [hb_glyph_info_t], any_order: bool)
+pub fn delete_head(out: &mut [hb_glyph_info_t], input: &mut [hb_glyph_info_t], order: ClusterOrder)
     requires { 0 < length input.old }
-    ensures out { out.new ≡ (deletion any_order
+    ensures out { out.new ≡ (deletion (is_any order)
         out.old (slice_index_or input.old 0 zero_glyph) (drop 1 input.old)).out }
-    ensures rest { drop 1 input.new ≡ (deletion any_order
+    ensures rest { drop 1 input.new ≡ (deletion (is_any order)
         out.old (slice_index_or input.old 0 zero_glyph) (drop 1 input.old)).rest }
 {
     // A glyph before it whose cluster is no higher is what most deletions find, and nothing changes then.
     if !out.is_empty() && out[out.len() - 1].cluster <= input[0].cluster {
         return;
     }
-    keep_cluster(out, input, any_order);
+    keep_cluster(out, input, order);
 }
 
 /// Keeps the cluster of the first glyph of the input as `delete_head` does, whatever stands before it. It stands out of
 /// line, as most deletions need no more than one test.
 #[inline(never)]
 #[tactic(auto, using(crate::proofs::DeletionCases::cases))]
-fn keep_cluster(out: &mut [hb_glyph_info_t], input: &mut [hb_glyph_info_t], any_order: bool)
+fn keep_cluster(out: &mut [hb_glyph_info_t], input: &mut [hb_glyph_info_t], order: ClusterOrder)
     requires { 0 < length input.old }
-    ensures out { out.new ≡ (deletion any_order
+    ensures out { out.new ≡ (deletion (is_any order)
         out.old (slice_index_or input.old 0 zero_glyph) (drop 1 input.old)).out }
-    ensures rest { drop 1 input.new ≡ (deletion any_order
+    ensures rest { drop 1 input.new ≡ (deletion (is_any order)
         out.old (slice_index_or input.old 0 zero_glyph) (drop 1 input.old)).rest }
 {
     let head = input[0];
@@ -124,6 +126,6 @@ fn keep_cluster(out: &mut [hb_glyph_info_t], input: &mut [hb_glyph_info_t], any_
         return;
     }
     if merges_next(out, input) {
-        merge_or_mark(out, input, 0, 2, 0, any_order);
+        merge_input(out, input, 0, 2, order);
     }
 }

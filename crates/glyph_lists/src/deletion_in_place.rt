@@ -2,9 +2,11 @@
 
 ghost use Rattle.std.specs.Prelude.{◌≡◌, ◌+◌, ◌++◌, ◌≤◌, ◌<◌, ◌&&◌, Bool, length, take, drop};
 ghost use Rattle.rb_glyph.specs.declared.info.hb_glyph_info_t.{hb_glyph_info_t};
+ghost use Rattle.glyph_lists.specs.ClusterOrder.{is_any};
 ghost use Rattle.glyph_lists.specs.DeletingWalk.{sides_at, deletion_merges, after_deletion, left_by_walk, kept_beside};
 ghost use Rattle.glyph_lists.specs.DeletingWalk.{walk_merges};
 
+use crate::cluster_order::ClusterOrder;
 use crate::deletion::{delete_head, merges_next};
 use rb_glyph::{GlyphPosition, hb_glyph_info_t};
 
@@ -16,7 +18,7 @@ use rb_glyph::{GlyphPosition, hb_glyph_info_t};
 pub fn delete_in_place<F: Fn(&hb_glyph_info_t) -> bool>(
     info: &mut [hb_glyph_info_t],
     pos: &mut [GlyphPosition],
-    any_order: bool,
+    order: ClusterOrder,
     deletes: &F,
 ) -> (usize, bool)
     requires callable { F.IsAlwaysCallable deletes.now }
@@ -25,21 +27,21 @@ pub fn delete_in_place<F: Fn(&hb_glyph_info_t) -> bool>(
     ensures pos_len { length pos.new ≡ length pos.old }
     ensures info { (test : hb_glyph_info_t → Bool)
         → ((x : _) (r : _) → F.post deletes.now x r → r ≡ test x.now)
-        → take result.0 info.new ≡ left_by_walk any_order test info.old }
+        → take result.0 info.new ≡ left_by_walk (is_any order) test info.old }
     ensures pos { (test : hb_glyph_info_t → Bool)
         → ((x : _) (r : _) → F.post deletes.now x r → r ≡ test x.now)
         → length pos.old ≡ length info.old
-        → take result.0 pos.new ≡ kept_beside any_order test (sides_at 0 0 info.old) pos.old }
+        → take result.0 pos.new ≡ kept_beside (is_any order) test (sides_at 0 0 info.old) pos.old }
     ensures merges { (test : hb_glyph_info_t → Bool)
         → ((x : _) (r : _) → F.post deletes.now x r → r ≡ test x.now)
-        → result.1 ≡ (any_order && walk_merges any_order test (length info.old)
+        → result.1 ≡ (is_any order && walk_merges (is_any order) test (length info.old)
         (sides_at 0 0 info.old)) }
 {
     let mut kept = 0;
     let mut merges = false;
     for at in 0..info.len() {
         if deletes(&info[at]) {
-            merges |= delete_at(info, kept, at, any_order);
+            merges |= delete_at(info, kept, at, order);
         } else {
             keep_at(info, kept, at);
             keep_at(pos, kept, at);
@@ -53,18 +55,18 @@ pub fn delete_in_place<F: Fn(&hb_glyph_info_t) -> bool>(
 /// one, where merges mark.
 #[inline]
 #[tactic(auto, using(crate::proofs::DeletingWalkLemmas::deleted_in_place))]
-fn delete_at(info: &mut [hb_glyph_info_t], kept: usize, at: usize, any_order: bool) -> bool
+fn delete_at(info: &mut [hb_glyph_info_t], kept: usize, at: usize, order: ClusterOrder) -> bool
     requires order { kept ≤ at }
     requires within { at < length info.old }
     ensures sides { sides_at kept (at + 1) info.new
-        ≡ after_deletion any_order (sides_at kept at info.old) }
-    ensures merges { result ≡ (any_order && deletion_merges (sides_at kept at info.old)) }
+        ≡ after_deletion (is_any order) (sides_at kept at info.old) }
+    ensures merges { result ≡ (is_any order && deletion_merges (sides_at kept at info.old)) }
     ensures len { length info.new ≡ length info.old }
 {
     let (front, rest) = info.split_at_mut(at);
     let out = &mut front[..kept];
-    let merges = any_order && merges_next(out, rest);
-    delete_head(out, rest, any_order);
+    let merges = order.is_any() && merges_next(out, rest);
+    delete_head(out, rest, order);
     merges
 }
 

@@ -7,11 +7,13 @@
 ghost use Rattle.std.specs.Prelude.{◌≡◌, ◌+◌, ◌-◌, ◌<◌, ◌≤◌, ◌==◌, ◌++◌, not, length, take, drop, map};
 ghost use Rattle.std.specs.Prelude.{slice_index, if◌then◌else◌};
 ghost use Rattle.std.specs.List.{prefix_len, suffix_len};
-ghost use Rattle.glyph_lists.specs.Parts.{on_part, map_range};
+ghost use Rattle.glyph_lists.specs.Parts.{map_range};
+ghost use Rattle.glyph_lists.specs.ClusterOrder.{is_any};
 ghost use Rattle.glyph_lists.specs.Clusters.{clusters, least};
 ghost use Rattle.glyph_lists.specs.Marks.{with_glyph_flags, mark, mark_others, mark_part, ends, ends_least};
-ghost use Rattle.glyph_lists.specs.Scans.{scan_of, part_scan, scan_least, two_part_scan};
+ghost use Rattle.glyph_lists.specs.Scans.{scan_of, part_scan, scan_least};
 
+use crate::cluster_order::ClusterOrder;
 use rb_glyph::{glyph_flag, hb_glyph_info_t};
 
 /// What `unsafe_to_break` adds, and a merge in any order of clusters: what is unsafe to break is unsafe to concatenate.
@@ -225,100 +227,54 @@ fn mark_outside_least(info: &mut [hb_glyph_info_t], bits: u32)
 /// Scans one list.
 #[inline]
 #[tactic(auto, unfolding(crate::specs::Scans::scan_of, crate::specs::Marks::end_mark))]
-fn scan_list(info: &mut [hb_glyph_info_t], bits: u32, any_order: bool)
-    ensures { info.new ≡ scan_of any_order bits info.old }
+pub fn scan_slice(info: &mut [hb_glyph_info_t], bits: u32, order: ClusterOrder)
+    ensures { info.new ≡ scan_of (is_any order) bits info.old }
 {
-    if any_order {
-        mark_outside_least(info, bits);
-    } else {
-        let least = least_end(info);
-        mark_part(info, bits, least);
+    match order {
+        ClusterOrder::Any => mark_outside_least(info, bits),
+        ClusterOrder::Monotone => {
+            let least = least_end(info);
+            mark_part(info, bits, least);
+        }
     }
-}
-
-/// Scans the glyphs from `start` to `end` of one list.
-#[inline]
-pub fn scan_slice(
-    info: &mut [hb_glyph_info_t],
-    start: usize,
-    end: usize,
-    bits: u32,
-    any_order: bool,
-)
-    requires order { start ≤ end }
-    requires within { end ≤ length info.old }
-    ensures { info.new ≡ on_part (scan_of any_order bits) info.old start end }
-{
-    scan_list(&mut info[start..end], bits, any_order);
 }
 
 /// Scans one part, by the least cluster of all parts.
 #[inline]
-fn scan_part(info: &mut [hb_glyph_info_t], bits: u32, least: u32, any_order: bool)
-    ensures { info.new ≡ part_scan any_order bits least info.old }
+fn scan_part(info: &mut [hb_glyph_info_t], bits: u32, least: u32, order: ClusterOrder)
+    ensures { info.new ≡ part_scan (is_any order) bits least info.old }
 {
-    if any_order {
-        mark_others(info, bits, least);
-    } else {
-        mark_part(info, bits, least);
+    match order {
+        ClusterOrder::Any => mark_others(info, bits, least),
+        ClusterOrder::Monotone => mark_part(info, bits, least),
     }
-}
-
-/// Scans the part from `start` to `end`, by the least cluster of all parts.
-#[inline]
-fn scan_part_slice(
-    info: &mut [hb_glyph_info_t],
-    start: usize,
-    end: usize,
-    bits: u32,
-    least: u32,
-    any_order: bool,
-)
-    requires order { start ≤ end }
-    requires within { end ≤ length info.old }
-    ensures { info.new ≡ on_part (part_scan any_order bits least) info.old start end }
-{
-    scan_part(&mut info[start..end], bits, least, any_order);
 }
 
 /// The least cluster that a scan of two parts goes by.
 #[inline]
-fn least_for_scan(out: &[hb_glyph_info_t], input: &[hb_glyph_info_t], any_order: bool) -> u32
-    ensures { result ≡ scan_least any_order out.now input.now }
+fn least_for_scan(first: &[hb_glyph_info_t], second: &[hb_glyph_info_t], order: ClusterOrder) -> u32
+    ensures { result ≡ scan_least (is_any order) first.now second.now }
 {
-    if any_order {
-        least_of_both(out, input)
-    } else {
-        least_of_ends(out, input)
+    match order {
+        ClusterOrder::Any => least_of_both(first, second),
+        ClusterOrder::Monotone => least_of_ends(first, second),
     }
 }
 
-/// Scans the glyphs from `start` to `end` of the two sides as one list, `out` first, where `end` is not within `out`.
-/// What lies on either side is a part of its own.
-#[tactic(auto, using(crate::proofs::ScansLemmas::slices_scanned))]
-pub(crate) fn scan_two_parts(
-    out: &mut [hb_glyph_info_t],
-    input: &mut [hb_glyph_info_t],
-    start: usize,
-    end: usize,
+/// Scans two parts, by the least cluster of both.
+#[inline]
+pub(crate) fn scan_parts(
+    first: &mut [hb_glyph_info_t],
+    second: &mut [hb_glyph_info_t],
     bits: u32,
-    any_order: bool,
+    order: ClusterOrder,
 )
-    requires past_out { length out.old ≤ end }
-    requires order { start ≤ end }
-    requires within { end ≤ length out.old + length input.old }
-    ensures out { out.new ≡ take (length out.old)
-        (on_part (two_part_scan any_order bits (length out.old - start))
-        (out.old ++ input.old) start end) }
-    ensures input { input.new ≡ drop (length out.old)
-        (on_part (two_part_scan any_order bits (length out.old - start))
-        (out.old ++ input.old) start end) }
+    ensures first { first.new ≡ part_scan (is_any order) bits
+        (scan_least (is_any order) first.old second.old) first.old }
+    ensures second { second.new ≡ part_scan (is_any order) bits
+        (scan_least (is_any order) first.old second.old) second.old }
 {
-    let len = out.len();
-    let seam = start.min(len);
-    let from = start.saturating_sub(len);
-    let to = end - len;
-    let least = least_for_scan(&out[seam..], &input[from..to], any_order);
-    scan_part_slice(out, seam, len, bits, least, any_order);
-    scan_part_slice(input, from, to, bits, least, any_order);
+    let least = least_for_scan(first, second, order);
+    scan_part(first, bits, least, order);
+    scan_part(second, bits, least, order);
 }

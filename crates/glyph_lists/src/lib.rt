@@ -5,6 +5,7 @@
 #![tactic(auto)]
 
 pub mod cluster_numbers;
+pub mod cluster_order;
 pub mod cluster_reads;
 pub mod clusters;
 pub mod context;

@@ -4,7 +4,8 @@ ghost use Rattle.std.specs.Prelude.{◌≡◌, ◌+◌, ◌-◌, ◌*◌, ◌^�
 ghost use Rattle.glyph_lists.specs.ClusterReads.{both_clusters, SameLists};
 ghost use Rattle.glyph_lists.specs.Clusters.{range_least, run_start, run_end, widened_start, widened_end};
 ghost use Rattle.glyph_lists.specs.Clusters.{run_merge};
-ghost use Rattle.glyph_lists.specs.PairChange.{pair_changed, changed_len, IsPairRange};
+ghost use Rattle.glyph_lists.specs.PairChange.{pair_changed};
+ghost use Rattle.glyph_lists.specs.declared.merge_range.PairChange.TheVariants.{Run};
 
 use crate::cluster_reads::ClusterReads;
 
@@ -67,8 +68,8 @@ fn run_end_after(reads: &mut ClusterReads, cluster: u32, start: usize) -> usize
 }
 
 /// The least cluster of the range from `start` to `end` of two lists as one, and the range widened through the runs at
-/// its ends: its start, not below `floor`, and its end, which is not in it. It reads no more than twice as many
-/// clusters as the widened range has, and four.
+/// its ends: its start, not below `floor`, and its end, which is not in it. It reads no more clusters than the widened
+/// range has, and two.
 #[inline(always)]
 #[tactic(auto, using(crate::proofs::RunsLemmas::widenings))]
 pub fn merge_range(
@@ -87,7 +88,7 @@ pub fn merge_range(
     ensures above { end ≤ result.2 }
     ensures range_within { result.2 ≤ length reads.old.out + length reads.old.input }
     ensures same { SameLists reads.old reads.new }
-    ensures cost { reads.new.reads ≤ 2 * (result.2 - result.1) + 4 }
+    ensures cost { reads.new.reads ≤ result.2 - result.1 + 2 }
 {
     let first = reads.cluster(start);
     let last = reads.cluster(end - 1);
@@ -110,20 +111,21 @@ pub fn merge_range(
     (least, from, to)
 }
 
-/// What a merge of two glyphs changes: the run of the one in the higher cluster, which goes to the lower one.
+/// What a merge of two glyphs changes.
 #[derive(Clone, Copy, PartialEq, Eq, Debug)]
 pub enum PairChange {
-    /// They share a cluster.
+    /// Nothing: they share a cluster.
     Nothing,
-    /// The second goes to this cluster, and its run up to its end, which is not in it.
-    Second(u32, usize),
-    /// The first goes to this cluster, and its run from its start on.
-    First(u32, usize),
+    /// The second alone goes to this cluster.
+    Second(u32),
+    /// The first alone goes to this cluster.
+    First(u32),
+    /// A run of several goes to the cluster of the other glyph.
+    Run,
 }
 
-/// What a merge of the two glyphs from `start` to `end` changes. The run of the first begins at `floor` or after it. The
-/// run of the glyph in the lower cluster stays, and is not walked: it reads no more than twice as many clusters as change,
-/// and four.
+/// What a merge of the two glyphs from `start` to `end` changes, the range not widened below `floor`. It is a run only
+/// where the widened range has a third glyph. It reads three clusters at most.
 #[inline(always)]
 #[tactic(auto, using(crate::proofs::RunMergeLemmas::merges_of_two))]
 pub fn pair_change(reads: &mut ClusterReads, start: usize, end: usize, floor: usize) -> PairChange
@@ -131,18 +133,25 @@ pub fn pair_change(reads: &mut ClusterReads, start: usize, end: usize, floor: us
     requires pair { end ≡ start + 2 }
     requires within { end ≤ length (reads.old.out ++ reads.old.input) }
     ensures is { run_merge (reads.old.out ++ reads.old.input) start end floor
-        ≡ pair_changed result start (reads.old.out ++ reads.old.input) }
-    ensures range { IsPairRange result start (length (reads.old.out ++ reads.old.input)) }
+        ≡ pair_changed result start floor (reads.old.out ++ reads.old.input) }
+    ensures several { result ≡ Run → widened_start (both_clusters reads.old) start end floor + 2
+        < widened_end (both_clusters reads.old) start end }
     ensures same { SameLists reads.old reads.new }
-    ensures cost { reads.new.reads ≤ 2 * changed_len result start + 4 }
+    ensures cost { reads.new.reads ≤ 3 }
 {
     let first = reads.cluster(start);
-    let last = reads.cluster(end - 1);
-    if first < last {
-        return PairChange::Second(first, run_end_after(reads, last, end));
+    let second = reads.cluster(end - 1);
+    if first < second {
+        if end >= reads.len() || reads.cluster(end) != second {
+            return PairChange::Second(first);
+        }
+        return PairChange::Run;
     }
-    if last < first {
-        return PairChange::First(last, run_start_before(reads, first, floor, start));
+    if second < first {
+        if start <= floor || reads.cluster(start - 1) != first {
+            return PairChange::First(second);
+        }
+        return PairChange::Run;
     }
     PairChange::Nothing
 }

@@ -2,10 +2,12 @@
 
 ghost use Rattle.std.specs.Prelude.{◌≡◌, ◌≢◌, ◌+◌, ◌-◌, ◌<◌, ◌≤◌, ◌++◌, [], true, false, List, length, slice_index};
 ghost use Rattle.std.specs.Prelude.{slice_index_or, IfSome};
+ghost use Rattle.glyph_lists.specs.ClusterOrder.{is_any};
 ghost use Rattle.glyph_lists.specs.ClusterReads.{both_clusters, SameLists};
 ghost use Rattle.glyph_lists.specs.Clusters.{zero_glyph};
 ghost use Rattle.glyph_lists.specs.MergedHead.{LeavesHead};
 
+use crate::cluster_order::ClusterOrder;
 use crate::cluster_reads::ClusterReads;
 use crate::clusters::set_cluster;
 use rb_glyph::hb_glyph_info_t;
@@ -34,15 +36,15 @@ fn pair_keeps_head(reads: &mut ClusterReads) -> bool
 /// Whether the merge of the first `count` glyphs of the input leaves the first as it is, and all others that stay, and
 /// marks nothing. It says so of at most two glyphs.
 #[inline(always)]
-pub fn keeps_head(input: &[hb_glyph_info_t], count: usize, any_order: bool) -> bool
+pub fn keeps_head(input: &[hb_glyph_info_t], count: usize, order: ClusterOrder) -> bool
     requires { count ≤ length input.now }
     ensures { result ≡ true → (out : List hb_glyph_info_t)
-        → LeavesHead any_order count out input.now (slice_index_or input.now 0 zero_glyph) }
+        → LeavesHead (is_any order) count out input.now (slice_index_or input.now 0 zero_glyph) }
 {
     if count < 2 {
         return true;
     }
-    count == 2 && !any_order && pair_keeps_head(&mut ClusterReads::new(&[], input))
+    count == 2 && !order.is_any() && pair_keeps_head(&mut ClusterReads::new(&[], input))
 }
 
 /// Whether the merge of the two glyphs from `at` on lowers the first and no glyph before it: its cluster is the higher
@@ -72,12 +74,12 @@ pub fn lowered_head(
     out: &[hb_glyph_info_t],
     input: &[hb_glyph_info_t],
     count: usize,
-    any_order: bool,
+    order: ClusterOrder,
 ) -> Option<hb_glyph_info_t>
     requires { count ≤ length input.now }
-    ensures { IfSome result (LeavesHead any_order count out.now input.now) }
+    ensures { IfSome result (LeavesHead (is_any order) count out.now input.now) }
 {
-    if count != 2 || any_order {
+    if count != 2 || order.is_any() {
         return None;
     }
     let mut reads = ClusterReads::new(out, input);

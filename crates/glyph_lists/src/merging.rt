@@ -1,10 +1,13 @@
 //! Merges: glyphs of several clusters become one cluster, or in any order of clusters are marked instead.
 
 ghost use Rattle.std.specs.Prelude.{◌≡◌, ◌+◌, ◌<◌, ◌≤◌, ◌++◌, true, false, length, take, drop};
-ghost use Rattle.glyph_lists.specs.Clusters.{clusters, run_merge, with_cluster, NoRunCrosses};
+ghost use Rattle.glyph_lists.specs.ClusterOrder.{is_any};
+ghost use Rattle.glyph_lists.specs.Clusters.{clusters, run_merge, NoRunCrosses};
 ghost use Rattle.glyph_lists.specs.Deletion.{merge_or_mark};
-ghost use Rattle.glyph_lists.specs.Parts.{map_range};
+ghost use Rattle.glyph_lists.specs.Marks.{mark};
+ghost use Rattle.glyph_lists.specs.Parts.{on_part};
 
+use crate::cluster_order::ClusterOrder;
 use crate::cluster_reads::ClusterReads;
 use crate::clusters::{set_cluster, set_range, set_sides};
 use crate::glyph_flags::{BREAK_BITS, scan_slice};
@@ -25,20 +28,7 @@ fn merge_many(info: &mut [hb_glyph_info_t], start: usize, end: usize, floor: usi
     set_range(info, from, to, cluster, 0);
 }
 
-/// Puts the glyphs of a range, which is mostly one, into a cluster. Those that change theirs lose their glyph flags.
-#[inline(always)]
-fn set_run(info: &mut [hb_glyph_info_t], start: usize, end: usize, cluster: u32)
-    requires some { start < end }
-    requires within { end ≤ length info.old }
-    ensures { info.new ≡ map_range (with_cluster cluster 0) info.old start end }
-{
-    if end - start > 1 {
-        set_range(info, start + 1, end, cluster, 0);
-    }
-    set_cluster(&mut info[start], cluster, 0);
-}
-
-/// Merges the two glyphs from `start` on. The one that is in their least cluster stays, and so do those next to it.
+/// Merges the two glyphs from `start` on. Mostly one of them changes, and no other glyph.
 #[inline(always)]
 fn merge_two(info: &mut [hb_glyph_info_t], start: usize, floor: usize)
     requires within { start + 2 ≤ length info.old }
@@ -48,58 +38,66 @@ fn merge_two(info: &mut [hb_glyph_info_t], start: usize, floor: usize)
     let mut reads = ClusterReads::new(&[], whole);
     match pair_change(&mut reads, start, start + 2, floor) {
         PairChange::Nothing => {}
-        PairChange::Second(cluster, to) => set_run(info, start + 1, to, cluster),
-        PairChange::First(cluster, from) => set_run(info, from, start + 1, cluster),
+        PairChange::Second(cluster) => set_cluster(&mut info[start + 1], cluster, 0),
+        PairChange::First(cluster) => set_cluster(&mut info[start], cluster, 0),
+        PairChange::Run => merge_many(info, start, start + 2, floor),
     }
 }
 
-/// Merges the glyphs from `start` to `end` of one list, mostly two. The range is widened through the runs at its ends,
-/// its start not below `floor`.
-#[inline(always)]
-#[tactic(auto, using(crate::proofs::MergesLemmas::run_merge_short))]
-pub fn merge_slice(info: &mut [hb_glyph_info_t], start: usize, end: usize, floor: usize)
-    requires order { start ≤ end }
+/// Marks the glyphs from `start` to `end` that a merge would put into another cluster.
+#[inline(never)]
+#[tactic(auto, unfolding(crate::specs::Scans::scan_of))]
+fn mark_instead(info: &mut [hb_glyph_info_t], start: usize, end: usize)
+    requires range { start ≤ end }
     requires within { end ≤ length info.old }
-    ensures { info.new ≡ run_merge info.old start end floor }
+    ensures { info.new ≡ on_part (mark BREAK_BITS) info.old start end }
+{
+    scan_slice(&mut info[start..end], BREAK_BITS, ClusterOrder::Any);
+}
+
+/// Merges the glyphs from `start` to `end` of one list, mostly two. The range is widened through the runs at its ends,
+/// its start not below `floor`. In any order of clusters those outside the least cluster of the range get both break
+/// flags instead, and keep their clusters.
+#[inline(always)]
+#[tactic(auto, using(crate::proofs::SidesLemmas::merges))]
+pub fn merge_slice(
+    info: &mut [hb_glyph_info_t],
+    start: usize,
+    end: usize,
+    floor: usize,
+    order: ClusterOrder,
+)
+    requires range { start ≤ end }
+    requires within { end ≤ length info.old }
+    ensures { info.new ≡ merge_or_mark (is_any order) info.old start end floor }
 {
     if end - start < 2 {
         return;
     }
-    if end - start == 2 {
-        merge_two(info, start, floor);
-    } else {
-        merge_many(info, start, end, floor);
+    match order {
+        ClusterOrder::Monotone if end - start == 2 => merge_two(info, start, floor),
+        ClusterOrder::Monotone => merge_many(info, start, end, floor),
+        ClusterOrder::Any => mark_instead(info, start, end),
     }
 }
 
-/// Merges the glyphs from `start` to `end` of one list, out of line.
-#[inline(never)]
-fn merge_list(info: &mut [hb_glyph_info_t], start: usize, end: usize, floor: usize)
-    requires order { start ≤ end }
-    requires within { end ≤ length info.old }
-    ensures { info.new ≡ run_merge info.old start end floor }
-{
-    merge_slice(info, start, end, floor);
-}
-
 /// Merges the glyphs from `start` to `end` of the two sides as one list, `out` first.
+#[inline(never)]
 #[tactic(auto, using(crate::proofs::RunMergeLemmas::run_merge_from))]
-fn merge_sides(
+fn merge_across(
     out: &mut [hb_glyph_info_t],
     input: &mut [hb_glyph_info_t],
     start: usize,
     end: usize,
-    floor: usize,
 )
     requires some { start + 2 ≤ end }
     requires within { end ≤ length out.old + length input.old }
-    ensures out { out.new
-        ≡ take (length out.old) (run_merge (out.old ++ input.old) start end floor) }
+    ensures out { out.new ≡ take (length out.old) (run_merge (out.old ++ input.old) start end 0) }
     ensures input { input.new
-        ≡ drop (length out.old) (run_merge (out.old ++ input.old) start end floor) }
+        ≡ drop (length out.old) (run_merge (out.old ++ input.old) start end 0) }
 {
     let mut reads = ClusterReads::new(out, input);
-    let (cluster, from, to) = merge_range(&mut reads, start, end, floor);
+    let (cluster, from, to) = merge_range(&mut reads, start, end, 0);
     set_sides(out, input, from, to, cluster);
 }
 
@@ -111,100 +109,60 @@ fn run_crosses(out: &[hb_glyph_info_t], input: &[hb_glyph_info_t]) -> bool
     !out.is_empty() && !input.is_empty() && out[out.len() - 1].cluster == input[0].cluster
 }
 
-/// Merges as `run_merge` does, where the range begins in `out` or a run goes on from `out` into `input`.
+/// Merges the glyphs from `start` to `end` of `out`. The run of the last may go on into `input`.
 #[inline(never)]
 #[tactic(auto, using(crate::proofs::SeamLemmas::seams))]
-fn merge_across(
+pub fn merge_out(
     out: &mut [hb_glyph_info_t],
     input: &mut [hb_glyph_info_t],
     start: usize,
     end: usize,
-    floor: usize,
 )
-    requires some { start + 2 ≤ end }
-    requires within { end ≤ length out.old + length input.old }
-    ensures out { out.new
-        ≡ take (length out.old) (run_merge (out.old ++ input.old) start end floor) }
+    requires range { start ≤ end }
+    requires within { end ≤ length out.old }
+    ensures out { out.new ≡ take (length out.old) (run_merge (out.old ++ input.old) start end 0) }
     ensures input { input.new
-        ≡ drop (length out.old) (run_merge (out.old ++ input.old) start end floor) }
-{
-    if end <= out.len() && !run_crosses(out, input) {
-        merge_list(out, start, end, floor);
-    } else {
-        merge_sides(out, input, start, end, floor);
-    }
-}
-
-/// Merges the glyphs from `start` to `end` of the two sides as one list, `out` first. The range is widened through the
-/// runs at its ends, its start not below `floor`. A range on one side stays there, unless a run goes on from `out` into
-/// `input`.
-#[inline(always)]
-#[tactic(auto, using(crate::proofs::SeamLemmas::seams))]
-fn run_merge(
-    out: &mut [hb_glyph_info_t],
-    input: &mut [hb_glyph_info_t],
-    start: usize,
-    end: usize,
-    floor: usize,
-)
-    requires order { start ≤ end }
-    requires within { end ≤ length out.old + length input.old }
-    ensures out { out.new
-        ≡ take (length out.old) (run_merge (out.old ++ input.old) start end floor) }
-    ensures input { input.new
-        ≡ drop (length out.old) (run_merge (out.old ++ input.old) start end floor) }
+        ≡ drop (length out.old) (run_merge (out.old ++ input.old) start end 0) }
 {
     if end - start < 2 {
         return;
     }
-    let len = out.len();
-    if start >= len && !run_crosses(out, input) {
-        merge_list(input, start - len, end - len, floor.saturating_sub(len));
+    if run_crosses(out, input) {
+        merge_across(out, input, start, end);
     } else {
-        merge_across(out, input, start, end, floor);
+        merge_many(out, start, end, 0);
     }
 }
 
-/// Marks the glyphs from `start` to `end` of one list where they would be merged: in any order of clusters those outside
-/// the least cluster of the range get both break flags.
+/// Merges, or marks, the glyphs from `start` to `end` of `input` as `merge_slice` does. The run of the first may begin in
+/// `out`.
 #[inline(never)]
-#[tactic(auto, using(crate::proofs::SidesLemmas::marks), unfolding(crate::specs::Scans::scan_of))]
-fn mark_instead(info: &mut [hb_glyph_info_t], start: usize, end: usize)
-    requires order { start ≤ end }
-    requires within { end ≤ length info.old }
-    ensures { info.new ≡ merge_or_mark true info.old start end 0 }
-{
-    if end - start < 2 {
-        return;
-    }
-    scan_slice(info, start, end, BREAK_BITS, true);
-}
-
-/// Merges the glyphs from `start` to `end` of the two sides as one list, `out` first. In any order of clusters, where
-/// `start` is not in `out`, those outside the least cluster of the range get both break flags instead, and keep their
-/// clusters.
-#[inline(always)]
-#[tactic(auto, using(crate::proofs::SidesLemmas::marks))]
-pub fn merge_or_mark(
+#[tactic(auto, using(crate::proofs::SidesLemmas::merges, crate::proofs::SeamLemmas::seams))]
+pub fn merge_input(
     out: &mut [hb_glyph_info_t],
     input: &mut [hb_glyph_info_t],
     start: usize,
     end: usize,
-    floor: usize,
-    any_order: bool,
+    order: ClusterOrder,
 )
-    requires past_out { any_order ≡ true → length out.old ≤ start }
-    requires order { start ≤ end }
-    requires within { end ≤ length out.old + length input.old }
-    ensures out { out.new ≡ take (length out.old)
-        (merge_or_mark any_order (out.old ++ input.old) start end floor) }
-    ensures input { input.new ≡ drop (length out.old)
-        (merge_or_mark any_order (out.old ++ input.old) start end floor) }
+    requires range { start ≤ end }
+    requires within { end ≤ length input.old }
+    ensures out { out.new ≡ take (length out.old) (merge_or_mark (is_any order)
+        (out.old ++ input.old) (length out.old + start) (length out.old + end) 0) }
+    ensures input { input.new ≡ drop (length out.old) (merge_or_mark (is_any order)
+        (out.old ++ input.old) (length out.old + start) (length out.old + end) 0) }
 {
-    if any_order {
-        let len = out.len();
-        mark_instead(input, start - len, end - len);
-    } else {
-        run_merge(out, input, start, end, floor);
+    if end - start < 2 {
+        return;
+    }
+    match order {
+        ClusterOrder::Any => mark_instead(input, start, end),
+        ClusterOrder::Monotone => {
+            if run_crosses(out, input) {
+                merge_across(out, input, out.len() + start, out.len() + end);
+            } else {
+                merge_many(input, start, end, 0);
+            }
+        }
     }
 }

@@ -1,27 +1,24 @@
-//! What a call makes of a range of both sides: a merge, bits for all its glyphs, or a scan.
+//! What a call makes of the glyph flags of a range of both sides: bits for all its glyphs, or a scan.
 
 ghost use Rattle.std.specs.Prelude.{◌≡◌, ◌+◌, ◌≤◌, ◌++◌, length, take, drop};
-ghost use Rattle.glyph_lists.specs.RangeChange.{changed, MayChange};
+ghost use Rattle.glyph_lists.specs.RangeChange.{changed};
 
-use crate::glyph_flags::{mark_range, scan_two_parts};
-use crate::merging::merge_or_mark;
+use crate::cluster_order::ClusterOrder;
+use crate::glyph_flags::{mark_range, scan_parts};
 use rb_glyph::hb_glyph_info_t;
 
-/// A change of the glyphs of a range.
+/// A change of the glyph flags of a range.
 #[derive(Clone, Copy)]
 pub enum RangeChange {
-    /// They are merged, the range widened through the runs at its ends, its start not below `floor`. In any order of
-    /// clusters those outside the least cluster get both break flags instead.
-    Merge { floor: usize, any_order: bool },
-    /// Each gets the bits.
+    /// Each glyph gets the bits.
     Mark { bits: u32 },
     /// Those outside the least cluster get the bits, what lies on either side being a part of its own.
-    Scan { bits: u32, any_order: bool },
+    Scan { bits: u32, order: ClusterOrder },
 }
 
-/// Changes the glyphs from `start` to `end` of the two sides as one list, `out` first. A merge in any order of clusters
-/// requires that `start` is not in `out`, and a scan that `end` is not.
+/// Changes the glyphs from `start` to `end` of the two sides as one list, `out` first, where `end` is not within `out`.
 #[inline(always)]
+#[tactic(auto, using(crate::proofs::ScansLemmas::slices_scanned))]
 pub fn change_range(
     out: &mut [hb_glyph_info_t],
     input: &mut [hb_glyph_info_t],
@@ -29,8 +26,8 @@ pub fn change_range(
     end: usize,
     change: RangeChange,
 )
-    requires may { MayChange change (length out.old) start end }
-    requires order { start ≤ end }
+    requires past_out { length out.old ≤ end }
+    requires range { start ≤ end }
     requires within { end ≤ length out.old + length input.old }
     ensures out { out.new ≡ take (length out.old)
         (changed change (length out.old) (out.old ++ input.old) start end) }
@@ -38,12 +35,13 @@ pub fn change_range(
         (changed change (length out.old) (out.old ++ input.old) start end) }
 {
     match change {
-        RangeChange::Merge { floor, any_order } => {
-            merge_or_mark(out, input, start, end, floor, any_order);
-        }
         RangeChange::Mark { bits } => mark_range(out, input, start, end, bits),
-        RangeChange::Scan { bits, any_order } => {
-            scan_two_parts(out, input, start, end, bits, any_order);
+        RangeChange::Scan { bits, order } => {
+            let len = out.len();
+            let seam = start.min(len);
+            let from = start.saturating_sub(len);
+            let to = end - len;
+            scan_parts(&mut out[seam..len], &mut input[from..to], bits, order);
         }
     }
 }

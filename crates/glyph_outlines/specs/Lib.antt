@@ -1,5 +1,6 @@
 pub mod Glyf
 pub mod Index
+pub mod Index2
 pub mod StandardStrings
 pub mod Charset
 pub mod Operand

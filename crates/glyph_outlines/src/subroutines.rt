@@ -11,12 +11,12 @@ use crate::index::{index_count, index_item};
 pub(crate) fn subroutine(index: &[u8], number: i32) -> Option<&[u8]>
     ensures { option_copied result ≡ subroutine index.now number }
 {
-    let place = i64::from(number) + i64::from(bias(index_count(index)));
+    let place = i64::from(number) + i64::from(bias(u32::from(index_count(index))));
     index_item(index, u32::try_from(place).ok()?)
 }
 
 /// What is added to the number of a subroutine, so that small numbers reach as many as they can.
-fn bias(count: u16) -> u16
+pub(crate) fn bias(count: u32) -> u16
     ensures { result ≡ bias count }
 {
     if count < 1240 {

@@ -4,8 +4,8 @@ use Rattle.std.specs.Int.{w32, int_wrapping_add, int_wrapping_sub, int_shr}
 use Rattle.rb_glyph.specs.declared.position.GlyphPosition.{GlyphPosition}
 use Rattle.rb_glyph.specs.Fields.{with_field, field_of_signed}
 use Rattle.shaping_buffer.specs.Positions.{zero_position}
-use Rattle.font_tables.specs.declared.scale.Scale.{Scale}
 use Rattle.position_tables.specs.Values.{moved}
+use Rattle.position_tables.specs.declared.instance.Instance.{Instance}
 use Rattle.position_tables.specs.declared.pairs.PairValues.{PairValues}
 
 -- one position is changed, if there is one at the place
@@ -13,10 +13,10 @@ unfoldable pub changed_at : (GlyphPosition → GlyphPosition) → ℕ → List G
 changed_at f place ps = if nat_lt place (length ps) then slice_set ps place (f (slice_index_or ps place zero_position)) else ps
 
 -- a pair is moved: the first glyph by the first record, and the second by the second
-abbrev pub pair_moved : List ℕ → Scale → Bool → PairValues → ℕ → ℕ → List GlyphPosition → List GlyphPosition
-pair_moved base scale is_horizontal values first second ps =
-    changed_at (moved base scale is_horizontal values.second) second
-    (changed_at (moved base scale is_horizontal values.first) first ps)
+abbrev pub pair_moved : List ℕ → Instance → Bool → PairValues → ℕ → ℕ → List GlyphPosition → List GlyphPosition
+pair_moved base instance is_horizontal values first second ps =
+    changed_at (moved base instance is_horizontal values.second) second
+    (changed_at (moved base instance is_horizontal values.first) first ps)
 
 -- how many places away a glyph stands: negative before, positive behind; 0 where it is farther away than a chain reaches
 abbrev pub chain_between : ℕ → ℕ → ℤ

@@ -7,9 +7,9 @@ ghost use Rattle.glyph_positions.specs.Placing.{changed_at, pair_moved};
 
 use crate::flags::{mark_break, mark_concat};
 use crate::turn::Turn;
-use font_tables::scale::Scale;
 use glyph_layout::walk::Found;
 use glyph_layout::wanted::{Wanted, class_of};
+use position_tables::instance::Instance;
 use position_tables::pairs::{
     PairValues, classed_pair, listed_pair, pair_formats, pair_set, single_values,
 };
@@ -62,7 +62,7 @@ pub(crate) fn place_single(buffer: &mut hb_buffer_t, turn: &Turn) -> Option<usiz
         turn.place,
         &values,
         table,
-        &turn.scale,
+        &turn.instance,
         is_horizontal,
     );
     Some(turn.place.saturating_add(1))
@@ -75,14 +75,14 @@ fn move_at(
     place: usize,
     values: &ValueRecord,
     base: &[u8],
-    scale: &Scale,
+    instance: &Instance<'_>,
     is_horizontal: bool,
 )
     ensures { positions.new
-        ≡ changed_at (moved base.now scale.now is_horizontal values.now) place positions.old }
+        ≡ changed_at (moved base.now instance.now is_horizontal values.now) place positions.old }
 {
     if place < positions.len() {
-        values.move_glyph(base, scale, is_horizontal, &mut positions[place]);
+        values.move_glyph(base, instance, is_horizontal, &mut positions[place]);
     }
 }
 
@@ -102,7 +102,7 @@ pub(crate) fn place_pair(buffer: &mut hb_buffer_t, turn: &Turn) -> Option<usize>
             None
         }
         PairFound::Pair(pair) => {
-            move_pair(buffer, &pair, &turn.scale);
+            move_pair(buffer, &pair, &turn.instance);
             Some(if pair.uses_second {
                 pair.second.saturating_add(1)
             } else {
@@ -166,7 +166,7 @@ fn values_of(turn: &Turn, base: &[u8], glyphs: (u32, u32)) -> Option<PairValues>
 }
 
 /// Moves the glyphs of a pair, and marks what may not be parted any more.
-fn move_pair(buffer: &mut hb_buffer_t, pair: &Pair, scale: &Scale)
+fn move_pair(buffer: &mut hb_buffer_t, pair: &Pair, instance: &Instance<'_>)
     requires closed { buffer.old.have_output ≡ false }
     requires placed { IsSome buffer.old.positions }
     ensures closed { buffer.new.have_output ≡ false }
@@ -175,10 +175,10 @@ fn move_pair(buffer: &mut hb_buffer_t, pair: &Pair, scale: &Scale)
     ensures glyphs { reset_masks 0 buffer.new.input ≡ reset_masks 0 buffer.old.input }
 {
     let is_horizontal = buffer.direction.is_horizontal();
-    move_both(buffer.pos_mut(), pair, scale, is_horizontal);
+    move_both(buffer.pos_mut(), pair, instance, is_horizontal);
     let end = pair.second.saturating_add(1);
-    if pair.values.first.has_effect(scale, is_horizontal)
-        || pair.values.second.has_effect(scale, is_horizontal)
+    if pair.values.first.has_effect(instance, is_horizontal)
+        || pair.values.second.has_effect(instance, is_horizontal)
     {
         mark_break(buffer, pair.first, end);
     } else if pair.is_classed {
@@ -190,16 +190,21 @@ fn move_pair(buffer: &mut hb_buffer_t, pair: &Pair, scale: &Scale)
 }
 
 /// Moves the glyphs of a pair.
-fn move_both(positions: &mut [GlyphPosition], pair: &Pair, scale: &Scale, is_horizontal: bool)
+fn move_both(
+    positions: &mut [GlyphPosition],
+    pair: &Pair,
+    instance: &Instance<'_>,
+    is_horizontal: bool,
+)
     ensures { positions.new
-        ≡ pair_moved pair.now.base.now scale.now is_horizontal pair.now.values pair.now.first pair.now.second positions.old }
+        ≡ pair_moved pair.now.base.now instance.now is_horizontal pair.now.values pair.now.first pair.now.second positions.old }
 {
     move_at(
         positions,
         pair.first,
         &pair.values.first,
         pair.base,
-        scale,
+        instance,
         is_horizontal,
     );
     move_at(
@@ -207,7 +212,7 @@ fn move_both(positions: &mut [GlyphPosition], pair: &Pair, scale: &Scale, is_hor
         pair.second,
         &pair.values.second,
         pair.base,
-        scale,
+        instance,
         is_horizontal,
     );
 }

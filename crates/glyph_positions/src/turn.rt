@@ -1,17 +1,17 @@
 //! What a subtable is given at a glyph.
 
-use font_tables::scale::Scale;
 use glyph_layout::lookup_list::LookupList;
 use glyph_layout::subtable::Subtable;
 use glyph_layout::walk::Walk;
+use position_tables::instance::Instance;
 
-/// A font's lookups of `GPOS`, and the size at which it is used.
+/// A font's lookups of `GPOS`, and the size and the variations at which it is used.
 #[derive(Clone, Copy, Debug)]
 pub struct Setting<'a> {
     /// The lookups.
     pub list: &'a LookupList<'a>,
-    /// The size.
-    pub scale: Scale,
+    /// The size and the variations.
+    pub instance: Instance<'a>,
 }
 
 /// A subtable at a glyph.
@@ -21,8 +21,8 @@ pub(crate) struct Turn<'a> {
     pub subtable: Subtable<'a>,
     /// The walk over the glyphs that the lookup does not pass over.
     pub walk: Walk<'a>,
-    /// The size of the font.
-    pub scale: Scale,
+    /// The size and the variations of the font.
+    pub instance: Instance<'a>,
     /// The place of the glyph.
     pub place: usize,
     /// The glyph's coverage index.

@@ -4,6 +4,7 @@ pub mod IsStored
 pub mod LendingLists
 pub mod Lending
 -- what the public clauses name of the crates below
+pub use Rattle.glyph_lists.specs.ClusterOrder
 pub use Rattle.glyph_lists.specs.Clusters
 pub use Rattle.glyph_lists.specs.Deletion
 pub use Rattle.glyph_lists.specs.Parts

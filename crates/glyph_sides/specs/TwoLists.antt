@@ -36,7 +36,7 @@ left s = len s - s.idx
 -- than were read, and with no output open there is no out side.
 pub record IsSides (s : TwoLists) : Type 0 where
   pub cursor : s.idx ≤ len s
-  pub near : s.is_separate ≡ false → length s.out ≤ s.idx
+  pub in_place : s.is_separate ≡ false → length s.out ≤ s.idx
   pub shut : s.is_open ≡ false → (s.is_separate ≡ false) × (s.out ≡ [])
 
 -- ---- the answer of an operation
@@ -60,7 +60,7 @@ Makes after old (Err e) new = MayWant old after × (new ≡ old)
 
 -- ---- the operations
 
--- what was put out leaves the storage of the input where it has more glyphs than were read, and then stays away
+-- what was put out leaves the storage of the input where it has more glyphs than were read, and then stays separate
 abbrev pub settled : TwoLists → TwoLists
 settled s = record s { is_separate = s.is_separate || nat_lt s.idx (length s.out) }
 
@@ -109,6 +109,12 @@ place k s = length s.out + left_place k s
 -- another list in place of both sides, cut where the out side ends
 abbrev pub with_both : List hb_glyph_info_t → TwoLists → TwoLists
 with_both l s = record s { out = take (length s.out) l; input = drop (length s.out) l }
+
+-- The glyphs of the input from start to end are merged, or in any order of clusters marked. With no output open the
+-- range is not widened past the cursor.
+abbrev pub input_merged : Bool → ℕ → ℕ → TwoLists → TwoLists
+input_merged any_order start end s =
+    with_both (merge_or_mark any_order (both s) (place start s) (place end s) (if s.is_open then 0 else s.idx)) s
 
 -- the first n glyphs of the input are merged, or marked, and copies of the current glyph as it then is
 -- put out in place of them

@@ -5,6 +5,17 @@ ghost use Rattle.glyph_lists.specs.Replacement.{copies};
 
 use rb_glyph::hb_glyph_info_t;
 
+/// A glyph under another id.
+// Copied whole, and then given the id, it is written in two pieces by rustc, and by Rattle as fast as word by word.
+#[inline(always)]
+fn with_id(glyph: hb_glyph_info_t, id: u32) -> hb_glyph_info_t
+    ensures { result ≡ record glyph { glyph_id = id } }
+{
+    let mut copy = hb_glyph_info_t { ..glyph };
+    copy.glyph_id = id;
+    copy
+}
+
 /// Appends a copy of a glyph under each id, where there is room.
 #[inline(always)]
 pub(crate) fn append_copies(out: &mut Vec<hb_glyph_info_t>, glyph: hb_glyph_info_t, ids: &[u32])
@@ -13,10 +24,7 @@ pub(crate) fn append_copies(out: &mut Vec<hb_glyph_info_t>, glyph: hb_glyph_info
     ensures capacity { vec_capacity out.new ≡ vec_capacity out.old }
 {
     for id in ids {
-        out.push_reserved(hb_glyph_info_t {
-            glyph_id: *id,
-            ..glyph
-        });
+        out.push_reserved(with_id(glyph, *id));
     }
 }
 
@@ -45,9 +53,6 @@ fn fill(slots: &mut [hb_glyph_info_t], glyph: hb_glyph_info_t, ids: &[u32])
     ensures { slots.new ≡ copies glyph ids.now }
 {
     for (i, id) in ids.iter().enumerate() {
-        slots[i] = hb_glyph_info_t {
-            glyph_id: *id,
-            ..glyph
-        };
+        slots[i] = with_id(glyph, *id);
     }
 }

@@ -1,76 +1,63 @@
 //! Glyphs that give way to copies of their first one, once they are merged.
 
-ghost use Rattle.std.specs.Prelude.{◌≡◌, ◌+◌, ◌-◌, ◌<◌, ◌≤◌, ◌++◌, [], length, take, drop, vec_len, vec_capacity};
+ghost use Rattle.std.specs.Prelude.{◌≡◌, ◌+◌, ◌-◌, ◌<◌, ◌≤◌, ◌++◌, length, take, drop, vec_capacity};
 ghost use Rattle.std.specs.Prelude.{slice_index_or};
+ghost use Rattle.glyph_lists.specs.ClusterOrder.{is_any};
 ghost use Rattle.glyph_lists.specs.Clusters.{zero_glyph};
-ghost use Rattle.glyph_lists.specs.Deletion.{merge_or_mark};
+ghost use Rattle.glyph_lists.specs.MergedHead.{front_merged};
 ghost use Rattle.glyph_lists.specs.Replacement.{copies};
 
 use crate::copies::{append_copies, write_copies};
 use crate::one_slice;
-use glyph_lists::merging::merge_or_mark;
-use glyph_lists::range_change::RangeChange;
+use glyph_lists::cluster_order::ClusterOrder;
+use glyph_lists::merging::merge_input;
 use rb_glyph::hb_glyph_info_t;
+use std::ops::Range;
 
-/// Merges, or marks, the first `count` glyphs of the input, `info` from the cursor on, and puts copies of the first of
-/// them as it then stands after `out`, where there is room.
-pub(crate) fn replace_apart(
+/// Merges, or marks, the first `count` glyphs of the input, and puts copies of the first of them as it then stands after
+/// `out`, where there is room.
+pub(crate) fn append_merged(
     out: &mut Vec<hb_glyph_info_t>,
-    info: &mut Vec<hb_glyph_info_t>,
-    cursor: usize,
+    input: &mut [hb_glyph_info_t],
     count: usize,
     ids: &[u32],
-    any_order: bool,
+    order: ClusterOrder,
 )
-    requires glyph { cursor < length info.old.items }
-    requires within { count ≤ length info.old.items - cursor }
+    requires glyph { 0 < length input.old }
+    requires within { count ≤ length input.old }
     requires room { length out.old.items + length ids.now ≤ vec_capacity out.old }
-    ensures len { length info.new.items ≡ length info.old.items }
-    ensures out { let k = length out.old.items in
-        let l = merge_or_mark any_order (out.old.items ++ drop cursor info.old.items)
-        k (k + count) 0 in
-        out.new.items ≡ take k l ++ copies (slice_index_or (drop k l) 0 zero_glyph) ids.now }
-    ensures input { let k = length out.old.items in
-        let l = merge_or_mark any_order (out.old.items ++ drop cursor info.old.items)
-        k (k + count) 0 in
-        drop (cursor + count) info.new.items ≡ drop count (drop k l) }
-    ensures out_capacity { vec_capacity out.new ≡ vec_capacity out.old }
-    ensures capacity { vec_capacity info.new ≡ vec_capacity info.old }
+    ensures out { let l = front_merged (is_any order) count out.old.items input.old in
+        out.new.items ≡ take (length out.old.items) l
+        ++ copies (slice_index_or (drop (length out.old.items) l) 0 zero_glyph) ids.now }
+    ensures input { input.new ≡ drop (length out.old.items)
+        (front_merged (is_any order) count out.old.items input.old) }
+    ensures capacity { vec_capacity out.new ≡ vec_capacity out.old }
 {
-    let len = out.len();
-    merge_or_mark(out, &mut info[cursor..], len, len + count, 0, any_order);
-    let glyph = info[cursor];
-    append_copies(out, glyph, ids);
+    merge_input(out, input, 0, count, order);
+    append_copies(out, input[0], ids);
 }
 
-/// Does the same where the out side is the first `placed` glyphs of the same list, in which the copies have room.
-pub(crate) fn replace_in_place(
+/// Does the same where both sides lie in one slice, the places of `gap` between them, and the copies have room there.
+pub(crate) fn write_merged(
     info: &mut [hb_glyph_info_t],
-    placed: usize,
-    cursor: usize,
+    gap: Range<usize>,
     count: usize,
     ids: &[u32],
-    any_order: bool,
+    order: ClusterOrder,
 )
-    requires near { placed ≤ cursor }
-    requires glyph { cursor < length info.old }
-    requires within { count ≤ length info.old - cursor }
-    requires room { placed + length ids.now ≤ cursor + count }
-    ensures out { let k = placed in
-        let l = merge_or_mark any_order (take k info.old ++ drop cursor info.old)
-        k (k + count) 0 in
+    requires gap { gap.start ≤ gap.end }
+    requires glyph { gap.end < length info.old }
+    requires within { count ≤ length info.old - gap.end }
+    requires room { gap.start + length ids.now ≤ gap.end + count }
+    ensures out { let k = gap.start in
+        let l = front_merged (is_any order) count (take k info.old) (drop gap.end info.old) in
         take (k + length ids.now) info.new
         ≡ take k l ++ copies (slice_index_or (drop k l) 0 zero_glyph) ids.now }
-    ensures input { let k = placed in
-        let l = merge_or_mark any_order (take k info.old ++ drop cursor info.old)
-        k (k + count) 0 in
-        drop (cursor + count) info.new ≡ drop count (drop k l) }
+    ensures input { drop (gap.end + count) info.new ≡ drop count (drop gap.start
+        (front_merged (is_any order) count (take gap.start info.old) (drop gap.end info.old))) }
 {
-    let merge = RangeChange::Merge {
-        floor: 0,
-        any_order,
-    };
-    one_slice::change_range(info, placed, cursor, placed, placed + count, merge);
+    let (placed, cursor) = (gap.start, gap.end);
+    one_slice::merge_input(info, gap, 0, count, order);
     let glyph = info[cursor];
     write_copies(info, placed, glyph, ids);
 }

@@ -1,54 +1,91 @@
-//! Changes of a range and deletion where both sides lie in one slice: the out side is its first `out_len` glyphs, and
-//! the input what stands from the cursor on. No glyph of one side is read as one of the other.
+//! Merges, glyph flags and deletion where both sides lie in one slice: the out side before the places of `gap`, which stand
+//! free, and the input behind them. No glyph of one side is read as one of the other.
 
 ghost use Rattle.std.specs.Prelude.{◌≡◌, ◌+◌, ◌-◌, ◌<◌, ◌≤◌, ◌++◌, length, take, drop, slice_index_or};
-ghost use Rattle.glyph_lists.specs.Clusters.{zero_glyph};
-ghost use Rattle.glyph_lists.specs.Deletion.{deletion};
-ghost use Rattle.glyph_lists.specs.RangeChange.{changed, MayChange};
+ghost use Rattle.glyph_lists.specs.ClusterOrder.{is_any};
+ghost use Rattle.glyph_lists.specs.Clusters.{run_merge, zero_glyph};
+ghost use Rattle.glyph_lists.specs.Deletion.{deletion, merge_or_mark};
+ghost use Rattle.glyph_lists.specs.RangeChange.{changed};
 
-use glyph_lists::deletion;
+use glyph_lists::cluster_order::ClusterOrder;
 use glyph_lists::range_change::{self, RangeChange};
+use glyph_lists::{deletion, merging};
 use rb_glyph::hb_glyph_info_t;
+use std::ops::Range;
+
+/// Merges, or marks, the glyphs of the input from `start` to `end`, as `merging::merge_input` does.
+#[inline(always)]
+pub(crate) fn merge_input(
+    info: &mut [hb_glyph_info_t],
+    gap: Range<usize>,
+    start: usize,
+    end: usize,
+    order: ClusterOrder,
+)
+    requires gap { gap.start ≤ gap.end }
+    requires gap_within { gap.end ≤ length info.old }
+    requires range { start ≤ end }
+    requires within { end ≤ length info.old - gap.end }
+    ensures out { take gap.start info.new ≡ take gap.start (merge_or_mark (is_any order)
+        (take gap.start info.old ++ drop gap.end info.old) (gap.start + start) (gap.start + end) 0) }
+    ensures input { drop gap.end info.new ≡ drop gap.start (merge_or_mark (is_any order)
+        (take gap.start info.old ++ drop gap.end info.old) (gap.start + start) (gap.start + end) 0) }
+{
+    let (front, input) = info.split_at_mut(gap.end);
+    merging::merge_input(&mut front[..gap.start], input, start, end, order);
+}
+
+/// Merges the glyphs of the out side from `start` to `end`, as `merging::merge_out` does.
+#[inline(always)]
+pub(crate) fn merge_out(info: &mut [hb_glyph_info_t], gap: Range<usize>, start: usize, end: usize)
+    requires gap { gap.start ≤ gap.end }
+    requires gap_within { gap.end ≤ length info.old }
+    requires range { start ≤ end }
+    requires within { end ≤ gap.start }
+    ensures out { take gap.start info.new ≡ take gap.start
+        (run_merge (take gap.start info.old ++ drop gap.end info.old) start end 0) }
+    ensures input { drop gap.end info.new ≡ drop gap.start
+        (run_merge (take gap.start info.old ++ drop gap.end info.old) start end 0) }
+{
+    let (front, input) = info.split_at_mut(gap.end);
+    merging::merge_out(&mut front[..gap.start], input, start, end);
+}
 
 /// Changes the glyphs from `start` to `end` of the two sides as one list, as `range_change::change_range` does.
 #[inline(always)]
 pub(crate) fn change_range(
     info: &mut [hb_glyph_info_t],
-    out_len: usize,
-    cursor: usize,
+    gap: Range<usize>,
     start: usize,
     end: usize,
     change: RangeChange,
 )
-    requires near { out_len ≤ cursor }
-    requires cursor_within { cursor ≤ length info.old }
-    requires may { MayChange change out_len start end }
-    requires order { start ≤ end }
-    requires within { end ≤ out_len + (length info.old - cursor) }
-    ensures out { take out_len info.new ≡ take out_len
-        (changed change out_len (take out_len info.old ++ drop cursor info.old) start end) }
-    ensures input { drop cursor info.new ≡ drop out_len
-        (changed change out_len (take out_len info.old ++ drop cursor info.old) start end) }
+    requires gap { gap.start ≤ gap.end }
+    requires gap_within { gap.end ≤ length info.old }
+    requires past_out { gap.start ≤ end }
+    requires range { start ≤ end }
+    requires within { end ≤ gap.start + (length info.old - gap.end) }
+    ensures out { take gap.start info.new ≡ take gap.start
+        (changed change gap.start (take gap.start info.old ++ drop gap.end info.old) start end) }
+    ensures input { drop gap.end info.new ≡ drop gap.start
+        (changed change gap.start (take gap.start info.old ++ drop gap.end info.old) start end) }
 {
-    let (front, input) = info.split_at_mut(cursor);
-    range_change::change_range(&mut front[..out_len], input, start, end, change);
+    let (front, input) = info.split_at_mut(gap.end);
+    range_change::change_range(&mut front[..gap.start], input, start, end, change);
 }
 
-/// Keeps the cluster of the glyph at the cursor, which then leaves the input, as `deletion::delete_head` does.
+/// Keeps the cluster of the first glyph of the input, which then leaves it, as `deletion::delete_head` does.
 #[inline(always)]
-pub(crate) fn delete_head(
-    info: &mut [hb_glyph_info_t],
-    out_len: usize,
-    cursor: usize,
-    any_order: bool,
-)
-    requires near { out_len ≤ cursor }
-    requires glyph { cursor < length info.old }
-    ensures out { take out_len info.new ≡ (deletion any_order (take out_len info.old)
-        (slice_index_or (drop cursor info.old) 0 zero_glyph) (drop 1 (drop cursor info.old))).out }
-    ensures rest { drop (cursor + 1) info.new ≡ (deletion any_order (take out_len info.old)
-        (slice_index_or (drop cursor info.old) 0 zero_glyph) (drop 1 (drop cursor info.old))).rest }
+pub(crate) fn delete_head(info: &mut [hb_glyph_info_t], gap: Range<usize>, order: ClusterOrder)
+    requires gap { gap.start ≤ gap.end }
+    requires glyph { gap.end < length info.old }
+    ensures out { take gap.start info.new ≡ (deletion (is_any order) (take gap.start info.old)
+        (slice_index_or (drop gap.end info.old) 0 zero_glyph)
+        (drop 1 (drop gap.end info.old))).out }
+    ensures rest { drop (gap.end + 1) info.new ≡ (deletion (is_any order) (take gap.start info.old)
+        (slice_index_or (drop gap.end info.old) 0 zero_glyph)
+        (drop 1 (drop gap.end info.old))).rest }
 {
-    let (front, input) = info.split_at_mut(cursor);
-    deletion::delete_head(&mut front[..out_len], input, any_order);
+    let (front, input) = info.split_at_mut(gap.end);
+    deletion::delete_head(&mut front[..gap.start], input, order);
 }

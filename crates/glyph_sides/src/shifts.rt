@@ -1,6 +1,6 @@
 //! Glyphs that are moved in a list.
 
-ghost use Rattle.std.specs.Prelude.{◌≡◌, ◌+◌, ◌-◌, ◌<◌, ◌≤◌, ◌++◌, length, take, drop, vec_len, vec_capacity, slice_range, IfOk, OnErr};
+ghost use Rattle.std.specs.Prelude.{◌≡◌, ◌+◌, ◌^◌, ◌-◌, ◌<◌, ◌≤◌, ◌++◌, length, take, drop, vec_len, vec_capacity, slice_range, IfOk, OnOk, OnErr};
 
 use rb_glyph::hb_glyph_info_t;
 use std::alloc::AllocError;
@@ -26,6 +26,25 @@ pub(crate) fn put_down(info: &mut Vec<hb_glyph_info_t>, to: usize, from: usize, 
     ensures capacity { vec_capacity info.new ≡ vec_capacity info.old }
 {
     info.copy_within(from..from + count, to);
+}
+
+/// Puts the glyphs that were put out in place behind a separate output, with room for `more` behind them.
+pub(crate) fn leave(
+    out: &mut Vec<hb_glyph_info_t>,
+    placed: &[hb_glyph_info_t],
+    more: usize,
+) -> Result<(), AllocError>
+    requires fits { length placed.now + more < 2 ^ 64 }
+    ensures is { OnOk result (out.new.items ≡ out.old.items ++ placed.now) }
+    ensures room { OnOk result (length out.new.items + more ≤ vec_capacity out.new) }
+    ensures capacity { vec_capacity out.old ≤ vec_capacity out.new }
+    ensures same { OnErr result (out.new.items ≡ out.old.items) }
+    ensures wants { OnErr result
+        (vec_capacity out.old < length out.old.items + length placed.now + more) }
+{
+    out.reserve(placed.len() + more)?;
+    out.extend_from_slice(placed).unwrap();
+    Ok(())
 }
 
 /// Moves the glyphs from a place on down, over those in between.

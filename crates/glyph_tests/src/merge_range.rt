@@ -20,12 +20,14 @@ fn a_range_is_widened_through_the_runs_at_its_ends(rt: HostRuntime) {
 }
 
 #[test]
-fn of_two_glyphs_the_run_of_the_higher_one_changes(rt: HostRuntime) {
+fn of_two_glyphs_the_higher_one_changes(rt: HostRuntime) {
     let rows = [
-        (0, [4, 3, 3, 1], 0, 0, PairChange::First(3, 0)),
-        (0, [1, 2, 2, 2], 0, 0, PairChange::Second(1, 4)),
-        (2, [3, 2, 2, 1], 2, 0, PairChange::First(1, 1)),
-        (2, [3, 2, 2, 1], 2, 2, PairChange::First(1, 2)),
+        (0, [4, 3, 3, 1], 0, 0, PairChange::First(3)),
+        (0, [1, 2, 2, 2], 0, 0, PairChange::Run),
+        (0, [1, 2, 3, 3], 0, 0, PairChange::Second(1)),
+        (2, [3, 2, 2, 1], 2, 0, PairChange::Run),
+        (2, [3, 2, 2, 1], 2, 2, PairChange::First(1)),
+        (2, [0, 1, 2, 3], 2, 0, PairChange::Second(2)),
         (1, [1, 1, 2, 3], 0, 0, PairChange::Nothing),
     ];
     for (cut, clusters, start, floor, want) in rows {

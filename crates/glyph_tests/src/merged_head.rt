@@ -1,4 +1,5 @@
 use crate::lists::{glyph, glyphs};
+use glyph_lists::cluster_order::ClusterOrder::{Any, Monotone};
 use glyph_lists::merged_head::{keeps_head, lowered_head};
 
 /// The input, how many of its glyphs are merged, and whether the current glyph and what is behind them stay.
@@ -14,11 +15,11 @@ fn a_head_is_kept_where_no_glyph_that_stays_changes(rt: HostRuntime) {
         ([0, 1, 2], 3, false),
     ];
     for (input, count, kept) in rows {
-        assert!(rt; keeps_head(&glyphs(input), count, false) == kept);
+        assert!(rt; keeps_head(&glyphs(input), count, Monotone) == kept);
     }
-    assert!(rt; keeps_head(&glyphs([0, 1]), 2, false));
-    assert!(rt; !keeps_head(&glyphs([0, 1]), 2, true));
-    assert!(rt; keeps_head(&glyphs([0, 1]), 1, true));
+    assert!(rt; keeps_head(&glyphs([0, 1]), 2, Monotone));
+    assert!(rt; !keeps_head(&glyphs([0, 1]), 2, Any));
+    assert!(rt; keeps_head(&glyphs([0, 1]), 1, Any));
 }
 
 /// What was put out, the input, how many of its glyphs are merged, and the cluster of the current glyph if it alone is
@@ -34,7 +35,7 @@ fn a_head_is_lowered_where_its_run_begins_there(rt: HostRuntime) {
         ([9, 9], [2, 1, 0], 1, None),
     ];
     for (out, input, count, cluster) in rows {
-        let head = lowered_head(&glyphs(out), &glyphs(input), count, false);
+        let head = lowered_head(&glyphs(out), &glyphs(input), count, Monotone);
         assert!(rt; head.map(|head| head.cluster) == cluster);
     }
 }
@@ -42,7 +43,7 @@ fn a_head_is_lowered_where_its_run_begins_there(rt: HostRuntime) {
 #[test]
 fn a_lowered_head_loses_its_flags(rt: HostRuntime) {
     let input = [glyph(2, 15), glyph(1, 15)];
-    let head = lowered_head(&[], &input, 2, false);
+    let head = lowered_head(&[], &input, 2, Monotone);
     assert!(rt; head.map(|head| head.mask) == Some(8));
-    assert!(rt; lowered_head(&[], &input, 2, true).is_none());
+    assert!(rt; lowered_head(&[], &input, 2, Any).is_none());
 }

@@ -1,4 +1,5 @@
 use crate::lists::{assert_clusters, assert_masks, glyph};
+use glyph_lists::cluster_order::ClusterOrder;
 use glyph_lists::glyph_flags::BREAK_BITS;
 use glyph_lists::range_change::RangeChange;
 use glyph_sides::Sides;
@@ -44,7 +45,7 @@ fn close(rt: &impl Abort, sides: &mut Sides) {
     assert!(rt; sides.close().is_ok());
 }
 
-/// What was put out, what is left to read, and whether that stands apart.
+/// What was put out, what is left to read, and whether the output is separate.
 fn assert_sides(rt: &impl Abort, sides: &Sides, out: &[u32], input: &[u32], is_separate: bool) {
     assert_clusters(rt, sides.out(), out);
     assert_clusters(rt, sides.input(), input);
@@ -71,7 +72,7 @@ fn glyphs_are_put_out_in_place(rt: HostRuntime) {
 }
 
 #[test]
-fn more_than_was_read_stands_apart(rt: HostRuntime) {
+fn more_than_was_read_is_separate(rt: HostRuntime) {
     let mut sides = opened(&rt, rt.alloc(), &[0, 1, 2]);
     put(&rt, &mut sides, 7, 0);
     put(&rt, &mut sides, 8, 1);
@@ -95,10 +96,14 @@ fn glyphs_give_way_to_copies(rt: HostRuntime) {
     assert!(rt; sides.is_open());
     assert!(rt; sides.input().len() >= 2);
     assert!(rt; sides.out_len() <= 9 && sides.len() <= 9);
-    assert!(rt; sides.replace_kept(2, &[50], false, 9));
+    assert!(rt; sides.replace_kept(2, &[50], ClusterOrder::Monotone, 9));
     assert!(rt; sides.is_open());
     assert!(rt; sides.input().len() >= 2);
-    assert!(rt; sides.replace(2, &[51, 52, 53], false).is_ok());
+    assert!(rt;
+        sides
+            .replace(2, &[51, 52, 53], ClusterOrder::Monotone)
+            .is_ok()
+    );
     assert_sides(&rt, &sides, &[0, 2, 2, 2], &[5], false);
     assert!(rt; sides.out()[3].glyph_id == 53);
 }
@@ -108,28 +113,22 @@ fn both_sides_are_merged_and_marked_as_one_list(rt: HostRuntime) {
     let mut sides = opened(&rt, rt.alloc(), &[3, 9, 3, 2, 1]);
     next(&rt, &mut sides, 1);
     skip(&rt, &mut sides, 1);
-    assert!(rt; sides.out().len() + sides.input().len() >= 4);
-    let merge = RangeChange::Merge {
-        floor: 0,
-        any_order: false,
-    };
-    sides.change_range(1, 3, merge);
+    assert!(rt; sides.idx() <= 2);
+    assert!(rt; sides.len() >= 4);
+    sides.merge_input(2, 4, ClusterOrder::Monotone);
     assert_sides(&rt, &sides, &[2], &[2, 2, 1], false);
-    assert!(rt; sides.out().len() + sides.input().len() >= 4);
-    assert!(rt; sides.out().len() <= 1);
-    let mark_instead = RangeChange::Merge {
-        floor: 0,
-        any_order: true,
-    };
-    sides.change_range(2, 4, mark_instead);
+    assert!(rt; sides.idx() <= 3);
+    assert!(rt; sides.len() >= 5);
+    sides.merge_input(3, 5, ClusterOrder::Any);
     assert_masks(&rt, sides.input(), &[0, 3, 0]);
+    assert!(rt; sides.out().len() <= 2);
     assert!(rt; sides.out().len() + sides.input().len() >= 4);
     sides.change_range(0, 2, RangeChange::Mark { bits: 4 });
     assert_masks(&rt, sides.out(), &[4]);
     assert_masks(&rt, sides.input(), &[4, 3, 0]);
     assert!(rt; sides.is_open());
     assert!(rt; !sides.input().is_empty());
-    sides.delete_head(false);
+    sides.delete_head(ClusterOrder::Monotone);
     assert!(rt; sides.out_len() == 1);
     assert!(rt; sides.left() == 2);
 }
@@ -140,13 +139,13 @@ fn scans_mark_outside_the_least_cluster(rt: HostRuntime) {
     next(&rt, &mut sides, 1);
     assert!(rt; sides.len() >= 4);
     assert!(rt; sides.idx() <= 1);
-    sides.scan_input(1, 3, BREAK_BITS, false);
+    sides.scan_input(1, 3, BREAK_BITS, ClusterOrder::Monotone);
     assert_masks(&rt, sides.input(), &[0, 0, 0]);
     assert!(rt; sides.out().len() <= 4);
     assert!(rt; sides.out().len() + sides.input().len() >= 4);
     let scan = RangeChange::Scan {
         bits: BREAK_BITS,
-        any_order: false,
+        order: ClusterOrder::Monotone,
     };
     sides.change_range(0, 4, scan);
     assert_masks(&rt, sides.out(), &[3]);
@@ -191,8 +190,8 @@ fn a_list_is_cut_and_merged(rt: HostRuntime) {
     assert!(rt; sides.input().len() >= 3);
     sides.go_to(1);
     assert!(rt; !sides.is_open());
-    assert!(rt; sides.input().len() >= 3);
-    sides.merge_list(1, 3);
+    assert!(rt; sides.len() >= 3);
+    sides.merge_input(1, 3, ClusterOrder::Monotone);
     assert_clusters(&rt, sides.input(), &[3, 2, 2, 1]);
     assert!(rt; !sides.is_open());
     for glyph in sides.list_mut() {

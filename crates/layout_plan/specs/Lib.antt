@@ -5,3 +5,5 @@ pub mod Allocation
 pub mod AllocationSteps
 pub mod Plan
 pub mod Requests
+pub mod Pauses
+pub mod Stages

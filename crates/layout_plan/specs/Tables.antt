@@ -2,6 +2,7 @@
 use Rattle.std.specs.Prelude.{ℕ, List, [], Option, Some, None, ◌+◌, ◌*◌, nat_eq, nat_lt, if◌then◌else◌, option_and_then, unwrap_or}
 use Rattle.font_tables.specs.Bytes.{number_16, number_32, table_at_16, is_number}
 use Rattle.font_tables.specs.Rows.{first_below, rows_within}
+use Rattle.font_variations.specs.FeatureVariations.{substitute_of}
 
 -- the list that the offset at a place leads to, in a table of the major version 1; an empty one where there is none
 abbrev pub list_of : List ℕ → ℕ → List ℕ
@@ -33,6 +34,11 @@ feature_tag features index = if nat_lt index (record_count features 0) then reco
 -- the table of a feature
 unfoldable pub feature_table : List ℕ → ℕ → List ℕ
 feature_table features index = if nat_lt index (record_count features 0) then table_of_record features 0 index else []
+
+-- the table of a feature, or the one that a FeatureTableSubstitution table puts in its place
+unfoldable pub chosen_feature_table : List ℕ → List ℕ → ℕ → List ℕ
+chosen_feature_table features substitutions index =
+    unwrap_or (substitute_of substitutions index) (feature_table features index)
 
 -- how many lookups a feature lists
 abbrev pub feature_lookup_count : List ℕ → ℕ

@@ -1,6 +1,6 @@
 //! The features of a text, collected: HarfBuzz's `hb_ot_map_builder_t`.
 
-ghost use Rattle.std.specs.Prelude.{◌≡◌, ◌<◌, ◌≤◌, length, IfOk, IfErr};
+ghost use Rattle.std.specs.Prelude.{◌≡◌, ◌<◌, ◌≤◌, ◌++◌, ◌∷◌, [], length, IfOk, IfErr};
 
 use crate::allocation::{global_mask, planned_features};
 use crate::choice::{
@@ -34,6 +34,33 @@ impl<'a> ChosenTable<'a> {
             lists,
             script,
             system: select_language(script.table, languages),
+        }
+    }
+
+    /// The same, where these feature tables stand in the place of others: a FeatureTableSubstitution table, or an empty one.
+    pub fn with_substitutions(self, substitutions: &'a [u8]) -> Self
+        ensures { result ≡ record self.entry { lists = record self.entry.lists { substitutions = substitutions.entry } } }
+    {
+        let ChosenTable {
+            lists,
+            script,
+            system,
+        } = self;
+        let LayoutTable {
+            scripts,
+            features,
+            lookup_count,
+            ..
+        } = lists;
+        ChosenTable {
+            lists: LayoutTable {
+                scripts,
+                features,
+                lookup_count,
+                substitutions,
+            },
+            script,
+            system,
         }
     }
 
@@ -71,6 +98,7 @@ pub struct PlanBuilder<'a> {
 
 impl<'a> PlanBuilder<'a> {
     ghost use Rattle.layout_plan.specs.Plan.{IsPlan};
+    ghost use Rattle.layout_plan.specs.Pauses.{HasSamePauses};
 
     /// No features yet.
     pub fn new(alloc: Global, gsub: ChosenTable<'a>, gpos: ChosenTable<'a>) -> Self {
@@ -93,7 +121,9 @@ impl<'a> PlanBuilder<'a> {
         tag: Tag,
         flags: FeatureFlags,
         value: u32,
-    ) -> Result<(), AllocError> {
+    ) -> Result<(), AllocError>
+        ensures { HasSamePauses self.old self.new }
+    {
         if tag.is_null() {
             return Ok(());
         }
@@ -109,7 +139,9 @@ impl<'a> PlanBuilder<'a> {
     }
 
     /// Asks for a feature of every glyph, with the value 1.
-    pub fn enable_feature(&mut self, tag: Tag, flags: FeatureFlags) -> Result<(), AllocError> {
+    pub fn enable_feature(&mut self, tag: Tag, flags: FeatureFlags) -> Result<(), AllocError>
+        ensures { HasSamePauses self.old self.new }
+    {
         let flags = FeatureFlags {
             is_global: true,
             ..flags
@@ -118,13 +150,19 @@ impl<'a> PlanBuilder<'a> {
     }
 
     /// Turns a feature off for every glyph.
-    pub fn disable_feature(&mut self, tag: Tag) -> Result<(), AllocError> {
+    pub fn disable_feature(&mut self, tag: Tag) -> Result<(), AllocError>
+        ensures { HasSamePauses self.old self.new }
+    {
         self.add_feature(tag, FeatureFlags::GLOBAL, 0)
     }
 
     /// Ends a stage of substitution: lookups of features that are asked for from here on are applied after those of the features
     /// before, and after the pause.
-    pub fn add_gsub_pause(&mut self, pause: Pause) -> Result<(), AllocError> {
+    pub fn add_gsub_pause(&mut self, pause: Pause) -> Result<(), AllocError>
+        ensures pauses { IfOk result (λ _. self.new.pauses.items ≡ self.old.pauses.items ++ (pause ∷ [])) }
+        ensures requests { self.new.requests ≡ self.old.requests }
+        ensures tables { (self.new.gsub ≡ self.old.gsub) × (self.new.gpos ≡ self.old.gpos) }
+    {
         self.pauses.push(pause)?;
         Ok(())
     }

@@ -1,5 +1,8 @@
 //! Which lookups of a font are applied, in which order, and to which glyphs: HarfBuzz's `hb_ot_map_t`.
 
+ghost use Rattle.std.specs.Prelude.{◌≡◌};
+ghost use Rattle.layout_plan.specs.Stages.{lookups_of_stage, stage_start};
+
 use crate::bits::FeatureBits;
 use crate::request::FeatureFlags;
 use rb_common::Tag;
@@ -122,11 +125,49 @@ impl LayoutPlan {
         }
     }
 
+    /// The lookups of substitution that are applied in the stage of a feature; none where the plan has none with this tag.
+    pub fn stage_lookups(&self, tag: Tag) -> &[PlannedLookup] {
+        match self.feature(tag) {
+            Some(feature) => self.lookups_of_stage(feature.stage),
+            None => &[],
+        }
+    }
+
+    /// The lookups of substitution of a stage; none where the stages are not in order.
+    fn lookups_of_stage(&self, stage: usize) -> &[PlannedLookup]
+        ensures { result.now ≡ lookups_of_stage self.now.stages.items self.now.gsub_lookups.items stage }
+    {
+        let lookups = self.gsub_lookups.as_slice();
+        let start = stage_start(self.stages.as_slice(), stage);
+        let end = match self.stages.get(stage) {
+            Some(stage) => stage.end,
+            None => lookups.len(),
+        };
+        if start <= end && end <= lookups.len() {
+            &lookups[start..end]
+        } else {
+            &[]
+        }
+    }
+
     /// Whether a feature has to be made by a fallback.
     pub fn needs_fallback(&self, tag: Tag) -> bool {
         match self.feature(tag) {
             Some(feature) => feature.needs_fallback,
             None => false,
         }
+    }
+}
+
+/// The place of a stage's first lookup, in the list of all.
+fn stage_start(stages: &[Stage], stage: usize) -> usize
+    ensures { result ≡ stage_start stages.now stage }
+{
+    if stage == 0 {
+        return 0;
+    }
+    match stages.get(stage - 1) {
+        Some(before) => before.end,
+        None => 0,
     }
 }

@@ -30,6 +30,11 @@ pub struct FontLayout<'a> {
     pub gpos: &'a [u8],
     /// Its table `kern`.
     pub kern: KernLayout,
+    /// The feature tables of `GSUB` that stand in the place of others, where variations of the font choose them: a
+    /// FeatureTableSubstitution table, or an empty one.
+    pub gsub_substitutions: &'a [u8],
+    /// Those of `GPOS`.
+    pub gpos_substitutions: &'a [u8],
 }
 
 /// What a plan asks of a text.
@@ -121,8 +126,12 @@ impl ShapePlan {
         font: &FontLayout<'a>,
         text: &TextProperties,
     ) -> Result<PlanBuilder<'a>, AllocError> {
-        let gsub = ChosenTable::new(font.gsub, text.scripts, text.languages);
-        let gpos = ChosenTable::new(font.gpos, text.scripts, text.languages);
+        let gsub = ChosenTable::new(font.gsub, text.scripts, text.languages).with_substitutions(
+            font.gsub_substitutions,
+        );
+        let gpos = ChosenTable::new(font.gpos, text.scripts, text.languages).with_substitutions(
+            font.gpos_substitutions,
+        );
         let mut builder = PlanBuilder::new(alloc, gsub, gpos);
         add_first_features(&mut builder, text.direction)?;
         Ok(builder)

@@ -1,14 +1,15 @@
 //! The script list and the feature list of a table `GSUB` or `GPOS` (OpenType specification, "OpenType Layout Common Table
 //! Formats").
 
-ghost use Rattle.std.specs.Prelude.{◌≡◌, ◌<◌, ◌≤◌, ◌+◌, option_map, IfSome};
+ghost use Rattle.std.specs.Prelude.{◌≡◌, ◌<◌, ◌≤◌, ◌+◌, [], option_map, IfSome};
 ghost use Rattle.font_tables.specs.Bytes.{is_number};
 ghost use Rattle.font_tables.specs.Rows.{first_below};
 ghost use Rattle.layout_plan.specs.Tables.{list_of, lookup_count, record_count, record_tag, first_record};
-ghost use Rattle.layout_plan.specs.Tables.{table_of_record, feature_lookup_count};
+ghost use Rattle.layout_plan.specs.Tables.{table_of_record, feature_lookup_count, feature_table};
 
 use font_tables::bytes::{table_at_16, u16_at, u32_at};
 use font_tables::rows::rows_within;
+use font_variations::feature_variations::substitute_of;
 use rb_common::Tag;
 
 /// The lists of a table `GSUB` or `GPOS`, found once.
@@ -20,21 +21,26 @@ pub struct LayoutTable<'a> {
     pub features: &'a [u8],
     /// How many lookups the table declares.
     pub lookup_count: u16,
+    /// The feature tables that stand in the place of others, where variations of the font choose them: a
+    /// FeatureTableSubstitution table, or an empty one.
+    pub substitutions: &'a [u8],
 }
 
 impl<'a> LayoutTable<'a> {
-    ghost use Rattle.layout_plan.specs.Tables.{feature_tag, feature_table};
+    ghost use Rattle.layout_plan.specs.Tables.{feature_tag, chosen_feature_table};
 
     /// The lists of a table. One that is empty, or of another major version than 1, has no scripts, features and lookups.
     pub fn new(table: &'a [u8]) -> Self
         ensures scripts { result.scripts.now ≡ list_of table.now 4 }
         ensures features { result.features.now ≡ list_of table.now 6 }
         ensures lookups { result.lookup_count ≡ lookup_count table.now }
+        ensures substitutions { result.substitutions.now ≡ [] }
     {
         LayoutTable {
             scripts: list_of(table, 4),
             features: list_of(table, 6),
             lookup_count: u16_at(list_of(table, 8), 0).unwrap_or(0),
+            substitutions: &[],
         }
     }
 
@@ -51,16 +57,15 @@ impl<'a> LayoutTable<'a> {
         }
     }
 
-    /// The table of the feature with this number, which lists its lookups; an empty one where there is no such feature.
-    #[tactic(auto, unfolding(crate::specs::Tables::feature_table))]
+    /// The table of the feature with this number, which lists its lookups: the one that stands in its place, if there is one. An
+    /// empty one where there is no such feature.
+    #[tactic(auto, unfolding(crate::specs::Tables::chosen_feature_table))]
     pub fn feature_table(&self, index: u16) -> &'a [u8]
-        ensures { result.now ≡ feature_table self.now.features.now index }
+        ensures { result.now ≡ chosen_feature_table self.now.features.now self.now.substitutions.now index }
     {
-        let index = usize::from(index);
-        if index < record_count(self.features, 0) {
-            table_of_record(self.features, 0, index)
-        } else {
-            &[]
+        match substitute_of(self.substitutions, index) {
+            Some(table) => table,
+            None => feature_table(self.features, index),
         }
     }
 
@@ -139,6 +144,19 @@ pub(crate) fn table_of_record(list: &[u8], at: usize, row: usize) -> &[u8]
     ensures { result.now ≡ table_of_record list.now at row }
 {
     table_at_16(list, at + 6 + 6 * row).unwrap_or(&[])
+}
+
+/// The table of the feature with this number in a list; an empty one where there is no such feature.
+#[tactic(auto, unfolding(crate::specs::Tables::feature_table))]
+fn feature_table(features: &[u8], index: u16) -> &[u8]
+    ensures { result.now ≡ feature_table features.now index }
+{
+    let index = usize::from(index);
+    if index < record_count(features, 0) {
+        table_of_record(features, 0, index)
+    } else {
+        &[]
+    }
 }
 
 /// How many lookups the table of a feature lists.

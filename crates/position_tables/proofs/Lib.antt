@@ -1,1 +1,2 @@
+pub mod CorrectionLemmas
 pub mod SortedRowsLemmas

@@ -4,37 +4,36 @@ use Rattle.std.specs.Prelude.{if◌then◌else◌, unwrap_or, pos, option_and_th
 use Rattle.std.specs.Int.{w32, int_wrapping_add, int_wrapping_sub}
 use Rattle.font_tables.specs.Bytes.{number_16, signed_16, table_at_16}
 use Rattle.font_tables.specs.Scale.{distance}
-use Rattle.font_tables.specs.declared.scale.Scale.{Scale}
-use Rattle.position_tables.specs.Devices.{device_delta}
+use Rattle.position_tables.specs.Corrections.{x_correction, y_correction}
+use Rattle.position_tables.specs.declared.instance.Instance.{Instance}
 use Rattle.position_tables.specs.declared.anchors.Anchor.{Anchor}
 
 -- how many bytes an anchor of this format has
 abbrev pub anchor_size : ℕ → ℕ
 anchor_size format = if nat_eq format 1 then 6 else if nat_eq format 2 then 8 else 10
 
--- the correction by the device table whose offset stands at a place; only format 3 has any
-unfoldable pub anchor_delta : List ℕ → ℕ → ℕ → ℕ → ℤ → ℤ
-anchor_delta table format at ppem size =
-    if nat_eq format 3 then device_delta table (unwrap_or (number_16 table at) 0) ppem size else pos 0
+-- the offset of a device table at a place; only format 3 has any
+abbrev pub device_offset : List ℕ → ℕ → ℕ → ℕ
+device_offset table format at = if nat_eq format 3 then unwrap_or (number_16 table at) 0 else 0
 
 -- the signed number at a place, and 0 outside of the table
 unfoldable pub coordinate : List ℕ → ℕ → ℤ
 coordinate table at = unwrap_or (signed_16 table at) (pos 0)
 
 -- the anchor of a known format: two numbers of font units, and their corrections; one that is cut short is none
-abbrev pub known_anchor : List ℕ → ℕ → Scale → Option Anchor
-known_anchor table format scale =
+abbrev pub known_anchor : List ℕ → ℕ → Instance → Option Anchor
+known_anchor table format instance =
     if nat_le (anchor_size format) (length table) then Some (record {
       x = coordinate table 2;
       y = coordinate table 4;
-      x_delta = anchor_delta table format 6 scale.x_ppem scale.x;
-      y_delta = anchor_delta table format 8 scale.y_ppem scale.y;
+      x_delta = x_correction table (device_offset table format 6) instance;
+      y_delta = y_correction table (device_offset table format 8) instance;
     }) else None
 
 -- the anchor in a table; one of an unknown format is the origin
-unfoldable pub anchor : List ℕ → Scale → Option Anchor
-anchor table scale = option_and_then (λ format.
-    if nat_le 1 format && nat_le format 3 then known_anchor table format scale
+unfoldable pub anchor : List ℕ → Instance → Option Anchor
+anchor table instance = option_and_then (λ format.
+    if nat_le 1 format && nat_le format 3 then known_anchor table format instance
     else Some (record { x = pos 0; y = pos 0; x_delta = pos 0; y_delta = pos 0 })) (number_16 table 0)
 
 -- from one number of font units to another, with their corrections

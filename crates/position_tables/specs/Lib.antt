@@ -4,3 +4,5 @@ pub mod KernTable
 pub mod Pairs
 pub mod SortedRows
 pub mod Values
+pub mod Corrections
+pub mod Instance

@@ -5,9 +5,9 @@ use Rattle.std.specs.Int.{w16, w32, cast_signed, int_wrapping_add, int_wrapping_
 use Rattle.std.specs.Int.Count.{ones}
 use Rattle.font_tables.specs.Bytes.{number_16}
 use Rattle.font_tables.specs.Scale.{em_scale}
-use Rattle.font_tables.specs.declared.scale.Scale.{Scale}
 use Rattle.rb_glyph.specs.declared.position.GlyphPosition.{GlyphPosition}
-use Rattle.position_tables.specs.Devices.{device_delta}
+use Rattle.position_tables.specs.Corrections.{x_correction, y_correction}
+use Rattle.position_tables.specs.declared.instance.Instance.{Instance}
 use Rattle.position_tables.specs.declared.values.ValueRecord.{ValueRecord}
 
 -- whether a format names the field of a bit, which is a power of 2
@@ -37,7 +37,7 @@ value_record table format at =
       y_advance_device = field table format 128 at;
     }) else None
 
--- a number and its correction in pixels are added
+-- a number and its correction are added
 abbrev pub plus : ℤ → ℤ → ℤ → ℤ
 plus n length delta = int_wrapping_add w32 (int_wrapping_add w32 n length) delta
 
@@ -46,24 +46,24 @@ abbrev pub minus : ℤ → ℤ → ℤ → ℤ
 minus n length delta = int_wrapping_sub w32 (int_wrapping_sub w32 n length) delta
 
 -- a number across, and one upwards, moved by a value and its device table, whose offset is counted from the start of `base`
-unfoldable pub moved_x : List ℕ → Scale → ℤ → ℕ → ℤ → ℤ
-moved_x base scale value device n =
-    plus n (em_scale value scale.x scale.units_per_em) (device_delta base device scale.x_ppem scale.x)
+unfoldable pub moved_x : List ℕ → Instance → ℤ → ℕ → ℤ → ℤ
+moved_x base instance value device n =
+    plus n (em_scale value instance.scale.x instance.scale.units_per_em) (x_correction base device instance)
 
-unfoldable pub moved_y : List ℕ → Scale → ℤ → ℕ → ℤ → ℤ
-moved_y base scale value device n =
-    plus n (em_scale value scale.y scale.units_per_em) (device_delta base device scale.y_ppem scale.y)
+unfoldable pub moved_y : List ℕ → Instance → ℤ → ℕ → ℤ → ℤ
+moved_y base instance value device n =
+    plus n (em_scale value instance.scale.y instance.scale.units_per_em) (y_correction base device instance)
 
 -- a number that is counted downwards
-unfoldable pub moved_back : List ℕ → Scale → ℤ → ℕ → ℤ → ℤ
-moved_back base scale value device n =
-    minus n (em_scale value scale.y scale.units_per_em) (device_delta base device scale.y_ppem scale.y)
+unfoldable pub moved_back : List ℕ → Instance → ℤ → ℕ → ℤ → ℤ
+moved_back base instance value device n =
+    minus n (em_scale value instance.scale.y instance.scale.units_per_em) (y_correction base device instance)
 
 -- the position of a glyph that a record moves; of the advances only that along the line changes
-abbrev pub moved : List ℕ → Scale → Bool → ValueRecord → GlyphPosition → GlyphPosition
-moved base scale is_horizontal v p = record p {
-  x_offset = moved_x base scale v.x_placement v.x_placement_device p.x_offset;
-  y_offset = moved_y base scale v.y_placement v.y_placement_device p.y_offset;
-  x_advance = if is_horizontal then moved_x base scale v.x_advance v.x_advance_device p.x_advance else p.x_advance;
-  y_advance = if is_horizontal then p.y_advance else moved_back base scale v.y_advance v.y_advance_device p.y_advance;
+abbrev pub moved : List ℕ → Instance → Bool → ValueRecord → GlyphPosition → GlyphPosition
+moved base instance is_horizontal v p = record p {
+  x_offset = moved_x base instance v.x_placement v.x_placement_device p.x_offset;
+  y_offset = moved_y base instance v.y_placement v.y_placement_device p.y_offset;
+  x_advance = if is_horizontal then moved_x base instance v.x_advance v.x_advance_device p.x_advance else p.x_advance;
+  y_advance = if is_horizontal then p.y_advance else moved_back base instance v.y_advance v.y_advance_device p.y_advance;
 }

@@ -5,10 +5,11 @@ ghost use Rattle.std.specs.Prelude.{◌≡◌, ◌≤◌, ◌<◌, ◌+◌, ◌*
 ghost use Rattle.std.specs.Prelude.{◌-ℤ◌};
 ghost use Rattle.std.specs.Int.{w32, int_wrapping_add, int_wrapping_sub};
 ghost use Rattle.std.specs.Option.{option_copied};
-ghost use Rattle.position_tables.specs.Anchors.{anchor, known_anchor, anchor_size, anchor_delta, coordinate, between, anchor_in, mark_class, mark_anchor};
+ghost use Rattle.position_tables.specs.Anchors.{anchor, known_anchor, anchor_size, device_offset, coordinate, between, anchor_in, mark_class, mark_anchor};
 ghost use Rattle.position_tables.specs.Anchors.{ligature_matrix};
 
-use crate::devices::device_delta;
+use crate::devices::{x_correction, y_correction};
+use crate::instance::Instance;
 use font_tables::bytes::{i16_at, table_at_16, u16_at};
 use font_tables::scale::Scale;
 
@@ -19,9 +20,9 @@ pub struct Anchor {
     pub x: i16,
     /// Upwards, in font units.
     pub y: i16,
-    /// How far it is moved to the right where glyphs are drawn in pixels.
+    /// How far it is moved to the right where glyphs are drawn in pixels, or where variations are chosen.
     pub x_delta: i32,
-    /// How far it is moved upwards where glyphs are drawn in pixels.
+    /// How far it is moved upwards where glyphs are drawn in pixels, or where variations are chosen.
     pub y_delta: i32,
 }
 
@@ -29,12 +30,12 @@ impl Anchor {
     /// The anchor in a table. One of an unknown format is the origin; `None` where the table is cut short. The point of an
     /// outline that format 2 names is not used, as HarfBuzz's own functions do not know it.
     #[tactic(auto, unfolding(crate::specs::Anchors::anchor))]
-    pub fn read(table: &[u8], scale: &Scale) -> Option<Anchor>
-        ensures { result ≡ anchor table.now scale.now }
+    pub fn read(table: &[u8], instance: &Instance<'_>) -> Option<Anchor>
+        ensures { result ≡ anchor table.now instance.now }
     {
         let format = u16_at(table, 0)?;
         if 1 <= format && format <= 3 {
-            known_anchor(table, format, scale)
+            known_anchor(table, format, instance)
         } else {
             Some(Anchor {
                 x: 0,
@@ -91,8 +92,8 @@ fn moved(distance: i32, end: i32, start: i32) -> i32
 }
 
 /// The anchor of a known format.
-fn known_anchor(table: &[u8], format: u16, scale: &Scale) -> Option<Anchor>
-    ensures { result ≡ known_anchor table.now format scale.now }
+fn known_anchor(table: &[u8], format: u16, instance: &Instance<'_>) -> Option<Anchor>
+    ensures { result ≡ known_anchor table.now format instance.now }
 {
     if table.len() < anchor_size(format) {
         return None;
@@ -100,8 +101,8 @@ fn known_anchor(table: &[u8], format: u16, scale: &Scale) -> Option<Anchor>
     Some(Anchor {
         x: coordinate(table, 2),
         y: coordinate(table, 4),
-        x_delta: anchor_delta(table, format, 6, scale.x_ppem, scale.x),
-        y_delta: anchor_delta(table, format, 8, scale.y_ppem, scale.y),
+        x_delta: x_correction(table, device_offset(table, format, 6), instance),
+        y_delta: y_correction(table, device_offset(table, format, 8), instance),
     })
 }
 
@@ -124,13 +125,12 @@ fn anchor_size(format: u16) -> usize
     }
 }
 
-/// The correction by the device table whose offset stands at a place, if the format has any.
-#[tactic(auto, unfolding(crate::specs::Anchors::anchor_delta))]
-fn anchor_delta(table: &[u8], format: u16, at: usize, ppem: u16, size: i32) -> i32
-    ensures { result ≡ anchor_delta table.now format at ppem size }
+/// The offset of a device table at a place; 0 where the format has none.
+fn device_offset(table: &[u8], format: u16, at: usize) -> u16
+    ensures { result ≡ device_offset table.now format at }
 {
     if format == 3 {
-        device_delta(table, u16_at(table, at).unwrap_or(0), ppem, size)
+        u16_at(table, at).unwrap_or(0)
     } else {
         0
     }

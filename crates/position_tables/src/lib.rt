@@ -6,6 +6,7 @@
 
 pub mod anchors;
 pub mod devices;
+pub mod instance;
 pub mod kern_table;
 pub mod pairs;
 pub mod sorted_rows;

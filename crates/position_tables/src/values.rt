@@ -5,9 +5,9 @@ ghost use Rattle.std.specs.Prelude.{◌≡◌, ◌≤◌, ◌<◌, ◌+◌, ◌*
 ghost use Rattle.position_tables.specs.Values.{field, names, record_size, value_record, moved, moved_x, moved_y, moved_back};
 ghost use Rattle.position_tables.specs.Values.{plus, minus};
 
-use crate::devices::device_delta;
+use crate::devices::{x_correction, y_correction};
+use crate::instance::Instance;
 use font_tables::bytes::u16_at;
-use font_tables::scale::Scale;
 use rb_glyph::GlyphPosition;
 
 /// By how much a glyph is moved, and its advance changed, in font units. What a record does not name is 0.
@@ -56,22 +56,22 @@ impl ValueRecord {
     pub fn move_glyph(
         &self,
         base: &[u8],
-        scale: &Scale,
+        instance: &Instance<'_>,
         is_horizontal: bool,
         position: &mut GlyphPosition,
     )
-        ensures { position.new ≡ moved base.now scale.now is_horizontal self.now position.old }
+        ensures { position.new ≡ moved base.now instance.now is_horizontal self.now position.old }
     {
         let x = moved_x(
             base,
-            scale,
+            instance,
             self.x_placement,
             self.x_placement_device,
             position.x_offset,
         );
         let y = moved_y(
             base,
-            scale,
+            instance,
             self.y_placement,
             self.y_placement_device,
             position.y_offset,
@@ -81,7 +81,7 @@ impl ValueRecord {
         if is_horizontal {
             let advance = moved_x(
                 base,
-                scale,
+                instance,
                 self.x_advance,
                 self.x_advance_device,
                 position.x_advance,
@@ -90,7 +90,7 @@ impl ValueRecord {
         } else {
             let advance = moved_back(
                 base,
-                scale,
+                instance,
                 self.y_advance,
                 self.y_advance_device,
                 position.y_advance,
@@ -100,59 +100,58 @@ impl ValueRecord {
     }
 
     /// Whether the record has a number other than 0 for a horizontal or a vertical line, or the offset of a device table
-    /// where there are pixels. A pair that is moved by such a record may not be parted.
-    pub fn has_effect(&self, scale: &Scale, is_horizontal: bool) -> bool {
-        let (advance, advance_device, ppem) = if is_horizontal {
-            (self.x_advance, self.x_advance_device, scale.x_ppem)
+    /// where there are pixels or variations. A pair that is moved by such a record may not be parted.
+    pub fn has_effect(&self, instance: &Instance<'_>, is_horizontal: bool) -> bool {
+        let (x, y) = (uses_devices(instance, true), uses_devices(instance, false));
+        let (advance, advance_device, is_used) = if is_horizontal {
+            (self.x_advance, self.x_advance_device, x)
         } else {
-            (self.y_advance, self.y_advance_device, scale.y_ppem)
+            (self.y_advance, self.y_advance_device, y)
         };
         self.x_placement != 0
             || self.y_placement != 0
             || advance != 0
-            || self.x_placement_device != 0 && scale.x_ppem != 0
-            || self.y_placement_device != 0 && scale.y_ppem != 0
-            || advance_device != 0 && ppem != 0
+            || self.x_placement_device != 0 && x
+            || self.y_placement_device != 0 && y
+            || advance_device != 0 && is_used
     }
+}
+
+/// Whether device tables correct numbers across, or upwards: whether there are pixels or variations.
+fn uses_devices(instance: &Instance<'_>, is_horizontal: bool) -> bool {
+    let ppem = if is_horizontal {
+        instance.scale.x_ppem
+    } else {
+        instance.scale.y_ppem
+    };
+    ppem != 0 || instance.deltas.is_varied()
 }
 
 /// A number across, moved by a value and its device table.
 #[tactic(auto, unfolding(crate::specs::Values::moved_x))]
-fn moved_x(base: &[u8], scale: &Scale, value: i16, device: u16, number: i32) -> i32
-    ensures { result ≡ moved_x base.now scale.now value device number }
+fn moved_x(base: &[u8], instance: &Instance<'_>, value: i16, device: u16, number: i32) -> i32
+    ensures { result ≡ moved_x base.now instance.now value device number }
 {
-    let length = scale.em_scale_x(i32::from(value));
-    plus(
-        number,
-        length,
-        device_delta(base, device, scale.x_ppem, scale.x),
-    )
+    let length = instance.scale.em_scale_x(i32::from(value));
+    plus(number, length, x_correction(base, device, instance))
 }
 
 /// A number upwards, moved by a value and its device table.
 #[tactic(auto, unfolding(crate::specs::Values::moved_y))]
-fn moved_y(base: &[u8], scale: &Scale, value: i16, device: u16, number: i32) -> i32
-    ensures { result ≡ moved_y base.now scale.now value device number }
+fn moved_y(base: &[u8], instance: &Instance<'_>, value: i16, device: u16, number: i32) -> i32
+    ensures { result ≡ moved_y base.now instance.now value device number }
 {
-    let length = scale.em_scale_y(i32::from(value));
-    plus(
-        number,
-        length,
-        device_delta(base, device, scale.y_ppem, scale.y),
-    )
+    let length = instance.scale.em_scale_y(i32::from(value));
+    plus(number, length, y_correction(base, device, instance))
 }
 
 /// A number downwards, moved by a value and its device table.
 #[tactic(auto, unfolding(crate::specs::Values::moved_back))]
-fn moved_back(base: &[u8], scale: &Scale, value: i16, device: u16, number: i32) -> i32
-    ensures { result ≡ moved_back base.now scale.now value device number }
+fn moved_back(base: &[u8], instance: &Instance<'_>, value: i16, device: u16, number: i32) -> i32
+    ensures { result ≡ moved_back base.now instance.now value device number }
 {
-    let length = scale.em_scale_y(i32::from(value));
-    minus(
-        number,
-        length,
-        device_delta(base, device, scale.y_ppem, scale.y),
-    )
+    let length = instance.scale.em_scale_y(i32::from(value));
+    minus(number, length, y_correction(base, device, instance))
 }
 
 /// A number, with a length and its correction added.

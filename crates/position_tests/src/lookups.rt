@@ -6,11 +6,13 @@ ghost use Rattle.std.specs.Prelude.{◌≡◌, false, IsSome, IfOk};
 use font_tables::bytes::tail;
 use font_tables::gdef::Gdef;
 use font_tables::scale::Scale;
+use font_variations::Deltas;
 use glyph_layout::budget::Budget;
 use glyph_layout::lookup_list::LookupList;
 use glyph_layout::search::Search;
 use glyph_layout::walk::LookupOptions;
 use glyph_positions::{Setting, kern, position, position_finish_offsets, position_start};
+use position_tables::instance::Instance;
 use position_tables::kern_table::KernTable;
 use rb_common::Direction;
 use rb_glyph::GlyphPosition;
@@ -113,7 +115,10 @@ fn position_all(buffer: &mut hb_buffer_t, list: &LookupList, count: usize)
 {
     let setting = Setting {
         list: &*list,
-        scale: Scale::of_em(1000),
+        instance: Instance {
+            scale: Scale::of_em(1000),
+            deltas: Deltas::NONE,
+        },
     };
     let mut search = Search::new(Budget::new(1000, count));
     position_start(buffer);

@@ -1,6 +1,11 @@
 //! The features that the shaper of a script asks for.
 
-use crate::arabic;
+ghost use Rattle.std.specs.Prelude.{◌≡◌, ◌≢◌, ◌++◌, IfOk};
+ghost use Rattle.layout_plan.specs.Pauses.{HasSamePauses};
+ghost use Rattle.script_features.specs.Stages.{pauses_of, last_pauses_of};
+ghost use Rattle.script_shapers.specs.declared.shaper.ScriptShaper.TheVariants.{Arabic};
+
+use crate::{arabic, indic, khmer, myanmar, universal};
 use layout_plan::{FeatureFlags, PlanBuilder};
 use rb_common::{Script, Tag};
 use script_shapers::ScriptShaper;
@@ -14,28 +19,43 @@ pub fn collect_features(
     shaper: ScriptShaper,
     builder: &mut PlanBuilder,
     script: Option<Script>,
-) -> Result<(), AllocError> {
+) -> Result<(), AllocError>
+    ensures { shaper ≢ Arabic
+        → IfOk result (λ _. builder.new.pauses.items ≡ builder.old.pauses.items ++ pauses_of shaper) }
+{
     match shaper {
         ScriptShaper::Arabic => arabic::collect_features(builder, script),
-        ScriptShaper::Hangul => {
-            for name in JAMO_FEATURES {
-                builder.add_feature(Tag::from_bytes(name), FeatureFlags::NONE, 1)?;
-            }
-            Ok(())
+        ScriptShaper::Hangul => add_jamo_features(builder),
+        ScriptShaper::Indic => indic::collect_features(builder),
+        ScriptShaper::Khmer => khmer::collect_features(builder),
+        ScriptShaper::Myanmar => myanmar::collect_features(builder),
+        ScriptShaper::Universal | ScriptShaper::UniversalJoining => {
+            universal::collect_features(builder)
         }
-        ScriptShaper::Default | ScriptShaper::Hebrew | ScriptShaper::Thai => Ok(()),
+        ScriptShaper::Default | ScriptShaper::Hebrew | ScriptShaper::Thai | ScriptShaper::Zawgyi =>
+            { Ok(()) }
     }
 }
 
 /// Changes the features that were asked for, after those of the user: Hangul has no contextual alternates, since fonts have jamo
 /// there.
-pub fn override_features(
-    shaper: ScriptShaper,
-    builder: &mut PlanBuilder,
-) -> Result<(), AllocError> {
+pub fn override_features(shaper: ScriptShaper, builder: &mut PlanBuilder) -> Result<(), AllocError>
+    ensures { IfOk result (λ _. builder.new.pauses.items ≡ builder.old.pauses.items ++ last_pauses_of shaper) }
+{
     match shaper {
         ScriptShaper::Hangul => builder.disable_feature(Tag::from_bytes(b"calt")),
-        ScriptShaper::Default | ScriptShaper::Arabic | ScriptShaper::Hebrew | ScriptShaper::Thai =>
-            Ok(()),
+        ScriptShaper::Indic => indic::override_features(builder),
+        ScriptShaper::Khmer => khmer::override_features(builder),
+        _ => Ok(()),
     }
+}
+
+/// Asks for the features of jamo.
+fn add_jamo_features(builder: &mut PlanBuilder) -> Result<(), AllocError>
+    ensures { HasSamePauses builder.old builder.new }
+{
+    for name in JAMO_FEATURES {
+        builder.add_feature(Tag::from_bytes(name), FeatureFlags::NONE, 1)?;
+    }
+    Ok(())
 }

@@ -1,5 +1,8 @@
 //! What the features of a font make of a script's shaper: HarfBuzz's `data_create`.
 
+ghost use Rattle.std.specs.Prelude.{◌≡◌, ◌≢◌, true, false};
+ghost use Rattle.script_shapers.specs.declared.shaper.ScriptShaper.TheVariants.{Arabic};
+
 use crate::arabic::{FORM_FEATURES, lacks_forms};
 use crate::features::JAMO_FEATURES;
 use layout_plan::LayoutPlan;
@@ -12,7 +15,12 @@ pub fn script_plan(
     script: Option<Script>,
     layout: &LayoutPlan,
     finds_script: bool,
-) -> ScriptPlan {
+) -> ScriptPlan
+    ensures shaper { result.shaper ≡ shaper }
+    ensures pieces { shaper ≢ Arabic → result.has_stch ≡ false }
+    ensures fallback { shaper ≢ Arabic → result.does_fallback ≡ false }
+    ensures found { finds_script ≡ true → result.has_private_use ≡ false }
+{
     let is_arabic = shaper == ScriptShaper::Arabic;
     ScriptPlan {
         shaper,
@@ -23,7 +31,10 @@ pub fn script_plan(
         has_gpos_mark: layout.one_mask(Tag::from_bytes(b"mark")) != 0,
         rlig_mask: layout.one_mask(Tag::from_bytes(b"rlig")),
         masks: match shaper {
-            ScriptShaper::Arabic => masks_of(&FORM_FEATURES, layout),
+            ScriptShaper::Arabic | ScriptShaper::UniversalJoining => masks_of(
+                &FORM_FEATURES,
+                layout,
+            ),
             ScriptShaper::Hangul => masks_of(&JAMO_FEATURES, layout),
             _ => [0; 8],
         },

@@ -9,3 +9,4 @@ pub mod Hebrew
 pub mod Masks
 pub mod Moves
 pub mod Thai
+pub mod Shapers

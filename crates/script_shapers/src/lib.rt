@@ -22,3 +22,4 @@ mod moves;
 mod plan;
 mod shaper;
 mod thai;
+mod universal;

@@ -1,7 +1,19 @@
 //! The shapers of scripts, and what each does at the steps of shaping: HarfBuzz's `hb_ot_shaper_t`.
 
 ghost use Rattle.std.specs.Prelude.{◌≡◌, ◌≤◌, false, true, IfOk, IsSome};
+ghost use Rattle.std.specs.Prelude.{ℕ, None, Some, option_map, unwrap_or, if◌then◌else◌};
+ghost use Rattle.std.specs.Option.{option_or};
 ghost use Rattle.shaping_buffer.specs.KeepsClusters.{KeepsClusters};
+ghost use Rattle.rb_glyph.specs.Hangul.{HangulComposes};
+ghost use Rattle.rb_glyph.specs.Tables.{composition_of};
+ghost use Rattle.ucd_normal.specs.Composition.{composite};
+ghost use Rattle.ucd_normal.specs.Decomposition.{canonical_mapping};
+ghost use Rattle.unicode_tables.specs.Mapping.{parts_of};
+ghost use Rattle.script_shapers.specs.Hebrew.{presentation_forms};
+ghost use Rattle.script_shapers.specs.Shapers.{shaper_of, other_shaper_of, syllabic_shaper_of, is_arabic, myanmar_of, indic_of};
+ghost use Rattle.script_shapers.specs.Shapers.{universal_of, is_for_others, is_listed, indic_scripts, wanted_script, mode_of};
+ghost use Rattle.script_shapers.specs.Shapers.{width_of, has_fallback, is_canonical, is_taken_apart};
+ghost use Rattle.script_shapers.specs.declared.shaper.ScriptShaper.TheVariants.{Default, Hebrew};
 
 use crate::arabic::stretching::{record_pieces, stretch};
 use crate::font::FontGlyphs;
@@ -9,10 +21,12 @@ use crate::hangul::text::prepare;
 use crate::plan::{ScriptPlan, add_masks};
 use crate::thai::private_use::shape_private_use;
 use crate::thai::sara_am::split_all;
+use crate::universal::{is_universal, joins};
 use crate::{arabic, hebrew};
 use rb_common::{Direction, Script, Tag, script};
 use shaping_buffer::hb_buffer_t;
 use std::alloc::{AllocError, Global};
+use syllabic_shapers::{indic, khmer, part_vowels};
 
 /// The shaper of a script.
 #[derive(Clone, Copy, PartialEq, Eq, Debug)]
@@ -27,6 +41,18 @@ pub enum ScriptShaper {
     Hangul,
     /// That of Thai and Lao.
     Thai,
+    /// That of Devanagari, Bengali, Gurmukhi, Gujarati, Oriya, Tamil, Telugu, Kannada and Malayalam.
+    Indic,
+    /// That of Khmer.
+    Khmer,
+    /// That of Myanmar.
+    Myanmar,
+    /// That of scripts in syllables which have no other.
+    Universal,
+    /// The same, of scripts whose letters join.
+    UniversalJoining,
+    /// That of Burmese in the encoding Zawgyi, of which fonts do all.
+    Zawgyi,
 }
 
 use ScriptShaper::*;
@@ -38,6 +64,9 @@ pub enum NormalizationMode {
     Nothing,
     /// Marks are composed where the font does not place them, or has the composed characters.
     Auto,
+    /// Every character is taken apart as far as the font has its parts, and then marks are composed where the font has the composed
+    /// characters.
+    TakenApart,
 }
 
 /// When marks lose their width: HarfBuzz's `hb_ot_shape_zero_width_marks_type_t`.
@@ -54,71 +83,84 @@ pub enum ZeroWidthMarks {
 impl ScriptShaper {
     /// The shaper of a text in a script and a direction, where `gsub_script` is the tag by which its script was found in the font's
     /// table `GSUB`, the null tag where it was not.
-    ///
-    /// Scripts that HarfBuzz shapes by syllables, the Indic ones, Khmer, Myanmar and all that its universal shaper serves, have the
-    /// default shaper for now.
-    pub fn of(script: Option<Script>, direction: Direction, gsub_script: Tag) -> ScriptShaper {
-        let Some(script) = script else {
-            return Default;
-        };
-        let joins = script == script::ARABIC
-            || script == script::SYRIAC && gsub_script != Tag::from_bytes(b"DFLT");
-        if joins && direction.is_horizontal() {
-            Arabic
-        } else if script == script::HEBREW {
-            Hebrew
-        } else if script == script::HANGUL {
-            Hangul
-        } else if script == script::THAI || script == script::LAO {
-            Thai
-        } else {
-            Default
+    pub fn of(script: Option<Script>, direction: Direction, gsub_script: Tag) -> ScriptShaper
+        ensures { result ≡ unwrap_or (option_map (λ tag. shaper_of tag direction gsub_script.0) script) Default }
+    {
+        match script {
+            Some(script) if is_arabic(script, direction, gsub_script) => Arabic,
+            Some(script) => shaper_of(script, gsub_script),
+            None => Default,
         }
     }
 
     /// The script that the font's table `GPOS` has to have, for its lookups to be applied; `None` where any will do.
-    pub fn gpos_script(self) -> Option<Tag> {
+    pub fn gpos_script(self) -> Option<Tag>
+        ensures { option_map (λ tag. tag.0) result ≡ wanted_script self }
+    {
         match self {
             Hebrew => Some(Tag::from_bytes(b"hebr")),
-            Default | Arabic | Hangul | Thai => None,
+            _ => None,
         }
     }
 
     /// Whether characters are taken apart and composed.
-    pub fn normalization_mode(self) -> NormalizationMode {
+    pub fn normalization_mode(self) -> NormalizationMode
+        ensures { result ≡ mode_of self }
+    {
         match self {
-            Hangul => NormalizationMode::Nothing,
+            Hangul | Zawgyi => NormalizationMode::Nothing,
             Default | Arabic | Hebrew | Thai => NormalizationMode::Auto,
+            _ => NormalizationMode::TakenApart,
         }
     }
 
     /// When marks lose their width.
-    pub fn zero_width_marks(self) -> ZeroWidthMarks {
+    pub fn zero_width_marks(self) -> ZeroWidthMarks
+        ensures { result ≡ width_of self }
+    {
         match self {
-            Hangul => ZeroWidthMarks::Never,
+            Hangul | Indic | Khmer | Zawgyi => ZeroWidthMarks::Never,
+            Myanmar | Universal | UniversalJoining => ZeroWidthMarks::Early,
             Default | Arabic | Hebrew | Thai => ZeroWidthMarks::Late,
         }
     }
 
     /// Whether marks are placed by the bounds of glyphs where the font does not place them.
-    pub fn fallback_position(self) -> bool {
+    pub fn fallback_position(self) -> bool
+        ensures { result ≡ has_fallback self }
+    {
         match self {
             Default | Arabic | Hebrew => true,
-            Hangul | Thai => false,
+            _ => false,
         }
     }
 
     /// What a character and the next one compose to.
-    pub fn compose(self, a: char, b: char, has_gpos_mark: bool) -> Option<char> {
-        match unicode_tables::compose(a, b) {
-            None if self == Hebrew && !has_gpos_mark => hebrew::presentation_form(a, b),
-            composed => composed,
+    pub fn compose(self, a: char, b: char, has_gpos_mark: bool) -> Option<char>
+        ensures hangul { is_canonical self ≡ true → (s : ℕ) → HangulComposes s a b → result ≡ Some s }
+        ensures data { is_canonical self ≡ true → ((s : ℕ) → ¬ HangulComposes s a b) → result ≡ composite a b }
+        ensures hebrew { self ≡ Hebrew → ((s : ℕ) → ¬ HangulComposes s a b)
+            → result ≡ option_or (composite a b) (if has_gpos_mark then None else composition_of a b presentation_forms) }
+    {
+        match self {
+            Indic => indic::composition::compose(a, b),
+            Khmer | Universal | UniversalJoining => khmer::composition::compose(a, b),
+            Hebrew => compose_hebrew(a, b, has_gpos_mark),
+            Default | Arabic | Hangul | Thai | Myanmar | Zawgyi => unicode_tables::compose(a, b),
         }
     }
 
     /// The one or two characters that a character decomposes to.
-    pub fn decompose(self, character: char) -> Option<(char, Option<char>)> {
-        unicode_tables::decompose(character)
+    pub fn decompose(self, character: char) -> Option<(char, Option<char>)>
+        ensures hangul { is_taken_apart self ≡ true → (a b : ℕ) → HangulComposes character a b → result ≡ Some (a, Some b) }
+        ensures data { is_taken_apart self ≡ true → ((a b : ℕ) → ¬ HangulComposes character a b)
+            → result ≡ parts_of (canonical_mapping character) }
+    {
+        match self {
+            Indic => indic::composition::decompose(character),
+            Khmer => khmer::composition::decompose(character),
+            _ => unicode_tables::decompose(character),
+        }
     }
 
     /// Puts marks in another order, in a run of them that is in the order of their classes.
@@ -131,9 +173,123 @@ impl ScriptShaper {
         match self {
             Arabic => arabic::marks::reorder_marks(buffer, start, end),
             Hebrew => hebrew::reorder_marks(buffer, start, end),
-            Default | Hangul | Thai => {}
+            _ => {}
         }
     }
+}
+
+/// What a character and the next one compose to in Hebrew.
+fn compose_hebrew(a: char, b: char, has_gpos_mark: bool) -> Option<char>
+    ensures { ((s : ℕ) → ¬ HangulComposes s a b)
+        → result ≡ option_or (composite a b) (if has_gpos_mark then None else composition_of a b presentation_forms) }
+{
+    match unicode_tables::compose(a, b) {
+        None if !has_gpos_mark => hebrew::presentation_form(a, b),
+        composed => composed,
+    }
+}
+
+/// Whether the letters of a text join as those of Arabic do.
+fn is_arabic(script: Script, direction: Direction, gsub_script: Tag) -> bool
+    ensures { result ≡ is_arabic script direction gsub_script.0 }
+{
+    let joins = script == script::ARABIC
+        || script == script::SYRIAC && gsub_script != Tag::from_bytes(b"DFLT");
+    joins && direction.is_horizontal()
+}
+
+/// The shaper of a script whose letters do not join so.
+fn shaper_of(script: Script, gsub_script: Tag) -> ScriptShaper
+    ensures { result ≡ other_shaper_of script gsub_script.0 }
+{
+    if script == script::HEBREW {
+        Hebrew
+    } else if script == script::HANGUL {
+        Hangul
+    } else if script == script::THAI || script == script::LAO {
+        Thai
+    } else if is_indic(script) {
+        indic_shaper(script, gsub_script)
+    } else {
+        syllabic_shaper(script, gsub_script)
+    }
+}
+
+/// The shaper of Khmer, Myanmar and what the universal shaper serves.
+fn syllabic_shaper(script: Script, gsub_script: Tag) -> ScriptShaper
+    ensures { result ≡ syllabic_shaper_of script gsub_script.0 }
+{
+    if script == script::KHMER {
+        Khmer
+    } else if script == script::MYANMAR {
+        myanmar_shaper(gsub_script)
+    } else if script == script::MYANMAR_ZAWGYI {
+        Zawgyi
+    } else if is_universal(script) {
+        universal_shaper(script, gsub_script)
+    } else {
+        Default
+    }
+}
+
+/// The shaper of Myanmar, by the tag that the font has it under: the older one is from before syllables were shaped.
+fn myanmar_shaper(gsub_script: Tag) -> ScriptShaper
+    ensures { result ≡ myanmar_of gsub_script.0 }
+{
+    if is_for_others(gsub_script) || gsub_script == Tag::from_bytes(b"mymr") {
+        Default
+    } else {
+        Myanmar
+    }
+}
+
+/// Whether a script is one of the nine that OpenType has the Indic shaper for.
+fn is_indic(script: Script) -> bool
+    ensures { result ≡ is_listed indic_scripts script }
+{
+    matches!(
+        script,
+        script::BENGALI
+            | script::DEVANAGARI
+            | script::GUJARATI
+            | script::GURMUKHI
+            | script::KANNADA
+            | script::MALAYALAM
+            | script::ORIYA
+            | script::TAMIL
+            | script::TELUGU
+    )
+}
+
+/// The shaper of an Indic script, by the tag that the font has it under.
+fn indic_shaper(script: Script, gsub_script: Tag) -> ScriptShaper
+    ensures { result ≡ indic_of script gsub_script.0 }
+{
+    if !is_for_others(gsub_script) && gsub_script.0 % 256 != u32::from(b'3') {
+        Indic
+    } else {
+        universal_shaper(script, gsub_script)
+    }
+}
+
+/// The shaper of a script that the universal shaper serves, by the tag that the font has it under.
+fn universal_shaper(script: Script, gsub_script: Tag) -> ScriptShaper
+    ensures { result ≡ universal_of script gsub_script.0 }
+{
+    if is_for_others(gsub_script) {
+        Default
+    } else if joins(script) {
+        UniversalJoining
+    } else {
+        Universal
+    }
+}
+
+/// Whether a font was made for other scripts.
+fn is_for_others(gsub_script: Tag) -> bool
+    ensures { result ≡ is_for_others gsub_script.0 }
+{
+    gsub_script == Tag::from_bytes(b"DFLT") || gsub_script == Tag::from_bytes(b"latn")
 }
 
 impl ScriptPlan {
@@ -160,7 +316,8 @@ impl ScriptPlan {
                 }
                 Ok(true)
             }
-            Default | Arabic | Hebrew => Ok(true),
+            Indic | Universal | UniversalJoining => part_vowels(buffer),
+            _ => Ok(true),
         }
     }
 
@@ -172,12 +329,12 @@ impl ScriptPlan {
         ensures keeps { KeepsClusters buffer.old buffer.new }
     {
         match self.shaper {
-            Arabic => {
+            Arabic | UniversalJoining => {
                 self.form_letters(buffer);
                 add_masks(buffer, &self.masks);
             }
             Hangul => add_masks(buffer, &self.masks),
-            Default | Hebrew | Thai => {}
+            _ => {}
         }
     }
 

@@ -121,6 +121,36 @@ fn features_of_hangul(rt: HostRuntime) -> Result<(), Fail> {
     Ok(())
 }
 
+/// Shapers of syllables put them in order before the basic features, the universal one behind those, and forget them before the last
+/// ones, Indic scripts only behind the features of a user.
+#[test]
+fn stages_of_syllables(rt: HostRuntime) -> Result<(), Fail> {
+    let stages: [(ScriptShaper, &[u8; 4], usize); 16] = [
+        (ScriptShaper::Indic, b"locl", 1),
+        (ScriptShaper::Indic, b"nukt", 2),
+        (ScriptShaper::Indic, b"rphf", 4),
+        (ScriptShaper::Indic, b"cjct", 12),
+        (ScriptShaper::Indic, b"init", 14),
+        (ScriptShaper::Khmer, b"pref", 2),
+        (ScriptShaper::Khmer, b"pres", 3),
+        (ScriptShaper::Myanmar, b"rphf", 2),
+        (ScriptShaper::Myanmar, b"pstf", 5),
+        (ScriptShaper::Myanmar, b"pres", 7),
+        (ScriptShaper::Universal, b"akhn", 1),
+        (ScriptShaper::Universal, b"rphf", 2),
+        (ScriptShaper::Universal, b"pref", 4),
+        (ScriptShaper::Universal, b"half", 5),
+        (ScriptShaper::Universal, b"isol", 7),
+        (ScriptShaper::UniversalJoining, b"abvs", 8),
+    ];
+    for (shaper, name, stage) in stages {
+        let mut builder = builder(rt.alloc(), &[]);
+        collect_features(shaper, &mut builder, None)?;
+        assert_eq!(rt; stage_of(&builder, name), Some(stage));
+    }
+    Ok(())
+}
+
 /// A font with no forms for Arabic has the fallback, with a mask for each form of Arabic; one with a form has not, nor has Syriac.
 #[test]
 fn plans_of_arabic(rt: HostRuntime) -> Result<(), Fail> {

@@ -58,7 +58,7 @@ const FLAGS: [Flag; 18] = [
     ),
 ];
 
-const VALUES: [Value; 23] = [
+const VALUES: [Value; 24] = [
     ("font-file", "FILE", "The font"),
     (
         "face-index",
@@ -86,7 +86,12 @@ const VALUES: [Value; 23] = [
     (
         "variations",
         "LIST",
-        "Accepted for hb-shape's sake where it is empty: variable fonts are not read as such",
+        "Variations of a variable font parted by commas, as wght=500,slnt=-7.5",
+    ),
+    (
+        "named-instance",
+        "NUMBER",
+        "The named instance of a variable font [default: none]",
     ),
     (
         "direction",

@@ -17,3 +17,4 @@ pub mod run;
 pub mod shaper;
 pub mod sizes;
 pub mod text;
+pub mod variations;

@@ -2,7 +2,7 @@
 
 use crate::font_file::FontFile;
 use crate::options::{FontChoice, Options};
-use font_shaper::{Face, FaceNames};
+use font_shaper::{Face, FaceNames, Variation};
 use std::alloc::{AllocError, Global};
 
 /// A font at a size, with the names of its glyphs once they were asked for.
@@ -10,6 +10,8 @@ use std::alloc::{AllocError, Global};
 pub struct LoadedFont<'f> {
     file: &'f FontFile,
     choice: FontChoice,
+    /// The variations that are chosen.
+    variations: Vec<Variation>,
     /// The font.
     pub face: Face<'f>,
     /// The names of its glyphs, where they were asked for.
@@ -33,9 +35,11 @@ impl<'f> LoadedFont<'f> {
         if let Some((x, y)) = choice.pixels {
             face.set_pixels_per_em(x, y);
         }
+        face.set_named_instance(choice.named_instance)?;
         Ok(Some(LoadedFont {
             file,
             choice,
+            variations: Vec::new(alloc),
             face,
             names: None,
         }))
@@ -44,6 +48,22 @@ impl<'f> LoadedFont<'f> {
     /// Whether it is the font that options name, at their size.
     pub fn is_named_by(&self, options: &Options<'_>) -> bool {
         self.file.is_of(options.font_file) && self.choice == options.font
+    }
+
+    /// Chooses variations of the font, unless they are those that are chosen. Then the names are to be found anew, with the extents
+    /// of glyphs.
+    pub fn vary(&mut self, alloc: Global, variations: &[Variation]) -> Result<(), AllocError> {
+        if self.variations.as_slice() == variations {
+            return Ok(());
+        }
+        let mut chosen = Vec::new(alloc);
+        for variation in variations {
+            chosen.push(*variation)?;
+        }
+        self.face.set_variations(variations)?;
+        self.variations = chosen;
+        self.names = None;
+        Ok(())
     }
 
     /// The names of the glyphs, which are found where they are asked for the first time. The caller puts them back.

@@ -3,7 +3,9 @@
 use crate::code_points::{CodePointsError, code_points, text_of_code_points};
 use crate::features::{features, unquoted};
 use crate::sizes::{one_or_two, sizes};
+use crate::variations::variations;
 use clap::ArgMatches;
+use font_shaper::Variation;
 use shaping_buffer::{
     BufferClusterLevel, BufferFlags, Direction, Feature, Flags, GlyphId, Script, SerializeFlags,
     script,
@@ -41,9 +43,6 @@ pub enum OptionsError<'a> {
     /// Functions of a font of this name are not known.
     #[error("Unknown font function implementation '{0}'; supported values are: ot")]
     FontFuncs(&'a str),
-    /// Variations are asked for.
-    #[error("--variations={0} is not supported: variable fonts are not read as such")]
-    Variations(&'a str),
     /// The steps of shaping are to be drawn of the lines of a file.
     #[error("--svg draws one text, that of TEXT, --text or --unicodes")]
     DrawnFile,
@@ -107,6 +106,8 @@ pub struct FontChoice {
     pub size: Option<(i32, i32)>,
     /// How many pixels an em has across and upwards, where it is drawn in pixels.
     pub pixels: Option<(u16, u16)>,
+    /// The number of the named instance of a variable font, unless it is used with its defaults.
+    pub named_instance: Option<u32>,
 }
 
 /// What a command line asks for.
@@ -116,6 +117,8 @@ pub struct Options<'a> {
     pub font_file: &'a str,
     /// Which font of the file, and at which size.
     pub font: FontChoice,
+    /// The variations of a variable font.
+    pub variations: Vec<Variation>,
     /// Where the text comes from.
     pub text: TextSource<'a>,
     /// Whether the text is a single line.
@@ -139,7 +142,9 @@ impl<'a> Options<'a> {
                 index: number(matches, "face-index")?.unwrap_or(0),
                 size: font_size(matches)?,
                 pixels: pixels(matches)?,
+                named_instance: number(matches, "named-instance")?,
             },
+            variations: variations(alloc, unquoted(matches.get_str("variations").unwrap_or("")))?,
             text: text_source(alloc, matches, text)?,
             single_par: matches.get_flag("single-par"),
             line: line_options(alloc, matches)?,
@@ -161,10 +166,6 @@ fn refuse_unsupported<'a>(matches: &ArgMatches<'a>) -> Result<(), OptionsError<'
     let font_funcs = matches.get_str("font-funcs").unwrap_or("ot");
     if !font_funcs.eq_ignore_ascii_case("ot") {
         return Err(OptionsError::FontFuncs(font_funcs));
-    }
-    let variations = matches.get_str("variations").unwrap_or("");
-    if !variations.is_empty() {
-        return Err(OptionsError::Variations(variations));
     }
     Ok(())
 }

@@ -126,6 +126,7 @@ pub(crate) fn answer_options<'a, F: Files + AllocGlobal, R: BufRead, W: Write>(
     input: &mut R,
     output: &mut W,
 ) -> Result<bool, CommandError<'a>> {
+    font.vary(rt.alloc(), options.variations.as_slice())?;
     if options.svg {
         return draw_text(rt.alloc(), options, font, output);
     }

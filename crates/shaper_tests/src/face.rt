@@ -24,7 +24,7 @@ fn letters_have_glyphs_and_advances(rt: HostRuntime) -> Result<(), Fail> {
         assert!(rt; face.has_glyph(letter), "{letter}");
         assert_eq!(rt; face.glyph_hor_advance(GlyphId(glyph)), across, "{letter}");
         assert_eq!(rt; face.glyph_ver_advance(GlyphId(glyph)), -1000, "{letter}");
-        assert_eq!(rt; face.vertical_origin(GlyphId(glyph)), origin, "{letter}");
+        assert_eq!(rt; face.vertical_origin(GlyphId(glyph))?, origin, "{letter}");
     }
     assert_eq!(rt; face.glyph_index(0x78), None);
     assert!(rt; !face.has_glyph('x'));
@@ -48,7 +48,7 @@ fn letters_have_bounds_and_names(rt: HostRuntime) -> Result<(), Fail> {
     let found = names.glyph_extents(GlyphId(3)).ok_or("no bounds")?;
     assert_eq!(rt; (found.x_bearing, found.y_bearing), (20, 390));
     assert_eq!(rt; (found.width, found.height), (300, -400));
-    let bounds = face.glyph_extents(GlyphId(4)).ok_or("no bounds")?;
+    let bounds = face.glyph_extents(GlyphId(4))?.ok_or("no bounds")?;
     assert_eq!(rt; (bounds.x_bearing, bounds.y_bearing), (100, 340));
     assert_eq!(rt; (bounds.width, bounds.height), (290, -340));
     Ok(())
@@ -89,8 +89,8 @@ fn letters_are_scaled(rt: HostRuntime) -> Result<(), Fail> {
         face.set_scale(size.0, size.1);
         let found = (face.glyph_hor_advance(a), face.glyph_ver_advance(a));
         assert_eq!(rt; found, advances);
-        assert_eq!(rt; face.vertical_origin(a), origin);
-        let box_of = face.glyph_extents(a).ok_or("no bounds")?;
+        assert_eq!(rt; face.vertical_origin(a)?, origin);
+        let box_of = face.glyph_extents(a)?.ok_or("no bounds")?;
         let found = (
             box_of.x_bearing,
             box_of.y_bearing,

@@ -2,6 +2,7 @@
 
 ghost use Rattle.std.specs.Prelude.{◌≡◌, ◌<◌, ◌≤◌, ◌==◌, ◌↔◌, [], true, false, if◌then◌else◌};
 ghost use Rattle.std.specs.Prelude.{None, IsSome, IsTrue, length, pos};
+ghost use Rattle.glyph_lists.specs.ClusterOrder.{is_any};
 ghost use Rattle.shaping_buffer.specs.State.{len, lookahead_len, empty_state, cleared};
 ghost use Rattle.shaping_buffer.specs.Step.{IsStorage};
 ghost use Rattle.shaping_buffer.specs.ClusterStep as cluster_step;
@@ -12,6 +13,7 @@ use crate::cluster_level::{
     HB_BUFFER_CLUSTER_LEVEL_GRAPHEMES, HB_BUFFER_CLUSTER_LEVEL_MONOTONE_CHARACTERS,
     hb_buffer_cluster_level_t,
 };
+use glyph_lists::cluster_order::ClusterOrder;
 use glyph_lists::context::Context;
 use glyph_sides::Sides;
 use rb_glyph::{
@@ -298,14 +300,16 @@ impl hb_buffer_t {
         self.scratch_flags = HB_BUFFER_SCRATCH_FLAG_DEFAULT;
     }
 
-    /// Whether clusters may stand in any order: then merges mark glyphs in place of merging, and scans read all
-    /// clusters.
+    /// The order in which clusters stand at the buffer's level.
     #[inline]
-    fn any_order(&self) -> bool
-        ensures { result ≡ cluster_step.any_order self.now }
+    fn cluster_order(&self) -> ClusterOrder
+        ensures { is_any result ≡ cluster_step.any_order self.now }
     {
-        self.cluster_level == HB_BUFFER_CLUSTER_LEVEL_CHARACTERS
-            || self.cluster_level == HB_BUFFER_CLUSTER_LEVEL_GRAPHEMES
+        match self.cluster_level {
+            HB_BUFFER_CLUSTER_LEVEL_CHARACTERS | HB_BUFFER_CLUSTER_LEVEL_GRAPHEMES =>
+                ClusterOrder::Any,
+            _ => ClusterOrder::Monotone,
+        }
     }
 
     /// Whether `merge_grapheme_clusters` makes a grapheme one cluster.

@@ -17,7 +17,7 @@ use Rattle.shaping_buffer.specs.State.{State}
 use Rattle.shaping_buffer.specs.ClusterStep.{any_order, both, head_of}
 use Rattle.shaping_buffer.specs.Step.{Outcome, Meets, sync, with_id}
 use Rattle.shaping_buffer.specs.Step.{clear_output}
-use Rattle.shaping_passes.specs.NormalizationGlyphs.{core, cores}
+use Rattle.glyph_laws.specs.Cores.{core, cores}
 use Rattle.shaping_passes.specs.NormalizationParts.{composed_of}
 use Rattle.shaping_passes.specs.NormalizationOrder.{class_at}
 use Rattle.shaping_passes.specs.NormalizationDecomposition.{closed_over}

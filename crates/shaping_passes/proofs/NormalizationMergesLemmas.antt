@@ -10,7 +10,7 @@ use Rattle.glyph_lists.specs.Clusters.{zero_glyph, IsMonotone}
 use Rattle.glyph_lists.specs.Parts.{part}
 use Rattle.shaping_buffer.specs.State.{State}
 use Rattle.shaping_buffer.specs.ClusterStep.{both, head_of}
-use Rattle.shaping_passes.specs.NormalizationGlyphs.{core, cores}
+use Rattle.glyph_laws.specs.Cores.{core, cores}
 use Rattle.shaping_passes.specs.NormalizationParts.{composed_of}
 use Rattle.shaping_passes.specs.NormalizationOrder.{class_at}
 use Rattle.shaping_passes.specs.NormalizationComposition.{is_blocked, pair_of, kept_one, pair_composed, starter_behind}

@@ -19,10 +19,10 @@ use Rattle.glyph_laws.proofs.OrderLemmas.{run_merge_keeps_coarse, run_merge_keep
 use Rattle.shaping_buffer.specs.State.{State, lookahead_len}
 use Rattle.shaping_buffer.specs.ClusterStep.{any_order, both, head_of, merge_out_clusters}
 use Rattle.shaping_buffer.specs.Step.{Outcome, Meets, settled, move_to, skip_glyph, split_at, with_id, last_place}
-use Rattle.shaping_passes.specs.NormalizationGlyphs.{core, cores}
+use Rattle.glyph_laws.specs.Cores.{core, cores}
 use Rattle.shaping_passes.specs.NormalizationComposition.{IsReady}
 use Rattle.shaping_passes.specs.NormalizationComposition.{kept_one, pair_composed}
-use Rattle.shaping_passes.proofs.NormalizationGlyphsLemmas.{cores-run_merge}
+use Rattle.glyph_laws.proofs.CoresLemmas.{cores-run_merge}
 
 abbrev pub Glyphs : Type 0
 Glyphs = List hb_glyph_info_t

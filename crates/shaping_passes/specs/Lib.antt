@@ -1,4 +1,3 @@
-pub mod NormalizationGlyphs
 pub mod NormalizationParts
 pub mod NormalizationDecomposition
 pub mod NormalizationOrder

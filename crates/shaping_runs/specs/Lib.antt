@@ -6,6 +6,7 @@ pub mod Headline
 pub mod ThreeLevels
 pub mod Room
 pub mod Dropped
+pub mod Moves
 -- what the public clauses name of the crates below
 pub use Rattle.glyph_laws.specs.Cores
 pub use Rattle.glyph_lists.specs.Clusters

@@ -31,7 +31,7 @@ pub fn replay(
         StopsAt stop.at calls.now buffer.old answers.old buffer.new answers.new) }
 {
     for (i, call) in calls.iter().enumerate() {
-        match make(buffer, call) {
+        match make_call(buffer, call) {
             Ok(answer) => answers[i] = answer,
             Err(_) => return Err(Stopped { at: i }),
         }
@@ -39,8 +39,9 @@ pub fn replay(
     Ok(())
 }
 
-/// Makes one call, where its condition holds.
-pub(crate) fn make(buffer: &mut hb_buffer_t, call: &Call<'_>) -> Result<Answer, AllocError>
+/// Makes one call, and answers it: `Outside` where its condition does not hold. `Err(AllocError)` where memory ran out:
+/// then nothing changed.
+pub fn make_call(buffer: &mut hb_buffer_t, call: &Call<'_>) -> Result<Answer, AllocError>
     ensures { GivesTurn call.now buffer.old result buffer.new }
 {
     if !may_be_made(buffer, call) {

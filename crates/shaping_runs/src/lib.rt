@@ -2,12 +2,13 @@
 #![tactic(auto)]
 
 pub use call::{Answer, Call};
-pub use call_list::{Stopped, replay};
+pub use call_list::{Stopped, make_call, replay};
 pub use rendering::{MAX_FEATURES, RenderFault, render, render_at};
 pub use shaping_buffer;
 
 pub mod call;
 mod call_list;
+pub mod caller_laws;
 pub mod headline;
 pub mod laws;
 mod rendering;

@@ -10,7 +10,7 @@ ghost use Rattle.shaping_runs.specs.Render.{pushed_text, with_feature, with_feat
 ghost use Rattle.shaping_runs.specs.Render.{FailsOnText, RendersTo, Fails};
 
 use crate::call::{Answer, Call};
-use crate::call_list::make;
+use crate::call_list::make_call;
 use rb_glyph::algs::rb_flag;
 use shaping_buffer::{BufferClusterLevel, Feature, GlyphBuffer, UnicodeBuffer, hb_buffer_t};
 use std::alloc::Global;
@@ -161,7 +161,7 @@ fn make_until_refused(
         StopsWith fault calls.now buffer.old answers.old answers.new) }
 {
     for (i, call) in calls.iter().enumerate() {
-        match make(buffer, call) {
+        match make_call(buffer, call) {
             Ok(answer) => {
                 answers[i] = answer;
                 if is_refused(answer) {

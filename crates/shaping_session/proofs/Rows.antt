@@ -2,7 +2,7 @@
 use Rattle.std.proofs.Common.{◌≡◌, [], ◌∷◌, Some, None, codes, refl}
 use Rattle.std.specs.Fmt.{digits}
 use Rattle.rb_common.specs.Tag.{tag_of}
-use Rattle.shaping_session.specs.Commands.{request_in, request_named, command_in, treatment_in, question_in, query_in}
+use Rattle.shaping_session.specs.Commands.{request_in, request_named, command_in}
 use Rattle.shaping_session.specs.Commands.{replace_glyphs, tags}
 use Rattle.shaping_session.specs.Queries.{tags_text}
 
@@ -21,7 +21,7 @@ one_too_many = refl
 
 -- a dash for no language
 asked : request_in (codes "tags Beng -") ≡ Some (tags (Some (tag_of (codes "Beng"))) None)
-unfolding request_named command_in treatment_in question_in query_in
+unfolding request_named command_in
 asked = refl
 
 -- the newest tag comes first

@@ -84,10 +84,6 @@ with_glyph make left = with_word (next_u32 left) make left
 abbrev pub with_place : {A : Type 0} → (ℕ → A) → Left → Taken A
 with_place make left = with_word (next_place left) make left
 
--- a start and an end belong to it
-abbrev pub with_range : {A : Type 0} → (ℕ → ℕ → A) → Left → Taken A
-with_range make left = with_words (next_place left) (next_place (past_first_word left)) make left
-
 -- a number that is the highest at most
 abbrev pub at_most : ℕ → Option ℕ → Option ℕ
 at_most highest None = None
@@ -116,39 +112,33 @@ with_names (Some script) (Some language) left = Some (tags script language, past
 abbrev pub with_script_and_language : Left → Taken Request
 with_script_and_language left = with_names (next_script left) (next_language (past_first_word left)) left
 
--- a range of a flag call, of which both ends are given
-abbrev pub with_flag_range : (Option ℕ → Option ℕ → Call) → Left → Taken Call
-with_flag_range make left = with_range (λ start end. make (Some start) (Some end)) left
-
--- the calls that mark glyphs from a start to an end
-unfoldable pub flag_call_in : List ℕ → Left → Taken Call
-flag_call_in name left =
-    if bytes_eq name (codes "unsafe_to_break") then with_flag_range UnsafeToBreak left
-    else if bytes_eq name (codes "unsafe_to_break_from_outbuffer") then with_flag_range UnsafeToBreakFromOutbuffer left
-    else if bytes_eq name (codes "safe_to_insert_tatweel") then with_flag_range SafeToInsertTatweel left
-    else if bytes_eq name (codes "unsafe_to_concat") then with_flag_range UnsafeToConcat left
+-- the calls that take a start and an end, by their names
+unfoldable pub range_call_in : List ℕ → ℕ → ℕ → Option Call
+range_call_in name start end =
+    if bytes_eq name (codes "merge_clusters") then Some (MergeClusters start end)
+    else if bytes_eq name (codes "merge_out_clusters") then Some (MergeOutClusters start end)
+    else if bytes_eq name (codes "merge_grapheme_clusters") then Some (MergeGraphemeClusters start end)
+    else if bytes_eq name (codes "unsafe_to_break") then Some (UnsafeToBreak (Some start) (Some end))
+    else if bytes_eq name (codes "unsafe_to_break_from_outbuffer")
+    then Some (UnsafeToBreakFromOutbuffer (Some start) (Some end))
+    else if bytes_eq name (codes "safe_to_insert_tatweel") then Some (SafeToInsertTatweel (Some start) (Some end))
+    else if bytes_eq name (codes "unsafe_to_concat") then Some (UnsafeToConcat (Some start) (Some end))
     else if bytes_eq name (codes "unsafe_to_concat_from_outbuffer")
-    then with_flag_range UnsafeToConcatFromOutbuffer left
+    then Some (UnsafeToConcatFromOutbuffer (Some start) (Some end))
     else None
 
--- the calls that merge clusters
-unfoldable pub merge_call_in : List ℕ → Left → Taken Call
-merge_call_in name left =
-    if bytes_eq name (codes "merge_clusters") then with_range MergeClusters left
-    else if bytes_eq name (codes "merge_out_clusters") then with_range MergeOutClusters left
-    else if bytes_eq name (codes "merge_grapheme_clusters") then with_range MergeGraphemeClusters left
-    else flag_call_in name left
+-- one of them, and what is left of the line behind its two places
+abbrev pub taken_call : Option Call → Left → Taken Call
+taken_call None left = None
+taken_call (Some c) left = Some (c, left)
 
--- the calls that put glyphs out in place of others, or drop one
-unfoldable pub edit_call_in : List ℕ → Left → Taken Call
-edit_call_in name left =
-    if bytes_eq name (codes "replace_glyph") then with_glyph ReplaceGlyph left
-    else if bytes_eq name (codes "output_glyph") then with_glyph OutputGlyph left
-    else if bytes_eq name (codes "copy_glyph") then alone CopyGlyph left
-    else if bytes_eq name (codes "delete_glyph") then alone DeleteGlyph left
-    else merge_call_in name left
+abbrev pub with_range : List ℕ → Option ℕ → Option ℕ → Left → Taken Call
+with_range name None end left = None
+with_range name (Some start) None left = None
+with_range name (Some start) (Some end) left =
+    taken_call (range_call_in name start end) (past_first_word (past_first_word left))
 
--- a call, by the name of its method: those that open an output, walk and close it come first
+-- the calls, by the names of their methods
 unfoldable pub call_in : List ℕ → Left → Taken Call
 call_in name left =
     if bytes_eq name (codes "clear_output") then alone ClearOutput left
@@ -157,44 +147,34 @@ call_in name left =
     else if bytes_eq name (codes "skip_glyph") then alone SkipGlyph left
     else if bytes_eq name (codes "move_to") then with_place MoveTo left
     else if bytes_eq name (codes "sync") then alone Sync left
-    else edit_call_in name left
+    else if bytes_eq name (codes "replace_glyph") then with_glyph ReplaceGlyph left
+    else if bytes_eq name (codes "output_glyph") then with_glyph OutputGlyph left
+    else if bytes_eq name (codes "copy_glyph") then alone CopyGlyph left
+    else if bytes_eq name (codes "delete_glyph") then alone DeleteGlyph left
+    else with_range name (next_place left) (next_place (past_first_word left)) left
 
 -- a call is a request too
 abbrev pub call_request : Taken Call → Taken Request
 call_request None = None
 call_request (Some (c, left)) = Some (call c, left)
 
--- what is asked of no text, by the name of the question, and else a call
-unfoldable pub query_in : List ℕ → Left → Taken Request
-query_in name left =
-    if bytes_eq name (codes "feature") then with_text feature left
-    else if bytes_eq name (codes "tags") then with_script_and_language left
-    else if bytes_eq name (codes "compose") then with_characters compose left
-    else if bytes_eq name (codes "decompose") then with_character decompose left
-    else call_request (call_in name left)
-
--- those that print a text; the six flags to print by are the bits of the numbers up to 63
-unfoldable pub question_in : List ℕ → Left → Taken Request
-question_in name left =
-    if bytes_eq name (codes "state") then alone state left
-    else if bytes_eq name (codes "serialize") then with_number_to 63 serialize left
-    else query_in name left
-
--- those that say how the text is treated; the eight flags of a buffer are the bits of the numbers up to 255
-unfoldable pub treatment_in : List ℕ → Left → Taken Request
-treatment_in name left =
-    if bytes_eq name (codes "level") then with_number_to 3 level left
-    else if bytes_eq name (codes "flags") then with_number_to 255 flags left
-    else if bytes_eq name (codes "limit") then with_place limit left
-    else question_in name left
-
--- the request of a name, from what is left of the line behind it: those that make the text come first
+-- the commands, by their names: the text and how it is treated, what is printed, questions, and calls of the buffer; the
+-- eight flags of a buffer are the bits of the numbers up to 255, the six flags to print by of those up to 63
 unfoldable pub command_in : List ℕ → Left → Taken Request
 command_in name left =
     if bytes_eq name (codes "push") then with_text push left
     else if bytes_eq name (codes "add") then with_character_and_number add left
     else if bytes_eq name (codes "new") then alone new left
-    else treatment_in name left
+    else if bytes_eq name (codes "level") then with_number_to 3 level left
+    else if bytes_eq name (codes "flags") then with_number_to 255 flags left
+    else if bytes_eq name (codes "limit") then with_place limit left
+    else if bytes_eq name (codes "state") then alone state left
+    else if bytes_eq name (codes "serialize") then with_number_to 63 serialize left
+    else if bytes_eq name (codes "feature") then with_text feature left
+    else if bytes_eq name (codes "tags") then with_script_and_language left
+    else if bytes_eq name (codes "compose") then with_characters compose left
+    else if bytes_eq name (codes "decompose") then with_character decompose left
+    else call_request (call_in name left)
 
 -- an id before others
 abbrev pub id_before : Option ℕ → Taken (List ℕ) → Taken (List ℕ)

@@ -3,9 +3,7 @@
 ghost use Rattle.std.specs.Prelude.{◌≡◌, ◌<◌, ◌≤◌, Some, None, MatchOption, IfOk};
 ghost use Rattle.shaping_buffer.specs.ClusterLevel as cluster_level;
 ghost use Rattle.shaping_session.specs.Commands.{request_in_bytes, request_in, request_named, replacement_in, ids_in};
-ghost use Rattle.shaping_session.specs.Commands.{command_in, treatment_in, question_in, query_in};
-ghost use Rattle.shaping_session.specs.Commands.{call_in, edit_call_in, merge_call_in, flag_call_in};
-ghost use Rattle.shaping_session.specs.Commands.{call_request, request_of, at_most};
+ghost use Rattle.shaping_session.specs.Commands.{command_in, call_in, range_call_in, request_of, at_most};
 
 use crate::words::Words;
 use rb_text::Script;
@@ -136,140 +134,81 @@ fn ids(alloc: Global, count: usize, words: &mut Words<'_>) -> Result<Option<Vec<
     Ok(Some(ids))
 }
 
-/// The command of a name, which takes what belongs to it from the words that follow.
+/// The list of the commands, by their names, each with the words that belong to it. `replace_glyphs`, which takes memory,
+/// stands before it, in `command_named`.
 #[tactic(auto, unfolding(crate::specs::Commands::command_in))]
 fn command_of<'a>(name: &str, words: &mut Words<'a>) -> Option<Command<'a>>
     ensures { MatchOption result (command_in name.now words.old ≡ None)
         (λ command. command_in name.now words.old ≡ Some (request_of command, words.new)) }
 {
-    match name {
-        "push" => Some(Command::Push(words.text()?)),
-        "add" => Some(Command::Add {
+    Some(match name {
+        // the text, and how it is treated
+        "push" => Command::Push(words.text()?),
+        "add" => Command::Add {
             character: words.character()?,
             cluster: words.number()?,
-        }),
-        "new" => Some(Command::New),
-        _ => treatment_of(name, words),
-    }
-}
-
-/// The commands that say how the text is treated.
-#[tactic(auto, unfolding(crate::specs::Commands::treatment_in))]
-fn treatment_of<'a>(name: &str, words: &mut Words<'a>) -> Option<Command<'a>>
-    ensures { MatchOption result (treatment_in name.now words.old ≡ None)
-        (λ command. treatment_in name.now words.old ≡ Some (request_of command, words.new)) }
-{
-    match name {
-        "level" => Some(Command::Level(level_of(words.number()?)?)),
-        "flags" => Some(Command::Flags(flags_of(words.number()?)?)),
-        "limit" => Some(Command::Limit(words.place()?)),
-        _ => question_of(name, words),
-    }
-}
-
-/// The commands that print something.
-#[tactic(auto, unfolding(crate::specs::Commands::question_in))]
-fn question_of<'a>(name: &str, words: &mut Words<'a>) -> Option<Command<'a>>
-    ensures { MatchOption result (question_in name.now words.old ≡ None)
-        (λ command. question_in name.now words.old ≡ Some (request_of command, words.new)) }
-{
-    match name {
-        "state" => Some(Command::State),
-        "serialize" => Some(Command::Serialize(serialize_flags_of(words.number()?)?)),
-        _ => query_of(name, words),
-    }
-}
-
-/// The commands that ask nothing of the text.
-#[tactic(auto, unfolding(crate::specs::Commands::query_in))]
-fn query_of<'a>(name: &str, words: &mut Words<'a>) -> Option<Command<'a>>
-    ensures { MatchOption result (query_in name.now words.old ≡ None)
-        (λ command. query_in name.now words.old ≡ Some (request_of command, words.new)) }
-{
-    match name {
-        "feature" => Some(Command::Feature(words.text()?)),
-        "tags" => Some(Command::Tags {
+        },
+        "new" => Command::New,
+        "level" => Command::Level(level_of(words.number()?)?),
+        "flags" => Command::Flags(flags_of(words.number()?)?),
+        "limit" => Command::Limit(words.place()?),
+        // what is printed
+        "state" => Command::State,
+        "serialize" => Command::Serialize(serialize_flags_of(words.number()?)?),
+        // questions that ask nothing of the text
+        "feature" => Command::Feature(words.text()?),
+        "tags" => Command::Tags {
             script: words.script()?,
             language: words.language()?,
-        }),
-        "compose" => Some(Command::Compose(words.character()?, words.character()?)),
-        "decompose" => Some(Command::Decompose(words.character()?)),
-        _ => make_of(name, words),
-    }
+        },
+        "compose" => Command::Compose(words.character()?, words.character()?),
+        "decompose" => Command::Decompose(words.character()?),
+        // calls of the buffer, by their methods
+        _ => Command::Make(call_of(name, words)?),
+    })
 }
 
-/// The command that makes the call of a name.
-fn make_of<'a>(name: &str, words: &mut Words<'a>) -> Option<Command<'a>>
-    ensures { MatchOption result (call_request (call_in name.now words.old) ≡ None)
-        (λ command. call_request (call_in name.now words.old)
-        ≡ Some (request_of command, words.new)) }
-{
-    Some(Command::Make(call_of(name, words)?))
-}
-
+/// The list of the calls, by the names of their methods.
 #[tactic(auto, unfolding(crate::specs::Commands::call_in))]
 fn call_of(name: &str, words: &mut Words<'_>) -> Option<Call<'static>>
     ensures { MatchOption result (call_in name.now words.old ≡ None)
         (λ call. call_in name.now words.old ≡ Some (call, words.new)) }
 {
-    match name {
-        "clear_output" => Some(Call::ClearOutput),
-        "next_glyph" => Some(Call::NextGlyph),
-        "next_glyphs" => Some(Call::NextGlyphs(words.place()?)),
-        "skip_glyph" => Some(Call::SkipGlyph),
-        "move_to" => Some(Call::MoveTo(words.place()?)),
-        "sync" => Some(Call::Sync),
-        _ => edit_call_of(name, words),
-    }
+    Some(match name {
+        "clear_output" => Call::ClearOutput,
+        "next_glyph" => Call::NextGlyph,
+        "next_glyphs" => Call::NextGlyphs(words.place()?),
+        "skip_glyph" => Call::SkipGlyph,
+        "move_to" => Call::MoveTo(words.place()?),
+        "sync" => Call::Sync,
+        "replace_glyph" => Call::ReplaceGlyph(words.number()?),
+        "output_glyph" => Call::OutputGlyph(words.number()?),
+        "copy_glyph" => Call::CopyGlyph,
+        "delete_glyph" => Call::DeleteGlyph,
+        _ => range_call_of(name, words.place()?, words.place()?)?,
+    })
 }
 
-/// The calls that put glyphs out in place of others, or drop one.
-#[tactic(auto, unfolding(crate::specs::Commands::edit_call_in))]
-fn edit_call_of(name: &str, words: &mut Words<'_>) -> Option<Call<'static>>
-    ensures { MatchOption result (edit_call_in name.now words.old ≡ None)
-        (λ call. edit_call_in name.now words.old ≡ Some (call, words.new)) }
+/// The list of the calls that take a start and an end.
+#[tactic(auto, unfolding(crate::specs::Commands::range_call_in))]
+fn range_call_of(name: &str, start: usize, end: usize) -> Option<Call<'static>>
+    ensures { result ≡ range_call_in name.now start end }
 {
-    match name {
-        "replace_glyph" => Some(Call::ReplaceGlyph(words.number()?)),
-        "output_glyph" => Some(Call::OutputGlyph(words.number()?)),
-        "copy_glyph" => Some(Call::CopyGlyph),
-        "delete_glyph" => Some(Call::DeleteGlyph),
-        _ => merge_call_of(name, words),
-    }
-}
-
-/// The calls that merge clusters.
-#[tactic(auto, unfolding(crate::specs::Commands::merge_call_in))]
-fn merge_call_of(name: &str, words: &mut Words<'_>) -> Option<Call<'static>>
-    ensures { MatchOption result (merge_call_in name.now words.old ≡ None)
-        (λ call. merge_call_in name.now words.old ≡ Some (call, words.new)) }
-{
-    match name {
-        "merge_clusters" => Some(Call::MergeClusters(words.place()?, words.place()?)),
-        "merge_out_clusters" => Some(Call::MergeOutClusters(words.place()?, words.place()?)),
-        "merge_grapheme_clusters" => {
-            Some(Call::MergeGraphemeClusters(words.place()?, words.place()?))
+    Some(match name {
+        "merge_clusters" => Call::MergeClusters(start, end),
+        "merge_out_clusters" => Call::MergeOutClusters(start, end),
+        "merge_grapheme_clusters" => Call::MergeGraphemeClusters(start, end),
+        "unsafe_to_break" => Call::UnsafeToBreak(Some(start), Some(end)),
+        "unsafe_to_break_from_outbuffer" => {
+            Call::UnsafeToBreakFromOutbuffer(Some(start), Some(end))
         }
-        _ => flag_call_of(name, words),
-    }
-}
-
-/// The calls that mark glyphs from one place to another.
-#[tactic(auto, unfolding(crate::specs::Commands::flag_call_in))]
-fn flag_call_of(name: &str, words: &mut Words<'_>) -> Option<Call<'static>>
-    ensures { MatchOption result (flag_call_in name.now words.old ≡ None)
-        (λ call. flag_call_in name.now words.old ≡ Some (call, words.new)) }
-{
-    let start = Some(words.place()?);
-    let end = Some(words.place()?);
-    match name {
-        "unsafe_to_break" => Some(Call::UnsafeToBreak(start, end)),
-        "unsafe_to_break_from_outbuffer" => Some(Call::UnsafeToBreakFromOutbuffer(start, end)),
-        "safe_to_insert_tatweel" => Some(Call::SafeToInsertTatweel(start, end)),
-        "unsafe_to_concat" => Some(Call::UnsafeToConcat(start, end)),
-        "unsafe_to_concat_from_outbuffer" => Some(Call::UnsafeToConcatFromOutbuffer(start, end)),
-        _ => None,
-    }
+        "safe_to_insert_tatweel" => Call::SafeToInsertTatweel(Some(start), Some(end)),
+        "unsafe_to_concat" => Call::UnsafeToConcat(Some(start), Some(end)),
+        "unsafe_to_concat_from_outbuffer" => {
+            Call::UnsafeToConcatFromOutbuffer(Some(start), Some(end))
+        }
+        _ => return None,
+    })
 }
 
 /// The cluster level of a number.

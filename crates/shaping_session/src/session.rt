@@ -25,7 +25,7 @@ use rb_glyph::{NoGlyphNames, hb_glyph_info_t};
 use shaping_buffer::{
     BufferClusterLevel, BufferFlags, Flags, GlyphBuffer, SerializeFlags, UnicodeBuffer, hb_buffer_t,
 };
-use shaping_runs::{Answer, Call, replay};
+use shaping_runs::{Call, make_call};
 use std::alloc::{AllocError, Global};
 
 /// A text that grows, and then the buffer that it was turned into.
@@ -172,11 +172,7 @@ impl Session {
             (reply_text next.1)) }
     {
         let mut buffer = self.into_buffer();
-        let mut answers = [Answer::Outside];
-        if replay(&mut buffer, &[call], &mut answers).is_err() {
-            return Err(AllocError);
-        }
-        let reply = Reply::of_answer(answers[0]);
+        let reply = Reply::of_answer(make_call(&mut buffer, &call)?);
         Ok((Session::Turned(buffer), reply))
     }
 

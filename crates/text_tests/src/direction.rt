@@ -1,47 +1,63 @@
 use rb_text::{Direction, script};
 
-/// Texts, the directions that they name, whether these are horizontal and forward, and their reverses.
-static DIRECTIONS: [(&str, Direction, bool, bool, Direction); 5] = [
-    ("", Direction::Invalid, false, false, Direction::Invalid),
-    (
-        "ltr",
-        Direction::LeftToRight,
-        true,
-        true,
-        Direction::RightToLeft,
-    ),
-    (
-        "Rx",
-        Direction::RightToLeft,
-        true,
-        false,
-        Direction::LeftToRight,
-    ),
-    (
-        "T",
-        Direction::TopToBottom,
-        false,
-        true,
-        Direction::BottomToTop,
-    ),
-    (
-        "bottom",
-        Direction::BottomToTop,
-        false,
-        false,
-        Direction::TopToBottom,
-    ),
+/// A text, the direction that it names, and what that is.
+struct Row<'a> {
+    text: &'a str,
+    direction: Direction,
+    is_horizontal: bool,
+    is_forward: bool,
+    reverse: Direction,
+}
+
+static DIRECTIONS: [Row<'static>; 5] = [
+    Row {
+        text: "",
+        direction: Direction::Invalid,
+        is_horizontal: false,
+        is_forward: false,
+        reverse: Direction::Invalid,
+    },
+    Row {
+        text: "ltr",
+        direction: Direction::LeftToRight,
+        is_horizontal: true,
+        is_forward: true,
+        reverse: Direction::RightToLeft,
+    },
+    Row {
+        text: "Rx",
+        direction: Direction::RightToLeft,
+        is_horizontal: true,
+        is_forward: false,
+        reverse: Direction::LeftToRight,
+    },
+    Row {
+        text: "T",
+        direction: Direction::TopToBottom,
+        is_horizontal: false,
+        is_forward: true,
+        reverse: Direction::BottomToTop,
+    },
+    Row {
+        text: "bottom",
+        direction: Direction::BottomToTop,
+        is_horizontal: false,
+        is_forward: false,
+        reverse: Direction::TopToBottom,
+    },
 ];
 
 #[test]
 fn each_direction_has_its_line_and_its_opposite(rt: HostRuntime) {
-    for &(text, direction, is_horizontal, is_forward, reverse) in &DIRECTIONS {
-        let lines = [direction.is_horizontal(), !direction.is_vertical()];
-        assert!(rt; lines == [is_horizontal; 2]);
-        let ways = [direction.is_forward(), !direction.is_backward()];
-        assert!(rt; ways == [is_forward; 2]);
+    for row in &DIRECTIONS {
+        let (text, direction) = (row.text, row.direction);
+        assert!(rt; direction.is_horizontal() == row.is_horizontal, "`{text}`");
+        assert!(rt; direction.is_vertical() != row.is_horizontal, "`{text}`");
+        assert!(rt; direction.is_forward() == row.is_forward, "`{text}`");
+        assert!(rt; direction.is_backward() != row.is_forward, "`{text}`");
+        assert!(rt; direction.reverse() == row.reverse, "`{text}`");
         let named = text.parse::<Direction>().unwrap_or_default();
-        assert!(rt; (named, direction.reverse()) == (direction, reverse));
+        assert!(rt; named == direction, "`{text}`");
     }
     assert!(rt; Direction::default() == Direction::Invalid);
     assert!(rt; " ltr".parse::<Direction>() == Err("invalid direction"));

@@ -5,7 +5,9 @@ pub use crate::buffer::{
     BufferClusterLevel, GlyphBuffer, UnicodeBuffer, hb_buffer_t, hb_glyph_info_t,
 };
 pub use crate::common::{Direction, GlyphId, Script, Tag, TagExt, script};
-pub use crate::font_shaper::{Face, FaceNames, ShapeError, ShapePlan, shape, shape_with_plan};
+pub use crate::font_shaper::{
+    Face, FaceNames, ShapeError, ShapePlan, Variation, shape, shape_with_plan,
+};
 pub use crate::glyph::{
     BufferFlags, CharExt, GlyphExtents, GlyphInfo, GlyphNames, GlyphPosition, GlyphPropsFlags,
     NoGlyphNames, SerializeFlags, UnicodeProps, glyph_flag,

@@ -6,6 +6,7 @@
 //! Nothing here knows of a cursor's calls or of refusals: those are the business of `shaping_buffer`, which users name.
 
 pub mod cluster_numbers;
+pub mod cluster_order;
 pub mod cluster_reads;
 pub mod clusters;
 pub mod context;

@@ -29,6 +29,8 @@ pub mod font_shaper;
 #[allow(clippy::style, clippy::complexity)]
 pub mod font_tables;
 #[allow(clippy::style, clippy::complexity)]
+pub mod font_variations;
+#[allow(clippy::style, clippy::complexity)]
 pub mod glyph;
 #[allow(clippy::style, clippy::complexity)]
 pub mod glyph_layout;
@@ -48,6 +50,8 @@ pub mod glyph_substitution;
 #[doc(hidden)]
 pub mod glyph_text;
 #[allow(clippy::style, clippy::complexity)]
+pub mod glyph_variations;
+#[allow(clippy::style, clippy::complexity)]
 pub mod language_tags;
 #[allow(clippy::style, clippy::complexity)]
 pub mod layout_plan;
@@ -61,6 +65,8 @@ pub mod runs;
 pub mod script_features;
 #[allow(clippy::style, clippy::complexity)]
 pub mod script_shapers;
+#[allow(clippy::style, clippy::complexity)]
+pub mod syllabic_shapers;
 #[allow(clippy::style, clippy::complexity)]
 pub mod text;
 #[allow(clippy::style, clippy::complexity)]

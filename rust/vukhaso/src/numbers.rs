@@ -6,9 +6,27 @@ pub fn nearest_i64_to_f32(number: i64) -> f32 {
     number as f32
 }
 
+/// The nearest number, and of two as near the even one.
+#[inline]
+pub fn nearest_i64_to_f64(number: i64) -> f64 {
+    number as f64
+}
+
+/// The nearest number of 32 bits, and of two as near the even one.
+#[inline]
+pub fn nearest_f64_to_f32_with_nan(number: f64) -> f32 {
+    number as f32
+}
+
 /// The number without its fraction: the least or the largest where it is past them, and 0 where it is none.
 #[inline]
 pub fn saturating_f32_to_i32(number: f32) -> i32 {
+    number as i32
+}
+
+/// The number without its fraction: the least or the largest where it is past them, and 0 where it is none.
+#[inline]
+pub fn saturating_f64_to_i32(number: f64) -> i32 {
     number as i32
 }
 
@@ -51,6 +69,40 @@ impl Round for f32 {
     fn ceil(self) -> f32 {
         -Round::floor(-self)
     }
+}
+
+impl Round for f64 {
+    fn round(self) -> f64 {
+        if is_whole_64(self) {
+            return self;
+        }
+        let whole = self as i64 as f64;
+        let rest = self - whole;
+        let rounded = if rest.abs() >= 0.5 {
+            whole + 1f64.copysign(self)
+        } else {
+            whole
+        };
+        rounded.copysign(self)
+    }
+
+    fn floor(self) -> f64 {
+        if is_whole_64(self) {
+            return self;
+        }
+        let whole = self as i64 as f64;
+        let below = if whole > self { whole - 1. } else { whole };
+        below.copysign(self)
+    }
+
+    fn ceil(self) -> f64 {
+        -Round::floor(-self)
+    }
+}
+
+/// From 2^52 on each number is whole.
+fn is_whole_64(number: f64) -> bool {
+    number.is_nan() || number.abs() >= 4_503_599_627_370_496.0
 }
 
 /// From 2^23 on each number is whole.

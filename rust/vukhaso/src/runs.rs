@@ -4,7 +4,7 @@
 
 pub use crate::buffer;
 pub use call::{Answer, Call};
-pub use call_list::{Stopped, replay};
+pub use call_list::{Stopped, make_call, replay};
 pub use rendering::{MAX_FEATURES, RenderFault, render, render_at};
 
 pub mod call;

@@ -4,7 +4,14 @@
 
 pub use features::{collect_features, override_features};
 pub use plan::script_plan;
+pub use syllables::syllable_plan;
 
 mod arabic;
 mod features;
+mod indic;
+mod khmer;
+mod myanmar;
 mod plan;
+mod requests;
+mod syllables;
+mod universal;

@@ -23,3 +23,4 @@ mod moves;
 mod plan;
 mod shaper;
 mod thai;
+mod universal;

@@ -5,11 +5,12 @@ ghost use Rattle.shaping_buffer.specs.Clusters.{clusters};
 ghost use Rattle.shaping_buffer.specs.KeepsClusters.{KeepsClusters};
 
 use super::drop_behind;
-use super::parts::{MOST_STEPS, Parts, add_parts};
+use super::parts::{MOST_STEPS, Parts, Taking, add_parts};
 use super::variations::read_variations;
 use crate::face::Face;
 use crate::glyph_info::{is_unicode_mark, is_unicode_space, set_space_fallback, set_unicode_props};
 use rb_common::GlyphId;
+use script_shapers::{NormalizationMode, ScriptShaper};
 use shaping_buffer::rb_glyph::hb_unicode_funcs_t::NOT_SPACE;
 use shaping_buffer::rb_glyph::space_t;
 use shaping_buffer::{
@@ -22,13 +23,13 @@ const NON_BREAKING_HYPHEN: u32 = 0x2011;
 
 const HYPHEN: u32 = 0x2010;
 
-/// Finds a glyph for each character, or for its parts. Where `always_shortest` holds, a character with marks is kept too if the font
-/// has a glyph for it.
+/// Finds a glyph for each character, or for its parts. By the mode of a script's shaper, a character with marks is kept too if the font
+/// has a glyph for it, or one without marks is taken apart too.
 #[tactic(auto, using(shaping_buffer::proofs::ClosedKeepsLemmas::kept))]
 pub(crate) fn decompose_all(
     buffer: &mut hb_buffer_t,
     face: &Face,
-    always_shortest: bool,
+    shaper: ScriptShaper,
 ) -> Result<bool, AllocError>
     requires { buffer.old.have_output ≡ false }
     ensures closed { IfOk result (λ done. done ≡ true → buffer.new.have_output ≡ false) }
@@ -40,7 +41,7 @@ pub(crate) fn decompose_all(
         if buffer.lookahead_len() == 0 {
             break;
         }
-        if !decompose_next(buffer, face, always_shortest)? {
+        if !decompose_next(buffer, face, shaper)? {
             return Ok(false);
         }
     }
@@ -72,21 +73,31 @@ fn map_all(infos: &mut [hb_glyph_info_t], face: &Face)
 fn decompose_next(
     buffer: &mut hb_buffer_t,
     face: &Face,
-    always_shortest: bool,
+    shaper: ScriptShaper,
 ) -> Result<bool, AllocError>
     requires { buffer.old.have_output ≡ true }
     ensures opened { IfOk result (λ _. buffer.new.have_output ≡ true) }
     ensures keeps { KeepsClusters buffer.old buffer.new }
 {
+    let mode = shaper.normalization_mode();
+    let taking = Taking {
+        face,
+        shaper,
+        shortest: mode != NormalizationMode::TakenApart,
+    };
     let simple = simple_length(buffer.info());
-    if !decompose_characters(buffer, face, simple, true)? {
+    if !decompose_characters(buffer, &taking, simple)? {
         return Ok(false);
     }
     let cluster = cluster_length(buffer.info());
     if has_variation_selector(buffer.info(), cluster) {
         read_variations(buffer, face, cluster)
     } else {
-        decompose_characters(buffer, face, cluster, always_shortest)
+        let taking = Taking {
+            shortest: mode == NormalizationMode::Nothing,
+            ..taking
+        };
+        decompose_characters(buffer, &taking, cluster)
     }
 }
 
@@ -126,14 +137,13 @@ pub(crate) fn is_variation_selector(character: u32) -> bool {
     }
 }
 
-/// Reads so many characters: each that the font has a glyph for is kept where `shortest` holds, and else taken apart if
+/// Reads so many characters: each that the font has a glyph for is kept where as few are taken apart as can be, and else taken apart if
 /// the font has its parts.
 #[tactic(auto, using(shaping_buffer::proofs::ClosedKeepsLemmas::kept))]
 fn decompose_characters(
     buffer: &mut hb_buffer_t,
-    face: &Face,
+    taking: &Taking,
     count: usize,
-    shortest: bool,
 ) -> Result<bool, AllocError>
     requires { buffer.old.have_output ≡ true }
     ensures opened { IfOk result (λ _. buffer.new.have_output ≡ true) }
@@ -141,7 +151,7 @@ fn decompose_characters(
 {
     let mut left = count;
     for _turn in 0..count {
-        let ready = ready_length(buffer.info(), left, shortest);
+        let ready = ready_length(buffer.info(), left, taking.shortest);
         if !buffer.next_glyphs(ready)? {
             return Ok(false);
         }
@@ -149,7 +159,7 @@ fn decompose_characters(
         if left == 0 || buffer.lookahead_len() == 0 {
             break;
         }
-        if !decompose_current(buffer, face, shortest)? {
+        if !decompose_current(buffer, taking)? {
             return Ok(false);
         }
         left -= 1;
@@ -174,11 +184,7 @@ fn ready_length(infos: &[hb_glyph_info_t], count: usize, shortest: bool) -> usiz
 
 /// Reads one character: puts its parts out in its place, or itself with a glyph.
 #[tactic(auto, using(shaping_buffer::proofs::ClosedKeepsLemmas::kept))]
-fn decompose_current(
-    buffer: &mut hb_buffer_t,
-    face: &Face,
-    shortest: bool,
-) -> Result<bool, AllocError>
+fn decompose_current(buffer: &mut hb_buffer_t, taking: &Taking) -> Result<bool, AllocError>
     requires opened { buffer.old.have_output ≡ true }
     requires glyph { 0 < length buffer.old.input }
     ensures opened { IfOk result (λ _. buffer.new.have_output ≡ true) }
@@ -186,12 +192,12 @@ fn decompose_current(
 {
     let mut parts = Parts::new();
     if let Some(character) = char::from_u32(buffer.cur(0).glyph_id)
-        && add_parts(&mut parts, face, character, shortest, MOST_STEPS)
+        && add_parts(&mut parts, taking, character, MOST_STEPS)
     {
-        return put_parts(buffer, face, &parts);
+        return put_parts(buffer, taking.face, &parts);
     }
     if buffer.cur(0).glyph_index() == 0 {
-        find_fallback(buffer, face);
+        find_fallback(buffer, taking.face);
     }
     buffer.next_glyph()
 }

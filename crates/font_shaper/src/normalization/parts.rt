@@ -4,7 +4,7 @@ ghost use Rattle.std.specs.Prelude.{◌≡◌, ◌+◌, ◌<◌, ◌≤◌, leng
 
 use crate::face::Face;
 use arrayvec::ArrayVec;
-use unicode_tables::decompose;
+use script_shapers::ScriptShaper;
 
 /// How often a character is taken apart at most. No character of Unicode needs as many.
 pub(crate) const MOST_STEPS: usize = 8;
@@ -12,16 +12,21 @@ pub(crate) const MOST_STEPS: usize = 8;
 /// Room for the parts of one character.
 pub(crate) type Parts = ArrayVec<char, 9>;
 
-/// Adds the parts of a character in at most so many steps, if the font has a glyph for each: the fewest parts that do
-/// where `shortest` holds, and else the most. Whether there are such parts; if not, nothing is added.
+/// How characters are taken apart.
+#[derive(Clone, Copy, Debug)]
+pub(crate) struct Taking<'a> {
+    /// The font.
+    pub face: &'a Face<'a>,
+    /// The shaper of the text, which says what a character decomposes to.
+    pub shaper: ScriptShaper,
+    /// Whether they are taken apart as little as the font needs, and not as far as it can.
+    pub shortest: bool,
+}
+
+/// Adds the parts of a character in at most so many steps, if the font has a glyph for each: the fewest parts that do, or the most.
+/// Whether there are such parts; if not, nothing is added.
 #[cycle(parts)]
-pub(crate) fn add_parts(
-    parts: &mut Parts,
-    face: &Face,
-    character: char,
-    shortest: bool,
-    steps: usize,
-) -> bool
+pub(crate) fn add_parts(parts: &mut Parts, taking: &Taking, character: char, steps: usize) -> bool
     requires { length parts.old.items + steps < 9 }
     ensures most { length parts.new.items ≤ length parts.old.items + steps + 1 }
     ensures none { result ≡ false → parts.new.items ≡ parts.old.items }
@@ -29,11 +34,11 @@ pub(crate) fn add_parts(
     if steps == 0 {
         return false;
     }
-    let Some((first, second)) = decompose(character) else {
+    let Some((first, second)) = taking.shaper.decompose(character) else {
         return false;
     };
-    if second.is_some_and(|second| !face.has_glyph(second))
-        || !add_first(parts, face, first, shortest, steps)
+    if second.is_some_and(|second| !taking.face.has_glyph(second))
+        || !add_first(parts, taking, first, steps)
     {
         return false;
     }
@@ -45,18 +50,18 @@ pub(crate) fn add_parts(
 
 /// Adds the first part of a character, or the parts of that.
 #[cycle(parts)]
-fn add_first(parts: &mut Parts, face: &Face, first: char, shortest: bool, steps: usize) -> bool
+fn add_first(parts: &mut Parts, taking: &Taking, first: char, steps: usize) -> bool
     requires some { 0 < steps }
     requires room { length parts.old.items + steps < 9 }
     ensures most { length parts.new.items ≤ length parts.old.items + steps }
     ensures none { result ≡ false → parts.new.items ≡ parts.old.items }
 {
-    let has_first = face.has_glyph(first);
-    if shortest && has_first {
+    let has_first = taking.face.has_glyph(first);
+    if taking.shortest && has_first {
         parts.push(first);
         return true;
     }
-    if add_parts(parts, face, first, shortest, steps - 1) {
+    if add_parts(parts, taking, first, steps - 1) {
         return true;
     }
     if has_first {

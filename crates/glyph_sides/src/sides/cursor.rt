@@ -8,7 +8,7 @@ ghost use Rattle.glyph_sides.specs.TwoLists as lists;
 ghost use Rattle.glyph_sides.specs.TwoLists.{Makes, left};
 
 use super::Sides;
-use crate::shifts::{close_gap, put_down};
+use crate::shifts::{close_gap, leave, put_down};
 use rb_glyph::hb_glyph_info_t;
 use std::alloc::AllocError;
 use std::mem;
@@ -24,7 +24,7 @@ impl Sides {
         ensures in_place { self.old.is_separate ≡ false → IsOk result }
     {
         if self.is_separate {
-            return self.next_apart(n);
+            return self.next_separate(n);
         }
         if self.gap == 0 {
             self.cursor += n;
@@ -44,7 +44,7 @@ impl Sides {
         ensures in_place { self.old.is_separate ≡ false → IsOk result }
     {
         if self.is_separate {
-            return self.one_apart();
+            return self.next_one_separate();
         }
         if self.gap == 0 {
             self.cursor += 1;
@@ -58,9 +58,9 @@ impl Sides {
     }
 
     /// Behind a separate output. The room is made first, so that the glyph is copied once.
-    fn one_apart(&mut self) -> Result<(), AllocError>
+    fn next_one_separate(&mut self) -> Result<(), AllocError>
         requires opened { self.old.is_open ≡ true }
-        requires apart { self.old.is_separate ≡ true }
+        requires separate { self.old.is_separate ≡ true }
         requires glyph { 0 < length self.old.input }
         ensures { Makes (lists.next 1 self.old) self.old result self.new }
     {
@@ -71,9 +71,9 @@ impl Sides {
     }
 
     #[inline(never)]
-    fn next_apart(&mut self, n: usize) -> Result<(), AllocError>
+    fn next_separate(&mut self, n: usize) -> Result<(), AllocError>
         requires opened { self.old.is_open ≡ true }
-        requires apart { self.old.is_separate ≡ true }
+        requires separate { self.old.is_separate ≡ true }
         requires within { n ≤ length self.old.input }
         ensures { Makes (lists.next n self.old) self.old result self.new }
     {
@@ -109,7 +109,7 @@ impl Sides {
         }
         let (gap, cursor) = (self.gap, self.cursor);
         if gap + read == 0 {
-            return self.put_away(glyph);
+            return self.put_separate(glyph);
         }
         self.info[cursor - gap] = glyph;
         self.gap = gap + read - 1;
@@ -118,16 +118,13 @@ impl Sides {
     }
 
     /// Puts out one glyph more than were read: with those before it, it leaves the storage of the input.
-    fn put_away(&mut self, glyph: hb_glyph_info_t) -> Result<(), AllocError>
+    fn put_separate(&mut self, glyph: hb_glyph_info_t) -> Result<(), AllocError>
         requires opened { self.old.is_open ≡ true }
-        requires near { self.old.is_separate ≡ false }
+        requires in_place { self.old.is_separate ≡ false }
         requires full { self.old.idx ≤ length self.old.out }
         ensures { Makes (lists.put (glyph ∷ []) self.old) self.old result self.new }
     {
-        self.out_info.reserve(self.cursor + 1)?;
-        self.out_info
-            .extend_from_slice(&self.info[..self.cursor])
-            .unwrap();
+        leave(&mut self.out_info, &self.info[..self.cursor], 1)?;
         self.out_info.push_reserved(glyph);
         self.is_separate = true;
         Ok(())
@@ -141,7 +138,7 @@ impl Sides {
         ensures { Makes (lists.closed self.old) self.old result self.new }
     {
         if self.is_separate {
-            return self.close_apart();
+            return self.close_separate();
         }
         if self.gap > 0 {
             close_gap(&mut self.info, self.cursor - self.gap, self.cursor);
@@ -153,9 +150,9 @@ impl Sides {
     }
 
     #[inline(never)]
-    fn close_apart(&mut self) -> Result<(), AllocError>
+    fn close_separate(&mut self) -> Result<(), AllocError>
         requires opened { self.old.is_open ≡ true }
-        requires apart { self.old.is_separate ≡ true }
+        requires separate { self.old.is_separate ≡ true }
         ensures { Makes (lists.closed self.old) self.old result self.new }
     {
         if self.out_info.is_empty() {

@@ -1,13 +1,16 @@
 //! Several glyphs give way to copies of the first.
 
 ghost use Rattle.std.specs.Prelude.{◌≡◌, ◌+◌, ◌<◌, ◌≤◌, true, false, length, OnOk};
+ghost use Rattle.glyph_lists.specs.ClusterOrder.{is_any};
 ghost use Rattle.glyph_lists.specs.Replacement.{copies};
 ghost use Rattle.glyph_sides.specs.TwoLists as lists;
 ghost use Rattle.glyph_sides.specs.TwoLists.{Makes, len, replaced};
 
 use super::Sides;
 use crate::copies::{append_copies, write_copies};
-use crate::merged_copies;
+use crate::merged_copies::{append_merged, write_merged};
+use crate::shifts::leave;
+use glyph_lists::cluster_order::ClusterOrder;
 use glyph_lists::merged_head::{keeps_head, lowered_head};
 use rb_glyph::hb_glyph_info_t;
 use std::alloc::AllocError;
@@ -22,7 +25,7 @@ impl Sides {
         &mut self,
         count: usize,
         ids: &[u32],
-        any_order: bool,
+        order: ClusterOrder,
         max_len: usize,
     ) -> bool
         requires opened { self.old.is_open ≡ true }
@@ -30,18 +33,18 @@ impl Sides {
         requires within { count ≤ length self.old.input }
         requires out { length self.old.out ≤ max_len }
         requires input { len self.old ≤ max_len }
-        ensures done { result ≡ true → self.new ≡ replaced any_order count ids.now self.old }
+        ensures done { result ≡ true → self.new ≡ replaced (is_any order) count ids.now self.old }
         ensures out_len { result ≡ true
             → length self.new.out ≡ length self.old.out + length ids.now }
         ensures input_len { result ≡ true
             → length self.new.input + count ≡ length self.old.input }
         ensures fits { result ≡ true → length self.old.out + length ids.now ≤ max_len }
-        ensures unmarked { result ≡ true → any_order ≡ true → count < 2 }
+        ensures unmarked { result ≡ true → is_any order ≡ true → count < 2 }
         ensures same { result ≡ false → self.new ≡ self.old }
     {
         // Read before the test, the glyph is kept in one piece for the copies.
         let head = self.info[self.cursor];
-        if !keeps_head(&self.info[self.cursor..], count, any_order) {
+        if !keeps_head(&self.info[self.cursor..], count, order) {
             return false;
         }
         if self.is_separate && ids.len() > max_len - self.out_info.len() {
@@ -58,7 +61,7 @@ impl Sides {
         requires within { read ≤ length self.old.input }
         ensures done { result ≡ true
             → self.new ≡ lists.put (copies glyph ids.now) (lists.skip read self.old) }
-        ensures near { result ≡ true → self.old.is_separate ≡ false
+        ensures in_place { result ≡ true → self.old.is_separate ≡ false
             → length self.old.out + length ids.now ≤ self.old.idx + read }
         ensures same { result ≡ false → self.new ≡ self.old }
     {
@@ -83,116 +86,82 @@ impl Sides {
     /// Merges, or marks, the first `count` glyphs of the input, and puts out copies of the first as it then stands in
     /// place of them, one under each id. Requires an open output, a glyph at the cursor and as many glyphs there.
     #[tactic(auto, using(crate::proofs::ReplacementLemmas::lengths))]
-    pub fn replace(&mut self, count: usize, ids: &[u32], any_order: bool) -> Result<(), AllocError>
+    pub fn replace(
+        &mut self,
+        count: usize,
+        ids: &[u32],
+        order: ClusterOrder,
+    ) -> Result<(), AllocError>
         requires opened { self.old.is_open ≡ true }
         requires glyph { 0 < length self.old.input }
         requires within { count ≤ length self.old.input }
-        ensures made { Makes (replaced any_order count ids.now self.old) self.old result self.new }
+        ensures made { Makes (replaced (is_any order) count ids.now self.old) self.old result self.new }
         ensures out_len { OnOk result
             (length self.new.out ≡ length self.old.out + length ids.now) }
         ensures input_len { OnOk result
             (length self.new.input + count ≡ length self.old.input) }
     {
-        if let Some(head) = lowered_head(self.out(), self.input(), count, any_order)
+        if let Some(head) = lowered_head(self.out(), self.input(), count, order)
             && self.put_copies(head, ids, count)
         {
             return Ok(());
         }
-        self.replace_merged(count, ids, any_order)
+        self.replace_merged(count, ids, order)
     }
 
-    /// Does that by the merge, whatever it changes.
+    /// Replaces as `replace` does, whatever the merge changes.
     fn replace_merged(
         &mut self,
         count: usize,
         ids: &[u32],
-        any_order: bool,
+        order: ClusterOrder,
     ) -> Result<(), AllocError>
         requires opened { self.old.is_open ≡ true }
         requires glyph { 0 < length self.old.input }
         requires within { count ≤ length self.old.input }
-        ensures { Makes (replaced any_order count ids.now self.old) self.old result self.new }
+        ensures { Makes (replaced (is_any order) count ids.now self.old) self.old result self.new }
     {
-        if self.is_separate {
-            return self.replace_apart(count, ids, any_order);
+        if self.is_separate || ids.len() > self.gap + count {
+            return self.replace_separate(count, ids, order);
         }
-        if ids.len() > self.gap + count {
-            return self.replace_away(count, ids, any_order);
-        }
-        self.replace_in_place(count, ids, any_order);
+        self.replace_in_place(count, ids, order);
         Ok(())
     }
 
-    fn replace_apart(
+    fn replace_separate(
         &mut self,
         count: usize,
         ids: &[u32],
-        any_order: bool,
+        order: ClusterOrder,
     ) -> Result<(), AllocError>
         requires opened { self.old.is_open ≡ true }
-        requires apart { self.old.is_separate ≡ true }
         requires glyph { 0 < length self.old.input }
         requires within { count ≤ length self.old.input }
-        ensures { Makes (replaced any_order count ids.now self.old) self.old result self.new }
+        requires separate { self.old.is_separate ≡ false
+            → self.old.idx + count < length self.old.out + length ids.now }
+        ensures { Makes (replaced (is_any order) count ids.now self.old) self.old result self.new }
     {
-        self.out_info.reserve(ids.len())?;
-        merged_copies::replace_apart(
-            &mut self.out_info,
-            &mut self.info,
-            self.cursor,
-            count,
-            ids,
-            any_order,
-        );
-        self.cursor += count;
+        let at = self.cursor;
+        let placed = if self.is_separate { 0 } else { at - self.gap };
+        leave(&mut self.out_info, &self.info[..placed], ids.len())?;
+        append_merged(&mut self.out_info, &mut self.info[at..], count, ids, order);
+        self.gap = 0;
+        self.is_separate = true;
+        self.cursor = at + count;
         Ok(())
     }
 
-    fn replace_in_place(&mut self, count: usize, ids: &[u32], any_order: bool)
+    fn replace_in_place(&mut self, count: usize, ids: &[u32], order: ClusterOrder)
         requires opened { self.old.is_open ≡ true }
-        requires near { self.old.is_separate ≡ false }
+        requires in_place { self.old.is_separate ≡ false }
         requires glyph { 0 < length self.old.input }
         requires within { count ≤ length self.old.input }
         requires room { length self.old.out + length ids.now ≤ self.old.idx + count }
-        ensures { self.new ≡ replaced any_order count ids.now self.old }
+        ensures { self.new ≡ replaced (is_any order) count ids.now self.old }
     {
         let (gap, cursor) = (self.gap, self.cursor);
-        merged_copies::replace_in_place(
-            &mut self.info,
-            cursor - gap,
-            cursor,
-            count,
-            ids,
-            any_order,
-        );
+        write_merged(&mut self.info, cursor - gap..cursor, count, ids, order);
         self.gap = gap + count - ids.len();
         self.cursor = cursor + count;
-    }
-
-    fn replace_away(&mut self, count: usize, ids: &[u32], any_order: bool) -> Result<(), AllocError>
-        requires opened { self.old.is_open ≡ true }
-        requires near { self.old.is_separate ≡ false }
-        requires glyph { 0 < length self.old.input }
-        requires within { count ≤ length self.old.input }
-        requires past { self.old.idx + count < length self.old.out + length ids.now }
-        ensures { Makes (replaced any_order count ids.now self.old) self.old result self.new }
-    {
-        let placed = self.cursor - self.gap;
-        self.out_info.reserve(placed + ids.len())?;
-        self.out_info
-            .extend_from_slice(&self.info[..placed])
-            .unwrap();
-        merged_copies::replace_apart(
-            &mut self.out_info,
-            &mut self.info,
-            self.cursor,
-            count,
-            ids,
-            any_order,
-        );
-        self.gap = 0;
-        self.is_separate = true;
-        self.cursor += count;
-        Ok(())
     }
 }

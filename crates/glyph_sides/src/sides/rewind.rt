@@ -18,7 +18,7 @@ impl Sides {
         ensures { Makes (lists.take_back i self.old) self.old result self.new }
     {
         if self.is_separate {
-            return self.take_back_apart(i);
+            return self.take_back_separate(i);
         }
         if self.gap == 0 {
             self.cursor = i;
@@ -34,8 +34,8 @@ impl Sides {
     /// as it takes back, so that many such moves together take no longer than the glyphs that they take back. Memory is
     /// asked for only where that room is too small for the places that are missing; where there is none for so many, the
     /// input moves up by those that are missing.
-    fn take_back_apart(&mut self, i: usize) -> Result<(), AllocError>
-        requires apart { self.old.is_separate ≡ true }
+    fn take_back_separate(&mut self, i: usize) -> Result<(), AllocError>
+        requires separate { self.old.is_separate ≡ true }
         requires behind { i < length self.old.out }
         ensures { Makes (lists.take_back i self.old) self.old result self.new }
     {

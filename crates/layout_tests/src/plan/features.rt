@@ -110,6 +110,8 @@ fn the_default_shaper_plans(rt: HostRuntime) -> Result<(), Fail> {
             is_cross_stream: false,
             has_machine: false,
         },
+        gsub_substitutions: &[],
+        gpos_substitutions: &[],
     };
     let text = TextProperties {
         direction: Direction::LeftToRight,

@@ -21,10 +21,10 @@ impl hb_buffer_t {
         ensures is { self.new ≡ step.delete_glyph self.old }
         ensures keeps { KeepsClusters self.old self.new }
     {
-        let any_order = self.any_order();
-        if any_order && deletion::merges_next(self.sides.out(), self.sides.input()) {
+        let order = self.cluster_order();
+        if order.is_any() && deletion::merges_next(self.sides.out(), self.sides.input()) {
             self.set_has_glyph_flags();
         }
-        self.sides.delete_head(any_order);
+        self.sides.delete_head(order);
     }
 }

@@ -8,7 +8,7 @@
 //! `HB_BUFFER_SCRATCH_FLAG_HAS_GLYPH_FLAGS`: each says when.
 
 ghost use Rattle.std.specs.Prelude.{◌≡◌, ◌≤◌, true, false, length};
-ghost use Rattle.glyph_lists.specs.RangeChange.{changed, MayChange};
+ghost use Rattle.glyph_lists.specs.RangeChange.{changed};
 ghost use Rattle.shaping_buffer.specs.State.{len};
 ghost use Rattle.shaping_buffer.specs.ClusterStep as step;
 ghost use Rattle.shaping_buffer.specs.ClusterStep.{any_order, range_start, range_end};
@@ -53,7 +53,7 @@ impl hb_buffer_t {
         let to = self.both_place(self.range_end(end));
         let scan = RangeChange::Scan {
             bits: BREAK_BITS,
-            any_order: self.any_order(),
+            order: self.cluster_order(),
         };
         self.flag_range(start.unwrap_or(0), to, scan);
     }
@@ -130,9 +130,9 @@ impl hb_buffer_t {
         if to - from < 2 {
             return;
         }
-        let any_order = self.any_order();
+        let order = self.cluster_order();
         self.set_has_glyph_flags();
-        self.sides.scan_input(from, to, bits, any_order);
+        self.sides.scan_input(from, to, bits, order);
     }
 
     /// The end of a flag call's range, cut to the length.
@@ -145,10 +145,9 @@ impl hb_buffer_t {
         end.unwrap_or(len).min(len)
     }
 
-    /// A change of the glyphs of both sides from `from` to `to` that leaves glyph flags. A scan requires that `to` is in
-    /// the input.
+    /// A change of the glyph flags of both sides from `from` to `to`, which is in the input.
     fn flag_range(&mut self, from: usize, to: usize, change: RangeChange)
-        requires may { MayChange change (length self.old.out) from to }
+        requires past_out { length self.old.out ≤ to }
         requires order { from ≤ to }
         requires within { to ≤ length (step.both self.old) }
         ensures { self.new ≡ step.flagged (step.with_both

@@ -140,13 +140,8 @@ impl hb_buffer_t {
             → KeepsClusters self.old self.new }
     {
         prove!(!self.sides.is_open());
-        let any_order = self.any_order();
-        let (kept, merges) = delete_in_place(
-            self.sides.list_mut(),
-            &mut self.pos,
-            any_order,
-            &filter,
-        );
+        let order = self.cluster_order();
+        let (kept, merges) = delete_in_place(self.sides.list_mut(), &mut self.pos, order, &filter);
         self.sides.truncate(kept);
         self.pos.truncate(kept);
         if merges {

@@ -4,15 +4,15 @@
 //! (`merge_clusters`), or of the out side (`merge_out_clusters`), and the glyph at `end` is not part of it. A glyph
 //! whose cluster changes loses its glyph flags, and the others keep theirs.
 
-ghost use Rattle.std.specs.Prelude.{◌≡◌, ◌≤◌, true, false, length};
+ghost use Rattle.std.specs.Prelude.{◌≡◌, ◌≤◌, true, length};
 ghost use Rattle.shaping_buffer.specs.State.{len};
-ghost use Rattle.glyph_lists.specs.Clusters.{with_cluster, run_merge};
+ghost use Rattle.glyph_lists.specs.Clusters.{with_cluster};
 ghost use Rattle.shaping_buffer.specs.ClusterStep as step;
 ghost use Rattle.shaping_buffer.specs.KeepsClusters.{KeepsClusters};
 
 use super::hb_buffer_t;
+use glyph_lists::cluster_order::ClusterOrder;
 use glyph_lists::clusters;
-use glyph_lists::range_change::RangeChange;
 use rb_glyph::hb_glyph_info_t;
 
 impl hb_buffer_t {
@@ -36,11 +36,11 @@ impl hb_buffer_t {
         ensures is { self.new ≡ step.merge_clusters start end self.old }
         ensures keeps { KeepsClusters self.old self.new }
     {
-        if self.sides.is_open() || self.any_order() {
-            self.merge_input(start, end);
-            return;
+        let order = self.cluster_order();
+        if order.is_any() && end - start >= 2 {
+            self.set_has_glyph_flags();
         }
-        self.merge_closed(start, end);
+        self.sides.merge_input(start, end, order);
     }
 
     /// Makes a grapheme one cluster: the input's glyphs from `start` to `end`. They are merged as by `merge_clusters`
@@ -54,64 +54,16 @@ impl hb_buffer_t {
         ensures is { self.new ≡ step.merge_grapheme_clusters start end self.old }
         ensures keeps { KeepsClusters self.old self.new }
     {
-        if !self.groups_graphemes() {
+        if self.groups_graphemes() {
+            self.sides.merge_input(start, end, ClusterOrder::Monotone);
+        } else {
             self.unsafe_to_break(Some(start), Some(end));
-        } else if self.sides.is_open() {
-            self.merge_sides(self.both_place(start), self.both_place(end), false);
-        } else {
-            self.merge_closed(start, end);
         }
-    }
-
-    /// Merges the glyphs from `start` to `end` where no output is open.
-    #[inline(always)]
-    fn merge_closed(&mut self, start: usize, end: usize)
-        requires closed { self.old.have_output ≡ false }
-        requires order { start ≤ end }
-        requires within { end ≤ len self.old }
-        ensures { self.new ≡ record self.old {
-          input = run_merge self.old.input start end self.old.idx;
-        } }
-    {
-        self.sides.merge_list(start, end);
-    }
-
-    /// Merges the same, or marks it at levels 2 and 3, with an output open or none.
-    #[inline(never)]
-    fn merge_input(&mut self, start: usize, end: usize)
-        requires order { start ≤ end }
-        requires within { end ≤ len self.old }
-        requires past_cursor { self.old.have_output ≡ true → self.old.idx ≤ start }
-        ensures { self.new ≡ step.merge_clusters start end self.old }
-    {
-        let any_order = self.any_order();
-        if any_order && end - start >= 2 {
-            self.set_has_glyph_flags();
-        }
-        self.merge_sides(self.both_place(start), self.both_place(end), any_order);
-    }
-
-    /// Merges the glyphs of both sides from place `from`, which is not in the out side, to `to`, or marks them.
-    #[inline(never)]
-    fn merge_sides(&mut self, from: usize, to: usize, any_order: bool)
-        requires past_out { length self.old.out ≤ from }
-        requires order { from ≤ to }
-        requires within { to ≤ length (step.both self.old) }
-        ensures { self.new ≡ step.merge_sides any_order from to self.old }
-    {
-        let floor = if self.sides.is_open() {
-            0
-        } else {
-            self.sides.idx()
-        };
-        let merge = RangeChange::Merge { floor, any_order };
-        self.sides.change_range(from, to, merge);
     }
 
     /// Merges the clusters of the out side's glyphs from `start` to `end`, and of the runs at its ends, also into the
     /// input, into the least of them; a glyph that changes its cluster loses its glyph flags. At levels 2 and 3 nothing
     /// changes, and fewer than two glyphs stay as they are. Requires an open output, and `start <= end <= out_len`.
-    #[tactic(auto, using(glyph_lists::proofs::SidesLemmas::merge_or_mark_merges))]
     pub fn merge_out_clusters(&mut self, start: usize, end: usize)
         requires opened { self.old.have_output ≡ true }
         requires order { start ≤ end }
@@ -119,13 +71,8 @@ impl hb_buffer_t {
         ensures is { self.new ≡ step.merge_out_clusters start end self.old }
         ensures keeps { KeepsClusters self.old self.new }
     {
-        if self.any_order() {
-            return;
+        if !self.cluster_order().is_any() {
+            self.sides.merge_out(start, end);
         }
-        let merge = RangeChange::Merge {
-            floor: 0,
-            any_order: false,
-        };
-        self.sides.change_range(start, end, merge);
     }
 }

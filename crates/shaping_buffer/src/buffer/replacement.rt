@@ -34,9 +34,9 @@ impl hb_buffer_t {
         ensures keeps { 0 < num_out → KeepsClusters self.old self.new }
     {
         let ids = &glyph_data[..num_out];
-        let any_order = self.any_order();
+        let order = self.cluster_order();
         let max_len = self.max_len;
-        if self.sides.replace_kept(num_in, ids, any_order, max_len) {
+        if self.sides.replace_kept(num_in, ids, order, max_len) {
             return Ok(true);
         }
         self.replace_any(num_in, ids)
@@ -54,9 +54,9 @@ impl hb_buffer_t {
             self.successful = false;
             return Ok(false);
         }
-        let any_order = self.any_order();
-        self.sides.replace(count, ids, any_order)?;
-        if any_order && count >= 2 {
+        let order = self.cluster_order();
+        self.sides.replace(count, ids, order)?;
+        if order.is_any() && count >= 2 {
             self.set_has_glyph_flags();
         }
         Ok(true)

@@ -6,7 +6,7 @@ ghost use Rattle.glyph_lists.specs.Clusters.{zero_glyph, IsCoarse, IsMonotone};
 ghost use Rattle.shaping_buffer.specs.ClusterStep.{any_order, both, head_of};
 ghost use Rattle.shaping_buffer.specs.State.{lookahead_len};
 ghost use Rattle.shaping_buffer.specs.Step.{with_id};
-ghost use Rattle.shaping_passes.specs.NormalizationGlyphs.{core, cores};
+ghost use Rattle.glyph_laws.specs.Cores.{core, cores};
 ghost use Rattle.shaping_passes.specs.NormalizationComposition.{composed, composed_at, composed_glyphs, pair_composed};
 ghost use Rattle.shaping_passes.specs.NormalizationComposition.{so_far, pair_of, IsReady, IsPlace, kept_one};
 ghost use Rattle.shaping_passes.specs.NormalizationDecomposition.{closed_over};
@@ -43,6 +43,7 @@ pub fn compose_marks(
     if !buffer.successful() {
         return Ok(false);
     }
+    // Read for what its contract says: the list is no longer than `max_len`.
     let _ = buffer.len();
     buffer.clear_output();
     let mut starter = None;

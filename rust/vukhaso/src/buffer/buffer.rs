@@ -11,6 +11,7 @@ use crate::glyph::{
     BufferFlags, Flags, GlyphPosition, HB_BUFFER_SCRATCH_FLAG_DEFAULT,
     HB_BUFFER_SCRATCH_FLAG_HAS_GLYPH_FLAGS, hb_buffer_scratch_flags_t, hb_glyph_info_t,
 };
+use crate::glyph_lists::cluster_order::ClusterOrder;
 use crate::glyph_lists::context::Context;
 use crate::glyph_sides::Sides;
 use crate::memory::Vec;
@@ -390,12 +391,15 @@ impl hb_buffer_t {
         self.scratch_flags = HB_BUFFER_SCRATCH_FLAG_DEFAULT;
     }
 
-    /// Whether clusters may stand in any order: then merges mark glyphs in place of merging, and scans read
-    /// all clusters.
+    /// The order in which clusters stand at the buffer's level.
     #[inline(always)]
-    fn any_order(&self) -> bool {
-        self.cluster_level == HB_BUFFER_CLUSTER_LEVEL_CHARACTERS
-            || self.cluster_level == HB_BUFFER_CLUSTER_LEVEL_GRAPHEMES
+    fn cluster_order(&self) -> ClusterOrder {
+        match self.cluster_level {
+            HB_BUFFER_CLUSTER_LEVEL_CHARACTERS | HB_BUFFER_CLUSTER_LEVEL_GRAPHEMES => {
+                ClusterOrder::Any
+            }
+            _ => ClusterOrder::Monotone,
+        }
     }
 
     /// Whether `merge_grapheme_clusters` makes a grapheme one cluster.

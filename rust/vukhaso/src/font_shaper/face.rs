@@ -5,6 +5,7 @@
 use crate::character_maps::CharacterMap;
 use crate::common::{GlyphId, Tag};
 use crate::font_shaper::layout::Layout;
+use crate::font_shaper::variations::FaceVariations;
 use crate::font_tables::bytes::u16_at;
 use crate::font_tables::directory::Tables;
 use crate::font_tables::extents::{FontExtents, horizontal_extents, long_metric_count};
@@ -59,6 +60,8 @@ pub struct Face<'a> {
     pub has_gpos: bool,
     /// The size at which the font is used.
     pub scale: Scale,
+    /// What the font says of its variations, and those that are chosen.
+    pub variations: FaceVariations<'a>,
 }
 
 /// The outlines of a font.
@@ -208,6 +211,7 @@ impl<'a> Face<'a> {
 /// - `IsLayoutOf layout tables`
 fn face_of<'a>(tables: Tables<'a>, layout: Layout<'a>, lookups: Lookups<'a>) -> Face<'a> {
     let head = tables.table(Tag::from_bytes(b"head"));
+    let definitions = definitions_of(tables.table(Tag::from_bytes(b"GDEF")), &layout);
     let units_per_em = units_per_em(head);
     let glyph_count = glyph_count(tables.table(Tag::from_bytes(b"maxp")));
     let os2 = tables.table(Tag::from_bytes(b"OS/2"));
@@ -228,13 +232,14 @@ fn face_of<'a>(tables: Tables<'a>, layout: Layout<'a>, lookups: Lookups<'a>) -> 
         vertical: Metrics::new(vmtx, long_metric_count(vhea), glyph_count, units_per_em),
         origins: VerticalOrigins::new(tables.table(Tag::from_bytes(b"VORG"))),
         extents: horizontal_extents(os2, hhea),
-        definitions: definitions_of(tables.table(Tag::from_bytes(b"GDEF")), &layout),
+        definitions,
         outlines: outlines_of(&tables, head, glyph_count),
         has_gpos: is_positioning(layout.gpos),
         layout,
         lookups,
 
         scale: Scale::of_em(units_per_em),
+        variations: FaceVariations::new(&tables, definitions.table, glyph_count),
     }
 }
 

@@ -12,6 +12,7 @@ use crate::font_shaper::glyph_info::{
 };
 use crate::font_shaper::mark_placing::{Line, Marks};
 use crate::font_shaper::positions::zero_mark_width;
+use crate::memory::AllocError;
 
 /// Says of each mark without width where it stands, by a class from 200 on, in place of the class that
 /// it is ordered by. The items are still characters.
@@ -150,7 +151,7 @@ pub(crate) fn position_marks(
     face: &Face,
     direction: Direction,
     adjusts: bool,
-) {
+) -> Result<(), AllocError> {
     debug_assert!(!buffer.have_output());
     debug_assert!(buffer.have_positions());
     let line = line_of(buffer, direction);
@@ -160,9 +161,10 @@ pub(crate) fn position_marks(
             break;
         };
         keep_together(buffer, base, end);
-        position_around(buffer, face, line, (base, end), adjusts);
+        position_around(buffer, face, line, (base, end), adjusts)?;
         start = end;
     }
+    Ok(())
 }
 
 /// Says that the text is not to be broken between these places.
@@ -221,21 +223,22 @@ fn position_around(
     line: Line,
     range: (usize, usize),
     adjusts: bool,
-) {
+) -> Result<(), AllocError> {
     debug_assert!(!buffer.have_output());
     debug_assert!(buffer.have_positions());
-    let mut marks = marks_of(buffer, face, line, range.0);
+    let mut marks = marks_of(buffer, face, line, range.0)?;
     for place in range.0.saturating_add(1)..range.1 {
         if let Some(info) = buffer.info().get(place).copied()
             && let Some(position) = buffer.pos_mut().get_mut(place)
         {
             match &mut marks {
-                Some(marks) => position_mark(marks, face, &info, position),
+                Some(marks) => position_mark(marks, face, &info, position)?,
                 None if is_nonspacing_mark(&info) => zero_mark_width(position, adjusts),
                 None => {}
             }
         }
     }
+    Ok(())
 }
 
 /// The base at a place, with no marks yet; `None` where the font has no bounds of it.
@@ -243,17 +246,43 @@ fn position_around(
 /// # Requires
 ///
 /// - `IsSome buffer.now.positions`
-fn marks_of(buffer: &hb_buffer_t, face: &Face, line: Line, place: usize) -> Option<Marks> {
+fn marks_of(
+    buffer: &hb_buffer_t,
+    face: &Face,
+    line: Line,
+    place: usize,
+) -> Result<Option<Marks>, AllocError> {
     debug_assert!(buffer.have_positions());
-    let info = buffer.info().get(place)?;
-    let position = buffer.pos().get(place)?;
-    let glyph = glyph_of(info)?;
-    let mut bounds = face.glyph_extents(glyph)?;
+    match (buffer.info().get(place), buffer.pos().get(place)) {
+        (Some(info), Some(position)) => marks_around(face, line, info, position),
+        _ => Ok(None),
+    }
+}
+
+/// The base of an item at a position, with no marks yet.
+fn marks_around(
+    face: &Face,
+    line: Line,
+    info: &hb_glyph_info_t,
+    position: &GlyphPosition,
+) -> Result<Option<Marks>, AllocError> {
+    let Some(glyph) = glyph_of(info) else {
+        return Ok(None);
+    };
+    let Some(mut bounds) = face.glyph_extents(glyph)? else {
+        return Ok(None);
+    };
     bounds.y_bearing = bounds.y_bearing.wrapping_add(position.y_offset);
     bounds.x_bearing = 0;
     bounds.width = face.glyph_hor_advance(glyph);
     let parts = (ligature_id(info), component_count(info));
-    Some(Marks::new(line, bounds, position, parts, face.scale.y / 16))
+    Ok(Some(Marks::new(
+        line,
+        bounds,
+        position,
+        parts,
+        face.scale.y / 16,
+    )))
 }
 
 /// The glyph of an item, which has 16 bits.
@@ -271,14 +300,18 @@ fn position_mark(
     face: &Face,
     info: &hb_glyph_info_t,
     position: &mut GlyphPosition,
-) {
+) -> Result<(), AllocError> {
     let class = modified_combining_class(info);
     if class == 0 {
         marks.pass(position);
-        return;
+        return Ok(());
     }
     marks.choose_component(ligature_id(info), ligature_component(info));
     marks.choose_class(class);
-    let bounds = glyph_of(info).and_then(|glyph| face.glyph_extents(glyph));
+    let bounds = match glyph_of(info) {
+        Some(glyph) => face.glyph_extents(glyph)?,
+        None => None,
+    };
     marks.place(class, bounds, position);
+    Ok(())
 }

@@ -104,7 +104,7 @@ fn apply_positions<W: Watch>(
     debug_assert!(buffer.have_positions());
     let setting = Setting {
         list: &face.lookups.positions,
-        scale: face.scale,
+        instance: face.instance(),
     };
     let mut search = Search::new(budget_of(buffer));
     let glyphs = Digest::of_glyphs(buffer.info());

@@ -3,27 +3,25 @@
 //! The names and the extents of a font's glyphs.
 
 use crate::common::{GlyphId, Tag};
+use crate::font_shaper::bounds::BoundsSource;
 use crate::font_shaper::face::Face;
-use crate::font_shaper::measures::bounds_of;
 use crate::font_tables::glyph_names::PostNames;
-use crate::font_tables::metrics::Metrics;
-use crate::font_tables::scale::Scale;
 use crate::glyph::{GlyphExtents, GlyphNames, hb_glyph_info_t};
 use crate::glyph_outlines::Outlines;
-use crate::memory::AllocError;
 use crate::memory::BTreeMap;
+use crate::memory::{AllocError, Vec};
 
 /// The names and the extents of a font's glyphs, as the text of shaped glyphs asks for them.
 pub struct FaceNames<'a> {
     outlines: Outlines<'a>,
-    horizontal: Metrics<'a>,
-    scale: Scale,
+    bounds: BoundsSource<'a>,
+    coordinates: Vec<i32>,
     post: PostNames<'a>,
     extents: BTreeMap<u16, GlyphExtents>,
 }
 
 impl<'a> FaceNames<'a> {
-    /// The names of the font's glyphs, and their extents at its size.
+    /// The names of the font's glyphs, and their extents at its size and at the variations that are chosen.
     ///
     /// # Errors
     ///
@@ -37,8 +35,9 @@ impl<'a> FaceNames<'a> {
         let post = PostNames::new(face.tables.table(Tag::from_bytes(b"post")))?;
         Ok(FaceNames {
             outlines: face.outlines,
-            horizontal: face.horizontal,
-            scale: face.scale,
+
+            bounds: BoundsSource::new(face),
+            coordinates: copied(face.coordinates())?,
             post,
             extents: BTreeMap::new(),
         })
@@ -58,7 +57,7 @@ impl<'a> FaceNames<'a> {
         for info in infos {
             if let Ok(number) = u16::try_from(info.glyph_id)
                 && !self.extents.contains_key(&number)
-                && let Some(extents) = self.bounds(GlyphId(number))
+                && let Some(extents) = self.bounds(GlyphId(number))?
             {
                 let _ = self.extents.insert(number, extents)?;
             }
@@ -67,8 +66,8 @@ impl<'a> FaceNames<'a> {
     }
 
     /// The bounds of a glyph, as its outline has them.
-    fn bounds(&self, glyph: GlyphId) -> Option<GlyphExtents> {
-        bounds_of(&self.outlines, &self.horizontal, &self.scale, glyph)
+    fn bounds(&self, glyph: GlyphId) -> Result<Option<GlyphExtents>, AllocError> {
+        self.bounds.bounds(glyph, self.coordinates.as_slice())
     }
 
     /// The bytes of a glyph's name.
@@ -78,6 +77,15 @@ impl<'a> FaceNames<'a> {
             None => self.outlines.glyph_name(glyph),
         }
     }
+}
+
+/// The same coordinates once more.
+fn copied(coordinates: &[i32]) -> Result<Vec<i32>, AllocError> {
+    let mut copied = Vec::new();
+    for coordinate in coordinates {
+        copied.push(*coordinate)?;
+    }
+    Ok(copied)
 }
 
 /// The bytes, if they are text.

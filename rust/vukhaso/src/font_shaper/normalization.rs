@@ -40,8 +40,8 @@ pub(crate) fn normalize(
 ) -> Result<bool, AllocError> {
     debug_assert!(!buffer.have_output());
     let has_marks = has_marks(buffer.info());
-    let composes = script.shaper.normalization_mode() == NormalizationMode::Auto;
-    if !decompose_all(buffer, face, !composes)? {
+    let composes = script.shaper.normalization_mode() != NormalizationMode::Nothing;
+    if !decompose_all(buffer, face, script.shaper)? {
         return Ok(false);
     }
     if !has_marks {

@@ -5,14 +5,16 @@
 use crate::buffer::hb_buffer_t;
 use crate::common::{Direction, Script};
 use crate::font_shaper::face::Face;
+use crate::font_variations::substitutions_of;
 use crate::language_tags::LanguageTags;
 use crate::layout_plan::{
     FontLayout, KernLayout, PlanBuilder, ShapePlan, ShaperRules, TextProperties,
 };
 use crate::memory::AllocError;
 use crate::position_tables::kern_table::KernTable;
-use crate::script_features::{collect_features, override_features, script_plan};
+use crate::script_features::{collect_features, override_features, script_plan, syllable_plan};
 use crate::script_shapers::{ScriptPlan, ScriptShaper, ZeroWidthMarks};
+use crate::syllabic_shapers::SyllablePlan;
 use crate::text::tags::tags_from_script_and_language;
 use crate::text::{Feature, Language, LanguageTable};
 
@@ -23,6 +25,21 @@ pub(crate) struct TextPlan {
     pub shape: ShapePlan,
     /// What the shaper of the script does.
     pub script: ScriptPlan,
+    /// What it does with syllables.
+    pub syllables: SyllablePlan,
+}
+
+impl TextPlan {
+    /// Whether the glyphs of syllables are put in another order between the stages of substitution.
+    pub(crate) fn orders_syllables(&self) -> bool {
+        match self.syllables {
+            SyllablePlan::None => false,
+            SyllablePlan::Indic(_)
+            | SyllablePlan::Khmer(_)
+            | SyllablePlan::Myanmar
+            | SyllablePlan::Universal(_) => true,
+        }
+    }
 }
 
 /// What is said of a text, as HarfBuzz's `hb_segment_properties_t`.
@@ -83,18 +100,25 @@ impl Face<'_> {
             gsub: self.layout.gsub,
             gpos: self.layout.gpos,
             kern: kern_layout(self),
+            gsub_substitutions: substitutions_of(self.layout.gsub, self.coordinates()),
+            gpos_substitutions: substitutions_of(self.layout.gpos, self.coordinates()),
         };
         let mut builder = ShapePlan::begin(&font, text)?;
         let chosen = add_features(&mut builder, segment, features)?;
         let shape =
             ShapePlan::complete(builder, &font, segment.direction, rules_of(chosen.shaper))?;
+        let syllables = syllable_plan(chosen.shaper, segment.script, &shape.layout);
         let script = script_plan(
             chosen.shaper,
             segment.script,
             &shape.layout,
             chosen.finds_script,
         );
-        Ok(TextPlan { shape, script })
+        Ok(TextPlan {
+            shape,
+            script,
+            syllables,
+        })
     }
 }
 

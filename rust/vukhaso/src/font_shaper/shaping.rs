@@ -27,6 +27,7 @@ use crate::glyph_positions::position_finish_offsets;
 use crate::glyph_substitution::substitute_start;
 use crate::layout_plan::ShapePlan;
 use crate::memory::AllocError;
+use crate::script_shapers::ZeroWidthMarks;
 
 /// Why a text was not shaped.
 #[derive(Clone, Copy, PartialEq, Eq, Debug)]
@@ -277,7 +278,7 @@ fn shape_native<W: Watch>(
     if !substitute(buffer, face, plan, watch)? {
         return Ok(false);
     }
-    position(buffer, face, &plan.shape, direction, watch)?;
+    position(buffer, face, plan, direction, watch)?;
     Ok(true)
 }
 
@@ -425,58 +426,59 @@ fn put_all(infos: &mut [hb_glyph_info_t]) {
 fn position<W: Watch>(
     buffer: &mut hb_buffer_t,
     face: &Face,
-    plan: &ShapePlan,
+    plan: &TextPlan,
     direction: Direction,
     watch: &mut W,
 ) -> Result<(), AllocError> {
     debug_assert!(!buffer.have_output());
-    position_glyphs(buffer, face);
+    position_glyphs(buffer, face)?;
     watch.step(Step::Advances, buffer)?;
-    position_by_lookups(buffer, face, plan, watch)?;
-    finish_positions(buffer, face, plan, direction);
+    let adjusts = adjusts_marks(buffer, &plan.shape);
+    let early = plan.script.shaper.zero_width_marks() == ZeroWidthMarks::Early;
+    zero_marks(buffer, plan.shape.zero_marks && early, adjusts);
+    position_by_lookups(buffer, face, &plan.shape, watch)?;
+    zero_marks(buffer, plan.shape.zero_marks && !early, adjusts);
+    finish_positions(buffer, face, &plan.shape, direction)
+}
+
+/// Whether a mark that loses its width is moved back by it.
+fn adjusts_marks(buffer: &hb_buffer_t, plan: &ShapePlan) -> bool {
+    plan.adjust_mark_positioning_when_zeroing && buffer.direction.is_forward()
+}
+
+/// Takes the width of what is not to be seen, and places the glyphs that stand by others.
+///
+/// # Requires
+///
+/// - `closed: buffer.old.have_output ≡ false`
+/// - `placed: IsSome buffer.old.positions`
+fn finish_positions(
+    buffer: &mut hb_buffer_t,
+    face: &Face,
+    plan: &ShapePlan,
+    direction: Direction,
+) -> Result<(), AllocError> {
+    debug_assert!(!buffer.have_output());
+    debug_assert!(buffer.have_positions());
+    let adjusts = adjusts_marks(buffer, plan);
+    zero_width_default_ignorables(buffer);
+    position_finish_offsets(buffer);
+    if plan.fallback_mark_positioning {
+        position_marks(buffer, face, direction, adjusts)?;
+    }
     Ok(())
 }
 
-/// Takes the width of marks and of what is not to be seen, and places the glyphs that stand by others.
+/// Takes the width of marks, where that is said.
 ///
 /// # Requires
 ///
 /// - `closed: buffer.old.have_output ≡ false`
 /// - `placed: IsSome buffer.old.positions`
-fn finish_positions(buffer: &mut hb_buffer_t, face: &Face, plan: &ShapePlan, direction: Direction) {
+fn zero_marks(buffer: &mut hb_buffer_t, zeroes: bool, adjusts: bool) {
     debug_assert!(!buffer.have_output());
     debug_assert!(buffer.have_positions());
-    let adjusts = plan.adjust_mark_positioning_when_zeroing && buffer.direction.is_forward();
-    zero_widths(buffer, plan, adjusts);
-    position_finish_offsets(buffer);
-    if plan.fallback_mark_positioning {
-        position_marks(buffer, face, direction, adjusts);
-    }
-}
-
-/// Takes the width of marks, where the plan has that, and of what is not to be seen.
-///
-/// # Requires
-///
-/// - `closed: buffer.old.have_output ≡ false`
-/// - `placed: IsSome buffer.old.positions`
-fn zero_widths(buffer: &mut hb_buffer_t, plan: &ShapePlan, adjusts: bool) {
-    debug_assert!(!buffer.have_output());
-    debug_assert!(buffer.have_positions());
-    zero_marks(buffer, plan, adjusts);
-    zero_width_default_ignorables(buffer);
-}
-
-/// Takes the width of marks, where the plan has that.
-///
-/// # Requires
-///
-/// - `closed: buffer.old.have_output ≡ false`
-/// - `placed: IsSome buffer.old.positions`
-fn zero_marks(buffer: &mut hb_buffer_t, plan: &ShapePlan, adjusts: bool) {
-    debug_assert!(!buffer.have_output());
-    debug_assert!(buffer.have_positions());
-    if plan.zero_marks {
+    if zeroes {
         zero_mark_widths(buffer, adjusts);
     }
 }

@@ -3,6 +3,7 @@
 //! The lookups that substitute glyphs, applied to a text stage by stage, and what the shaper of its script does between two stages.
 
 use crate::buffer::hb_buffer_t;
+use crate::font_shaper::cluster_order::ClusterCourse;
 use crate::font_shaper::face::Face;
 use crate::font_shaper::lookups::{budget_of, options_of};
 use crate::font_shaper::planning::TextPlan;
@@ -14,8 +15,10 @@ use crate::glyph_substitution::{Progress, Substitutions};
 use crate::layout_plan::{Pause, PlannedLookup};
 use crate::memory::AllocError;
 use crate::script_shapers::{FallbackLookups, ScriptPlan};
+use crate::syllabic_shapers::SyllablePause;
 
-/// Applies the lookups of `GSUB`, stage by stage.
+/// Applies the lookups of `GSUB`, stage by stage, and lets clusters run as they ran before, also where
+/// the shaper of the script puts the glyphs of syllables in another order.
 ///
 /// # Requires
 ///
@@ -31,6 +34,33 @@ pub(crate) fn substitute<W: Watch>(
     watch: &mut W,
 ) -> Result<bool, AllocError> {
     debug_assert!(!buffer.have_output());
+    if !plan.orders_syllables() {
+        return apply_stages(buffer, face, plan, watch);
+    }
+    let course = ClusterCourse::of(buffer);
+    if !apply_stages(buffer, face, plan, watch)? {
+        return Ok(false);
+    }
+    course.restore(buffer);
+    Ok(true)
+}
+
+/// Applies the lookups of all stages, with what is done between them.
+///
+/// # Requires
+///
+/// - `buffer.old.have_output ≡ false`
+///
+/// # Errors
+///
+/// `Ok(false)` where a call was refused for length.
+fn apply_stages<W: Watch>(
+    buffer: &mut hb_buffer_t,
+    face: &Face,
+    plan: &TextPlan,
+    watch: &mut W,
+) -> Result<bool, AllocError> {
+    debug_assert!(!buffer.have_output());
     let mut progress = Progress::new(budget_of(buffer));
     let mut start = 0;
     for stage in &plan.shape.layout.stages {
@@ -39,7 +69,7 @@ pub(crate) fn substitute<W: Watch>(
         if !apply_stage(buffer, face, lookups, &mut progress, watch)? {
             return Ok(false);
         }
-        if !pause(buffer, face, &plan.script, stage.pause, &mut progress)? {
+        if !pause(buffer, face, plan, stage.pause, &mut progress)? {
             return Ok(false);
         }
         start = stage.end;
@@ -91,19 +121,31 @@ fn apply_stage<W: Watch>(
 fn pause(
     buffer: &mut hb_buffer_t,
     face: &Face,
-    plan: &ScriptPlan,
+    plan: &TextPlan,
     pause: Pause,
     progress: &mut Progress,
 ) -> Result<bool, AllocError> {
     debug_assert!(!buffer.have_output());
     match pause {
         Pause::RecordStch => {
-            plan.record_stch(buffer);
+            plan.script.record_stch(buffer);
             Ok(true)
         }
-        Pause::ArabicFallback if plan.does_fallback => {
-            face.join_by_fallback(buffer, plan, progress)
+        Pause::ArabicFallback if plan.script.does_fallback => {
+            face.join_by_fallback(buffer, &plan.script, progress)
         }
+        Pause::SetUpSyllables => face.work_on_syllables(buffer, plan, SyllablePause::SetUp),
+        Pause::InitialReordering => {
+            face.work_on_syllables(buffer, plan, SyllablePause::InitialReordering)
+        }
+        Pause::FinalReordering => {
+            face.work_on_syllables(buffer, plan, SyllablePause::FinalReordering)
+        }
+        Pause::ClearSubstitutionFlags => {
+            face.work_on_syllables(buffer, plan, SyllablePause::ForgetSubstitutions)
+        }
+        Pause::RecordRphf => face.work_on_syllables(buffer, plan, SyllablePause::RecordRphf),
+        Pause::RecordPref => face.work_on_syllables(buffer, plan, SyllablePause::RecordPref),
         _ => Ok(true),
     }
 }

@@ -144,7 +144,7 @@ fn single(subtable: &Subtable, glyph: u32, index: u32) -> Option<u16> {
 
 /// The table of this number of a list of tables whose count stands at the byte 4; an empty one where
 /// there is none.
-fn set_at(table: &[u8], index: u32) -> &[u8] {
+pub(crate) fn set_at(table: &[u8], index: u32) -> &[u8] {
     if index < u32::from(u16_at(table, 4).unwrap_or(0)) {
         table_at_16(table, 6 + 2 * index as usize).unwrap_or(&[])
     } else {

@@ -3,8 +3,9 @@
 //! A glyph that leaves the input, and its cluster, which is kept where it is lower than its neighbour's.
 
 use crate::glyph::hb_glyph_info_t;
+use crate::glyph_lists::cluster_order::ClusterOrder;
 use crate::glyph_lists::clusters::set_range;
-use crate::glyph_lists::merging::merge_or_mark;
+use crate::glyph_lists::merging::merge_input;
 
 /// Whether the first glyph is in the cluster.
 #[inline(always)]
@@ -102,19 +103,23 @@ pub fn set_trailing_run(out: &mut [hb_glyph_info_t], cluster: u32, mask: u32) {
 /// # Proved
 ///
 /// ```text
-/// ensures out { out.new ≡ (deletion any_order
+/// ensures out { out.new ≡ (deletion (is_any order)
 ///     out.old (slice_index_or input.old 0 zero_glyph) (drop 1 input.old)).out }
-/// ensures rest { drop 1 input.new ≡ (deletion any_order
+/// ensures rest { drop 1 input.new ≡ (deletion (is_any order)
 ///     out.old (slice_index_or input.old 0 zero_glyph) (drop 1 input.old)).rest }
 /// ```
 #[inline(always)]
-pub fn delete_head(out: &mut [hb_glyph_info_t], input: &mut [hb_glyph_info_t], any_order: bool) {
+pub fn delete_head(
+    out: &mut [hb_glyph_info_t],
+    input: &mut [hb_glyph_info_t],
+    order: ClusterOrder,
+) {
     // A glyph before it whose cluster is no higher is what most deletions find, and nothing changes then.
     debug_assert!(!input.is_empty());
     if !out.is_empty() && out[out.len() - 1].cluster <= input[0].cluster {
         return;
     }
-    keep_cluster(out, input, any_order);
+    keep_cluster(out, input, order);
 }
 
 /// Keeps the cluster of the first glyph of the input as `delete_head` does, whatever stands before it.
@@ -124,7 +129,7 @@ pub fn delete_head(out: &mut [hb_glyph_info_t], input: &mut [hb_glyph_info_t], a
 ///
 /// - `0 < length input.old`
 #[inline(never)]
-fn keep_cluster(out: &mut [hb_glyph_info_t], input: &mut [hb_glyph_info_t], any_order: bool) {
+fn keep_cluster(out: &mut [hb_glyph_info_t], input: &mut [hb_glyph_info_t], order: ClusterOrder) {
     debug_assert!(!input.is_empty());
     let head = input[0];
     if lowers_run(out, input) {
@@ -132,6 +137,6 @@ fn keep_cluster(out: &mut [hb_glyph_info_t], input: &mut [hb_glyph_info_t], any_
         return;
     }
     if merges_next(out, input) {
-        merge_or_mark(out, input, 0, 2, 0, any_order);
+        merge_input(out, input, 0, 2, order);
     }
 }

@@ -3,6 +3,7 @@
 //! Deletion of glyphs in the list itself: a walk that deletes some, and moves each of the others down at most once.
 
 use crate::glyph::{GlyphPosition, hb_glyph_info_t};
+use crate::glyph_lists::cluster_order::ClusterOrder;
 use crate::glyph_lists::deletion::{delete_head, merges_next};
 
 /// Deletes the glyphs for which `deletes` holds as they stand when the walk comes to them, and moves
@@ -22,28 +23,28 @@ use crate::glyph_lists::deletion::{delete_head, merges_next};
 /// ensures pos_len { length pos.new ≡ length pos.old }
 /// ensures info { (test : hb_glyph_info_t → Bool)
 ///     → ((x : _) (r : _) → F.post deletes.now x r → r ≡ test x.now)
-///     → take result.0 info.new ≡ left_by_walk any_order test info.old }
+///     → take result.0 info.new ≡ left_by_walk (is_any order) test info.old }
 /// ensures pos { (test : hb_glyph_info_t → Bool)
 ///     → ((x : _) (r : _) → F.post deletes.now x r → r ≡ test x.now)
 ///     → length pos.old ≡ length info.old
-///     → take result.0 pos.new ≡ kept_beside any_order test (sides_at 0 0 info.old) pos.old }
+///     → take result.0 pos.new ≡ kept_beside (is_any order) test (sides_at 0 0 info.old) pos.old }
 /// ensures merges { (test : hb_glyph_info_t → Bool)
 ///     → ((x : _) (r : _) → F.post deletes.now x r → r ≡ test x.now)
-///     → result.1 ≡ (any_order && walk_merges any_order test (length info.old)
+///     → result.1 ≡ (is_any order && walk_merges (is_any order) test (length info.old)
 ///     (sides_at 0 0 info.old)) }
 /// ```
 #[inline(never)]
 pub fn delete_in_place<F: Fn(&hb_glyph_info_t) -> bool>(
     info: &mut [hb_glyph_info_t],
     pos: &mut [GlyphPosition],
-    any_order: bool,
+    order: ClusterOrder,
     deletes: &F,
 ) -> (usize, bool) {
     let mut kept = 0;
     let mut merges = false;
     for at in 0..info.len() {
         if deletes(&info[at]) {
-            merges |= delete_at(info, kept, at, any_order);
+            merges |= delete_at(info, kept, at, order);
         } else {
             keep_at(info, kept, at);
             keep_at(pos, kept, at);
@@ -61,13 +62,13 @@ pub fn delete_in_place<F: Fn(&hb_glyph_info_t) -> bool>(
 /// - `order: kept ≤ at`
 /// - `within: at < length info.old`
 #[inline(always)]
-fn delete_at(info: &mut [hb_glyph_info_t], kept: usize, at: usize, any_order: bool) -> bool {
+fn delete_at(info: &mut [hb_glyph_info_t], kept: usize, at: usize, order: ClusterOrder) -> bool {
     debug_assert!(kept <= at);
     debug_assert!(at < info.len());
     let (front, rest) = info.split_at_mut(at);
     let out = &mut front[..kept];
-    let merges = any_order && merges_next(out, rest);
-    delete_head(out, rest, any_order);
+    let merges = order.is_any() && merges_next(out, rest);
+    delete_head(out, rest, order);
     merges
 }
 

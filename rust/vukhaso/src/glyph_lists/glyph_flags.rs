@@ -7,6 +7,7 @@
 //! least of these.
 
 use crate::glyph::{glyph_flag, hb_glyph_info_t};
+use crate::glyph_lists::cluster_order::ClusterOrder;
 
 /// What `unsafe_to_break` adds, and a merge in any order of clusters: what is unsafe to break is unsafe to concatenate.
 pub const BREAK_BITS: u32 = glyph_flag::UNSAFE_TO_BREAK | glyph_flag::UNSAFE_TO_CONCAT;
@@ -184,105 +185,54 @@ fn mark_outside_least(info: &mut [hb_glyph_info_t], bits: u32) {
 }
 
 /// Scans one list.
-#[inline(always)]
-fn scan_list(info: &mut [hb_glyph_info_t], bits: u32, any_order: bool) {
-    if any_order {
-        mark_outside_least(info, bits);
-    } else {
-        let least = least_end(info);
-        mark_part(info, bits, least);
-    }
-}
-
-/// Scans the glyphs from `start` to `end` of one list.
-///
-/// # Requires
-///
-/// - `order: start ≤ end`
-/// - `within: end ≤ length info.old`
 ///
 /// # Proved
 ///
 /// ```text
-/// ensures { info.new ≡ on_part (scan_of any_order bits) info.old start end }
+/// ensures { info.new ≡ scan_of (is_any order) bits info.old }
 /// ```
 #[inline(always)]
-pub fn scan_slice(
-    info: &mut [hb_glyph_info_t],
-    start: usize,
-    end: usize,
-    bits: u32,
-    any_order: bool,
-) {
-    debug_assert!(start <= end);
-    debug_assert!(end <= info.len());
-    scan_list(&mut info[start..end], bits, any_order);
+pub fn scan_slice(info: &mut [hb_glyph_info_t], bits: u32, order: ClusterOrder) {
+    match order {
+        ClusterOrder::Any => mark_outside_least(info, bits),
+        ClusterOrder::Monotone => {
+            let least = least_end(info);
+            mark_part(info, bits, least);
+        }
+    }
 }
 
 /// Scans one part, by the least cluster of all parts.
 #[inline(always)]
-fn scan_part(info: &mut [hb_glyph_info_t], bits: u32, least: u32, any_order: bool) {
-    if any_order {
-        mark_others(info, bits, least);
-    } else {
-        mark_part(info, bits, least);
+fn scan_part(info: &mut [hb_glyph_info_t], bits: u32, least: u32, order: ClusterOrder) {
+    match order {
+        ClusterOrder::Any => mark_others(info, bits, least),
+        ClusterOrder::Monotone => mark_part(info, bits, least),
     }
-}
-
-/// Scans the part from `start` to `end`, by the least cluster of all parts.
-///
-/// # Requires
-///
-/// - `order: start ≤ end`
-/// - `within: end ≤ length info.old`
-#[inline(always)]
-fn scan_part_slice(
-    info: &mut [hb_glyph_info_t],
-    start: usize,
-    end: usize,
-    bits: u32,
-    least: u32,
-    any_order: bool,
-) {
-    debug_assert!(start <= end);
-    debug_assert!(end <= info.len());
-    scan_part(&mut info[start..end], bits, least, any_order);
 }
 
 /// The least cluster that a scan of two parts goes by.
 #[inline(always)]
-fn least_for_scan(out: &[hb_glyph_info_t], input: &[hb_glyph_info_t], any_order: bool) -> u32 {
-    if any_order {
-        least_of_both(out, input)
-    } else {
-        least_of_ends(out, input)
+fn least_for_scan(
+    first: &[hb_glyph_info_t],
+    second: &[hb_glyph_info_t],
+    order: ClusterOrder,
+) -> u32 {
+    match order {
+        ClusterOrder::Any => least_of_both(first, second),
+        ClusterOrder::Monotone => least_of_ends(first, second),
     }
 }
 
-/// Scans the glyphs from `start` to `end` of the two sides as one list, `out` first, where `end` is not
-/// within `out`. What lies on either side is a part of its own.
-///
-/// # Requires
-///
-/// - `past_out: length out.old ≤ end`
-/// - `order: start ≤ end`
-/// - `within: end ≤ length out.old + length input.old`
-pub(crate) fn scan_two_parts(
-    out: &mut [hb_glyph_info_t],
-    input: &mut [hb_glyph_info_t],
-    start: usize,
-    end: usize,
+/// Scans two parts, by the least cluster of both.
+#[inline(always)]
+pub(crate) fn scan_parts(
+    first: &mut [hb_glyph_info_t],
+    second: &mut [hb_glyph_info_t],
     bits: u32,
-    any_order: bool,
+    order: ClusterOrder,
 ) {
-    debug_assert!(out.len() <= end);
-    debug_assert!(start <= end);
-    debug_assert!(end <= out.len() + input.len());
-    let len = out.len();
-    let seam = start.min(len);
-    let from = start.saturating_sub(len);
-    let to = end - len;
-    let least = least_for_scan(&out[seam..], &input[from..to], any_order);
-    scan_part_slice(out, seam, len, bits, least, any_order);
-    scan_part_slice(input, from, to, bits, least, any_order);
+    let least = least_for_scan(first, second, order);
+    scan_part(first, bits, least, order);
+    scan_part(second, bits, least, order);
 }

@@ -3,6 +3,7 @@
 //! The current glyph after a merge that changes no glyph behind it: mostly there is no need to write the others.
 
 use crate::glyph::hb_glyph_info_t;
+use crate::glyph_lists::cluster_order::ClusterOrder;
 use crate::glyph_lists::cluster_reads::ClusterReads;
 use crate::glyph_lists::clusters::set_cluster;
 
@@ -36,15 +37,15 @@ fn pair_keeps_head(reads: &mut ClusterReads) -> bool {
 ///
 /// ```text
 /// ensures { result ≡ true → (out : List hb_glyph_info_t)
-///     → LeavesHead any_order count out input.now (slice_index_or input.now 0 zero_glyph) }
+///     → LeavesHead (is_any order) count out input.now (slice_index_or input.now 0 zero_glyph) }
 /// ```
 #[inline(always)]
-pub fn keeps_head(input: &[hb_glyph_info_t], count: usize, any_order: bool) -> bool {
+pub fn keeps_head(input: &[hb_glyph_info_t], count: usize, order: ClusterOrder) -> bool {
     debug_assert!(count <= input.len());
     if count < 2 {
         return true;
     }
-    count == 2 && !any_order && pair_keeps_head(&mut ClusterReads::new(&[], input))
+    count == 2 && !order.is_any() && pair_keeps_head(&mut ClusterReads::new(&[], input))
 }
 
 /// Whether the merge of the two glyphs from `at` on lowers the first and no glyph before it: its
@@ -74,17 +75,17 @@ fn pair_lowers_head(reads: &mut ClusterReads, at: usize) -> bool {
 /// # Proved
 ///
 /// ```text
-/// ensures { IfSome result (LeavesHead any_order count out.now input.now) }
+/// ensures { IfSome result (LeavesHead (is_any order) count out.now input.now) }
 /// ```
 #[inline(always)]
 pub fn lowered_head(
     out: &[hb_glyph_info_t],
     input: &[hb_glyph_info_t],
     count: usize,
-    any_order: bool,
+    order: ClusterOrder,
 ) -> Option<hb_glyph_info_t> {
     debug_assert!(count <= input.len());
-    if count != 2 || any_order {
+    if count != 2 || order.is_any() {
         return None;
     }
     let mut reads = ClusterReads::new(out, input);

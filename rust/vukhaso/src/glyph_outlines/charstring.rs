@@ -15,10 +15,10 @@ use crate::glyph_outlines::subroutines::subroutine;
 const MOST_NUMBERS: usize = 513;
 
 /// How deep subroutines may call one another, as HarfBuzz allows.
-const DEEPEST_CALL: u32 = 10;
+pub(crate) const DEEPEST_CALL: u32 = 10;
 
 /// How many numbers and operators a charstring may have, those of its subroutines too, as HarfBuzz allows.
-const MOST_STEPS: u32 = 199_999;
+pub(crate) const MOST_STEPS: u32 = 199_999;
 
 /// The subroutines that a charstring may call, as two INDEXes.
 #[derive(Clone, Copy, Debug)]
@@ -51,13 +51,7 @@ pub(crate) struct Accented {
 
 /// What a charstring draws; `None` where it is broken, or takes more steps than are allowed.
 pub(crate) fn draw_charstring(charstring: &[u8], subroutines: Subroutines<'_>) -> Option<Drawing> {
-    let mut state = State {
-        numbers: [0; MOST_NUMBERS],
-        count: 0,
-        path: Path::EMPTY,
-        stems: 0,
-        mask_size: None,
-    };
+    let mut state = State::new();
     let mut steps = MOST_STEPS;
     if run(
         &mut state,
@@ -114,7 +108,7 @@ fn run(
 }
 
 /// A font unit.
-const UNIT: i32 = 65536;
+pub(crate) const UNIT: i32 = 65536;
 
 const CALLSUBR: u8 = 10;
 
@@ -127,7 +121,7 @@ const ENDCHAR: u8 = 14;
 const CALLGSUBR: u8 = 29;
 
 /// What a charstring leaves from one operator to the next.
-struct State {
+pub(crate) struct State {
     /// The numbers that no operator took yet, in 65,536ths of a font unit.
     numbers: [i32; MOST_NUMBERS],
     /// How many of them there are.
@@ -141,6 +135,40 @@ struct State {
 }
 
 impl State {
+    /// No numbers and no path.
+    pub(crate) fn new() -> State {
+        State {
+            numbers: [0; MOST_NUMBERS],
+            count: 0,
+            path: Path::EMPTY,
+            stems: 0,
+            mask_size: None,
+        }
+    }
+
+    /// The path so far.
+    pub(crate) fn path(&self) -> Path {
+        self.path
+    }
+
+    /// The numbers that no operator took yet.
+    pub(crate) fn numbers(&self) -> &[i32] {
+        &self.numbers[..self.count]
+    }
+
+    /// Adds to the number at a place, if there is one.
+    pub(crate) fn add(&mut self, place: usize, by: i32) {
+        if place < self.count {
+            self.numbers[place] = self.numbers[place].saturating_add(by);
+        }
+    }
+
+    /// Drops so many of the last numbers; `None` where there are fewer.
+    pub(crate) fn drop_last(&mut self, count: usize) -> Option<()> {
+        self.count = self.count.checked_sub(count)?;
+        Some(())
+    }
+
     /// Takes a number; `None` where there are too many.
     fn push(&mut self, number: i32) -> Option<()> {
         if self.count < MOST_NUMBERS {
@@ -153,7 +181,7 @@ impl State {
     }
 
     /// Gives the last number back.
-    fn pop(&mut self) -> Option<i32> {
+    pub(crate) fn pop(&mut self) -> Option<i32> {
         if self.count == 0 {
             None
         } else {
@@ -163,7 +191,7 @@ impl State {
     }
 
     /// A number and an operator that neither calls nor ends: gives what follows it.
-    fn step<'a>(&mut self, operator: u8, code: &'a [u8]) -> Option<&'a [u8]> {
+    pub(crate) fn step<'a>(&mut self, operator: u8, code: &'a [u8]) -> Option<&'a [u8]> {
         match operator {
             28 | 32..=254 => {
                 self.push(i32::from(number(code)?) * UNIT)?;

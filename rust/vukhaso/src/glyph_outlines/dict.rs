@@ -22,6 +22,10 @@ pub(crate) struct Dict {
     pub font_dicts: i32,
     /// The offset of the table that chooses a glyph's Font DICT.
     pub font_dict_select: i32,
+    /// The offset of the deltas of variations, in the table `CFF2`.
+    pub variation_store: i32,
+    /// Which regions the deltas of charstrings are for, in the table `CFF2`.
+    pub variation_set: i32,
     /// Whether the font is CID-keyed: its glyphs have numbers in place of names.
     pub is_cid: bool,
 }
@@ -71,6 +75,8 @@ impl Dict {
             17 => self.char_strings = numbers.one()?,
             18 => (self.private_size, self.private_offset) = numbers.two()?,
             19 => self.subroutines = numbers.one()?,
+            22 => self.variation_set = numbers.last,
+            24 => self.variation_store = numbers.last,
             ESCAPED_ROS => self.is_cid = true,
             ESCAPED_FD_ARRAY => self.font_dicts = numbers.one()?,
             ESCAPED_FD_SELECT => self.font_dict_select = numbers.one()?,

@@ -64,7 +64,7 @@ pub(crate) fn place_cursive(buffer: &mut hb_buffer_t, turn: &Turn) -> Option<usi
         JoinFound::Joined(join) => {
             mark_break(buffer, join.before, end);
             let direction = buffer.direction;
-            join_glyphs(buffer.pos_mut(), &join, direction, &turn.scale);
+            join_glyphs(buffer.pos_mut(), &join, direction, &turn.instance.scale);
             mark_attached(buffer);
             Some(end)
         }
@@ -107,7 +107,7 @@ fn anchor_of(turn: &Turn, index: u32, at: usize) -> Option<Anchor> {
     let table = turn.subtable.table;
     if index < u32::from(u16_at(table, 4)?) {
         let row = at.saturating_add(4 * index as usize);
-        Anchor::read(table_at_16(table, row)?, &turn.scale)
+        Anchor::read(table_at_16(table, row)?, &turn.instance)
     } else {
         None
     }

@@ -166,7 +166,7 @@ fn place_by_subtable<'a>(
     let turn = Turn {
         subtable: *subtable,
         walk: Walk::over_input(task.lookup.filter, &task.options, true),
-        scale: task.setting.scale,
+        instance: task.setting.instance,
         place: task.place,
         index,
     };

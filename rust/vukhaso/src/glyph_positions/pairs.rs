@@ -3,12 +3,12 @@
 //! Single glyphs and pairs that are moved (HarfBuzz, `SinglePos`, `PairPos`).
 
 use crate::buffer::hb_buffer_t;
-use crate::font_tables::scale::Scale;
 use crate::glyph::{GlyphPosition, hb_glyph_info_t};
 use crate::glyph_layout::walk::Found;
 use crate::glyph_layout::wanted::{Wanted, class_of};
 use crate::glyph_positions::flags::{mark_break, mark_concat};
 use crate::glyph_positions::turn::Turn;
+use crate::position_tables::instance::Instance;
 use crate::position_tables::pairs::{
     PairValues, classed_pair, listed_pair, pair_formats, pair_set, single_values,
 };
@@ -59,7 +59,7 @@ pub(crate) fn place_single(buffer: &mut hb_buffer_t, turn: &Turn) -> Option<usiz
         turn.place,
         &values,
         table,
-        &turn.scale,
+        &turn.instance,
         is_horizontal,
     );
     Some(turn.place.saturating_add(1))
@@ -71,11 +71,11 @@ fn move_at(
     place: usize,
     values: &ValueRecord,
     base: &[u8],
-    scale: &Scale,
+    instance: &Instance<'_>,
     is_horizontal: bool,
 ) {
     if place < positions.len() {
-        values.move_glyph(base, scale, is_horizontal, &mut positions[place]);
+        values.move_glyph(base, instance, is_horizontal, &mut positions[place]);
     }
 }
 
@@ -96,7 +96,7 @@ pub(crate) fn place_pair(buffer: &mut hb_buffer_t, turn: &Turn) -> Option<usize>
             None
         }
         PairFound::Pair(pair) => {
-            move_pair(buffer, &pair, &turn.scale);
+            move_pair(buffer, &pair, &turn.instance);
             Some(if pair.uses_second {
                 pair.second.saturating_add(1)
             } else {
@@ -165,14 +165,14 @@ fn values_of(turn: &Turn, base: &[u8], glyphs: (u32, u32)) -> Option<PairValues>
 ///
 /// - `closed: buffer.old.have_output ≡ false`
 /// - `placed: IsSome buffer.old.positions`
-fn move_pair(buffer: &mut hb_buffer_t, pair: &Pair, scale: &Scale) {
+fn move_pair(buffer: &mut hb_buffer_t, pair: &Pair, instance: &Instance<'_>) {
     debug_assert!(!buffer.have_output());
     debug_assert!(buffer.have_positions());
     let is_horizontal = buffer.direction.is_horizontal();
-    move_both(buffer.pos_mut(), pair, scale, is_horizontal);
+    move_both(buffer.pos_mut(), pair, instance, is_horizontal);
     let end = pair.second.saturating_add(1);
-    if pair.values.first.has_effect(scale, is_horizontal)
-        || pair.values.second.has_effect(scale, is_horizontal)
+    if pair.values.first.has_effect(instance, is_horizontal)
+        || pair.values.second.has_effect(instance, is_horizontal)
     {
         mark_break(buffer, pair.first, end);
     } else if pair.is_classed {
@@ -184,13 +184,18 @@ fn move_pair(buffer: &mut hb_buffer_t, pair: &Pair, scale: &Scale) {
 }
 
 /// Moves the glyphs of a pair.
-fn move_both(positions: &mut [GlyphPosition], pair: &Pair, scale: &Scale, is_horizontal: bool) {
+fn move_both(
+    positions: &mut [GlyphPosition],
+    pair: &Pair,
+    instance: &Instance<'_>,
+    is_horizontal: bool,
+) {
     move_at(
         positions,
         pair.first,
         &pair.values.first,
         pair.base,
-        scale,
+        instance,
         is_horizontal,
     );
     move_at(
@@ -198,7 +203,7 @@ fn move_both(positions: &mut [GlyphPosition], pair: &Pair, scale: &Scale, is_hor
         pair.second,
         &pair.values.second,
         pair.base,
-        scale,
+        instance,
         is_horizontal,
     );
 }

@@ -5,6 +5,15 @@
 use crate::glyph::hb_glyph_info_t;
 use crate::memory::Vec;
 
+/// A glyph under another id.
+// Copied whole, and then given the id, it is written in two pieces by rustc, and by Rattle as fast as word by word.
+#[inline(always)]
+fn with_id(glyph: hb_glyph_info_t, id: u32) -> hb_glyph_info_t {
+    let mut copy = hb_glyph_info_t { ..glyph };
+    copy.glyph_id = id;
+    copy
+}
+
 /// Appends a copy of a glyph under each id, where there is room.
 ///
 /// # Requires
@@ -14,10 +23,7 @@ use crate::memory::Vec;
 pub(crate) fn append_copies(out: &mut Vec<hb_glyph_info_t>, glyph: hb_glyph_info_t, ids: &[u32]) {
     debug_assert!(out.len() + ids.len() <= out.capacity());
     for id in ids {
-        out.push_reserved(hb_glyph_info_t {
-            glyph_id: *id,
-            ..glyph
-        });
+        out.push_reserved(with_id(glyph, *id));
     }
 }
 
@@ -46,9 +52,6 @@ pub(crate) fn write_copies(
 fn fill(slots: &mut [hb_glyph_info_t], glyph: hb_glyph_info_t, ids: &[u32]) {
     debug_assert!(slots.len() == ids.len());
     for (i, id) in ids.iter().enumerate() {
-        slots[i] = hb_glyph_info_t {
-            glyph_id: *id,
-            ..glyph
-        };
+        slots[i] = with_id(glyph, *id);
     }
 }

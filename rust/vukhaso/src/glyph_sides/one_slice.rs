@@ -1,55 +1,82 @@
 // Written by tools/plain_rust from crates/glyph_sides. Do not edit.
 
-//! Changes of a range and deletion where both sides lie in one slice: the out side is its first `out_len` glyphs, and
-//! the input what stands from the cursor on. No glyph of one side is read as one of the other.
+//! Merges, glyph flags and deletion where both sides lie in one slice: the out side before the places of `gap`, which stand
+//! free, and the input behind them. No glyph of one side is read as one of the other.
 
 use crate::glyph::hb_glyph_info_t;
-use crate::glyph_lists::deletion;
+use crate::glyph_lists::cluster_order::ClusterOrder;
 use crate::glyph_lists::range_change::{self, RangeChange};
+use crate::glyph_lists::{deletion, merging};
+use core::ops::Range;
+
+/// Merges, or marks, the glyphs of the input from `start` to `end`, as `merging::merge_input` does.
+///
+/// # Requires
+///
+/// - `gap: gap.start ≤ gap.end`
+/// - `gap_within: gap.end ≤ length info.old`
+/// - `range: start ≤ end`
+/// - `within: end ≤ length info.old - gap.end`
+#[inline(always)]
+pub(crate) fn merge_input(
+    info: &mut [hb_glyph_info_t],
+    gap: Range<usize>,
+    start: usize,
+    end: usize,
+    order: ClusterOrder,
+) {
+    debug_assert!(start <= end);
+    let (front, input) = info.split_at_mut(gap.end);
+    merging::merge_input(&mut front[..gap.start], input, start, end, order);
+}
+
+/// Merges the glyphs of the out side from `start` to `end`, as `merging::merge_out` does.
+///
+/// # Requires
+///
+/// - `gap: gap.start ≤ gap.end`
+/// - `gap_within: gap.end ≤ length info.old`
+/// - `range: start ≤ end`
+/// - `within: end ≤ gap.start`
+#[inline(always)]
+pub(crate) fn merge_out(info: &mut [hb_glyph_info_t], gap: Range<usize>, start: usize, end: usize) {
+    debug_assert!(start <= end);
+    let (front, input) = info.split_at_mut(gap.end);
+    merging::merge_out(&mut front[..gap.start], input, start, end);
+}
 
 /// Changes the glyphs from `start` to `end` of the two sides as one list, as
 /// `range_change::change_range` does.
 ///
 /// # Requires
 ///
-/// - `near: out_len ≤ cursor`
-/// - `cursor_within: cursor ≤ length info.old`
-/// - `may: MayChange change out_len start end`
-/// - `order: start ≤ end`
-/// - `within: end ≤ out_len + (length info.old - cursor)`
+/// - `gap: gap.start ≤ gap.end`
+/// - `gap_within: gap.end ≤ length info.old`
+/// - `past_out: gap.start ≤ end`
+/// - `range: start ≤ end`
+/// - `within: end ≤ gap.start + (length info.old - gap.end)`
 #[inline(always)]
 pub(crate) fn change_range(
     info: &mut [hb_glyph_info_t],
-    out_len: usize,
-    cursor: usize,
+    gap: Range<usize>,
     start: usize,
     end: usize,
     change: RangeChange,
 ) {
-    debug_assert!(out_len <= cursor);
-    debug_assert!(cursor <= info.len());
     debug_assert!(start <= end);
-    debug_assert!(end <= out_len + info.len().saturating_sub(cursor));
-    let (front, input) = info.split_at_mut(cursor);
-    range_change::change_range(&mut front[..out_len], input, start, end, change);
+    let (front, input) = info.split_at_mut(gap.end);
+    range_change::change_range(&mut front[..gap.start], input, start, end, change);
 }
 
-/// Keeps the cluster of the glyph at the cursor, which then leaves the input, as
-/// `deletion::delete_head` does.
+/// Keeps the cluster of the first glyph of the input, which then leaves it, as `deletion::delete_head`
+/// does.
 ///
 /// # Requires
 ///
-/// - `near: out_len ≤ cursor`
-/// - `glyph: cursor < length info.old`
+/// - `gap: gap.start ≤ gap.end`
+/// - `glyph: gap.end < length info.old`
 #[inline(always)]
-pub(crate) fn delete_head(
-    info: &mut [hb_glyph_info_t],
-    out_len: usize,
-    cursor: usize,
-    any_order: bool,
-) {
-    debug_assert!(out_len <= cursor);
-    debug_assert!(cursor < info.len());
-    let (front, input) = info.split_at_mut(cursor);
-    deletion::delete_head(&mut front[..out_len], input, any_order);
+pub(crate) fn delete_head(info: &mut [hb_glyph_info_t], gap: Range<usize>, order: ClusterOrder) {
+    let (front, input) = info.split_at_mut(gap.end);
+    deletion::delete_head(&mut front[..gap.start], input, order);
 }

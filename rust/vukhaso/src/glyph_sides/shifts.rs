@@ -26,6 +26,22 @@ pub(crate) fn put_down(info: &mut Vec<hb_glyph_info_t>, to: usize, from: usize, 
     info.copy_within(from..from + count, to);
 }
 
+/// Puts the glyphs that were put out in place behind a separate output, with room for `more` behind
+/// them.
+///
+/// # Requires
+///
+/// - `fits: length placed.now + more < 2 ^ 64`
+pub(crate) fn leave(
+    out: &mut Vec<hb_glyph_info_t>,
+    placed: &[hb_glyph_info_t],
+    more: usize,
+) -> Result<(), AllocError> {
+    out.reserve(placed.len() + more)?;
+    out.extend_from_slice(placed).unwrap();
+    Ok(())
+}
+
 /// Moves the glyphs from a place on down, over those in between.
 ///
 /// # Requires

@@ -42,6 +42,39 @@ impl<'a> ChosenTable<'a> {
         }
     }
 
+    /// The same, where these feature tables stand in the place of others: a FeatureTableSubstitution table,
+    /// or an empty one.
+    ///
+    /// # Proved
+    ///
+    /// ```text
+    /// ensures { result ≡ record self.entry { lists = record self.entry.lists { substitutions = substitutions.entry } } }
+    /// ```
+    #[inline]
+    pub fn with_substitutions(self, substitutions: &'a [u8]) -> Self {
+        let ChosenTable {
+            lists,
+            script,
+            system,
+        } = self;
+        let LayoutTable {
+            scripts,
+            features,
+            lookup_count,
+            ..
+        } = lists;
+        ChosenTable {
+            lists: LayoutTable {
+                scripts,
+                features,
+                lookup_count,
+                substitutions,
+            },
+            script,
+            system,
+        }
+    }
+
     /// Whether the language system has a feature with this tag.
     ///
     /// # Proved
@@ -117,7 +150,9 @@ impl<'a> PlanBuilder<'a> {
     ///
     /// # Proved
     ///
-    /// That it returns.
+    /// ```text
+    /// ensures { HasSamePauses self.old self.new }
+    /// ```
     #[inline]
     pub fn add_feature(
         &mut self,
@@ -147,7 +182,9 @@ impl<'a> PlanBuilder<'a> {
     ///
     /// # Proved
     ///
-    /// That it returns.
+    /// ```text
+    /// ensures { HasSamePauses self.old self.new }
+    /// ```
     #[inline]
     pub fn enable_feature(&mut self, tag: Tag, flags: FeatureFlags) -> Result<(), AllocError> {
         let flags = FeatureFlags {
@@ -165,7 +202,9 @@ impl<'a> PlanBuilder<'a> {
     ///
     /// # Proved
     ///
-    /// That it returns.
+    /// ```text
+    /// ensures { HasSamePauses self.old self.new }
+    /// ```
     #[inline]
     pub fn disable_feature(&mut self, tag: Tag) -> Result<(), AllocError> {
         self.add_feature(tag, FeatureFlags::GLOBAL, 0)
@@ -180,7 +219,11 @@ impl<'a> PlanBuilder<'a> {
     ///
     /// # Proved
     ///
-    /// That it returns.
+    /// ```text
+    /// ensures pauses { IfOk result (λ _. self.new.pauses.items ≡ self.old.pauses.items ++ (pause ∷ [])) }
+    /// ensures requests { self.new.requests ≡ self.old.requests }
+    /// ensures tables { (self.new.gsub ≡ self.old.gsub) × (self.new.gpos ≡ self.old.gpos) }
+    /// ```
     #[inline]
     pub fn add_gsub_pause(&mut self, pause: Pause) -> Result<(), AllocError> {
         self.pauses.push(pause)?;

@@ -140,6 +140,35 @@ impl LayoutPlan {
         }
     }
 
+    /// The lookups of substitution that are applied in the stage of a feature; none where the plan has none
+    /// with this tag.
+    ///
+    /// # Proved
+    ///
+    /// That it returns.
+    #[inline]
+    pub fn stage_lookups(&self, tag: Tag) -> &[PlannedLookup] {
+        match self.feature(tag) {
+            Some(feature) => self.lookups_of_stage(feature.stage),
+            None => &[],
+        }
+    }
+
+    /// The lookups of substitution of a stage; none where the stages are not in order.
+    fn lookups_of_stage(&self, stage: usize) -> &[PlannedLookup] {
+        let lookups = self.gsub_lookups.as_slice();
+        let start = stage_start(self.stages.as_slice(), stage);
+        let end = match self.stages.get(stage) {
+            Some(stage) => stage.end,
+            None => lookups.len(),
+        };
+        if start <= end && end <= lookups.len() {
+            &lookups[start..end]
+        } else {
+            &[]
+        }
+    }
+
     /// Whether a feature has to be made by a fallback.
     ///
     /// # Proved
@@ -151,5 +180,16 @@ impl LayoutPlan {
             Some(feature) => feature.needs_fallback,
             None => false,
         }
+    }
+}
+
+/// The place of a stage's first lookup, in the list of all.
+fn stage_start(stages: &[Stage], stage: usize) -> usize {
+    if stage == 0 {
+        return 0;
+    }
+    match stages.get(stage - 1) {
+        Some(before) => before.end,
+        None => 0,
     }
 }

@@ -6,6 +6,7 @@
 use crate::common::Tag;
 use crate::font_tables::bytes::{table_at_16, u16_at, u32_at};
 use crate::font_tables::rows::rows_within;
+use crate::font_variations::feature_variations::substitute_of;
 
 /// The lists of a table `GSUB` or `GPOS`, found once.
 #[derive(Clone, Copy, Debug)]
@@ -16,6 +17,9 @@ pub struct LayoutTable<'a> {
     pub features: &'a [u8],
     /// How many lookups the table declares.
     pub lookup_count: u16,
+    /// The feature tables that stand in the place of others, where variations of the font choose them: a
+    /// FeatureTableSubstitution table, or an empty one.
+    pub substitutions: &'a [u8],
 }
 
 impl<'a> LayoutTable<'a> {
@@ -28,6 +32,7 @@ impl<'a> LayoutTable<'a> {
     /// ensures scripts { result.scripts.now ≡ list_of table.now 4 }
     /// ensures features { result.features.now ≡ list_of table.now 6 }
     /// ensures lookups { result.lookup_count ≡ lookup_count table.now }
+    /// ensures substitutions { result.substitutions.now ≡ [] }
     /// ```
     #[inline]
     pub fn new(table: &'a [u8]) -> Self {
@@ -35,6 +40,7 @@ impl<'a> LayoutTable<'a> {
             scripts: list_of(table, 4),
             features: list_of(table, 6),
             lookup_count: u16_at(list_of(table, 8), 0).unwrap_or(0),
+            substitutions: &[],
         }
     }
 
@@ -55,21 +61,19 @@ impl<'a> LayoutTable<'a> {
         }
     }
 
-    /// The table of the feature with this number, which lists its lookups; an empty one where there is no
-    /// such feature.
+    /// The table of the feature with this number, which lists its lookups: the one that stands in its
+    /// place, if there is one. An empty one where there is no such feature.
     ///
     /// # Proved
     ///
     /// ```text
-    /// ensures { result.now ≡ feature_table self.now.features.now index }
+    /// ensures { result.now ≡ chosen_feature_table self.now.features.now self.now.substitutions.now index }
     /// ```
     #[inline]
     pub fn feature_table(&self, index: u16) -> &'a [u8] {
-        let index = usize::from(index);
-        if index < record_count(self.features, 0) {
-            table_of_record(self.features, 0, index)
-        } else {
-            &[]
+        match substitute_of(self.substitutions, index) {
+            Some(table) => table,
+            None => feature_table(self.features, index),
         }
     }
 
@@ -161,6 +165,16 @@ pub(crate) fn table_of_record(list: &[u8], at: usize, row: usize) -> &[u8] {
     debug_assert!(at <= 2);
     debug_assert!(row < 65536);
     table_at_16(list, at + 6 + 6 * row).unwrap_or(&[])
+}
+
+/// The table of the feature with this number in a list; an empty one where there is no such feature.
+fn feature_table(features: &[u8], index: u16) -> &[u8] {
+    let index = usize::from(index);
+    if index < record_count(features, 0) {
+        table_of_record(features, 0, index)
+    } else {
+        &[]
+    }
 }
 
 /// How many lookups the table of a feature lists.

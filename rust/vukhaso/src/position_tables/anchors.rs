@@ -5,7 +5,8 @@
 
 use crate::font_tables::bytes::{i16_at, table_at_16, u16_at};
 use crate::font_tables::scale::Scale;
-use crate::position_tables::devices::device_delta;
+use crate::position_tables::devices::{x_correction, y_correction};
+use crate::position_tables::instance::Instance;
 
 /// A point of a glyph.
 #[derive(Clone, Copy, Debug)]
@@ -14,9 +15,9 @@ pub struct Anchor {
     pub x: i16,
     /// Upwards, in font units.
     pub y: i16,
-    /// How far it is moved to the right where glyphs are drawn in pixels.
+    /// How far it is moved to the right where glyphs are drawn in pixels, or where variations are chosen.
     pub x_delta: i32,
-    /// How far it is moved upwards where glyphs are drawn in pixels.
+    /// How far it is moved upwards where glyphs are drawn in pixels, or where variations are chosen.
     pub y_delta: i32,
 }
 
@@ -27,13 +28,13 @@ impl Anchor {
     /// # Proved
     ///
     /// ```text
-    /// ensures { result ≡ anchor table.now scale.now }
+    /// ensures { result ≡ anchor table.now instance.now }
     /// ```
     #[inline]
-    pub fn read(table: &[u8], scale: &Scale) -> Option<Anchor> {
+    pub fn read(table: &[u8], instance: &Instance<'_>) -> Option<Anchor> {
         let format = u16_at(table, 0)?;
         if 1 <= format && format <= 3 {
-            known_anchor(table, format, scale)
+            known_anchor(table, format, instance)
         } else {
             Some(Anchor {
                 x: 0,
@@ -106,15 +107,15 @@ fn moved(distance: i32, end: i32, start: i32) -> i32 {
 }
 
 /// The anchor of a known format.
-fn known_anchor(table: &[u8], format: u16, scale: &Scale) -> Option<Anchor> {
+fn known_anchor(table: &[u8], format: u16, instance: &Instance<'_>) -> Option<Anchor> {
     if table.len() < anchor_size(format) {
         return None;
     }
     Some(Anchor {
         x: coordinate(table, 2),
         y: coordinate(table, 4),
-        x_delta: anchor_delta(table, format, 6, scale.x_ppem, scale.x),
-        y_delta: anchor_delta(table, format, 8, scale.y_ppem, scale.y),
+        x_delta: x_correction(table, device_offset(table, format, 6), instance),
+        y_delta: y_correction(table, device_offset(table, format, 8), instance),
     })
 }
 
@@ -132,10 +133,10 @@ fn anchor_size(format: u16) -> usize {
     }
 }
 
-/// The correction by the device table whose offset stands at a place, if the format has any.
-fn anchor_delta(table: &[u8], format: u16, at: usize, ppem: u16, size: i32) -> i32 {
+/// The offset of a device table at a place; 0 where the format has none.
+fn device_offset(table: &[u8], format: u16, at: usize) -> u16 {
     if format == 3 {
-        device_delta(table, u16_at(table, at).unwrap_or(0), ppem, size)
+        u16_at(table, at).unwrap_or(0)
     } else {
         0
     }

@@ -1,9 +1,59 @@
 // Written by tools/plain_rust from crates/position_tables. Do not edit.
 
-//! Device tables: corrections of numbers where glyphs are drawn in pixels (OpenType specification, "OpenType Layout Common
-//! Table Formats", "Device and VariationIndex tables"). A table of variations corrects nothing.
+//! Device tables: corrections of numbers where glyphs are drawn in pixels, or at a place in the variations of a font (OpenType
+//! specification, "OpenType Layout Common Table Formats", "Device and VariationIndex tables").
 
-use crate::font_tables::bytes::{tail, u16_at};
+use crate::font_tables::bytes::{tail, u16_at, u32_at};
+use crate::position_tables::instance::Instance;
+
+/// The correction of a number across by the device table, or the table of variations, that an offset
+/// leads to, from the start of `table`. It is 0 where the offset is 0.
+///
+/// # Proved
+///
+/// ```text
+/// ensures is { result ≡ x_correction table.now offset instance.now }
+/// ensures unvaried { is_varied instance.now.deltas ≡ false
+///     → result ≡ device_delta table.now offset instance.now.scale.x_ppem instance.now.scale.x }
+/// ```
+#[inline]
+pub fn x_correction(table: &[u8], offset: u16, instance: &Instance<'_>) -> i32 {
+    match variation_index(table, offset) {
+        Some(index) => instance.x_delta(index),
+        None => device_delta(table, offset, instance.scale.x_ppem, instance.scale.x),
+    }
+}
+
+/// The correction of a number upwards by the device table, or the table of variations, that an offset
+/// leads to, from the start of `table`. It is 0 where the offset is 0.
+///
+/// # Proved
+///
+/// ```text
+/// ensures is { result ≡ y_correction table.now offset instance.now }
+/// ensures unvaried { is_varied instance.now.deltas ≡ false
+///     → result ≡ device_delta table.now offset instance.now.scale.y_ppem instance.now.scale.y }
+/// ```
+#[inline]
+pub fn y_correction(table: &[u8], offset: u16, instance: &Instance<'_>) -> i32 {
+    match variation_index(table, offset) {
+        Some(index) => instance.y_delta(index),
+        None => device_delta(table, offset, instance.scale.y_ppem, instance.scale.y),
+    }
+}
+
+/// The delta set that the table at an offset names; `None` where it is no table of variations.
+fn variation_index(table: &[u8], offset: u16) -> Option<u32> {
+    if offset == 0 {
+        return None;
+    }
+    let device = tail(table, usize::from(offset));
+    if matches!(u16_at(device, 4), Some(0x8000)) {
+        u32_at(device, 0)
+    } else {
+        None
+    }
+}
 
 /// The correction by the device table that an offset leads to, from the start of `table`, where an em
 /// has `ppem` pixels and is `size` long. It is 0 where there are no pixels, or no such table.

@@ -42,7 +42,7 @@ pub fn replay(
 ) -> Result<(), Stopped> {
     debug_assert!(answers.len() == calls.len());
     for (i, call) in calls.iter().enumerate() {
-        match make(buffer, call) {
+        match make_call(buffer, call) {
             Ok(answer) => answers[i] = answer,
             Err(_) => return Err(Stopped { at: i }),
         }
@@ -50,8 +50,19 @@ pub fn replay(
     Ok(())
 }
 
-/// Makes one call, where its condition holds.
-pub(crate) fn make(buffer: &mut hb_buffer_t, call: &Call<'_>) -> Result<Answer, AllocError> {
+/// Makes one call, and answers it: `Outside` where its condition does not hold.
+///
+/// # Errors
+///
+/// `Err(AllocError)` where memory ran out: then nothing changed.
+///
+/// # Proved
+///
+/// ```text
+/// ensures { GivesTurn call.now buffer.old result buffer.new }
+/// ```
+#[inline]
+pub fn make_call(buffer: &mut hb_buffer_t, call: &Call<'_>) -> Result<Answer, AllocError> {
     if !may_be_made(buffer, call) {
         return Ok(Answer::Outside);
     }

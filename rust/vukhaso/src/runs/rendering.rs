@@ -5,7 +5,7 @@
 use crate::buffer::{BufferClusterLevel, Feature, GlyphBuffer, UnicodeBuffer, hb_buffer_t};
 use crate::glyph::algs::rb_flag;
 use crate::runs::call::{Answer, Call};
-use crate::runs::call_list::make;
+use crate::runs::call_list::make_call;
 
 /// How many features [`render_at`] takes: the bits that a mask has for them.
 pub const MAX_FEATURES: usize = 24;
@@ -169,7 +169,7 @@ fn make_until_refused(
 ) -> Result<(), RenderFault> {
     debug_assert!(answers.len() == calls.len());
     for (i, call) in calls.iter().enumerate() {
-        match make(buffer, call) {
+        match make_call(buffer, call) {
             Ok(answer) => {
                 answers[i] = answer;
                 if is_refused(answer) {

@@ -5,7 +5,7 @@
 use crate::common::{Script, Tag};
 use crate::layout_plan::{FeatureFlags, PlanBuilder};
 use crate::memory::AllocError;
-use crate::script_features::arabic;
+use crate::script_features::{arabic, indic, khmer, myanmar, universal};
 use crate::script_shapers::ScriptShaper;
 
 /// The features of jamo, in the order of the numbers that they keep.
@@ -19,7 +19,10 @@ pub(crate) const JAMO_FEATURES: [&[u8; 4]; 3] = [b"ljmo", b"vjmo", b"tjmo"];
 ///
 /// # Proved
 ///
-/// That it returns.
+/// ```text
+/// ensures { shaper ≢ Arabic
+///     → IfOk result (λ _. builder.new.pauses.items ≡ builder.old.pauses.items ++ pauses_of shaper) }
+/// ```
 #[inline]
 pub fn collect_features(
     shaper: ScriptShaper,
@@ -28,13 +31,17 @@ pub fn collect_features(
 ) -> Result<(), AllocError> {
     match shaper {
         ScriptShaper::Arabic => arabic::collect_features(builder, script),
-        ScriptShaper::Hangul => {
-            for name in JAMO_FEATURES {
-                builder.add_feature(Tag::from_bytes(name), FeatureFlags::NONE, 1)?;
-            }
-            Ok(())
+        ScriptShaper::Hangul => add_jamo_features(builder),
+        ScriptShaper::Indic => indic::collect_features(builder),
+        ScriptShaper::Khmer => khmer::collect_features(builder),
+        ScriptShaper::Myanmar => myanmar::collect_features(builder),
+        ScriptShaper::Universal | ScriptShaper::UniversalJoining => {
+            universal::collect_features(builder)
         }
-        ScriptShaper::Default | ScriptShaper::Hebrew | ScriptShaper::Thai => Ok(()),
+        ScriptShaper::Default
+        | ScriptShaper::Hebrew
+        | ScriptShaper::Thai
+        | ScriptShaper::Zawgyi => Ok(()),
     }
 }
 
@@ -47,7 +54,9 @@ pub fn collect_features(
 ///
 /// # Proved
 ///
-/// That it returns.
+/// ```text
+/// ensures { IfOk result (λ _. builder.new.pauses.items ≡ builder.old.pauses.items ++ last_pauses_of shaper) }
+/// ```
 #[inline]
 pub fn override_features(
     shaper: ScriptShaper,
@@ -55,9 +64,16 @@ pub fn override_features(
 ) -> Result<(), AllocError> {
     match shaper {
         ScriptShaper::Hangul => builder.disable_feature(Tag::from_bytes(b"calt")),
-        ScriptShaper::Default
-        | ScriptShaper::Arabic
-        | ScriptShaper::Hebrew
-        | ScriptShaper::Thai => Ok(()),
+        ScriptShaper::Indic => indic::override_features(builder),
+        ScriptShaper::Khmer => khmer::override_features(builder),
+        _ => Ok(()),
     }
+}
+
+/// Asks for the features of jamo.
+fn add_jamo_features(builder: &mut PlanBuilder) -> Result<(), AllocError> {
+    for name in JAMO_FEATURES {
+        builder.add_feature(Tag::from_bytes(name), FeatureFlags::NONE, 1)?;
+    }
+    Ok(())
 }

@@ -13,7 +13,12 @@ use crate::script_shapers::{ScriptPlan, ScriptShaper};
 ///
 /// # Proved
 ///
-/// That it returns.
+/// ```text
+/// ensures shaper { result.shaper ≡ shaper }
+/// ensures pieces { shaper ≢ Arabic → result.has_stch ≡ false }
+/// ensures fallback { shaper ≢ Arabic → result.does_fallback ≡ false }
+/// ensures found { finds_script ≡ true → result.has_private_use ≡ false }
+/// ```
 pub fn script_plan(
     shaper: ScriptShaper,
     script: Option<Script>,
@@ -30,7 +35,9 @@ pub fn script_plan(
         has_gpos_mark: layout.one_mask(Tag::from_bytes(b"mark")) != 0,
         rlig_mask: layout.one_mask(Tag::from_bytes(b"rlig")),
         masks: match shaper {
-            ScriptShaper::Arabic => masks_of(&FORM_FEATURES, layout),
+            ScriptShaper::Arabic | ScriptShaper::UniversalJoining => {
+                masks_of(&FORM_FEATURES, layout)
+            }
             ScriptShaper::Hangul => masks_of(&JAMO_FEATURES, layout),
             _ => [0; 8],
         },

@@ -1,5 +1,5 @@
 //! Each allocation refused in turn, by the global allocator of this test: a call that runs out of memory has changed
-//! nothing, and is then made again. The scenarios are those of the program `fault_runs`, written by
+//! nothing, and is then made again. The scenarios are those of the program `fault_tests`, written by
 //! `tools/plain_rust`.
 #![allow(
     clippy::style,
@@ -10,15 +10,15 @@
 )]
 
 use allocator::refusing;
-use fault_runs::growth::GROWTHS;
-use fault_runs::rendered::RENDERED;
-use fault_runs::runs::apart::{APART_RUNS, BECOMING};
-use fault_runs::runs::in_place::IN_PLACE;
-use fault_runs::runs::whole::WHOLE;
-use fault_runs::runs::within_room::WITHIN_ROOM;
-use fault_runs::said::{Made, Tags, Told};
-use fault_runs::scenario::Scenario;
-use fault_runs::written::Written;
+use fault_tests::growth::GROWTHS;
+use fault_tests::rendered::RENDERED;
+use fault_tests::runs::apart::{APART_RUNS, BECOMING};
+use fault_tests::runs::in_place::IN_PLACE;
+use fault_tests::runs::whole::WHOLE;
+use fault_tests::runs::within_room::WITHIN_ROOM;
+use fault_tests::said::{Made, Tags, Told};
+use fault_tests::scenario::Scenario;
+use fault_tests::written::Written;
 
 mod allocator;
 mod more;
@@ -26,7 +26,7 @@ mod more;
 #[path = "../../examples/lines/shaping_session/mod.rs"]
 mod shaping_session;
 
-mod fault_runs {
+mod fault_tests {
     pub mod beginning;
     pub mod growth;
     pub mod rendered;

@@ -10,6 +10,7 @@ pub returns-clause-runs : goal.returns-clause-runs
 returns-clause-runs g c =
     let s = c.args.buffer.now in
     let way : c.buffer.inside.direction ≡ s.direction = grind (arith, common_steps) in
+    let shaped : c.in_ok-shape_native.field-0 ≡ true = grind (arith, common_steps) in
     let t = c.finish_glyphs.new.buffer in
     if_ok c.finish_glyphs.result
     (λ (done : Bool). done ≡ true → KeepsOrTurns (not (is_forward s.direction)) s t)
@@ -17,5 +18,5 @@ returns-clause-runs g c =
     (made c.is_forward.result c.ensure_native_direction-is_turned.result c.is_against.result s
     c.begin_characters.new.buffer c.ensure_native_direction-is_turned.new.buffer c.shape_native.new.buffer
     c.reverse_if.new.buffer t c.is_against.ensures c.begin_characters.ensures.keeps
-    c.ensure_native_direction-is_turned.ensures.runs c.shape_native.ensures.keeps c.reverse_if.ensures.runs
+    c.ensure_native_direction-is_turned.ensures.runs (c.in_ok-shape_native.ensures.keeps shaped) c.reverse_if.ensures.runs
     c.finish_glyphs.ensures.keeps))

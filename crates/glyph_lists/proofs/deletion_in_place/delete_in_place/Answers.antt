@@ -1,4 +1,5 @@
 use Rattle.std.proofs.Common.{◌≡◌, ◌+◌, ◌-◌, ◌<◌, ◌∙◌, ◌||◌, true, false, suc, refl, sym, ap, length, get_or, arith}
+use Rattle.glyph_lists.specs.ClusterOrder.{is_any}
 use Rattle.glyph_lists.specs.Clusters.{zero_glyph}
 use Rattle.glyph_lists.proofs.DeletingWalkLemmas.{leads_first, leads_same, leads_deletion, leads_next}
 use Rattle.glyph_lists.proofs.deletion_in_place.delete_in_place.Goals as goal
@@ -9,7 +10,7 @@ loop-at-init g c = (
   length c.args.info.now,
   omega arith,
   omega arith,
-  λ test by. leads_first c.args.any_order test c.args.info.now c.args.pos.now,
+  λ test by. leads_first (is_any c.args.order) test c.args.info.now c.args.pos.now,
 )
 
 pub loop-at-preserved : goal.loop-at-preserved
@@ -17,7 +18,7 @@ loop-at-preserved g c =
     let inv = c.loop-at.invariant in
     let old = c.args.info.now in
     let old_pos = c.args.pos.now in
-    let any_order = c.args.any_order in
+    let any_order = is_any c.args.order in
     let l = c.loop-at in
     let new = c.if-deletes in
     let t = inv.0 - 1 in

@@ -7,7 +7,7 @@ use Rattle.glyph_sides.proofs.one_slice.delete_head.Goals as goal
 pub returns-clause-rest : goal.returns-clause-rest
 returns-clause-rest c =
     let a = c.args in
-    let read = drop a.out_len c.split_at_mut-front.result.0.now in
+    let read = drop a.gap.start c.split_at_mut-front.result.0.now in
     let info : List hb_glyph_info_t = c.delete_head.new.out ++ read ++ c.delete_head.new.input in
-    let left = next_left a.cursor info in
+    let left = next_left a.gap.end info in
     grind (arith, common_steps, left)

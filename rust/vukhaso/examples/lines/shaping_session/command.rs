@@ -116,104 +116,70 @@ fn ids(count: usize, words: &mut Words<'_>) -> Result<Option<Vec<u32>>, AllocErr
     Ok(Some(ids))
 }
 
-/// The command of a name, which takes what belongs to it from the words that follow.
+/// The list of the commands, by their names, each with the words that belong to it. `replace_glyphs`,
+/// which takes memory, stands before it, in `command_named`.
 fn command_of<'a>(name: &str, words: &mut Words<'a>) -> Option<Command<'a>> {
-    match name {
-        "push" => Some(Command::Push(words.text()?)),
-        "add" => Some(Command::Add {
+    Some(match name {
+        // the text, and how it is treated
+        "push" => Command::Push(words.text()?),
+        "add" => Command::Add {
             character: words.character()?,
             cluster: words.number()?,
-        }),
-        "new" => Some(Command::New),
-        _ => treatment_of(name, words),
-    }
-}
-
-/// The commands that say how the text is treated.
-fn treatment_of<'a>(name: &str, words: &mut Words<'a>) -> Option<Command<'a>> {
-    match name {
-        "level" => Some(Command::Level(level_of(words.number()?)?)),
-        "flags" => Some(Command::Flags(flags_of(words.number()?)?)),
-        "limit" => Some(Command::Limit(words.place()?)),
-        _ => question_of(name, words),
-    }
-}
-
-/// The commands that print something.
-fn question_of<'a>(name: &str, words: &mut Words<'a>) -> Option<Command<'a>> {
-    match name {
-        "state" => Some(Command::State),
-        "serialize" => Some(Command::Serialize(serialize_flags_of(words.number()?)?)),
-        _ => query_of(name, words),
-    }
-}
-
-/// The commands that ask nothing of the text.
-fn query_of<'a>(name: &str, words: &mut Words<'a>) -> Option<Command<'a>> {
-    match name {
-        "feature" => Some(Command::Feature(words.text()?)),
-        "tags" => Some(Command::Tags {
+        },
+        "new" => Command::New,
+        "level" => Command::Level(level_of(words.number()?)?),
+        "flags" => Command::Flags(flags_of(words.number()?)?),
+        "limit" => Command::Limit(words.place()?),
+        // what is printed
+        "state" => Command::State,
+        "serialize" => Command::Serialize(serialize_flags_of(words.number()?)?),
+        // questions that ask nothing of the text
+        "feature" => Command::Feature(words.text()?),
+        "tags" => Command::Tags {
             script: words.script()?,
             language: words.language()?,
-        }),
-        "compose" => Some(Command::Compose(words.character()?, words.character()?)),
-        "decompose" => Some(Command::Decompose(words.character()?)),
-        _ => make_of(name, words),
-    }
+        },
+        "compose" => Command::Compose(words.character()?, words.character()?),
+        "decompose" => Command::Decompose(words.character()?),
+        // calls of the buffer, by their methods
+        _ => Command::Make(call_of(name, words)?),
+    })
 }
 
-/// The command that makes the call of a name.
-fn make_of<'a>(name: &str, words: &mut Words<'a>) -> Option<Command<'a>> {
-    Some(Command::Make(call_of(name, words)?))
-}
-
+/// The list of the calls, by the names of their methods.
 fn call_of(name: &str, words: &mut Words<'_>) -> Option<Call<'static>> {
-    match name {
-        "clear_output" => Some(Call::ClearOutput),
-        "next_glyph" => Some(Call::NextGlyph),
-        "next_glyphs" => Some(Call::NextGlyphs(words.place()?)),
-        "skip_glyph" => Some(Call::SkipGlyph),
-        "move_to" => Some(Call::MoveTo(words.place()?)),
-        "sync" => Some(Call::Sync),
-        _ => edit_call_of(name, words),
-    }
+    Some(match name {
+        "clear_output" => Call::ClearOutput,
+        "next_glyph" => Call::NextGlyph,
+        "next_glyphs" => Call::NextGlyphs(words.place()?),
+        "skip_glyph" => Call::SkipGlyph,
+        "move_to" => Call::MoveTo(words.place()?),
+        "sync" => Call::Sync,
+        "replace_glyph" => Call::ReplaceGlyph(words.number()?),
+        "output_glyph" => Call::OutputGlyph(words.number()?),
+        "copy_glyph" => Call::CopyGlyph,
+        "delete_glyph" => Call::DeleteGlyph,
+        _ => range_call_of(name, words.place()?, words.place()?)?,
+    })
 }
 
-/// The calls that put glyphs out in place of others, or drop one.
-fn edit_call_of(name: &str, words: &mut Words<'_>) -> Option<Call<'static>> {
-    match name {
-        "replace_glyph" => Some(Call::ReplaceGlyph(words.number()?)),
-        "output_glyph" => Some(Call::OutputGlyph(words.number()?)),
-        "copy_glyph" => Some(Call::CopyGlyph),
-        "delete_glyph" => Some(Call::DeleteGlyph),
-        _ => merge_call_of(name, words),
-    }
-}
-
-/// The calls that merge clusters.
-fn merge_call_of(name: &str, words: &mut Words<'_>) -> Option<Call<'static>> {
-    match name {
-        "merge_clusters" => Some(Call::MergeClusters(words.place()?, words.place()?)),
-        "merge_out_clusters" => Some(Call::MergeOutClusters(words.place()?, words.place()?)),
-        "merge_grapheme_clusters" => {
-            Some(Call::MergeGraphemeClusters(words.place()?, words.place()?))
+/// The list of the calls that take a start and an end.
+fn range_call_of(name: &str, start: usize, end: usize) -> Option<Call<'static>> {
+    Some(match name {
+        "merge_clusters" => Call::MergeClusters(start, end),
+        "merge_out_clusters" => Call::MergeOutClusters(start, end),
+        "merge_grapheme_clusters" => Call::MergeGraphemeClusters(start, end),
+        "unsafe_to_break" => Call::UnsafeToBreak(Some(start), Some(end)),
+        "unsafe_to_break_from_outbuffer" => {
+            Call::UnsafeToBreakFromOutbuffer(Some(start), Some(end))
         }
-        _ => flag_call_of(name, words),
-    }
-}
-
-/// The calls that mark glyphs from one place to another.
-fn flag_call_of(name: &str, words: &mut Words<'_>) -> Option<Call<'static>> {
-    let start = Some(words.place()?);
-    let end = Some(words.place()?);
-    match name {
-        "unsafe_to_break" => Some(Call::UnsafeToBreak(start, end)),
-        "unsafe_to_break_from_outbuffer" => Some(Call::UnsafeToBreakFromOutbuffer(start, end)),
-        "safe_to_insert_tatweel" => Some(Call::SafeToInsertTatweel(start, end)),
-        "unsafe_to_concat" => Some(Call::UnsafeToConcat(start, end)),
-        "unsafe_to_concat_from_outbuffer" => Some(Call::UnsafeToConcatFromOutbuffer(start, end)),
-        _ => None,
-    }
+        "safe_to_insert_tatweel" => Call::SafeToInsertTatweel(Some(start), Some(end)),
+        "unsafe_to_concat" => Call::UnsafeToConcat(Some(start), Some(end)),
+        "unsafe_to_concat_from_outbuffer" => {
+            Call::UnsafeToConcatFromOutbuffer(Some(start), Some(end))
+        }
+        _ => return None,
+    })
 }
 
 /// The cluster level of a number.

@@ -11,7 +11,7 @@ use vukhaso::buffer::{
 };
 use vukhaso::glyph::{NoGlyphNames, hb_glyph_info_t};
 use vukhaso::memory::{AllocError, String};
-use vukhaso::runs::{Answer, Call, replay};
+use vukhaso::runs::{Call, make_call};
 
 /// A text that grows, and then the buffer that it was turned into.
 pub enum Session {
@@ -148,11 +148,7 @@ impl Session {
 
     fn make(self, call: Call<'_>) -> Result<(Session, Reply), AllocError> {
         let mut buffer = self.into_buffer();
-        let mut answers = [Answer::Outside];
-        if replay(&mut buffer, &[call], &mut answers).is_err() {
-            return Err(AllocError);
-        }
-        let reply = Reply::of_answer(answers[0]);
+        let reply = Reply::of_answer(make_call(&mut buffer, &call)?);
         Ok((Session::Turned(buffer), reply))
     }
 

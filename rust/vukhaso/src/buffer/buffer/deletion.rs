@@ -29,10 +29,10 @@ impl hb_buffer_t {
     pub fn delete_glyph(&mut self) {
         debug_assert!(self.have_output());
         debug_assert!(0 < self.lookahead_len());
-        let any_order = self.any_order();
-        if any_order && deletion::merges_next(self.sides.out(), self.sides.input()) {
+        let order = self.cluster_order();
+        if order.is_any() && deletion::merges_next(self.sides.out(), self.sides.input()) {
             self.set_has_glyph_flags();
         }
-        self.sides.delete_head(any_order);
+        self.sides.delete_head(order);
     }
 }

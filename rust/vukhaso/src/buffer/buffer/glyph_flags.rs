@@ -75,7 +75,7 @@ impl hb_buffer_t {
         let to = self.both_place(self.range_end(end));
         let scan = RangeChange::Scan {
             bits: BREAK_BITS,
-            any_order: self.any_order(),
+            order: self.cluster_order(),
         };
         self.flag_range(start.unwrap_or(0), to, scan);
     }
@@ -192,9 +192,9 @@ impl hb_buffer_t {
         if to - from < 2 {
             return;
         }
-        let any_order = self.any_order();
+        let order = self.cluster_order();
         self.set_has_glyph_flags();
-        self.sides.scan_input(from, to, bits, any_order);
+        self.sides.scan_input(from, to, bits, order);
     }
 
     /// The end of a flag call's range, cut to the length.
@@ -204,15 +204,15 @@ impl hb_buffer_t {
         end.unwrap_or(len).min(len)
     }
 
-    /// A change of the glyphs of both sides from `from` to `to` that leaves glyph flags. A scan requires
-    /// that `to` is in the input.
+    /// A change of the glyph flags of both sides from `from` to `to`, which is in the input.
     ///
     /// # Requires
     ///
-    /// - `may: MayChange change (length self.old.out) from to`
+    /// - `past_out: length self.old.out ≤ to`
     /// - `order: from ≤ to`
     /// - `within: to ≤ length (step.both self.old)`
     fn flag_range(&mut self, from: usize, to: usize, change: RangeChange) {
+        debug_assert!(self.out_len() <= to);
         debug_assert!(from <= to);
         self.set_has_glyph_flags();
         self.sides.change_range(from, to, change);

@@ -203,9 +203,8 @@ impl hb_buffer_t {
     pub fn delete_glyphs_inplace<F: Fn(&hb_glyph_info_t) -> bool>(&mut self, filter: F) {
         debug_assert!(!self.have_output());
         debug_assert!(!self.sides.is_open());
-        let any_order = self.any_order();
-        let (kept, merges) =
-            delete_in_place(self.sides.list_mut(), &mut self.pos, any_order, &filter);
+        let order = self.cluster_order();
+        let (kept, merges) = delete_in_place(self.sides.list_mut(), &mut self.pos, order, &filter);
         self.sides.truncate(kept);
         self.pos.truncate(kept);
         if merges {

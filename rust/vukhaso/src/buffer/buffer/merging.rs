@@ -8,8 +8,8 @@
 
 use super::hb_buffer_t;
 use crate::glyph::hb_glyph_info_t;
+use crate::glyph_lists::cluster_order::ClusterOrder;
 use crate::glyph_lists::clusters;
-use crate::glyph_lists::range_change::RangeChange;
 
 impl hb_buffer_t {
     /// Puts a glyph into a cluster. Where that changes its cluster, its glyph flags, the low three bits of
@@ -50,11 +50,11 @@ impl hb_buffer_t {
         debug_assert!(start <= end);
         debug_assert!(end <= self.len());
         debug_assert!(!self.have_output() || self.idx() <= start);
-        if self.sides.is_open() || self.any_order() {
-            self.merge_input(start, end);
-            return;
+        let order = self.cluster_order();
+        if order.is_any() && end - start >= 2 {
+            self.set_has_glyph_flags();
         }
-        self.merge_closed(start, end);
+        self.sides.merge_input(start, end, order);
     }
 
     /// Makes a grapheme one cluster: the input's glyphs from `start` to `end`. They are merged as by
@@ -81,68 +81,11 @@ impl hb_buffer_t {
         debug_assert!(start <= end);
         debug_assert!(end <= self.len());
         debug_assert!(!self.have_output() || self.idx() <= start);
-        if !self.groups_graphemes() {
+        if self.groups_graphemes() {
+            self.sides.merge_input(start, end, ClusterOrder::Monotone);
+        } else {
             self.unsafe_to_break(Some(start), Some(end));
-        } else if self.sides.is_open() {
-            self.merge_sides(self.both_place(start), self.both_place(end), false);
-        } else {
-            self.merge_closed(start, end);
         }
-    }
-
-    /// Merges the glyphs from `start` to `end` where no output is open.
-    ///
-    /// # Requires
-    ///
-    /// - `closed: self.old.have_output ≡ false`
-    /// - `order: start ≤ end`
-    /// - `within: end ≤ len self.old`
-    #[inline(always)]
-    fn merge_closed(&mut self, start: usize, end: usize) {
-        debug_assert!(!self.have_output());
-        debug_assert!(start <= end);
-        debug_assert!(end <= self.len());
-        self.sides.merge_list(start, end);
-    }
-
-    /// Merges the same, or marks it at levels 2 and 3, with an output open or none.
-    ///
-    /// # Requires
-    ///
-    /// - `order: start ≤ end`
-    /// - `within: end ≤ len self.old`
-    /// - `past_cursor: self.old.have_output ≡ true → self.old.idx ≤ start`
-    #[inline(never)]
-    fn merge_input(&mut self, start: usize, end: usize) {
-        debug_assert!(start <= end);
-        debug_assert!(end <= self.len());
-        debug_assert!(!self.have_output() || self.idx() <= start);
-        let any_order = self.any_order();
-        if any_order && end - start >= 2 {
-            self.set_has_glyph_flags();
-        }
-        self.merge_sides(self.both_place(start), self.both_place(end), any_order);
-    }
-
-    /// Merges the glyphs of both sides from place `from`, which is not in the out side, to `to`, or marks
-    /// them.
-    ///
-    /// # Requires
-    ///
-    /// - `past_out: length self.old.out ≤ from`
-    /// - `order: from ≤ to`
-    /// - `within: to ≤ length (step.both self.old)`
-    #[inline(never)]
-    fn merge_sides(&mut self, from: usize, to: usize, any_order: bool) {
-        debug_assert!(self.out_len() <= from);
-        debug_assert!(from <= to);
-        let floor = if self.sides.is_open() {
-            0
-        } else {
-            self.sides.idx()
-        };
-        let merge = RangeChange::Merge { floor, any_order };
-        self.sides.change_range(from, to, merge);
     }
 
     /// Merges the clusters of the out side's glyphs from `start` to `end`, and of the runs at its ends,
@@ -168,13 +111,8 @@ impl hb_buffer_t {
         debug_assert!(self.have_output());
         debug_assert!(start <= end);
         debug_assert!(end <= self.out_len());
-        if self.any_order() {
-            return;
+        if !self.cluster_order().is_any() {
+            self.sides.merge_out(start, end);
         }
-        let merge = RangeChange::Merge {
-            floor: 0,
-            any_order: false,
-        };
-        self.sides.change_range(start, end, merge);
     }
 }

@@ -46,9 +46,9 @@ impl hb_buffer_t {
         debug_assert!(num_in <= self.lookahead_len());
         debug_assert!(num_out <= glyph_data.len());
         let ids = &glyph_data[..num_out];
-        let any_order = self.any_order();
+        let order = self.cluster_order();
         let max_len = self.max_len;
-        if self.sides.replace_kept(num_in, ids, any_order, max_len) {
+        if self.sides.replace_kept(num_in, ids, order, max_len) {
             return Ok(true);
         }
         self.replace_any(num_in, ids)
@@ -71,9 +71,9 @@ impl hb_buffer_t {
             self.successful = false;
             return Ok(false);
         }
-        let any_order = self.any_order();
-        self.sides.replace(count, ids, any_order)?;
-        if any_order && count >= 2 {
+        let order = self.cluster_order();
+        self.sides.replace(count, ids, order)?;
+        if order.is_any() && count >= 2 {
             self.set_has_glyph_flags();
         }
         Ok(true)

@@ -3,7 +3,7 @@
 //! The first round of normalization: a glyph is found for each character, or for its parts.
 
 use super::drop_behind;
-use super::parts::{MOST_STEPS, Parts, add_parts};
+use super::parts::{MOST_STEPS, Parts, Taking, add_parts};
 use super::variations::read_variations;
 use crate::buffer::{
     CharExt, HB_BUFFER_SCRATCH_FLAG_HAS_SPACE_FALLBACK, hb_buffer_t, hb_glyph_info_t,
@@ -16,14 +16,15 @@ use crate::font_shaper::glyph_info::{
 use crate::glyph::hb_unicode_funcs_t::NOT_SPACE;
 use crate::glyph::space_t;
 use crate::memory::AllocError;
+use crate::script_shapers::{NormalizationMode, ScriptShaper};
 
 /// The hyphen that no line is broken at, and the one that stands for it.
 const NON_BREAKING_HYPHEN: u32 = 0x2011;
 
 const HYPHEN: u32 = 0x2010;
 
-/// Finds a glyph for each character, or for its parts. Where `always_shortest` holds, a character with
-/// marks is kept too if the font has a glyph for it.
+/// Finds a glyph for each character, or for its parts. By the mode of a script's shaper, a character
+/// with marks is kept too if the font has a glyph for it, or one without marks is taken apart too.
 ///
 /// # Requires
 ///
@@ -31,7 +32,7 @@ const HYPHEN: u32 = 0x2010;
 pub(crate) fn decompose_all(
     buffer: &mut hb_buffer_t,
     face: &Face,
-    always_shortest: bool,
+    shaper: ScriptShaper,
 ) -> Result<bool, AllocError> {
     debug_assert!(!buffer.have_output());
     map_characters(buffer, face);
@@ -40,7 +41,7 @@ pub(crate) fn decompose_all(
         if buffer.lookahead_len() == 0 {
             break;
         }
-        if !decompose_next(buffer, face, always_shortest)? {
+        if !decompose_next(buffer, face, shaper)? {
             return Ok(false);
         }
     }
@@ -73,18 +74,28 @@ fn map_all(infos: &mut [hb_glyph_info_t], face: &Face) {
 fn decompose_next(
     buffer: &mut hb_buffer_t,
     face: &Face,
-    always_shortest: bool,
+    shaper: ScriptShaper,
 ) -> Result<bool, AllocError> {
     debug_assert!(buffer.have_output());
+    let mode = shaper.normalization_mode();
+    let taking = Taking {
+        face,
+        shaper,
+        shortest: mode != NormalizationMode::TakenApart,
+    };
     let simple = simple_length(buffer.info());
-    if !decompose_characters(buffer, face, simple, true)? {
+    if !decompose_characters(buffer, &taking, simple)? {
         return Ok(false);
     }
     let cluster = cluster_length(buffer.info());
     if has_variation_selector(buffer.info(), cluster) {
         read_variations(buffer, face, cluster)
     } else {
-        decompose_characters(buffer, face, cluster, always_shortest)
+        let taking = Taking {
+            shortest: mode == NormalizationMode::Nothing,
+            ..taking
+        };
+        decompose_characters(buffer, &taking, cluster)
     }
 }
 
@@ -124,22 +135,21 @@ pub(crate) fn is_variation_selector(character: u32) -> bool {
     }
 }
 
-/// Reads so many characters: each that the font has a glyph for is kept where `shortest` holds, and
-/// else taken apart if the font has its parts.
+/// Reads so many characters: each that the font has a glyph for is kept where as few are taken apart as
+/// can be, and else taken apart if the font has its parts.
 ///
 /// # Requires
 ///
 /// - `buffer.old.have_output ≡ true`
 fn decompose_characters(
     buffer: &mut hb_buffer_t,
-    face: &Face,
+    taking: &Taking,
     count: usize,
-    shortest: bool,
 ) -> Result<bool, AllocError> {
     debug_assert!(buffer.have_output());
     let mut left = count;
     for _turn in 0..count {
-        let ready = ready_length(buffer.info(), left, shortest);
+        let ready = ready_length(buffer.info(), left, taking.shortest);
         if !buffer.next_glyphs(ready)? {
             return Ok(false);
         }
@@ -147,7 +157,7 @@ fn decompose_characters(
         if left == 0 || buffer.lookahead_len() == 0 {
             break;
         }
-        if !decompose_current(buffer, face, shortest)? {
+        if !decompose_current(buffer, taking)? {
             return Ok(false);
         }
         left -= 1;
@@ -173,21 +183,17 @@ fn ready_length(infos: &[hb_glyph_info_t], count: usize, shortest: bool) -> usiz
 ///
 /// - `opened: buffer.old.have_output ≡ true`
 /// - `glyph: 0 < length buffer.old.input`
-fn decompose_current(
-    buffer: &mut hb_buffer_t,
-    face: &Face,
-    shortest: bool,
-) -> Result<bool, AllocError> {
+fn decompose_current(buffer: &mut hb_buffer_t, taking: &Taking) -> Result<bool, AllocError> {
     debug_assert!(buffer.have_output());
     debug_assert!(!buffer.info().is_empty());
     let mut parts = Parts::new();
     if let Some(character) = char::from_u32(buffer.cur(0).glyph_id)
-        && add_parts(&mut parts, face, character, shortest, MOST_STEPS)
+        && add_parts(&mut parts, taking, character, MOST_STEPS)
     {
-        return put_parts(buffer, face, &parts);
+        return put_parts(buffer, taking.face, &parts);
     }
     if buffer.cur(0).glyph_index() == 0 {
-        find_fallback(buffer, face);
+        find_fallback(buffer, taking.face);
     }
     buffer.next_glyph()
 }

@@ -1,45 +1,103 @@
 // Written by tools/plain_rust from crates/glyph_sides. Do not edit.
 
-//! Both sides as one list: changes of a range of it, and deletion of the current glyph.
+//! Both sides as one list: merges and glyph flags of a range of it, and deletion of the current glyph.
 
 use super::Sides;
+use crate::glyph_lists::cluster_order::ClusterOrder;
 use crate::glyph_lists::range_change::{self, RangeChange};
 use crate::glyph_lists::{deletion, glyph_flags, merging};
 use crate::glyph_sides::one_slice;
 
 impl Sides {
-    /// Merges the glyphs of the list from `start` to `end`, where no output is open. The start is not
+    /// Merges the input's glyphs from `start` to `end`, counted from its start, or in any order of clusters
+    /// marks them. With an output open, `start` is at the cursor or after it. With none the range is not
     /// widened past the cursor.
     ///
     /// # Requires
     ///
-    /// - `closed: self.old.is_open ≡ false`
-    /// - `order: start ≤ end`
-    /// - `within: end ≤ length self.old.input`
+    /// - `from_cursor: self.old.is_open ≡ true → self.old.idx ≤ start`
+    /// - `range: start ≤ end`
+    /// - `within: end ≤ len self.old`
     ///
     /// # Proved
     ///
     /// ```text
-    /// ensures is { self.new ≡ record self.old {
-    ///       input = run_merge self.old.input start end self.old.idx;
-    ///     } }
+    /// ensures is { self.new ≡ input_merged (is_any order) start end self.old }
+    /// ensures out_len { length self.new.out ≡ length self.old.out }
     /// ensures input_len { length self.new.input ≡ length self.old.input }
     /// ```
     #[inline(always)]
-    pub fn merge_list(&mut self, start: usize, end: usize) {
-        debug_assert!(!self.is_open());
+    pub fn merge_input(&mut self, start: usize, end: usize, order: ClusterOrder) {
+        debug_assert!(!self.is_open() || self.idx() <= start);
         debug_assert!(start <= end);
-        debug_assert!(end <= self.input().len());
-        merging::merge_slice(&mut self.info, start, end, self.cursor);
+        debug_assert!(end <= self.len());
+        if !self.is_open {
+            self.merge_list(start, end, order);
+            return;
+        }
+        let at = self.cursor;
+        let from = self.front + start - at;
+        let to = self.front + end - at;
+        if self.is_separate {
+            merging::merge_input(&mut self.out_info, &mut self.info[at..], from, to, order);
+            return;
+        }
+        one_slice::merge_input(&mut self.info, at - self.gap..at, from, to, order);
     }
 
-    /// Changes the glyphs from place `from` to place `to`. A merge in any order of clusters requires that
-    /// `from` is in the input, and a scan that `to` is.
+    /// Merges, or marks, the glyphs of the list from `start` to `end`.
     ///
     /// # Requires
     ///
-    /// - `may: MayChange change (length self.old.out) from to`
-    /// - `order: from ≤ to`
+    /// That no output is open.
+    ///
+    /// - `closed: self.old.is_open ≡ false`
+    /// - `range: start ≤ end`
+    /// - `within: end ≤ length self.old.input`
+    #[inline(always)]
+    fn merge_list(&mut self, start: usize, end: usize, order: ClusterOrder) {
+        debug_assert!(!self.is_open());
+        debug_assert!(start <= end);
+        debug_assert!(end <= self.input().len());
+        merging::merge_slice(&mut self.info, start, end, self.cursor, order);
+    }
+
+    /// Merges the glyphs of the out side from `start` to `end`.
+    ///
+    /// # Requires
+    ///
+    /// An open output.
+    ///
+    /// - `opened: self.old.is_open ≡ true`
+    /// - `range: start ≤ end`
+    /// - `within: end ≤ length self.old.out`
+    ///
+    /// # Proved
+    ///
+    /// ```text
+    /// ensures is { self.new ≡ with_both (run_merge (both self.old) start end 0) self.old }
+    /// ensures out_len { length self.new.out ≡ length self.old.out }
+    /// ensures input_len { length self.new.input ≡ length self.old.input }
+    /// ```
+    #[inline(always)]
+    pub fn merge_out(&mut self, start: usize, end: usize) {
+        debug_assert!(self.is_open());
+        debug_assert!(start <= end);
+        debug_assert!(end <= self.out_len());
+        let at = self.cursor;
+        if self.is_separate {
+            merging::merge_out(&mut self.out_info, &mut self.info[at..], start, end);
+            return;
+        }
+        one_slice::merge_out(&mut self.info, at - self.gap..at, start, end);
+    }
+
+    /// Changes the glyph flags of the glyphs from place `from` to place `to`, which is in the input.
+    ///
+    /// # Requires
+    ///
+    /// - `past_out: length self.old.out ≤ to`
+    /// - `range: from ≤ to`
     /// - `within: to ≤ length (both self.old)`
     ///
     /// # Proved
@@ -52,6 +110,7 @@ impl Sides {
     /// ```
     #[inline(always)]
     pub fn change_range(&mut self, from: usize, to: usize, change: RangeChange) {
+        debug_assert!(self.out_len() <= to);
         debug_assert!(from <= to);
         let at = if self.is_open { self.cursor } else { 0 };
         if self.is_separate {
@@ -59,7 +118,7 @@ impl Sides {
             range_change::change_range(&mut self.out_info, input, from, to, change);
             return;
         }
-        one_slice::change_range(&mut self.info, at - self.gap, at, from, to, change);
+        one_slice::change_range(&mut self.info, at - self.gap..at, from, to, change);
     }
 
     /// Scans the input's glyphs from `start` to `end`, counted from its start. With an output open, `start`
@@ -68,27 +127,27 @@ impl Sides {
     /// # Requires
     ///
     /// - `from_cursor: self.old.is_open ≡ true → self.old.idx ≤ start`
-    /// - `order: start ≤ end`
+    /// - `range: start ≤ end`
     /// - `within: end ≤ len self.old`
     ///
     /// # Proved
     ///
     /// ```text
     /// ensures is { self.new ≡ record self.old {
-    ///       input = on_part (scan_of any_order bits) self.old.input
+    ///       input = on_part (scan_of (is_any order) bits) self.old.input
     ///           (left_place start self.old) (left_place end self.old);
     ///     } }
     /// ensures out_len { length self.new.out ≡ length self.old.out }
     /// ensures input_len { length self.new.input ≡ length self.old.input }
     /// ```
     #[inline(always)]
-    pub fn scan_input(&mut self, start: usize, end: usize, bits: u32, any_order: bool) {
+    pub fn scan_input(&mut self, start: usize, end: usize, bits: u32, order: ClusterOrder) {
         debug_assert!(!self.is_open() || self.idx() <= start);
         debug_assert!(start <= end);
         debug_assert!(end <= self.len());
         let from = self.front + start;
         let to = self.front + end;
-        glyph_flags::scan_slice(&mut self.info, from, to, bits, any_order);
+        glyph_flags::scan_slice(&mut self.info[from..to], bits, order);
     }
 
     /// Drops the current glyph, and keeps its cluster.
@@ -103,22 +162,22 @@ impl Sides {
     /// # Proved
     ///
     /// ```text
-    /// ensures is { self.new ≡ head_deleted any_order self.old }
+    /// ensures is { self.new ≡ head_deleted (is_any order) self.old }
     /// ensures out_len { length self.new.out ≡ length self.old.out }
     /// ensures input_len { length self.new.input + 1 ≡ length self.old.input }
     /// ```
     #[inline(always)]
-    pub fn delete_head(&mut self, any_order: bool) {
+    pub fn delete_head(&mut self, order: ClusterOrder) {
         debug_assert!(self.is_open());
         debug_assert!(!self.input().is_empty());
         if self.is_separate {
             let at = self.cursor;
-            deletion::delete_head(&mut self.out_info, &mut self.info[at..], any_order);
+            deletion::delete_head(&mut self.out_info, &mut self.info[at..], order);
             self.cursor += 1;
             return;
         }
         let (gap, cursor) = (self.gap, self.cursor);
-        one_slice::delete_head(&mut self.info, cursor - gap, cursor, any_order);
+        one_slice::delete_head(&mut self.info, cursor - gap..cursor, order);
         self.gap = gap + 1;
         self.cursor = cursor + 1;
     }

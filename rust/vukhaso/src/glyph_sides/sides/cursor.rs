@@ -7,7 +7,7 @@
 
 use super::Sides;
 use crate::glyph::hb_glyph_info_t;
-use crate::glyph_sides::shifts::{close_gap, put_down};
+use crate::glyph_sides::shifts::{close_gap, leave, put_down};
 use crate::memory::AllocError;
 use core::mem;
 
@@ -35,7 +35,7 @@ impl Sides {
     pub fn next(&mut self, n: usize) -> Result<(), AllocError> {
         debug_assert!(n <= self.left());
         if self.is_separate {
-            return self.next_apart(n);
+            return self.next_separate(n);
         }
         if self.gap == 0 {
             self.cursor += n;
@@ -68,7 +68,7 @@ impl Sides {
     pub fn next_one(&mut self) -> Result<(), AllocError> {
         debug_assert!(0 < self.left());
         if self.is_separate {
-            return self.one_apart();
+            return self.next_one_separate();
         }
         if self.gap == 0 {
             self.cursor += 1;
@@ -86,9 +86,9 @@ impl Sides {
     /// # Requires
     ///
     /// - `opened: self.old.is_open ≡ true`
-    /// - `apart: self.old.is_separate ≡ true`
+    /// - `separate: self.old.is_separate ≡ true`
     /// - `glyph: 0 < length self.old.input`
-    fn one_apart(&mut self) -> Result<(), AllocError> {
+    fn next_one_separate(&mut self) -> Result<(), AllocError> {
         debug_assert!(self.is_open());
         debug_assert!(self.is_separate());
         debug_assert!(!self.input().is_empty());
@@ -101,10 +101,10 @@ impl Sides {
     /// # Requires
     ///
     /// - `opened: self.old.is_open ≡ true`
-    /// - `apart: self.old.is_separate ≡ true`
+    /// - `separate: self.old.is_separate ≡ true`
     /// - `within: n ≤ length self.old.input`
     #[inline(never)]
-    fn next_apart(&mut self, n: usize) -> Result<(), AllocError> {
+    fn next_separate(&mut self, n: usize) -> Result<(), AllocError> {
         debug_assert!(self.is_open());
         debug_assert!(self.is_separate());
         debug_assert!(n <= self.input().len());
@@ -165,7 +165,7 @@ impl Sides {
         }
         let (gap, cursor) = (self.gap, self.cursor);
         if gap + read == 0 {
-            return self.put_away(glyph);
+            return self.put_separate(glyph);
         }
         self.info[cursor - gap] = glyph;
         self.gap = gap + read - 1;
@@ -178,16 +178,13 @@ impl Sides {
     /// # Requires
     ///
     /// - `opened: self.old.is_open ≡ true`
-    /// - `near: self.old.is_separate ≡ false`
+    /// - `in_place: self.old.is_separate ≡ false`
     /// - `full: self.old.idx ≤ length self.old.out`
-    fn put_away(&mut self, glyph: hb_glyph_info_t) -> Result<(), AllocError> {
+    fn put_separate(&mut self, glyph: hb_glyph_info_t) -> Result<(), AllocError> {
         debug_assert!(self.is_open());
         debug_assert!(!self.is_separate());
         debug_assert!(self.idx() <= self.out_len());
-        self.out_info.reserve(self.cursor + 1)?;
-        self.out_info
-            .extend_from_slice(&self.info[..self.cursor])
-            .unwrap();
+        leave(&mut self.out_info, &self.info[..self.cursor], 1)?;
         self.out_info.push_reserved(glyph);
         self.is_separate = true;
         Ok(())
@@ -215,7 +212,7 @@ impl Sides {
     pub fn close(&mut self) -> Result<(), AllocError> {
         debug_assert!(self.is_open());
         if self.is_separate {
-            return self.close_apart();
+            return self.close_separate();
         }
         if self.gap > 0 {
             close_gap(&mut self.info, self.cursor - self.gap, self.cursor);
@@ -229,9 +226,9 @@ impl Sides {
     /// # Requires
     ///
     /// - `opened: self.old.is_open ≡ true`
-    /// - `apart: self.old.is_separate ≡ true`
+    /// - `separate: self.old.is_separate ≡ true`
     #[inline(never)]
-    fn close_apart(&mut self) -> Result<(), AllocError> {
+    fn close_separate(&mut self) -> Result<(), AllocError> {
         debug_assert!(self.is_open());
         debug_assert!(self.is_separate());
         if self.out_info.is_empty() {

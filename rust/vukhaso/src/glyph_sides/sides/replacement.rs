@@ -4,9 +4,11 @@
 
 use super::Sides;
 use crate::glyph::hb_glyph_info_t;
+use crate::glyph_lists::cluster_order::ClusterOrder;
 use crate::glyph_lists::merged_head::{keeps_head, lowered_head};
 use crate::glyph_sides::copies::{append_copies, write_copies};
-use crate::glyph_sides::merged_copies;
+use crate::glyph_sides::merged_copies::{append_merged, write_merged};
+use crate::glyph_sides::shifts::leave;
 use crate::memory::AllocError;
 
 impl Sides {
@@ -29,13 +31,13 @@ impl Sides {
     /// # Proved
     ///
     /// ```text
-    /// ensures done { result ≡ true → self.new ≡ replaced any_order count ids.now self.old }
+    /// ensures done { result ≡ true → self.new ≡ replaced (is_any order) count ids.now self.old }
     /// ensures out_len { result ≡ true
     ///     → length self.new.out ≡ length self.old.out + length ids.now }
     /// ensures input_len { result ≡ true
     ///     → length self.new.input + count ≡ length self.old.input }
     /// ensures fits { result ≡ true → length self.old.out + length ids.now ≤ max_len }
-    /// ensures unmarked { result ≡ true → any_order ≡ true → count < 2 }
+    /// ensures unmarked { result ≡ true → is_any order ≡ true → count < 2 }
     /// ensures same { result ≡ false → self.new ≡ self.old }
     /// ```
     #[inline(always)]
@@ -43,7 +45,7 @@ impl Sides {
         &mut self,
         count: usize,
         ids: &[u32],
-        any_order: bool,
+        order: ClusterOrder,
         max_len: usize,
     ) -> bool {
         // Read before the test, the glyph is kept in one piece for the copies.
@@ -53,7 +55,7 @@ impl Sides {
         debug_assert!(self.out_len() <= max_len);
         debug_assert!(self.len() <= max_len);
         let head = self.info[self.cursor];
-        if !keeps_head(&self.info[self.cursor..], count, any_order) {
+        if !keeps_head(&self.info[self.cursor..], count, order) {
             return false;
         }
         if self.is_separate && ids.len() > max_len - self.out_info.len() {
@@ -109,7 +111,7 @@ impl Sides {
     /// # Proved
     ///
     /// ```text
-    /// ensures made { Makes (replaced any_order count ids.now self.old) self.old result self.new }
+    /// ensures made { Makes (replaced (is_any order) count ids.now self.old) self.old result self.new }
     /// ensures out_len { OnOk result
     ///     (length self.new.out ≡ length self.old.out + length ids.now) }
     /// ensures input_len { OnOk result
@@ -120,20 +122,20 @@ impl Sides {
         &mut self,
         count: usize,
         ids: &[u32],
-        any_order: bool,
+        order: ClusterOrder,
     ) -> Result<(), AllocError> {
         debug_assert!(self.is_open());
         debug_assert!(!self.input().is_empty());
         debug_assert!(count <= self.input().len());
-        if let Some(head) = lowered_head(self.out(), self.input(), count, any_order)
+        if let Some(head) = lowered_head(self.out(), self.input(), count, order)
             && self.put_copies(head, ids, count)
         {
             return Ok(());
         }
-        self.replace_merged(count, ids, any_order)
+        self.replace_merged(count, ids, order)
     }
 
-    /// Does that by the merge, whatever it changes.
+    /// Replaces as `replace` does, whatever the merge changes.
     ///
     /// # Requires
     ///
@@ -144,110 +146,60 @@ impl Sides {
         &mut self,
         count: usize,
         ids: &[u32],
-        any_order: bool,
+        order: ClusterOrder,
     ) -> Result<(), AllocError> {
         debug_assert!(self.is_open());
         debug_assert!(!self.input().is_empty());
         debug_assert!(count <= self.input().len());
-        if self.is_separate {
-            return self.replace_apart(count, ids, any_order);
+        if self.is_separate || ids.len() > self.gap + count {
+            return self.replace_separate(count, ids, order);
         }
-        if ids.len() > self.gap + count {
-            return self.replace_away(count, ids, any_order);
-        }
-        self.replace_in_place(count, ids, any_order);
+        self.replace_in_place(count, ids, order);
         Ok(())
     }
 
     /// # Requires
     ///
     /// - `opened: self.old.is_open ≡ true`
-    /// - `apart: self.old.is_separate ≡ true`
     /// - `glyph: 0 < length self.old.input`
     /// - `within: count ≤ length self.old.input`
-    fn replace_apart(
+    /// - `separate: self.old.is_separate ≡ false → self.old.idx + count < length self.old.out + length ids.now`
+    fn replace_separate(
         &mut self,
         count: usize,
         ids: &[u32],
-        any_order: bool,
+        order: ClusterOrder,
     ) -> Result<(), AllocError> {
         debug_assert!(self.is_open());
-        debug_assert!(self.is_separate());
         debug_assert!(!self.input().is_empty());
         debug_assert!(count <= self.input().len());
-        self.out_info.reserve(ids.len())?;
-        merged_copies::replace_apart(
-            &mut self.out_info,
-            &mut self.info,
-            self.cursor,
-            count,
-            ids,
-            any_order,
-        );
-        self.cursor += count;
+        debug_assert!(self.is_separate() || self.idx() + count < self.out_len() + ids.len());
+        let at = self.cursor;
+        let placed = if self.is_separate { 0 } else { at - self.gap };
+        leave(&mut self.out_info, &self.info[..placed], ids.len())?;
+        append_merged(&mut self.out_info, &mut self.info[at..], count, ids, order);
+        self.gap = 0;
+        self.is_separate = true;
+        self.cursor = at + count;
         Ok(())
     }
 
     /// # Requires
     ///
     /// - `opened: self.old.is_open ≡ true`
-    /// - `near: self.old.is_separate ≡ false`
+    /// - `in_place: self.old.is_separate ≡ false`
     /// - `glyph: 0 < length self.old.input`
     /// - `within: count ≤ length self.old.input`
     /// - `room: length self.old.out + length ids.now ≤ self.old.idx + count`
-    fn replace_in_place(&mut self, count: usize, ids: &[u32], any_order: bool) {
+    fn replace_in_place(&mut self, count: usize, ids: &[u32], order: ClusterOrder) {
         debug_assert!(self.is_open());
         debug_assert!(!self.is_separate());
         debug_assert!(!self.input().is_empty());
         debug_assert!(count <= self.input().len());
         debug_assert!(self.out_len() + ids.len() <= self.idx() + count);
         let (gap, cursor) = (self.gap, self.cursor);
-        merged_copies::replace_in_place(
-            &mut self.info,
-            cursor - gap,
-            cursor,
-            count,
-            ids,
-            any_order,
-        );
+        write_merged(&mut self.info, cursor - gap..cursor, count, ids, order);
         self.gap = gap + count - ids.len();
         self.cursor = cursor + count;
-    }
-
-    /// # Requires
-    ///
-    /// - `opened: self.old.is_open ≡ true`
-    /// - `near: self.old.is_separate ≡ false`
-    /// - `glyph: 0 < length self.old.input`
-    /// - `within: count ≤ length self.old.input`
-    /// - `past: self.old.idx + count < length self.old.out + length ids.now`
-    fn replace_away(
-        &mut self,
-        count: usize,
-        ids: &[u32],
-        any_order: bool,
-    ) -> Result<(), AllocError> {
-        debug_assert!(self.is_open());
-        debug_assert!(!self.is_separate());
-        debug_assert!(!self.input().is_empty());
-        debug_assert!(count <= self.input().len());
-        debug_assert!(self.idx() + count < self.out_len() + ids.len());
-        let placed = self.cursor - self.gap;
-        self.out_info.reserve(placed + ids.len())?;
-        self.out_info
-            .extend_from_slice(&self.info[..placed])
-            .unwrap();
-        merged_copies::replace_apart(
-            &mut self.out_info,
-            &mut self.info,
-            self.cursor,
-            count,
-            ids,
-            any_order,
-        );
-        self.gap = 0;
-        self.is_separate = true;
-        self.cursor += count;
-        Ok(())
     }
 }

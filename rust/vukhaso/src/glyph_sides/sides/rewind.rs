@@ -29,7 +29,7 @@ impl Sides {
     pub fn take_back(&mut self, i: usize) -> Result<(), AllocError> {
         debug_assert!(i < self.out_len());
         if self.is_separate {
-            return self.take_back_apart(i);
+            return self.take_back_separate(i);
         }
         if self.gap == 0 {
             self.cursor = i;
@@ -48,9 +48,9 @@ impl Sides {
     ///
     /// # Requires
     ///
-    /// - `apart: self.old.is_separate ≡ true`
+    /// - `separate: self.old.is_separate ≡ true`
     /// - `behind: i < length self.old.out`
-    fn take_back_apart(&mut self, i: usize) -> Result<(), AllocError> {
+    fn take_back_separate(&mut self, i: usize) -> Result<(), AllocError> {
         debug_assert!(self.is_separate());
         debug_assert!(i < self.out_len());
         let count = self.out_info.len() - i;

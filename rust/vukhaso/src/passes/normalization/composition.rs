@@ -46,6 +46,7 @@ pub fn compose_marks(
     if !buffer.successful() {
         return Ok(false);
     }
+    // Read for what its contract says: the list is no longer than `max_len`.
     let _ = buffer.len();
     buffer.clear_output();
     let mut starter = None;

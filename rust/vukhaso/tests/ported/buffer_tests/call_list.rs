@@ -31,6 +31,7 @@ const OUTSIDE: Answer = Answer::Outside;
 /// A text of the letters from a on, in these clusters; calls on it, and what they answer and leave.
 #[derive(Clone, Copy)]
 struct Run<'a> {
+    name: &'a str,
     clusters: &'a [u32],
     level: BufferClusterLevel,
     flags: u32,
@@ -48,6 +49,7 @@ struct Run<'a> {
 
 /// What is not said of a run.
 const PLAIN: Run<'static> = Run {
+    name: "",
     clusters: &[],
     level: BufferClusterLevel::MonotoneGraphemes,
     flags: 0,
@@ -83,27 +85,34 @@ fn buffer_of_run(run: &Run<'_>) -> Result<hb_buffer_t, Fail> {
     Ok(buffer)
 }
 
-fn assert_glyphs(glyphs: &[hb_glyph_info_t], want: &[Seen]) {
-    assert!(glyphs.len() == want.len());
+fn assert_glyphs(name: &str, glyphs: &[hb_glyph_info_t], want: &[Seen]) {
+    assert!(glyphs.len() == want.len(), "{name}");
     for (glyph, want) in glyphs.iter().zip(want) {
-        assert!((glyph.glyph_id, glyph.cluster, glyph.mask & 7) == *want);
+        assert!(
+            (glyph.glyph_id, glyph.cluster, glyph.mask & 7) == *want,
+            "{name}"
+        );
     }
 }
 
 fn assert_run(run: &Run<'_>) -> Result<(), Fail> {
+    let name = run.name;
     let mut buffer = buffer_of_run(run)?;
     let mut answers = [REFUSED; 12];
     let count = run.calls.len();
-    assert!(count <= 12);
-    assert!(replay(&mut buffer, run.calls, &mut answers[..count]) == Ok(()));
-    assert!(&answers[..count] == run.answers);
-    assert!(buffer.have_output() == run.open);
-    assert!(buffer.have_separate_output() == run.separate);
-    assert!(buffer.idx() == run.idx);
-    assert!(buffer.successful() == run.successful);
-    assert_glyphs(buffer.out_info(), run.out);
-    assert_glyphs(buffer.info(), run.input);
-    assert!(buffer.scratch_flags == run.scratch_flags);
+    assert!(count <= 12, "{name}");
+    assert!(
+        replay(&mut buffer, run.calls, &mut answers[..count]) == Ok(()),
+        "{name}"
+    );
+    assert!(&answers[..count] == run.answers, "{name}");
+    assert!(buffer.have_output() == run.open, "{name}");
+    assert!(buffer.have_separate_output() == run.separate, "{name}");
+    assert!(buffer.idx() == run.idx, "{name}");
+    assert!(buffer.successful() == run.successful, "{name}");
+    assert_glyphs(name, buffer.out_info(), run.out);
+    assert_glyphs(name, buffer.info(), run.input);
+    assert!(buffer.scratch_flags == run.scratch_flags, "{name}");
     Ok(())
 }
 
@@ -118,6 +127,7 @@ fn cursor_calls_answer_and_leave_what_is_written() -> Result<(), Fail> {
 /// A text, calls on it, and what they leave: in one vector to its end, or not.
 #[derive(Clone, Copy)]
 struct Stored<'a> {
+    name: &'a str,
     text: &'a str,
     calls: &'a [Call<'a>],
     separate: bool,
@@ -127,16 +137,23 @@ struct Stored<'a> {
 }
 
 fn assert_stored(run: &Stored<'_>) -> Result<(), Fail> {
+    let name = run.name;
     let mut buffer = buffer_of(run.text);
     let mut answers = [OUTSIDE; 12];
     let count = run.calls.len();
-    assert!(count <= 12);
-    assert!(replay(&mut buffer, run.calls, &mut answers[..count]) == Ok(()));
-    assert!(answers[..count].iter().all(|answer| *answer == DONE));
-    assert!(buffer.have_separate_output() == run.separate);
-    assert!(buffer.idx() == run.idx);
-    assert_glyphs(buffer.out_info(), run.out);
-    assert_glyphs(buffer.info(), run.input);
+    assert!(count <= 12, "{name}");
+    assert!(
+        replay(&mut buffer, run.calls, &mut answers[..count]) == Ok(()),
+        "{name}"
+    );
+    assert!(
+        answers[..count].iter().all(|answer| *answer == DONE),
+        "{name}"
+    );
+    assert!(buffer.have_separate_output() == run.separate, "{name}");
+    assert!(buffer.idx() == run.idx, "{name}");
+    assert_glyphs(name, buffer.out_info(), run.out);
+    assert_glyphs(name, buffer.info(), run.input);
     if !buffer.have_separate_output() {
         assert_ends(buffer.storage(), run);
     }
@@ -145,10 +162,11 @@ fn assert_stored(run: &Stored<'_>) -> Result<(), Fail> {
 
 /// Asserts the glyphs at the two ends of the one vector.
 fn assert_ends(storage: &[hb_glyph_info_t], run: &Stored<'_>) {
+    let name = run.name;
     let (out_len, left) = (run.out.len(), run.input.len());
-    assert!(out_len <= storage.len() && left <= storage.len());
-    assert_glyphs(&storage[..out_len], run.out);
-    assert_glyphs(&storage[storage.len() - left..], run.input);
+    assert!(out_len <= storage.len() && left <= storage.len(), "{name}");
+    assert_glyphs(name, &storage[..out_len], run.out);
+    assert_glyphs(name, &storage[storage.len() - left..], run.input);
 }
 
 #[test]
@@ -276,23 +294,39 @@ fn answer_at(level: u32, held: &Held<'_>, max_len: usize) -> Answer {
     buffer.set_max_len(max_len);
     let before = (buffer.idx(), buffer.out_len(), buffer.len());
     let mut answers = [OUTSIDE];
-    assert!(replay(&mut buffer, &[held.1], &mut answers) == Ok(()));
+    let call = held.1;
+    assert!(
+        replay(&mut buffer, &[call], &mut answers) == Ok(()),
+        "{call:?}"
+    );
     if answers == [REFUSED] {
-        assert!((buffer.idx(), buffer.out_len(), buffer.len()) == before);
+        assert!(
+            (buffer.idx(), buffer.out_len(), buffer.len()) == before,
+            "{call:?}"
+        );
     }
-    assert!(buffer.successful() == (answers == [DONE]));
+    assert!(buffer.successful() == (answers == [DONE]), "{call:?}");
     answers[0]
+}
+
+fn assert_answered(level: u32, held: &Held<'_>, max_len: usize, want: Answer) {
+    let call = held.1;
+    let answer = answer_at(level, held, max_len);
+    assert!(
+        answer == want,
+        "{call:?} at level {level} and limit {max_len}"
+    );
 }
 
 #[test]
 fn a_limit_is_met_and_one_below_is_refused() {
     for level in [0, 1, 2, 3, 4, 4_294_967_295] {
         for held in &HELD {
-            assert!(answer_at(level, held, held.2) == DONE);
-            assert!(answer_at(level, held, held.2.saturating_sub(1)) == REFUSED);
+            assert_answered(level, held, held.2, DONE);
+            assert_answered(level, held, held.2.saturating_sub(1), REFUSED);
         }
         for held in &NEVER_REFUSED {
-            assert!(answer_at(level, held, held.2) == DONE);
+            assert_answered(level, held, held.2, DONE);
         }
     }
 }

@@ -26,17 +26,17 @@ fn place(buffer: &mut hb_buffer_t) {
 }
 
 /// Asserts the id, the cluster, the mask and the advance of each glyph, and where the cursor is.
-fn assert_list(buffer: &hb_buffer_t, want: &[(u32, u32, u32, i32)]) {
-    assert!(buffer.idx() == 0);
-    assert!(buffer.have_positions());
-    assert!(buffer.len() == want.len());
+fn assert_list(name: &str, buffer: &hb_buffer_t, want: &[(u32, u32, u32, i32)]) {
+    assert!(buffer.idx() == 0, "{name}");
+    assert!(buffer.have_positions(), "{name}");
+    assert!(buffer.len() == want.len(), "{name}");
     for ((glyph, pos), (id, cluster, mask, advance)) in
         buffer.info().iter().zip(buffer.pos()).zip(want)
     {
-        assert!(glyph.glyph_id == *id);
-        assert!(glyph.cluster == *cluster);
-        assert!(glyph.mask == *mask);
-        assert!(pos.x_advance == *advance);
+        assert!(glyph.glyph_id == *id, "{name}");
+        assert!(glyph.cluster == *cluster, "{name}");
+        assert!(glyph.mask == *mask, "{name}");
+        assert!(pos.x_advance == *advance, "{name}");
     }
 }
 
@@ -88,9 +88,17 @@ fn assert_told(buffer: &hb_buffer_t, told: bool) {
 fn positions_follow_reversals() {
     let mut buffer = buffer_of(&[(0, 1), (1, 2), (2, 3)]);
     reverse(&mut buffer);
-    assert_list(&buffer, &[(99, 2, 3, 30), (98, 1, 2, 20), (97, 0, 1, 10)]);
+    assert_list(
+        "the whole list",
+        &buffer,
+        &[(99, 2, 3, 30), (98, 1, 2, 20), (97, 0, 1, 10)],
+    );
     reverse_range(&mut buffer, 1, 3);
-    assert_list(&buffer, &[(99, 2, 3, 30), (97, 0, 1, 10), (98, 1, 2, 20)]);
+    assert_list(
+        "a range",
+        &buffer,
+        &[(99, 2, 3, 30), (97, 0, 1, 10), (98, 1, 2, 20)],
+    );
 }
 
 #[test]
@@ -115,7 +123,7 @@ fn groups_change_places() {
         (97, 0, 0, 10),
         (98, 0, 0, 20),
     ];
-    assert_list(&buffer, &reversed);
+    assert_list("clusters", &buffer, &reversed);
     reverse_merged(&mut buffer, 0);
     let as_before = [
         (98, 0, 0, 20),
@@ -124,52 +132,102 @@ fn groups_change_places() {
         (101, 2, 0, 50),
         (100, 2, 0, 40),
     ];
-    assert_list(&buffer, &as_before);
+    assert_list("glyph by glyph", &buffer, &as_before);
 }
 
-/// Groups that go on at `b`, merged.
-fn assert_merged(level: u32, glyphs: &[(u32, u32)], want: &[(u32, u32, u32, i32)]) {
-    let mut buffer = buffer_at(level, glyphs);
-    reverse_merged(&mut buffer, 98);
-    assert_list(&buffer, want);
-    assert_told(&buffer, level == 2);
+/// Glyphs at a cluster level, and what a call leaves of them.
+struct Row<'a> {
+    name: &'a str,
+    level: u32,
+    glyphs: &'a [(u32, u32)],
+    want: &'a [(u32, u32, u32, i32)],
 }
+
+const RISING: &[(u32, u32)] = &[(0, 0), (1, 0), (2, 0)];
+
+/// Groups that go on at `b`, merged.
+static MERGED: [Row<'static>; 3] = [
+    Row {
+        name: "two clusters become one",
+        level: 0,
+        glyphs: RISING,
+        want: &[(99, 2, 0, 30), (97, 0, 0, 10), (98, 0, 0, 20)],
+    },
+    Row {
+        name: "the run of the last goes along",
+        level: 0,
+        glyphs: &[(0, 0), (1, 0), (1, 0)],
+        want: &[(99, 0, 0, 30), (97, 0, 0, 10), (98, 0, 0, 20)],
+    },
+    Row {
+        name: "at level 2 they are marked",
+        level: 2,
+        glyphs: RISING,
+        want: &[(99, 2, 0, 30), (97, 0, 0, 10), (98, 1, 3, 20)],
+    },
+];
 
 #[test]
 fn groups_are_merged() {
-    let apart = [(0, 0), (1, 0), (2, 0)];
-    let merged = [(99, 2, 0, 30), (97, 0, 0, 10), (98, 0, 0, 20)];
-    assert_merged(0, &apart, &merged);
-    let widened = [(99, 0, 0, 30), (97, 0, 0, 10), (98, 0, 0, 20)];
-    assert_merged(0, &[(0, 0), (1, 0), (1, 0)], &widened);
-    let marked = [(99, 2, 0, 30), (97, 0, 0, 10), (98, 1, 3, 20)];
-    assert_merged(2, &apart, &marked);
+    for row in &MERGED {
+        let mut buffer = buffer_at(row.level, row.glyphs);
+        reverse_merged(&mut buffer, 98);
+        assert_list(row.name, &buffer, row.want);
+        assert_told(&buffer, row.level == 2);
+    }
 }
 
 /// What deletion of one glyph leaves, after the cursor was moved; then none is deleted, and then all.
-fn assert_deleted(level: u32, id: u32, glyphs: &[(u32, u32)], want: &[(u32, u32, u32, i32)]) {
-    let mut buffer = buffer_at(level, glyphs);
+fn assert_deleted(id: u32, row: &Row<'_>) {
+    let mut buffer = buffer_at(row.level, row.glyphs);
     skip(&mut buffer);
     delete(&mut buffer, &[id]);
-    assert_list(&buffer, want);
-    assert_told(&buffer, level == 2);
+    assert_list(row.name, &buffer, row.want);
+    assert_told(&buffer, row.level == 2);
     delete(&mut buffer, &[]);
-    assert_list(&buffer, want);
+    assert_list(row.name, &buffer, row.want);
     delete(&mut buffer, &[97, 98, 99]);
-    assert_list(&buffer, &[]);
+    assert_list(row.name, &buffer, &[]);
 }
+
+static FIRST_DELETED: [Row<'static>; 2] = [
+    Row {
+        name: "the next glyph takes the lower cluster",
+        level: 0,
+        glyphs: RISING,
+        want: &[(98, 0, 0, 20), (99, 2, 0, 30)],
+    },
+    Row {
+        name: "at level 2 the next glyph is marked",
+        level: 2,
+        glyphs: RISING,
+        want: &[(98, 1, 3, 20), (99, 2, 0, 30)],
+    },
+];
+
+static SECOND_DELETED: [Row<'static>; 2] = [
+    Row {
+        name: "the glyph before takes the lower cluster",
+        level: 0,
+        glyphs: &[(2, 0), (1, 0), (0, 0)],
+        want: &[(97, 1, 0, 10), (99, 0, 0, 30)],
+    },
+    Row {
+        name: "and the flags of the deleted glyph",
+        level: 0,
+        glyphs: &[(2, 8), (1, 3), (0, 0)],
+        want: &[(97, 1, 11, 10), (99, 0, 0, 30)],
+    },
+];
 
 #[test]
 fn glyphs_are_deleted_in_place() {
-    let rising = [(0, 0), (1, 0), (2, 0)];
-    let rest = [(98, 0, 0, 20), (99, 2, 0, 30)];
-    assert_deleted(0, 97, &rising, &rest);
-    let lowered = [(97, 1, 0, 10), (99, 0, 0, 30)];
-    assert_deleted(0, 98, &[(2, 0), (1, 0), (0, 0)], &lowered);
-    let handed_down = [(97, 1, 11, 10), (99, 0, 0, 30)];
-    assert_deleted(0, 98, &[(2, 8), (1, 3), (0, 0)], &handed_down);
-    let marked = [(98, 1, 3, 20), (99, 2, 0, 30)];
-    assert_deleted(2, 97, &rising, &marked);
+    for row in &FIRST_DELETED {
+        assert_deleted(97, row);
+    }
+    for row in &SECOND_DELETED {
+        assert_deleted(98, row);
+    }
 }
 
 /// Where the group and the syllable of a glyph end.

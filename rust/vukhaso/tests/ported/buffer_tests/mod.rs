@@ -18,12 +18,6 @@ mod glyph_buffer;
 #[cfg(test)]
 mod groups;
 #[cfg(test)]
-mod headline;
-#[cfg(test)]
-mod laws;
-#[cfg(test)]
-mod laws_of_lists;
-#[cfg(test)]
 mod levels;
 #[cfg(test)]
 mod limits;
@@ -31,6 +25,7 @@ mod limits;
 mod lists;
 #[cfg(test)]
 mod long_texts;
+pub mod probes;
 #[cfg(test)]
 mod rendering;
 #[cfg(test)]

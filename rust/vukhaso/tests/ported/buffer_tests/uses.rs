@@ -2,18 +2,16 @@
 
 use crate::Fail;
 use crate::buffer_tests::lists::{assert_ids, buffer_of, read_one};
+use crate::buffer_tests::probes::accessors::*;
+use crate::buffer_tests::probes::references::*;
 use crate::shaping_uses::groups::{count_clusters, reverse_clusters, reverse_with_marks};
 use crate::shaping_uses::in_place::*;
-use crate::shaping_uses::kerning::kern_pair;
-use crate::shaping_uses::line_break::cut_of_line;
+use crate::shaping_uses::ligature::ligate;
 use crate::shaping_uses::merging::{cluster_numbers, clusters_of_merged};
 use crate::shaping_uses::printing::print_characters;
-use crate::shaping_uses::probes::accessors::*;
-use crate::shaping_uses::probes::references::*;
 use crate::shaping_uses::rendering::render_with_ligature;
 use crate::shaping_uses::room::{put_marks, put_marks_within_room};
 use crate::shaping_uses::runs::{first_two_as_one, ligate_first_two};
-use crate::shaping_uses::visible::{delete_ignorables, hide_ignorables};
 use std::str::FromStr;
 use vukhaso::buffer::{
     Feature, Flags, SerializeFlags, UnicodeBuffer, hb_buffer_t, hb_glyph_info_t,
@@ -28,27 +26,8 @@ fn assert_masks(glyphs: &[hb_glyph_info_t], want: &[u32]) {
     }
 }
 
-#[test]
-fn uses_run() -> Result<(), Fail> {
-    texts_are_printed_and_merged()?;
-    ligatures_are_made();
-    a_refused_ligature_stays_open();
-    invisible_glyphs_go();
-    a_refused_pass_stays_open();
-    invisible_glyphs_go_in_place();
-    clusters_change_places();
-    marks_stay_behind_their_bases();
-    a_pair_is_kerned();
-    writes_land_at_their_places();
-    accessors_say_what_stands();
-    calls_in_place_are_done();
-    a_list_in_place_is_done();
-    a_short_list_stays();
-    marks_are_put_in();
-    texts_are_rendered()
-}
-
 /// With one character or none there are no two glyphs.
+#[test]
 fn texts_are_rendered() -> Result<(), Fail> {
     let all = [Answer::Done; 3];
     assert_rendered("fib", "9=0+0|98=2+0", &[0, 256], all)?;
@@ -79,6 +58,7 @@ fn assert_rendered(
     Ok(())
 }
 
+#[test]
 fn texts_are_printed_and_merged() -> Result<(), Fail> {
     let line = print_characters("éa")?.ok_or("short")?;
     assert!(line.as_str() == "233=0+0|97=2+0");
@@ -96,6 +76,7 @@ fn texts_are_printed_and_merged() -> Result<(), Fail> {
 
 /// A ligature has the lower cluster. With one glyph there is none; and in an output that is open it is
 /// put out at the cursor.
+#[test]
 fn ligatures_are_made() {
     let mut buffer = buffer_of("abc");
     assert_ligated(&mut buffer, [Answer::Done; 3], &[7, 99], &[0, 2]);
@@ -116,6 +97,7 @@ fn assert_ligated(buffer: &mut hb_buffer_t, answers: [Answer; 3], ids: &[u32], c
 }
 
 /// After a refusal the ligature is put out, and the output stays open.
+#[test]
 fn a_refused_ligature_stays_open() {
     let mut buffer = refused("abc");
     let refused = [Answer::Done, Answer::Done, Answer::Refused];
@@ -135,45 +117,6 @@ fn refused(text: &str) -> hb_buffer_t {
     buffer
 }
 
-/// The soft hyphen is invisible by default, as a shaper says it in the properties.
-fn set_properties(buffer: &mut hb_buffer_t) {
-    assert!(!buffer.have_output());
-    for glyph in buffer.info_slice_mut() {
-        glyph.set_unicode_props(if glyph.glyph_id == 0xad { 0x21 } else { 5 });
-    }
-}
-
-fn invisible_glyphs_go() {
-    let mut buffer = buffer_of("a\u{ad}b");
-    set_properties(&mut buffer);
-    assert!(!buffer.have_output());
-    assert!(hide_ignorables(&mut buffer) == Ok(true));
-    assert_ids(buffer.info(), &[97, 98]);
-    assert_clusters(buffer.info(), &[0, 3]);
-}
-
-/// After a refusal the visible glyphs are put out, and the output stays open.
-fn a_refused_pass_stays_open() {
-    let mut buffer = refused("a\u{ad}b");
-    set_properties(&mut buffer);
-    assert!(!buffer.have_output());
-    assert!(hide_ignorables(&mut buffer) == Ok(false));
-    assert!(buffer.have_output() && buffer.lookahead_len() == 0);
-    assert_ids(buffer.out_info(), &[97, 98]);
-}
-
-/// In one call their positions go too, also after a refusal.
-fn invisible_glyphs_go_in_place() {
-    let mut buffer = refused("a\u{ad}b");
-    set_properties(&mut buffer);
-    place(&mut buffer);
-    assert!(!buffer.have_output());
-    delete_ignorables(&mut buffer);
-    assert_ids(buffer.info(), &[97, 98]);
-    assert_clusters(buffer.info(), &[0, 3]);
-    assert_advances(&buffer, &[10, 30]);
-}
-
 /// Advances of 10, 20 and so on.
 fn place(buffer: &mut hb_buffer_t) {
     assert!(!buffer.have_output());
@@ -184,6 +127,7 @@ fn place(buffer: &mut hb_buffer_t) {
 }
 
 /// The second and third glyph share a cluster.
+#[test]
 fn clusters_change_places() {
     let mut buffer = buffer_of("abcd");
     merge_middle(&mut buffer);
@@ -209,6 +153,7 @@ fn assert_cluster_count(buffer: &hb_buffer_t, want: usize) {
 
 /// A combining acute accent stays behind its base, and where groups are merged it is in the base's
 /// cluster.
+#[test]
 fn marks_stay_behind_their_bases() {
     assert_reversed(false, &[4, 1, 2, 0]);
     assert_reversed(true, &[4, 1, 1, 0]);
@@ -239,24 +184,7 @@ fn assert_advances(buffer: &hb_buffer_t, want: &[i32]) {
     }
 }
 
-/// A line is cut where the pair is not.
-fn a_pair_is_kerned() {
-    let mut buffer = buffer_of("abcd");
-    buffer.clear_positions();
-    assert!(buffer.have_positions());
-    assert!(buffer.len() == 4);
-    assert!(!buffer.have_output());
-    kern_pair(&mut buffer, 1, -3);
-    assert_masks(buffer.info(), &[0, 0, 3, 0]);
-    assert!(buffer.have_positions());
-    for (position, advance) in buffer.pos().iter().zip(&[0, -3, 0, 0]) {
-        assert!(position.x_advance == *advance);
-    }
-    assert!(buffer.info().len() == 4);
-    assert!(cut_of_line(buffer.info(), 3) == 3);
-    assert!(cut_of_line(buffer.info(), 2) == 1);
-}
-
+#[test]
 fn writes_land_at_their_places() {
     let mut buffer = buffer_of("abc");
     assert!(buffer.info().len() == 3);
@@ -291,6 +219,7 @@ fn writes_land_at_their_places() {
     assert!(buffer.cluster_level == 2);
 }
 
+#[test]
 fn accessors_say_what_stands() {
     assert!(default_glyph_limit() == 0x3FFF_FFFF);
     assert!(default_operation_limit() == 0x1FFF_FFFF);
@@ -308,6 +237,7 @@ fn accessors_say_what_stands() {
 }
 
 /// One is dropped, four are put out, two of them taken back, and the output is closed.
+#[test]
 fn calls_in_place_are_done() {
     let mut buffer = buffer_of("abcde");
     buffer.clear_output();
@@ -328,6 +258,7 @@ fn calls_in_place_are_done() {
 }
 
 /// One is dropped, three are put out and taken back, and the output is closed.
+#[test]
 fn a_list_in_place_is_done() {
     let mut buffer = buffer_of("abcde");
     assert!(!buffer.have_output() && buffer.successful());
@@ -337,6 +268,7 @@ fn a_list_in_place_is_done() {
 }
 
 /// Of three glyphs none is touched.
+#[test]
 fn a_short_list_stays() {
     let mut buffer = buffer_of("abc");
     assert!(!buffer.have_output() && buffer.successful());
@@ -344,6 +276,7 @@ fn a_short_list_stays() {
     assert_ids(buffer.info(), &[97, 98, 99]);
 }
 
+#[test]
 fn marks_are_put_in() {
     let mut buffer = buffer_of("ab");
     assert!(!buffer.have_output() && buffer.successful());
@@ -355,4 +288,14 @@ fn marks_are_put_in() {
     assert!(buffer.info().len() == 4 && buffer.room() >= 8 && buffer.max_len() >= 8);
     assert!(put_marks_within_room(&mut buffer, 8) == Ok(true));
     assert_ids(buffer.info(), &[8, 9, 8, 97, 8, 9, 8, 98]);
+}
+
+/// Each f and the i behind it give way to one glyph, and no others.
+#[test]
+fn f_and_i_are_ligated() {
+    let mut buffer = buffer_of("fifaif");
+    assert!(!buffer.have_output() && buffer.successful());
+    assert!(ligate(&mut buffer) == Ok(true));
+    assert_ids(buffer.info(), &[0xFB01, 102, 97, 105, 102]);
+    assert_clusters(buffer.info(), &[0, 2, 3, 4, 5]);
 }

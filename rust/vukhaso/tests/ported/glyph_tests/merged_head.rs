@@ -1,6 +1,7 @@
 // Written by tools/plain_rust from crates/glyph_tests. Do not edit.
 
 use crate::glyph_tests::lists::{glyph, glyphs};
+use vukhaso::glyph_lists::cluster_order::ClusterOrder::{Any, Monotone};
 use vukhaso::glyph_lists::merged_head::{keeps_head, lowered_head};
 
 /// The input, how many of its glyphs are merged, and whether the current glyph and what is behind them
@@ -17,11 +18,11 @@ fn a_head_is_kept_where_no_glyph_that_stays_changes() {
         ([0, 1, 2], 3, false),
     ];
     for (input, count, kept) in rows {
-        assert!(keeps_head(&glyphs(input), count, false) == kept);
+        assert!(keeps_head(&glyphs(input), count, Monotone) == kept);
     }
-    assert!(keeps_head(&glyphs([0, 1]), 2, false));
-    assert!(!keeps_head(&glyphs([0, 1]), 2, true));
-    assert!(keeps_head(&glyphs([0, 1]), 1, true));
+    assert!(keeps_head(&glyphs([0, 1]), 2, Monotone));
+    assert!(!keeps_head(&glyphs([0, 1]), 2, Any));
+    assert!(keeps_head(&glyphs([0, 1]), 1, Any));
 }
 
 /// What was put out, the input, how many of its glyphs are merged, and the cluster of the current glyph
@@ -37,7 +38,7 @@ fn a_head_is_lowered_where_its_run_begins_there() {
         ([9, 9], [2, 1, 0], 1, None),
     ];
     for (out, input, count, cluster) in rows {
-        let head = lowered_head(&glyphs(out), &glyphs(input), count, false);
+        let head = lowered_head(&glyphs(out), &glyphs(input), count, Monotone);
         assert!(head.map(|head| head.cluster) == cluster);
     }
 }
@@ -45,7 +46,7 @@ fn a_head_is_lowered_where_its_run_begins_there() {
 #[test]
 fn a_lowered_head_loses_its_flags() {
     let input = [glyph(2, 15), glyph(1, 15)];
-    let head = lowered_head(&[], &input, 2, false);
+    let head = lowered_head(&[], &input, 2, Monotone);
     assert!(head.map(|head| head.mask) == Some(8));
-    assert!(lowered_head(&[], &input, 2, true).is_none());
+    assert!(lowered_head(&[], &input, 2, Any).is_none());
 }

@@ -32,8 +32,6 @@ mod hangul;
 #[cfg(test)]
 mod info;
 #[cfg(test)]
-mod laws;
-#[cfg(test)]
 mod lists;
 #[cfg(test)]
 mod masks;

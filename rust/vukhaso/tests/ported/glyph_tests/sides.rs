@@ -1,6 +1,7 @@
 // Written by tools/plain_rust from crates/glyph_tests. Do not edit.
 
 use crate::glyph_tests::lists::{assert_clusters, assert_masks, glyph};
+use vukhaso::glyph_lists::cluster_order::ClusterOrder;
 use vukhaso::glyph_lists::glyph_flags::BREAK_BITS;
 use vukhaso::glyph_lists::range_change::RangeChange;
 use vukhaso::glyph_sides::Sides;
@@ -44,7 +45,7 @@ fn close(sides: &mut Sides) {
     assert!(sides.close().is_ok());
 }
 
-/// What was put out, what is left to read, and whether that stands apart.
+/// What was put out, what is left to read, and whether the output is separate.
 fn assert_sides(sides: &Sides, out: &[u32], input: &[u32], is_separate: bool) {
     assert_clusters(sides.out(), out);
     assert_clusters(sides.input(), input);
@@ -71,7 +72,7 @@ fn glyphs_are_put_out_in_place() {
 }
 
 #[test]
-fn more_than_was_read_stands_apart() {
+fn more_than_was_read_is_separate() {
     let mut sides = opened(&[0, 1, 2]);
     put(&mut sides, 7, 0);
     put(&mut sides, 8, 1);
@@ -95,10 +96,14 @@ fn glyphs_give_way_to_copies() {
     assert!(sides.is_open());
     assert!(sides.input().len() >= 2);
     assert!(sides.out_len() <= 9 && sides.len() <= 9);
-    assert!(sides.replace_kept(2, &[50], false, 9));
+    assert!(sides.replace_kept(2, &[50], ClusterOrder::Monotone, 9));
     assert!(sides.is_open());
     assert!(sides.input().len() >= 2);
-    assert!(sides.replace(2, &[51, 52, 53], false).is_ok());
+    assert!(
+        sides
+            .replace(2, &[51, 52, 53], ClusterOrder::Monotone)
+            .is_ok()
+    );
     assert_sides(&sides, &[0, 2, 2, 2], &[5], false);
     assert!(sides.out()[3].glyph_id == 53);
 }
@@ -108,28 +113,22 @@ fn both_sides_are_merged_and_marked_as_one_list() {
     let mut sides = opened(&[3, 9, 3, 2, 1]);
     next(&mut sides, 1);
     skip(&mut sides, 1);
-    assert!(sides.out().len() + sides.input().len() >= 4);
-    let merge = RangeChange::Merge {
-        floor: 0,
-        any_order: false,
-    };
-    sides.change_range(1, 3, merge);
+    assert!(sides.idx() <= 2);
+    assert!(sides.len() >= 4);
+    sides.merge_input(2, 4, ClusterOrder::Monotone);
     assert_sides(&sides, &[2], &[2, 2, 1], false);
-    assert!(sides.out().len() + sides.input().len() >= 4);
-    assert!(sides.out().len() <= 1);
-    let mark_instead = RangeChange::Merge {
-        floor: 0,
-        any_order: true,
-    };
-    sides.change_range(2, 4, mark_instead);
+    assert!(sides.idx() <= 3);
+    assert!(sides.len() >= 5);
+    sides.merge_input(3, 5, ClusterOrder::Any);
     assert_masks(sides.input(), &[0, 3, 0]);
+    assert!(sides.out().len() <= 2);
     assert!(sides.out().len() + sides.input().len() >= 4);
     sides.change_range(0, 2, RangeChange::Mark { bits: 4 });
     assert_masks(sides.out(), &[4]);
     assert_masks(sides.input(), &[4, 3, 0]);
     assert!(sides.is_open());
     assert!(!sides.input().is_empty());
-    sides.delete_head(false);
+    sides.delete_head(ClusterOrder::Monotone);
     assert!(sides.out_len() == 1);
     assert!(sides.left() == 2);
 }
@@ -140,13 +139,13 @@ fn scans_mark_outside_the_least_cluster() {
     next(&mut sides, 1);
     assert!(sides.len() >= 4);
     assert!(sides.idx() <= 1);
-    sides.scan_input(1, 3, BREAK_BITS, false);
+    sides.scan_input(1, 3, BREAK_BITS, ClusterOrder::Monotone);
     assert_masks(sides.input(), &[0, 0, 0]);
     assert!(sides.out().len() <= 4);
     assert!(sides.out().len() + sides.input().len() >= 4);
     let scan = RangeChange::Scan {
         bits: BREAK_BITS,
-        any_order: false,
+        order: ClusterOrder::Monotone,
     };
     sides.change_range(0, 4, scan);
     assert_masks(sides.out(), &[3]);
@@ -191,8 +190,8 @@ fn a_list_is_cut_and_merged() {
     assert!(sides.input().len() >= 3);
     sides.go_to(1);
     assert!(!sides.is_open());
-    assert!(sides.input().len() >= 3);
-    sides.merge_list(1, 3);
+    assert!(sides.len() >= 3);
+    sides.merge_input(1, 3, ClusterOrder::Monotone);
     assert_clusters(sides.input(), &[3, 2, 2, 1]);
     assert!(!sides.is_open());
     for glyph in sides.list_mut() {

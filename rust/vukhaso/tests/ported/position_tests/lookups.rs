@@ -8,6 +8,7 @@ use vukhaso::common::Direction;
 use vukhaso::font_tables::bytes::tail;
 use vukhaso::font_tables::gdef::Gdef;
 use vukhaso::font_tables::scale::Scale;
+use vukhaso::font_variations::Deltas;
 use vukhaso::glyph::GlyphPosition;
 use vukhaso::glyph_layout::budget::Budget;
 use vukhaso::glyph_layout::lookup_list::LookupList;
@@ -15,6 +16,7 @@ use vukhaso::glyph_layout::search::Search;
 use vukhaso::glyph_layout::walk::LookupOptions;
 use vukhaso::glyph_positions::{Setting, kern, position, position_finish_offsets, position_start};
 use vukhaso::memory::{AllocError, Vec};
+use vukhaso::position_tables::instance::Instance;
 use vukhaso::position_tables::kern_table::KernTable;
 
 /// The bits of the only feature.
@@ -110,7 +112,10 @@ fn position_all(buffer: &mut hb_buffer_t, list: &LookupList, count: usize) {
     debug_assert!(buffer.have_positions());
     let setting = Setting {
         list: &*list,
-        scale: Scale::of_em(1000),
+        instance: Instance {
+            scale: Scale::of_em(1000),
+            deltas: Deltas::NONE,
+        },
     };
     let mut search = Search::new(Budget::new(1000, count));
     position_start(buffer);

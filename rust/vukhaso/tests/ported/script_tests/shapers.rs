@@ -40,6 +40,30 @@ fn scripts_have_shapers() -> Result<(), Fail> {
     Ok(())
 }
 
+/// Scripts that are written in syllables have their shapers, by the tag that the font has them under.
+#[test]
+fn scripts_in_syllables_have_shapers() -> Result<(), Fail> {
+    let rows: [(Script, &[u8; 4], ScriptShaper); 12] = [
+        (script::DEVANAGARI, b"deva", ScriptShaper::Indic),
+        (script::MALAYALAM, b"mlm2", ScriptShaper::Indic),
+        (script::TAMIL, b"tml3", ScriptShaper::Universal),
+        (script::BENGALI, b"latn", ScriptShaper::Default),
+        (script::KHMER, b"khmr", ScriptShaper::Khmer),
+        (script::MYANMAR, b"mym2", ScriptShaper::Myanmar),
+        (script::MYANMAR, b"mymr", ScriptShaper::Default),
+        (script::MYANMAR_ZAWGYI, b"mymr", ScriptShaper::Zawgyi),
+        (script::SINHALA, b"sinh", ScriptShaper::Universal),
+        (script::TIBETAN, b"DFLT", ScriptShaper::Default),
+        (script::MONGOLIAN, b"mong", ScriptShaper::UniversalJoining),
+        (script::NKO, b"nko ", ScriptShaper::UniversalJoining),
+    ];
+    for (script, tag, shaper) in rows {
+        let found = ScriptShaper::of(Some(script), Direction::LeftToRight, Tag::from_bytes(tag));
+        assert_eq!(found, shaper);
+    }
+    Ok(())
+}
+
 /// Hebrew wants a script of its own in `GPOS`; Hangul composes nothing, and its marks keep their width;
 /// marks of Hangul and Thai are not placed without a font's help.
 #[test]

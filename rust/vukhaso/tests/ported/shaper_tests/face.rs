@@ -26,7 +26,7 @@ fn letters_have_glyphs_and_advances() -> Result<(), Fail> {
         assert!(face.has_glyph(letter), "{letter}");
         assert_eq!(face.glyph_hor_advance(GlyphId(glyph)), across, "{letter}");
         assert_eq!(face.glyph_ver_advance(GlyphId(glyph)), -1000, "{letter}");
-        assert_eq!(face.vertical_origin(GlyphId(glyph)), origin, "{letter}");
+        assert_eq!(face.vertical_origin(GlyphId(glyph))?, origin, "{letter}");
     }
     assert_eq!(face.glyph_index(0x78), None);
     assert!(!face.has_glyph('x'));
@@ -50,7 +50,7 @@ fn letters_have_bounds_and_names() -> Result<(), Fail> {
     let found = names.glyph_extents(GlyphId(3)).ok_or("no bounds")?;
     assert_eq!((found.x_bearing, found.y_bearing), (20, 390));
     assert_eq!((found.width, found.height), (300, -400));
-    let bounds = face.glyph_extents(GlyphId(4)).ok_or("no bounds")?;
+    let bounds = face.glyph_extents(GlyphId(4))?.ok_or("no bounds")?;
     assert_eq!((bounds.x_bearing, bounds.y_bearing), (100, 340));
     assert_eq!((bounds.width, bounds.height), (290, -340));
     Ok(())
@@ -91,8 +91,8 @@ fn letters_are_scaled() -> Result<(), Fail> {
         face.set_scale(size.0, size.1);
         let found = (face.glyph_hor_advance(a), face.glyph_ver_advance(a));
         assert_eq!(found, advances);
-        assert_eq!(face.vertical_origin(a), origin);
-        let box_of = face.glyph_extents(a).ok_or("no bounds")?;
+        assert_eq!(face.vertical_origin(a)?, origin);
+        let box_of = face.glyph_extents(a)?.ok_or("no bounds")?;
         let found = (
             box_of.x_bearing,
             box_of.y_bearing,

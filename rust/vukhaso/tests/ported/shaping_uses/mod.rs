@@ -5,12 +5,9 @@
 pub mod comparing;
 pub mod groups;
 pub mod in_place;
-pub mod kerning;
-pub mod line_break;
+pub mod ligature;
 pub mod merging;
 pub mod printing;
-pub mod probes;
 pub mod rendering;
 pub mod room;
 pub mod runs;
-pub mod visible;

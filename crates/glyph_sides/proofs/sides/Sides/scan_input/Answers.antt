@@ -1,5 +1,6 @@
 use Rattle.std.proofs.Common.{◌≡◌, ◌+◌, ◌++◌, ◌∙◌, take, drop, ap, arith, if◌then◌else◌}
 use Rattle.std.proofs.lemmas.Grind.{common_steps}
+use Rattle.glyph_lists.specs.ClusterOrder.{is_any}
 use Rattle.glyph_lists.specs.Parts.{on_part}
 use Rattle.glyph_lists.specs.Scans.{scan_of}
 use Rattle.glyph_lists.proofs.SidesLemmas.{on_part-at}
@@ -11,7 +12,7 @@ pub returns-clause-is : goal.returns-clause-is
 returns-clause-is c =
     let b = c.self.inside in
     let a = c.args in
-    let scan = scan_of a.any_order a.bits in
+    let scan = scan_of (is_any a.order) a.bits in
     let xs = b.info.items in
     let n = if b.is_open then b.cursor else 0 in
     let p = left_place a.start a.self.now in

@@ -1,10 +1,9 @@
 use Rattle.std.proofs.Common.{arith}
 use Rattle.std.proofs.lemmas.Grind.{common_steps}
-use Rattle.glyph_lists.proofs.SidesLemmas.{merge_or_mark_merges}
 use Rattle.shaping_buffer.proofs.KeepsLemmas.{kept_as, keeps_merge_out_clusters}
 use Rattle.shaping_buffer.proofs.buffer.hb_buffer_t.merge_out_clusters.Goals as goal
 
-pub returns-clause-keeps : goal.returns-clause-keeps
-returns-clause-keeps c =
+pub returns-then-not-is_any-clause-keeps : goal.returns-then-not-is_any-clause-keeps
+returns-then-not-is_any-clause-keeps c =
     kept_as _ _ _ (keeps_merge_out_clusters c.args.start c.args.end c.args.self.now c.requires.within)
-    (grind (arith, common_steps, merge_or_mark_merges))
+    (grind (arith, common_steps))

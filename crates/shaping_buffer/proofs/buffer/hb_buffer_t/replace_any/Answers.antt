@@ -15,8 +15,8 @@ returns-then-count-ge2 c =
     let fits : length a.self.now.out + length a.ids.now ≤ a.self.now.max_len = grind (arith, common_steps) in
     rw (replaced_done a.count a.ids.now a.self.now c.requires.opened fits) (refl, grind (arith, common_steps))
 
-pub returns-else-any_order : goal.returns-else-any_order
-returns-else-any_order c =
+pub returns-else-is_any : goal.returns-else-is_any
+returns-else-is_any c =
     let a = c.args in
     let fits : length a.self.now.out + length a.ids.now ≤ a.self.now.max_len = grind (arith, common_steps) in
     rw (replaced_done a.count a.ids.now a.self.now c.requires.opened fits) (refl, grind (arith, common_steps))

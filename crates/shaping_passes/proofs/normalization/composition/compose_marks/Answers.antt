@@ -3,7 +3,7 @@ use Rattle.glyph_lists.specs.Clusters.{IsMonotone}
 use Rattle.shaping_buffer.specs.ClusterStep.{any_order}
 use Rattle.std.proofs.lemmas.Bool.{cond-true, cond-false}
 use Rattle.shaping_buffer.specs.State.{State, len, lookahead_len}
-use Rattle.shaping_passes.specs.NormalizationGlyphs.{cores}
+use Rattle.glyph_laws.specs.Cores.{cores}
 use Rattle.shaping_passes.proofs.NormalizationCompositionLemmas.{turns_begun, last_state, last_cores, last_glyphs}
 use Rattle.shaping_passes.proofs.NormalizationMergesLemmas.{order_kept}
 use Rattle.shaping_passes.proofs.normalization.composition.compose_marks.Goals as goal

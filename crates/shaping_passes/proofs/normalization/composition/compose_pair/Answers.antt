@@ -4,7 +4,7 @@ use Rattle.glyph_lists.specs.Clusters.{IsCoarse, zero_glyph}
 use Rattle.shaping_buffer.specs.State.{State}
 use Rattle.shaping_buffer.specs.ClusterStep.{both}
 use Rattle.shaping_buffer.specs.Step.{with_id}
-use Rattle.shaping_passes.specs.NormalizationGlyphs.{cores}
+use Rattle.glyph_laws.specs.Cores.{cores}
 use Rattle.shaping_passes.proofs.NormalizationPairLemmas.{merged, two_is, end_is, three_is, four_is, left_back}
 use Rattle.shaping_passes.proofs.NormalizationPairLemmas.{goes_back, out_left, out_cores, input_cores, coarse_pair}
 use Rattle.shaping_passes.proofs.NormalizationPairLemmas.{coarse_renamed, renamed_cores, framed, both_pair}

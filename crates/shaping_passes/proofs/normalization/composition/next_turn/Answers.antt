@@ -6,7 +6,7 @@ use Rattle.glyph_lists.specs.Clusters.{zero_glyph}
 use Rattle.shaping_buffer.specs.State.{State}
 use Rattle.shaping_buffer.specs.ClusterStep.{any_order, both, head_of}
 use Rattle.shaping_buffer.specs.Step.{with_id}
-use Rattle.shaping_passes.specs.NormalizationGlyphs.{core, cores}
+use Rattle.glyph_laws.specs.Cores.{core, cores}
 use Rattle.shaping_passes.specs.NormalizationOrder.{class_at}
 use Rattle.shaping_passes.specs.NormalizationComposition.{so_far, pair_of, composed_at, IsPlace}
 use Rattle.shaping_passes.proofs.NormalizationCompositionLemmas.{paired, head_core, kept_behind, kept_first}

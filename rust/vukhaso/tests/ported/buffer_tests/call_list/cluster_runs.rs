@@ -14,8 +14,8 @@ const TATWEEL: u32 = 0x80;
 const UNTOUCHED: &[Seen] = &[(97, 0, 0), (98, 1, 0), (99, 2, 0)];
 
 pub(super) static CLUSTER_RUNS: [Run<'static>; 15] = [
-    // a merge of the input goes down into the out side
     Run {
+        name: "a merge of the input goes down into the out side",
         clusters: &[3, 2, 2, 1],
         calls: &[
             Call::ClearOutput,
@@ -28,8 +28,8 @@ pub(super) static CLUSTER_RUNS: [Run<'static>; 15] = [
         input: &[(99, 1, 0), (100, 1, 0)],
         ..PLAIN
     },
-    // one of the out side goes on into the input
     Run {
+        name: "one of the out side goes on into the input",
         clusters: &[0, 1, 1, 2],
         calls: &[
             Call::ClearOutput,
@@ -42,8 +42,8 @@ pub(super) static CLUSTER_RUNS: [Run<'static>; 15] = [
         input: &[(99, 0, 0), (100, 2, 0)],
         ..PLAIN
     },
-    // a deleted glyph gives its lower cluster to the run before
     Run {
+        name: "a deleted glyph gives its lower cluster to the run before",
         clusters: &[3, 3, 2, 1],
         calls: &[Call::ClearOutput, Call::NextGlyphs(2), Call::DeleteGlyph],
         answers: &[DONE; 3],
@@ -52,8 +52,8 @@ pub(super) static CLUSTER_RUNS: [Run<'static>; 15] = [
         input: &[(100, 1, 0)],
         ..PLAIN
     },
-    // a merge clears the flags only where the cluster changes
     Run {
+        name: "a merge clears the flags only where the cluster changes",
         clusters: &[0, 1, 2],
         calls: &[
             Call::UnsafeToBreak(Some(0), Some(3)),
@@ -65,8 +65,8 @@ pub(super) static CLUSTER_RUNS: [Run<'static>; 15] = [
         scratch_flags: 0x20,
         ..PLAIN
     },
-    // a merge and a deletion at level 2 mark
     Run {
+        name: "a merge at level 2 marks",
         clusters: &[0, 1, 2],
         level: BufferClusterLevel::Characters,
         calls: &[Call::ClearOutput, Call::MergeClusters(0, 2)],
@@ -76,6 +76,7 @@ pub(super) static CLUSTER_RUNS: [Run<'static>; 15] = [
         ..PLAIN
     },
     Run {
+        name: "a deletion at level 2 marks",
         clusters: &[0, 1, 2],
         level: BufferClusterLevel::Characters,
         calls: &[Call::ClearOutput, Call::DeleteGlyph],
@@ -85,8 +86,8 @@ pub(super) static CLUSTER_RUNS: [Run<'static>; 15] = [
         scratch_flags: 0x20,
         ..PLAIN
     },
-    // a scan of both sides
     Run {
+        name: "a scan of both sides",
         clusters: &[0, 1, 1, 2],
         calls: &[
             Call::ClearOutput,
@@ -100,8 +101,8 @@ pub(super) static CLUSTER_RUNS: [Run<'static>; 15] = [
         scratch_flags: 0x20,
         ..PLAIN
     },
-    // with no output a call on both sides works on the input
     Run {
+        name: "with no output a call on both sides works on the input",
         clusters: &[0, 1, 2],
         calls: &[Call::UnsafeToBreakFromOutbuffer(Some(1), Some(2))],
         answers: &[DONE],
@@ -110,8 +111,8 @@ pub(super) static CLUSTER_RUNS: [Run<'static>; 15] = [
         scratch_flags: 0x20,
         ..PLAIN
     },
-    // unsafe to concatenate only where the flags ask for it
     Run {
+        name: "unsafe to concatenate with its flag not asked for",
         clusters: &[0, 1, 2],
         calls: &[
             Call::UnsafeToConcat(Some(0), Some(3)),
@@ -123,6 +124,7 @@ pub(super) static CLUSTER_RUNS: [Run<'static>; 15] = [
         ..PLAIN
     },
     Run {
+        name: "unsafe to concatenate where the flags ask for it",
         clusters: &[0, 1, 2],
         flags: CONCAT,
         calls: &[Call::UnsafeToConcat(Some(0), Some(3))],
@@ -133,6 +135,7 @@ pub(super) static CLUSTER_RUNS: [Run<'static>; 15] = [
         ..PLAIN
     },
     Run {
+        name: "unsafe to concatenate on both sides",
         clusters: &[0, 1, 1, 2],
         flags: CONCAT,
         calls: &[
@@ -147,8 +150,8 @@ pub(super) static CLUSTER_RUNS: [Run<'static>; 15] = [
         scratch_flags: 0x20,
         ..PLAIN
     },
-    // a tatweel has a flag of its own where the flags ask for it
     Run {
+        name: "a tatweel with its flag not asked for",
         clusters: &[0, 1, 2],
         calls: &[Call::SafeToInsertTatweel(Some(0), Some(3))],
         answers: &[DONE],
@@ -158,6 +161,7 @@ pub(super) static CLUSTER_RUNS: [Run<'static>; 15] = [
         ..PLAIN
     },
     Run {
+        name: "a tatweel with its flag asked for",
         clusters: &[0, 1, 2],
         flags: TATWEEL,
         calls: &[Call::SafeToInsertTatweel(Some(0), Some(3))],
@@ -167,8 +171,8 @@ pub(super) static CLUSTER_RUNS: [Run<'static>; 15] = [
         scratch_flags: 0x20,
         ..PLAIN
     },
-    // outside their conditions calls change nothing
     Run {
+        name: "outside their conditions with no output",
         clusters: &[0, 1, 2],
         calls: &[
             Call::DeleteGlyph,
@@ -185,6 +189,7 @@ pub(super) static CLUSTER_RUNS: [Run<'static>; 15] = [
         ..PLAIN
     },
     Run {
+        name: "outside their conditions with an output open",
         clusters: &[0, 1, 2],
         calls: &[
             Call::ClearOutput,

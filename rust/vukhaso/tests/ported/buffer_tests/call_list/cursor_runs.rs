@@ -7,8 +7,8 @@ use vukhaso::buffer::{BufferClusterLevel, hb_glyph_info_t};
 use vukhaso::runs::Call;
 
 pub(super) static CURSOR_RUNS: [Run<'static>; 12] = [
-    // a full out side
     Run {
+        name: "a full out side",
         clusters: &[0, 1, 2],
         max_len: 3,
         calls: &[
@@ -29,8 +29,8 @@ pub(super) static CURSOR_RUNS: [Run<'static>; 12] = [
         input: &[(98, 1, 0), (99, 2, 0)],
         ..PLAIN
     },
-    // a refused replacement has not merged
     Run {
+        name: "a refused replacement has not merged",
         clusters: &[0, 1],
         max_len: 2,
         calls: &[
@@ -46,16 +46,16 @@ pub(super) static CURSOR_RUNS: [Run<'static>; 12] = [
         input: &[(97, 0, 0), (98, 1, 0)],
         ..PLAIN
     },
-    // a replacement by nothing
     Run {
+        name: "a replacement by nothing",
         clusters: &[0, 1],
         calls: &[Call::ClearOutput, Call::ReplaceGlyphs(2, 0, &[])],
         answers: &[DONE, DONE],
         idx: 2,
         ..PLAIN
     },
-    // the copy is taken after the merge, with its cluster and its cleared flags
     Run {
+        name: "the copy is taken after the merge, with its cluster and its cleared flags",
         clusters: &[1, 0],
         calls: &[
             Call::UnsafeToBreak(None, None),
@@ -68,8 +68,8 @@ pub(super) static CURSOR_RUNS: [Run<'static>; 12] = [
         scratch_flags: 0x20,
         ..PLAIN
     },
-    // and at level 2 with its mark
     Run {
+        name: "the copy is taken after the merge, at level 2 with its mark",
         clusters: &[1, 0],
         level: BufferClusterLevel::Characters,
         calls: &[Call::ClearOutput, Call::ReplaceGlyphs(2, 1, &[9])],
@@ -79,8 +79,8 @@ pub(super) static CURSOR_RUNS: [Run<'static>; 12] = [
         scratch_flags: 0x20,
         ..PLAIN
     },
-    // copies in front of the current glyph, with too few glyphs or ids, and with more ids than are taken
     Run {
+        name: "copies in front of the current glyph, with too few glyphs or ids, and with more ids than are taken",
         clusters: &[0, 1],
         calls: &[
             Call::ClearOutput,
@@ -96,8 +96,8 @@ pub(super) static CURSOR_RUNS: [Run<'static>; 12] = [
         input: &[(98, 1, 0)],
         ..PLAIN
     },
-    // to the very end, to where the cursor stands, and past the end
     Run {
+        name: "to the very end, to where the cursor stands, and past the end",
         clusters: &[0, 1, 2],
         calls: &[
             Call::ClearOutput,
@@ -113,8 +113,8 @@ pub(super) static CURSOR_RUNS: [Run<'static>; 12] = [
         input: &[(98, 1, 0), (99, 2, 0)],
         ..PLAIN
     },
-    // more glyphs are taken back than were read
     Run {
+        name: "more glyphs are taken back than were read",
         clusters: &[0, 1],
         calls: &[
             Call::ClearOutput,
@@ -130,8 +130,8 @@ pub(super) static CURSOR_RUNS: [Run<'static>; 12] = [
         out: &[(2, 0, 0), (3, 0, 0), (98, 1, 0)],
         ..PLAIN
     },
-    // a ligature of all, and glyphs after it
     Run {
+        name: "a ligature of all, and glyphs after it",
         clusters: &[0, 1],
         calls: &[
             Call::ClearOutput,
@@ -145,8 +145,8 @@ pub(super) static CURSOR_RUNS: [Run<'static>; 12] = [
         input: &[(9, 0, 0), (7, 0, 0), (8, 0, 0)],
         ..PLAIN
     },
-    // a glyph of the caller's
     Run {
+        name: "a glyph of the caller's",
         clusters: &[0],
         calls: &[
             Call::ClearOutput,
@@ -166,8 +166,8 @@ pub(super) static CURSOR_RUNS: [Run<'static>; 12] = [
         out: &[(5, 6, 1), (97, 0, 0)],
         ..PLAIN
     },
-    // with no output only the cursor moves
     Run {
+        name: "with no output only the cursor moves",
         clusters: &[0, 1, 2],
         calls: &[
             Call::NextGlyphs(3),
@@ -183,8 +183,8 @@ pub(super) static CURSOR_RUNS: [Run<'static>; 12] = [
         input: &[(97, 0, 0), (98, 1, 0), (99, 2, 0)],
         ..PLAIN
     },
-    // the calls after one outside its condition are made
     Run {
+        name: "the calls after one outside its condition are made",
         clusters: &[0, 1],
         calls: &[
             Call::Sync,

@@ -6,16 +6,16 @@ use super::{DONE, PLAIN, REFUSED, Run};
 use vukhaso::runs::Call;
 
 pub(super) static ODD_RUNS: [Run<'static>; 2] = [
-    // a merge takes its range's runs along, and no other glyph of these clusters
     Run {
+        name: "a merge takes its range's runs along, and no other glyph of these clusters",
         clusters: &[1, 0, 1],
         calls: &[Call::ClearOutput, Call::MergeClusters(0, 2)],
         answers: &[DONE; 2],
         input: &[(97, 0, 0), (98, 0, 0), (99, 1, 0)],
         ..PLAIN
     },
-    // a deleted glyph of a higher cluster than its neighbours' leaves nothing
     Run {
+        name: "a deleted glyph of a higher cluster than its neighbours' leaves nothing",
         clusters: &[0, 5, 1],
         calls: &[Call::ClearOutput, Call::NextGlyph, Call::DeleteGlyph],
         answers: &[DONE; 3],
@@ -51,6 +51,7 @@ const REFUSED_LAST: Run<'static> = Run {
 
 pub(super) static LIMITED_RUNS: [Run<'static>; 4] = [
     Run {
+        name: "a limit of 4",
         clusters: &[0, 1, 2, 3],
         max_len: 4,
         calls: CALLS,
@@ -63,14 +64,17 @@ pub(super) static LIMITED_RUNS: [Run<'static>; 4] = [
         ..PLAIN
     },
     Run {
+        name: "a limit of 5",
         max_len: 5,
         ..REFUSED_LAST
     },
     Run {
+        name: "a limit of 6",
         max_len: 6,
         ..REFUSED_LAST
     },
     Run {
+        name: "a limit of 7",
         clusters: &[0, 1, 2, 3],
         max_len: 7,
         calls: CALLS,

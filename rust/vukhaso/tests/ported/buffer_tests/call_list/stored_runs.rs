@@ -6,8 +6,8 @@ use super::Stored;
 use vukhaso::runs::Call;
 
 pub(super) static STORED_RUNS: [Stored<'static>; 5] = [
-    // a rewind over glyphs that overlap
     Stored {
+        name: "a rewind over glyphs that overlap",
         text: "ZYABCDE",
         calls: &[
             Call::ClearOutput,
@@ -25,8 +25,8 @@ pub(super) static STORED_RUNS: [Stored<'static>; 5] = [
         out: &[(65, 2, 0), (66, 3, 0)],
         input: &[(67, 4, 0), (68, 5, 0), (69, 6, 0)],
     },
-    // one dropped at the start, three put out, and all taken back
     Stored {
+        name: "one dropped at the start, three put out, and all taken back",
         text: "ZABCD",
         calls: &[
             Call::ClearOutput,
@@ -41,8 +41,8 @@ pub(super) static STORED_RUNS: [Stored<'static>; 5] = [
         out: &[],
         input: &[(65, 1, 0), (66, 2, 0), (67, 3, 0), (68, 4, 0)],
     },
-    // an output that came to be separate, and all of it taken back, past the start
     Stored {
+        name: "an output that came to be separate, and all of it taken back, past the start",
         text: "AB",
         calls: &[
             Call::ClearOutput,
@@ -57,8 +57,8 @@ pub(super) static STORED_RUNS: [Stored<'static>; 5] = [
         out: &[(2, 0, 0), (3, 0, 0), (66, 1, 0)],
         input: &[],
     },
-    // glyphs in place go with one that leaves the vector
     Stored {
+        name: "glyphs in place go with one that leaves the vector",
         text: "ABC",
         calls: &[
             Call::ClearOutput,
@@ -72,6 +72,7 @@ pub(super) static STORED_RUNS: [Stored<'static>; 5] = [
         input: &[(67, 2, 0)],
     },
     Stored {
+        name: "a sync puts what left the vector into the list",
         text: "AB",
         calls: &[
             Call::ClearOutput,

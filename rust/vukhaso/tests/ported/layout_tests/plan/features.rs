@@ -120,6 +120,8 @@ fn the_default_shaper_plans() -> Result<(), Fail> {
             is_cross_stream: false,
             has_machine: false,
         },
+        gsub_substitutions: &[],
+        gpos_substitutions: &[],
     };
     let text = TextProperties {
         direction: Direction::LeftToRight,

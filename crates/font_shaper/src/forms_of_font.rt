@@ -1,0 +1,88 @@
+//! What the shapers of syllables ask of a font.
+
+ghost use Rattle.std.specs.Prelude.{◌≡◌, true, false, IfOk};
+ghost use Rattle.font_shaper.specs.ClusterOrder.{KeepsStage};
+
+use crate::face::Face;
+use crate::lookups::budget_of;
+use crate::planning::TextPlan;
+use glyph_layout::{Budget, would_substitute};
+use layout_plan::LayoutPlan;
+use rb_common::Tag;
+use shaping_buffer::hb_buffer_t;
+use std::alloc::AllocError;
+use syllabic_shapers::{FontForms, FormFeature, SyllablePause};
+
+/// A font with the features of a text.
+#[derive(Debug, Drop)]
+struct Forms<'a> {
+    face: &'a Face<'a>,
+    layout: &'a LayoutPlan,
+    /// Whether a rule with context is not taken.
+    wants_no_context: bool,
+    /// What the questions may cost.
+    budget: Budget,
+}
+
+impl FontForms for Forms<'_> {
+    fn glyph_of(&self, character: u32) -> Option<u32> {
+        match self.face.glyph_index(character) {
+            Some(glyph) => Some(u32::from(glyph.0)),
+            None => None,
+        }
+    }
+
+    fn would_substitute(&mut self, feature: FormFeature, glyphs: &[u32]) -> bool {
+        let list = &self.face.lookups.substitutions;
+        for planned in self.layout.stage_lookups(tag_of(feature)) {
+            if let Some(lookup) = list.lookup(planned.index)
+                && would_substitute(
+                    list,
+                    lookup,
+                    glyphs,
+                    self.wants_no_context,
+                    &mut self.budget,
+                )
+            {
+                return true;
+            }
+        }
+        false
+    }
+}
+
+/// The tag of a feature that a shaper asks of.
+fn tag_of(feature: FormFeature) -> Tag {
+    match feature {
+        FormFeature::Rphf => Tag::from_bytes(b"rphf"),
+        FormFeature::Pref => Tag::from_bytes(b"pref"),
+        FormFeature::Blwf => Tag::from_bytes(b"blwf"),
+        FormFeature::Pstf => Tag::from_bytes(b"pstf"),
+        FormFeature::Vatu => Tag::from_bytes(b"vatu"),
+    }
+}
+
+impl Face<'_> {
+    /// Works on the syllables of a text at a pause. `Ok(false)` where a call was refused for length.
+    pub(crate) fn work_on_syllables(
+        &self,
+        buffer: &mut hb_buffer_t,
+        plan: &TextPlan,
+        pause: SyllablePause,
+    ) -> Result<bool, AllocError>
+        requires { buffer.old.have_output ≡ false }
+        ensures closed { IfOk result (λ done. done ≡ true → buffer.new.have_output ≡ false) }
+        ensures keeps { KeepsStage plan.now.syllables buffer.old buffer.new }
+    {
+        if !plan.orders_syllables() {
+            return Ok(true);
+        }
+        let mut forms = Forms {
+            face: self,
+            layout: &plan.shape.layout,
+            wants_no_context: plan.syllables.wants_no_context(),
+            budget: budget_of(buffer),
+        };
+        plan.syllables.pause(self.alloc, buffer, &mut forms, pause)
+    }
+}

@@ -1,0 +1,4 @@
+pub mod FeatureLemmas
+pub mod FloatLemmas
+pub mod RegionLemmas
+pub mod SegmentLemmas

@@ -1,0 +1,13 @@
+use Rattle.font_tables.proofs.RowLemmas.{first_below-some, first_below-none}
+use Rattle.std.proofs.Common.{◌≡◌, ◌<◌, sym, arith, ◌∙◌}
+use Rattle.font_variations.proofs.value_variations.record_of.Goals as goal
+
+pub returns-then-is_for_tag : goal.returns-then-is_for_tag
+returns-then-is_for_tag c =
+    let inside : c.loop-row.row < c.args.count = omega arith in
+    sym (first_below-some _ _ _ inside (sym c.is_for_tag.ensures ∙ c.if-is_for_tag.true) c.loop-row.invariant)
+
+pub returns : goal.returns
+returns c =
+    let end : c.loop-row.row ≡ c.args.count = omega arith in
+    sym (first_below-none _ _ (rw end at c.loop-row.invariant))

@@ -1,0 +1,11 @@
+pub mod Axes
+pub mod DeltaSets
+pub mod FeatureVariations
+pub mod IndexMap
+pub mod MetricsVariations
+pub mod Regions
+pub mod Rounding
+pub mod SegmentMaps
+pub mod UserVariations
+pub mod ValueVariations
+pub mod VariationStore

@@ -1,0 +1,14 @@
+-- Whole numbers of floats, as HarfBuzz rounds them.
+use Rattle.std.specs.Prelude.{ℤ, negsuc, false}
+use Rattle.std.specs.Int.{w32}
+use Rattle.std.specs.Float.{floor, float_to_signed}
+use Rattle.std.specs.Float.Ieee.{Float, add, binary32, fin}
+
+-- one half
+abbrev pub half : Float
+half = fin false 1 (negsuc 0)
+
+-- the whole number that is nearest, and the greater one between two: the whole part of half more; what is past 32 bits is the
+-- nearest number of as many bits
+abbrev pub rounded : Float → ℤ
+rounded number = float_to_signed w32 (floor binary32 (add binary32 number half))

@@ -1,0 +1,8 @@
+pub mod Components
+pub mod Glyphs
+pub mod PackedDeltas
+pub mod PackedPoints
+pub mod Phantoms
+pub mod Points
+pub mod TupleScalar
+pub mod Tuples

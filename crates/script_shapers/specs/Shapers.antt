@@ -1,0 +1,145 @@
+-- Which shaper the text of a script has, and what each shaper asks for.
+use Rattle.std.specs.Prelude.{ℕ, Bool, true, false, List, [], ◌∷◌, Option, Some, None, ◌==◌, ◌&&◌, ◌||◌, ◌%◌, not, if◌then◌else◌, codes}
+use Rattle.std.specs.List.{list_any}
+use Rattle.rb_common.specs.Tag.{tag_of}
+use Rattle.rb_common.specs.Direction.{is_horizontal}
+use Rattle.rb_common.specs.declared.direction.Direction.{Direction}
+use Rattle.script_shapers.specs.declared.shaper.NormalizationMode.{NormalizationMode}
+use Rattle.script_shapers.specs.declared.shaper.NormalizationMode.TheVariants as mode
+use Rattle.script_shapers.specs.declared.shaper.ZeroWidthMarks.{ZeroWidthMarks}
+use Rattle.script_shapers.specs.declared.shaper.ZeroWidthMarks.TheVariants as width
+use Rattle.script_shapers.specs.declared.shaper.ScriptShaper.{ScriptShaper}
+use Rattle.script_shapers.specs.declared.shaper.ScriptShaper.TheVariants.{Default, Arabic, Hebrew, Hangul, Thai, Indic, Khmer}
+use Rattle.script_shapers.specs.declared.shaper.ScriptShaper.TheVariants.{Myanmar, Universal, UniversalJoining, Zawgyi}
+
+-- the scripts that OpenType has the Indic shaper for, by their ISO 15924 tags
+abbrev pub indic_scripts : List ℕ
+indic_scripts =
+    tag_of (codes "Beng") ∷ tag_of (codes "Deva") ∷ tag_of (codes "Gujr") ∷ tag_of (codes "Guru") ∷ tag_of (codes "Knda") ∷ tag_of (codes "Mlym") ∷
+    tag_of (codes "Orya") ∷ tag_of (codes "Taml") ∷ tag_of (codes "Telu") ∷ []
+
+-- those that the universal shaper serves
+abbrev pub universal_scripts : List ℕ
+universal_scripts =
+    tag_of (codes "Adlm") ∷ tag_of (codes "Ahom") ∷ tag_of (codes "Bali") ∷ tag_of (codes "Batk") ∷ tag_of (codes "Bhks") ∷ tag_of (codes "Brah") ∷
+    tag_of (codes "Bugi") ∷ tag_of (codes "Buhd") ∷ tag_of (codes "Cakm") ∷ tag_of (codes "Cham") ∷ tag_of (codes "Chrs") ∷ tag_of (codes "Cpmn") ∷
+    tag_of (codes "Diak") ∷ tag_of (codes "Dogr") ∷ tag_of (codes "Dupl") ∷ tag_of (codes "Egyp") ∷ tag_of (codes "Elym") ∷ tag_of (codes "Gara") ∷
+    tag_of (codes "Gong") ∷ tag_of (codes "Gonm") ∷ tag_of (codes "Gran") ∷ tag_of (codes "Gukh") ∷ tag_of (codes "Hano") ∷ tag_of (codes "Hmng") ∷
+    tag_of (codes "Hmnp") ∷ tag_of (codes "Java") ∷ tag_of (codes "Kali") ∷ tag_of (codes "Kawi") ∷ tag_of (codes "Khar") ∷ tag_of (codes "Khoj") ∷
+    tag_of (codes "Kits") ∷ tag_of (codes "Krai") ∷ tag_of (codes "Kthi") ∷ tag_of (codes "Lana") ∷ tag_of (codes "Lepc") ∷ tag_of (codes "Limb") ∷
+    tag_of (codes "Mahj") ∷ tag_of (codes "Maka") ∷ tag_of (codes "Mand") ∷ tag_of (codes "Mani") ∷ tag_of (codes "Marc") ∷ tag_of (codes "Medf") ∷
+    tag_of (codes "Modi") ∷ tag_of (codes "Mong") ∷ tag_of (codes "Mtei") ∷ tag_of (codes "Mult") ∷ tag_of (codes "Nagm") ∷ tag_of (codes "Nand") ∷
+    tag_of (codes "Newa") ∷ tag_of (codes "Nkoo") ∷ tag_of (codes "Onao") ∷ tag_of (codes "Ougr") ∷ tag_of (codes "Phag") ∷ tag_of (codes "Phlp") ∷
+    tag_of (codes "Plrd") ∷ tag_of (codes "Rjng") ∷ tag_of (codes "Rohg") ∷ tag_of (codes "Saur") ∷ tag_of (codes "Shrd") ∷ tag_of (codes "Sidd") ∷
+    tag_of (codes "Sind") ∷ tag_of (codes "Sinh") ∷ tag_of (codes "Sogd") ∷ tag_of (codes "Sogo") ∷ tag_of (codes "Soyo") ∷ tag_of (codes "Sund") ∷
+    tag_of (codes "Sunu") ∷ tag_of (codes "Sylo") ∷ tag_of (codes "Tagb") ∷ tag_of (codes "Takr") ∷ tag_of (codes "Tale") ∷ tag_of (codes "Tavt") ∷
+    tag_of (codes "Tfng") ∷ tag_of (codes "Tglg") ∷ tag_of (codes "Tibt") ∷ tag_of (codes "Tirh") ∷ tag_of (codes "Tnsa") ∷ tag_of (codes "Todr") ∷
+    tag_of (codes "Toto") ∷ tag_of (codes "Tutg") ∷ tag_of (codes "Vith") ∷ tag_of (codes "Wcho") ∷ tag_of (codes "Yezi") ∷ tag_of (codes "Zanb") ∷ []
+
+-- those among them whose letters join
+abbrev pub joining_scripts : List ℕ
+joining_scripts =
+    tag_of (codes "Adlm") ∷ tag_of (codes "Chrs") ∷ tag_of (codes "Rohg") ∷ tag_of (codes "Mand") ∷ tag_of (codes "Mani") ∷ tag_of (codes "Mong") ∷
+    tag_of (codes "Nkoo") ∷ tag_of (codes "Ougr") ∷ tag_of (codes "Phag") ∷ tag_of (codes "Phlp") ∷ tag_of (codes "Sogd") ∷ []
+
+abbrev pub is_listed : List ℕ → ℕ → Bool
+is_listed tags script = list_any (λ tag. tag == script) tags
+
+-- whether a font has a script under the tag of all scripts, or of Latin: it was made for others
+abbrev pub is_for_others : ℕ → Bool
+is_for_others tag = (tag == tag_of (codes "DFLT")) || (tag == tag_of (codes "latn"))
+
+-- the universal shaper, by the tag that the font has the script under
+abbrev pub universal_of : ℕ → ℕ → ScriptShaper
+universal_of script tag =
+    if is_for_others tag then Default else if is_listed joining_scripts script then UniversalJoining else Universal
+
+-- the shaper of an Indic script: a font whose tag ends with 3 is made for the universal one
+abbrev pub indic_of : ℕ → ℕ → ScriptShaper
+indic_of script tag =
+    if not (is_for_others tag) && not (tag % 256 == 51) then Indic else universal_of script tag
+
+-- the shaper of Myanmar: under its older tag a font has no forms of syllables
+abbrev pub myanmar_of : ℕ → ScriptShaper
+myanmar_of tag = if is_for_others tag || (tag == tag_of (codes "mymr")) then Default else Myanmar
+
+-- whether the letters of a text join as those of Arabic do
+abbrev pub is_arabic : ℕ → Direction → ℕ → Bool
+is_arabic script direction tag =
+    ((script == tag_of (codes "Arab")) || (script == tag_of (codes "Syrc")) && not (tag == tag_of (codes "DFLT")))
+    && is_horizontal direction
+
+-- the shaper of a script that is written in syllables, but the Indic ones
+abbrev pub syllabic_shaper_of : ℕ → ℕ → ScriptShaper
+syllabic_shaper_of script tag =
+    if script == tag_of (codes "Khmr") then Khmer
+    else if script == tag_of (codes "Mymr") then myanmar_of tag
+    else if script == tag_of (codes "Qaag") then Zawgyi
+    else if is_listed universal_scripts script then universal_of script tag
+    else Default
+
+-- the shaper of a script whose letters do not join as those of Arabic do
+abbrev pub other_shaper_of : ℕ → ℕ → ScriptShaper
+other_shaper_of script tag =
+    if script == tag_of (codes "Hebr") then Hebrew
+    else if script == tag_of (codes "Hang") then Hangul
+    else if (script == tag_of (codes "Thai")) || (script == tag_of (codes "Laoo")) then Thai
+    else if is_listed indic_scripts script then indic_of script tag
+    else syllabic_shaper_of script tag
+
+-- the shaper of a script in a direction, by the tag that the font has it under
+abbrev pub shaper_of : ℕ → Direction → ℕ → ScriptShaper
+shaper_of script direction tag =
+    if is_arabic script direction tag then Arabic else other_shaper_of script tag
+
+-- the script that the font's table `GPOS` has to have
+abbrev pub wanted_script : ScriptShaper → Option ℕ
+wanted_script Hebrew = Some (tag_of (codes "hebr"))
+wanted_script _ = None
+
+abbrev pub mode_of : ScriptShaper → NormalizationMode
+mode_of Default = mode.Auto
+mode_of Arabic = mode.Auto
+mode_of Hebrew = mode.Auto
+mode_of Hangul = mode.Nothing
+mode_of Thai = mode.Auto
+mode_of Indic = mode.TakenApart
+mode_of Khmer = mode.TakenApart
+mode_of Myanmar = mode.TakenApart
+mode_of Universal = mode.TakenApart
+mode_of UniversalJoining = mode.TakenApart
+mode_of Zawgyi = mode.Nothing
+
+abbrev pub width_of : ScriptShaper → ZeroWidthMarks
+width_of Default = width.Late
+width_of Arabic = width.Late
+width_of Hebrew = width.Late
+width_of Hangul = width.Never
+width_of Thai = width.Late
+width_of Indic = width.Never
+width_of Khmer = width.Never
+width_of Myanmar = width.Early
+width_of Universal = width.Early
+width_of UniversalJoining = width.Early
+width_of Zawgyi = width.Never
+
+abbrev pub has_fallback : ScriptShaper → Bool
+has_fallback Default = true
+has_fallback Arabic = true
+has_fallback Hebrew = true
+has_fallback _ = false
+
+-- whether characters compose and decompose by Unicode's canonical mappings alone
+abbrev pub is_canonical : ScriptShaper → Bool
+is_canonical Indic = false
+is_canonical Khmer = false
+is_canonical Universal = false
+is_canonical UniversalJoining = false
+is_canonical Hebrew = false
+is_canonical _ = true
+
+-- whether characters decompose by Unicode's canonical mappings alone
+abbrev pub is_taken_apart : ScriptShaper → Bool
+is_taken_apart Indic = false
+is_taken_apart Khmer = false
+is_taken_apart _ = true

@@ -1,0 +1,4 @@
+pub mod MovedLemmas
+pub mod NumbersLemmas
+pub mod PlacedLemmas
+pub mod TurnLemmas

@@ -1,0 +1,4 @@
+pub mod Composition
+pub mod KeepsNumbers
+pub mod Moves
+pub mod Placed

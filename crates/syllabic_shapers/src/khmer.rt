@@ -1,0 +1,6 @@
+//! The shaper of Khmer (OpenType, "Developing OpenType Fonts for Khmer Script"): HarfBuzz's `hb-ot-shaper-khmer.cc`.
+
+pub mod composition;
+mod machine_rows;
+mod order;
+pub mod plan;

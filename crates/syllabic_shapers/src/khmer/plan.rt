@@ -1,0 +1,80 @@
+//! How a Khmer text is shaped by a font.
+
+ghost use Rattle.std.specs.Prelude.{◌≡◌, true, false, IfOk};
+ghost use Rattle.shaping_buffer.specs.KeepsClusters.{KeepsClusters};
+ghost use Rattle.syllabic_shapers.specs.KeepsNumbers.{KeepsNumbers};
+
+use crate::category::Category;
+use crate::category::position::Position;
+use crate::dotted_circle::{Circle, DOTTED_CIRCLE, insert_dotted_circles};
+use crate::font::FontForms;
+use crate::khmer::machine_rows::{ENDS, NEXT, OTHER, WIDTH};
+use crate::khmer::order::order_syllables;
+use crate::machine::Machine;
+use crate::syllables::find_syllables;
+use shaping_buffer::hb_buffer_t;
+use std::alloc::AllocError;
+
+/// The kind of syllables without a base.
+pub(crate) const BROKEN: u8 = 1;
+
+/// How a Khmer text is shaped by a font: the masks of the features that not every glyph has.
+#[derive(Clone, Copy, PartialEq, Eq, Debug, Default)]
+pub struct KhmerPlan {
+    /// A coeng and a RO, which stand before the base.
+    pub pref: u32,
+    /// Forms below the base.
+    pub blwf: u32,
+    /// Forms above the base.
+    pub abvf: u32,
+    /// Forms behind the base.
+    pub pstf: u32,
+    /// What stands behind a coeng and a RO.
+    pub cfar: u32,
+}
+
+impl KhmerPlan {
+    /// Finds the syllables, before the first lookups.
+    pub fn setup_syllables(&self, buffer: &mut hb_buffer_t)
+        requires { buffer.old.have_output ≡ false }
+        ensures closed { buffer.new.have_output ≡ false }
+        ensures keeps { KeepsClusters buffer.old buffer.new }
+    {
+        let machine = Machine {
+            next: &NEXT,
+            width: WIDTH,
+            ends: &ENDS,
+            other: OTHER,
+            broken: BROKEN,
+            passes_over: false,
+        };
+        find_syllables(buffer, &machine);
+    }
+
+    /// Puts the glyphs of each syllable in order. `Ok(false)` where the text would become too long.
+    #[tactic(auto, using(crate::proofs::NumbersLemmas::numbered))]
+    pub fn reordering<F: FontForms>(
+        &self,
+        buffer: &mut hb_buffer_t,
+        font: &F,
+    ) -> Result<bool, AllocError>
+        requires { buffer.old.have_output ≡ false }
+        ensures closed { IfOk result (λ done. done ≡ true → buffer.new.have_output ≡ false) }
+        ensures keeps { KeepsNumbers buffer.old buffer.new }
+    {
+        if let Some(glyph) = font.glyph_of(DOTTED_CIRCLE) {
+            let circle = Circle {
+                glyph,
+                category: Category::DottedCircle as u8,
+                position: Position::Start,
+                repha: None,
+                broken: BROKEN,
+            };
+            if !insert_dotted_circles(buffer, &circle)? {
+                return Ok(false);
+            }
+        }
+        order_syllables(buffer, self);
+        Ok(true)
+    }
+}

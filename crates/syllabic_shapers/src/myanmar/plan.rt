@@ -1,0 +1,62 @@
+//! How a Myanmar text is shaped by a font.
+
+ghost use Rattle.std.specs.Prelude.{◌≡◌, true, false, IfOk};
+ghost use Rattle.shaping_buffer.specs.KeepsClusters.{KeepsClusters};
+ghost use Rattle.syllabic_shapers.specs.KeepsNumbers.{KeepsNumbers};
+
+use crate::category::Category;
+use crate::category::position::Position;
+use crate::dotted_circle::{Circle, DOTTED_CIRCLE, insert_dotted_circles};
+use crate::font::FontForms;
+use crate::machine::Machine;
+use crate::myanmar::machine_rows::{ENDS, NEXT, OTHER, WIDTH};
+use crate::myanmar::order::order_syllables;
+use crate::syllables::find_syllables;
+use shaping_buffer::hb_buffer_t;
+use std::alloc::AllocError;
+
+/// The kind of syllables without a base.
+pub(crate) const BROKEN: u8 = 1;
+
+/// Finds the syllables, before the first lookups.
+pub(crate) fn setup_syllables(buffer: &mut hb_buffer_t)
+    requires { buffer.old.have_output ≡ false }
+    ensures closed { buffer.new.have_output ≡ false }
+    ensures keeps { KeepsClusters buffer.old buffer.new }
+{
+    let machine = Machine {
+        next: &NEXT,
+        width: WIDTH,
+        ends: &ENDS,
+        other: OTHER,
+        broken: BROKEN,
+        passes_over: false,
+    };
+    find_syllables(buffer, &machine);
+}
+
+/// Puts the glyphs of each syllable in order. `Ok(false)` where the text would become too long.
+#[tactic(auto, using(crate::proofs::NumbersLemmas::numbered))]
+pub(crate) fn reordering<F: FontForms>(
+    buffer: &mut hb_buffer_t,
+    font: &F,
+) -> Result<bool, AllocError>
+    requires { buffer.old.have_output ≡ false }
+    ensures closed { IfOk result (λ done. done ≡ true → buffer.new.have_output ≡ false) }
+    ensures keeps { KeepsNumbers buffer.old buffer.new }
+{
+    if let Some(glyph) = font.glyph_of(DOTTED_CIRCLE) {
+        let circle = Circle {
+            glyph,
+            category: Category::DottedCircle as u8,
+            position: Position::Start,
+            repha: None,
+            broken: BROKEN,
+        };
+        if !insert_dotted_circles(buffer, &circle)? {
+            return Ok(false);
+        }
+    }
+    order_syllables(buffer);
+    Ok(true)
+}

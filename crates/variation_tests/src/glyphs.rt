@@ -1,0 +1,79 @@
+//! Tests of `glyph_variations`: a triangle whose corner and advance move to the right.
+use font_tables::metrics::Metrics;
+use glyph_outlines::GlyfTables;
+use glyph_variations::{GlyphSources, GlyphVariations, Point, varied_outline, varied_phantoms};
+use rb_common::GlyphId;
+
+/// A triangle from the origin to 100 across and 100 up.
+static GLYF: [u8; 20] = [
+    0, 1, 0, 0, 0, 0, 0, 100, 0, 100, 0, 2, 0, 0, 0x31, 0x33, 0x27, 100, 100, 100,
+];
+
+static LOCA: [u8; 4] = [0, 0, 0, 10];
+
+/// An advance of 120, and no bearing.
+static HMTX: [u8; 4] = [0, 120, 0, 0];
+
+/// A tuple with a shared peak at the greatest coordinate: the second point moves by 10, and the advance by 20.
+static GVAR: [u8; 44] = [
+    0, 1, 0, 0, 0, 1, 0, 1, 0, 0, 0, 24, 0, 1, 0, 0, 0, 0, 0, 26, //
+    0, 0, 0, 9, //
+    0x40, 0, //
+    0, 1, 0, 8, 0, 9, 0, 0, 6, 0, 10, 0, 0, 20, 0, 0, 0x86, 0,
+];
+
+/// The tables of the font, with these variations.
+fn sources(gvar: &[u8]) -> GlyphSources<'_> {
+    GlyphSources {
+        outlines: GlyfTables {
+            glyf: &GLYF,
+            loca: &LOCA,
+            has_long_offsets: false,
+            glyph_count: 1,
+        },
+        variations: GlyphVariations::new(gvar, 1),
+        horizontal: Metrics::new(&HMTX, 1, 1, 500),
+        vertical: Metrics::new(&[], 0, 1, 1000),
+    }
+}
+
+/// Coordinates, and where the advance ends.
+static ADVANCES: [(i32, f32); 4] = [(0, 120.0), (8192, 130.0), (16384, 140.0), (-8192, 120.0)];
+
+#[test]
+fn the_advance_moves(rt: HostRuntime) {
+    for &(at, right) in &ADVANCES {
+        let Some(phantoms) = varied_phantoms(&sources(&GVAR), GlyphId(0), &[at]) else {
+            panic!(rt; "the font has the glyph")
+        };
+        assert!(rt; phantoms.left == Point { x: 0.0, y: 0.0 });
+        assert!(rt; phantoms.right == Point { x: right, y: 0.0 });
+        assert!(rt; phantoms.top == Point { x: 0.0, y: 100.0 });
+        assert!(rt; phantoms.bottom == Point { x: 0.0, y: -900.0 });
+    }
+    assert!(rt; varied_phantoms(&sources(&GVAR), GlyphId(1), &[0]) == None);
+    let still = varied_phantoms(&sources(&[]), GlyphId(0), &[16384]);
+    assert!(rt; still.map(|phantoms| phantoms.right.x) == Some(120.0));
+}
+
+#[test]
+fn the_box_grows(rt: HostRuntime) {
+    let found = varied_outline(rt.alloc(), &sources(&GVAR), GlyphId(0), &[16384]);
+    let Ok(Some(outline)) = found else {
+        panic!(rt; "the font has the glyph")
+    };
+    assert!(rt; outline.extents.x_bearing == 0);
+    assert!(rt; outline.extents.y_bearing == 100);
+    assert!(rt; outline.extents.width == 110);
+    assert!(rt; outline.extents.height == -100);
+    assert!(rt; outline.phantoms.right == Point { x: 140.0, y: 0.0 });
+}
+
+#[test]
+fn points_move(rt: HostRuntime) {
+    let point = Point { x: 3.0, y: 5.0 };
+    let by = Point { x: 1.0, y: 2.0 };
+    assert!(rt; point.moved(by) == Point { x: 4.0, y: 7.0 });
+    assert!(rt; point.times(2.0) == Point { x: 6.0, y: 10.0 });
+    assert!(rt; point.from(by) == Point { x: 2.0, y: 3.0 });
+}

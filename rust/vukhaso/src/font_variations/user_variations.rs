@@ -1,0 +1,67 @@
+// Written by tools/plain_rust from crates/font_variations. Do not edit.
+
+//! The variations that a user chooses, each a value on an axis.
+
+use crate::common::Tag;
+use crate::font_variations::axes::{Axis, VariationAxes};
+
+/// A value on an axis of a font: HarfBuzz's `hb_variation_t`.
+#[derive(Clone, Copy, PartialEq, Debug)]
+pub struct Variation {
+    /// The tag of the axis.
+    pub tag: Tag,
+    /// The value, in the units of the axis.
+    pub value: f32,
+}
+
+/// The value on an axis: the last one that is chosen with its tag, else that of a named instance, and
+/// else the default.
+///
+/// # Proved
+///
+/// ```text
+/// ensures { result ≡ value_on axes.now number axis.now instance variations.now }
+/// ```
+#[inline]
+pub fn value_on(
+    axes: &VariationAxes<'_>,
+    number: u16,
+    axis: &Axis,
+    instance: Option<u32>,
+    variations: &[Variation],
+) -> f32 {
+    match last_with_tag(variations, axis.tag) {
+        Some(value) => value,
+        None => match instance {
+            Some(instance) => axes
+                .instance_value(instance, number)
+                .unwrap_or(axis.default),
+            None => axis.default,
+        },
+    }
+}
+
+/// The last value that is chosen with a tag.
+///
+/// # Proved
+///
+/// ```text
+/// ensures { result ≡ last_with_tag variations.now tag.0 }
+/// ```
+#[inline]
+pub fn last_with_tag(variations: &[Variation], tag: Tag) -> Option<f32> {
+    let mut found = None;
+    for variation in variations {
+        found = value_for(tag, variation).or(found);
+    }
+    found
+}
+
+/// The value of a variation, if it is for a tag.
+fn value_for(tag: Tag, variation: &Variation) -> Option<f32> {
+    if variation.tag == tag {
+        Some(variation.value)
+    } else {
+        None
+    }
+}

@@ -1,0 +1,87 @@
+// Written by tools/plain_rust from crates/glyph_variations. Do not edit.
+
+//! Packed deltas (OpenType specification, "OpenType Font Variations Common Table Formats", "Packed deltas").
+
+use crate::font_tables::bytes::{i16_at, tail, u8_at, u32_at};
+
+/// A list of deltas, which is read delta by delta.
+#[derive(Clone, Copy, Debug)]
+pub(crate) struct PackedDeltas<'a> {
+    /// What is not read yet.
+    rest: &'a [u8],
+    /// How many deltas are not read yet.
+    left: u32,
+    /// How many of them are left in the run.
+    run: u32,
+    /// How many bytes each of the run has; a delta without bytes is 0.
+    size: usize,
+}
+
+impl<'a> PackedDeltas<'a> {
+    /// The list of so many deltas at the front of these bytes.
+    pub(crate) fn new(bytes: &'a [u8], count: u32) -> Self {
+        PackedDeltas {
+            rest: bytes,
+            left: count,
+            run: 0,
+            size: 0,
+        }
+    }
+
+    /// How many deltas are not read yet.
+    pub(crate) fn left(&self) -> u32 {
+        self.left
+    }
+
+    /// The next delta; `None` where there is none, or the list is broken.
+    pub(crate) fn next(&mut self) -> Option<i32> {
+        if self.left == 0 {
+            return None;
+        }
+        if self.run == 0 {
+            self.begin_run()?;
+        }
+        let delta = delta_of_size(self.size, self.rest)?;
+        self.rest = tail(self.rest, self.size);
+        self.run = self.run.saturating_sub(1);
+        self.left -= 1;
+        Some(delta)
+    }
+
+    /// Begins the next run, which may not be longer than what is left.
+    fn begin_run(&mut self) -> Option<()> {
+        let control = u8_at(self.rest, 0)?;
+        self.run = u32::from(control % 64) + 1;
+        self.size = delta_size(control);
+        self.rest = tail(self.rest, 1);
+        if self.run > self.left { None } else { Some(()) }
+    }
+
+    /// What follows the list; `None` where it is broken.
+    pub(crate) fn behind(mut self) -> Option<&'a [u8]> {
+        for _ in 0..self.left {
+            self.next()?;
+        }
+        Some(self.rest)
+    }
+}
+
+/// How many bytes each delta of a run has, by the byte before the run.
+fn delta_size(control: u8) -> usize {
+    match control {
+        0..=63 => 1,
+        64..=127 => 2,
+        128..=191 => 0,
+        _ => 4,
+    }
+}
+
+/// The delta of so many bytes at the front.
+fn delta_of_size(size: usize, bytes: &[u8]) -> Option<i32> {
+    match size {
+        0 => Some(0),
+        1 => Some(i32::from(u8_at(bytes, 0)?.cast_signed())),
+        2 => Some(i32::from(i16_at(bytes, 0)?)),
+        _ => Some(u32_at(bytes, 0)?.cast_signed()),
+    }
+}

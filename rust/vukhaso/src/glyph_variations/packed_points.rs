@@ -1,0 +1,91 @@
+// Written by tools/plain_rust from crates/glyph_variations. Do not edit.
+
+//! Packed numbers of points (OpenType specification, "OpenType Font Variations Common Table Formats", "Packed point numbers").
+
+use crate::font_tables::bytes::{tail, u8_at, u16_at};
+
+/// A list of numbers of points, which is read number by number.
+#[derive(Clone, Copy, Debug)]
+pub(crate) struct PackedPoints<'a> {
+    /// What is not read yet.
+    rest: &'a [u8],
+    /// How many numbers are not read yet.
+    left: u16,
+    /// How many of them are left in the run.
+    run: u16,
+    /// Whether those of the run have two bytes each, and not one.
+    is_wide: bool,
+    /// The number that was read last.
+    point: u32,
+}
+
+impl<'a> PackedPoints<'a> {
+    /// A list of no numbers.
+    pub(crate) const NONE: PackedPoints<'static> = PackedPoints {
+        rest: &[],
+        left: 0,
+        run: 0,
+        is_wide: false,
+        point: 0,
+    };
+
+    /// The list at the front of these bytes; `None` where its count is cut short.
+    pub(crate) fn new(bytes: &'a [u8]) -> Option<Self> {
+        let first = u16::from(u8_at(bytes, 0)?);
+        let (left, size) = if first < 128 {
+            (first, 1)
+        } else {
+            ((first - 128) * 256 + u16::from(u8_at(bytes, 1)?), 2)
+        };
+        Some(PackedPoints {
+            rest: tail(bytes, size),
+            left,
+            run: 0,
+            is_wide: false,
+            point: 0,
+        })
+    }
+
+    /// How many numbers are not read yet. A list that has none at its beginning stands for all points.
+    pub(crate) fn left(&self) -> u16 {
+        self.left
+    }
+
+    /// The next number, which is not below the one before it; `None` where there is none, or the list is
+    /// broken.
+    pub(crate) fn next(&mut self) -> Option<u32> {
+        if self.left == 0 {
+            return None;
+        }
+        if self.run == 0 {
+            self.begin_run()?;
+        }
+        let (step, size) = if self.is_wide {
+            (u32::from(u16_at(self.rest, 0)?), 2)
+        } else {
+            (u32::from(u8_at(self.rest, 0)?), 1)
+        };
+        self.rest = tail(self.rest, size);
+        self.run = self.run.saturating_sub(1);
+        self.left -= 1;
+        self.point = self.point.saturating_add(step);
+        Some(self.point)
+    }
+
+    /// Begins the next run, which may not be longer than what is left.
+    fn begin_run(&mut self) -> Option<()> {
+        let control = u8_at(self.rest, 0)?;
+        self.run = u16::from(control % 128) + 1;
+        self.is_wide = control >= 128;
+        self.rest = tail(self.rest, 1);
+        if self.run > self.left { None } else { Some(()) }
+    }
+
+    /// What follows the list; `None` where it is broken.
+    pub(crate) fn behind(mut self) -> Option<&'a [u8]> {
+        for _ in 0..self.left {
+            self.next()?;
+        }
+        Some(self.rest)
+    }
+}

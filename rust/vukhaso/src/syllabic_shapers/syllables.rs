@@ -1,0 +1,119 @@
+// Written by tools/plain_rust from crates/syllabic_shapers. Do not edit.
+
+//! The syllables of a text.
+
+use crate::buffer::{HB_BUFFER_SCRATCH_FLAG_HAS_BROKEN_SYLLABLE, hb_buffer_t, hb_glyph_info_t};
+use crate::glyph_lists::groups::group_end;
+use crate::syllabic_shapers::machine::Machine;
+use core::ops::Range;
+
+/// A number that no kind of syllables has.
+pub(crate) const NO_KIND: u8 = 15;
+
+/// Finds the syllables of a text, and flags each as unsafe to break: each item keeps the number and the
+/// kind of its syllable.
+///
+/// # Requires
+///
+/// - `buffer.old.have_output ≡ false`
+pub(crate) fn find_syllables(buffer: &mut hb_buffer_t, machine: &Machine) {
+    debug_assert!(!buffer.have_output());
+    if number_items(buffer, machine) {
+        buffer.scratch_flags = buffer.scratch_flags | HB_BUFFER_SCRATCH_FLAG_HAS_BROKEN_SYLLABLE;
+    }
+    flag_syllables(buffer);
+}
+
+/// Lets each item keep the number and the kind of its syllable. Whether one is broken.
+///
+/// # Requires
+///
+/// - `buffer.old.have_output ≡ false`
+fn number_items(buffer: &mut hb_buffer_t, machine: &Machine) -> bool {
+    debug_assert!(!buffer.have_output());
+    number_syllables(buffer.info_slice_mut(), machine)
+}
+
+/// Does that with the items of a list.
+fn number_syllables(infos: &mut [hb_glyph_info_t], machine: &Machine) -> bool {
+    let mut has_broken = false;
+    let mut start = machine.passed_count(infos);
+    let mut serial = 1;
+    for _turn in 0..infos.len() {
+        if start >= infos.len() {
+            break;
+        }
+        let found = machine.first_syllable(&mut infos[start..]);
+        let end = start.saturating_add(found.length);
+        set_syllable(infos, start, end, serial % 16 * 16 + found.kind % 16);
+        has_broken = has_broken || found.kind == machine.broken;
+        start = end;
+        serial = if serial == 15 { 1 } else { serial + 1 };
+    }
+    has_broken
+}
+
+/// Gives the items from `start` to `end` the number of a syllable, with its kind.
+fn set_syllable(infos: &mut [hb_glyph_info_t], start: usize, end: usize, number: u8) {
+    for place in start..end.min(infos.len()) {
+        infos[place].set_syllable(number);
+    }
+}
+
+/// Flags each syllable as unsafe to break.
+///
+/// # Requires
+///
+/// - `buffer.old.have_output ≡ false`
+fn flag_syllables(buffer: &mut hb_buffer_t) {
+    debug_assert!(!buffer.have_output());
+    let mut start = 0;
+    for _turn in 0..buffer.len() {
+        if start >= buffer.len() {
+            break;
+        }
+        let end = buffer.next_syllable(start);
+        buffer.unsafe_to_break(Some(start), Some(end));
+        start = end;
+    }
+}
+
+/// The end of the syllable that the item at a place is in.
+///
+/// # Requires
+///
+/// - `start < length infos.now`
+pub(crate) fn syllable_end(infos: &[hb_glyph_info_t], start: usize) -> usize {
+    debug_assert!(start < infos.len());
+    group_end(infos, start, &|a, b| a.syllable() == b.syllable())
+}
+
+/// The kind of the syllable that an item is in.
+pub(crate) fn kind_of(info: &hb_glyph_info_t) -> u8 {
+    info.syllable() % 16
+}
+
+/// The kind of the syllable that the item at a place is in; that of none where there is no item.
+pub(crate) fn kind_at(infos: &[hb_glyph_info_t], place: usize) -> u8 {
+    match infos.get(place) {
+        Some(info) => kind_of(info),
+        None => NO_KIND,
+    }
+}
+
+/// The items of a range; none where it does not lie in the list.
+pub(crate) fn syllable<'a>(
+    infos: &'a [hb_glyph_info_t],
+    range: &Range<usize>,
+) -> &'a [hb_glyph_info_t] {
+    infos.get(range.start..range.end).unwrap_or(&[])
+}
+
+/// A range; one of nothing where it does not lie in a list of so many items.
+pub(crate) fn within(range: &Range<usize>, count: usize) -> Range<usize> {
+    if range.start <= range.end && range.end <= count {
+        range.start..range.end
+    } else {
+        0..0
+    }
+}

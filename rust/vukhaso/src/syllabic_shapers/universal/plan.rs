@@ -1,0 +1,119 @@
+// Written by tools/plain_rust from crates/syllabic_shapers. Do not edit.
+
+//! How a text of the universal shaper is shaped by a font.
+
+use crate::buffer::hb_buffer_t;
+use crate::memory::AllocError;
+use crate::syllabic_shapers::category::position::Position;
+use crate::syllabic_shapers::dotted_circle::{Circle, DOTTED_CIRCLE, insert_dotted_circles};
+use crate::syllabic_shapers::font::FontForms;
+use crate::syllabic_shapers::machine::Machine;
+use crate::syllabic_shapers::plan::SyllablePause;
+use crate::syllabic_shapers::syllables::find_syllables;
+use crate::syllabic_shapers::universal::category::UniversalCategory;
+use crate::syllabic_shapers::universal::item::mark_passed_over;
+use crate::syllabic_shapers::universal::machine_rows::{ENDS, NEXT, OTHER, WIDTH};
+use crate::syllabic_shapers::universal::masks::{mask_forms, mask_rephs};
+use crate::syllabic_shapers::universal::order::order_syllables;
+use crate::syllabic_shapers::universal::recorded::{
+    forget_substitutions, record_prefs, record_rephs,
+};
+
+/// The kind of syllables without a base.
+pub(crate) const BROKEN: u8 = 7;
+
+/// How a text of the universal shaper is shaped by a font.
+#[derive(Clone, Copy, PartialEq, Eq, Debug, Default)]
+pub struct UniversalPlan {
+    /// The mask of rephs.
+    pub rphf: u32,
+    /// The masks of a syllable that stands alone, of the first of a word, of one within it and of the last; 0 where the font does not
+    /// have the feature, and all 0 where letters join by themselves.
+    pub forms: FormMasks,
+}
+
+/// The masks of syllables by where they stand in a word.
+#[derive(Clone, Copy, PartialEq, Eq, Debug, Default)]
+pub struct FormMasks {
+    /// Alone.
+    pub isol: u32,
+    /// The first.
+    pub init: u32,
+    /// Within the word.
+    pub medi: u32,
+    /// The last.
+    pub fina: u32,
+}
+
+impl UniversalPlan {
+    /// What is done at a pause.
+    ///
+    /// # Requires
+    ///
+    /// - `buffer.old.have_output ≡ false`
+    ///
+    /// # Errors
+    ///
+    /// `Ok(false)` where the text would become too long.
+    pub(crate) fn pause<F: FontForms>(
+        &self,
+        buffer: &mut hb_buffer_t,
+        font: &F,
+        pause: SyllablePause,
+    ) -> Result<bool, AllocError> {
+        debug_assert!(!buffer.have_output());
+        match pause {
+            SyllablePause::SetUp => self.setup_syllables(buffer),
+            SyllablePause::ForgetSubstitutions => forget_substitutions(buffer),
+            SyllablePause::RecordRphf => record_rephs(buffer, self.rphf),
+            SyllablePause::RecordPref => record_prefs(buffer),
+            SyllablePause::InitialReordering => return reordering(buffer, font),
+            SyllablePause::FinalReordering => {}
+        }
+        Ok(true)
+    }
+
+    /// Finds the syllables, before the first lookups.
+    ///
+    /// # Requires
+    ///
+    /// - `buffer.old.have_output ≡ false`
+    fn setup_syllables(&self, buffer: &mut hb_buffer_t) {
+        debug_assert!(!buffer.have_output());
+        let machine = Machine {
+            next: &NEXT,
+            width: WIDTH,
+            ends: &ENDS,
+            other: OTHER,
+            broken: BROKEN,
+            passes_over: true,
+        };
+        mark_passed_over(buffer);
+        find_syllables(buffer, &machine);
+        mask_rephs(buffer, self.rphf);
+        mask_forms(buffer, &self.forms);
+    }
+}
+
+/// Puts the glyphs of each syllable in order.
+///
+/// # Requires
+///
+/// - `buffer.old.have_output ≡ false`
+fn reordering<F: FontForms>(buffer: &mut hb_buffer_t, font: &F) -> Result<bool, AllocError> {
+    debug_assert!(!buffer.have_output());
+    if let Some(glyph) = font.glyph_of(DOTTED_CIRCLE) {
+        let circle = Circle {
+            glyph,
+            category: UniversalCategory::Base as u8,
+            position: Position::Start,
+            repha: Some(UniversalCategory::Repha as u8),
+            broken: BROKEN,
+        };
+        if !insert_dotted_circles(buffer, &circle)? {
+            return Ok(false);
+        }
+    }
+    order_syllables(buffer);
+    Ok(true)
+}

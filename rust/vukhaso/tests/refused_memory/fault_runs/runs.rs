@@ -1,8 +1,0 @@
-// Written by tools/plain_rust from crates/fault_runs. Do not edit.
-
-//! The lists of calls that are watched.
-
-pub mod apart;
-pub mod in_place;
-pub mod whole;
-pub mod within_room;
