@@ -1,21 +1,21 @@
-"""What `properties.rattle` prints of ours, beside what HarfBuzz prints: values of all code points, pairs, scripts, Hangul, reversals."""
+"""What `unicode_properties` prints of ours, beside what HarfBuzz prints: values of all code points, pairs, scripts, Hangul, reversals."""
 
 import collections
 import re
-import shutil
 import subprocess
 import sys
-import tempfile
 from pathlib import Path
 
 HERE = Path(__file__).resolve().parent
 ROOT = HERE.parent.parent
 UNASSIGNED = 2
+CATEGORIES = "Cc Cf Cn Co Cs Ll Lm Lo Lt Lu Mc Me Mn Nd Nl No Pc Pd Pe Pf Pi Po Ps Sc Sk Sm So Zl Zp Zs".split()
+DIRECTIONS = {0: "either way", 4: "from left to right", 5: "from right to left"}
 NO_CHARACTERS = range(0xD800, 0xE000)
 # Syllables of Hangul are compared by a property of their own.
 HANGUL = range(0xAC00, 0xD7A4)
 # The program is too long for the interpreter of `rt try`, which gives up after so many steps. The compiled one has so many seconds.
-TRY = ["rt", "try", "--steps", "1000", "--seconds", "600"]
+TRY = ["rt", "try", "--steps", "1000", "--seconds", "600", "--", "directions", "characters", "hangul", "tables", "reversals"]
 
 # What may differ, by the property and the number that is asked for. docs/DIFFERENCES.md has a line for each.
 NEWER = "unassigned in Unicode 16, which HarfBuzz has, and not in Unicode 18, which the kit has"
@@ -31,36 +31,11 @@ KNOWN = {
 }
 
 
-def rows_up_to(*names):
-    """The rows of crates.txt for some crates and those of this repository that they stand on."""
-    rows = [row for row in (ROOT / "crates.txt").read_text().splitlines() if not row.startswith("#")]
-    below = {row.split(":")[0]: row.split(":")[1].split() for row in rows}
-    wanted = [*names]
-    for crate in wanted:
-        wanted += [it for it in below[crate] if it in below and it not in wanted]
-    return {row.split(":")[0]: row for row in rows if row.split(":")[0] in wanted}
-
-
-def make_repository(root):
-    """A repository of the crates that `properties.rattle` needs, and of that program."""
-    rows = rows_up_to("shaping_buffer", "unicode_tables")
-    for name in rows:
-        shutil.copytree(ROOT / "crates" / name, root / "crates" / name, ignore=shutil.ignore_patterns("out", "must-fail"))
-    shutil.copy(ROOT / "HANDLES", root)
-    source = root / "crates/properties/src"
-    source.mkdir(parents=True)
-    shutil.copy(HERE / "properties.rattle", source / "main.rt")
-    program = "properties: shaping_buffer unicode_tables rb_glyph rb_common"
-    (root / "crates.txt").write_text("\n".join([*rows.values(), program, ""]))
-
-
 def our_lines():
-    with tempfile.TemporaryDirectory(prefix="vukhaso-properties") as folder:
-        make_repository(Path(folder))
-        print("running properties.rattle ..", file=sys.stderr)
-        done = subprocess.run(TRY, cwd=Path(folder, "crates/properties"), capture_output=True, text=True)
+    print("running unicode_properties ..", file=sys.stderr)
+    done = subprocess.run(TRY, cwd=ROOT / "crates/unicode_properties", capture_output=True, text=True)
     if done.returncode or "ended status=0" not in done.stdout + done.stderr:
-        sys.exit(f"{done.stdout[-2000:]}{done.stderr[-2000:]}properties.rattle did not run")
+        sys.exit(f"{done.stdout[-2000:]}{done.stderr[-2000:]}unicode_properties did not run")
     return [line for line in done.stdout.splitlines() if re.match(r"[a-z_]+ [0-9a-f]+( |$)", line)]
 
 
@@ -109,6 +84,16 @@ def question(name, number, asked):
     return f"{asked[0][first]:x} {asked[1][second]:x}"
 
 
+def shown(name, answer):
+    """An answer by its name: a category by Unicode's letters, a script by its tag, a direction by its way."""
+    if answer is None or name not in ("category", "script", "direction"):
+        return answer
+    number = int(answer, 16)
+    if name == "script":
+        return number.to_bytes(4, "big").decode("latin-1")
+    return CATEGORIES[number] if name == "category" else DIRECTIONS[number]
+
+
 def compare_property(name, ours, theirs, unassigned, asked):
     """Prints how many answers were compared, and what differs by its kind. Whether one differs for no known reason."""
     by_kind = collections.defaultdict(list)
@@ -119,7 +104,7 @@ def compare_property(name, ours, theirs, unassigned, asked):
     for kind, numbers in by_kind.items():
         left, right = found[numbers[0]]
         print(f"    {len(numbers)}: {kind or 'for no known reason'}\n"
-              f"    first {question(name, numbers[0], asked)}: ours {left}, theirs {right}")
+              f"    first {question(name, numbers[0], asked)}: ours {shown(name, left)}, theirs {shown(name, right)}")
     return None in by_kind
 
 

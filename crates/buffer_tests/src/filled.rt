@@ -19,7 +19,7 @@ const LIMIT: usize = 130;
 #[derive(Clone, Copy)]
 struct Filled<'a> {
     before: &'a [(usize, Call<'a>)],
-    apart: (usize, usize),
+    separate: (usize, usize),
     last: Call<'a>,
     sides: (usize, usize),
     ends: (u32, u32),
@@ -71,7 +71,7 @@ fn assert_filled(rt: &impl Abort, alloc: Global, run: &Filled<'_>) -> Result<(),
     for (times, call) in run.before {
         make(rt, &mut buffer, *times, *call);
     }
-    assert!(rt; buffer.have_separate_output() && sides(&buffer) == run.apart);
+    assert!(rt; buffer.have_separate_output() && sides(&buffer) == run.separate);
     make(rt, &mut buffer, 1, run.last);
     assert!(rt; sides(&buffer) == run.sides);
     assert_ends(rt, &buffer, run.ends);

@@ -13,11 +13,11 @@ fn buffer_of(rt: &impl Abort, alloc: Global, glyphs: &[(u32, u32)]) -> hb_buffer
     for (glyph, (_, mask)) in buffer.info_slice_mut().iter_mut().zip(glyphs) {
         glyph.mask = *mask;
     }
-    place(rt, &mut buffer);
+    set_advances(rt, &mut buffer);
     buffer
 }
 
-fn place(rt: &impl Abort, buffer: &mut hb_buffer_t) {
+fn set_advances(rt: &impl Abort, buffer: &mut hb_buffer_t) {
     assert!(rt; !buffer.have_output());
     buffer.clear_positions();
     for (pos, advance) in buffer.pos_mut().iter_mut().zip([10, 20, 30, 40, 50]) {

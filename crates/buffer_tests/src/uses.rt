@@ -123,7 +123,7 @@ fn refused(rt: &impl Abort, alloc: Global, text: &str) -> hb_buffer_t {
 }
 
 /// Advances of 10, 20 and so on.
-fn place(rt: &impl Abort, buffer: &mut hb_buffer_t) {
+fn set_advances(rt: &impl Abort, buffer: &mut hb_buffer_t) {
     assert!(rt; !buffer.have_output());
     buffer.clear_positions();
     for (position, advance) in buffer.pos_mut().iter_mut().zip([10, 20, 30, 40, 50]) {
@@ -136,7 +136,7 @@ fn place(rt: &impl Abort, buffer: &mut hb_buffer_t) {
 fn clusters_change_places(rt: HostRuntime) {
     let mut buffer = buffer_of(&rt, rt.alloc(), "abcd");
     merge_middle(&rt, &mut buffer);
-    place(&rt, &mut buffer);
+    set_advances(&rt, &mut buffer);
     assert_cluster_count(&rt, &buffer, 3);
     assert!(rt; !buffer.have_output());
     reverse_clusters(&mut buffer);
@@ -165,7 +165,7 @@ fn marks_stay_behind_their_bases(rt: HostRuntime) {
 
 fn assert_reversed(rt: &impl Abort, alloc: Global, merge: bool, clusters: &[u32]) {
     let mut buffer = buffer_of(rt, alloc, "ae\u{301}b");
-    place(rt, &mut buffer);
+    set_advances(rt, &mut buffer);
     assert!(rt; !buffer.have_output());
     reverse_with_marks(&mut buffer, &[0x300, 0x301], merge);
     assert_ids(rt, buffer.info(), &[98, 101, 0x301, 97]);

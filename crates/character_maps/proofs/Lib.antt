@@ -1,2 +1,8 @@
+-- Why a character has the glyph that its map gives.
+--
+-- The first subtable of a list of encodings that there is, in their order, is chosen (`First`). Each format computes,
+-- over the searches of `font_tables`; a row that lies outside of the table has no number, so it is no row that rises
+-- (`Outside`).
+
 pub mod Outside
 pub mod First

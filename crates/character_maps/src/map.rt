@@ -1,6 +1,6 @@
 //! The map from characters to glyphs.
 
-ghost use Rattle.std.specs.Prelude.{◌≡◌, IsTrue, option_map, option_and_then};
+ghost use Rattle.std.specs.Prelude.{◌≡◌, ◌<◌, ℕ, None, IsTrue, get_or, option_map, option_and_then};
 ghost use Rattle.character_maps.specs.Choice.{chosen_subtable, chosen_encoding, variation_subtable};
 ghost use Rattle.character_maps.specs.Codes.{glyph_index, glyph_variation_index};
 ghost use Rattle.character_maps.specs.Rising.{RowsRise, VariationsRise};
@@ -13,6 +13,51 @@ use crate::subtable::{rows_rise, subtable_glyph};
 use crate::variations::{GlyphVariant, glyph_variant, variations_rise};
 use rb_common::GlyphId;
 
+/// The characters of the block Basic Latin, whose glyphs are found once.
+const FIRST_COUNT: usize = 128;
+
+/// A subtable, and what its codes stand for.
+#[derive(Clone, Copy)]
+struct Codes<'a> {
+    subtable: &'a [u8],
+    encoding: Encoding,
+    rows_rise: bool,
+    ghost rows: { IsTrue rows_rise → RowsRise subtable.now },
+}
+
+impl Codes<'_> {
+    /// The glyph of a character.
+    #[tactic(auto, unfolding(crate::specs::Codes::glyph_index))]
+    fn glyph_of(&self, character: u32) -> Option<u16>
+        ensures { result ≡ glyph_index self.now.subtable.now self.now.encoding character }
+    {
+        match self.glyph_of_code(own_code(self.encoding, character)) {
+            Some(glyph) => Some(glyph),
+            None => self.glyph_of_code(other_code(self.encoding, character)),
+        }
+    }
+
+    /// The glyph of a code, if there is a code.
+    fn glyph_of_code(&self, code: Option<u32>) -> Option<u16>
+        ensures { result ≡ option_and_then (subtable_glyph self.now.subtable.now) code }
+    {
+        let code = code?;
+        subtable_glyph(self.subtable, code, self.rows_rise)
+    }
+}
+
+/// The glyphs of the first characters.
+fn first_glyphs(codes: &Codes<'_>) -> [Option<u16>; FIRST_COUNT]
+    ensures { (character : ℕ) → character < 128
+        → get_or result character None ≡ glyph_index codes.now.subtable.now codes.now.encoding character }
+{
+    let mut glyphs = [None; FIRST_COUNT];
+    for character in 0..FIRST_COUNT {
+        glyphs[character] = codes.glyph_of(character as u32);
+    }
+    glyphs
+}
+
 /// The map from characters to glyphs of a font (OpenType specification, `cmap`).
 #[derive(Clone, Copy, Debug)]
 pub struct CharacterMap<'a> {
@@ -24,6 +69,9 @@ pub struct CharacterMap<'a> {
     pub variations: &'a [u8],
     rows_rise: bool,
     variations_rise: bool,
+    first_glyphs: [Option<u16>; FIRST_COUNT],
+    ghost firsts: { (character : ℕ) → character < 128
+        → get_or first_glyphs character None ≡ glyph_index subtable.now encoding character },
     ghost rows: { IsTrue rows_rise → RowsRise subtable.now },
     ghost selectors: { IsTrue variations_rise → VariationsRise variations.now },
 }
@@ -42,35 +90,44 @@ impl<'a> CharacterMap<'a> {
         ensures variations { result.variations.now ≡ variation_subtable cmap.now }
     {
         let choice = choose(cmap, font_page);
-        let variations = variation_subtable(cmap);
-        CharacterMap {
+        let codes = Codes {
             subtable: choice.subtable,
             encoding: choice.encoding,
-            variations,
             rows_rise: rows_rise(choice.subtable),
+        };
+        let variations = variation_subtable(cmap);
+        CharacterMap {
+            subtable: codes.subtable,
+            encoding: codes.encoding,
+            variations,
+            rows_rise: codes.rows_rise,
             variations_rise: variations_rise(variations),
+            first_glyphs: first_glyphs(&codes),
         }
     }
 
     /// The glyph of a character; `None` where the font has none.
-    #[tactic(auto, unfolding(crate::specs::Codes::glyph_index))]
     pub fn glyph_index(&self, character: u32) -> Option<GlyphId>
         ensures { option_map (λ glyph. glyph.0) result
             ≡ glyph_index self.now.subtable.now self.now.encoding character }
     {
-        let glyph = match self.glyph_of_code(own_code(self.encoding, character)) {
-            Some(glyph) => Some(glyph),
-            None => self.glyph_of_code(other_code(self.encoding, character)),
+        let glyph = match self.first_glyphs.get(character as usize) {
+            Some(glyph) => *glyph,
+            None => self.codes().glyph_of(character),
         };
         glyph.map(GlyphId)
     }
 
-    /// The glyph of a code, if there is a code.
-    fn glyph_of_code(&self, code: Option<u32>) -> Option<u16>
-        ensures { result ≡ option_and_then (subtable_glyph self.now.subtable.now) code }
+    /// How a glyph is found.
+    fn codes(&self) -> Codes<'a>
+        ensures subtable { result.subtable.now ≡ self.now.subtable.now }
+        ensures encoding { result.encoding ≡ self.now.encoding }
     {
-        let code = code?;
-        subtable_glyph(self.subtable, code, self.rows_rise)
+        Codes {
+            subtable: self.subtable,
+            encoding: self.encoding,
+            rows_rise: self.rows_rise,
+        }
     }
 
     /// What the font says of a character before a variation selector.

@@ -1,15 +1,15 @@
 //! Segments of codes (OpenType specification, `cmap`, "Format 4").
 
 ghost use Rattle.std.specs.Prelude.{◌≡◌, ◌<◌, ◌^◌, IsTrue};
-ghost use Rattle.font_tables.specs.Rows.{Rises};
+ghost use Rattle.font_tables.specs.Rows.{Rises, first_row};
 ghost use Rattle.character_maps.specs.Subtables.{segment_count, segment_end, number_of_list};
 ghost use Rattle.character_maps.specs.Subtables.{glyph_behind_range_offset, with_delta, glyph_in_segment};
 ghost use Rattle.character_maps.specs.Subtables.{segment_glyph, segments_glyph};
 
 use crate::arrays::some_glyph;
 use crate::counts::count_16;
-use font_tables::bytes::u16_at;
-use font_tables::rows::{Keys16, first_row, rises};
+use font_tables::bytes::{tail, u16_at};
+use font_tables::rows::{Keys16, Numbers16, first_row, rises};
 
 /// The segments' ends, in their order.
 fn ends(table: &[u8]) -> Keys16<'_>
@@ -122,12 +122,26 @@ fn segment_glyph(table: &[u8], code: u32, row: usize) -> Option<u16>
     glyph_in_segment(table, code, &segment)
 }
 
+/// The first segment that reaches a code.
+fn first_segment(table: &[u8], code: u32, are_rising: bool) -> Option<usize>
+    requires { IsTrue are_rising → Rises (segment_end table.now) (segment_count table.now) }
+    ensures { result ≡ first_row (segment_end table.now) code (segment_count table.now) }
+{
+    let count = segment_count(table);
+    let (numbers, _) = tail(table, 14).as_chunks::<2>();
+    if count <= numbers.len() {
+        first_row(&Numbers16(numbers), count, code, are_rising)
+    } else {
+        first_row(&ends(table), count, code, are_rising)
+    }
+}
+
 /// The glyph of a code by format 4.
 #[tactic(auto, unfolding(crate::specs::Subtables::segments_glyph))]
 pub(crate) fn segments_glyph(table: &[u8], code: u32, are_rising: bool) -> Option<u16>
     requires { IsTrue are_rising → Rises (segment_end table.now) (segment_count table.now) }
     ensures { result ≡ segments_glyph table.now code }
 {
-    let row = first_row(&ends(table), segment_count(table), code, are_rising)?;
+    let row = first_segment(table, code, are_rising)?;
     segment_glyph(table, code, row)
 }

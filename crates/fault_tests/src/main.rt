@@ -8,8 +8,8 @@ use growth::GROWTHS;
 use program::Program;
 use rendered::RENDERED;
 use run::Run;
-use runs::apart::{APART_RUNS, BECOMING};
 use runs::in_place::IN_PLACE;
+use runs::separate::{BECOMING, SEPARATE_RUNS};
 use runs::whole::WHOLE;
 use runs::within_room::WITHIN_ROOM;
 use said::{Made, Tags, Told};
@@ -39,7 +39,7 @@ fn tell_all<S: Scenario>(rt: &impl Print, alloc: Global, scenarios: &[S]) -> io:
 
 fn main(rt: HostRuntime) -> io::Result<()> {
     tell_all(&rt, rt.alloc(), &GROWTHS)?;
-    let runs: [&[Run<'_>]; 5] = [&IN_PLACE, &BECOMING, &APART_RUNS, &WITHIN_ROOM, &WHOLE];
+    let runs: [&[Run<'_>]; 5] = [&IN_PLACE, &BECOMING, &SEPARATE_RUNS, &WITHIN_ROOM, &WHOLE];
     for runs in runs {
         tell_all(&rt, rt.alloc(), runs)?;
     }

@@ -99,7 +99,7 @@ impl Run<'_> {
     fn make_all(&self, buffer: &mut hb_buffer_t, answers: &mut [Answer; MOST]) -> Result<(), Lost> {
         make_rooms(buffer, self.rooms)?;
         make(buffer, self.calls, answers)?;
-        self.place(buffer);
+        self.set_positions(buffer);
         Ok(())
     }
 
@@ -114,7 +114,7 @@ impl Run<'_> {
     }
 
     /// Turns positions on where that is part of the run.
-    fn place(&self, buffer: &mut hb_buffer_t) {
+    fn set_positions(&self, buffer: &mut hb_buffer_t) {
         if self.is_placed && !buffer.have_output() {
             buffer.clear_positions();
         }
@@ -124,7 +124,7 @@ impl Run<'_> {
         let buffer = &mut begun.buffer;
         self.watch_rooms(alloc, begun.level, buffer)?;
         let answers = self.watch_calls(alloc, begun.level, buffer)?;
-        self.place(buffer);
+        self.set_positions(buffer);
         if answers != begun.answers {
             return Err(Lost::Answers);
         }

@@ -9,6 +9,8 @@ use Rattle.font_tables.specs.Extents.{long_metric_count, horizontal_extents}
 use Rattle.font_tables.specs.declared.metrics.Metrics.{Metrics}
 use Rattle.font_tables.specs.declared.directory.Tables.{Tables}
 use Rattle.character_maps.specs.Choice.{chosen_subtable, chosen_encoding, variation_subtable}
+use Rattle.color_glyphs.specs.Strikes.{wanted_size}
+use Rattle.font_shaper.specs.declared.color.ColorTables.{ColorTables}
 use Rattle.font_shaper.specs.declared.face.Face.{Face}
 use Rattle.font_shaper.specs.declared.layout.Layout.{Layout}
 
@@ -25,6 +27,19 @@ pub record IsLayoutOf (layout : Layout) (tables : Tables) : Type 0 where
   pub substitutions : layout.gsub.now ≡ table_in tables (codes "GSUB")
   pub positions : layout.gpos.now ≡ table_in tables (codes "GPOS")
   pub kerning : layout.kern.now ≡ table_in tables (codes "kern")
+  pub metamorphosis : layout.morx.now ≡ table_in tables (codes "morx")
+  pub features : layout.feat.now ≡ table_in tables (codes "feat")
+  pub tracking : layout.trak.now ≡ table_in tables (codes "trak")
+
+-- these are the tables of bitmaps and of glyphs drawn in colours, of so many glyphs, with the strikes that fit a size best
+pub record AreColorsOf (color : ColorTables) (tables : Tables) (glyphs size : ℕ) : Type 0 where
+  pub graphics : color.sbix.table.now ≡ table_in tables (codes "sbix")
+  pub counted : color.sbix.glyph_count ≡ glyphs
+  pub graphic_size : color.sbix.wanted ≡ size
+  pub places : color.cbdt.cblc.now ≡ table_in tables (codes "CBLC")
+  pub images : color.cbdt.cbdt.now ≡ table_in tables (codes "CBDT")
+  pub image_size : color.cbdt.wanted ≡ size
+  pub clips : color.colr.table.now ≡ table_in tables (codes "COLR")
 
 -- the table `GDEF`, unless it is one of those that are not believed, by their sizes
 abbrev pub believed : List ℕ → List ℕ → List ℕ → List ℕ
@@ -58,6 +73,8 @@ pub record KeepsItsTables (face : Face) : Type 0 where
   pub origins : face.origins.table.now ≡ table face (codes "VORG")
   pub extents : face.extents ≡ horizontal_extents (table face (codes "OS/2")) (table face (codes "hhea"))
   pub layout : IsLayoutOf face.layout face.tables
+  pub color :
+      AreColorsOf face.color face.tables face.glyph_count (wanted_size face.scale.x_ppem face.scale.y_ppem)
   pub definitions :
       face.definitions.table.now
       ≡ believed (table face (codes "GDEF")) (table face (codes "GSUB")) (table face (codes "GPOS"))

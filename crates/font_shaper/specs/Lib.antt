@@ -5,3 +5,5 @@ pub mod FallbackMarks
 pub mod Graphemes
 pub mod ShapedClusters
 pub mod ClusterOrder
+pub mod Marks
+pub mod FontRules

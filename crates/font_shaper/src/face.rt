@@ -8,8 +8,10 @@ ghost use Rattle.font_tables.specs.Head.{index_to_loc_format};
 ghost use Rattle.font_shaper.specs.Face.{font_page, believed, IsLayoutOf, KeepsItsTables};
 ghost use Rattle.character_maps.specs.Codes.{glyph_index, glyph_variation_index};
 
+use crate::color::ColorTables;
 use crate::layout::Layout;
 use crate::variations::FaceVariations;
+use apple_tables::Metamorphosis;
 use character_maps::CharacterMap;
 use font_tables::bytes::u16_at;
 use font_tables::directory::Tables;
@@ -33,6 +35,8 @@ pub struct Lookups<'a> {
     pub substitutions: LookupList<'a>,
     /// Those of `GPOS`.
     pub positions: LookupList<'a>,
+    /// The chains of Apple's table `morx`.
+    pub metamorphosis: Metamorphosis<'a>,
 }
 
 /// A font of a file: what shaping asks of it, found once.
@@ -58,6 +62,8 @@ pub struct Face<'a> {
     pub definitions: Gdef<'a>,
     /// The outlines of the glyphs.
     pub outlines: Outlines<'a>,
+    /// Its bitmaps, and what it says of glyphs that are drawn in colours.
+    pub color: ColorTables<'a>,
     /// The tables of the font's lookups.
     pub layout: Layout<'a>,
     /// The lookups.
@@ -68,6 +74,8 @@ pub struct Face<'a> {
     pub has_gpos: bool,
     /// The size at which the font is used.
     pub scale: Scale,
+    /// The size in points for which glyphs stand closer or farther apart; 0 where none is set.
+    pub points_per_em: f32,
     /// What the font says of its variations, and those that are chosen.
     pub variations: FaceVariations<'a>,
 }
@@ -111,9 +119,11 @@ impl<'a> Face<'a> {
             &definitions,
         )?;
         let positions = LookupList::new(alloc, layout.gpos, POSITIONING_EXTENSION, &definitions)?;
+        let glyphs = glyph_count(tables.table(Tag::from_bytes(b"maxp")));
         let lookups = Lookups {
             substitutions,
             positions,
+            metamorphosis: Metamorphosis::new(alloc, layout.morx, glyphs)?,
         };
         Ok(Some(face_of(alloc, tables, layout, lookups)))
     }
@@ -167,7 +177,8 @@ impl<'a> Face<'a> {
     }
 
     /// Says how many pixels an em has across and upwards; 0 where glyphs are not drawn in pixels, as at first. The device
-    /// tables of a font move glyphs at some sizes in pixels. HarfBuzz's name is `hb_font_set_ppem`.
+    /// tables of a font move glyphs at some sizes in pixels, and of its bitmaps those are used that fit the size best. HarfBuzz's
+    /// name is `hb_font_set_ppem`.
     pub fn set_pixels_per_em(&mut self, x: u16, y: u16)
         ensures across { self.new.scale.x_ppem ≡ x }
         ensures upwards { self.new.scale.y_ppem ≡ y }
@@ -175,6 +186,16 @@ impl<'a> Face<'a> {
     {
         self.scale.x_ppem = x;
         self.scale.y_ppem = y;
+        self.color = ColorTables::new(&self.tables, self.glyph_count, x, y);
+    }
+
+    /// Says how many points an em has; 0 where that is not said, as at first. By Apple's table `trak` glyphs stand closer or farther
+    /// apart at some sizes in points. HarfBuzz's name is `hb_font_set_ptem`.
+    pub fn set_points_per_em(&mut self, points: f32)
+        ensures points { self.new.points_per_em ≡ points }
+        ensures kept { KeepsItsTables self.old → KeepsItsTables self.new }
+    {
+        self.points_per_em = points;
     }
 }
 
@@ -213,11 +234,13 @@ fn face_of<'a>(
         extents: horizontal_extents(os2, hhea),
         definitions,
         outlines: outlines_of(&tables, head, glyph_count),
+        color: ColorTables::new(&tables, glyph_count, 0, 0),
         has_gpos: is_positioning(layout.gpos),
         layout,
         lookups,
         alloc,
         scale: Scale::of_em(units_per_em),
+        points_per_em: 0.0,
         variations: FaceVariations::new(alloc, &tables, definitions.table, glyph_count),
     }
 }

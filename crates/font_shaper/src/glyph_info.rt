@@ -3,6 +3,7 @@
 
 ghost use Rattle.std.specs.Prelude.{◌≡◌};
 ghost use Rattle.font_shaper.specs.Graphemes.{is_continuation, is_same_grapheme};
+ghost use Rattle.font_shaper.specs.Marks as marks;
 
 use shaping_buffer::rb_glyph::hb_gc::{
     RB_UNICODE_GENERAL_CATEGORY_DECIMAL_NUMBER, RB_UNICODE_GENERAL_CATEGORY_ENCLOSING_MARK,
@@ -15,7 +16,9 @@ use shaping_buffer::{CombiningClasses, Flags, GlyphPropsFlags, UnicodeProps, hb_
 use ucd_normal::canonical_combining_class;
 
 /// The number of the general category.
-pub(crate) fn general_category(info: &hb_glyph_info_t) -> u32 {
+pub(crate) fn general_category(info: &hb_glyph_info_t) -> u32
+    ensures { result ≡ marks.category info.now }
+{
     u32::from(info.unicode_props() & UnicodeProps::GENERAL_CATEGORY.bits())
 }
 
@@ -34,11 +37,20 @@ pub(crate) fn set_unicode_props(info: &mut hb_glyph_info_t, scratch_flags: &mut 
     let Some(character) = char::from_u32(info.glyph_id) else {
         return;
     };
-    let row = [(character, canonical_combining_class(character))];
+    let row = [(character, combining_class(character))];
     if let Some(classes) = CombiningClasses::new(&row) {
         info.init_unicode_props(scratch_flags, &classes);
     }
     set_telugu_class(info);
+}
+
+/// The canonical combining class of a character. The first that has one is U+0300.
+fn combining_class(character: char) -> u8 {
+    if character < '\u{300}' {
+        0
+    } else {
+        canonical_combining_class(character)
+    }
 }
 
 /// Gives the Telugu length marks the classes that HarfBuzz reorders them by: they come before a halant.
@@ -53,7 +65,9 @@ fn set_telugu_class(info: &mut hb_glyph_info_t)
 }
 
 /// Whether the character is a mark.
-pub(crate) fn is_unicode_mark(info: &hb_glyph_info_t) -> bool {
+pub(crate) fn is_unicode_mark(info: &hb_glyph_info_t) -> bool
+    ensures { result ≡ marks.is_mark info.now }
+{
     matches!(
         general_category(info),
         RB_UNICODE_GENERAL_CATEGORY_SPACING_MARK
@@ -85,7 +99,9 @@ pub(crate) fn is_regional_indicator(info: &hb_glyph_info_t) -> bool {
 }
 
 /// The class by which a mark is reordered; 0 for any other character.
-pub(crate) fn modified_combining_class(info: &hb_glyph_info_t) -> u16 {
+pub(crate) fn modified_combining_class(info: &hb_glyph_info_t) -> u16
+    ensures { result ≡ marks.kept_class info.now }
+{
     if is_unicode_mark(info) {
         info.unicode_props() >> 8
     } else {

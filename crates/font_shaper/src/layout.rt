@@ -17,6 +17,12 @@ pub struct Layout<'a> {
     pub gpos: &'a [u8],
     /// The table `kern`, which old fonts have in place of `GPOS`.
     pub kern: &'a [u8],
+    /// The table `morx`, which Apple's fonts have in place of `GSUB`.
+    pub morx: &'a [u8],
+    /// The table `feat`, which says which features `morx` has.
+    pub feat: &'a [u8],
+    /// The table `trak`, by which glyphs stand closer or farther apart at a size.
+    pub trak: &'a [u8],
 }
 
 impl<'a> Layout<'a> {
@@ -28,6 +34,9 @@ impl<'a> Layout<'a> {
             gsub: tables.table(Tag::from_bytes(b"GSUB")),
             gpos: tables.table(Tag::from_bytes(b"GPOS")),
             kern: tables.table(Tag::from_bytes(b"kern")),
+            morx: tables.table(Tag::from_bytes(b"morx")),
+            feat: tables.table(Tag::from_bytes(b"feat")),
+            trak: tables.table(Tag::from_bytes(b"trak")),
         }
     }
 }

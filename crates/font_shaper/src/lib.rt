@@ -4,6 +4,7 @@
 mod bounds;
 mod cluster_level;
 mod cluster_order;
+mod color;
 mod comparison;
 mod ending;
 mod face;
@@ -27,10 +28,12 @@ mod rotation;
 mod shaping;
 mod substitution;
 mod text;
+mod tracking;
 mod variations;
 mod verification;
 mod watch;
 
+pub use color::ColorTables;
 pub use comparison::{Differences, compare};
 pub use face::{Face, Lookups};
 pub use font_variations::{Axis, Variation};

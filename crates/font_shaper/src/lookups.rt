@@ -110,13 +110,33 @@ fn apply_positions<W: Watch>(
     let mut search = Search::new(budget_of(buffer));
     let glyphs = Digest::of_glyphs(buffer.info());
     for planned in &layout.gpos_lookups {
-        if setting.list.may_apply(planned.index, &glyphs) {
-            let options = options_of(planned);
-            glyph_positions::position(buffer, &setting, planned.index, &options, &mut search);
-            watch.step(Step::Positioned(planned.index), buffer)?;
-        }
+        apply_planned(buffer, &setting, planned, &glyphs, &mut search, watch)?;
     }
     Ok(())
+}
+
+/// Applies a lookup of `GPOS` of the plan, where it may be for one of the glyphs.
+#[tactic(auto, using(shaping_buffer::proofs::ClosedKeepsLemmas::kept))]
+fn apply_planned<W: Watch>(
+    buffer: &mut hb_buffer_t,
+    setting: &Setting,
+    planned: &PlannedLookup,
+    glyphs: &Digest,
+    search: &mut Search,
+    watch: &mut W,
+) -> Result<(), AllocError>
+    requires closed { buffer.old.have_output ≡ false }
+    requires placed { IsSome buffer.old.positions }
+    ensures closed { buffer.new.have_output ≡ false }
+    ensures placed { IsSome buffer.new.positions }
+    ensures keeps { KeepsClusters buffer.old buffer.new }
+{
+    if !setting.list.may_apply(planned.index, glyphs) {
+        return Ok(());
+    }
+    let options = options_of(planned);
+    glyph_positions::position(buffer, setting, planned.index, &options, search);
+    watch.step(Step::Positioned(planned.index), buffer)
 }
 
 /// Kerns by the table `kern`.

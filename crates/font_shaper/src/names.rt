@@ -21,7 +21,7 @@ pub struct FaceNames<'a> {
     bounds: BoundsSource<'a>,
     coordinates: Vec<i32>,
     post: PostNames<'a>,
-    extents: BTreeMap<u16, GlyphExtents>,
+    extents: BTreeMap<u16, Option<GlyphExtents>>,
 }
 
 impl<'a> FaceNames<'a> {
@@ -39,13 +39,14 @@ impl<'a> FaceNames<'a> {
         })
     }
 
-    /// Finds the extents of glyphs, each of them once. `Err(AllocError)` where memory runs out.
+    /// Finds the extents of glyphs, each of them once, and once where there are none too: an outline that is broken may take as
+    /// long to read as the longest. `Err(AllocError)` where memory runs out.
     pub fn find_extents(&mut self, infos: &[hb_glyph_info_t]) -> Result<(), AllocError> {
         for info in infos {
             if let Ok(number) = u16::try_from(info.glyph_id)
                 && !self.extents.contains_key(&number)
-                && let Some(extents) = self.bounds(GlyphId(number))?
             {
+                let extents = self.bounds(GlyphId(number))?;
                 let _ = self.extents.insert(number, extents)?;
             }
         }
@@ -91,11 +92,12 @@ fn text_of(bytes: &[u8]) -> Option<&str>
 
 impl<'a> GlyphNames for FaceNames<'a> {
     ghost use Rattle.std.specs.BTreeMap.{get};
+    ghost use Rattle.std.specs.Prelude.{option_and_then};
     ghost use Rattle.std.specs.Ordering.{nat_cmp};
 
     ghost name_of = { λ names glyph. name_of names.post.table.now names.outlines glyph };
 
-    ghost extents_of = { λ names glyph. get nat_cmp names.extents glyph };
+    ghost extents_of = { λ names glyph. option_and_then (λ found. found) (get nat_cmp names.extents glyph) };
 
     fn glyph_name(&self, glyph: GlyphId) -> Option<&str> {
         text_of(self.name_bytes(glyph)?)
@@ -103,6 +105,6 @@ impl<'a> GlyphNames for FaceNames<'a> {
 
     /// The extents of a glyph, among those that were found.
     fn glyph_extents(&self, glyph: GlyphId) -> Option<GlyphExtents> {
-        self.extents.get(&glyph.0).copied()
+        *self.extents.get(&glyph.0)?
     }
 }

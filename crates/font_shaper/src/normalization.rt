@@ -6,6 +6,7 @@ ghost use Rattle.std.specs.Prelude.{◌≡◌, ◌<◌, true, false, length, IfO
 ghost use Rattle.shaping_buffer.specs.KeepsClusters.{KeepsClusters};
 
 mod decomposition;
+mod pairs;
 mod parts;
 mod recomposition;
 mod reordering;

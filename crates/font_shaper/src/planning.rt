@@ -4,11 +4,15 @@ ghost use Rattle.std.specs.Prelude.{◌≡◌};
 ghost use Rattle.font_shaper.specs.ClusterOrder.{orders_syllables};
 
 use crate::face::Face;
+use apple_substitution::{ChainFlags, selected_features};
+use apple_tables::FeatureNames;
 use font_variations::substitutions_of;
 use language_tags::LanguageTags;
-use layout_plan::{FontLayout, KernLayout, PlanBuilder, ShapePlan, ShaperRules, TextProperties};
+use layout_plan::{
+    FeatureFlags, FontLayout, KernLayout, PlanBuilder, ShapePlan, ShaperRules, TextProperties,
+};
 use position_tables::kern_table::KernTable;
-use rb_common::{Direction, Script};
+use rb_common::{Direction, Script, Tag};
 use rb_text::tags::tags_from_script_and_language;
 use rb_text::{Feature, Language, LanguageTable};
 use script_features::{collect_features, override_features, script_plan, syllable_plan};
@@ -26,6 +30,10 @@ pub(crate) struct TextPlan {
     pub script: ScriptPlan,
     /// What it does with syllables.
     pub syllables: SyllablePlan,
+    /// The flags of the chains of Apple's table `morx`, where they stand in the place of the lookups of `GSUB`.
+    pub chain_flags: Option<ChainFlags>,
+    /// The bits of the glyphs that Apple's table `trak` moves.
+    pub trak_mask: u32,
 }
 
 impl TextPlan {
@@ -107,15 +115,25 @@ impl Face<'_> {
             gsub_substitutions: substitutions_of(self.layout.gsub, self.coordinates()),
             gpos_substitutions: substitutions_of(self.layout.gpos, self.coordinates()),
         };
+        let substitutes = self.substitutes_by_morx(segment.direction);
         let mut builder = ShapePlan::begin(self.alloc, &font, text)?;
-        let chosen = add_features(&mut builder, segment, features)?;
-        let shape = ShapePlan::complete(
+        let chosen = add_features(&mut builder, segment, features, substitutes)?;
+        let mut shape = ShapePlan::complete(
             self.alloc,
             builder,
             &font,
             segment.direction,
-            rules_of(chosen.shaper),
+            chosen.rules,
         )?;
+        if substitutes {
+            shape.adjust_mark_positioning_when_zeroing = false;
+        }
+        let chain_flags = if substitutes {
+            Some(self.chain_flags(features)?)
+        } else {
+            None
+        };
+        let trak_mask = shape.layout.mask(Tag::from_bytes(b"trak"));
         let syllables = syllable_plan(chosen.shaper, segment.script, &shape.layout);
         let script = script_plan(
             chosen.shaper,
@@ -127,7 +145,23 @@ impl Face<'_> {
             shape,
             script,
             syllables,
+            chain_flags,
+            trak_mask,
         })
+    }
+
+    /// Whether Apple's table `morx` substitutes glyphs in place of the lookups of `GSUB`: in horizontal lines, and where the font has no
+    /// lookups of `GSUB`.
+    fn substitutes_by_morx(&self, direction: Direction) -> bool {
+        self.lookups.metamorphosis.is_there()
+            && (direction.is_horizontal() || self.layout.gsub.is_empty())
+    }
+
+    /// The flags of the chains of `morx`, where these features are asked for.
+    fn chain_flags(&self, features: &[Feature]) -> Result<ChainFlags, AllocError> {
+        let names = FeatureNames::new(self.layout.feat);
+        let selected = selected_features(self.alloc, &names, features)?;
+        ChainFlags::new(self.alloc, &self.lookups.metamorphosis, selected.as_slice())
     }
 }
 
@@ -136,33 +170,41 @@ impl Face<'_> {
 struct ChosenShaper {
     /// The shaper.
     shaper: ScriptShaper,
+    /// What it says of positions; where glyphs are substituted by `morx`, marks are placed as the script's own shaper places them.
+    rules: ShaperRules,
     /// Whether the font has the script in its table `GSUB`.
     finds_script: bool,
 }
 
-/// Chooses the shaper of a script, and asks for its features, those of every text and of a user.
+/// Chooses the shaper of a script, and asks for its features, those of every text and of a user. Where glyphs are substituted by `morx`,
+/// the font does all, as with the shaper of Zawgyi.
 fn add_features(
     builder: &mut PlanBuilder,
     segment: &SegmentProperties,
     features: &[Feature],
+    substitutes_by_morx: bool,
 ) -> Result<ChosenShaper, AllocError> {
+    let own = ScriptShaper::of(segment.script, segment.direction, builder.gsub.script.tag);
+    let does_all = substitutes_by_morx && own != ScriptShaper::Default;
+    let shaper = if does_all { ScriptShaper::Zawgyi } else { own };
     let chosen = ChosenShaper {
-        shaper: ScriptShaper::of(segment.script, segment.direction, builder.gsub.script.tag),
+        shaper,
+        rules: ShaperRules {
+            gpos_script: shaper.gpos_script(),
+            zero_marks: own.zero_width_marks() != ZeroWidthMarks::Never,
+            fallback_position: own.fallback_position(),
+        },
         finds_script: builder.gsub.script.is_found,
     };
+    let with_fallback = FeatureFlags {
+        has_fallback: true,
+        ..FeatureFlags::NONE
+    };
+    builder.enable_feature(Tag::from_bytes(b"trak"), with_fallback)?;
     collect_features(chosen.shaper, builder, segment.script)?;
     ShapePlan::add_common_features(builder, segment.direction, features)?;
     override_features(chosen.shaper, builder)?;
     Ok(chosen)
-}
-
-/// What a script's shaper says of positions.
-fn rules_of(shaper: ScriptShaper) -> ShaperRules {
-    ShaperRules {
-        gpos_script: shaper.gpos_script(),
-        zero_marks: shaper.zero_width_marks() != ZeroWidthMarks::Never,
-        fallback_position: shaper.fallback_position(),
-    }
 }
 
 /// What the plan asks of the font's table `kern`.

@@ -6,6 +6,7 @@ ghost use Rattle.shaping_buffer.specs.KeepsClusters.{KeepsClusters};
 use crate::face::Face;
 use crate::fallback_spaces::space_advance;
 use crate::glyph_info::{is_default_ignorable, is_mark};
+use apple_substitution::deletion::is_deleted;
 use rb_common::GlyphId;
 use shaping_buffer::{
     BufferFlags, Flags, GlyphPosition, HB_BUFFER_SCRATCH_FLAG_HAS_DEFAULT_IGNORABLES,
@@ -141,6 +142,22 @@ pub(crate) fn zero_width_default_ignorables(buffer: &mut hb_buffer_t)
             .get(i)
             .is_some_and(|info| is_default_ignorable(info))
         {
+            take_width_at(buffer, i);
+        }
+    }
+}
+
+/// Takes the width of glyphs that Apple's table `morx` deleted.
+#[tactic(auto, using(shaping_buffer::proofs::ClosedKeepsLemmas::kept))]
+pub(crate) fn zero_width_deleted_glyphs(buffer: &mut hb_buffer_t)
+    requires closed { buffer.old.have_output ≡ false }
+    requires placed { IsSome buffer.old.positions }
+    ensures closed { buffer.new.have_output ≡ false }
+    ensures placed { IsSome buffer.new.positions }
+    ensures keeps { KeepsClusters buffer.old buffer.new }
+{
+    for i in 0..buffer.len() {
+        if buffer.info().get(i).is_some_and(|info| is_deleted(info)) {
             take_width_at(buffer, i);
         }
     }

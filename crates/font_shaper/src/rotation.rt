@@ -5,6 +5,7 @@ ghost use Rattle.shaping_buffer.specs.Clusters.{clusters};
 ghost use Rattle.shaping_buffer.specs.KeepsClusters.{KeepsClusters};
 
 use crate::face::Face;
+use crate::glyph_info::{is_decimal_number, is_letter, is_unicode_mark, is_unicode_space};
 use layout_plan::ShapePlan;
 use shaping_buffer::{CharExt, Direction, Mirrors, hb_buffer_t, hb_glyph_info_t};
 use unicode_tables::mirrors;
@@ -29,19 +30,30 @@ pub(crate) fn rotate_characters(
 fn rotate_all(infos: &mut [hb_glyph_info_t], face: &Face, plan: &ShapePlan, direction: Direction)
     ensures { clusters infos.new ≡ clusters infos.old }
 {
-    if direction.is_backward()
-        && let Some(mirrors) = mirrors()
-    {
-        mirror_all(infos, face, &mirrors, plan.rtlm_mask);
+    if direction.is_backward() {
+        let mirrors = if infos.iter().any(may_be_mirrored) {
+            mirrors()
+        } else {
+            None
+        };
+        mirror_all(infos, face, mirrors.as_ref(), plan.rtlm_mask);
     }
     if direction.is_vertical() && !plan.has_vert {
         make_all_vertical(infos, face);
     }
 }
 
+/// Whether a character may have a mirror image: no letter, mark, digit or space has one.
+fn may_be_mirrored(info: &hb_glyph_info_t) -> bool {
+    !is_letter(info)
+        && !is_unicode_mark(info)
+        && !is_decimal_number(info)
+        && !is_unicode_space(info)
+}
+
 /// Replaces each character by its mirror image, or gives it the mask.
 #[tactic(auto, using(shaping_buffer::proofs::ClosedKeepsLemmas::clusters_written))]
-fn mirror_all(infos: &mut [hb_glyph_info_t], face: &Face, mirrors: &Mirrors, mask: u32)
+fn mirror_all(infos: &mut [hb_glyph_info_t], face: &Face, mirrors: Option<&Mirrors>, mask: u32)
     ensures { clusters infos.new ≡ clusters infos.old }
 {
     for i in 0..infos.len() {
@@ -50,7 +62,7 @@ fn mirror_all(infos: &mut [hb_glyph_info_t], face: &Face, mirrors: &Mirrors, mas
 }
 
 /// Replaces a character by its mirror image, or gives it the mask.
-fn mirror(info: &mut hb_glyph_info_t, face: &Face, mirrors: &Mirrors, mask: u32)
+fn mirror(info: &mut hb_glyph_info_t, face: &Face, mirrors: Option<&Mirrors>, mask: u32)
     ensures { info.new.cluster ≡ info.old.cluster }
 {
     if !is_mirrored(info, face, mirrors) {
@@ -59,16 +71,18 @@ fn mirror(info: &mut hb_glyph_info_t, face: &Face, mirrors: &Mirrors, mask: u32)
 }
 
 /// Replaces a character by its mirror image, and says whether the font has a glyph for that.
-fn is_mirrored(info: &mut hb_glyph_info_t, face: &Face, mirrors: &Mirrors) -> bool
+fn is_mirrored(info: &mut hb_glyph_info_t, face: &Face, mirrors: Option<&Mirrors>) -> bool
     ensures { info.new.cluster ≡ info.old.cluster }
 {
-    match char::from_u32(info.glyph_id) {
-        Some(character) => match character.mirrored(mirrors) {
-            Some(mirrored) => replace_character(info, face, mirrored),
-            None => false,
-        },
+    match mirror_image(info, mirrors) {
+        Some(image) => replace_character(info, face, image),
         None => false,
     }
+}
+
+/// The mirror image of a character.
+fn mirror_image(info: &hb_glyph_info_t, mirrors: Option<&Mirrors>) -> Option<char> {
+    char::from_u32(info.glyph_id)?.mirrored(mirrors?)
 }
 
 /// Replaces each character by its vertical form.

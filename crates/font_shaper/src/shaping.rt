@@ -16,14 +16,18 @@ use crate::lookups::position_by_lookups;
 use crate::masks::set_masks;
 use crate::normalization::normalize;
 use crate::planning::TextPlan;
-use crate::positions::{position_glyphs, zero_mark_widths, zero_width_default_ignorables};
+use crate::positions::{
+    position_glyphs, zero_mark_widths, zero_width_default_ignorables, zero_width_deleted_glyphs,
+};
 use crate::rotation::rotate_characters;
 use crate::substitution::substitute;
 use crate::text::{
     ensure_native_direction, form_clusters, insert_dotted_circle, set_direction, set_properties,
 };
+use crate::tracking::track;
 use crate::verification::VerifyError;
 use crate::watch::{Step, Unwatched, Watch};
+use apple_substitution::remove_deleted_glyphs;
 use glyph_positions::position_finish_offsets;
 use glyph_substitution::substitute_start;
 use layout_plan::ShapePlan;
@@ -302,6 +306,7 @@ fn finish_glyphs(buffer: &mut hb_buffer_t, face: &Face, plan: &TextPlan) -> Resu
     ensures placed { IfOk result (λ done. done ≡ true → IsSome buffer.new.positions) }
     ensures keeps { KeepsClusters buffer.old buffer.new }
 {
+    remove_deleted(buffer, plan);
     show_variation_selectors(buffer);
     hide_ignorables(buffer, face);
     if !face.stretch_marks(buffer, &plan.script)? {
@@ -309,6 +314,19 @@ fn finish_glyphs(buffer: &mut hb_buffer_t, face: &Face, plan: &TextPlan) -> Resu
     }
     propagate_flags(buffer);
     Ok(true)
+}
+
+/// Takes out glyphs that were deleted by Apple's table `morx`, unless `GPOS` positioned the others without them.
+fn remove_deleted(buffer: &mut hb_buffer_t, plan: &TextPlan)
+    requires closed { buffer.old.have_output ≡ false }
+    requires placed { IsSome buffer.old.positions }
+    ensures closed { buffer.new.have_output ≡ false }
+    ensures placed { IsSome buffer.new.positions }
+    ensures keeps { KeepsClusters buffer.old buffer.new }
+{
+    if plan.chain_flags.is_some() && !plan.shape.apply_gpos {
+        remove_deleted_glyphs(buffer);
+    }
 }
 
 /// Sets the properties of the characters, and makes clusters of them. `Ok(false)` where a call was refused for length.
@@ -401,7 +419,9 @@ fn position<W: Watch>(
     let early = plan.script.shaper.zero_width_marks() == ZeroWidthMarks::Early;
     zero_marks(buffer, plan.shape.zero_marks && early, adjusts);
     position_by_lookups(buffer, face, &plan.shape, watch)?;
+    track(buffer, face, plan.trak_mask);
     zero_marks(buffer, plan.shape.zero_marks && !early, adjusts);
+    zero_deleted(buffer, plan);
     finish_positions(buffer, face, &plan.shape, direction)
 }
 
@@ -431,6 +451,19 @@ fn finish_positions(
         position_marks(buffer, face, direction, adjusts)?;
     }
     Ok(())
+}
+
+/// Takes the width of glyphs that were deleted by Apple's table `morx`.
+fn zero_deleted(buffer: &mut hb_buffer_t, plan: &TextPlan)
+    requires closed { buffer.old.have_output ≡ false }
+    requires placed { IsSome buffer.old.positions }
+    ensures closed { buffer.new.have_output ≡ false }
+    ensures placed { IsSome buffer.new.positions }
+    ensures keeps { KeepsClusters buffer.old buffer.new }
+{
+    if plan.chain_flags.is_some() {
+        zero_width_deleted_glyphs(buffer);
+    }
 }
 
 /// Takes the width of marks, where that is said.

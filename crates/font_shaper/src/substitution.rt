@@ -9,6 +9,7 @@ use crate::face::Face;
 use crate::lookups::{budget_of, options_of};
 use crate::planning::TextPlan;
 use crate::watch::{Step, Watch};
+use apple_substitution::{ChainFlags, Substitution, remove_deleted_glyphs};
 use font_tables::gdef::Gdef;
 use glyph_layout::lookup_list::SUBSTITUTION_EXTENSION;
 use glyph_layout::{LookupList, LookupOptions};
@@ -22,6 +23,59 @@ use syllabic_shapers::SyllablePause;
 /// Applies the lookups of `GSUB`, stage by stage, and lets clusters run as they ran before, also where the shaper of the script
 /// puts the glyphs of syllables in another order. `Ok(false)` where a call was refused for length.
 pub(crate) fn substitute<W: Watch>(
+    buffer: &mut hb_buffer_t,
+    face: &Face,
+    plan: &TextPlan,
+    watch: &mut W,
+) -> Result<bool, AllocError>
+    requires { buffer.old.have_output ≡ false }
+    ensures closed { IfOk result (λ done. done ≡ true → buffer.new.have_output ≡ false) }
+    ensures keeps { IfOk result (λ done. done ≡ true → KeepsClusters buffer.old buffer.new) }
+{
+    if let Some(flags) = &plan.chain_flags {
+        return substitute_by_morx(buffer, face, flags, plan.shape.apply_gpos);
+    }
+    substitute_by_gsub(buffer, face, plan, watch)
+}
+
+/// Substitutes glyphs by Apple's table `morx`. Those that it deletes are taken out at once where `GPOS` is to position the glyphs.
+/// `Ok(false)` where a call was refused for length.
+fn substitute_by_morx(
+    buffer: &mut hb_buffer_t,
+    face: &Face,
+    flags: &ChainFlags,
+    removes_deleted: bool,
+) -> Result<bool, AllocError>
+    requires { buffer.old.have_output ≡ false }
+    ensures closed { IfOk result (λ done. done ≡ true → buffer.new.have_output ≡ false) }
+    ensures keeps { IfOk result (λ done. done ≡ true → KeepsClusters buffer.old buffer.new) }
+{
+    let substitution = Substitution {
+        table: &face.lookups.metamorphosis,
+        flags,
+        gdef: &face.definitions,
+    };
+    if !apple_substitution::substitute(buffer, &substitution)? {
+        return Ok(false);
+    }
+    remove_deleted(buffer, removes_deleted);
+    Ok(true)
+}
+
+/// Takes out glyphs that were deleted, where this is said.
+fn remove_deleted(buffer: &mut hb_buffer_t, removes: bool)
+    requires { buffer.old.have_output ≡ false }
+    ensures closed { buffer.new.have_output ≡ false }
+    ensures keeps { KeepsClusters buffer.old buffer.new }
+{
+    if removes {
+        remove_deleted_glyphs(buffer);
+    }
+}
+
+/// Applies the lookups of `GSUB`, stage by stage, with what the shaper of the script does between them. `Ok(false)` where a call was
+/// refused for length.
+fn substitute_by_gsub<W: Watch>(
     buffer: &mut hb_buffer_t,
     face: &Face,
     plan: &TextPlan,

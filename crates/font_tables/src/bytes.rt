@@ -18,10 +18,9 @@ pub fn u8_at(table: &[u8], at: usize) -> Option<u8>
 pub fn u16_at(table: &[u8], at: usize) -> Option<u16>
     ensures { result ≡ number_16 table.now at }
 {
-    if at < table.len() && table.len() - at >= 2 {
-        Some(u16::from(table[at]) * 256 + u16::from(table[at + 1]))
-    } else {
-        None
+    match table.get(at..)? {
+        [high, low, ..] => Some(u16::from(*high) * 256 + u16::from(*low)),
+        _ => None,
     }
 }
 
@@ -37,11 +36,11 @@ pub fn i16_at(table: &[u8], at: usize) -> Option<i16>
 pub fn u24_at(table: &[u8], at: usize) -> Option<u32>
     ensures { result ≡ number_24 table.now at }
 {
-    if at < table.len() && table.len() - at >= 3 {
-        let high = u32::from(table[at]) * 65536;
-        Some(high + u32::from(table[at + 1]) * 256 + u32::from(table[at + 2]))
-    } else {
-        None
+    match table.get(at..)? {
+        [high, middle, low, ..] => Some(
+            u32::from(*high) * 65536 + u32::from(*middle) * 256 + u32::from(*low),
+        ),
+        _ => None,
     }
 }
 
@@ -50,12 +49,13 @@ pub fn u24_at(table: &[u8], at: usize) -> Option<u32>
 pub fn u32_at(table: &[u8], at: usize) -> Option<u32>
     ensures { result ≡ number_32 table.now at }
 {
-    if at < table.len() && table.len() - at >= 4 {
-        let high = u32::from(table[at]) * 256 + u32::from(table[at + 1]);
-        let low = u32::from(table[at + 2]) * 256 + u32::from(table[at + 3]);
-        Some(high * 65536 + low)
-    } else {
-        None
+    match table.get(at..)? {
+        [first, second, third, fourth, ..] => {
+            let high = u32::from(*first) * 256 + u32::from(*second);
+            let low = u32::from(*third) * 256 + u32::from(*fourth);
+            Some(high * 65536 + low)
+        }
+        _ => None,
     }
 }
 

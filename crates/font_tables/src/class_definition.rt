@@ -87,6 +87,5 @@ fn ranged_class(table: &[u8], count: u16, are_rising: bool, glyph: GlyphId) -> O
     requires rise { IsTrue are_rising → Rises (range_last table.now) count }
     ensures { result ≡ ranged_class table.now glyph.0 }
 {
-    let row = range_of(table, count, are_rising, glyph)?;
-    u16_at(table, 8 + 6 * usize::from(row))
+    range_of(table, count, are_rising, glyph).map(|range| range.value)
 }

@@ -1,15 +1,15 @@
 //! Coverage tables: the glyphs that a lookup is for, each with an index (OpenType specification, "OpenType Layout Common
 //! Table Formats", "Coverage table").
 
-ghost use Rattle.std.specs.Prelude.{◌≡◌, ◌<◌, ◌+◌, ◌*◌, ◌-◌, ℕ, IsTrue, unwrap_or};
+ghost use Rattle.std.specs.Prelude.{◌≡◌, ◌<◌, ◌+◌, ◌*◌, ◌-◌, ℕ, IsTrue, IfSome, unwrap_or};
 ghost use Rattle.font_tables.specs.Bytes.{number_16};
-ghost use Rattle.font_tables.specs.Rows.{Rises};
+ghost use Rattle.font_tables.specs.Rows.{Rises, first_row};
 ghost use Rattle.font_tables.specs.Coverage.{listed_glyph, listed_count, listed_index, ranged_index};
 ghost use Rattle.font_tables.specs.GlyphRanges.{range_last, range_count};
 
-use crate::bytes::u16_at;
+use crate::bytes::{tail, u16_at};
 use crate::glyph_ranges::{last_glyphs, range_count, range_of};
-use crate::rows::{Keys16, first_row, rises, rows_within};
+use crate::rows::{Keys16, Numbers16, first_row, rises, rows_within};
 use rb_common::GlyphId;
 
 /// A coverage table.
@@ -89,15 +89,39 @@ fn listed_count(table: &[u8]) -> u16
     rows_within(table, 4, 2, usize::from(declared)) as u16
 }
 
+/// The place of the first glyph of a list that is not below a glyph.
+fn first_listed(table: &[u8], count: u16, are_rising: bool, glyph: GlyphId) -> Option<usize>
+    requires counts { count ≡ listed_count table.now }
+    requires rise { IsTrue are_rising → Rises (listed_glyph table.now) count }
+    ensures is { result ≡ first_row (listed_glyph table.now) glyph.0 (listed_count table.now) }
+    ensures within { IfSome result (λ row. row < count) }
+{
+    let (glyphs, _) = tail(table, 4).as_chunks::<2>();
+    first_row(
+        &Numbers16(glyphs),
+        usize::from(count),
+        u32::from(glyph.0),
+        are_rising,
+    )
+}
+
+/// A glyph of a list, by its place.
+fn listed_at(table: &[u8], row: usize) -> Option<u16>
+    requires { row < listed_count table.now }
+    ensures { result ≡ listed_glyph table.now row }
+{
+    let (glyphs, _) = tail(table, 4).as_chunks::<2>();
+    u16_at(&glyphs[row], 0)
+}
+
 /// The place of a glyph in a list.
 fn listed_index(table: &[u8], count: u16, are_rising: bool, glyph: GlyphId) -> Option<u32>
     requires counts { count ≡ listed_count table.now }
     requires rise { IsTrue are_rising → Rises (listed_glyph table.now) count }
     ensures { result ≡ listed_index table.now glyph.0 }
 {
-    let rows = listed_glyphs(table);
-    let row = first_row(&rows, usize::from(count), u32::from(glyph.0), are_rising)?;
-    if u16_at(table, 4 + 2 * row)? <= glyph.0 {
+    let row = first_listed(table, count, are_rising, glyph)?;
+    if listed_at(table, row)? <= glyph.0 {
         Some(row as u32)
     } else {
         None
@@ -110,8 +134,6 @@ fn ranged_index(table: &[u8], count: u16, are_rising: bool, glyph: GlyphId) -> O
     requires rise { IsTrue are_rising → Rises (range_last table.now) count }
     ensures { result ≡ ranged_index table.now glyph.0 }
 {
-    let row = usize::from(range_of(table, count, are_rising, glyph)?);
-    let first = u16_at(table, 4 + 6 * row)?;
-    let index = u16_at(table, 8 + 6 * row)?;
-    Some(u32::from(index) + u32::from(glyph.0 - first))
+    let range = range_of(table, count, are_rising, glyph)?;
+    Some(u32::from(range.value) + u32::from(glyph.0 - range.first))
 }

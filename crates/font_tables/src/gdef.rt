@@ -1,13 +1,18 @@
 //! Classes of glyphs and sets of marks (OpenType specification, "GDEF - Glyph Definition Table").
 
-ghost use Rattle.std.specs.Prelude.{◌≡◌, ◌<◌, ◌+◌, ◌*◌, ℕ, unwrap_or};
+ghost use Rattle.std.specs.Prelude.{◌≡◌, ◌<◌, ◌+◌, ◌*◌, ℕ, slice_index, unwrap_or};
 ghost use Rattle.font_tables.specs.Bytes.{number_16};
 ghost use Rattle.font_tables.specs.Gdef.{subtable, glyph_classes, mark_attachment_classes, mark_glyph_sets, set_in, props};
+ghost use Rattle.font_tables.specs.Gdef.{glyph_props};
+ghost use Rattle.font_tables.specs.ClassDefinition.{class_of};
 
 use crate::bytes::{table_at_16, table_at_32, u16_at};
 use crate::class_definition::ClassDefinition;
 use crate::coverage::Coverage;
 use rb_common::GlyphId;
+
+/// The glyphs whose properties are found once.
+const FIRST_COUNT: usize = 256;
 
 /// A table `GDEF`, of version 1.
 #[derive(Clone, Copy, Debug)]
@@ -17,6 +22,8 @@ pub struct Gdef<'a> {
     classes: ClassDefinition<'a>,
     attachments: ClassDefinition<'a>,
     sets: &'a [u8],
+    first_props: [u16; FIRST_COUNT],
+    ghost firsts: { (glyph : ℕ) → glyph < 256 → slice_index first_props glyph ≡ glyph_props table.now glyph },
     ghost has_classes: { classes.table.now ≡ glyph_classes table.now },
     ghost has_attachments: { attachments.table.now ≡ mark_attachment_classes table.now },
     ghost has_sets: { sets.now ≡ mark_glyph_sets table.now },
@@ -25,16 +32,21 @@ pub struct Gdef<'a> {
 impl<'a> Gdef<'a> {
     ghost use Rattle.font_tables.specs.Gdef.{has_glyph_classes, glyph_class, mark_attachment_class, mark_glyph_set};
     ghost use Rattle.font_tables.specs.Gdef.{glyph_props};
+    ghost use Rattle.font_tables.specs.ClassDefinition.{class_of};
 
     /// The table `GDEF` in these bytes. One that is empty, or of another version, has each glyph in class 0 and no sets.
+    #[tactic(auto, unfolding(crate::specs::Gdef::glyph_props, crate::specs::Gdef::glyph_class, crate::specs::Gdef::mark_attachment_class))]
     pub fn new(table: &'a [u8]) -> Self
         ensures { result.table.now ≡ table.now }
     {
+        let classes = ClassDefinition::new(subtable(table, 4));
+        let attachments = ClassDefinition::new(subtable(table, 10));
         Gdef {
             table,
-            classes: ClassDefinition::new(subtable(table, 4)),
-            attachments: ClassDefinition::new(subtable(table, 10)),
+            classes,
+            attachments,
             sets: mark_glyph_sets(table),
+            first_props: first_props(&classes, &attachments),
         }
     }
 
@@ -73,17 +85,42 @@ impl<'a> Gdef<'a> {
 
     /// HarfBuzz's properties of a glyph, by its class: 2 for a base, 4 for a ligature, 8 for a mark, with the mark's
     /// attachment class in the eight bits above, and else 0.
-    #[tactic(auto, unfolding(crate::specs::Gdef::glyph_props))]
+    #[tactic(auto, unfolding(crate::specs::Gdef::glyph_props, crate::specs::Gdef::glyph_class, crate::specs::Gdef::mark_attachment_class))]
     pub fn glyph_props(&self, glyph: GlyphId) -> u16
         ensures { result ≡ glyph_props self.now.table.now glyph.0 }
     {
-        match self.glyph_class(glyph) {
-            1 => 2,
-            2 => 4,
-            3 => 8 + 256 * (self.mark_attachment_class(glyph) % 256),
-            _ => 0,
+        match self.first_props.get(usize::from(glyph.0)) {
+            Some(props) => *props,
+            None => props_of(&self.classes, &self.attachments, glyph),
         }
     }
+}
+
+/// The properties of a glyph, by its class and its attachment class.
+fn props_of(classes: &ClassDefinition<'_>, attachments: &ClassDefinition<'_>, glyph: GlyphId) -> u16
+    ensures { result ≡ props (class_of classes.now.table.now glyph.0) (class_of attachments.now.table.now glyph.0) }
+{
+    match classes.class(glyph) {
+        1 => 2,
+        2 => 4,
+        3 => 8 + 256 * (attachments.class(glyph) % 256),
+        _ => 0,
+    }
+}
+
+/// The properties of the first glyphs.
+fn first_props(
+    classes: &ClassDefinition<'_>,
+    attachments: &ClassDefinition<'_>,
+) -> [u16; FIRST_COUNT]
+    ensures { (glyph : ℕ) → glyph < 256 → slice_index result glyph
+        ≡ props (class_of classes.now.table.now glyph) (class_of attachments.now.table.now glyph) }
+{
+    let mut props = [0; FIRST_COUNT];
+    for glyph in 0..FIRST_COUNT {
+        props[glyph] = props_of(classes, attachments, GlyphId(glyph as u16));
+    }
+    props
 }
 
 /// The subtable that the offset at a place leads to.

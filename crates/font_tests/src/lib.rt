@@ -4,6 +4,8 @@
 #[cfg(test)]
 mod characters;
 #[cfg(test)]
+mod color;
+#[cfg(test)]
 mod outlines;
 #[cfg(test)]
 mod tables;

@@ -10,7 +10,7 @@ use Rattle.glyph_lists.specs.Clusters.{clusters, with_cluster, run_merge, run_st
 use Rattle.glyph_lists.specs.Clusters.{widened_start, widened_end}
 use Rattle.glyph_lists.specs.Marks.{with_glyph_flags, mark, mark_others, mark_part}
 use Rattle.glyph_lists.specs.Scans.{part_scan, scan_least, two_part_scan}
-use Rattle.glyph_lists.specs.Deletion.{Sides, deletion, merge_or_mark, with_trailing_run, last_cluster, lowers_run}
+use Rattle.glyph_lists.specs.Deletion.{OutAndRest, deletion, merge_or_mark, with_trailing_run, last_cluster, lowers_run}
 use Rattle.glyph_lists.specs.Deletion.{merges_next}
 use Rattle.glyph_lists.proofs.PartsLemmas.{map-map_range, map-new_part, map-map_same}
 use Rattle.glyph_lists.proofs.RunsLemmas.{run_start-le, widened_start-le, widened_end-ge}
@@ -111,7 +111,7 @@ pub cores-deletion : (any_order : Bool) (out : List hb_glyph_info_t) (x : hb_gly
     → (cores (deletion any_order out x rest).out ≡ cores out) × (cores (deletion any_order out x rest).rest ≡ cores rest)
 unfolding deletion with_trailing_run
 cores-deletion any_order out x rest =
-    let Q : Sides → Type 0 = λ d. (cores d.out ≡ cores out) × (cores d.rest ≡ cores rest) in
+    let Q : OutAndRest → Type 0 = λ d. (cores d.out ≡ cores out) × (cores d.rest ≡ cores rest) in
     let a = run_start (clusters out) (last_cluster out) 0 (length out) in
     cond_both (lowers_run out x rest) _ _ Q
     (λ low. (

@@ -9,7 +9,7 @@ use Rattle.glyph_lists.specs.Clusters.{clusters, with_cluster, run_merge, run_st
 use Rattle.glyph_lists.specs.Clusters.{widened_end, IsMonotone, IsCoarse, zero_glyph}
 use Rattle.glyph_lists.specs.declared.glyph_flags.TheConstants.{BREAK_BITS}
 use Rattle.glyph_lists.proofs.DeletionCases.{length_some, lowers_parts, merges_parts}
-use Rattle.glyph_lists.specs.Deletion.{Sides, deletion, merge_or_mark, with_trailing_run, last_cluster, is_not_empty}
+use Rattle.glyph_lists.specs.Deletion.{OutAndRest, deletion, merge_or_mark, with_trailing_run, last_cluster, is_not_empty}
 use Rattle.glyph_lists.specs.Deletion.{lowers_run, merges_next}
 use Rattle.glyph_lists.proofs.PartsLemmas.{length-map_range, map_range-before, map_range-within, map_range-append}
 use Rattle.glyph_lists.proofs.PartsLemmas.{map_range_cut}
@@ -150,7 +150,7 @@ module _ (P : List hb_glyph_info_t → Type 0)
       → P ((deletion any_order out x rest).out ++ (deletion any_order out x rest).rest)
   unfolding deletion
   deletion_keeps any_order out x rest h =
-      let Q : Sides → Type 0 = λ d. P (d.out ++ d.rest) in
+      let Q : OutAndRest → Type 0 = λ d. P (d.out ++ d.rest) in
       let plain : P (out ++ rest) = reads _ _ (reading_dropped out x rest) h in
       cond_both (lowers_run out x rest) _ _ Q
       (λ e. let w = lowers_parts out x rest e in retold_keeps out x rest h (length_some out w.0) (ltb-true _ _ w.1))

@@ -14,7 +14,7 @@ use Rattle.glyph_lists.specs.Clusters.{clusters, least, occurs, with_cluster, cl
 use Rattle.glyph_lists.specs.Clusters.{range_least, widened_start, widened_end}
 use Rattle.glyph_lists.specs.Marks.{with_glyph_flags, mark, mark_others, mark_part, end_mark, ends}
 use Rattle.glyph_lists.specs.declared.glyph_flags.TheConstants.{BREAK_BITS}
-use Rattle.glyph_lists.specs.Deletion.{Sides, merge_or_mark, deletion, lowers_run, merges_next, last_cluster}
+use Rattle.glyph_lists.specs.Deletion.{OutAndRest, merge_or_mark, deletion, lowers_run, merges_next, last_cluster}
 use Rattle.glyph_lists.specs.Deletion.{with_trailing_run}
 use Rattle.glyph_lists.specs.GlyphFlags.{BreakImpliesConcat, FlagsAgree}
 use Rattle.glyph_lists.proofs.PartsLemmas.{All-map_range}
@@ -169,7 +169,7 @@ pub deletion_keeps_flags : (any_order : Bool) (out : List hb_glyph_info_t) (x : 
     → FlagsAgree ((deletion any_order out x rest).out ++ (deletion any_order out x rest).rest)
 unfolding deletion
 deletion_keeps_flags any_order out x rest h =
-    let Q : Sides → Type 0 = λ d. FlagsAgree (d.out ++ d.rest) in
+    let Q : OutAndRest → Type 0 = λ d. FlagsAgree (d.out ++ d.rest) in
     let before : FlagsAgree out = subst FlagsAgree (take_at out (x ∷ rest) (length out) refl)
     (All-take Agrees (length out) (out ++ x ∷ rest) h) in
     let after : FlagsAgree (x ∷ rest) = subst FlagsAgree (drop_at out (x ∷ rest) (length out) refl)

@@ -10,7 +10,7 @@ use Rattle.glyph_lists.specs.Parts.{map_range}
 use Rattle.glyph_lists.specs.Clusters.{clusters, occurs, least, with_cluster, run_merge, run_start, range_least}
 use Rattle.glyph_lists.specs.Clusters.{widened_start, widened_end, zero_glyph}
 use Rattle.glyph_lists.proofs.DeletionCases.{length_some, lowers_parts, merges_parts}
-use Rattle.glyph_lists.specs.Deletion.{Sides, merge_or_mark, deletion, with_trailing_run, last_cluster, begins_with}
+use Rattle.glyph_lists.specs.Deletion.{OutAndRest, merge_or_mark, deletion, with_trailing_run, last_cluster, begins_with}
 use Rattle.glyph_lists.specs.Deletion.{is_not_empty, has_neighbour_in, lowers_run, merges_next}
 use Rattle.glyph_lists.proofs.PartsLemmas.{length-map_range, map_range-before, map_range-within}
 use Rattle.glyph_lists.proofs.ClustersLemmas.{get_or-clusters, length-clusters, occurs_at, occurs_place, least-le}
@@ -401,7 +401,7 @@ pub least_stands_after_deletion : (c : ℕ) (out : List hb_glyph_info_t) (x : hb
     → Stands c ((deletion false out x rest).out ++ (deletion false out x rest).rest)
 unfolding deletion lowers_run merges_next merge_or_mark
 least_stands_after_deletion c out x rest h left =
-    let Q : Sides → Type 0 = λ d. Stands c (d.out ++ d.rest) in
+    let Q : OutAndRest → Type 0 = λ d. Stands c (d.out ++ d.rest) in
     cond_both (lowers_run out x rest) _ _ Q
     (λ e. let w = lowers_parts out x rest e in by_run c out x rest h (length_some out w.0) (ltb-true _ _ w.1))
     (λ no_run. cond_both (merges_next out x rest) _ _ Q

@@ -61,7 +61,8 @@ pub fn merge_changes_clusters_and_masks()
         (new.glyph_id ≡ old.glyph_id) × (new.var1 ≡ old.var1) × (new.var2 ≡ old.var2) }
 {}
 
-/// The same of a run merge, in any order of clusters.
+/// Where a run merge leaves a glyph's cluster, it leaves the glyph, in any order of clusters. Elsewhere it changes its
+/// cluster and its mask alone.
 pub fn run_merge_changes_clusters_and_masks()
     ensures stays { (l : List hb_glyph_info_t) (p q floor k : ℕ) → k < length l
         → slice_index (clusters (run_merge l p q floor)) k ≡ slice_index (clusters l) k

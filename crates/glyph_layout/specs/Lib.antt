@@ -5,5 +5,7 @@ pub mod GlyphTable
 pub mod LigatureParts
 pub mod Match
 pub mod Rule
+pub mod Seconds
+pub mod Sets
 pub mod Substitution
 pub mod Walk

@@ -1,22 +1,18 @@
 -- What the subtables of `GSUB` say of a glyph.
-use Rattle.std.specs.Prelude.{◌≡◌, ◌≢◌, ℕ, ◌+◌, ◌-◌, ◌*◌, ◌%◌, ◌/◌, ◌^◌, ◌==◌, ◌&&◌, List, [], Option, Some, None, nat_lt, nat_le, unwrap_or, option_map, option_and_then, drop, slice_index, if◌then◌else◌, bit_and, IsTrue, false, Bool, is_some}
+use Rattle.std.specs.Prelude.{◌≡◌, ◌≢◌, ℕ, ◌+◌, ◌-◌, ◌*◌, ◌%◌, ◌/◌, ◌^◌, ◌==◌, ◌&&◌, List, Option, Some, None, nat_lt, nat_le, unwrap_or, option_map, option_and_then, drop, slice_index, if◌then◌else◌, bit_and, IsTrue, false, Bool, is_some}
 use Rattle.std.specs.List.{list_any}
 use Rattle.std.specs.Int.{trailing_zeros, w32}
-use Rattle.font_tables.specs.Bytes.{number_16, table_at_16}
+use Rattle.font_tables.specs.Bytes.{number_16}
 use Rattle.rb_glyph.specs.declared.info.hb_glyph_info_t.{hb_glyph_info_t}
 use Rattle.glyph_layout.specs.Walk.{glyph_at, covered_index}
 use Rattle.glyph_layout.specs.GlyphTable.{listed, listed_glyph}
+use Rattle.glyph_layout.specs.Sets.{set_at}
 use Rattle.glyph_layout.specs.Rule.{ArePlaces, input_walk, wanted_by}
 use Rattle.glyph_layout.specs.declared.rule.Meaning.TheVariants as rule
 use Rattle.glyph_layout.specs.declared.search.Sides.{Sides}
 use Rattle.glyph_layout.specs.declared.subtable.Subtable.{Subtable}
 use Rattle.glyph_layout.specs.declared.substitution.Edit.{Edit}
 use Rattle.glyph_layout.specs.declared.substitution.Edit.TheVariants.{Replace, Choose, Multiply, Ligate, Apply, ReplaceInPlace}
-
--- the table of this number in a list of tables whose count stands at the byte 4; an empty one where there is none
-unfoldable pub set_at : List ℕ → ℕ → List ℕ
-set_at table index =
-    if nat_lt index (unwrap_or (number_16 table 4) 0) then unwrap_or (table_at_16 table (6 + 2 * index)) [] else []
 
 -- the single substitution of a glyph with this coverage index: format 1 adds a number, format 2 lists the glyphs
 unfoldable pub single : ℕ → List ℕ → ℕ → ℕ → Option ℕ

@@ -3,14 +3,14 @@
 
 ghost use Rattle.std.specs.Prelude.{◌≡◌, ◌<◌, ◌≤◌, length, IfSome};
 ghost use Rattle.glyph_layout.specs.Budget.{IsNotMore};
-ghost use Rattle.glyph_layout.specs.Context.{IsFitWithin};
+ghost use Rattle.glyph_layout.specs.Context.{IsFitWithin, IsMissed, next_walk};
 
-use crate::filter::covered_index;
 use crate::lookup_list::LookupList;
 use crate::rule::{Meaning, Meanings, coverage_rule};
 use crate::rule_set::{first_fit, fit};
 use crate::search::{Search, Sides};
-use crate::subtable::Subtable;
+use crate::subtable::{NextAsked, Subtable};
+use crate::walk::{Skip, Walk};
 use crate::wanted::class_of;
 use font_tables::bytes::{table_at_16, u16_at};
 
@@ -51,10 +51,12 @@ impl<'a> Fit<'a> {
     }
 }
 
-/// The rule of a subtable that fits at the cursor. The subtable is one of the list, and a context, chained or not.
+/// The rule of a subtable that fits at the cursor. The subtable is one of the list, and a context, chained or not; its coverage has the
+/// glyph at the cursor, at this index.
 pub fn fitting_rule<'a>(
     list: &'a LookupList<'a>,
     subtable: &Subtable<'a>,
+    index: u32,
     is_chained: bool,
     sides: &Sides,
     search: &mut Search,
@@ -63,8 +65,6 @@ pub fn fitting_rule<'a>(
     ensures spent { IsNotMore search.old.budget search.new.budget }
     ensures fits { IfSome result (IsFitWithin (length sides.now.out.now) (length sides.now.input.now)) }
 {
-    let glyph = sides.input[0].glyph_id;
-    let index = covered_index(&subtable.coverage, glyph)?;
     let table = subtable.table;
     match subtable.format {
         1 => {
@@ -78,15 +78,73 @@ pub fn fitting_rule<'a>(
             )
         }
         2 => {
-            let class = class_of(&subtable.classes, glyph);
+            let class = class_of(&subtable.classes, sides.input[0].glyph_id);
             let set = set_at(table, if is_chained { 10 } else { 6 }, u32::from(class))?;
             first_fit(set, &class_meanings(subtable), is_chained, sides, search)
         }
-        3 => {
-            let coverages = list.coverages_from(subtable, 0);
-            fit(&coverage_rule(table, coverages, is_chained)?, sides, search)
-        }
+        3 => covered_fit(list, subtable, is_chained, sides, search),
         _ => None,
+    }
+}
+
+/// The rule of a context by coverages, if it fits at the cursor. Mostly the next glyph shows at once that it does not.
+fn covered_fit<'a>(
+    list: &'a LookupList<'a>,
+    subtable: &Subtable<'a>,
+    is_chained: bool,
+    sides: &Sides,
+    search: &mut Search,
+) -> Option<Fit<'a>>
+    requires { 0 < length sides.now.input.now }
+    ensures spent { IsNotMore search.old.budget search.new.budget }
+    ensures fits { IfSome result (IsFitWithin (length sides.now.out.now) (length sides.now.input.now)) }
+{
+    if let Some(next) = &subtable.next
+        && let Some(to) = missed_next(next, sides)
+    {
+        search.budget.pay(1);
+        if !is_chained || !next.is_input {
+            search.reach.extend(sides.out.len(), to);
+        }
+        return None;
+    }
+    let coverages = list.coverages_from(subtable, 0);
+    fit(
+        &coverage_rule(subtable.table, coverages, is_chained)?,
+        sides,
+        search,
+    )
+}
+
+/// The walk by which a context by coverages looks for the glyph behind the one at the cursor.
+fn next_walk<'a>(next: &NextAsked, sides: &Sides<'a>) -> Walk<'a>
+    ensures { result ≡ next_walk next.now sides.now }
+{
+    if next.is_input {
+        sides.input_walk()
+    } else {
+        sides.context_walk(true)
+    }
+}
+
+/// How far glyphs were looked at, where the glyph behind the one at the cursor counts and is not what is asked for, or where there is none.
+#[tactic(auto, using(crate::proofs::ContextLemmas::missed))]
+fn missed_next(next: &NextAsked, sides: &Sides) -> Option<usize>
+    requires { 0 < length sides.now.input.now }
+    ensures { IfSome result (λ to. IsMissed next.now sides.now) }
+{
+    if sides.input.len() == 1 {
+        return Some(1);
+    }
+    let glyph = &sides.input[1];
+    if next.digest.may_have(glyph.glyph_id) {
+        return None;
+    }
+    let walk = next_walk(next, sides);
+    if walk.skip(glyph) == Skip::No {
+        Some(2)
+    } else {
+        None
     }
 }
 

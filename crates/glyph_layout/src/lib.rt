@@ -17,6 +17,7 @@ mod matching;
 mod rule;
 mod rule_set;
 pub mod search;
+mod seconds;
 pub mod substitution;
 pub mod subtable;
 pub mod walk;

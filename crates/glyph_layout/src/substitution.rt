@@ -1,11 +1,12 @@
 //! What a lookup of `GSUB` does at the cursor (OpenType specification, "GSUB - Glyph Substitution Table").
 
-ghost use Rattle.std.specs.Prelude.{◌≡◌, ◌<◌, ◌≤◌, length, IfSome, IsTrue, Some, is_some, true, false};
+ghost use Rattle.std.specs.Prelude.{ℕ, ◌≡◌, ◌<◌, ◌≤◌, length, IfSome, IsTrue, Some, None, is_some, true, false};
 ghost use Rattle.std.specs.Prelude.{option_map, option_and_then};
 ghost use Rattle.glyph_layout.specs.Budget.{IsNotMore};
 ghost use Rattle.glyph_layout.specs.Match.{AsksForOther, IsNext, first_ligature, ligated, ligature_at, ligature_of};
 ghost use Rattle.glyph_layout.specs.Rule.{input_walk};
-ghost use Rattle.glyph_layout.specs.Substitution.{IsSequence, alternate_of, feature_value, set_at, single};
+ghost use Rattle.glyph_layout.specs.Sets.{set_at};
+ghost use Rattle.glyph_layout.specs.Substitution.{IsSequence, alternate_of, feature_value, single};
 ghost use Rattle.glyph_layout.specs.Substitution.{IsMultiple, IsLigature, replaced_by, cursor_glyph};
 ghost use Rattle.glyph_layout.specs.Walk.{covered_index};
 ghost use Rattle.glyph_layout.specs.declared.substitution.Edit.TheVariants.{Replace};
@@ -17,7 +18,7 @@ use crate::glyph_table::Glyphs;
 use crate::lookup_list::{Lookup, LookupList};
 use crate::matching::{match_ahead, match_behind, match_input};
 use crate::rule::{Meaning, Part};
-use crate::rule_set::{Next, next_kept};
+use crate::rule_set::{Next, next_seen};
 use crate::search::{Search, Sides};
 use crate::subtable::Subtable;
 use crate::walk::LookupOptions;
@@ -126,9 +127,9 @@ fn edit_of<'a>(
         1 => Some(Edit::Replace(single(subtable, glyph.glyph_id, index)?)),
         2 => Some(multiple(subtable.table, index)),
         3 => alternate(subtable.table, index, glyph.mask, options),
-        4 => ligature_in(set_at(subtable.table, index), sides, search),
-        5 => Some(Edit::Apply(fitting_rule(list, subtable, false, sides, search)?)),
-        6 => Some(Edit::Apply(fitting_rule(list, subtable, true, sides, search)?)),
+        4 => ligature_by(subtable, index, sides, search),
+        5 => Some(Edit::Apply(fitting_rule(list, subtable, index, false, sides, search)?)),
+        6 => Some(Edit::Apply(fitting_rule(list, subtable, index, true, sides, search)?)),
         8 if !is_nested => reverse(list, subtable, index, sides, search),
         _ => None,
     }
@@ -153,7 +154,7 @@ fn single(subtable: &Subtable, glyph: u32, index: u32) -> Option<u16>
 }
 
 /// The table of this number of a list of tables whose count stands at the byte 4; an empty one where there is none.
-#[tactic(auto, unfolding(crate::specs::Substitution::set_at))]
+#[tactic(auto, unfolding(crate::specs::Sets::set_at))]
 pub(crate) fn set_at(table: &[u8], index: u32) -> &[u8]
     ensures { result.now ≡ set_at table.now index }
 {
@@ -215,26 +216,71 @@ fn feature_value(feature: u32, mask: u32) -> u32
     }
 }
 
+/// The first ligature of the set of a coverage index whose components stand at the cursor. Mostly the next glyph is the second one of no
+/// ligature at all.
+fn ligature_by<'a>(
+    subtable: &Subtable<'a>,
+    index: u32,
+    sides: &Sides,
+    search: &mut Search,
+) -> Option<Edit<'a>>
+    requires { 0 < length sides.now.input.now }
+    ensures spent { IsNotMore search.old.budget search.new.budget }
+    ensures is { 0 < search.new.budget.steps
+        → ligated result ≡ first_ligature sides.now (set_at subtable.now.table.now index) }
+{
+    let set = set_at(subtable.table, index);
+    let next = next_seen(&sides.input_walk(), sides.input, 0);
+    if let Some(end) = missed_second(subtable, &next, sides) {
+        if u16_at(set, 0).unwrap_or(0) > 0 {
+            search.reach.extend(sides.out.len(), end);
+        }
+        return None;
+    }
+    ligature_in(set, &next, sides, search)
+}
+
+/// How far glyphs were looked at, where the next glyph is the second one of no ligature of a subtable.
+fn missed_second(subtable: &Subtable, next: &Option<Next>, _sides: &Sides) -> Option<usize>
+    requires next { IfSome next.now (IsNext (input_walk _sides.now) _sides.now.input.now 0) }
+    ensures { IfSome result (λ end. (index : ℕ)
+        → first_ligature _sides.now (set_at subtable.now.table.now index) ≡ None) }
+{
+    let Some(next) = *next else {
+        return None;
+    };
+    match subtable.seconds {
+        Some(seconds) if !seconds.may_have(next.glyph) => Some(next.end),
+        _ => None,
+    }
+}
+
 /// The first ligature of a set whose components stand at the cursor.
 #[tactic(auto, using(crate::proofs::MatchLemmas::first_steps))]
-fn ligature_in<'a>(set: &'a [u8], sides: &Sides, search: &mut Search) -> Option<Edit<'a>>
-    requires { 0 < length sides.now.input.now }
+fn ligature_in<'a>(
+    set: &'a [u8],
+    next: &Option<Next>,
+    sides: &Sides,
+    search: &mut Search,
+) -> Option<Edit<'a>>
+    requires some { 0 < length sides.now.input.now }
+    requires next { IfSome next.now (IsNext (input_walk sides.now) sides.now.input.now 0) }
     ensures spent { IsNotMore search.old.budget search.new.budget }
     ensures is { 0 < search.new.budget.steps → ligated result ≡ first_ligature sides.now set.now }
 {
     let count = usize::from(u16_at(set, 0)?);
-    let next = if count > 4 {
-        next_kept(&sides.input_walk(), sides.input, 0)
-    } else {
-        None
-    };
+    let is_told_at_end = count > 4 && matches!(*next, Some(next) if next.is_there());
     let mut beyond = 0;
     for index in 0..count {
         if !search.budget.pay(1) {
             return None;
         }
-        if let Some(edit) = ligature_at(set, index, &next, &mut beyond, sides, search) {
+        if let Some(edit) = ligature_at(set, index, next, &mut beyond, sides, search) {
             return Some(edit);
+        }
+        if !is_told_at_end {
+            search.reach.extend(sides.out.len(), beyond);
+            beyond = 0;
         }
     }
     search.reach.extend(sides.out.len(), beyond);

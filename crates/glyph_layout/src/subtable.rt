@@ -2,6 +2,7 @@
 
 ghost use Rattle.std.specs.Prelude.{◌≡◌, is_some, true};
 ghost use Rattle.glyph_layout.specs.Digest.{HasAll};
+ghost use Rattle.glyph_layout.specs.Seconds.{AreSeconds};
 ghost use Rattle.glyph_layout.specs.Walk.{covered_index};
 
 use crate::digest::Digest;
@@ -30,10 +31,38 @@ pub struct Subtable<'a> {
     pub classes_behind: ClassDefinition<'a>,
     /// The classes of the glyphs behind the input in a chained context, and of the second glyph in a pair.
     pub classes_ahead: ClassDefinition<'a>,
+    /// What a context by coverages asks of the glyph behind the one at the cursor, if it asks for anything there.
+    pub next: Option<NextAsked<'a>>,
     /// Where the coverages of a context of format 3 begin, or those around a reverse substitution, in
     /// `LookupList::coverages`.
     pub first_coverage: usize,
+    /// The digest of the second glyphs of all ligatures of a subtable of ligatures; `None` where one has a single component.
+    pub seconds: Option<Digest>,
     ghost digests: { HasAll (λ glyph. is_some (covered_index coverage.table.now glyph) ≡ true) digest },
+    ghost ligatures: { AreSeconds table.now seconds },
+}
+
+/// What a context by coverages asks of the glyph behind the one at the cursor.
+#[derive(Clone, Copy, Debug)]
+pub struct NextAsked<'a> {
+    /// The glyphs that fit there.
+    pub coverage: Coverage<'a>,
+    /// The digest of these glyphs.
+    pub digest: Digest,
+    /// Whether the glyph is one of the input, and not one behind it.
+    pub is_input: bool,
+    ghost digests: { HasAll (λ glyph. is_some (covered_index coverage.table.now glyph) ≡ true) digest },
+}
+
+impl<'a> NextAsked<'a> {
+    /// Asks for a glyph of a coverage.
+    pub fn new(coverage: Coverage<'a>, is_input: bool) -> Self {
+        NextAsked {
+            coverage,
+            digest: Digest::of_coverage(&coverage),
+            is_input,
+        }
+    }
 }
 
 /// What the tables of a subtable are called in its layout.

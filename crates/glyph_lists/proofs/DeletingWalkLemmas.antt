@@ -7,7 +7,7 @@ use Rattle.std.proofs.Math.Seq.{take-append_seam, drop-append-add}
 use Rattle.rb_glyph.specs.declared.info.hb_glyph_info_t.{hb_glyph_info_t}
 use Rattle.rb_glyph.specs.declared.position.GlyphPosition.{GlyphPosition}
 use Rattle.glyph_lists.specs.Clusters.{zero_glyph}
-use Rattle.glyph_lists.specs.Deletion.{Sides, deletion}
+use Rattle.glyph_lists.specs.Deletion.{OutAndRest, deletion}
 use Rattle.glyph_lists.specs.DeletingWalk.{sides_at, head_of, after_next, after_deletion, after_turn, after_walk}
 use Rattle.glyph_lists.specs.DeletingWalk.{kept_beside, deletion_merges, walk_merges}
 use Rattle.glyph_lists.proofs.LengthsLemmas.{length-deletion}
@@ -19,7 +19,7 @@ take_front (suc k) zero l h = absurd (omega arith)
 take_front (suc k) (suc i) [] h = refl
 take_front (suc k) (suc i) (x ∷ l) h = ap (λ xs. x ∷ xs) (take_front k i l (omega arith))
 
-abbrev the_sides : List hb_glyph_info_t → List hb_glyph_info_t → Sides
+abbrev the_sides : List hb_glyph_info_t → List hb_glyph_info_t → OutAndRest
 the_sides xs ys = record { out = xs; rest = ys }
 
 -- a deletion in the list, of which the front was lent in two parts
@@ -65,12 +65,12 @@ merged_at_next merged any_order false merges later h = refl
 merged_at_next merged any_order true merges later h = cc
 
 module _ (any_order : Bool) (test : hb_glyph_info_t → Bool) where
-  kept_deletion : {X : Type 0} (s s2 : Sides) (r : List X) → test (head_of s) ≡ true → s2 ≡ after_turn any_order test s
+  kept_deletion : {X : Type 0} (s s2 : OutAndRest) (r : List X) → test (head_of s) ≡ true → s2 ≡ after_turn any_order test s
       → kept_beside any_order test s2 (drop 1 r) ≡ kept_beside any_order test s r
   kept_deletion s s2 [] h e = refl
   kept_deletion s s2 (p ∷ r) h e = ap (λ t. kept_beside any_order test t r) e ∙ sym (cond-true _ _ _ h)
 
-  kept_next : {X : Type 0} (s s2 : Sides) (r : List X) → test (head_of s) ≡ false → s2 ≡ after_turn any_order test s
+  kept_next : {X : Type 0} (s s2 : OutAndRest) (r : List X) → test (head_of s) ≡ false → s2 ≡ after_turn any_order test s
       → take 1 r ++ kept_beside any_order test s2 (drop 1 r) ≡ kept_beside any_order test s r
   kept_next s s2 [] h e = refl
   kept_next s s2 (p ∷ r) h e = ap (λ t. p ∷ kept_beside any_order test t r) e ∙ sym (cond-false _ _ _ h)
@@ -99,7 +99,7 @@ module _ (any_order : Bool) (test : hb_glyph_info_t → Bool) where
 
     module _ (turns t k i : ℕ) (l l2 : List hb_glyph_info_t) (ps : List GlyphPosition) (merges : Bool)
         (fewer : turns ≡ suc t) (before : Leads turns k i l ps merges) where
-      abbrev now : Sides
+      abbrev now : OutAndRest
       now = sides_at k i l
 
       pub leads_deletion : (merges2 : Bool) → test (get_or l i zero_glyph) ≡ true

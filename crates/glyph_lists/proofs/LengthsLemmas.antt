@@ -7,7 +7,7 @@ use Rattle.rb_glyph.specs.declared.info.hb_glyph_info_t.{hb_glyph_info_t}
 use Rattle.glyph_lists.specs.Parts.{part}
 use Rattle.glyph_lists.specs.Clusters.{clusters, least, with_cluster, run_start}
 use Rattle.glyph_lists.specs.Marks.{mark, with_glyph_flags}
-use Rattle.glyph_lists.specs.Deletion.{Sides, deletion, merge_or_mark, with_trailing_run, last_cluster, lowers_run}
+use Rattle.glyph_lists.specs.Deletion.{OutAndRest, deletion, merge_or_mark, with_trailing_run, last_cluster, lowers_run}
 use Rattle.glyph_lists.specs.Deletion.{merges_next}
 use Rattle.glyph_lists.specs.Replacement.{copies}
 use Rattle.glyph_lists.specs.declared.glyph_flags.TheConstants.{BREAK_BITS}
@@ -38,7 +38,7 @@ pub length-deletion : (any_order : Bool) (out : List hb_glyph_info_t) (x : hb_gl
     × (length (deletion any_order out x rest).rest ≡ length rest)
 unfolding deletion with_trailing_run
 length-deletion any_order out x rest =
-    let Q : Sides → Type 0 = λ d. (length d.out ≡ length out) × (length d.rest ≡ length rest) in
+    let Q : OutAndRest → Type 0 = λ d. (length d.out ≡ length out) × (length d.rest ≡ length rest) in
     cond_both (lowers_run out x rest) _ _ Q
     (λ _. (
       length-map_range (with_cluster x.cluster x.mask) out

@@ -8,7 +8,7 @@ use Rattle.glyph_lists.specs.Marks.{mark}
 use Rattle.glyph_lists.specs.declared.glyph_flags.TheConstants.{BREAK_BITS}
 
 -- what was put out, and what is left to read
-pub record Sides : Type 0 where
+pub record OutAndRest : Type 0 where
   pub out : List hb_glyph_info_t
   pub rest : List hb_glyph_info_t
 
@@ -52,7 +52,7 @@ merges_next out x rest =
     not (has_neighbour_in x.cluster out rest) && (not (is_not_empty out) && is_not_empty rest)
 
 -- Deletion: the current glyph x leaves the input.
-unfoldable pub deletion : Bool → List hb_glyph_info_t → hb_glyph_info_t → List hb_glyph_info_t → Sides
+unfoldable pub deletion : Bool → List hb_glyph_info_t → hb_glyph_info_t → List hb_glyph_info_t → OutAndRest
 deletion any_order out x rest =
     if lowers_run out x rest then record { out = with_trailing_run x.cluster x.mask out; rest = rest }
     else (if merges_next out x rest then record { out = out; rest = drop 1 (merge_or_mark any_order (x ∷ rest) 0 2 0) }

@@ -95,7 +95,7 @@ pub fn set_trailing_run(out: &mut [hb_glyph_info_t], cluster: u32, mask: u32)
 /// Keeps the cluster of the first glyph of the input, which then leaves it: what stands there afterwards is left open.
 #[inline(always)]
 #[tactic(auto, using(crate::proofs::DeletionCases::kept))]
-pub fn delete_head(out: &mut [hb_glyph_info_t], input: &mut [hb_glyph_info_t], order: ClusterOrder)
+pub fn keep_cluster(out: &mut [hb_glyph_info_t], input: &mut [hb_glyph_info_t], order: ClusterOrder)
     requires { 0 < length input.old }
     ensures out { out.new ≡ (deletion (is_any order)
         out.old (slice_index_or input.old 0 zero_glyph) (drop 1 input.old)).out }
@@ -106,14 +106,18 @@ pub fn delete_head(out: &mut [hb_glyph_info_t], input: &mut [hb_glyph_info_t], o
     if !out.is_empty() && out[out.len() - 1].cluster <= input[0].cluster {
         return;
     }
-    keep_cluster(out, input, order);
+    keep_in_neighbour(out, input, order);
 }
 
-/// Keeps the cluster of the first glyph of the input as `delete_head` does, whatever stands before it. It stands out of
+/// Keeps the cluster of the first glyph of the input as `keep_cluster` does, whatever stands before it. It stands out of
 /// line, as most deletions need no more than one test.
 #[inline(never)]
 #[tactic(auto, using(crate::proofs::DeletionCases::cases))]
-fn keep_cluster(out: &mut [hb_glyph_info_t], input: &mut [hb_glyph_info_t], order: ClusterOrder)
+fn keep_in_neighbour(
+    out: &mut [hb_glyph_info_t],
+    input: &mut [hb_glyph_info_t],
+    order: ClusterOrder,
+)
     requires { 0 < length input.old }
     ensures out { out.new ≡ (deletion (is_any order)
         out.old (slice_index_or input.old 0 zero_glyph) (drop 1 input.old)).out }

@@ -7,7 +7,7 @@ ghost use Rattle.glyph_lists.specs.DeletingWalk.{sides_at, deletion_merges, afte
 ghost use Rattle.glyph_lists.specs.DeletingWalk.{walk_merges};
 
 use crate::cluster_order::ClusterOrder;
-use crate::deletion::{delete_head, merges_next};
+use crate::deletion::{keep_cluster, merges_next};
 use rb_glyph::{GlyphPosition, hb_glyph_info_t};
 
 /// Deletes the glyphs for which `deletes` holds as they stand when the walk comes to them, and moves the others down,
@@ -66,7 +66,7 @@ fn delete_at(info: &mut [hb_glyph_info_t], kept: usize, at: usize, order: Cluste
     let (front, rest) = info.split_at_mut(at);
     let out = &mut front[..kept];
     let merges = order.is_any() && merges_next(out, rest);
-    delete_head(out, rest, order);
+    keep_cluster(out, rest, order);
     merges
 }
 

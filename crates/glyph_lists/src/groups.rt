@@ -29,8 +29,14 @@ pub fn group_end<F: Fn(&hb_glyph_info_t, &hb_glyph_info_t) -> bool>(
         → ((x y : _) (r : _) → F.post group.now x y r → r ≡ test x.now y.now)
         → result ≡ of.group_end test start info.now }
 {
+    let mut last = &info[start];
     let mut end = start + 1;
-    while end < info.len() && group(&info[end - 1], &info[end]) {
+    while end < info.len() {
+        let next = &info[end];
+        if !group(last, next) {
+            break;
+        }
+        last = next;
         end += 1;
     }
     end

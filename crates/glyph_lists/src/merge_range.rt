@@ -1,7 +1,7 @@
 //! The range of glyphs that a merge changes, found by reading little more than that range.
 
-ghost use Rattle.std.specs.Prelude.{◌≡◌, ◌+◌, ◌-◌, ◌*◌, ◌^◌, ◌<◌, ◌≤◌, ◌++◌, length, slice_index};
-ghost use Rattle.glyph_lists.specs.ClusterReads.{both_clusters, SameLists};
+ghost use Rattle.std.specs.Prelude.{◌≡◌, ◌+◌, ◌-◌, ◌<◌, ◌≤◌, ◌++◌, length, slice_index};
+ghost use Rattle.glyph_lists.specs.ClusterReads.{both_clusters, FewReads, SameLists};
 ghost use Rattle.glyph_lists.specs.Clusters.{range_least, run_start, run_end, widened_start, widened_end};
 ghost use Rattle.glyph_lists.specs.Clusters.{run_merge};
 ghost use Rattle.glyph_lists.specs.PairChange.{pair_changed};
@@ -17,7 +17,7 @@ fn least_cluster(reads: &mut ClusterReads, start: usize, end: usize, first: u32,
     requires within { end ≤ length (both_clusters reads.old) }
     requires first { first ≡ slice_index (both_clusters reads.old) start }
     requires last { last ≡ slice_index (both_clusters reads.old) (end - 1) }
-    requires room { reads.old.reads < 2 ^ 99 }
+    requires few { FewReads reads.old }
     ensures is { result ≡ range_least (both_clusters reads.old) start end }
     ensures same { SameLists reads.old reads.new }
     ensures cost { reads.new.reads ≡ reads.old.reads + (end - 2 - start) }
@@ -34,7 +34,7 @@ fn least_cluster(reads: &mut ClusterReads, start: usize, end: usize, first: u32,
 #[tactic(auto, using(crate::proofs::RunsLemmas::walks))]
 fn run_start_before(reads: &mut ClusterReads, cluster: u32, floor: usize, end: usize) -> usize
     requires within { end ≤ length (both_clusters reads.old) }
-    requires room { reads.old.reads < 2 ^ 100 }
+    requires few { FewReads reads.old }
     ensures is { result ≡ run_start (both_clusters reads.old) cluster floor end }
     ensures below { result ≤ end }
     ensures same { SameLists reads.old reads.new }
@@ -52,7 +52,7 @@ fn run_start_before(reads: &mut ClusterReads, cluster: u32, floor: usize, end: u
 #[tactic(auto, using(crate::proofs::RunsLemmas::walks))]
 fn run_end_after(reads: &mut ClusterReads, cluster: u32, start: usize) -> usize
     requires within { start ≤ length (both_clusters reads.old) }
-    requires room { reads.old.reads < 2 ^ 101 }
+    requires few { FewReads reads.old }
     ensures is { result ≡ run_end (both_clusters reads.old) cluster start }
     ensures above { start ≤ result }
     ensures range_within { result ≤ length (both_clusters reads.old) }

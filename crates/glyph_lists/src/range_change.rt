@@ -19,7 +19,7 @@ pub enum RangeChange {
 /// Changes the glyphs from `start` to `end` of the two sides as one list, `out` first, where `end` is not within `out`.
 #[inline(always)]
 #[tactic(auto, using(crate::proofs::ScansLemmas::slices_scanned))]
-pub fn change_range(
+pub fn change(
     out: &mut [hb_glyph_info_t],
     input: &mut [hb_glyph_info_t],
     start: usize,

@@ -1,1 +1,7 @@
+-- Why boxes and names of glyphs are those that outlines and charsets give.
+--
+-- A charset is ranges one after the other: the first that reaches a glyph names it, and a range that is not there ends
+-- the list (`CharsetLemmas`). Boxes grow by one point at a time, which is one step of their definition. Of the
+-- interpreters of charstrings no answer is proved but that they end, within the steps they are given.
+
 pub mod CharsetLemmas

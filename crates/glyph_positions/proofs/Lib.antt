@@ -1,1 +1,6 @@
+-- Why positioning leaves glyphs and clusters as they are.
+--
+-- Lookups write positions, which the list of glyphs does not have, and glyph flags, which change masks alone
+-- (`FlagLemmas`): so the list keeps its length, its glyphs and its clusters.
+
 pub mod FlagLemmas

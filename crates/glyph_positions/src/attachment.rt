@@ -48,8 +48,8 @@ fn offsets_of(turn: &Turn, matrix: &[u8], row: u32) -> Option<(i32, i32)> {
     let class_count = u16_at(table, 6)?;
     let marks = table_at_16(table, 8).unwrap_or(&[]);
     let anchor = anchor_in(matrix, row, mark_class(marks, turn.index), class_count)?;
-    let anchor = Anchor::read(anchor, &turn.instance)?;
-    match Anchor::read(mark_anchor(marks, turn.index), &turn.instance) {
+    let anchor = Anchor::read(anchor, turn.instance)?;
+    match Anchor::read(mark_anchor(marks, turn.index), turn.instance) {
         Some(own) => Some((
             own.x_to(&anchor, &turn.instance.scale),
             own.y_to(&anchor, &turn.instance.scale),

@@ -107,7 +107,7 @@ fn anchor_of(turn: &Turn, index: u32, at: usize) -> Option<Anchor> {
     let table = turn.subtable.table;
     if index < u32::from(u16_at(table, 4)?) {
         let row = at.saturating_add(4 * index as usize);
-        Anchor::read(table_at_16(table, row)?, &turn.instance)
+        Anchor::read(table_at_16(table, row)?, turn.instance)
     } else {
         None
     }

@@ -30,11 +30,11 @@ const MAX_NESTING_LEVEL: u32 = 64;
 #[derive(Clone, Copy, Debug)]
 struct Task<'a> {
     /// The font's lookups and its size.
-    setting: Setting<'a>,
+    setting: &'a Setting<'a>,
     /// The lookup.
-    lookup: Lookup<'a>,
+    lookup: &'a Lookup<'a>,
     /// How it is applied.
-    options: LookupOptions,
+    options: &'a LookupOptions,
     /// The place of the glyph.
     place: usize,
     /// How many levels of lookups it may apply.
@@ -66,11 +66,11 @@ pub fn position(
 }
 
 /// Positions the glyphs by a lookup, one after the other.
-fn place_all(
+fn place_all<'a>(
     buffer: &mut hb_buffer_t,
-    setting: &Setting,
+    setting: &'a Setting<'a>,
     lookup: u16,
-    options: &LookupOptions,
+    options: &'a LookupOptions,
     search: &mut Search,
 )
     requires closed { buffer.old.have_output ≡ false }
@@ -93,9 +93,9 @@ fn place_all(
             return;
         }
         let task = Task {
-            setting: *setting,
-            lookup: *lookup,
-            options: *options,
+            setting,
+            lookup,
+            options,
             place,
             depth: MAX_NESTING_LEVEL,
         };
@@ -129,7 +129,7 @@ fn place_by_lookup<'a>(
     ensures spent { IsNotMore search.old.budget search.new.budget }
 {
     let glyph = buffer.info().get(task.place)?.glyph_id;
-    let subtables = task.setting.list.subtables_of(&task.lookup);
+    let subtables = task.setting.list.subtables_of(task.lookup);
     search.budget.pay_for(subtables.len() / PASSED_A_STEP);
     for subtable in subtables {
         if subtable.digest.may_have(glyph)
@@ -150,7 +150,7 @@ fn place_by_lookup<'a>(
 fn place_by_subtable<'a>(
     buffer: &mut hb_buffer_t,
     task: &Task<'a>,
-    subtable: &Subtable<'a>,
+    subtable: &'a Subtable<'a>,
     index: u32,
     search: &mut Search,
     last: &mut LastBase,
@@ -164,9 +164,9 @@ fn place_by_subtable<'a>(
     ensures spent { IsNotMore search.old.budget search.new.budget }
 {
     let turn = Turn {
-        subtable: *subtable,
-        walk: Walk::over_input(task.lookup.filter, &task.options, true),
-        instance: task.setting.instance,
+        subtable,
+        walk: Walk::over_input(task.lookup.filter, task.options, true),
+        instance: &task.setting.instance,
         place: task.place,
         index,
     };
@@ -199,8 +199,8 @@ fn place_by_context<'a>(
     ensures glyphs { reset_masks 0 buffer.new.input ≡ reset_masks 0 buffer.old.input }
     ensures spent { IsNotMore search.old.budget search.new.budget }
 {
-    let context = Walk::over_context(task.lookup.filter, &task.options, true);
-    let fit = fit_at(buffer.info(), &task.setting, turn, &context, search);
+    let context = Walk::over_context(task.lookup.filter, task.options, true);
+    let fit = fit_at(buffer.info(), task.setting, turn, &context, search);
     let reached = turn.place.saturating_add(search.reach.to);
     mark_concat(buffer, search.reach.from, reached);
     let fit = fit?;
@@ -248,7 +248,7 @@ fn nested_task<'a>(task: &Task<'a>, fit: &Fit, places: &Places, index: usize) ->
 {
     let record = fit.record(index)?;
     let at = *places.as_slice().get(record.sequence)?;
-    let lookup = *task.setting.list.lookup(record.lookup)?;
+    let lookup = task.setting.list.lookup(record.lookup)?;
     let depth = task.depth.checked_sub(1)?;
     Some(Task {
         setting: task.setting,

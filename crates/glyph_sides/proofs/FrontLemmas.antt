@@ -57,18 +57,18 @@ set_kept true ys xs n i x h = refl
 set_kept false ys xs n i x h = take-set-le n xs i x (h refl)
 
 -- the last glyph that was put out in place, written
-module _ {X : Type 0} (apart : Bool) (ys xs : List X) (n : ℕ) (x : X) (near : apart ≡ false)
-    (some : 0 < length (if apart then ys else take n xs)) where
+module _ {X : Type 0} (separate : Bool) (ys xs : List X) (n : ℕ) (x : X) (in_place : separate ≡ false)
+    (some : 0 < length (if separate then ys else take n xs)) where
   abbrev last : ℕ
-  last = length (if apart then ys else take n xs) - 1
+  last = length (if separate then ys else take n xs) - 1
 
   pub last_written : take n (set xs last x) ≡ set (take n xs) last x
-  last_written = take-set-lt n xs last x (grind (arith, near, some, length-take n xs))
+  last_written = take-set-lt n xs last x (grind (arith, in_place, some, length-take n xs))
 
   pub last_input : (is : Bool) (m : ℕ) → n ≤ m → (is ≡ false → n ≡ 0)
       → (if is then drop m (set xs last x) else set xs last x) ≡ (if is then drop m xs else xs)
-  last_input true m after none = drop-set-lt m xs last x (grind (arith, near, some, length-take n xs))
-  last_input false m after none = absurd (grind (arith, none refl, near, some, length-take n xs))
+  last_input true m after none = drop-set-lt m xs last x (grind (arith, in_place, some, length-take n xs))
+  last_input false m after none = absurd (grind (arith, none refl, in_place, some, length-take n xs))
 
 -- so many were put out in place
 pub length_placed : {X : Type 0} (is : Bool) (ys xs : List X) (n : ℕ) → is ≡ false → n ≤ length xs

@@ -4,7 +4,7 @@ use Rattle.std.proofs.Math.Seq.{take-add}
 use Rattle.std.proofs.lemmas.List.{take-append-drop, drop-append-le, length-take-le}
 use Rattle.std.proofs.lemmas.Grind.{common_steps}
 use Rattle.glyph_sides.specs.TwoLists as lists
-use Rattle.glyph_sides.specs.TwoLists.{TwoLists, left}
+use Rattle.glyph_sides.specs.TwoLists.{TwoLists, lookahead_len}
 use Rattle.glyph_sides.specs.IsStored.{IsStored}
 use Rattle.glyph_sides.specs.contracts.sides.Sides.{the_view}
 use Rattle.glyph_sides.specs.declared.sides.Sides.TheInside.{Inside}
@@ -24,11 +24,11 @@ left_already xs i cursor before within =
 
 module _ (b : Inside) (s : TwoLists) (stored : IsStored b) (is : the_view b ≡ s) (near : b.is_separate ≡ false)
     (none : b.gap ≡ 0) where
-  pub next_moves : (n : ℕ) → n ≤ left s → the_view (record b { cursor = b.cursor + n }) ≡ lists.next n s
+  pub next_moves : (n : ℕ) → n ≤ lookahead_len s → the_view (record b { cursor = b.cursor + n }) ≡ lists.next n s
   next_moves n within =
       let put = put_already b.info.items b.gap b.cursor n none in grind (arith, common_steps, put)
 
-  pub take_back_moves : (i : ℕ) → i < length s.out → the_view (record b { cursor = i }) ≡ lists.take_back i s
-  take_back_moves i within = grind (arith, common_steps, left_already)
+  pub rewind_moves : (i : ℕ) → i < length s.out → the_view (record b { cursor = i }) ≡ lists.rewind i s
+  rewind_moves i within = grind (arith, common_steps, left_already)
 
-pub ruleset moves = (next_moves, take_back_moves)
+pub ruleset moves = (next_moves, rewind_moves)

@@ -29,8 +29,8 @@ abbrev pub len : TwoLists → ℕ
 len s = if s.is_open then s.idx + length s.input else length s.input
 
 -- how many glyphs there are at the cursor and after it
-abbrev pub left : TwoLists → ℕ
-left s = len s - s.idx
+abbrev pub lookahead_len : TwoLists → ℕ
+lookahead_len s = len s - s.idx
 
 -- What is true of all two sides: the cursor is in the input, what stands in the storage of the input has no more glyphs
 -- than were read, and with no output open there is no out side.
@@ -84,9 +84,9 @@ put xs s = settled (record s { out = s.out ++ xs })
 abbrev pub next : ℕ → TwoLists → TwoLists
 next n s = if s.is_open then put (take n s.input) (skip n s) else skip n s
 
--- glyphs that were put out are left to read again, all but the first i
-abbrev pub take_back : ℕ → TwoLists → TwoLists
-take_back i s =
+-- all but the first i glyphs that were put out are to be read again
+abbrev pub rewind : ℕ → TwoLists → TwoLists
+rewind i s =
     record s {
       out = take i s.out;
       input = drop i s.out ++ s.input;
@@ -100,11 +100,11 @@ abbrev pub both : TwoLists → List hb_glyph_info_t
 both s = s.out ++ s.input
 
 -- where glyph k of the input, counted from its start, stands in what is left to read, and in both sides
-abbrev pub left_place : ℕ → TwoLists → ℕ
-left_place k s = k - (if s.is_open then s.idx else 0)
+abbrev pub input_place : ℕ → TwoLists → ℕ
+input_place k s = k - (if s.is_open then s.idx else 0)
 
 abbrev pub place : ℕ → TwoLists → ℕ
-place k s = length s.out + left_place k s
+place k s = length s.out + input_place k s
 
 -- another list in place of both sides, cut where the out side ends
 abbrev pub with_both : List hb_glyph_info_t → TwoLists → TwoLists

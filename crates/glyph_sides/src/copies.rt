@@ -40,7 +40,7 @@ pub(crate) fn write_copies(
     requires { at + length ids.now ≤ length info.old }
     ensures put { take (at + length ids.now) info.new
         ≡ take at info.old ++ copies glyph ids.now }
-    ensures left { drop (at + length ids.now) info.new ≡ drop (at + length ids.now) info.old }
+    ensures behind { drop (at + length ids.now) info.new ≡ drop (at + length ids.now) info.old }
 {
     fill(&mut info[at..at + ids.len()], glyph, ids);
 }

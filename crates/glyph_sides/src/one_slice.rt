@@ -51,9 +51,9 @@ pub(crate) fn merge_out(info: &mut [hb_glyph_info_t], gap: Range<usize>, start: 
     merging::merge_out(&mut front[..gap.start], input, start, end);
 }
 
-/// Changes the glyphs from `start` to `end` of the two sides as one list, as `range_change::change_range` does.
+/// Changes the glyphs from `start` to `end` of the two sides as one list, as `range_change::change` does.
 #[inline(always)]
-pub(crate) fn change_range(
+pub(crate) fn change(
     info: &mut [hb_glyph_info_t],
     gap: Range<usize>,
     start: usize,
@@ -71,12 +71,12 @@ pub(crate) fn change_range(
         (changed change gap.start (take gap.start info.old ++ drop gap.end info.old) start end) }
 {
     let (front, input) = info.split_at_mut(gap.end);
-    range_change::change_range(&mut front[..gap.start], input, start, end, change);
+    range_change::change(&mut front[..gap.start], input, start, end, change);
 }
 
-/// Keeps the cluster of the first glyph of the input, which then leaves it, as `deletion::delete_head` does.
+/// Keeps the cluster of the first glyph of the input, which then leaves it, as `deletion::keep_cluster` does.
 #[inline(always)]
-pub(crate) fn delete_head(info: &mut [hb_glyph_info_t], gap: Range<usize>, order: ClusterOrder)
+pub(crate) fn keep_cluster(info: &mut [hb_glyph_info_t], gap: Range<usize>, order: ClusterOrder)
     requires gap { gap.start ≤ gap.end }
     requires glyph { gap.end < length info.old }
     ensures out { take gap.start info.new ≡ (deletion (is_any order) (take gap.start info.old)
@@ -87,5 +87,5 @@ pub(crate) fn delete_head(info: &mut [hb_glyph_info_t], gap: Range<usize>, order
         (drop 1 (drop gap.end info.old))).rest }
 {
     let (front, input) = info.split_at_mut(gap.end);
-    deletion::delete_head(&mut front[..gap.start], input, order);
+    deletion::keep_cluster(&mut front[..gap.start], input, order);
 }

@@ -22,7 +22,7 @@ pub(crate) fn put_down(info: &mut Vec<hb_glyph_info_t>, to: usize, from: usize, 
     ensures len { vec_len info.new ≡ vec_len info.old }
     ensures put { take (to + count) info.new.items
         ≡ take to info.old.items ++ take count (drop from info.old.items) }
-    ensures left { drop (from + count) info.new.items ≡ drop (from + count) info.old.items }
+    ensures behind { drop (from + count) info.new.items ≡ drop (from + count) info.old.items }
     ensures capacity { vec_capacity info.new ≡ vec_capacity info.old }
 {
     info.copy_within(from..from + count, to);
@@ -56,15 +56,15 @@ pub(crate) fn close_gap(info: &mut Vec<hb_glyph_info_t>, to: usize, from: usize)
     ensures capacity { vec_capacity info.new ≡ vec_capacity info.old }
 {
     if to < from {
-        let left = info.len() - from;
-        put_down(info, to, from, left);
-        info.truncate(to + left);
+        let count = info.len() - from;
+        put_down(info, to, from, count);
+        info.truncate(to + count);
     }
 }
 
-/// Moves the glyphs from `start` to `end` up, so that they end at a place.
+/// Moves the glyphs from `start` to `end` up, so that they end at a place: the input then begins with them.
 #[tactic(auto, using(crate::proofs::ShiftLemmas::range_is))]
-pub(crate) fn shift_back(info: &mut Vec<hb_glyph_info_t>, start: usize, end: usize, at: usize)
+pub(crate) fn shift_up(info: &mut Vec<hb_glyph_info_t>, start: usize, end: usize, at: usize)
     requires order { start ≤ end }
     requires up { end ≤ at }
     requires within { at ≤ vec_len info.old }
@@ -74,11 +74,11 @@ pub(crate) fn shift_back(info: &mut Vec<hb_glyph_info_t>, start: usize, end: usi
         ≡ drop start (take end info.old.items) ++ drop at info.old.items }
     ensures capacity { vec_capacity info.new ≡ vec_capacity info.old }
 {
-    shift_up(info, start, end, at);
+    shift_range(info, start, end, at);
 }
 
-/// The same, in words of ranges.
-fn shift_up(info: &mut Vec<hb_glyph_info_t>, start: usize, end: usize, at: usize)
+/// Moves a range as `shift_up` does. Its clauses speak of the range, as those of `copy_within` do.
+fn shift_range(info: &mut Vec<hb_glyph_info_t>, start: usize, end: usize, at: usize)
     requires order { start ≤ end }
     requires up { end ≤ at }
     requires within { at ≤ vec_len info.old }
@@ -134,7 +134,7 @@ pub(crate) fn open_gap(info: &mut Vec<hb_glyph_info_t>, at: usize, more: usize)
 }
 
 /// Writes glyphs in front of a place.
-pub(crate) fn put_back(info: &mut Vec<hb_glyph_info_t>, at: usize, glyphs: &[hb_glyph_info_t])
+pub(crate) fn write_before(info: &mut Vec<hb_glyph_info_t>, at: usize, glyphs: &[hb_glyph_info_t])
     requires within { at ≤ vec_len info.old }
     requires fits { length glyphs.now ≤ at }
     ensures len { vec_len info.new ≡ vec_len info.old }

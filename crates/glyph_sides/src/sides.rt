@@ -2,7 +2,7 @@
 
 ghost use Rattle.std.specs.Prelude.{◌≡◌, ◌+◌, ◌-◌, ◌<◌, ◌≤◌, ◌&&◌, [], ◌∷◌, ◌++◌, max, OnOk, OnErr, true, false, nat_lt, chars, length, if◌then◌else◌, take, drop};
 ghost use Rattle.glyph_sides.specs.TextGlyphs.{glyphs_at};
-ghost use Rattle.glyph_sides.specs.TwoLists.{IsSides, len, left, nothing, opened, place};
+ghost use Rattle.glyph_sides.specs.TwoLists.{IsSides, len, lookahead_len, nothing, opened, place};
 
 use crate::characters::append_characters;
 use rb_glyph::hb_glyph_info_t;
@@ -27,7 +27,7 @@ pub struct Sides {
     /// How many places before the cursor stand free, where the output is in place: so many more glyphs were read than
     /// were put out.
     gap: usize,
-    /// How many places in front of the input stand free, for glyphs that are taken back past its start. There are none
+    /// How many places in front of the input stand free, for rewinds past its start. There are none
     /// while the output is in place.
     front: usize,
     /// The place of the cursor in `info`.
@@ -121,7 +121,7 @@ impl Sides {
     /// `max_len`.
     #[inline(always)]
     pub fn next_exceeds(&self, more: usize, max_len: usize) -> bool
-        requires within { more ≤ left self.now }
+        requires within { more ≤ lookahead_len self.now }
         requires out { length self.now.out ≤ max_len }
         requires input { len self.now ≤ max_len }
         ensures is { result ≡ (self.now.is_open && nat_lt max_len (length self.now.out + more)) }
@@ -175,8 +175,8 @@ impl Sides {
 
     /// How many glyphs there are at the cursor and after it.
     #[inline(always)]
-    pub fn left(&self) -> usize
-        ensures { result ≡ left self.now }
+    pub fn lookahead_len(&self) -> usize
+        ensures { result ≡ lookahead_len self.now }
     {
         self.info.len() - self.cursor
     }

@@ -1,6 +1,6 @@
 use crate::lists::{assert_clusters, assert_glyphs, glyph, glyphs};
 use glyph_lists::cluster_order::ClusterOrder::{Any, Monotone};
-use glyph_lists::deletion::{delete_head, merges_next, set_trailing_run};
+use glyph_lists::deletion::{keep_cluster, merges_next, set_trailing_run};
 
 /// What was put out, if anything, and the current glyph with the two glyphs after it.
 #[test]
@@ -17,7 +17,7 @@ fn a_lower_cluster_is_kept(rt: HostRuntime) {
         let mut out = glyphs(before);
         let mut input = glyphs(input);
         assert!(rt; out_len <= 2);
-        delete_head(&mut out[..out_len], &mut input, order);
+        keep_cluster(&mut out[..out_len], &mut input, order);
         assert_clusters(&rt, &out, &after);
         assert_glyphs(&rt, &input[1..], &rest);
     }

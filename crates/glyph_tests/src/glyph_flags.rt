@@ -2,7 +2,7 @@ use crate::lists::{assert_masks, glyph, glyphs};
 use glyph_lists::cluster_order::ClusterOrder;
 use glyph_lists::cluster_order::ClusterOrder::{Any, Monotone};
 use glyph_lists::glyph_flags::scan_slice;
-use glyph_lists::range_change::{RangeChange, change_range};
+use glyph_lists::range_change::{RangeChange, change};
 
 /// Clusters, a range, their order, and the masks after the scan.
 static SCANS: [([u32; 4], usize, usize, ClusterOrder, [u32; 4]); 6] = [
@@ -46,7 +46,7 @@ fn a_scan_of_two_parts_goes_by_the_least_of_both(rt: HostRuntime) {
         assert!(rt; cut <= end && start <= end && end <= 4);
         let (out, input) = list.split_at_mut(cut);
         let scan = RangeChange::Scan { bits: 3, order };
-        change_range(out, input, start, end, scan);
+        change(out, input, start, end, scan);
         assert_masks(&rt, out, &masks[..cut]);
         assert_masks(&rt, input, &masks[cut..]);
     }
@@ -56,7 +56,7 @@ fn a_scan_of_two_parts_goes_by_the_least_of_both(rt: HostRuntime) {
 fn a_range_is_marked_on_both_sides(rt: HostRuntime) {
     let mut out = glyphs([0, 1]);
     let mut input = [glyph(2, 1), glyph(3, 0)];
-    change_range(&mut out, &mut input, 1, 3, RangeChange::Mark { bits: 2 });
+    change(&mut out, &mut input, 1, 3, RangeChange::Mark { bits: 2 });
     assert_masks(&rt, &out, &[0, 2]);
     assert_masks(&rt, &input, &[3, 0]);
 }

@@ -49,6 +49,8 @@ mod position;
 #[cfg(test)]
 mod reversal;
 #[cfg(test)]
+mod row_search;
+#[cfg(test)]
 mod serialize;
 #[cfg(test)]
 mod sides;

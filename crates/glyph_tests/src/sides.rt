@@ -25,12 +25,12 @@ fn opened(rt: &impl Abort, alloc: Global, clusters: &[u32]) -> Sides {
 }
 
 fn next(rt: &impl Abort, sides: &mut Sides, n: usize) {
-    assert!(rt; n <= sides.left());
+    assert!(rt; n <= sides.lookahead_len());
     assert!(rt; sides.next(n).is_ok());
 }
 
 fn skip(rt: &impl Abort, sides: &mut Sides, n: usize) {
-    assert!(rt; n <= sides.left());
+    assert!(rt; n <= sides.lookahead_len());
     sides.skip(n);
 }
 
@@ -56,7 +56,7 @@ fn assert_sides(rt: &impl Abort, sides: &Sides, out: &[u32], input: &[u32], is_s
 #[test]
 fn glyphs_are_put_out_in_place(rt: HostRuntime) {
     let mut sides = opened(&rt, rt.alloc(), &[0, 1, 2, 3, 4]);
-    assert!(rt; sides.left() > 0);
+    assert!(rt; sides.lookahead_len() > 0);
     assert!(rt; sides.next_one().is_ok());
     skip(&rt, &mut sides, 1);
     put(&rt, &mut sides, 9, 0);
@@ -78,12 +78,12 @@ fn more_than_was_read_is_separate(rt: HostRuntime) {
     put(&rt, &mut sides, 8, 1);
     next(&rt, &mut sides, 1);
     assert_sides(&rt, &sides, &[7, 8, 1], &[2], true);
-    assert!(rt; sides.left() > 0);
+    assert!(rt; sides.lookahead_len() > 0);
     assert!(rt; sides.len() <= 3);
     assert!(rt; sides.out_len() <= 3);
     assert!(rt; sides.next_exceeds(1, 3));
     assert!(rt; sides.out_len() > 1);
-    assert!(rt; sides.take_back(1).is_ok());
+    assert!(rt; sides.rewind(1).is_ok());
     assert_sides(&rt, &sides, &[7], &[8, 1, 2], true);
     close(&rt, &mut sides);
     assert_sides(&rt, &sides, &[], &[7, 8, 1, 2], false);
@@ -130,7 +130,7 @@ fn both_sides_are_merged_and_marked_as_one_list(rt: HostRuntime) {
     assert!(rt; !sides.input().is_empty());
     sides.delete_head(ClusterOrder::Monotone);
     assert!(rt; sides.out_len() == 1);
-    assert!(rt; sides.left() == 2);
+    assert!(rt; sides.lookahead_len() == 2);
 }
 
 #[test]
@@ -156,7 +156,7 @@ fn scans_mark_outside_the_least_cluster(rt: HostRuntime) {
 fn single_glyphs_are_read_and_written(rt: HostRuntime) {
     let mut sides = opened(&rt, rt.alloc(), &[0, 1, 2]);
     next(&rt, &mut sides, 1);
-    assert!(rt; sides.left() > 1);
+    assert!(rt; sides.lookahead_len() > 1);
     assert!(rt; sides.cur(1).cluster == 2);
     sides.cur_mut(1).cluster = 7;
     assert!(rt; sides.out_len() > 0);

@@ -1,2 +1,7 @@
+-- Why each feature has a mask of its own.
+--
+-- A value takes the bits below the next power of two (`MaskLemmas`). Features get their bits one after the other, each
+-- from the first free bit on, so what was given before stays below it, and no two share a bit (`AllocationLemmas`).
+
 pub mod MaskLemmas
 pub mod AllocationLemmas

@@ -2,6 +2,8 @@
 #![tactic(auto)]
 
 #[cfg(test)]
+mod fonts;
+#[cfg(test)]
 mod lines;
 #[cfg(test)]
 mod mark_order;

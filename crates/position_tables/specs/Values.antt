@@ -1,5 +1,5 @@
 -- Value records: by how much a glyph is moved, and its advance changed.
-use Rattle.std.specs.Prelude.{ℕ, ℤ, List, Option, None, Some, Bool, ◌+◌, ◌*◌, ◌/◌, ◌%◌, nat_eq, nat_le, length}
+use Rattle.std.specs.Prelude.{ℕ, ℤ, pos, List, Option, None, Some, Bool, ◌+◌, ◌*◌, ◌/◌, ◌%◌, nat_eq, nat_le, length}
 use Rattle.std.specs.Prelude.{if◌then◌else◌, unwrap_or}
 use Rattle.std.specs.Int.{w16, w32, cast_signed, int_wrapping_add, int_wrapping_sub}
 use Rattle.std.specs.Int.Count.{ones}
@@ -23,19 +23,36 @@ field table format bit at = if names format bit then unwrap_or (number_16 table 
 abbrev pub record_size : ℕ → ℕ
 record_size format = 2 * ones format
 
+-- the fields of the record of a format at a place
+unfoldable pub fields : List ℕ → ℕ → ℕ → ValueRecord
+fields table format at = record {
+  x_placement = cast_signed w16 (field table format 1 at);
+  y_placement = cast_signed w16 (field table format 2 at);
+  x_advance = cast_signed w16 (field table format 4 at);
+  y_advance = cast_signed w16 (field table format 8 at);
+  x_placement_device = field table format 16 at;
+  y_placement_device = field table format 32 at;
+  x_advance_device = field table format 64 at;
+  y_advance_device = field table format 128 at;
+}
+
+-- the record that names nothing
+abbrev pub no_values : ValueRecord
+no_values = record {
+  x_placement = pos 0;
+  y_placement = pos 0;
+  x_advance = pos 0;
+  y_advance = pos 0;
+  x_placement_device = 0;
+  y_placement_device = 0;
+  x_advance_device = 0;
+  y_advance_device = 0;
+}
+
 -- the record of a format at a place; `None` unless the table holds all of it
 unfoldable pub value_record : List ℕ → ℕ → ℕ → Option ValueRecord
 value_record table format at =
-    if nat_le (at + record_size format) (length table) then Some (record {
-      x_placement = cast_signed w16 (field table format 1 at);
-      y_placement = cast_signed w16 (field table format 2 at);
-      x_advance = cast_signed w16 (field table format 4 at);
-      y_advance = cast_signed w16 (field table format 8 at);
-      x_placement_device = field table format 16 at;
-      y_placement_device = field table format 32 at;
-      x_advance_device = field table format 64 at;
-      y_advance_device = field table format 128 at;
-    }) else None
+    if nat_le (at + record_size format) (length table) then Some (fields table format at) else None
 
 -- a number and its correction are added
 abbrev pub plus : ℤ → ℤ → ℤ → ℤ

@@ -2,7 +2,7 @@
 //! Table", "Value record").
 
 ghost use Rattle.std.specs.Prelude.{◌≡◌, ◌≤◌, ◌<◌, ◌+◌, ◌*◌, ◌%◌, length};
-ghost use Rattle.position_tables.specs.Values.{field, names, record_size, value_record, moved, moved_x, moved_y, moved_back};
+ghost use Rattle.position_tables.specs.Values.{no_values, field, fields, names, record_size, value_record, moved, moved_x, moved_y, moved_back};
 ghost use Rattle.position_tables.specs.Values.{plus, minus};
 
 use crate::devices::{x_correction, y_correction};
@@ -33,22 +33,17 @@ pub struct ValueRecord {
 
 impl ValueRecord {
     /// The record of a format at a place; `None` unless the table holds all of it.
-    #[tactic(auto, unfolding(crate::specs::Values::value_record))]
+    #[tactic(auto, using(crate::proofs::ValueLemmas::none_named), unfolding(crate::specs::Values::value_record))]
     pub fn read(table: &[u8], format: u16, at: usize) -> Option<Self>
         ensures { result ≡ value_record table.now format at }
     {
         if at > table.len() || table.len() - at < record_size(format) {
             return None;
         }
-        Some(ValueRecord {
-            x_placement: field(table, format, 1, at).cast_signed(),
-            y_placement: field(table, format, 2, at).cast_signed(),
-            x_advance: field(table, format, 4, at).cast_signed(),
-            y_advance: field(table, format, 8, at).cast_signed(),
-            x_placement_device: field(table, format, 16, at),
-            y_placement_device: field(table, format, 32, at),
-            x_advance_device: field(table, format, 64, at),
-            y_advance_device: field(table, format, 128, at),
+        Some(if format == 0 {
+            no_values()
+        } else {
+            fields(table, format, at)
         })
     }
 
@@ -117,6 +112,40 @@ impl ValueRecord {
     }
 }
 
+/// The record that names nothing.
+fn no_values() -> ValueRecord
+    ensures { result ≡ no_values }
+{
+    ValueRecord {
+        x_placement: 0,
+        y_placement: 0,
+        x_advance: 0,
+        y_advance: 0,
+        x_placement_device: 0,
+        y_placement_device: 0,
+        x_advance_device: 0,
+        y_advance_device: 0,
+    }
+}
+
+/// The record of a format at a place, field by field.
+#[tactic(auto, unfolding(crate::specs::Values::fields))]
+fn fields(table: &[u8], format: u16, at: usize) -> ValueRecord
+    requires within { at ≤ length table.now }
+    ensures { result ≡ fields table.now format at }
+{
+    ValueRecord {
+        x_placement: field(table, format, 1, at).cast_signed(),
+        y_placement: field(table, format, 2, at).cast_signed(),
+        x_advance: field(table, format, 4, at).cast_signed(),
+        y_advance: field(table, format, 8, at).cast_signed(),
+        x_placement_device: field(table, format, 16, at),
+        y_placement_device: field(table, format, 32, at),
+        x_advance_device: field(table, format, 64, at),
+        y_advance_device: field(table, format, 128, at),
+    }
+}
+
 /// Whether device tables correct numbers across, or upwards: whether there are pixels or variations.
 fn uses_devices(instance: &Instance<'_>, is_horizontal: bool) -> bool {
     let ppem = if is_horizontal {
@@ -128,8 +157,20 @@ fn uses_devices(instance: &Instance<'_>, is_horizontal: bool) -> bool {
 }
 
 /// A number across, moved by a value and its device table.
-#[tactic(auto, unfolding(crate::specs::Values::moved_x))]
+#[tactic(auto, using(crate::proofs::ValueLemmas::unmoved))]
 fn moved_x(base: &[u8], instance: &Instance<'_>, value: i16, device: u16, number: i32) -> i32
+    ensures { result ≡ moved_x base.now instance.now value device number }
+{
+    if value == 0 && device == 0 {
+        number
+    } else {
+        scaled_x(base, instance, value, device, number)
+    }
+}
+
+/// A number across, moved by a value of any length and its device table.
+#[tactic(auto, unfolding(crate::specs::Values::moved_x))]
+fn scaled_x(base: &[u8], instance: &Instance<'_>, value: i16, device: u16, number: i32) -> i32
     ensures { result ≡ moved_x base.now instance.now value device number }
 {
     let length = instance.scale.em_scale_x(i32::from(value));
@@ -137,8 +178,20 @@ fn moved_x(base: &[u8], instance: &Instance<'_>, value: i16, device: u16, number
 }
 
 /// A number upwards, moved by a value and its device table.
-#[tactic(auto, unfolding(crate::specs::Values::moved_y))]
+#[tactic(auto, using(crate::proofs::ValueLemmas::unmoved))]
 fn moved_y(base: &[u8], instance: &Instance<'_>, value: i16, device: u16, number: i32) -> i32
+    ensures { result ≡ moved_y base.now instance.now value device number }
+{
+    if value == 0 && device == 0 {
+        number
+    } else {
+        scaled_y(base, instance, value, device, number)
+    }
+}
+
+/// A number upwards, moved by a value of any length and its device table.
+#[tactic(auto, unfolding(crate::specs::Values::moved_y))]
+fn scaled_y(base: &[u8], instance: &Instance<'_>, value: i16, device: u16, number: i32) -> i32
     ensures { result ≡ moved_y base.now instance.now value device number }
 {
     let length = instance.scale.em_scale_y(i32::from(value));

@@ -1,14 +1,14 @@
 -- Rows that rise may be searched by bisection.
 use Rattle.std.proofs.Common.{◌≡◌, ℕ, zero, suc, ◌<◌, ◌≤◌, Bool, true, false, ◌&&◌, ◌||◌, ◌==◌, nat_lt, nat_le, List}
-use Rattle.std.proofs.Common.{[], ◌∷◌, length, get_or, Some, is_some, if◌then◌else◌, refl, ◌∙◌, ap, arith}
+use Rattle.std.proofs.Common.{[], ◌∷◌, length, get_or, Some, is_some, if◌then◌else◌, refl, arith}
 use Rattle.std.specs.List.{find, list_any, list_all}
 use Rattle.std.specs.Ordering.{ordering_index, nat_cmp, is_eq, ordering_then}
 use Rattle.std.specs.declared.cmp.Ordering.{Ordering}
 use Rattle.std.specs.declared.cmp.Ordering.TheVariants.{Equal}
 use Rattle.std.proofs.lemmas.Bool.Decides.{nat_tests}
-use Rattle.rb_glyph.specs.Rows.{rise, are_apart, holds}
+use Rattle.rb_glyph.specs.Rows.{rise, is_in, ranges_apart, holds}
 use Rattle.rb_glyph.specs.Tables.{pair_lt, pairs_rise}
-use Rattle.rb_glyph.specs.Search.{IsSearchable, place_of}
+use Rattle.rb_glyph.specs.Search.{IsSearchable, range_order}
 use Rattle.rb_glyph.proofs.Bisection.{both, and_true, find_same}
 
 module _ {R : Type 0} (below : R → R → Bool)
@@ -101,22 +101,35 @@ range_joins : (a b c : ℕ × ℕ) → before_range a b ≡ true → before_rang
 range_joins a b c p q = grind (arith, nat_tests)
 
 range_climbs : (c : ℕ) (a b : ℕ × ℕ) → before_range a b ≡ true
-    → (ordering_index (place_of c a) ≤ ordering_index (place_of c b)) ×
-    (place_of c a ≡ Equal → place_of c b ≡ Equal → ⊥)
+    → (ordering_index (range_order c a) ≤ ordering_index (range_order c b)) ×
+    (range_order c a ≡ Equal → range_order c b ≡ Equal → ⊥)
 range_climbs c a b p = (grind (arith, nat_tests), λ q r. grind (arith, nat_tests))
 
-range_is_eq : (c : ℕ) (a : ℕ × ℕ) → is_eq (place_of c a) ≡ (nat_le a.0 c && nat_le c a.1)
+range_is_eq : (c : ℕ) (a : ℕ × ℕ) → is_eq (range_order c a) ≡ is_in c a
 range_is_eq c a = grind (arith, nat_tests)
 
-ranges_rise : (ranges : List (ℕ × ℕ)) → list_all (λ r. nat_le r.0 r.1) ranges ≡ true
-    → rise (λ a b. nat_lt a.1 b.0) ranges ≡ true → rise before_range ranges ≡ true
-ranges_rise [] full up = refl
-ranges_rise (a ∷ []) full up = refl
-ranges_rise (a ∷ (b ∷ ranges)) full up =
-    let f = both (nat_le a.0 a.1) (list_all (λ (r : ℕ × ℕ). nat_le r.0 r.1) (b ∷ ranges)) full in
-    let u = both (nat_lt a.1 b.0) (rise (λ (x y : ℕ × ℕ). nat_lt x.1 y.0) (b ∷ ranges)) up in
-    and_true (before_range a b) (rise before_range (b ∷ ranges)) (and_true (nat_le a.0 a.1) (nat_lt a.1 b.0) f.0 u.0)
-    (ranges_rise (b ∷ ranges) f.1 u.1)
+module _ {R : Type 0} (range_of : R → ℕ × ℕ) where
+  ranges_rise : (rows : List R) → list_all (λ r. nat_le (range_of r).0 (range_of r).1) rows ≡ true
+      → rise (λ a b. nat_lt (range_of a).1 (range_of b).0) rows ≡ true
+      → rise (λ a b. before_range (range_of a) (range_of b)) rows ≡ true
+  ranges_rise [] full up = refl
+  ranges_rise (a ∷ []) full up = refl
+  ranges_rise (a ∷ (b ∷ rows)) full up =
+      let f = both _ _ full in
+      let u = both _ _ up in
+      and_true _ _ (and_true _ _ f.0 u.0) (ranges_rise (b ∷ rows) f.1 u.1)
+
+  pub ranges_searchable : (c : ℕ) (rows : List R) → ranges_apart range_of rows ≡ true
+      → IsSearchable (λ row. range_order c (range_of row)) rows
+  ranges_searchable c rows apart =
+      searchable (λ a b. before_range (range_of a) (range_of b))
+      (λ a b c. range_joins (range_of a) (range_of b) (range_of c)) (λ row. range_order c (range_of row))
+      (λ a b. range_climbs c (range_of a) (range_of b)) rows
+      (ranges_rise rows (both _ _ apart).0 (both _ _ apart).1)
+
+  pub ranges_found : (c : ℕ) (rows : List R)
+      → find (λ row. is_eq (range_order c (range_of row))) rows ≡ find (λ row. is_in c (range_of row)) rows
+  ranges_found c rows = find_same _ _ (λ row. range_is_eq c (range_of row)) rows
 
 any_found : {R : Type 0} (test : R → Bool) (rows : List R) → is_some (find test rows) ≡ list_any test rows
 any_found test [] = refl
@@ -125,12 +138,6 @@ any_found test (x ∷ rows) =
     (λ t. is_some (if t then Some x else find test rows) ≡
     (t || list_any test rows)) [ true ↦ refl | false ↦ any_found test rows ]
 
-module _ (c : ℕ) (ranges : List (ℕ × ℕ)) where
-  pub ranges_searchable : are_apart ranges ≡ true → IsSearchable (place_of c) ranges
-  ranges_searchable apart =
-      searchable before_range range_joins (place_of c) (range_climbs c) ranges
-      (ranges_rise ranges (both _ _ apart).0 (both _ _ apart).1)
-
-  pub range_found : is_some (find (λ r. is_eq (place_of c r)) ranges) ≡ holds c ranges
-  unfolding holds
-  range_found = ap is_some (find_same _ _ (range_is_eq c) ranges) ∙ any_found _ ranges
+pub range_found : (c : ℕ) (ranges : List (ℕ × ℕ)) → is_some (find (is_in c) ranges) ≡ holds c ranges
+unfolding holds
+range_found c ranges = any_found _ ranges

@@ -16,10 +16,18 @@ keys_rise rows = rise (λ a b. nat_lt a.0 b.0) rows
 abbrev pub value_of : {V : Type 0} → ℕ → List (ℕ × V) → Option V
 value_of key rows = option_map (λ row. row.1) (find (λ row. row.0 == key) rows)
 
--- the rule of ranges, each from its first to its last: none ends before it begins, and each ends before the next begins
+-- whether a range, from its first to its last, holds the number
+abbrev pub is_in : ℕ → ℕ × ℕ → Bool
+is_in c range = nat_le range.0 c && nat_le c range.1
+
+-- the rule of rows with a range each: none ends before it begins, and each ends before the next begins
+abbrev pub ranges_apart : {R : Type 0} → (R → ℕ × ℕ) → List R → Bool
+ranges_apart range_of rows =
+    list_all (λ r. nat_le (range_of r).0 (range_of r).1) rows && rise (λ a b. nat_lt (range_of a).1 (range_of b).0) rows
+
 abbrev pub are_apart : List (ℕ × ℕ) → Bool
-are_apart ranges = list_all (λ r. nat_le r.0 r.1) ranges && rise (λ a b. nat_lt a.1 b.0) ranges
+are_apart ranges = ranges_apart (λ r. r) ranges
 
 -- some range holds the character
 unfoldable pub holds : ℕ → List (ℕ × ℕ) → Bool
-holds c ranges = list_any (λ r. nat_le r.0 c && nat_le c r.1) ranges
+holds c ranges = list_any (is_in c) ranges

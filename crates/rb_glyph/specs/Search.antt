@@ -11,6 +11,6 @@ pub record IsSearchable {R : Type 0} (order : R → Ordering) (rows : List R) : 
   pub single : (i j : ℕ) (d : R) → i < j → j < length rows → order (slice_index_or rows i d) ≡ Equal
       → ¬ (order (slice_index_or rows j d) ≡ Equal)
 
--- where a range lies from the character: before it, at it or after it
-abbrev pub place_of : ℕ → ℕ × ℕ → Ordering
-place_of c range = if nat_lt c range.0 then Greater else if nat_lt range.1 c then Less else Equal
+-- how a range, from its first number to its last, is to a number: before it, behind it, or one that holds it
+abbrev pub range_order : ℕ → ℕ × ℕ → Ordering
+range_order c range = if nat_lt c range.0 then Greater else if nat_lt range.1 c then Less else Equal

@@ -6,7 +6,7 @@ ghost use Rattle.std.specs.Prelude.{◌≡◌, Some, None, if◌then◌else◌};
 ghost use Rattle.rb_glyph.specs.Rows.{keys_rise, value_of};
 ghost use Rattle.rb_glyph.specs.Tables.{pairs_rise, composition_of, decompositions_rise, decomposition_of};
 
-use crate::row_search::{rises, row_at, row_of, value_of};
+use crate::row_search::{rises, row_of, value_of, value_of_pair};
 use std::marker::Model;
 
 /// The canonical combining classes of characters (Unicode, field 3 of `UnicodeData.txt`).
@@ -123,7 +123,7 @@ impl<'a> Compositions<'a> {
     pub(crate) fn composition_of(&self, a: char, b: char) -> Option<char>
         ensures { result ≡ composition_of a b self.now }
     {
-        row_at(self.rows, |row| row.0.cmp(&(a, b))).map(|row| row.1)
+        value_of_pair(self.rows, a, b)
     }
 }
 

@@ -1,0 +1,1 @@
+-- Requests of features are lists that grow by one row at a time, so they compute: no lemma is needed.

@@ -2,7 +2,6 @@ pub mod Item
 pub mod Joining
 pub mod JoiningRows
 pub mod Listed
-pub mod Search
 pub mod Flags
 pub mod Hangul
 pub mod Hebrew

@@ -4,6 +4,11 @@ use Rattle.std.specs.List.{list_any}
 use Rattle.rb_common.specs.Tag.{tag_of}
 use Rattle.rb_common.specs.Direction.{is_horizontal}
 use Rattle.rb_common.specs.declared.direction.Direction.{Direction}
+use Rattle.std.specs.Option.{option_or}
+use Rattle.rb_glyph.specs.Tables.{composition_of}
+use Rattle.ucd_normal.specs.Composition.{composite}
+use Rattle.syllabic_shapers.specs.Composition.{stays_whole, is_two_part, is_yya, is_mark}
+use Rattle.script_shapers.specs.Hebrew.{presentation_forms}
 use Rattle.script_shapers.specs.declared.shaper.NormalizationMode.{NormalizationMode}
 use Rattle.script_shapers.specs.declared.shaper.NormalizationMode.TheVariants as mode
 use Rattle.script_shapers.specs.declared.shaper.ZeroWidthMarks.{ZeroWidthMarks}
@@ -129,17 +134,33 @@ has_fallback Arabic = true
 has_fallback Hebrew = true
 has_fallback _ = false
 
--- whether characters compose and decompose by Unicode's canonical mappings alone
-abbrev pub is_canonical : ScriptShaper → Bool
-is_canonical Indic = false
-is_canonical Khmer = false
-is_canonical Universal = false
-is_canonical UniversalJoining = false
-is_canonical Hebrew = false
-is_canonical _ = true
+-- whether two characters compose otherwise than by Unicode's canonical mappings
+abbrev pub has_own_composite : ScriptShaper → ℕ → ℕ → Bool
+has_own_composite Indic a b = is_yya a b || is_mark a
+has_own_composite Khmer a b = is_mark a
+has_own_composite Universal a b = is_mark a
+has_own_composite UniversalJoining a b = is_mark a
+has_own_composite _ a b = false
 
--- whether characters decompose by Unicode's canonical mappings alone
-abbrev pub is_taken_apart : ScriptShaper → Bool
-is_taken_apart Indic = false
-is_taken_apart Khmer = false
-is_taken_apart _ = true
+-- what they then compose to: the Bengali letters YA and nukta to YYA, and a mark with nothing
+abbrev pub own_composite : ScriptShaper → ℕ → ℕ → Option ℕ
+own_composite Indic a b = if is_yya a b then Some 0x9DF else None
+own_composite _ a b = None
+
+-- what two characters compose to that are no Hangul: in Hebrew, where a font does not place marks, a letter and its point
+-- too
+abbrev pub other_composite : ScriptShaper → Bool → ℕ → ℕ → Option ℕ
+other_composite Hebrew has_gpos_mark a b =
+    option_or (composite a b) (if has_gpos_mark then None else composition_of a b presentation_forms)
+other_composite _ has_gpos_mark a b = composite a b
+
+-- whether a character decomposes otherwise than by Unicode's canonical mappings
+abbrev pub has_own_parts : ScriptShaper → ℕ → Bool
+has_own_parts Indic c = stays_whole c
+has_own_parts Khmer c = is_two_part c
+has_own_parts _ c = false
+
+-- the parts that it then has: a Khmer vowel sign keeps its number behind the sign E, and an Indic letter stays whole
+abbrev pub own_parts : ScriptShaper → ℕ → Option (ℕ × Option ℕ)
+own_parts Khmer c = Some (0x17C1, Some c)
+own_parts _ c = None

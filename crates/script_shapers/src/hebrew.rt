@@ -1,13 +1,14 @@
 //! Hebrew: letters with marks as one character, in fonts without positions of marks, and the order of marks.
 
-ghost use Rattle.std.specs.Prelude.{◌≡◌, ◌≤◌, ◌+◌, false, IsTrue};
+ghost use Rattle.std.specs.Prelude.{◌≡◌, ◌≤◌, ◌+◌, false};
 ghost use Rattle.shaping_buffer.specs.KeepsClusters.{KeepsClusters};
-ghost use Rattle.rb_glyph.specs.Tables.{composition_of, pairs_rise};
+ghost use Rattle.rb_glyph.specs.Tables.{composition_of};
 ghost use Rattle.script_shapers.specs.Hebrew.{presentation_forms};
 
 use crate::item::modified_combining_class;
 use crate::moves::{merge, move_back};
 use rb_glyph::modified_combining_class::{CCC10, CCC14, CCC17, CCC18, CCC22};
+use rb_glyph::row_search::value_of_pair;
 use shaping_buffer::{hb_buffer_t, hb_glyph_info_t};
 
 /// The classes by which these marks are reordered.
@@ -70,18 +71,7 @@ static PRESENTATION_FORMS: [((char, char), char); 36] = [
 pub(crate) fn presentation_form(a: char, b: char) -> Option<char>
     ensures { result ≡ composition_of a b presentation_forms }
 {
-    form_in(&PRESENTATION_FORMS, a, b)
-}
-
-/// What the row of a pair says that it makes.
-fn form_in(rows: &[((char, char), char)], a: char, b: char) -> Option<char>
-    requires { IsTrue (pairs_rise rows.now) }
-    ensures { result ≡ composition_of a b rows.now }
-{
-    match rows.binary_search_by(|row| row.0.cmp(&(a, b))) {
-        Ok(at) => Some(rows[at].1),
-        Err(_) => None,
-    }
+    value_of_pair(&PRESENTATION_FORMS, a, b)
 }
 
 /// Puts a meteg, or another mark below, before a sheva or hiriq that stands behind a patah or qamats, in the first such three marks.

@@ -5,4 +5,3 @@ pub(crate) mod form;
 pub(crate) mod forms;
 pub(crate) mod kind;
 mod rows;
-mod search;

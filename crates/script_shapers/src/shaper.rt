@@ -12,7 +12,8 @@ ghost use Rattle.unicode_tables.specs.Mapping.{parts_of};
 ghost use Rattle.script_shapers.specs.Hebrew.{presentation_forms};
 ghost use Rattle.script_shapers.specs.Shapers.{shaper_of, other_shaper_of, syllabic_shaper_of, is_arabic, myanmar_of, indic_of};
 ghost use Rattle.script_shapers.specs.Shapers.{universal_of, is_for_others, is_listed, indic_scripts, wanted_script, mode_of};
-ghost use Rattle.script_shapers.specs.Shapers.{width_of, has_fallback, is_canonical, is_taken_apart};
+ghost use Rattle.script_shapers.specs.Shapers.{width_of, has_fallback, has_own_composite, own_composite, other_composite};
+ghost use Rattle.script_shapers.specs.Shapers.{has_own_parts, own_parts};
 ghost use Rattle.script_shapers.specs.declared.shaper.ScriptShaper.TheVariants.{Default, Hebrew};
 
 use crate::arabic::stretching::{record_pieces, stretch};
@@ -137,10 +138,10 @@ impl ScriptShaper {
 
     /// What a character and the next one compose to.
     pub fn compose(self, a: char, b: char, has_gpos_mark: bool) -> Option<char>
-        ensures hangul { is_canonical self ≡ true → (s : ℕ) → HangulComposes s a b → result ≡ Some s }
-        ensures data { is_canonical self ≡ true → ((s : ℕ) → ¬ HangulComposes s a b) → result ≡ composite a b }
-        ensures hebrew { self ≡ Hebrew → ((s : ℕ) → ¬ HangulComposes s a b)
-            → result ≡ option_or (composite a b) (if has_gpos_mark then None else composition_of a b presentation_forms) }
+        ensures own { has_own_composite self a b ≡ true → result ≡ own_composite self a b }
+        ensures hangul { has_own_composite self a b ≡ false → (s : ℕ) → HangulComposes s a b → result ≡ Some s }
+        ensures data { has_own_composite self a b ≡ false → ((s : ℕ) → ¬ HangulComposes s a b)
+            → result ≡ other_composite self has_gpos_mark a b }
     {
         match self {
             Indic => indic::composition::compose(a, b),
@@ -152,8 +153,10 @@ impl ScriptShaper {
 
     /// The one or two characters that a character decomposes to.
     pub fn decompose(self, character: char) -> Option<(char, Option<char>)>
-        ensures hangul { is_taken_apart self ≡ true → (a b : ℕ) → HangulComposes character a b → result ≡ Some (a, Some b) }
-        ensures data { is_taken_apart self ≡ true → ((a b : ℕ) → ¬ HangulComposes character a b)
+        ensures own { has_own_parts self character ≡ true → result ≡ own_parts self character }
+        ensures hangul { has_own_parts self character ≡ false → (a b : ℕ) → HangulComposes character a b
+            → result ≡ Some (a, Some b) }
+        ensures data { has_own_parts self character ≡ false → ((a b : ℕ) → ¬ HangulComposes character a b)
             → result ≡ parts_of (canonical_mapping character) }
     {
         match self {
@@ -180,7 +183,8 @@ impl ScriptShaper {
 
 /// What a character and the next one compose to in Hebrew.
 fn compose_hebrew(a: char, b: char, has_gpos_mark: bool) -> Option<char>
-    ensures { ((s : ℕ) → ¬ HangulComposes s a b)
+    ensures hangul { (s : ℕ) → HangulComposes s a b → result ≡ Some s }
+    ensures data { ((s : ℕ) → ¬ HangulComposes s a b)
         → result ≡ option_or (composite a b) (if has_gpos_mark then None else composition_of a b presentation_forms) }
 {
     match unicode_tables::compose(a, b) {

@@ -233,6 +233,19 @@ pub so_far-not_found : (is_answer : List ℕ → Type 0) (a b c w x : Option (Li
 so_far-not_found is_answer a b c w x line found p t e =
     so_far-end is_answer a b c w x line p (subst (λ v. TakesLine v b c line) e t)
 
+-- an empty text is answered with nothing
+pub no_paragraph : (is_answer : List ℕ → Type 0) (a b w : Option (List ℕ)) (old taken bytes : List ℕ) → old ≡ []
+    → IfSome a (λ text. taken ≡ old ++ text) → IsAtEnd b → Consumes a b bytes → length taken ≡ 0 → AnswersParagraph is_answer a b w w
+no_paragraph is_answer None b w old taken bytes none e at_end r empty = tt
+no_paragraph is_answer (Some text) None w old taken bytes none e at_end r empty = absurd r
+no_paragraph is_answer (Some []) (Some rest) None old taken bytes none e at_end r empty =
+    (at_end, record { answers = []; each = tt; told = tt })
+no_paragraph is_answer (Some []) (Some rest) (Some held) old taken bytes none e at_end r empty =
+    (at_end, record { answers = []; each = tt; told = sym (append-nil held) })
+no_paragraph is_answer (Some (b1 ∷ more)) (Some rest) w old taken bytes none e at_end r empty =
+    let whole : taken ≡ b1 ∷ more = e ∙ ap (λ l. l ++ b1 ∷ more) none in
+    absurd (omega (arith, rw whole at empty))
+
 -- a text is one line
 pub one_paragraph : (is_answer : List ℕ → Type 0) (a b w x : Option (List ℕ)) (old taken bytes answer : List ℕ)
     → old ≡ [] → IfSome a (λ text. taken ≡ old ++ text) → IsAtEnd b → Consumes a b bytes → (length taken ≡ 0 → ⊥)

@@ -78,7 +78,7 @@ const VALUES: [Value; 24] = [
     (
         "font-ptem",
         "SIZE",
-        "Accepted for hb-shape's sake: nothing asks for it",
+        "How many points an em has, by which glyphs stand closer or farther apart [default: not said]",
     ),
     ("font-funcs", "NAME", "Accepted for hb-shape's sake: ot"),
     ("shaper", "NAME", "Accepted for hb-shape's sake: ot"),

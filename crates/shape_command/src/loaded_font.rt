@@ -35,6 +35,9 @@ impl<'f> LoadedFont<'f> {
         if let Some((x, y)) = choice.pixels {
             face.set_pixels_per_em(x, y);
         }
+        if let Some(points) = choice.points {
+            face.set_points_per_em(points);
+        }
         face.set_named_instance(choice.named_instance)?;
         Ok(Some(LoadedFont {
             file,

@@ -3,7 +3,7 @@
 use crate::code_points::{CodePointsError, code_points, text_of_code_points};
 use crate::features::{features, unquoted};
 use crate::sizes::{one_or_two, sizes};
-use crate::variations::variations;
+use crate::variations::{value, variations};
 use clap::ArgMatches;
 use font_shaper::Variation;
 use shaping_buffer::{
@@ -98,7 +98,7 @@ pub struct LineOptions<'a> {
 }
 
 /// A font of a file, and the size at which it is used.
-#[derive(Clone, Copy, PartialEq, Eq, Debug)]
+#[derive(Clone, Copy, PartialEq, Debug)]
 pub struct FontChoice {
     /// The number of the font in its file.
     pub index: u32,
@@ -106,6 +106,8 @@ pub struct FontChoice {
     pub size: Option<(i32, i32)>,
     /// How many pixels an em has across and upwards, where it is drawn in pixels.
     pub pixels: Option<(u16, u16)>,
+    /// How many points an em has, where that is said.
+    pub points: Option<f32>,
     /// The number of the named instance of a variable font, unless it is used with its defaults.
     pub named_instance: Option<u32>,
 }
@@ -142,6 +144,7 @@ impl<'a> Options<'a> {
                 index: number(matches, "face-index")?.unwrap_or(0),
                 size: font_size(matches)?,
                 pixels: pixels(matches)?,
+                points: points(matches)?,
                 named_instance: number(matches, "named-instance")?,
             },
             variations: variations(alloc, unquoted(matches.get_str("variations").unwrap_or("")))?,
@@ -320,6 +323,17 @@ fn pixels<'a>(matches: &ArgMatches<'a>) -> Result<Option<(u16, u16)>, OptionsErr
     match (first.parse::<u16>(), second.parse::<u16>()) {
         (Ok(first), Ok(second)) => Ok(Some((first, second))),
         _ => Err(OptionsError::Size("font-ppem", text)),
+    }
+}
+
+/// How many points an em has.
+fn points<'a>(matches: &ArgMatches<'a>) -> Result<Option<f32>, OptionsError<'a>> {
+    match matches.get_str("font-ptem") {
+        None => Ok(None),
+        Some(text) => match value(text) {
+            Some(points) => Ok(Some(points)),
+            None => Err(OptionsError::Size("font-ptem", text)),
+        },
     }
 }
 

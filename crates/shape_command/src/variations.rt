@@ -34,7 +34,7 @@ pub fn variation(text: &str) -> Option<Variation> {
 }
 
 /// The number that a text reads as, in digits, with a sign, a fraction and an exponent or without.
-fn value(text: &str) -> Option<f32> {
+pub fn value(text: &str) -> Option<f32> {
     let number = text.strip_prefix(['+', '-']).unwrap_or(text);
     if !number.starts_with(|letter: char| letter.is_ascii_digit() || letter == '.') {
         return None;

@@ -1,7 +1,13 @@
-//! Tests of `font_shaper` over a small font, as in the `tests/` folder of a Rust crate. What is expected comes from
-//! HarfBuzz's `hb-shape` over the same font.
+//! Tests of `font_shaper` over small fonts, as in the `tests/` folder of a Rust crate. What is expected comes from
+//! HarfBuzz's `hb-shape` over the same fonts.
 #![tactic(auto)]
 
+#[cfg(test)]
+mod apple;
+#[cfg(test)]
+mod apple_font;
+#[cfg(test)]
+mod color;
 #[cfg(test)]
 mod face;
 #[cfg(test)]

@@ -12,7 +12,7 @@ use Rattle.shaping_buffer.specs.Lending.{with_input, with_out, with_cur, with_pr
 use Rattle.rb_glyph.specs.declared.info.hb_glyph_info_t.{hb_glyph_info_t}
 use Rattle.glyph_lists.specs.Clusters.{clusters, occurs, NeverFalls, NeverRises, zero_glyph}
 use Rattle.glyph_lists.specs.KeptClusters.{BringsNoCluster, KeepsLeast, Runs}
-use Rattle.glyph_lists.specs.Deletion.{Sides}
+use Rattle.glyph_lists.specs.Deletion.{OutAndRest}
 use Rattle.glyph_lists.specs.DeletingWalk.{head_of, after_turn, after_walk}
 use Rattle.glyph_lists.specs.Masks as masks
 use Rattle.glyph_lists.specs.Masks.{with_bits, with_mask, in_clusters}
@@ -208,27 +208,27 @@ keeps_list s t e e2 level alike back on =
 
 module _ (test : hb_glyph_info_t → Bool) (s : State) where
   -- the two sides of the walk, as a buffer's
-  abbrev at_sides : Sides → State
+  abbrev at_sides : OutAndRest → State
   at_sides d = record s { have_output = true; out = d.out; input = d.rest; idx = 0 }
 
-  abbrev turn : Sides → Sides
+  abbrev turn : OutAndRest → OutAndRest
   turn d = after_turn (any_order s) test d
 
-  turn_keeps : (d : Sides) → 0 < length d.rest → KeepsClusters (at_sides d) (at_sides (turn d))
+  turn_keeps : (d : OutAndRest) → 0 < length d.rest → KeepsClusters (at_sides d) (at_sides (turn d))
   turn_keeps d some =
-      cond_both (test (head_of d)) _ _ (λ (e : Sides). KeepsClusters (at_sides d) (at_sides e))
+      cond_both (test (head_of d)) _ _ (λ (e : OutAndRest). KeepsClusters (at_sides d) (at_sides e))
       (λ _. keeps_then _ (delete_glyph (at_sides d)) _ (keeps_delete_glyph (at_sides d) some)
       (keeps_alike _ _ refl refl))
       (λ _. keeps_alike _ _ refl (ap clusters (append_assoc d.out (take 1 d.rest) (drop 1 d.rest)
       ∙ ap (λ l. d.out ++ l) (take-append-drop 1 d.rest))))
 
-  turn_left : (d : Sides) (n : ℕ) → suc n ≤ length d.rest → n ≤ length (turn d).rest
+  turn_left : (d : OutAndRest) (n : ℕ) → suc n ≤ length d.rest → n ≤ length (turn d).rest
   turn_left d n h =
-      cond_both (test (head_of d)) _ _ (λ (e : Sides). n ≤ length e.rest)
+      cond_both (test (head_of d)) _ _ (λ (e : OutAndRest). n ≤ length e.rest)
       (λ _. omega (arith, (length-deletion (any_order s) d.out (head_of d) (drop 1 d.rest)).1, length-drop 1 d.rest))
       (λ _. omega (arith, length-drop 1 d.rest))
 
-  walk_keeps : (n : ℕ) (d : Sides) → n ≤ length d.rest
+  walk_keeps : (n : ℕ) (d : OutAndRest) → n ≤ length d.rest
       → KeepsClusters (at_sides d) (at_sides (after_walk (any_order s) test n d))
   walk_keeps zero d h = keeps_none (at_sides d)
   walk_keeps (suc n) d h =
@@ -236,7 +236,7 @@ module _ (test : hb_glyph_info_t → Bool) (s : State) where
 
   pub keeps_delete_glyphs_inplace : s.out ≡ [] → KeepsClusters s (group_step.delete_glyphs_inplace test s)
   keeps_delete_glyphs_inplace e =
-      let start : Sides = record { out = []; rest = s.input } in
+      let start : OutAndRest = record { out = []; rest = s.input } in
       let end = after_walk (any_order s) test (length s.input) start in
       keeps_then _ (at_sides start) _ (keeps_alike _ _ refl (ap clusters (sym (closed_both s e))))
       (keeps_then _ (at_sides end) _ (walk_keeps (length s.input) start (omega arith))

@@ -8,7 +8,7 @@ use Rattle.std.proofs.lemmas.Bool.{cond-true, cond-false, le-leb}
 use Rattle.std.proofs.lemmas.Nat.{and_or_self}
 use Rattle.rb_glyph.specs.declared.info.hb_glyph_info_t.{hb_glyph_info_t}
 use Rattle.rb_glyph.specs.declared.scratch.TheConstants.{HB_BUFFER_SCRATCH_FLAG_HAS_GLYPH_FLAGS}
-use Rattle.glyph_lists.specs.Deletion.{Sides}
+use Rattle.glyph_lists.specs.Deletion.{OutAndRest}
 use Rattle.glyph_lists.specs.DeletingWalk.{after_deletion, after_turn, after_walk, deletion_merges, walk_merges}
 use Rattle.glyph_lists.proofs.LengthsLemmas.{length-deletion}
 use Rattle.shaping_buffer.specs.State.{State}
@@ -20,7 +20,7 @@ use Rattle.shaping_buffer.specs.GroupStep.{call_of_walk, walk_by_calls}
 abbrev pub IsUnderWay : State → Type 0
 IsUnderWay s = (s.have_output ≡ true) × (s.successful ≡ true) × (length s.out + length s.input ≤ s.max_len)
 
-abbrev sides_of : State → Sides
+abbrev sides_of : State → OutAndRest
 sides_of s = record { out = s.out; rest = s.input }
 
 -- the state after a done `next_glyph`
@@ -60,7 +60,7 @@ raised_twice true true true f = or_twice f HB_BUFFER_SCRATCH_FLAG_HAS_GLYPH_FLAG
 module _ (test : hb_glyph_info_t → Bool) (level_is : Bool) where
   -- a walk by calls that has begun leads where the walk over both sides leads, nothing is refused, and the scratch flag
   -- is raised where that walk merges
-  abbrev Agrees : ℕ → State → Sides → Type 0
+  abbrev Agrees : ℕ → State → OutAndRest → Type 0
   Agrees calls s start = (sides_of (walk_by_calls test calls s) ≡ after_walk level_is test calls start)
       × IsUnderWay (walk_by_calls test calls s)
       × ((walk_by_calls test calls s).scratch_flags ≡ flagged_if (level_is && walk_merges level_is test calls start) s)

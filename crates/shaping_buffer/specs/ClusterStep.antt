@@ -86,8 +86,8 @@ abbrev pub head_of : State → hb_glyph_info_t
 head_of s = slice_index_or s.input 0 zero_glyph
 
 -- the current glyph goes by the rule of deletion, and the cursor goes on
-abbrev pub delete_head : Bool → State → State
-delete_head any_order s =
+abbrev pub head_deleted : Bool → State → State
+head_deleted any_order s =
     let d = deletion any_order s.out (head_of s) (drop 1 s.input) in
     record s { out = d.out; input = d.rest; idx = s.idx + 1 }
 
@@ -95,7 +95,7 @@ delete_head any_order s =
 abbrev pub delete_current : Bool → State → State
 delete_current any_order s =
     let marks = any_order && merges_next s.out (head_of s) (drop 1 s.input) in
-    record (delete_head any_order s) { scratch_flags = flagged_if marks s }
+    record (head_deleted any_order s) { scratch_flags = flagged_if marks s }
 
 -- `delete_glyph`
 abbrev pub delete_glyph : State → State

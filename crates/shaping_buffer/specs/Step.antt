@@ -15,7 +15,7 @@ pub record Outcome : Type 0 where
   pub done : Bool
   pub state : State
 
--- what was put out leaves the storage of the input where it has more glyphs than were read, and then stays away
+-- what was put out leaves the storage of the input where it has more glyphs than were read, and then stays separate
 abbrev pub settled : State → State
 settled s = record s { have_separate_output = s.have_separate_output || nat_lt s.idx (length s.out) }
 

@@ -262,7 +262,7 @@ impl hb_buffer_t {
     pub fn lookahead_len(&self) -> usize
         ensures { result ≡ lookahead_len self.now }
     {
-        self.sides.left()
+        self.sides.lookahead_len()
     }
 
     /// The characters next to the text, at most five, nearest first: before it (side 0) or after it (side 1). Requires

@@ -1,5 +1,5 @@
 -- Each turn of the composition keeps what the text becomes.
-use Rattle.std.proofs.Common.{◌≡◌, ℕ, ◌+◌, ◌-◌, ◌<◌, ◌≤◌, inl, inr, Bool, true, false, List, [], ◌∷◌}
+use Rattle.std.proofs.Common.{◌≡◌, ℕ, ◌+◌, ◌-◌, ◌<◌, ◌≤◌, inl, inr, Bool, true, false, [], ◌∷◌}
 use Rattle.std.proofs.Common.{◌++◌, length, get_or, take, drop, set, refl, sym, ap, ◌∙◌, subst, cond}
 use Rattle.std.proofs.Common.{eqb, Option, Some, None, Result, Ok, Err, arith, length-append, length-drop}
 use Rattle.std.proofs.Common.{append_assoc}
@@ -18,17 +18,17 @@ use Rattle.shaping_buffer.specs.ClusterStep.{any_order, both, head_of}
 use Rattle.shaping_buffer.specs.Step.{Outcome, Meets, sync, with_id}
 use Rattle.shaping_buffer.specs.Step.{clear_output}
 use Rattle.glyph_laws.specs.Cores.{core, cores}
-use Rattle.shaping_passes.specs.NormalizationParts.{composed_of}
-use Rattle.shaping_passes.specs.NormalizationOrder.{class_at}
+use Rattle.shaping_passes.specs.NormalizationOrder.{Classes, ReadsCores}
 use Rattle.shaping_passes.specs.NormalizationDecomposition.{closed_over}
 use Rattle.shaping_passes.specs.NormalizationComposition.{is_blocked, pair_of, composed_from, composed, so_far, IsReady}
 use Rattle.shaping_passes.specs.NormalizationComposition.{kept_one, IsPlace, composed_at, composed_glyphs}
+use Rattle.shaping_passes.specs.NormalizationComposition.{Pairs, PairsReadCores}
 use Rattle.shaping_passes.proofs.NormalizationPairLemmas.{Glyphs, take_first, never_wants}
 use Rattle.shaping_passes.proofs.NormalizationMergesLemmas.{on_none}
 
 -- ---- what the text becomes
 
-module _ (pairs : List ((ℕ × ℕ) × ℕ)) (classes : List (ℕ × ℕ)) where
+module _ (pairs : Pairs) (classes : Classes) (alike : ReadsCores classes) (pairs_alike : PairsReadCores pairs) where
   from_paired : (starter : hb_glyph_info_t) (between : Glyphs) (g : hb_glyph_info_t) (l : Glyphs) (id : ℕ)
       → pair_of pairs classes starter between g ≡ Some id
       → composed_from pairs classes starter between (g ∷ l) ≡ composed_from pairs classes (with_id id starter) between l
@@ -36,26 +36,26 @@ module _ (pairs : List ((ℕ × ℕ) × ℕ)) (classes : List (ℕ × ℕ)) wher
   from_paired starter between g l id e =
       ap (λ (o : Option ℕ). elim o [
         | Some id ↦ composed_from pairs classes (with_id id starter) between l
-        | None ↦ cond (eqb (class_at classes g) 0) (starter ∷ between ++ composed_from pairs classes g [] l)
+        | None ↦ cond (eqb (classes g) 0) (starter ∷ between ++ composed_from pairs classes g [] l)
             (composed_from pairs classes starter (between ++ g ∷ []) l)
       ]) e
 
   from_kept : (starter : hb_glyph_info_t) (between : Glyphs) (g : hb_glyph_info_t) (l : Glyphs)
       → pair_of pairs classes starter between g ≡ None
       → composed_from pairs classes starter between (g ∷ l)
-      ≡ cond (eqb (class_at classes g) 0) (starter ∷ between ++ composed_from pairs classes g [] l)
+      ≡ cond (eqb (classes g) 0) (starter ∷ between ++ composed_from pairs classes g [] l)
       (composed_from pairs classes starter (between ++ g ∷ []) l)
   unfolding composed_from
   from_kept starter between g l e =
       ap (λ (o : Option ℕ). elim o [
         | Some id ↦ composed_from pairs classes (with_id id starter) between l
-        | None ↦ cond (eqb (class_at classes g) 0) (starter ∷ between ++ composed_from pairs classes g [] l)
+        | None ↦ cond (eqb (classes g) 0) (starter ∷ between ++ composed_from pairs classes g [] l)
             (composed_from pairs classes starter (between ++ g ∷ []) l)
       ]) e
 
   first_kept : (g : hb_glyph_info_t) (l : Glyphs)
       → composed pairs classes (g ∷ l)
-      ≡ cond (eqb (class_at classes g) 0) (composed_from pairs classes g [] l) (g ∷ composed pairs classes l)
+      ≡ cond (eqb (classes g) 0) (composed_from pairs classes g [] l) (g ∷ composed pairs classes l)
   unfolding composed
   first_kept g l = refl
 
@@ -85,20 +85,20 @@ module _ (pairs : List ((ℕ × ℕ) × ℕ)) (classes : List (ℕ × ℕ)) wher
         (get_or_at out h [] zero_glyph (length out) refl)
         ∙ ap (λ l. out ++ composed_from pairs classes h l rest) past
 
-    pub first_starter : class_at classes h ≡ 0
+    pub first_starter : classes h ≡ 0
         → so_far pairs classes (Some (length out)) more rest ≡ so_far pairs classes None out input
     unfolding so_far
     first_starter e =
         new_starter
-        ∙ ap (λ l. out ++ l) (sym (cond-true _ _ _ (eq-eqb (class_at classes h) 0 e)) ∙ sym (first_kept h rest))
+        ∙ ap (λ l. out ++ l) (sym (cond-true _ _ _ (eq-eqb (classes h) 0 e)) ∙ sym (first_kept h rest))
         ∙ ap (λ l. out ++ composed pairs classes l) (sym opened_input)
 
-    pub mark_first : (class_at classes h ≡ 0 → ⊥)
+    pub mark_first : (classes h ≡ 0 → ⊥)
         → so_far pairs classes None more rest ≡ so_far pairs classes None out input
     unfolding so_far
     mark_first ne =
         append_assoc out (h ∷ []) (composed pairs classes rest)
-        ∙ ap (λ l. out ++ l) (sym (cond-false _ _ _ (ne_eqb (class_at classes h) 0 ne)) ∙ sym (first_kept h rest))
+        ∙ ap (λ l. out ++ l) (sym (cond-false _ _ _ (ne_eqb (classes h) 0 ne)) ∙ sym (first_kept h rest))
         ∙ ap (λ l. out ++ composed pairs classes l) (sym opened_input)
 
     module _ (at : ℕ) (place : at < length out) where
@@ -124,18 +124,18 @@ module _ (pairs : List ((ℕ × ℕ) × ℕ)) (classes : List (ℕ × ℕ)) wher
           ∙ ap (λ l. take at out ++ l) (sym (from_paired starter between h rest id e))
           ∙ ap (λ l. take at out ++ composed_from pairs classes starter between l) (sym opened_input)
 
-      pub next_starter : pair_of pairs classes starter between h ≡ None → class_at classes h ≡ 0
+      pub next_starter : pair_of pairs classes starter between h ≡ None → classes h ≡ 0
           → so_far pairs classes (Some (length out)) more rest ≡ so_far pairs classes (Some at) out input
       unfolding so_far
       next_starter none e =
           new_starter
           ∙ ap (λ l. l ++ composed_from pairs classes h [] rest) (sym cut)
           ∙ append_assoc (take at out) (starter ∷ between) (composed_from pairs classes h [] rest)
-          ∙ ap (λ l. take at out ++ l) (sym (cond-true _ _ _ (eq-eqb (class_at classes h) 0 e))
+          ∙ ap (λ l. take at out ++ l) (sym (cond-true _ _ _ (eq-eqb (classes h) 0 e))
           ∙ sym (from_kept starter between h rest none))
           ∙ ap (λ l. take at out ++ composed_from pairs classes starter between l) (sym opened_input)
 
-      pub mark_kept : pair_of pairs classes starter between h ≡ None → (class_at classes h ≡ 0 → ⊥)
+      pub mark_kept : pair_of pairs classes starter between h ≡ None → (classes h ≡ 0 → ⊥)
           → so_far pairs classes (Some at) more rest ≡ so_far pairs classes (Some at) out input
       unfolding so_far
       mark_kept none ne =
@@ -145,7 +145,7 @@ module _ (pairs : List ((ℕ × ℕ) × ℕ)) (classes : List (ℕ × ℕ)) wher
           (get_or_append_left out (h ∷ []) zero_glyph at place)
           ∙ ap (λ l. take at out ++ composed_from pairs classes starter l rest)
           (drop-append-le (at + 1) out (h ∷ []) (omega arith))
-          ∙ ap (λ l. take at out ++ l) (sym (cond-false _ _ _ (ne_eqb (class_at classes h) 0 ne))
+          ∙ ap (λ l. take at out ++ l) (sym (cond-false _ _ _ (ne_eqb (classes h) 0 ne))
           ∙ sym (from_kept starter between h rest none))
           ∙ ap (λ l. take at out ++ composed_from pairs classes starter between l) (sym opened_input)
 
@@ -169,8 +169,8 @@ module _ (pairs : List ((ℕ × ℕ) × ℕ)) (classes : List (ℕ × ℕ)) wher
         ∙ ap (λ l. O ++ l) (sym (take-map core 1 s.input) ∙ take_first I some_core))
         ∙ ap (λ l. so_far pairs classes o (O ++ get_or I 0 zero_glyph ∷ []) l) (sym (drop-map core 1 s.input))
 
-    class_head : class_at classes (get_or I 0 zero_glyph) ≡ class_at classes (head_of s)
-    class_head = ap (class_at classes) (get_or-map core s.input 0 zero_glyph zero_glyph some)
+    class_head : classes (get_or I 0 zero_glyph) ≡ classes (head_of s)
+    class_head = ap classes (get_or-map core s.input 0 zero_glyph zero_glyph some) ∙ alike (head_of s)
 
     pub head_core : get_or I 0 zero_glyph ≡ core (head_of s)
     head_core = get_or-map core s.input 0 zero_glyph zero_glyph some
@@ -178,9 +178,9 @@ module _ (pairs : List ((ℕ × ℕ) × ℕ)) (classes : List (ℕ × ℕ)) wher
     out_length : length s.out ≡ length O
     out_length = sym (length-map s.out core)
 
-    pub kept_first : so_far pairs classes (cond (eqb (class_at classes (head_of s)) 0) (Some (length s.out)) None)
+    pub kept_first : so_far pairs classes (cond (eqb (classes (head_of s)) 0) (Some (length s.out)) None)
         (cores (kept_one s).out) (cores (kept_one s).input) ≡ so_far pairs classes None O I
-    kept_first = elim (cases_eq (class_at classes (head_of s)) 0) [
+    kept_first = elim (cases_eq (classes (head_of s)) 0) [
       | inl e ↦ ap (λ o. so_far pairs classes o (cores (kept_one s).out) (cores (kept_one s).input))
           (cond-true _ _ _ (eq-eqb _ 0 e))
           ∙ kept_lists (Some (length s.out))
@@ -193,12 +193,12 @@ module _ (pairs : List ((ℕ × ℕ) × ℕ)) (classes : List (ℕ × ℕ)) wher
 
     pub kept_behind : (at : ℕ) → at < length s.out
         → pair_of pairs classes (get_or O at zero_glyph) (drop (at + 1) O) (core (head_of s)) ≡ None
-        → so_far pairs classes (cond (eqb (class_at classes (head_of s)) 0) (Some (length s.out)) (Some at))
+        → so_far pairs classes (cond (eqb (classes (head_of s)) 0) (Some (length s.out)) (Some at))
         (cores (kept_one s).out) (cores (kept_one s).input) ≡ so_far pairs classes (Some at) O I
     kept_behind at place none =
         let at_core : at < length O = omega (arith, out_length) in
         let none_core = ap (pair_of pairs classes (get_or O at zero_glyph) (drop (at + 1) O)) head_core ∙ none in
-        elim (cases_eq (class_at classes (head_of s)) 0) [
+        elim (cases_eq (classes (head_of s)) 0) [
           | inl e ↦ ap (λ o. so_far pairs classes o (cores (kept_one s).out) (cores (kept_one s).input))
               (cond-true _ _ _ (eq-eqb _ 0 e))
               ∙ kept_lists (Some (length s.out))
@@ -219,42 +219,43 @@ module _ (pairs : List ((ℕ × ℕ) × ℕ)) (classes : List (ℕ × ℕ)) wher
     behind_long = omega (arith, length-drop (at + 1) (cores out), length-map out core)
 
     last_class : at + 1 < length out
-        → class_at classes (get_or behind (length behind - 1) zero_glyph)
-        ≡ class_at classes (get_or out (length out - 1) zero_glyph)
+        → classes (get_or behind (length behind - 1) zero_glyph)
+        ≡ classes (get_or out (length out - 1) zero_glyph)
     last_class more =
         let n : at + 1 + (length behind - 1) ≡ length out - 1 = omega (arith, behind_long) in
-        ap (class_at classes) (get_or-drop (at + 1) (cores out) (length behind - 1) zero_glyph
+        ap classes (get_or-drop (at + 1) (cores out) (length behind - 1) zero_glyph
         ∙ ap (λ k. get_or (cores out) k zero_glyph) n
         ∙ get_or-map core out (length out - 1) zero_glyph zero_glyph (omega arith))
+        ∙ alike (get_or out (length out - 1) zero_glyph)
 
     pub pair_blocked : at + 1 < length out
-        → class_at classes h ≤ class_at classes (get_or out (length out - 1) zero_glyph)
+        → classes h ≤ classes (get_or out (length out - 1) zero_glyph)
         → pair_of pairs classes (get_or (cores out) at zero_glyph) behind (core h) ≡ None
     unfolding pair_of
     pair_blocked more high =
         cond-true _ _ _ (and_from _ _ (lt-ltb 0 (length behind) (omega (arith, behind_long)))
-        (le-leb (class_at classes h) _ (omega (arith, last_class more))))
+        (le-leb (classes (core h)) _ (omega (arith, alike h, last_class more))))
 
     pair_free : is_blocked classes behind (core h) ≡ false
         → pair_of pairs classes (get_or (cores out) at zero_glyph) behind (core h)
-        ≡ composed_of pairs (get_or out at zero_glyph).glyph_id h.glyph_id
+        ≡ pairs (get_or out at zero_glyph) h
     unfolding pair_of
     pair_free free =
         cond-false _ _ _ free
-        ∙ ap (λ (g : hb_glyph_info_t). composed_of pairs g.glyph_id h.glyph_id)
-        (get_or-map core out at zero_glyph zero_glyph place)
+        ∙ ap (λ (g : hb_glyph_info_t). pairs g (core h)) (get_or-map core out at zero_glyph zero_glyph place)
+        ∙ pairs_alike (get_or out at zero_glyph) h
 
     pub pair_next : length out ≤ at + 1
         → pair_of pairs classes (get_or (cores out) at zero_glyph) behind (core h)
-        ≡ composed_of pairs (get_or out at zero_glyph).glyph_id h.glyph_id
+        ≡ pairs (get_or out at zero_glyph) h
     pair_next near = pair_free (and_left _ _ (le-ltb 0 (length behind) (omega (arith, behind_long))))
 
     pub pair_low : at + 1 < length out
-        → class_at classes (get_or out (length out - 1) zero_glyph) < class_at classes h
+        → classes (get_or out (length out - 1) zero_glyph) < classes h
         → pair_of pairs classes (get_or (cores out) at zero_glyph) behind (core h)
-        ≡ composed_of pairs (get_or out at zero_glyph).glyph_id h.glyph_id
+        ≡ pairs (get_or out at zero_glyph) h
     pair_low more low =
-        pair_free (and_right _ _ (lt-leb (class_at classes h) _ (omega (arith, last_class more))))
+        pair_free (and_right _ _ (lt-leb (classes (core h)) _ (omega (arith, alike h, last_class more))))
 
   -- ---- along the pass
 
@@ -324,6 +325,6 @@ module _ (pairs : List ((ℕ × ℕ) × ℕ)) (classes : List (ℕ × ℕ)) wher
 
     pub last_glyphs : t.out ≡ composed_glyphs (any_order old) pairs classes old.input
     last_glyphs =
-        sym whole ∙ sym (on_none pairs classes (any_order old) starter (length t.out) (both t))
+        sym whole ∙ sym (on_none pairs classes alike pairs_alike (any_order old) starter (length t.out) (both t))
         ∙ ap (λ k. composed_at (any_order old) pairs classes starter (length t.out) k (both t)) (sym none)
         ∙ k.glyphs

@@ -1,5 +1,5 @@
 -- Each turn of the composition keeps what the whole list becomes, with its clusters.
-use Rattle.std.proofs.Common.{◌≡◌, ℕ, zero, suc, ◌+◌, ◌-◌, ◌<◌, Bool, List, [], ◌∷◌, ◌++◌, length, get_or, take, drop}
+use Rattle.std.proofs.Common.{◌≡◌, ℕ, zero, suc, ◌+◌, ◌-◌, ◌<◌, Bool, [], ◌∷◌, ◌++◌, length, get_or, take, drop}
 use Rattle.std.proofs.Common.{refl, sym, ap, ◌∙◌, subst, cond, eqb, leb, ltb, ◌&&◌, Option, Some, None, arith, length-append, length-drop}
 use Rattle.std.proofs.Common.{length-take, append_assoc}
 use Rattle.std.proofs.lemmas.Bool.{cond_both}
@@ -11,10 +11,9 @@ use Rattle.glyph_lists.specs.Parts.{part}
 use Rattle.shaping_buffer.specs.State.{State}
 use Rattle.shaping_buffer.specs.ClusterStep.{both, head_of}
 use Rattle.glyph_laws.specs.Cores.{core, cores}
-use Rattle.shaping_passes.specs.NormalizationParts.{composed_of}
-use Rattle.shaping_passes.specs.NormalizationOrder.{class_at}
+use Rattle.shaping_passes.specs.NormalizationOrder.{Classes, ReadsCores}
 use Rattle.shaping_passes.specs.NormalizationComposition.{is_blocked, pair_of, kept_one, pair_composed, starter_behind}
-use Rattle.shaping_passes.specs.NormalizationComposition.{composed_at, composed_glyphs}
+use Rattle.shaping_passes.specs.NormalizationComposition.{composed_at, composed_glyphs, Pairs, PairsReadCores}
 use Rattle.shaping_passes.proofs.NormalizationPairLemmas.{Glyphs, order_composed, length_composed}
 
 -- ---- two sides as one list
@@ -40,12 +39,12 @@ both_kept : (s : State) → both (kept_one s) ≡ both s
 both_kept s =
     append_assoc s.out (take 1 s.input) (drop 1 s.input) ∙ ap (λ (l : Glyphs). s.out ++ l) (take-append-drop 1 s.input)
 
-module _ (pairs : List ((ℕ × ℕ) × ℕ)) (classes : List (ℕ × ℕ)) where
+module _ (pairs : Pairs) (classes : Classes) (alike : ReadsCores classes) (pairs_alike : PairsReadCores pairs) where
   -- ---- clusters and masks do not matter to a pair
 
-  last_core : (l : Glyphs) (k : ℕ) → class_at classes (get_or (cores l) k zero_glyph) ≡ class_at classes (get_or l k zero_glyph)
+  last_core : (l : Glyphs) (k : ℕ) → classes (get_or (cores l) k zero_glyph) ≡ classes (get_or l k zero_glyph)
   last_core [] k = refl
-  last_core (g ∷ l) zero = refl
+  last_core (g ∷ l) zero = alike g
   last_core (g ∷ l) (suc k) = last_core l k
 
   blocked_cores : (between : Glyphs) (g : hb_glyph_info_t)
@@ -55,13 +54,15 @@ module _ (pairs : List ((ℕ × ℕ) × ℕ)) (classes : List (ℕ × ℕ)) wher
       let long = length-map between core in
       let long_all : length (cores (b ∷ between)) ≡ length (b ∷ between) = length-map (b ∷ between) core in
       let n : length (cores (b ∷ between)) - 1 ≡ length (b ∷ between) - 1 = omega arith in
-      let last : class_at classes (get_or (cores (b ∷ between)) (length (cores (b ∷ between)) - 1) zero_glyph)
-      ≡ class_at classes (get_or (b ∷ between) (length (b ∷ between) - 1) zero_glyph) =
-      ap (λ k. class_at classes (get_or (cores (b ∷ between)) k zero_glyph)) n
+      let last : classes (get_or (cores (b ∷ between)) (length (cores (b ∷ between)) - 1) zero_glyph)
+      ≡ classes (get_or (b ∷ between) (length (b ∷ between) - 1) zero_glyph) =
+      ap (λ k. classes (get_or (cores (b ∷ between)) k zero_glyph)) n
       ∙ last_core (b ∷ between) (length (b ∷ between) - 1) in
-      ap (λ k. ltb 0 k && leb (class_at classes g)
-      (class_at classes (get_or (cores (b ∷ between)) (length (cores (b ∷ between)) - 1) zero_glyph))) long_all
-      ∙ ap (λ k. ltb 0 (length (b ∷ between)) && leb (class_at classes g) k) last
+      ap (λ k. ltb 0 (length (cores (b ∷ between))) && leb k
+      (classes (get_or (cores (b ∷ between)) (length (cores (b ∷ between)) - 1) zero_glyph))) (alike g)
+      ∙ ap (λ k. ltb 0 k && leb (classes g)
+      (classes (get_or (cores (b ∷ between)) (length (cores (b ∷ between)) - 1) zero_glyph))) long_all
+      ∙ ap (λ k. ltb 0 (length (b ∷ between)) && leb (classes g) k) last
 
   pair_cores : (out : Glyphs) (at : ℕ) (h : hb_glyph_info_t) → at < length out
       → pair_of pairs classes (get_or (cores out) at zero_glyph) (drop (at + 1) (cores out)) (core h)
@@ -71,8 +72,9 @@ module _ (pairs : List ((ℕ × ℕ) × ℕ)) (classes : List (ℕ × ℕ)) wher
       ap (λ l. pair_of pairs classes (get_or (cores out) at zero_glyph) l (core h)) (drop-map core (at + 1) out)
       ∙ ap (λ (g : hb_glyph_info_t). pair_of pairs classes g (cores (drop (at + 1) out)) (core h))
       (get_or-map core out at zero_glyph zero_glyph place)
-      ∙ ap (λ b. cond b None (composed_of pairs (get_or out at zero_glyph).glyph_id h.glyph_id))
-      (blocked_cores (drop (at + 1) out) h)
+      ∙ ap (λ b. cond b None (pairs (core (get_or out at zero_glyph)) (core h))) (blocked_cores (drop (at + 1) out) h)
+      ∙ ap (λ (o : Option ℕ). cond (is_blocked classes (drop (at + 1) out) h) None o)
+      (pairs_alike (get_or out at zero_glyph) h)
 
   -- ---- one turn over the whole list
 
@@ -124,7 +126,7 @@ module _ (pairs : List ((ℕ × ℕ) × ℕ)) (classes : List (ℕ × ℕ)) wher
       → Before (starter_behind classes starter n l) (n + 1)
   unfolding Before
   before_behind starter n l h =
-      cond_both (eqb (class_at classes (get_or l n zero_glyph)) 0) _ _ (λ (o : Option ℕ). Before o (n + 1))
+      cond_both (eqb (classes (get_or l n zero_glyph)) 0) _ _ (λ (o : Option ℕ). Before o (n + 1))
       (λ _. omega arith) (λ _. before_more starter n h)
 
   by_pair : (any : Bool) (at n more : ℕ) (l : Glyphs)
@@ -194,7 +196,7 @@ module _ (pairs : List ((ℕ × ℕ) × ℕ)) (classes : List (ℕ × ℕ)) wher
         ∙ ap (λ k. composed_at any pairs classes (Some at) n k whole) (sym one_more)
 
     abbrev behind : Option ℕ → Option ℕ
-    behind starter = cond (eqb (class_at classes (head_of s)) 0) (Some n) starter
+    behind starter = cond (eqb (classes (head_of s)) 0) (Some n) starter
 
     kept_lists : (starter : Option ℕ)
         → composed_at any pairs classes (behind starter) (length (kept_one s).out) (length (kept_one s).input) (both (kept_one s))
@@ -204,7 +206,7 @@ module _ (pairs : List ((ℕ × ℕ) × ℕ)) (classes : List (ℕ × ℕ)) wher
         (held s some)
         ∙ ap (λ k. composed_at any pairs classes (behind starter) (n + 1) k (both (kept_one s))) (length-drop 1 s.input)
         ∙ ap (λ l. composed_at any pairs classes (behind starter) (n + 1) (length s.input - 1) l) (both_kept s)
-        ∙ ap (λ (g : hb_glyph_info_t). composed_at any pairs classes (cond (eqb (class_at classes g) 0) (Some n) starter)
+        ∙ ap (λ (g : hb_glyph_info_t). composed_at any pairs classes (cond (eqb (classes g) 0) (Some n) starter)
         (n + 1) (length s.input - 1) whole)
         (sym (at_head s.out s.input))
 

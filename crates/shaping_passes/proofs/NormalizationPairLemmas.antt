@@ -68,7 +68,7 @@ module _ (s : State) (ready : IsReady s) (some : 0 < length s.input) where
     length-both : length (both s) ≡ n + length s.input
     length-both = length-append s.out s.input
 
-    length-merged : length merged ≡ n + length s.input
+    pub length-merged : length merged ≡ n + length s.input
     length-merged =
         cond_both (any_order s) _ _ (λ (l : Glyphs). length l ≡ n + length s.input)
         (λ _. ap length both_kept ∙ length-both)

@@ -56,14 +56,12 @@ trailing s n s_is few more = record {
   second = omega arith;
 }
 
-pub decomposed_is : (rows : List (ℕ × ℕ × Option ℕ)) (c : ℕ) (r : Option (ℕ × ℕ))
-    → ((a b : ℕ) → HangulComposes c a b → r ≡ Some (a, b))
-    → (((a b : ℕ) → ¬ HangulComposes c a b) → r ≡ decomposition_of c rows)
-    → r ≡ option_or (hangul_parts c) (decomposition_of c rows)
+pub decomposed_is : (c : ℕ) (other r : Option (ℕ × ℕ)) → ((a b : ℕ) → HangulComposes c a b → r ≡ Some (a, b))
+    → (((a b : ℕ) → ¬ HangulComposes c a b) → r ≡ other) → r ≡ option_or (hangul_parts c) other
 unfolding hangul_parts
-decomposed_is rows c r hangul table =
+decomposed_is c other r hangul table =
     let n = c - 0xAC00 in
-    let P : Option (ℕ × ℕ) → Type 0 = λ p. r ≡ option_or p (decomposition_of c rows) in
+    let P : Option (ℕ × ℕ) → Type 0 = λ p. r ≡ option_or p other in
     cond_both (is_in_range 0xAC00 0xD7A3 c) _ _ P
     (λ syllable.
     let in_range = within 0xAC00 0xD7A3 c syllable in
@@ -71,7 +69,7 @@ decomposed_is rows c r hangul table =
     (λ whole. hangul _ _ (inl (leading c n (omega arith) (omega arith) (eqb-true (n % 28) 0 whole))))
     (λ more. let some = eqb-false (n % 28) 0 more in
     hangul _ _ (inr (trailing c n (omega arith) (omega arith) (omega arith)))))
-    (λ other. table (λ a b. no_syllable c a b (outside 0xAC00 0xD7A3 c other)))
+    (λ none. table (λ a b. no_syllable c a b (outside 0xAC00 0xD7A3 c none)))
 
 -- ---- composition
 
@@ -127,13 +125,11 @@ no_pair s a b first second (inr p) = not_trailing s a b second p
 not_both : (p q : Bool) (P Q : Type 0) → (p ≡ false → P) → (q ≡ false → Q) → (p && q) ≡ false → P ⊎ Q
 not_both p q P Q f g e = elim (and_cases p q e) [ inl h ↦ inl (f h) | inr h ↦ inr (g h) ]
 
-pub composed_is : (rows : List ((ℕ × ℕ) × ℕ)) (a b : ℕ) (r : Option ℕ)
-    → ((s : ℕ) → HangulComposes s a b → r ≡ Some s)
-    → (((s : ℕ) → ¬ HangulComposes s a b) → r ≡ composition_of a b rows)
-    → r ≡ option_or (hangul_syllable a b) (composition_of a b rows)
+pub composed_is : (a b : ℕ) (other r : Option ℕ) → ((s : ℕ) → HangulComposes s a b → r ≡ Some s)
+    → (((s : ℕ) → ¬ HangulComposes s a b) → r ≡ other) → r ≡ option_or (hangul_syllable a b) other
 unfolding hangul_syllable
-composed_is rows a b r hangul table =
-    let P : Option ℕ → Type 0 = λ p. r ≡ option_or p (composition_of a b rows) in
+composed_is a b other r hangul table =
+    let P : Option ℕ → Type 0 = λ p. r ≡ option_or p other in
     let l = is_in_range 0x1100 0x1112 a in
     let v = is_in_range 0x1161 0x1175 b in
     let lv = is_in_range 0xAC00 0xD7A3 a in
@@ -155,12 +151,12 @@ composed_is rows a b r hangul table =
 
 -- ---- what is a character
 
-is_character-in : (c : ℕ) → InScalarRange c → is_character c ≡ true
+pub is_character-in : (c : ℕ) → InScalarRange c → is_character c ≡ true
 unfolding is_character
 is_character-in c (inl low) = or_left _ _ (lt-ltb c 0xD800 low)
 is_character-in c (inr high) = or_right _ _ (and_from _ _ (le-leb _ _ high.0) (le-leb _ _ high.1))
 
-is_character-out : (c : ℕ) → OutOfScalarRange c → is_character c ≡ false
+pub is_character-out : (c : ℕ) → OutOfScalarRange c → is_character c ≡ false
 unfolding is_character
 is_character-out c (inl surrogate) =
     or_from _ _ (le-ltb c 0xD800 surrogate.0) (and_left _ _ (lt-leb 0xE000 c (omega arith)))

@@ -2,7 +2,7 @@
 #![tactic(auto)]
 
 pub use lines::line_ends;
-pub use normalization::{compose_marks, decompose_all, order_marks};
+pub use normalization::{MarkClasses, compose_marks, decompose_all, order_marks};
 pub use visible::hide_default_ignorables;
 
 pub mod lines;

@@ -11,8 +11,8 @@ use Rattle.shaping_runs.specs.declared.call.Call.TheVariants.{MergeClusters, Mer
 use Rattle.shaping_runs.specs.declared.call.Call.TheVariants.{MergeGraphemeClusters}
 use Rattle.shaping_runs.specs.declared.call.Call.TheVariants.{UnsafeToBreakFromOutbuffer, SafeToInsertTatweel}
 use Rattle.shaping_runs.specs.declared.call.Call.TheVariants.{UnsafeToConcat, UnsafeToConcatFromOutbuffer}
-use Rattle.shaping_session.specs.Words.{Left, first_word, past_first_word, past_space}
-use Rattle.shaping_session.specs.Words.{next_character, next_language, next_place, next_script, next_u32}
+use Rattle.shaping_session.specs.Words.{Rest, first_word, past_first_word, past_space}
+use Rattle.shaping_session.specs.Words.{next_character, next_language, next_u64, next_script, next_u32}
 use Rattle.shaping_session.specs.declared.command.Command.{Command}
 use Rattle.shaping_session.specs.declared.command.Command.TheVariants.{Push, Add, Level, Flags, Limit, Make}
 use Rattle.shaping_session.specs.declared.command.Command.TheVariants.{ReplaceGlyphs, State, Serialize, New, Feature}
@@ -54,35 +54,35 @@ request_of (Decompose c) = decompose c
 
 -- what the next words write, and what is left of the line behind them
 abbrev pub Taken : Type 0 → Type 0
-Taken A = Option (A × Left)
+Taken A = Option (A × Rest)
 
 -- no word belongs to it
-abbrev pub alone : {A : Type 0} → A → Left → Taken A
-alone a left = Some (a, left)
+abbrev pub alone : {A : Type 0} → A → Rest → Taken A
+alone a rest = Some (a, rest)
 
 -- one word belongs to it, which writes a number
-abbrev pub with_word : {A : Type 0} → Option ℕ → (ℕ → A) → Left → Taken A
-with_word None make left = None
-with_word (Some a) make left = Some (make a, past_first_word left)
+abbrev pub with_word : {A : Type 0} → Option ℕ → (ℕ → A) → Rest → Taken A
+with_word None make rest = None
+with_word (Some a) make rest = Some (make a, past_first_word rest)
 
 -- two words belong to it, which write numbers
-abbrev pub with_words : {A : Type 0} → Option ℕ → Option ℕ → (ℕ → ℕ → A) → Left → Taken A
-with_words None b make left = None
-with_words (Some a) None make left = None
-with_words (Some a) (Some b) make left = Some (make a b, past_first_word (past_first_word left))
+abbrev pub with_words : {A : Type 0} → Option ℕ → Option ℕ → (ℕ → ℕ → A) → Rest → Taken A
+with_words None b make rest = None
+with_words (Some a) None make rest = None
+with_words (Some a) (Some b) make rest = Some (make a b, past_first_word (past_first_word rest))
 
 -- the rest of the line belongs to it, from behind one space on
-abbrev pub with_text : {A : Type 0} → (List ℕ → A) → Left → Taken A
+abbrev pub with_text : {A : Type 0} → (List ℕ → A) → Rest → Taken A
 with_text make None = None
 with_text make (Some text) = Some (make text, None)
 
 -- the number of a glyph belongs to it
-abbrev pub with_glyph : {A : Type 0} → (ℕ → A) → Left → Taken A
-with_glyph make left = with_word (next_u32 left) make left
+abbrev pub with_glyph : {A : Type 0} → (ℕ → A) → Rest → Taken A
+with_glyph make rest = with_word (next_u32 rest) make rest
 
 -- a place, or a number of glyphs, belongs to it
-abbrev pub with_place : {A : Type 0} → (ℕ → A) → Left → Taken A
-with_place make left = with_word (next_place left) make left
+abbrev pub with_u64 : {A : Type 0} → (ℕ → A) → Rest → Taken A
+with_u64 make rest = with_word (next_u64 rest) make rest
 
 -- a number that is the highest at most
 abbrev pub at_most : ℕ → Option ℕ → Option ℕ
@@ -90,27 +90,27 @@ at_most highest None = None
 at_most highest (Some n) = if nat_le n highest then Some n else None
 
 -- a number up to the highest belongs to it
-abbrev pub with_number_to : {A : Type 0} → ℕ → (ℕ → A) → Left → Taken A
-with_number_to highest make left = with_word (at_most highest (next_u32 left)) make left
+abbrev pub with_number_to : {A : Type 0} → ℕ → (ℕ → A) → Rest → Taken A
+with_number_to highest make rest = with_word (at_most highest (next_u32 rest)) make rest
 
 -- a character belongs to it; a character and a cluster; two characters
-abbrev pub with_character : (ℕ → Request) → Left → Taken Request
-with_character make left = with_word (next_character left) make left
+abbrev pub with_character : (ℕ → Request) → Rest → Taken Request
+with_character make rest = with_word (next_character rest) make rest
 
-abbrev pub with_character_and_number : (ℕ → ℕ → Request) → Left → Taken Request
-with_character_and_number make left = with_words (next_character left) (next_u32 (past_first_word left)) make left
+abbrev pub with_character_and_number : (ℕ → ℕ → Request) → Rest → Taken Request
+with_character_and_number make rest = with_words (next_character rest) (next_u32 (past_first_word rest)) make rest
 
-abbrev pub with_characters : (ℕ → ℕ → Request) → Left → Taken Request
-with_characters make left = with_words (next_character left) (next_character (past_first_word left)) make left
+abbrev pub with_characters : (ℕ → ℕ → Request) → Rest → Taken Request
+with_characters make rest = with_words (next_character rest) (next_character (past_first_word rest)) make rest
 
 -- a script and a language belong to it
-abbrev pub with_names : Option (Option ℕ) → Option (Option (List ℕ)) → Left → Taken Request
-with_names None language left = None
-with_names (Some script) None left = None
-with_names (Some script) (Some language) left = Some (tags script language, past_first_word (past_first_word left))
+abbrev pub with_names : Option (Option ℕ) → Option (Option (List ℕ)) → Rest → Taken Request
+with_names None language rest = None
+with_names (Some script) None rest = None
+with_names (Some script) (Some language) rest = Some (tags script language, past_first_word (past_first_word rest))
 
-abbrev pub with_script_and_language : Left → Taken Request
-with_script_and_language left = with_names (next_script left) (next_language (past_first_word left)) left
+abbrev pub with_script_and_language : Rest → Taken Request
+with_script_and_language rest = with_names (next_script rest) (next_language (past_first_word rest)) rest
 
 -- the calls that take a start and an end, by their names
 unfoldable pub range_call_in : List ℕ → ℕ → ℕ → Option Call
@@ -128,84 +128,84 @@ range_call_in name start end =
     else None
 
 -- one of them, and what is left of the line behind its two places
-abbrev pub taken_call : Option Call → Left → Taken Call
-taken_call None left = None
-taken_call (Some c) left = Some (c, left)
+abbrev pub taken_call : Option Call → Rest → Taken Call
+taken_call None rest = None
+taken_call (Some c) rest = Some (c, rest)
 
-abbrev pub with_range : List ℕ → Option ℕ → Option ℕ → Left → Taken Call
-with_range name None end left = None
-with_range name (Some start) None left = None
-with_range name (Some start) (Some end) left =
-    taken_call (range_call_in name start end) (past_first_word (past_first_word left))
+abbrev pub with_range : List ℕ → Option ℕ → Option ℕ → Rest → Taken Call
+with_range name None end rest = None
+with_range name (Some start) None rest = None
+with_range name (Some start) (Some end) rest =
+    taken_call (range_call_in name start end) (past_first_word (past_first_word rest))
 
 -- the calls, by the names of their methods
-unfoldable pub call_in : List ℕ → Left → Taken Call
-call_in name left =
-    if bytes_eq name (codes "clear_output") then alone ClearOutput left
-    else if bytes_eq name (codes "next_glyph") then alone NextGlyph left
-    else if bytes_eq name (codes "next_glyphs") then with_place NextGlyphs left
-    else if bytes_eq name (codes "skip_glyph") then alone SkipGlyph left
-    else if bytes_eq name (codes "move_to") then with_place MoveTo left
-    else if bytes_eq name (codes "sync") then alone Sync left
-    else if bytes_eq name (codes "replace_glyph") then with_glyph ReplaceGlyph left
-    else if bytes_eq name (codes "output_glyph") then with_glyph OutputGlyph left
-    else if bytes_eq name (codes "copy_glyph") then alone CopyGlyph left
-    else if bytes_eq name (codes "delete_glyph") then alone DeleteGlyph left
-    else with_range name (next_place left) (next_place (past_first_word left)) left
+unfoldable pub call_in : List ℕ → Rest → Taken Call
+call_in name rest =
+    if bytes_eq name (codes "clear_output") then alone ClearOutput rest
+    else if bytes_eq name (codes "next_glyph") then alone NextGlyph rest
+    else if bytes_eq name (codes "next_glyphs") then with_u64 NextGlyphs rest
+    else if bytes_eq name (codes "skip_glyph") then alone SkipGlyph rest
+    else if bytes_eq name (codes "move_to") then with_u64 MoveTo rest
+    else if bytes_eq name (codes "sync") then alone Sync rest
+    else if bytes_eq name (codes "replace_glyph") then with_glyph ReplaceGlyph rest
+    else if bytes_eq name (codes "output_glyph") then with_glyph OutputGlyph rest
+    else if bytes_eq name (codes "copy_glyph") then alone CopyGlyph rest
+    else if bytes_eq name (codes "delete_glyph") then alone DeleteGlyph rest
+    else with_range name (next_u64 rest) (next_u64 (past_first_word rest)) rest
 
 -- a call is a request too
 abbrev pub call_request : Taken Call → Taken Request
 call_request None = None
-call_request (Some (c, left)) = Some (call c, left)
+call_request (Some (c, rest)) = Some (call c, rest)
 
 -- the commands, by their names: the text and how it is treated, what is printed, questions, and calls of the buffer; the
 -- eight flags of a buffer are the bits of the numbers up to 255, the six flags to print by of those up to 63
-unfoldable pub command_in : List ℕ → Left → Taken Request
-command_in name left =
-    if bytes_eq name (codes "push") then with_text push left
-    else if bytes_eq name (codes "add") then with_character_and_number add left
-    else if bytes_eq name (codes "new") then alone new left
-    else if bytes_eq name (codes "level") then with_number_to 3 level left
-    else if bytes_eq name (codes "flags") then with_number_to 255 flags left
-    else if bytes_eq name (codes "limit") then with_place limit left
-    else if bytes_eq name (codes "state") then alone state left
-    else if bytes_eq name (codes "serialize") then with_number_to 63 serialize left
-    else if bytes_eq name (codes "feature") then with_text feature left
-    else if bytes_eq name (codes "tags") then with_script_and_language left
-    else if bytes_eq name (codes "compose") then with_characters compose left
-    else if bytes_eq name (codes "decompose") then with_character decompose left
-    else call_request (call_in name left)
+unfoldable pub command_in : List ℕ → Rest → Taken Request
+command_in name rest =
+    if bytes_eq name (codes "push") then with_text push rest
+    else if bytes_eq name (codes "add") then with_character_and_number add rest
+    else if bytes_eq name (codes "new") then alone new rest
+    else if bytes_eq name (codes "level") then with_number_to 3 level rest
+    else if bytes_eq name (codes "flags") then with_number_to 255 flags rest
+    else if bytes_eq name (codes "limit") then with_u64 limit rest
+    else if bytes_eq name (codes "state") then alone state rest
+    else if bytes_eq name (codes "serialize") then with_number_to 63 serialize rest
+    else if bytes_eq name (codes "feature") then with_text feature rest
+    else if bytes_eq name (codes "tags") then with_script_and_language rest
+    else if bytes_eq name (codes "compose") then with_characters compose rest
+    else if bytes_eq name (codes "decompose") then with_character decompose rest
+    else call_request (call_in name rest)
 
 -- an id before others
 abbrev pub id_before : Option ℕ → Taken (List ℕ) → Taken (List ℕ)
 id_before None taken = None
 id_before (Some id) None = None
-id_before (Some id) (Some (ids, left)) = Some (id ∷ ids, left)
+id_before (Some id) (Some (ids, rest)) = Some (id ∷ ids, rest)
 
 -- so many ids belong to it
-abbrev pub ids_in : ℕ → Left → Taken (List ℕ)
-ids_in zero left = Some ([], left)
-ids_in (suc count) left = id_before (next_u32 left) (ids_in count (past_first_word left))
+abbrev pub ids_in : ℕ → Rest → Taken (List ℕ)
+ids_in zero rest = Some ([], rest)
+ids_in (suc count) rest = id_before (next_u32 rest) (ids_in count (past_first_word rest))
 
 -- how many glyphs are replaced, and the ids of those that take their place
 abbrev pub replacement_by : ℕ → Taken (List ℕ) → Taken Request
 replacement_by num_in None = None
-replacement_by num_in (Some (ids, left)) = Some (replace_glyphs num_in ids, left)
+replacement_by num_in (Some (ids, rest)) = Some (replace_glyphs num_in ids, rest)
 
 -- the same, with the number of ids before them
-abbrev pub with_ids : Option ℕ → Option ℕ → Left → Taken Request
-with_ids None num_out left = None
-with_ids (Some num_in) None left = None
-with_ids (Some num_in) (Some num_out) left = replacement_by num_in (ids_in num_out left)
+abbrev pub with_ids : Option ℕ → Option ℕ → Rest → Taken Request
+with_ids None num_out rest = None
+with_ids (Some num_in) None rest = None
+with_ids (Some num_in) (Some num_out) rest = replacement_by num_in (ids_in num_out rest)
 
-abbrev pub replacement_in : Left → Taken Request
-replacement_in left =
-    with_ids (next_place left) (next_place (past_first_word left)) (past_first_word (past_first_word left))
+abbrev pub replacement_in : Rest → Taken Request
+replacement_in rest =
+    with_ids (next_u64 rest) (next_u64 (past_first_word rest)) (past_first_word (past_first_word rest))
 
 -- the request of a name: a replacement, whose line may be long, or one of the others
-unfoldable pub request_named : List ℕ → Left → Taken Request
-request_named name left =
-    if bytes_eq name (codes "replace_glyphs") then replacement_in left else command_in name left
+unfoldable pub request_named : List ℕ → Rest → Taken Request
+request_named name rest =
+    if bytes_eq name (codes "replace_glyphs") then replacement_in rest else command_in name rest
 
 -- nothing may be left of the line
 abbrev pub whole : Taken Request → Option Request
@@ -214,9 +214,9 @@ whole (Some (request, None)) = Some request
 whole (Some (request, Some text)) = None
 
 -- what the name and the rest of a line ask for
-abbrev pub request_behind : Option (List ℕ) → Left → Option Request
-request_behind None left = None
-request_behind (Some name) left = whole (request_named name left)
+abbrev pub request_behind : Option (List ℕ) → Rest → Option Request
+request_behind None rest = None
+request_behind (Some name) rest = whole (request_named name rest)
 
 -- what a line asks for: nothing where it is no command
 abbrev pub request_in : List ℕ → Option Request

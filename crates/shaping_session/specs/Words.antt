@@ -14,25 +14,25 @@ abbrev pub is_space : ℕ → Bool
 is_space b = b == 32
 
 -- what is left of a line, where its end was not taken yet
-abbrev pub Left : Type 0
-Left = Option (List ℕ)
+abbrev pub Rest : Type 0
+Rest = Option (List ℕ)
 
 -- a word is not empty
 abbrev pub unless_empty : List ℕ → Option (List ℕ)
 unless_empty word = if length word == 0 then None else Some word
 
 -- the next word of what is left of a line: it ends before the first space
-abbrev pub first_word : Left → Option (List ℕ)
+abbrev pub first_word : Rest → Option (List ℕ)
 first_word None = None
 first_word (Some text) = unless_empty (before_first is_space text)
 
 -- what follows the first space, where there is one
-abbrev pub past_space : List ℕ → Left
+abbrev pub past_space : List ℕ → Rest
 past_space text =
     if nat_lt (position_or_len is_space text) (length text) then Some (after_first is_space text) else None
 
 -- what is left once the next word was taken
-abbrev pub past_first_word : Left → Option (List ℕ)
+abbrev pub past_first_word : Rest → Option (List ℕ)
 past_first_word None = None
 past_first_word (Some text) = past_space text
 
@@ -63,14 +63,14 @@ character_of word =
     if list_all is_ascii_hexdigit word && scalar (hexadecimal_value word) then Some (hexadecimal_value word) else None
 
 -- the next word as a number of 32 bits, as one of 64 bits, and as a character
-abbrev pub next_u32 : Left → Option ℕ
-next_u32 left = option_and_then (number_below (2 ^ 32)) (first_word left)
+abbrev pub next_u32 : Rest → Option ℕ
+next_u32 rest = option_and_then (number_below (2 ^ 32)) (first_word rest)
 
-abbrev pub next_place : Left → Option ℕ
-next_place left = option_and_then (number_below (2 ^ 64)) (first_word left)
+abbrev pub next_u64 : Rest → Option ℕ
+next_u64 rest = option_and_then (number_below (2 ^ 64)) (first_word rest)
 
-abbrev pub next_character : Left → Option ℕ
-next_character left = option_and_then character_of (first_word left)
+abbrev pub next_character : Rest → Option ℕ
+next_character rest = option_and_then character_of (first_word rest)
 
 -- the script that a word names, where it names one; `-` names none
 abbrev pub script_in : List ℕ → Option (Option ℕ)
@@ -82,8 +82,8 @@ abbrev pub language_in : List ℕ → Option (List ℕ)
 language_in word = if bytes_eq word (codes "-") then None else Some word
 
 -- the next word as the name of a script, and as that of a language
-abbrev pub next_script : Left → Option (Option ℕ)
-next_script left = option_and_then script_in (first_word left)
+abbrev pub next_script : Rest → Option (Option ℕ)
+next_script rest = option_and_then script_in (first_word rest)
 
-abbrev pub next_language : Left → Option (Option (List ℕ))
-next_language left = option_map language_in (first_word left)
+abbrev pub next_language : Rest → Option (Option (List ℕ))
+next_language rest = option_map language_in (first_word rest)

@@ -5,7 +5,7 @@ ghost use Rattle.std.specs.Char.{is_ascii_digit, is_ascii_hexdigit};
 ghost use Rattle.std.specs.List.{before_first, list_all};
 ghost use Rattle.shaping_session.specs.Words.{is_space, first_word, past_space, past_first_word};
 ghost use Rattle.shaping_session.specs.Words.{IsDecimal, decimal_value, IsHexadecimal, hexadecimal_value};
-ghost use Rattle.shaping_session.specs.Words.{next_u32, next_place, next_character, next_script, next_language};
+ghost use Rattle.shaping_session.specs.Words.{next_u32, next_u64, next_character, next_script, next_language};
 
 use rb_common::Script;
 use std::marker::Model;
@@ -54,8 +54,8 @@ impl<'a> Words<'a> {
     }
 
     /// Takes the next word where decimal digits alone write a number of 64 bits.
-    pub fn place(&mut self) -> Option<usize>
-        ensures number { result ≡ next_place self.old }
+    pub fn number_64(&mut self) -> Option<usize>
+        ensures number { result ≡ next_u64 self.old }
         ensures rest { self.new ≡ past_first_word self.old }
     {
         let value = decimal(self.word()?)?;

@@ -6,6 +6,7 @@ ghost use Rattle.shaping_buffer.specs.ClusterStep.{both};
 ghost use Rattle.syllabic_shapers.specs.KeepsNumbers.{KeepsNumbers};
 
 use crate::category::position::Position;
+use crate::font::FontForms;
 use crate::item::{category_byte, set_category_byte, set_position};
 use crate::syllables::kind_of;
 use rb_glyph::{BufferFlags, Flags};
@@ -15,11 +16,9 @@ use std::alloc::AllocError;
 /// The dotted circle.
 pub(crate) const DOTTED_CIRCLE: u32 = 0x25CC;
 
-/// What is put before the signs of a broken syllable.
+/// How a shaper takes the dotted circle.
 #[derive(Clone, Copy, Debug)]
-pub(crate) struct Circle {
-    /// The glyph of the dotted circle.
-    pub glyph: u32,
+pub(crate) struct CircleKind {
     /// The byte of its category.
     pub category: u8,
     /// Where it stands.
@@ -30,11 +29,19 @@ pub(crate) struct Circle {
     pub broken: u8,
 }
 
-/// Puts a dotted circle into each broken syllable. `Ok(false)` where the text would become too long.
+/// What is put before the signs of a broken syllable: a glyph, and how it is taken.
+#[derive(Clone, Copy, Debug)]
+struct Circle {
+    glyph: u32,
+    kind: CircleKind,
+}
+
+/// Puts a dotted circle into each broken syllable, where the font has one. `Ok(false)` where the text would become too long.
 #[tactic(auto, using(crate::proofs::NumbersLemmas::numbered))]
-pub(crate) fn insert_dotted_circles(
+pub(crate) fn insert_dotted_circles<F: FontForms>(
     buffer: &mut hb_buffer_t,
-    circle: &Circle,
+    font: &F,
+    kind: CircleKind,
 ) -> Result<bool, AllocError>
     requires { buffer.old.have_output ≡ false }
     ensures closed { IfOk result (λ done. done ≡ true → buffer.new.have_output ≡ false) }
@@ -47,8 +54,11 @@ pub(crate) fn insert_dotted_circles(
     if !is_wanted {
         return Ok(true);
     }
+    let Some(glyph) = font.glyph_of(DOTTED_CIRCLE) else {
+        return Ok(true);
+    };
     buffer.clear_output();
-    if !put_circles(buffer, circle)? {
+    if !put_circles(buffer, &Circle { glyph, kind })? {
         return Ok(false);
     }
     buffer.sync()
@@ -84,9 +94,9 @@ fn read_next(buffer: &mut hb_buffer_t, circle: &Circle, last: u8) -> Result<Opti
     ensures keeps { KeepsNumbers buffer.old buffer.new }
 {
     let syllable = buffer.cur(0).syllable();
-    let is_first = syllable != last && kind_of(buffer.cur(0)) == circle.broken;
+    let is_first = syllable != last && kind_of(buffer.cur(0)) == circle.kind.broken;
     if is_first {
-        let rephs = reph_count(buffer.info(), syllable, circle.repha);
+        let rephs = reph_count(buffer.info(), syllable, circle.kind.repha);
         if !put_circle(buffer, circle, rephs)? {
             return Ok(None);
         }
@@ -140,8 +150,8 @@ fn circle_at(circle: &Circle, current: &hb_glyph_info_t) -> hb_glyph_info_t
         cluster: current.cluster,
         ..hb_glyph_info_t::default()
     };
-    set_category_byte(&mut info, circle.category);
-    set_position(&mut info, circle.position);
+    set_category_byte(&mut info, circle.kind.category);
+    set_position(&mut info, circle.kind.position);
     info.set_syllable(current.syllable());
     info
 }

@@ -8,6 +8,7 @@ ghost use Rattle.shaping_buffer.specs.KeepsClusters.{KeepsClusters};
 mod rows;
 
 use crate::dotted_circle::DOTTED_CIRCLE;
+use rb_glyph::row_search::row_at;
 use rb_glyph::{BufferFlags, CharExt, Flags, UnicodeProps};
 use rows::SEQUENCES;
 use shaping_buffer::{hb_buffer_t, hb_glyph_info_t};
@@ -84,10 +85,11 @@ fn sequence_length(buffer: &hb_buffer_t) -> Option<usize> {
     if buffer.script != Some(first.script()) {
         return None;
     }
-    let at = SEQUENCES
-        .binary_search_by(|row| (row.0 as u32, row.1 as u32).cmp(&(first as u32, second)))
-        .ok()?;
-    match SEQUENCES[at].2 {
+    let row = row_at(
+        &SEQUENCES,
+        |row| (row.0 as u32, row.1 as u32).cmp(&(first as u32, second)),
+    )?;
+    match row.2 {
         None => Some(2),
         Some(third) if infos.get(2)?.glyph_id == third as u32 => Some(3),
         Some(_) => None,

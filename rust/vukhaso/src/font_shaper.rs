@@ -5,6 +5,7 @@
 mod bounds;
 mod cluster_level;
 mod cluster_order;
+mod color;
 mod comparison;
 mod ending;
 mod face;
@@ -28,11 +29,13 @@ mod rotation;
 mod shaping;
 mod substitution;
 mod text;
+mod tracking;
 mod variations;
 mod verification;
 mod watch;
 
 pub use crate::font_variations::{Axis, Variation};
+pub use color::ColorTables;
 pub use comparison::{Differences, compare};
 pub use face::{Face, Lookups};
 pub use kept_plan::{ShapePlan, shape_with_plan, shape_with_plan_watched};

@@ -18,7 +18,7 @@ pub mod names;
 pub mod normalize;
 pub mod position;
 mod ranges;
-mod row_search;
+pub mod row_search;
 pub mod scratch;
 mod scripts;
 pub mod tables;

@@ -19,9 +19,15 @@ mod unicode;
 
 // Written, and so in the forms that a prover reads best.
 #[allow(clippy::style, clippy::complexity)]
+pub mod apple_substitution;
+#[allow(clippy::style, clippy::complexity)]
+pub mod apple_tables;
+#[allow(clippy::style, clippy::complexity)]
 pub mod buffer;
 #[allow(clippy::style, clippy::complexity)]
 pub mod character_maps;
+#[allow(clippy::style, clippy::complexity)]
+pub mod color_glyphs;
 #[allow(clippy::style, clippy::complexity)]
 pub mod common;
 #[allow(clippy::style, clippy::complexity)]

@@ -38,8 +38,35 @@ const fn index_of<V: Copy>(runs: &[(u32, V)]) -> Index {
     index
 }
 
-/// The value of the run that a code point lies in: one of those of its block. The first run begins at 0.
+/// How many code points have a value of their own in a table: those of the scripts that are written most.
+const FIRST: usize = 0x800;
+
+static FIRST_SCRIPTS: [Script; FIRST] = first_values(&SCRIPT_RUNS);
+static FIRST_CATEGORIES: [GeneralCategory; FIRST] = first_values(&GENERAL_CATEGORY_RUNS);
+
+const fn first_values<V: Copy>(runs: &[(u32, V)]) -> [V; FIRST] {
+    let mut values = [runs[0].1; FIRST];
+    let (mut code, mut run) = (0, 0);
+    while code < FIRST {
+        if run + 1 < runs.len() && runs[run + 1].0 <= code as u32 {
+            run += 1;
+        }
+        values[code] = runs[run].1;
+        code += 1;
+    }
+    values
+}
+
+/// The value of a code point.
 #[inline]
+fn value_of<V: Copy>(first: &[V; FIRST], runs: &[(u32, V)], index: &Index, code: u32) -> V {
+    match first.get(code as usize) {
+        Some(value) => *value,
+        None => value_in(runs, index, code),
+    }
+}
+
+/// The value of the run that a code point lies in: one of those of its block. The first run begins at 0.
 fn value_in<V: Copy>(runs: &[(u32, V)], index: &Index, code: u32) -> V {
     let block = (code / BLOCK) as usize;
     let near = &runs[index[block] as usize..=index[block + 1] as usize];
@@ -50,7 +77,7 @@ impl Script {
     /// The script of a character.
     #[inline]
     pub fn for_char(c: char) -> Self {
-        value_in(&SCRIPT_RUNS, &SCRIPT_INDEX, c as u32)
+        value_of(&FIRST_SCRIPTS, &SCRIPT_RUNS, &SCRIPT_INDEX, c as u32)
     }
 }
 
@@ -58,7 +85,12 @@ impl GeneralCategory {
     /// The general category of a character.
     #[inline]
     pub fn for_char(c: char) -> Self {
-        value_in(&GENERAL_CATEGORY_RUNS, &GENERAL_CATEGORY_INDEX, c as u32)
+        value_of(
+            &FIRST_CATEGORIES,
+            &GENERAL_CATEGORY_RUNS,
+            &GENERAL_CATEGORY_INDEX,
+            c as u32,
+        )
     }
 }
 

@@ -8,7 +8,7 @@ use shaping_runs::Call;
 const AT_END: &[Call<'static>] = &[Call::ClearOutput, Call::NextGlyphs(2)];
 
 /// A separate output of two glyphs, and AB left to read.
-const APART: &[Call<'static>] = &[Call::ClearOutput, Call::CopyGlyph, Call::CopyGlyph];
+const SEPARATE: &[Call<'static>] = &[Call::ClearOutput, Call::CopyGlyph, Call::CopyGlyph];
 
 /// A glyph of the caller's.
 const GLYPH: hb_glyph_info_t = hb_glyph_info_t {
@@ -38,17 +38,17 @@ pub(super) static HELD: [Held<'static>; 16] = [
         Call::ReplaceGlyphs(0, 2, &[7, 8]),
         3,
     ),
-    Held(APART, Call::NextGlyph, 3),
-    Held(APART, Call::NextGlyphs(2), 4),
-    Held(APART, Call::ReplaceGlyph(7), 3),
-    Held(APART, Call::ReplaceGlyphs(2, 1, &[7]), 3),
-    Held(APART, Call::ReplaceGlyphs(2, 3, &[7, 8, 9]), 5),
-    Held(APART, Call::OutputGlyph(7), 3),
-    Held(APART, Call::OutputInfo(GLYPH), 3),
-    Held(APART, Call::CopyGlyph, 3),
-    Held(APART, Call::MoveTo(3), 3),
-    Held(APART, Call::MoveTo(0), 4),
-    Held(APART, Call::Sync, 4),
+    Held(SEPARATE, Call::NextGlyph, 3),
+    Held(SEPARATE, Call::NextGlyphs(2), 4),
+    Held(SEPARATE, Call::ReplaceGlyph(7), 3),
+    Held(SEPARATE, Call::ReplaceGlyphs(2, 1, &[7]), 3),
+    Held(SEPARATE, Call::ReplaceGlyphs(2, 3, &[7, 8, 9]), 5),
+    Held(SEPARATE, Call::OutputGlyph(7), 3),
+    Held(SEPARATE, Call::OutputInfo(GLYPH), 3),
+    Held(SEPARATE, Call::CopyGlyph, 3),
+    Held(SEPARATE, Call::MoveTo(3), 3),
+    Held(SEPARATE, Call::MoveTo(0), 4),
+    Held(SEPARATE, Call::Sync, 4),
 ];
 
 /// Calls that are done where each side may hold two glyphs, as many as there are: they make no side longer than the
@@ -79,5 +79,5 @@ pub(super) static NEVER_REFUSED: [Held<'static>; 14] = [
     Held(&[Call::ClearOutput], Call::MoveTo(2), 2),
     Held(AT_END, Call::MoveTo(0), 2),
     Held(AT_END, Call::Sync, 2),
-    Held(APART, Call::DeleteGlyph, 2),
+    Held(SEPARATE, Call::DeleteGlyph, 2),
 ];

@@ -17,7 +17,7 @@ pub(super) static FILLED: [Filled<'static>; 11] = [
     // `next_glyph`
     Filled {
         before: &[(1, Call::CopyGlyph), (128, Call::NextGlyph)],
-        apart: (129, 2),
+        separate: (129, 2),
         last: Call::NextGlyph,
         sides: (130, 1),
         ends: (97, 106),
@@ -26,7 +26,7 @@ pub(super) static FILLED: [Filled<'static>; 11] = [
     // `next_glyphs`
     Filled {
         before: &[(1, Call::CopyGlyph), (4, Call::NextGlyphs(25))],
-        apart: (101, 30),
+        separate: (101, 30),
         last: Call::NextGlyphs(29),
         sides: (130, 1),
         ends: (97, 106),
@@ -35,7 +35,7 @@ pub(super) static FILLED: [Filled<'static>; 11] = [
     // `output_glyph`
     Filled {
         before: &[(129, Call::OutputGlyph(7))],
-        apart: (129, 130),
+        separate: (129, 130),
         last: Call::OutputGlyph(8),
         sides: (130, 130),
         ends: (7, 106),
@@ -44,7 +44,7 @@ pub(super) static FILLED: [Filled<'static>; 11] = [
     // `output_info`
     Filled {
         before: &[(129, Call::OutputInfo(GLYPH))],
-        apart: (129, 130),
+        separate: (129, 130),
         last: Call::OutputInfo(GLYPH),
         sides: (130, 130),
         ends: (5, 106),
@@ -53,7 +53,7 @@ pub(super) static FILLED: [Filled<'static>; 11] = [
     // `copy_glyph`
     Filled {
         before: &[(129, Call::CopyGlyph)],
-        apart: (129, 130),
+        separate: (129, 130),
         last: Call::CopyGlyph,
         sides: (130, 130),
         ends: (97, 106),
@@ -62,7 +62,7 @@ pub(super) static FILLED: [Filled<'static>; 11] = [
     // `replace_glyph`
     Filled {
         before: &[(1, Call::CopyGlyph), (128, Call::ReplaceGlyph(7))],
-        apart: (129, 2),
+        separate: (129, 2),
         last: Call::ReplaceGlyph(8),
         sides: (130, 1),
         ends: (97, 106),
@@ -71,7 +71,7 @@ pub(super) static FILLED: [Filled<'static>; 11] = [
     // `replace_glyphs`, a glyph by another
     Filled {
         before: &[(1, Call::CopyGlyph), (128, Call::ReplaceGlyphs(1, 1, &[7]))],
-        apart: (129, 2),
+        separate: (129, 2),
         last: Call::ReplaceGlyphs(1, 1, &[8]),
         sides: (130, 1),
         ends: (97, 106),
@@ -83,7 +83,7 @@ pub(super) static FILLED: [Filled<'static>; 11] = [
             (1, Call::CopyGlyph),
             (42, Call::ReplaceGlyphs(1, 3, &[7, 8, 9])),
         ],
-        apart: (127, 88),
+        separate: (127, 88),
         last: Call::ReplaceGlyphs(1, 3, &[7, 8, 9]),
         sides: (130, 87),
         ends: (97, 106),
@@ -92,7 +92,7 @@ pub(super) static FILLED: [Filled<'static>; 11] = [
     // `move_to` on to the last place
     Filled {
         before: &[(1, Call::CopyGlyph), (60, Call::NextGlyph)],
-        apart: (61, 70),
+        separate: (61, 70),
         last: Call::MoveTo(130),
         sides: (130, 1),
         ends: (97, 106),
@@ -101,7 +101,7 @@ pub(super) static FILLED: [Filled<'static>; 11] = [
     // `move_to` back, where all but one are left to read
     Filled {
         before: &[(65, Call::SkipGlyph), (66, Call::CopyGlyph)],
-        apart: (66, 65),
+        separate: (66, 65),
         last: Call::MoveTo(1),
         sides: (1, 130),
         ends: (102, 106),
@@ -114,7 +114,7 @@ pub(super) static FILLED: [Filled<'static>; 11] = [
             (67, Call::CopyGlyph),
             (1, Call::SkipGlyph),
         ],
-        apart: (67, 63),
+        separate: (67, 63),
         last: Call::Sync,
         sides: (0, 130),
         ends: (103, 106),

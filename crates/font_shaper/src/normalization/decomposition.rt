@@ -5,7 +5,7 @@ ghost use Rattle.shaping_buffer.specs.Clusters.{clusters};
 ghost use Rattle.shaping_buffer.specs.KeepsClusters.{KeepsClusters};
 
 use super::drop_behind;
-use super::parts::{MOST_STEPS, Parts, Taking, add_parts};
+use super::parts::Taking;
 use super::variations::read_variations;
 use crate::face::Face;
 use crate::glyph_info::{is_unicode_mark, is_unicode_space, set_space_fallback, set_unicode_props};
@@ -16,6 +16,7 @@ use shaping_buffer::rb_glyph::space_t;
 use shaping_buffer::{
     CharExt, HB_BUFFER_SCRATCH_FLAG_HAS_SPACE_FALLBACK, hb_buffer_t, hb_glyph_info_t,
 };
+use shaping_passes::normalization::{Parts, add_font_parts};
 use std::alloc::AllocError;
 
 /// The hyphen that no line is broken at, and the one that stands for it.
@@ -191,9 +192,7 @@ fn decompose_current(buffer: &mut hb_buffer_t, taking: &Taking) -> Result<bool, 
     ensures keeps { KeepsClusters buffer.old buffer.new }
 {
     let mut parts = Parts::new();
-    if let Some(character) = char::from_u32(buffer.cur(0).glyph_id)
-        && add_parts(&mut parts, taking, character, MOST_STEPS)
-    {
+    if add_font_parts(&mut parts, taking, buffer.cur(0).glyph_id) {
         return put_parts(buffer, taking.face, &parts);
     }
     if buffer.cur(0).glyph_index() == 0 {
@@ -204,7 +203,7 @@ fn decompose_current(buffer: &mut hb_buffer_t, taking: &Taking) -> Result<bool, 
 
 /// Puts characters out in place of the current one.
 #[tactic(auto, using(shaping_buffer::proofs::ClosedKeepsLemmas::kept))]
-fn put_parts(buffer: &mut hb_buffer_t, face: &Face, parts: &[char]) -> Result<bool, AllocError>
+fn put_parts(buffer: &mut hb_buffer_t, face: &Face, parts: &[u32]) -> Result<bool, AllocError>
     requires opened { buffer.old.have_output ≡ true }
     requires glyph { 0 < length buffer.old.input }
     ensures opened { IfOk result (λ _. buffer.new.have_output ≡ true) }
@@ -221,16 +220,16 @@ fn put_parts(buffer: &mut hb_buffer_t, face: &Face, parts: &[char]) -> Result<bo
 
 /// Puts a character out in the cluster of the current one.
 #[tactic(auto, using(shaping_buffer::proofs::ClosedKeepsLemmas::kept))]
-fn put_part(buffer: &mut hb_buffer_t, face: &Face, part: char) -> Result<bool, AllocError>
+fn put_part(buffer: &mut hb_buffer_t, face: &Face, part: u32) -> Result<bool, AllocError>
     requires opened { buffer.old.have_output ≡ true }
     requires glyph { 0 < length buffer.old.input }
     ensures opened { IfOk result (λ _. buffer.new.have_output ≡ true) }
     ensures glyph { IfOk result (λ _. 0 < length buffer.new.input) }
     ensures keeps { KeepsClusters buffer.old buffer.new }
 {
-    let glyph = face.glyph_index(part as u32);
+    let glyph = face.glyph_index(part);
     set_current_glyph(buffer, glyph.map_or(0, |glyph| u32::from(glyph.0)));
-    if !buffer.output_glyph(part as u32)? {
+    if !buffer.output_glyph(part)? {
         return Ok(false);
     }
     set_last_properties(buffer);

@@ -1,16 +1,11 @@
-//! The parts of a character that the font has glyphs for.
+//! What a character is taken apart into, by the rules of a script and the glyphs of a font.
 
-ghost use Rattle.std.specs.Prelude.{◌≡◌, ◌+◌, ◌<◌, ◌≤◌, length, true, false};
+ghost use Rattle.std.specs.Prelude.{◌≡◌};
+ghost use Rattle.font_shaper.specs.FontRules as rules;
 
 use crate::face::Face;
-use arrayvec::ArrayVec;
 use script_shapers::ScriptShaper;
-
-/// How often a character is taken apart at most. No character of Unicode needs as many.
-pub(crate) const MOST_STEPS: usize = 8;
-
-/// Room for the parts of one character.
-pub(crate) type Parts = ArrayVec<char, 9>;
+use shaping_passes::normalization::FontCharacters;
 
 /// How characters are taken apart.
 #[derive(Clone, Copy, Debug)]
@@ -23,49 +18,48 @@ pub(crate) struct Taking<'a> {
     pub shortest: bool,
 }
 
-/// Adds the parts of a character in at most so many steps, if the font has a glyph for each: the fewest parts that do, or the most.
-/// Whether there are such parts; if not, nothing is added.
-#[cycle(parts)]
-pub(crate) fn add_parts(parts: &mut Parts, taking: &Taking, character: char, steps: usize) -> bool
-    requires { length parts.old.items + steps < 9 }
-    ensures most { length parts.new.items ≤ length parts.old.items + steps + 1 }
-    ensures none { result ≡ false → parts.new.items ≡ parts.old.items }
-{
-    if steps == 0 {
-        return false;
+impl FontCharacters for Taking<'_> {
+    ghost use Rattle.font_shaper.specs.FontRules.{font_of};
+
+    ghost font = { λ taking. font_of taking.face.now taking.shaper taking.shortest };
+
+    fn has_glyph(&self, character: u32) -> bool {
+        self.face.glyph_index(character).is_some()
     }
-    let Some((first, second)) = taking.shaper.decompose(character) else {
-        return false;
-    };
-    if second.is_some_and(|second| !taking.face.has_glyph(second))
-        || !add_first(parts, taking, first, steps)
-    {
-        return false;
+
+    fn parts_of(&self, character: u32) -> Option<(u32, u32)> {
+        parts_of(self.shaper, character)
     }
-    if let Some(second) = second {
-        parts.push(second);
+
+    fn takes_fewest(&self) -> bool {
+        self.shortest
     }
-    true
 }
 
-/// Adds the first part of a character, or the parts of that.
-#[cycle(parts)]
-fn add_first(parts: &mut Parts, taking: &Taking, first: char, steps: usize) -> bool
-    requires some { 0 < steps }
-    requires room { length parts.old.items + steps < 9 }
-    ensures most { length parts.new.items ≤ length parts.old.items + steps }
-    ensures none { result ≡ false → parts.new.items ≡ parts.old.items }
+/// The two parts of a code point, the second U+0000 where there is none.
+fn parts_of(shaper: ScriptShaper, character: u32) -> Option<(u32, u32)>
+    ensures { result ≡ rules.parts_of shaper character }
 {
-    let has_first = taking.face.has_glyph(first);
-    if taking.shortest && has_first {
-        parts.push(first);
-        return true;
+    match char::from_u32(character) {
+        Some(character) => parts_of_char(shaper, character),
+        None => None,
     }
-    if add_parts(parts, taking, first, steps - 1) {
-        return true;
+}
+
+/// Those of a character.
+fn parts_of_char(shaper: ScriptShaper, character: char) -> Option<(u32, u32)>
+    ensures { result ≡ rules.parts_of_char shaper character }
+{
+    with_zero(shaper.decompose(character))
+}
+
+/// Two parts, with U+0000 where there is no second.
+fn with_zero(parts: Option<(char, Option<char>)>) -> Option<(u32, u32)>
+    ensures { result ≡ rules.with_zero parts }
+{
+    match parts {
+        Some((first, Some(second))) => Some((first as u32, second as u32)),
+        Some((first, None)) => Some((first as u32, 0)),
+        None => None,
     }
-    if has_first {
-        parts.push(first);
-    }
-    has_first
 }

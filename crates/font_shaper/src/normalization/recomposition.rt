@@ -1,19 +1,22 @@
 //! The third round of normalization: marks are composed with the character before them, where the font has the composed
 //! character.
 
-ghost use Rattle.std.specs.Prelude.{◌≡◌, ◌+◌, ◌-◌, ◌<◌, ◌≤◌, true, false, length, IfOk, IfSome};
+ghost use Rattle.std.specs.Prelude.{◌≡◌, ◌<◌, true, false, length, IfOk};
 ghost use Rattle.shaping_buffer.specs.Clusters.{clusters};
 ghost use Rattle.shaping_buffer.specs.KeepsClusters.{KeepsClusters};
+ghost use Rattle.shaping_passes.specs.NormalizationComposition.{IsReady, IsPlace};
 
-use super::drop_behind;
+use super::pairs::Composing;
+use super::reordering::KeptClasses;
 use crate::face::Face;
-use crate::glyph_info::{is_unicode_mark, modified_combining_class, set_unicode_props};
-use rb_common::GlyphId;
+use crate::glyph_info::set_unicode_props;
 use script_shapers::ScriptPlan;
 use shaping_buffer::{hb_buffer_t, hb_glyph_info_t};
+use shaping_passes::normalization::next_turn;
 use std::alloc::AllocError;
 
-/// Composes marks with the last starter before them, unless a mark between blocks them.
+/// Composes marks with the last starter before them, unless a mark between blocks them. The first character of the text is a
+/// starter, whatever it is.
 #[tactic(auto, using(shaping_buffer::proofs::ClosedKeepsLemmas::kept))]
 pub(crate) fn recompose_all(
     buffer: &mut hb_buffer_t,
@@ -24,158 +27,97 @@ pub(crate) fn recompose_all(
     ensures closed { IfOk result (λ done. done ≡ true → buffer.new.have_output ≡ false) }
     ensures keeps { KeepsClusters buffer.old buffer.new }
 {
+    if !buffer.successful() {
+        return Ok(false);
+    }
+    let composing = Composing::new(face, script);
+    // Read for what its contract says: the list is no longer than `max_len`.
+    let _ = buffer.len();
     buffer.clear_output();
-    let mut starter = 0;
-    for _turn in 0..buffer.len() {
-        if buffer.lookahead_len() == 0 {
-            break;
-        }
-        match recompose_next(buffer, face, script, starter)? {
-            Some(next) => starter = next,
-            None => return Ok(false),
-        }
+    let mut starter = None;
+    while buffer.lookahead_len() > 0 {
+        starter = recompose_next(buffer, &composing, starter);
     }
     buffer.sync()
 }
 
-/// Reads a character, and composes it with the starter at a place of the out side, or puts it out. Gives the place of the
-/// last starter; `None` where a call was refused.
+/// Reads a character, and composes it with the last starter, which stands at this place of the out side, or puts it out.
+/// Gives the place of the last starter.
 #[tactic(auto, using(shaping_buffer::proofs::ClosedKeepsLemmas::kept))]
 fn recompose_next(
     buffer: &mut hb_buffer_t,
-    face: &Face,
-    script: &ScriptPlan,
-    starter: usize,
-) -> Result<Option<usize>, AllocError>
-    requires opened { buffer.old.have_output ≡ true }
-    requires glyph { 0 < length buffer.old.input }
-    ensures opened { IfOk result (λ _. buffer.new.have_output ≡ true) }
+    composing: &Composing,
+    starter: Option<usize>,
+) -> Option<usize>
+    requires ready { IsReady buffer.old }
+    requires some { 0 < length buffer.old.input }
+    requires place { IsPlace starter buffer.old }
+    ensures ready { IsReady buffer.new }
+    ensures place { IsPlace result buffer.new }
+    ensures shorter { length buffer.new.input < length buffer.old.input }
     ensures keeps { KeepsClusters buffer.old buffer.new }
 {
-    let composite = composite_of(buffer.out_info(), buffer.cur(0), script, starter);
-    if let Some(composed) = composite
-        && let Some(glyph) = face.glyph_index(composed as u32)
-    {
-        let was_composed = compose_current(buffer, starter, composed, glyph)?;
-        return Ok(if was_composed { Some(starter) } else { None });
-    }
-    let is_starter = modified_combining_class(buffer.cur(0)) == 0;
-    let place = buffer.out_len();
-    if !buffer.next_glyph()? {
-        return Ok(None);
-    }
-    Ok(Some(if is_starter { place } else { starter }))
-}
-
-/// What the starter and a mark compose to: the marks between them have lower classes.
-fn composite_of(
-    out: &[hb_glyph_info_t],
-    mark: &hb_glyph_info_t,
-    script: &ScriptPlan,
-    starter: usize,
-) -> Option<char> {
-    if !is_unicode_mark(mark) {
-        return None;
-    }
-    let first = out.get(starter)?;
-    let last = out.last()?;
-    let is_blocked = starter + 1 != out.len()
-        && modified_combining_class(last) >= modified_combining_class(mark);
-    if is_blocked {
-        return None;
-    }
-    script.shaper.compose(
-        char::from_u32(first.glyph_id)?,
-        char::from_u32(mark.glyph_id)?,
-        script.has_gpos_mark,
-    )
-}
-
-/// Merges the current character into the starter, which becomes another character.
-#[tactic(auto, using(shaping_buffer::proofs::ClosedKeepsLemmas::kept))]
-fn compose_current(
-    buffer: &mut hb_buffer_t,
-    starter: usize,
-    composed: char,
-    glyph: GlyphId,
-) -> Result<bool, AllocError>
-    requires opened { buffer.old.have_output ≡ true }
-    requires glyph { 0 < length buffer.old.input }
-    ensures opened { IfOk result (λ _. buffer.new.have_output ≡ true) }
-    ensures keeps { KeepsClusters buffer.old buffer.new }
-{
-    if !buffer.next_glyph()? {
-        return Ok(false);
-    }
-    let end = buffer.out_len();
-    if starter > end {
-        return Ok(false);
-    }
-    buffer.merge_out_clusters(starter, end);
+    let starter = starter_or_first(buffer, starter);
     let count = buffer.out_len();
-    if count == 0 || !buffer.move_to(count - 1)? || buffer.lookahead_len() == 0 {
-        return Ok(false);
+    let next = next_turn(buffer, composing, &KeptClasses, starter);
+    if buffer.out_len() == count {
+        set_composed(buffer, composing.face, next);
     }
-    drop_behind(buffer);
-    set_composed(buffer, starter, composed, glyph);
-    Ok(true)
+    next
 }
 
-/// Sets the character at a place of the out side.
+/// The last starter, or the first character where there is none yet.
+fn starter_or_first(buffer: &hb_buffer_t, starter: Option<usize>) -> Option<usize>
+    requires { IsPlace starter buffer.now }
+    ensures { IsPlace result buffer.now }
+{
+    match starter {
+        None if buffer.out_len() > 0 => Some(0),
+        starter => starter,
+    }
+}
+
+/// Finds the glyph and the properties of the last starter.
 #[tactic(auto, using(shaping_buffer::proofs::ClosedKeepsLemmas::kept))]
-fn set_composed(buffer: &mut hb_buffer_t, place: usize, composed: char, glyph: GlyphId)
-    requires { buffer.old.have_output ≡ true }
-    ensures opened { buffer.new.have_output ≡ true }
+fn set_composed(buffer: &mut hb_buffer_t, face: &Face, starter: Option<usize>)
+    requires { IsReady buffer.old }
+    ensures ready { IsReady buffer.new }
+    ensures out { length buffer.new.out ≡ length buffer.old.out }
+    ensures input { buffer.new.input ≡ buffer.old.input }
     ensures keeps { KeepsClusters buffer.old buffer.new }
 {
-    let scratch_flags = set_in_out(buffer, place, composed, glyph);
+    let scratch_flags = set_in_out(buffer, face, starter);
     buffer.scratch_flags = scratch_flags;
 }
 
-/// Sets the character at a place of a buffer's out side; the scratch flags that then hold.
-fn set_in_out(buffer: &mut hb_buffer_t, place: usize, composed: char, glyph: GlyphId) -> u32
-    requires { buffer.old.have_output ≡ true }
-    ensures opened { buffer.new.have_output ≡ true }
+/// Finds those of the last starter, which stands at this place of the out side; the scratch flags that then hold.
+fn set_in_out(buffer: &mut hb_buffer_t, face: &Face, starter: Option<usize>) -> u32
+    ensures others { buffer.new ≡ record buffer.old { out = buffer.new.out } }
+    ensures out { length buffer.new.out ≡ length buffer.old.out }
     ensures keeps { KeepsClusters buffer.old buffer.new }
 {
     let mut scratch_flags = buffer.scratch_flags;
-    if place < buffer.out_len() {
-        set_at(
-            buffer.out_info_mut(),
-            place,
-            composed,
-            glyph,
-            &mut scratch_flags,
-        );
-    }
+    set_at(buffer.out_info_mut(), face, starter, &mut scratch_flags);
     scratch_flags
 }
 
-/// Sets the character at a place.
+/// Finds those of the character at a place, if there is one.
 #[tactic(auto, using(shaping_buffer::proofs::ClosedKeepsLemmas::clusters_written))]
-fn set_at(
-    infos: &mut [hb_glyph_info_t],
-    place: usize,
-    composed: char,
-    glyph: GlyphId,
-    scratch_flags: &mut u32,
-)
-    requires { place < length infos.old }
+fn set_at(infos: &mut [hb_glyph_info_t], face: &Face, place: Option<usize>, scratch_flags: &mut u32)
     ensures { clusters infos.new ≡ clusters infos.old }
 {
-    set_character(&mut infos[place], composed, glyph, scratch_flags);
+    if let Some(place) = place
+        && place < infos.len()
+    {
+        set_character(&mut infos[place], face, scratch_flags);
+    }
 }
 
-/// Makes another character of this one, with its glyph.
-fn set_character(
-    info: &mut hb_glyph_info_t,
-    composed: char,
-    glyph: GlyphId,
-    scratch_flags: &mut u32,
-)
+/// Finds the glyph and the properties of a character.
+fn set_character(info: &mut hb_glyph_info_t, face: &Face, scratch_flags: &mut u32)
     ensures { info.new.cluster ≡ info.old.cluster }
 {
-    info.glyph_id = composed as u32;
-    info.set_glyph_index(u32::from(glyph.0));
+    let glyph = face.glyph_index(info.glyph_id);
+    info.set_glyph_index(glyph.map_or(0, |glyph| u32::from(glyph.0)));
     set_unicode_props(info, scratch_flags);
 }

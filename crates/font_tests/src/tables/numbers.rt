@@ -1,7 +1,7 @@
 use font_tables::bytes::{
     i16_at, part, table_at_16, table_at_32, tail, u8_at, u16_at, u24_at, u32_at,
 };
-use font_tables::rows::{Keys16, first_row, rises, rows_within};
+use font_tables::rows::{Keys16, Numbers16, Rows, first_row, rises, rows_within};
 
 static TABLE: [u8; 8] = [0x01, 0x02, 0x03, 0x04, 0xFF, 0xFE, 0x00, 0x00];
 
@@ -51,11 +51,13 @@ fn the_first_row_reaches_a_key(rt: HostRuntime) {
         start: 0,
         size: 2,
     };
-    let are_rising = rises(&rows, 4);
-    assert!(rt; are_rising);
+    let numbers = Numbers16(&[[0, 2], [0, 4], [0, 4], [0, 9]]);
+    let (are_rising, do_rise) = (rises(&rows, 4), rises(&numbers, 4));
+    assert!(rt; are_rising && do_rise && numbers.last(3) == Some(9) && numbers.last(4).is_none());
     for &(key, row) in &REACHED {
         assert!(rt; first_row(&rows, 4, key, are_rising) == row);
         assert!(rt; first_row(&rows, 4, key, false) == row);
+        assert!(rt; first_row(&numbers, 4, key, do_rise) == row);
     }
     assert!(rt; rows_within(&TABLE, 2, 4, 9) == 1);
 }

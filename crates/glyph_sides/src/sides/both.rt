@@ -7,7 +7,7 @@ ghost use Rattle.glyph_lists.specs.Deletion.{merge_or_mark};
 ghost use Rattle.glyph_lists.specs.Parts.{on_part};
 ghost use Rattle.glyph_lists.specs.RangeChange.{changed};
 ghost use Rattle.glyph_lists.specs.Scans.{scan_of};
-ghost use Rattle.glyph_sides.specs.TwoLists.{both, with_both, left_place, len, input_merged, head_deleted};
+ghost use Rattle.glyph_sides.specs.TwoLists.{both, with_both, input_place, len, input_merged, head_deleted};
 
 use super::Sides;
 use crate::one_slice;
@@ -86,10 +86,10 @@ impl Sides {
         let at = if self.is_open { self.cursor } else { 0 };
         if self.is_separate {
             let input = &mut self.info[at..];
-            range_change::change_range(&mut self.out_info, input, from, to, change);
+            range_change::change(&mut self.out_info, input, from, to, change);
             return;
         }
-        one_slice::change_range(&mut self.info, at - self.gap..at, from, to, change);
+        one_slice::change(&mut self.info, at - self.gap..at, from, to, change);
     }
 
     /// Scans the input's glyphs from `start` to `end`, counted from its start. With an output open, `start` is at the
@@ -101,7 +101,7 @@ impl Sides {
         requires within { end ≤ len self.old }
         ensures is { self.new ≡ record self.old {
           input = on_part (scan_of (is_any order) bits) self.old.input
-              (left_place start self.old) (left_place end self.old);
+              (input_place start self.old) (input_place end self.old);
         } }
         ensures out_len { length self.new.out ≡ length self.old.out }
         ensures input_len { length self.new.input ≡ length self.old.input }
@@ -122,12 +122,12 @@ impl Sides {
     {
         if self.is_separate {
             let at = self.cursor;
-            deletion::delete_head(&mut self.out_info, &mut self.info[at..], order);
+            deletion::keep_cluster(&mut self.out_info, &mut self.info[at..], order);
             self.cursor += 1;
             return;
         }
         let (gap, cursor) = (self.gap, self.cursor);
-        one_slice::delete_head(&mut self.info, cursor - gap..cursor, order);
+        one_slice::keep_cluster(&mut self.info, cursor - gap..cursor, order);
         self.gap = gap + 1;
         self.cursor = cursor + 1;
     }

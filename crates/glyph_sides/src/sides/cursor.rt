@@ -5,7 +5,7 @@
 
 ghost use Rattle.std.specs.Prelude.{◌≡◌, ◌+◌, ◌<◌, ◌≤◌, ◌∷◌, [], true, false, length, IsOk};
 ghost use Rattle.glyph_sides.specs.TwoLists as lists;
-ghost use Rattle.glyph_sides.specs.TwoLists.{Makes, left};
+ghost use Rattle.glyph_sides.specs.TwoLists.{Makes, lookahead_len};
 
 use super::Sides;
 use crate::shifts::{close_gap, leave, put_down};
@@ -19,7 +19,7 @@ impl Sides {
     #[inline(always)]
     #[tactic(auto, using(crate::proofs::NoGapLemmas::moves))]
     pub fn next(&mut self, n: usize) -> Result<(), AllocError>
-        requires { n ≤ left self.old }
+        requires { n ≤ lookahead_len self.old }
         ensures makes { Makes (lists.next n self.old) self.old result self.new }
         ensures in_place { self.old.is_separate ≡ false → IsOk result }
     {
@@ -39,7 +39,7 @@ impl Sides {
     #[inline(always)]
     #[tactic(auto, using(crate::proofs::NoGapLemmas::moves))]
     pub fn next_one(&mut self) -> Result<(), AllocError>
-        requires { 0 < left self.old }
+        requires { 0 < lookahead_len self.old }
         ensures makes { Makes (lists.next 1 self.old) self.old result self.new }
         ensures in_place { self.old.is_separate ≡ false → IsOk result }
     {
@@ -58,6 +58,7 @@ impl Sides {
     }
 
     /// Behind a separate output. The room is made first, so that the glyph is copied once.
+    #[inline(always)]
     fn next_one_separate(&mut self) -> Result<(), AllocError>
         requires opened { self.old.is_open ≡ true }
         requires separate { self.old.is_separate ≡ true }
@@ -86,7 +87,7 @@ impl Sides {
     /// Drops `count` glyphs at the cursor; with no output open the cursor moves over them. Requires as many glyphs there.
     #[inline(always)]
     pub fn skip(&mut self, count: usize)
-        requires { count ≤ left self.old }
+        requires { count ≤ lookahead_len self.old }
         ensures { self.new ≡ lists.skip count self.old }
     {
         if self.is_open && !self.is_separate {

@@ -1,7 +1,7 @@
 //! Single glyphs and whole sides, to be read and to be written.
 
 ghost use Rattle.std.specs.Prelude.{◌≡◌, ◌<◌, ◌-◌, false, length, slice_index_or};
-ghost use Rattle.glyph_sides.specs.TwoLists.{left};
+ghost use Rattle.glyph_sides.specs.TwoLists.{lookahead_len};
 ghost use Rattle.glyph_sides.specs.Lending.{place_of};
 
 use super::Sides;
@@ -15,7 +15,7 @@ impl Sides {
     /// The glyph `i` places after the cursor. Requires that there is one.
     #[inline(always)]
     pub fn cur(&self, i: usize) -> &hb_glyph_info_t
-        requires { i < left self.now }
+        requires { i < lookahead_len self.now }
         ensures { result.now ≡ slice_index_or self.now.input (place_of self.now i) result.now }
     {
         &self.info[self.cursor + i]
@@ -24,7 +24,7 @@ impl Sides {
     /// The glyph `i` places after the cursor, to be written.
     #[inline(always)]
     pub fn cur_mut(&mut self, i: usize) -> &mut hb_glyph_info_t
-        requires { i < left self.old }
+        requires { i < lookahead_len self.old }
         ensures* writes_back { sem 𝓛 (LendsCur self.entry i result) }
         ensures value { result.now
             ≡ slice_index_or self.old.input (place_of self.old i) result.now }

@@ -1,11 +1,11 @@
 //! The types of letters by which they join.
 
-ghost use Rattle.std.specs.Prelude.{◌≡◌};
+ghost use Rattle.std.specs.Prelude.{◌≡◌, IsTrue};
 ghost use Rattle.script_shapers.specs.Joining.{joins_next, joins_previous, type_of_number, number_of_type, nearest};
-ghost use Rattle.script_shapers.specs.Listed.{joining_type};
+ghost use Rattle.script_shapers.specs.Listed.{are_apart, joining_type, kind_in};
 
 use crate::joining::rows::ROWS;
-use crate::joining::search::kind_in;
+use rb_glyph::row_search::{range_order, row_at};
 
 /// How a character joins its neighbours (Unicode, Joining_Type, and for two groups of Syriac letters Joining_Group).
 #[derive(Clone, Copy, PartialEq, Eq, Debug)]
@@ -94,4 +94,12 @@ pub fn joining_type(character: u32, is_mark_or_format: bool) -> JoiningType
         None if is_mark_or_format => Transparent,
         None => NonJoining,
     }
+}
+
+/// What the row that holds the character has.
+fn kind_in(rows: &[(char, char, JoiningType)], c: u32) -> Option<JoiningType>
+    requires { IsTrue (are_apart rows.now) }
+    ensures { result ≡ kind_in c rows.now }
+{
+    row_at(rows, |row| range_order(row.0 as u32, row.1 as u32, c)).map(|row| row.2)
 }

@@ -166,7 +166,7 @@ impl hb_buffer_t {
         requires longer { self.old.idx < length self.old.out }
         ensures { Meets (step.sync self.old) self.old result self.new }
     {
-        let (out_len, left) = (self.sides.out_len(), self.sides.left());
+        let (out_len, left) = (self.sides.out_len(), self.sides.lookahead_len());
         if left > self.max_len - out_len {
             self.successful = false;
             return Ok(false);

@@ -4,16 +4,16 @@ ghost use Rattle.std.specs.Prelude.{◌≡◌, ◌+◌, ◌<◌, ◌≤◌, ◌+
 ghost use Rattle.std.specs.Prelude.{Ok, Some, ◌==◌, if◌then◌else◌};
 ghost use Rattle.glyph_lists.specs.Clusters.{zero_glyph, IsCoarse, IsMonotone};
 ghost use Rattle.shaping_buffer.specs.ClusterStep.{any_order, both, head_of};
+ghost use Rattle.shaping_buffer.specs.KeepsClusters.{KeepsClusters};
 ghost use Rattle.shaping_buffer.specs.State.{lookahead_len};
 ghost use Rattle.shaping_buffer.specs.Step.{with_id};
 ghost use Rattle.glyph_laws.specs.Cores.{core, cores};
 ghost use Rattle.shaping_passes.specs.NormalizationComposition.{composed, composed_at, composed_glyphs, pair_composed};
 ghost use Rattle.shaping_passes.specs.NormalizationComposition.{so_far, pair_of, IsReady, IsPlace, kept_one};
 ghost use Rattle.shaping_passes.specs.NormalizationDecomposition.{closed_over};
-ghost use Rattle.shaping_passes.specs.NormalizationOrder.{class_at};
 
-use super::parts::{class_of, composed_of};
-use shaping_buffer::{CombiningClasses, Compositions, hb_buffer_t};
+use super::rules::{CharacterPairs, MarkClasses};
+use shaping_buffer::hb_buffer_t;
 use std::alloc::AllocError;
 
 /// Composes pairs of characters: the last starter and each character after it that is not blocked, which is then gone.
@@ -22,18 +22,18 @@ use std::alloc::AllocError;
 ///
 /// `Ok(false)` after an earlier refusal, with nothing changed, and else `Ok(true)`: it puts out no more than it reads,
 /// so it is never refused and takes no memory.
-pub fn compose_marks(
+pub fn compose_marks<P: CharacterPairs, C: MarkClasses>(
     buffer: &mut hb_buffer_t,
-    compositions: &Compositions,
-    classes: &CombiningClasses,
+    compositions: &P,
+    classes: &C,
 ) -> Result<bool, AllocError>
     requires { buffer.old.have_output ≡ false }
     ensures result { result ≡ Ok buffer.old.successful }
     ensures refused { buffer.old.successful ≡ false → buffer.new ≡ buffer.old }
     ensures composed { buffer.old.successful ≡ true → cores buffer.new.input
-        ≡ composed compositions.now classes.now (cores buffer.old.input) }
+        ≡ composed (P.pairs compositions.now) (C.classes classes.now) (cores buffer.old.input) }
     ensures glyphs { buffer.old.successful ≡ true → buffer.new.input
-        ≡ composed_glyphs (any_order buffer.old) compositions.now classes.now buffer.old.input }
+        ≡ composed_glyphs (any_order buffer.old) (P.pairs compositions.now) (C.classes classes.now) buffer.old.input }
     ensures monotone { IsMonotone buffer.old.input → IsMonotone buffer.new.input }
     ensures merges { any_order buffer.old ≡ false → IsCoarse buffer.old.input
         → IsCoarse buffer.new.input }
@@ -55,10 +55,10 @@ pub fn compose_marks(
 
 /// Reads one character, and composes it with the last starter, which stands on the out side, or puts it out. Gives the
 /// place of the last starter.
-fn next_turn(
+pub fn next_turn<P: CharacterPairs, C: MarkClasses>(
     buffer: &mut hb_buffer_t,
-    compositions: &Compositions,
-    classes: &CombiningClasses,
+    compositions: &P,
+    classes: &C,
     starter: Option<usize>,
 ) -> Option<usize>
     requires ready { IsReady buffer.old }
@@ -66,11 +66,11 @@ fn next_turn(
     requires place { IsPlace starter buffer.old }
     ensures ready { IsReady buffer.new }
     ensures place { IsPlace result buffer.new }
-    ensures same { so_far compositions.now classes.now result (cores buffer.new.out) (cores buffer.new.input)
-        ≡ so_far compositions.now classes.now starter (cores buffer.old.out) (cores buffer.old.input) }
-    ensures glyphs { composed_at (any_order buffer.old) compositions.now classes.now result (length buffer.new.out)
+    ensures same { so_far (P.pairs compositions.now) (C.classes classes.now) result (cores buffer.new.out) (cores buffer.new.input)
+        ≡ so_far (P.pairs compositions.now) (C.classes classes.now) starter (cores buffer.old.out) (cores buffer.old.input) }
+    ensures glyphs { composed_at (any_order buffer.old) (P.pairs compositions.now) (C.classes classes.now) result (length buffer.new.out)
         (length buffer.new.input) (both buffer.new)
-        ≡ composed_at (any_order buffer.old) compositions.now classes.now starter (length buffer.old.out)
+        ≡ composed_at (any_order buffer.old) (P.pairs compositions.now) (C.classes classes.now) starter (length buffer.old.out)
         (length buffer.old.input) (both buffer.old) }
     ensures merges { any_order buffer.old ≡ false → IsCoarse (both buffer.old)
         → IsCoarse (both buffer.new) }
@@ -80,6 +80,7 @@ fn next_turn(
       idx = buffer.new.idx;
     } }
     ensures shorter { length buffer.new.input < length buffer.old.input }
+    ensures keeps { KeepsClusters buffer.old buffer.new }
 {
     match starter {
         Some(at) => match pair_at(buffer, compositions, classes, at) {
@@ -94,44 +95,45 @@ fn next_turn(
 }
 
 /// Puts the character at the cursor out. Gives the place of the last starter, which may be this one.
-fn keep_behind(
+fn keep_behind<C: MarkClasses>(
     buffer: &mut hb_buffer_t,
-    classes: &CombiningClasses,
+    classes: &C,
     starter: Option<usize>,
 ) -> Option<usize>
     requires ready { IsReady buffer.old }
     requires some { 0 < length buffer.old.input }
     ensures kept { buffer.new ≡ kept_one buffer.old }
-    ensures starter { result ≡ (if class_at classes.now (head_of buffer.old) == 0
+    ensures starter { result ≡ (if C.classes classes.now (head_of buffer.old) == 0
         then Some (length buffer.old.out) else starter) }
+    ensures keeps { KeepsClusters buffer.old buffer.new }
 {
-    let class = class_of(classes, buffer.cur(0).glyph_id);
+    let class = classes.class_of(buffer.cur(0));
     let at = buffer.out_len();
     keep_one(buffer);
     if class == 0 { Some(at) } else { starter }
 }
 
 /// What the starter at place `at` of the out side and the character at the cursor compose to.
-fn pair_at(
+fn pair_at<P: CharacterPairs, C: MarkClasses>(
     buffer: &hb_buffer_t,
-    compositions: &Compositions,
-    classes: &CombiningClasses,
+    compositions: &P,
+    classes: &C,
     at: usize,
 ) -> Option<u32>
     requires opened { buffer.now.have_output ≡ true }
     requires some { 0 < length buffer.now.input }
     requires place { at < length buffer.now.out }
-    ensures { result ≡ pair_of compositions.now classes.now
+    ensures { result ≡ pair_of (P.pairs compositions.now) (C.classes classes.now)
         (slice_index_or (cores buffer.now.out) at zero_glyph) (drop (at + 1) (cores buffer.now.out))
         (core (head_of buffer.now)) }
 {
     let out = buffer.out_info();
-    let id = buffer.cur(0).glyph_id;
+    let info = buffer.cur(0);
     let last = out.len() - 1;
-    if at < last && class_of(classes, id) <= class_of(classes, out[last].glyph_id) {
+    if at < last && classes.class_of(info) <= classes.class_of(&out[last]) {
         return None;
     }
-    composed_of(compositions, out[at].glyph_id, id)
+    compositions.composed_of(&out[at], info)
 }
 
 /// Merges the glyph at the cursor into the one at place `at` of the out side, which gets another id.
@@ -151,6 +153,7 @@ fn compose_pair(buffer: &mut hb_buffer_t, at: usize, id: u32)
       input = buffer.new.input;
       idx = buffer.old.idx + 1;
     } }
+    ensures keeps { KeepsClusters buffer.old buffer.new }
 {
     keep_one(buffer);
     let end = buffer.out_len();
@@ -174,7 +177,8 @@ fn set_id(buffer: &mut hb_buffer_t, at: usize, id: u32)
 fn keep_one(buffer: &mut hb_buffer_t)
     requires ready { IsReady buffer.old }
     requires some { 0 < length buffer.old.input }
-    ensures { buffer.new ≡ kept_one buffer.old }
+    ensures is { buffer.new ≡ kept_one buffer.old }
+    ensures keeps { KeepsClusters buffer.old buffer.new }
 {
     let _ = buffer.next_glyph();
 }

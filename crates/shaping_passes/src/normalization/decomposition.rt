@@ -1,43 +1,48 @@
-//! Each character gives way to its canonical decomposition.
+//! Each character gives way to its canonical decomposition, as far as a font has glyphs for its parts.
 
-ghost use Rattle.std.specs.Prelude.{◌≡◌, ◌+◌, ◌<◌, ◌≤◌, ◌++◌, true, false, length, map};
+ghost use Rattle.std.specs.Prelude.{◌≡◌, ◌+◌, ◌-◌, ◌<◌, ◌++◌, ◌&&◌, [], true, false, length, unwrap_or, is_some};
 ghost use Rattle.glyph_lists.specs.Replacement.{copies};
 ghost use Rattle.shaping_buffer.specs.ClusterStep.{head_of};
 ghost use Rattle.shaping_buffer.specs.State.{lookahead_len};
 ghost use Rattle.shaping_buffer.specs.Step.{Meets, put_out, skip_glyph};
-ghost use Rattle.shaping_passes.specs.NormalizationDecomposition.{Decomposes, decomposition, most_steps};
+ghost use Rattle.shaping_passes.specs.NormalizationDecomposition.{Decomposes, decomposition_with, parts_with, first_parts};
+ghost use Rattle.shaping_passes.specs.NormalizationDecomposition.{most_steps, IsFullWithEveryGlyph};
+ghost use Rattle.shaping_passes.specs.NormalizationDecomposition.{some_part, lacks, both_parts};
 
-use super::parts::parts_of;
+use super::rules::FontCharacters;
 use arrayvec::ArrayVec;
-use shaping_buffer::{Decompositions, hb_buffer_t};
+use shaping_buffer::hb_buffer_t;
 use std::alloc::AllocError;
 
 /// How often a character is taken apart at most.
 const MOST_STEPS: usize = 8;
 
 /// Room for the parts of one character.
-type Parts = ArrayVec<u32, 9>;
+pub type Parts = ArrayVec<u32, 9>;
 
-/// Replaces each character by its full canonical decomposition: its first part is taken apart again and again, by the
-/// rule of Hangul or by its row in the table. Each part keeps the cluster and all else of the character. Then the
-/// cursor is at the start, and positions are off. Requires that no output is open.
+/// Replaces each character by its canonical decomposition, as far as the font has glyphs for the parts: its first part is
+/// taken apart again and again. A character that the font has is kept, where as little as can be is taken apart, and so is
+/// one of which the font lacks a part. Each part keeps the cluster and all else of the character. Then the cursor is at the
+/// start, and positions are off. Requires that no output is open.
+///
+/// A table of Unicode is as good as a font that has every glyph.
 ///
 /// `Ok(false)` after an earlier refusal, with nothing changed, and where the list would grow too long: then the output
 /// stays open, with the decompositions that fit, and what was not read is left in the input. The same stands where
 /// memory runs out, which it does only where the list becomes longer, and longer than its room.
-pub fn decompose_all(
+pub fn decompose_all<F: FontCharacters>(
     buffer: &mut hb_buffer_t,
-    decompositions: &Decompositions,
+    font: &F,
 ) -> Result<bool, AllocError>
     requires { buffer.old.have_output ≡ false }
-    ensures { Decomposes decompositions.now buffer.old result buffer.new }
+    ensures { Decomposes (F.font font.now) buffer.old result buffer.new }
 {
     if !buffer.successful() {
         return Ok(false);
     }
     buffer.clear_output();
     while buffer.lookahead_len() > 0 {
-        if !decompose_current(buffer, decompositions)? {
+        if !decompose_current(buffer, font)? {
             return Ok(false);
         }
     }
@@ -45,45 +50,131 @@ pub fn decompose_all(
 }
 
 /// Puts the decomposition of the character at the cursor out.
-fn decompose_current(
+fn decompose_current<F: FontCharacters>(
     buffer: &mut hb_buffer_t,
-    decompositions: &Decompositions,
+    font: &F,
 ) -> Result<bool, AllocError>
     requires opened { buffer.old.have_output ≡ true }
     requires some { 0 < lookahead_len buffer.old }
     ensures { Meets
-        (put_out (copies (head_of buffer.old)
-        (decomposition most_steps decompositions.now (head_of buffer.old).glyph_id))
+        (put_out (copies (head_of buffer.old) (decomposition_with (F.font font.now) (head_of buffer.old).glyph_id))
         buffer.old (skip_glyph buffer.old))
         buffer.old result buffer.new }
 {
     let id = buffer.cur(0).glyph_id;
-    match parts_of(decompositions, id) {
-        None => buffer.next_glyph(),
-        Some(_) => {
-            let mut parts = Parts::new();
-            add_parts(&mut parts, decompositions, id, MOST_STEPS);
-            buffer.replace_glyphs(1, parts.len(), &parts)
-        }
+    if stays(font, id) {
+        return buffer.next_glyph();
+    }
+    let mut parts = Parts::new();
+    if add_font_parts(&mut parts, font, id) {
+        buffer.replace_glyphs(1, parts.len(), &parts)
+    } else {
+        buffer.next_glyph()
     }
 }
 
-/// Adds the decomposition of a character in at most so many steps.
-fn add_parts(parts: &mut Parts, decompositions: &Decompositions, id: u32, steps: usize)
+/// Whether the character stays since the font has it, and as little as can be is taken apart.
+fn stays<F: FontCharacters>(font: &F, character: u32) -> bool
+    ensures { result ≡ ((F.font font.now).fewest && (F.font font.now).has character) }
+{
+    font.takes_fewest() && font.has_glyph(character)
+}
+
+/// Adds the parts of a character that the font has a glyph for, each of them. Whether there are such parts; if not, nothing
+/// is added.
+pub fn add_font_parts<F: FontCharacters>(parts: &mut Parts, font: &F, character: u32) -> bool
+    requires { parts.old.items ≡ [] }
+    ensures found { result ≡ is_some (parts_with (F.font font.now) most_steps character) }
+    ensures parts { parts.new.items ≡ unwrap_or (parts_with (F.font font.now) most_steps character) [] }
+{
+    add_parts(parts, font, character, MOST_STEPS)
+}
+
+/// Adds the parts of a character that the font has, in at most so many steps.
+#[cycle(parts)]
+fn add_parts<F: FontCharacters>(parts: &mut Parts, font: &F, character: u32, steps: usize) -> bool
     requires { length parts.old.items + steps < 9 }
-    ensures { parts.new.items ≡ parts.old.items ++ decomposition steps decompositions.now id }
+    ensures found { result ≡ is_some (parts_with (F.font font.now) steps character) }
+    ensures parts { parts.new.items
+        ≡ parts.old.items ++ unwrap_or (parts_with (F.font font.now) steps character) [] }
 {
     if steps == 0 {
-        parts.push(id);
-        return;
+        return false;
     }
-    match parts_of(decompositions, id) {
-        Some((first, second)) => {
-            add_parts(parts, decompositions, first, steps - 1);
-            if second != 0 {
-                parts.push(second);
-            }
-        }
-        None => parts.push(id),
+    match font.parts_of(character) {
+        Some((first, second)) => add_both(parts, font, first, second, steps),
+        None => false,
     }
 }
+
+/// Adds the first part of a character, or the parts of that, and then the second part.
+#[cycle(parts)]
+fn add_both<F: FontCharacters>(
+    parts: &mut Parts,
+    font: &F,
+    first: u32,
+    second: u32,
+    steps: usize,
+) -> bool
+    requires some { 0 < steps }
+    requires room { length parts.old.items + steps < 9 }
+    ensures found { result
+        ≡ is_some (both_parts (F.font font.now) first second (parts_with (F.font font.now) (steps - 1) first)) }
+    ensures parts { parts.new.items ≡ parts.old.items
+        ++ unwrap_or (both_parts (F.font font.now) first second (parts_with (F.font font.now) (steps - 1) first)) [] }
+{
+    if lacks(font, second) {
+        return false;
+    }
+    if !add_first(parts, font, first, steps) {
+        return false;
+    }
+    push_part(parts, second);
+    true
+}
+
+/// Whether the font lacks a second part that there is.
+fn lacks<F: FontCharacters>(font: &F, second: u32) -> bool
+    ensures { result ≡ lacks (F.font font.now) second }
+{
+    second != 0 && !font.has_glyph(second)
+}
+
+/// Adds a second part, unless it is U+0000.
+fn push_part(parts: &mut Parts, second: u32)
+    requires { length parts.old.items < 9 }
+    ensures { parts.new.items ≡ parts.old.items ++ some_part second }
+{
+    if second != 0 {
+        parts.push(second);
+    }
+}
+
+/// Adds the first part of a character, or the parts of that.
+#[cycle(parts)]
+fn add_first<F: FontCharacters>(parts: &mut Parts, font: &F, first: u32, steps: usize) -> bool
+    requires some { 0 < steps }
+    requires room { length parts.old.items + steps < 9 }
+    ensures found { result
+        ≡ is_some (first_parts (F.font font.now) first (parts_with (F.font font.now) (steps - 1) first)) }
+    ensures parts { parts.new.items ≡ parts.old.items
+        ++ unwrap_or (first_parts (F.font font.now) first (parts_with (F.font font.now) (steps - 1) first)) [] }
+{
+    let has_first = font.has_glyph(first);
+    if font.takes_fewest() && has_first {
+        parts.push(first);
+        return true;
+    }
+    if add_parts(parts, font, first, steps - 1) {
+        return true;
+    }
+    if has_first {
+        parts.push(first);
+    }
+    has_first
+}
+
+/// With a font that has every glyph, each character gives way to its full decomposition.
+pub fn full_with_every_glyph()
+    ensures { IsFullWithEveryGlyph }
+{}

@@ -21,7 +21,7 @@ pub(crate) fn parts_of(decompositions: &Decompositions, id: u32) -> Option<(u32,
     }
 }
 
-/// The same of a character.
+/// The two parts of a character, by the rule of Hangul or by the table.
 fn parts_of_char(decompositions: &Decompositions, c: char) -> Option<(char, char)>
     ensures { result ≡ option_or (hangul_parts c) (decomposition_of c decompositions.now) }
 {

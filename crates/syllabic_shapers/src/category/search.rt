@@ -3,23 +3,15 @@
 use crate::category::Category;
 use crate::category::position::Position;
 use crate::category::rows::ROWS;
-use std::cmp::Ordering;
+use rb_glyph::row_search::{range_order, row_at};
 
 /// What a character is in a syllable, and where it stands there.
 pub fn category_of(character: u32) -> (Category, Position) {
-    match ROWS.binary_search_by(|row| place(row, character)) {
-        Ok(at) => (ROWS[at].2, ROWS[at].3),
-        Err(_) => (Category::Other, Position::End),
-    }
-}
-
-/// Where the row lies from the character.
-fn place(row: &(char, char, Category, Position), character: u32) -> Ordering {
-    if character < row.0 as u32 {
-        Ordering::Greater
-    } else if (row.1 as u32) < character {
-        Ordering::Less
-    } else {
-        Ordering::Equal
+    match row_at(
+        &ROWS,
+        |row| range_order(row.0 as u32, row.1 as u32, character),
+    ) {
+        Some(row) => (row.2, row.3),
+        None => (Category::Other, Position::End),
     }
 }

@@ -8,7 +8,7 @@ ghost use Rattle.syllabic_shapers.specs.KeepsNumbers.{KeepsNumbers, SameClusters
 use crate::category::Category;
 use crate::category::position::Position;
 use crate::clusters::merge;
-use crate::dotted_circle::{Circle, DOTTED_CIRCLE, insert_dotted_circles};
+use crate::dotted_circle::{CircleKind, insert_dotted_circles};
 use crate::font::{FontForms, FormFeature};
 use crate::indic::base::{Base, find_base};
 use crate::indic::initial_masks::{mask_pref, set_masks};
@@ -26,6 +26,13 @@ use std::ops::Range;
 /// The kinds of syllables that are reordered come before this one, but for symbols.
 const SYMBOL: u8 = 3;
 
+const CIRCLE: CircleKind = CircleKind {
+    category: Category::DottedCircle as u8,
+    position: Position::End,
+    repha: Some(Category::Repha as u8),
+    broken: BROKEN,
+};
+
 /// Puts the glyphs of each syllable in order.
 #[tactic(auto, using(crate::proofs::NumbersLemmas::numbered))]
 pub(crate) fn order_initially<F: FontForms>(
@@ -41,17 +48,8 @@ pub(crate) fn order_initially<F: FontForms>(
     if let Some(virama) = plan.virama_glyph(font) {
         place_consonants(buffer, font, virama);
     }
-    if let Some(glyph) = font.glyph_of(DOTTED_CIRCLE) {
-        let circle = Circle {
-            glyph,
-            category: Category::DottedCircle as u8,
-            position: Position::End,
-            repha: Some(Category::Repha as u8),
-            broken: BROKEN,
-        };
-        if !insert_dotted_circles(buffer, &circle)? {
-            return Ok(false);
-        }
+    if !insert_dotted_circles(buffer, font, CIRCLE)? {
+        return Ok(false);
     }
     order_syllables(alloc, buffer, plan, font)?;
     Ok(true)

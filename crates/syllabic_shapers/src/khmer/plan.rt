@@ -6,7 +6,7 @@ ghost use Rattle.syllabic_shapers.specs.KeepsNumbers.{KeepsNumbers};
 
 use crate::category::Category;
 use crate::category::position::Position;
-use crate::dotted_circle::{Circle, DOTTED_CIRCLE, insert_dotted_circles};
+use crate::dotted_circle::{CircleKind, insert_dotted_circles};
 use crate::font::FontForms;
 use crate::khmer::machine_rows::{ENDS, NEXT, OTHER, WIDTH};
 use crate::khmer::order::order_syllables;
@@ -17,6 +17,13 @@ use std::alloc::AllocError;
 
 /// The kind of syllables without a base.
 pub(crate) const BROKEN: u8 = 1;
+
+const CIRCLE: CircleKind = CircleKind {
+    category: Category::DottedCircle as u8,
+    position: Position::Start,
+    repha: None,
+    broken: BROKEN,
+};
 
 /// How a Khmer text is shaped by a font: the masks of the features that not every glyph has.
 #[derive(Clone, Copy, PartialEq, Eq, Debug, Default)]
@@ -62,17 +69,8 @@ impl KhmerPlan {
         ensures closed { IfOk result (λ done. done ≡ true → buffer.new.have_output ≡ false) }
         ensures keeps { KeepsNumbers buffer.old buffer.new }
     {
-        if let Some(glyph) = font.glyph_of(DOTTED_CIRCLE) {
-            let circle = Circle {
-                glyph,
-                category: Category::DottedCircle as u8,
-                position: Position::Start,
-                repha: None,
-                broken: BROKEN,
-            };
-            if !insert_dotted_circles(buffer, &circle)? {
-                return Ok(false);
-            }
+        if !insert_dotted_circles(buffer, font, CIRCLE)? {
+            return Ok(false);
         }
         order_syllables(buffer, self);
         Ok(true)

@@ -6,7 +6,7 @@ ghost use Rattle.syllabic_shapers.specs.KeepsNumbers.{KeepsNumbers};
 
 use crate::category::Category;
 use crate::category::position::Position;
-use crate::dotted_circle::{Circle, DOTTED_CIRCLE, insert_dotted_circles};
+use crate::dotted_circle::{CircleKind, insert_dotted_circles};
 use crate::font::FontForms;
 use crate::machine::Machine;
 use crate::myanmar::machine_rows::{ENDS, NEXT, OTHER, WIDTH};
@@ -17,6 +17,13 @@ use std::alloc::AllocError;
 
 /// The kind of syllables without a base.
 pub(crate) const BROKEN: u8 = 1;
+
+const CIRCLE: CircleKind = CircleKind {
+    category: Category::DottedCircle as u8,
+    position: Position::Start,
+    repha: None,
+    broken: BROKEN,
+};
 
 /// Finds the syllables, before the first lookups.
 pub(crate) fn setup_syllables(buffer: &mut hb_buffer_t)
@@ -45,17 +52,8 @@ pub(crate) fn reordering<F: FontForms>(
     ensures closed { IfOk result (λ done. done ≡ true → buffer.new.have_output ≡ false) }
     ensures keeps { KeepsNumbers buffer.old buffer.new }
 {
-    if let Some(glyph) = font.glyph_of(DOTTED_CIRCLE) {
-        let circle = Circle {
-            glyph,
-            category: Category::DottedCircle as u8,
-            position: Position::Start,
-            repha: None,
-            broken: BROKEN,
-        };
-        if !insert_dotted_circles(buffer, &circle)? {
-            return Ok(false);
-        }
+    if !insert_dotted_circles(buffer, font, CIRCLE)? {
+        return Ok(false);
     }
     order_syllables(buffer);
     Ok(true)

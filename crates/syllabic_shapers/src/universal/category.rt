@@ -1,7 +1,7 @@
 //! What a character is in a syllable of the universal shaper.
 
 use crate::universal::rows::ROWS;
-use std::cmp::Ordering;
+use rb_glyph::row_search::{range_order, row_at};
 
 /// What a character is in a syllable (OpenType, "Creating and supporting OpenType fonts for the Universal Shaping Engine", "Character
 /// classification").
@@ -99,19 +99,8 @@ pub enum UniversalCategory {
 
 /// The category of a character.
 pub fn universal_category_of(character: u32) -> UniversalCategory {
-    match ROWS.binary_search_by(|row| place(row, character)) {
-        Ok(at) => ROWS[at].2,
-        Err(_) => UniversalCategory::Other,
-    }
-}
-
-/// Where the row lies from the character.
-fn place(row: &(u32, u32, UniversalCategory), character: u32) -> Ordering {
-    if character < row.0 {
-        Ordering::Greater
-    } else if row.1 < character {
-        Ordering::Less
-    } else {
-        Ordering::Equal
+    match row_at(&ROWS, |row| range_order(row.0, row.1, character)) {
+        Some(row) => row.2,
+        None => UniversalCategory::Other,
     }
 }

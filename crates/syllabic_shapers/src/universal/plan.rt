@@ -5,7 +5,7 @@ ghost use Rattle.shaping_buffer.specs.KeepsClusters.{KeepsClusters};
 ghost use Rattle.syllabic_shapers.specs.KeepsNumbers.{KeepsNumbers};
 
 use crate::category::position::Position;
-use crate::dotted_circle::{Circle, DOTTED_CIRCLE, insert_dotted_circles};
+use crate::dotted_circle::{CircleKind, insert_dotted_circles};
 use crate::font::FontForms;
 use crate::machine::Machine;
 use crate::plan::SyllablePause;
@@ -21,6 +21,13 @@ use std::alloc::AllocError;
 
 /// The kind of syllables without a base.
 pub(crate) const BROKEN: u8 = 7;
+
+const CIRCLE: CircleKind = CircleKind {
+    category: UniversalCategory::Base as u8,
+    position: Position::Start,
+    repha: Some(UniversalCategory::Repha as u8),
+    broken: BROKEN,
+};
 
 /// How a text of the universal shaper is shaped by a font.
 #[derive(Clone, Copy, PartialEq, Eq, Debug, Default)]
@@ -98,17 +105,8 @@ fn reordering<F: FontForms>(buffer: &mut hb_buffer_t, font: &F) -> Result<bool, 
     ensures closed { IfOk result (λ done. done ≡ true → buffer.new.have_output ≡ false) }
     ensures keeps { KeepsNumbers buffer.old buffer.new }
 {
-    if let Some(glyph) = font.glyph_of(DOTTED_CIRCLE) {
-        let circle = Circle {
-            glyph,
-            category: UniversalCategory::Base as u8,
-            position: Position::Start,
-            repha: Some(UniversalCategory::Repha as u8),
-            broken: BROKEN,
-        };
-        if !insert_dotted_circles(buffer, &circle)? {
-            return Ok(false);
-        }
+    if !insert_dotted_circles(buffer, font, CIRCLE)? {
+        return Ok(false);
     }
     order_syllables(buffer);
     Ok(true)

@@ -337,7 +337,7 @@ impl hb_buffer_t {
     /// ```
     #[inline]
     pub fn lookahead_len(&self) -> usize {
-        self.sides.left()
+        self.sides.lookahead_len()
     }
 
     /// The characters next to the text, at most five, nearest first: before it (side 0) or after it (side

@@ -5,12 +5,28 @@
 
 use crate::character_maps::arrays::some_glyph;
 use crate::character_maps::counts::count_32;
-use crate::font_tables::bytes::u32_at;
+use crate::font_tables::bytes::{tail, u32_at};
 use crate::font_tables::rows::{Rows, first_row, rises};
 
-/// The groups of a subtable.
-#[derive(Clone, Copy, Debug)]
-pub(crate) struct Groups<'a>(&'a [u8]);
+/// Groups that lie whole in a subtable.
+#[derive(Clone, Copy)]
+struct Groups<'a>(&'a [[u8; 12]]);
+
+///
+/// # Proved
+///
+/// ```text
+/// ghost last_of = { λ groups row. option_and_then (λ group. number_32 group 4) (slice_get groups.0.now row) }
+/// ```
+impl Rows for Groups<'_> {
+    fn last(&self, row: usize) -> Option<u32> {
+        u32_at(self.0.get(row)?, 4)
+    }
+}
+
+/// The groups of a subtable, of which not all may lie in it.
+#[derive(Clone, Copy)]
+struct DeclaredGroups<'a>(&'a [u8]);
 
 ///
 /// # Proved
@@ -18,7 +34,7 @@ pub(crate) struct Groups<'a>(&'a [u8]);
 /// ```text
 /// ghost last_of = { λ groups row. group_end groups.0.now row }
 /// ```
-impl Rows for Groups<'_> {
+impl Rows for DeclaredGroups<'_> {
     fn last(&self, row: usize) -> Option<u32> {
         if row < self.0.len() / 12 {
             u32_at(self.0, 20 + 12 * row)
@@ -35,7 +51,7 @@ fn group_count(table: &[u8]) -> usize {
 
 /// Whether the groups' last codes rise.
 pub(crate) fn groups_rise(table: &[u8]) -> bool {
-    rises(&Groups(table), group_count(table))
+    rises(&DeclaredGroups(table), group_count(table))
 }
 
 /// The glyph that a group gives to a code that it reaches.
@@ -60,12 +76,27 @@ fn group_glyph(table: &[u8], format: u16, code: u32, row: usize) -> Option<u16> 
     }
 }
 
+/// The first group that reaches a code.
+///
+/// # Requires
+///
+/// - `IsTrue are_rising → Rises (group_end table.now) (group_count table.now)`
+fn first_group(table: &[u8], code: u32, are_rising: bool) -> Option<usize> {
+    let count = group_count(table);
+    let (groups, _) = tail(table, 16).as_chunks::<12>();
+    if count <= groups.len() {
+        first_row(&Groups(groups), count, code, are_rising)
+    } else {
+        first_row(&DeclaredGroups(table), count, code, are_rising)
+    }
+}
+
 /// The glyph of a code by format 12 or 13.
 ///
 /// # Requires
 ///
 /// - `IsTrue are_rising → Rises (group_end table.now) (group_count table.now)`
 pub(crate) fn groups_glyph(table: &[u8], format: u16, code: u32, are_rising: bool) -> Option<u16> {
-    let row = first_row(&Groups(table), group_count(table), code, are_rising)?;
+    let row = first_group(table, code, are_rising)?;
     group_glyph(table, format, code, row)
 }

@@ -8,11 +8,49 @@ use crate::character_maps::subtable::{rows_rise, subtable_glyph};
 use crate::character_maps::variations::{GlyphVariant, glyph_variant, variations_rise};
 use crate::common::GlyphId;
 
+/// The characters of the block Basic Latin, whose glyphs are found once.
+const FIRST_COUNT: usize = 128;
+
+/// A subtable, and what its codes stand for.
+#[derive(Clone, Copy)]
+struct Codes<'a> {
+    subtable: &'a [u8],
+    encoding: Encoding,
+    rows_rise: bool,
+}
+
+impl Codes<'_> {
+    /// The glyph of a character.
+    fn glyph_of(&self, character: u32) -> Option<u16> {
+        match self.glyph_of_code(own_code(self.encoding, character)) {
+            Some(glyph) => Some(glyph),
+            None => self.glyph_of_code(other_code(self.encoding, character)),
+        }
+    }
+
+    /// The glyph of a code, if there is a code.
+    fn glyph_of_code(&self, code: Option<u32>) -> Option<u16> {
+        let code = code?;
+        subtable_glyph(self.subtable, code, self.rows_rise)
+    }
+}
+
+/// The glyphs of the first characters.
+fn first_glyphs(codes: &Codes<'_>) -> [Option<u16>; FIRST_COUNT] {
+    let mut glyphs = [None; FIRST_COUNT];
+    for character in 0..FIRST_COUNT {
+        glyphs[character] = codes.glyph_of(character as u32);
+    }
+    glyphs
+}
+
 /// The map from characters to glyphs of a font (OpenType specification, `cmap`).
 ///
 /// # Proved
 ///
 /// ```text
+/// ghost firsts: { (character : ℕ) → character < 128
+///     → get_or first_glyphs character None ≡ glyph_index subtable.now encoding character }
 /// ghost rows: { IsTrue rows_rise → RowsRise subtable.now }
 /// ghost selectors: { IsTrue variations_rise → VariationsRise variations.now }
 /// ```
@@ -26,6 +64,7 @@ pub struct CharacterMap<'a> {
     pub variations: &'a [u8],
     rows_rise: bool,
     variations_rise: bool,
+    first_glyphs: [Option<u16>; FIRST_COUNT],
 }
 
 impl<'a> CharacterMap<'a> {
@@ -48,13 +87,19 @@ impl<'a> CharacterMap<'a> {
     #[inline]
     pub fn parse(cmap: &'a [u8], font_page: u16) -> Self {
         let choice = choose(cmap, font_page);
-        let variations = variation_subtable(cmap);
-        CharacterMap {
+        let codes = Codes {
             subtable: choice.subtable,
             encoding: choice.encoding,
-            variations,
             rows_rise: rows_rise(choice.subtable),
+        };
+        let variations = variation_subtable(cmap);
+        CharacterMap {
+            subtable: codes.subtable,
+            encoding: codes.encoding,
+            variations,
+            rows_rise: codes.rows_rise,
             variations_rise: variations_rise(variations),
+            first_glyphs: first_glyphs(&codes),
         }
     }
 
@@ -68,17 +113,20 @@ impl<'a> CharacterMap<'a> {
     /// ```
     #[inline]
     pub fn glyph_index(&self, character: u32) -> Option<GlyphId> {
-        let glyph = match self.glyph_of_code(own_code(self.encoding, character)) {
-            Some(glyph) => Some(glyph),
-            None => self.glyph_of_code(other_code(self.encoding, character)),
+        let glyph = match self.first_glyphs.get(character as usize) {
+            Some(glyph) => *glyph,
+            None => self.codes().glyph_of(character),
         };
         glyph.map(GlyphId)
     }
 
-    /// The glyph of a code, if there is a code.
-    fn glyph_of_code(&self, code: Option<u32>) -> Option<u16> {
-        let code = code?;
-        subtable_glyph(self.subtable, code, self.rows_rise)
+    /// How a glyph is found.
+    fn codes(&self) -> Codes<'a> {
+        Codes {
+            subtable: self.subtable,
+            encoding: self.encoding,
+            rows_rise: self.rows_rise,
+        }
     }
 
     /// What the font says of a character before a variation selector.

@@ -4,8 +4,8 @@
 
 use crate::character_maps::arrays::some_glyph;
 use crate::character_maps::counts::count_16;
-use crate::font_tables::bytes::u16_at;
-use crate::font_tables::rows::{Keys16, first_row, rises};
+use crate::font_tables::bytes::{tail, u16_at};
+use crate::font_tables::rows::{Keys16, Numbers16, first_row, rises};
 
 /// The segments' ends, in their order.
 fn ends(table: &[u8]) -> Keys16<'_> {
@@ -105,12 +105,27 @@ fn segment_glyph(table: &[u8], code: u32, row: usize) -> Option<u16> {
     glyph_in_segment(table, code, &segment)
 }
 
+/// The first segment that reaches a code.
+///
+/// # Requires
+///
+/// - `IsTrue are_rising → Rises (segment_end table.now) (segment_count table.now)`
+fn first_segment(table: &[u8], code: u32, are_rising: bool) -> Option<usize> {
+    let count = segment_count(table);
+    let (numbers, _) = tail(table, 14).as_chunks::<2>();
+    if count <= numbers.len() {
+        first_row(&Numbers16(numbers), count, code, are_rising)
+    } else {
+        first_row(&ends(table), count, code, are_rising)
+    }
+}
+
 /// The glyph of a code by format 4.
 ///
 /// # Requires
 ///
 /// - `IsTrue are_rising → Rises (segment_end table.now) (segment_count table.now)`
 pub(crate) fn segments_glyph(table: &[u8], code: u32, are_rising: bool) -> Option<u16> {
-    let row = first_row(&ends(table), segment_count(table), code, are_rising)?;
+    let row = first_segment(table, code, are_rising)?;
     segment_glyph(table, code, row)
 }

@@ -3,6 +3,7 @@
 //! The bounds of glyphs at the size at which a font is used, and at the place that is chosen in its variations.
 
 use crate::common::GlyphId;
+use crate::font_shaper::color::ColorTables;
 use crate::font_shaper::face::Face;
 use crate::font_shaper::measures::scaled_bounds;
 use crate::font_tables::metrics::Metrics;
@@ -15,6 +16,8 @@ use crate::memory::AllocError;
 /// What the bounds of a font's glyphs are found from.
 #[derive(Clone, Copy, Debug)]
 pub(crate) struct BoundsSource<'a> {
+    /// Bitmaps, and glyphs that are drawn in colours.
+    pub color: ColorTables<'a>,
     /// The outlines.
     pub outlines: Outlines<'a>,
     /// The outlines of the table `CFF2`, where the font has one.
@@ -33,6 +36,7 @@ impl<'a> BoundsSource<'a> {
     /// What the bounds of a font's glyphs are found from.
     pub(crate) fn new(face: &Face<'a>) -> Self {
         BoundsSource {
+            color: face.color,
             outlines: face.outlines,
             outlines_2: face.variations.outlines_2,
             variations: face.variations.glyphs,
@@ -52,19 +56,38 @@ impl<'a> BoundsSource<'a> {
         }
     }
 
-    /// The bounds of a glyph at a place in the variations; `None` where the font has no outline of it.
+    /// The bounds of a glyph at a place in the variations: of its bitmap, or else of its colours, or of its
+    /// outline; `None` where the font has none of these.
     pub(crate) fn bounds(
         &self,
 
         glyph: GlyphId,
         coordinates: &[i32],
     ) -> Result<Option<GlyphExtents>, AllocError> {
-        let found = self.units(glyph, coordinates)?;
+        if let Some(found) = self.color.bounds(glyph, coordinates, &self.scale) {
+            return Ok(Some(found));
+        }
+        let found = self.outline_extents(glyph, coordinates)?;
         Ok(found.map(|extents| scaled_bounds(extents, &self.scale)))
     }
 
-    /// The same in font units.
-    fn units(
+    /// The bounds of a glyph's outline, in font units: of that in the table `glyf`, or else in `CFF2`, or
+    /// in `CFF `.
+    fn outline_extents(
+        &self,
+
+        glyph: GlyphId,
+        coordinates: &[i32],
+    ) -> Result<Option<GlyphExtents>, AllocError> {
+        let drawn = self.glyf_extents(glyph, coordinates)?;
+        Ok(match drawn {
+            Some(extents) => Some(extents),
+            None => self.charstring_extents(glyph, coordinates),
+        })
+    }
+
+    /// The bounds of a glyph's outline in the table `glyf`, in font units.
+    fn glyf_extents(
         &self,
 
         glyph: GlyphId,
@@ -72,22 +95,19 @@ impl<'a> BoundsSource<'a> {
     ) -> Result<Option<GlyphExtents>, AllocError> {
         if coordinates.is_empty() {
             let bearing = self.horizontal.side_bearing(glyph);
-            return Ok(match self.outlines.glyph_extents(glyph, bearing) {
-                Some(extents) => Some(extents),
-                None => self
-                    .outlines_2
-                    .and_then(|table| table.glyph_extents(glyph, &[])),
-            });
+            return Ok(self.outlines.glyf.glyph_extents(glyph, bearing));
         }
-        if let Some(outline) = varied_outline(&self.glyph_sources(), glyph, coordinates)? {
-            return Ok(Some(outline.extents));
+        let outline = varied_outline(&self.glyph_sources(), glyph, coordinates)?;
+        Ok(outline.map(|outline| outline.extents))
+    }
+
+    /// The bounds of what a glyph's charstring draws, in font units.
+    fn charstring_extents(&self, glyph: GlyphId, coordinates: &[i32]) -> Option<GlyphExtents> {
+        if let Some(table) = self.outlines_2
+            && let Some(extents) = table.glyph_extents(glyph, coordinates)
+        {
+            return Some(extents);
         }
-        Ok(match &self.outlines_2 {
-            Some(table) => table.glyph_extents(glyph, coordinates),
-            None => self
-                .outlines
-                .cff
-                .and_then(|table| table.glyph_extents(glyph)),
-        })
+        self.outlines.cff?.glyph_extents(glyph)
     }
 }

@@ -2,8 +2,10 @@
 
 //! A font, as far as shaping asks it.
 
+use crate::apple_tables::Metamorphosis;
 use crate::character_maps::CharacterMap;
 use crate::common::{GlyphId, Tag};
+use crate::font_shaper::color::ColorTables;
 use crate::font_shaper::layout::Layout;
 use crate::font_shaper::variations::FaceVariations;
 use crate::font_tables::bytes::u16_at;
@@ -27,6 +29,8 @@ pub struct Lookups<'a> {
     pub substitutions: LookupList<'a>,
     /// Those of `GPOS`.
     pub positions: LookupList<'a>,
+    /// The chains of Apple's table `morx`.
+    pub metamorphosis: Metamorphosis<'a>,
 }
 
 /// A font of a file: what shaping asks of it, found once.
@@ -52,6 +56,8 @@ pub struct Face<'a> {
     pub definitions: Gdef<'a>,
     /// The outlines of the glyphs.
     pub outlines: Outlines<'a>,
+    /// Its bitmaps, and what it says of glyphs that are drawn in colours.
+    pub color: ColorTables<'a>,
     /// The tables of the font's lookups.
     pub layout: Layout<'a>,
     /// The lookups.
@@ -60,6 +66,8 @@ pub struct Face<'a> {
     pub has_gpos: bool,
     /// The size at which the font is used.
     pub scale: Scale,
+    /// The size in points for which glyphs stand closer or farther apart; 0 where none is set.
+    pub points_per_em: f32,
     /// What the font says of its variations, and those that are chosen.
     pub variations: FaceVariations<'a>,
 }
@@ -91,7 +99,6 @@ impl<'a> Face<'a> {
     ///     option_map (λ face. (face.tables.file.now, face.tables.directory)) found ≡ font_of file.now index) }
     /// ensures keeps { IfOk result (λ found. IfSome found KeepsItsTables) }
     /// ```
-    #[inline]
     pub fn parse(file: &'a [u8], index: u32) -> Result<Option<Face<'a>>, AllocError> {
         let Some(tables) = Tables::new(file, index) else {
             return Ok(None);
@@ -100,9 +107,11 @@ impl<'a> Face<'a> {
         let definitions = definitions_of(tables.table(Tag::from_bytes(b"GDEF")), &layout);
         let substitutions = LookupList::new(layout.gsub, SUBSTITUTION_EXTENSION, &definitions)?;
         let positions = LookupList::new(layout.gpos, POSITIONING_EXTENSION, &definitions)?;
+        let glyphs = glyph_count(tables.table(Tag::from_bytes(b"maxp")));
         let lookups = Lookups {
             substitutions,
             positions,
+            metamorphosis: Metamorphosis::new(layout.morx, glyphs)?,
         };
         Ok(Some(face_of(tables, layout, lookups)))
     }
@@ -187,8 +196,8 @@ impl<'a> Face<'a> {
     }
 
     /// Says how many pixels an em has across and upwards; 0 where glyphs are not drawn in pixels, as at
-    /// first. The device tables of a font move glyphs at some sizes in pixels. HarfBuzz's name is
-    /// `hb_font_set_ppem`.
+    /// first. The device tables of a font move glyphs at some sizes in pixels, and of its bitmaps those are
+    /// used that fit the size best. HarfBuzz's name is `hb_font_set_ppem`.
     ///
     /// # Proved
     ///
@@ -201,6 +210,21 @@ impl<'a> Face<'a> {
     pub fn set_pixels_per_em(&mut self, x: u16, y: u16) {
         self.scale.x_ppem = x;
         self.scale.y_ppem = y;
+        self.color = ColorTables::new(&self.tables, self.glyph_count, x, y);
+    }
+
+    /// Says how many points an em has; 0 where that is not said, as at first. By Apple's table `trak`
+    /// glyphs stand closer or farther apart at some sizes in points. HarfBuzz's name is `hb_font_set_ptem`.
+    ///
+    /// # Proved
+    ///
+    /// ```text
+    /// ensures points { self.new.points_per_em ≡ points }
+    /// ensures kept { KeepsItsTables self.old → KeepsItsTables self.new }
+    /// ```
+    #[inline]
+    pub fn set_points_per_em(&mut self, points: f32) {
+        self.points_per_em = points;
     }
 }
 
@@ -234,11 +258,13 @@ fn face_of<'a>(tables: Tables<'a>, layout: Layout<'a>, lookups: Lookups<'a>) -> 
         extents: horizontal_extents(os2, hhea),
         definitions,
         outlines: outlines_of(&tables, head, glyph_count),
+        color: ColorTables::new(&tables, glyph_count, 0, 0),
         has_gpos: is_positioning(layout.gpos),
         layout,
         lookups,
 
         scale: Scale::of_em(units_per_em),
+        points_per_em: 0.0,
         variations: FaceVariations::new(&tables, definitions.table, glyph_count),
     }
 }

@@ -29,11 +29,20 @@ pub(crate) fn set_unicode_props(info: &mut hb_glyph_info_t, scratch_flags: &mut 
     let Some(character) = char::from_u32(info.glyph_id) else {
         return;
     };
-    let row = [(character, canonical_combining_class(character))];
+    let row = [(character, combining_class(character))];
     if let Some(classes) = CombiningClasses::new(&row) {
         info.init_unicode_props(scratch_flags, &classes);
     }
     set_telugu_class(info);
+}
+
+/// The canonical combining class of a character. The first that has one is U+0300.
+fn combining_class(character: char) -> u8 {
+    if character < '\u{300}' {
+        0
+    } else {
+        canonical_combining_class(character)
+    }
 }
 
 /// Gives the Telugu length marks the classes that HarfBuzz reorders them by: they come before a halant.

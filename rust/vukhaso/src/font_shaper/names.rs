@@ -17,7 +17,7 @@ pub struct FaceNames<'a> {
     bounds: BoundsSource<'a>,
     coordinates: Vec<i32>,
     post: PostNames<'a>,
-    extents: BTreeMap<u16, GlyphExtents>,
+    extents: BTreeMap<u16, Option<GlyphExtents>>,
 }
 
 impl<'a> FaceNames<'a> {
@@ -43,7 +43,8 @@ impl<'a> FaceNames<'a> {
         })
     }
 
-    /// Finds the extents of glyphs, each of them once.
+    /// Finds the extents of glyphs, each of them once, and once where there are none too: an outline that
+    /// is broken may take as long to read as the longest.
     ///
     /// # Errors
     ///
@@ -57,8 +58,8 @@ impl<'a> FaceNames<'a> {
         for info in infos {
             if let Ok(number) = u16::try_from(info.glyph_id)
                 && !self.extents.contains_key(&number)
-                && let Some(extents) = self.bounds(GlyphId(number))?
             {
+                let extents = self.bounds(GlyphId(number))?;
                 let _ = self.extents.insert(number, extents)?;
             }
         }
@@ -101,7 +102,7 @@ fn text_of(bytes: &[u8]) -> Option<&str> {
 ///
 /// ```text
 /// ghost name_of = { λ names glyph. name_of names.post.table.now names.outlines glyph }
-/// ghost extents_of = { λ names glyph. get nat_cmp names.extents glyph }
+/// ghost extents_of = { λ names glyph. option_and_then (λ found. found) (get nat_cmp names.extents glyph) }
 /// ```
 impl<'a> GlyphNames for FaceNames<'a> {
     fn glyph_name(&self, glyph: GlyphId) -> Option<&str> {
@@ -110,6 +111,6 @@ impl<'a> GlyphNames for FaceNames<'a> {
 
     /// The extents of a glyph, among those that were found.
     fn glyph_extents(&self, glyph: GlyphId) -> Option<GlyphExtents> {
-        self.extents.get(&glyph.0).copied()
+        *self.extents.get(&glyph.0)?
     }
 }

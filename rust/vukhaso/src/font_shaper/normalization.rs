@@ -5,6 +5,7 @@
 //! composed character.
 
 mod decomposition;
+mod pairs;
 mod parts;
 mod recomposition;
 mod reordering;

@@ -2,13 +2,15 @@
 
 //! How a text is shaped: the plan of its script, its language and its features.
 
+use crate::apple_substitution::{ChainFlags, selected_features};
+use crate::apple_tables::FeatureNames;
 use crate::buffer::hb_buffer_t;
-use crate::common::{Direction, Script};
+use crate::common::{Direction, Script, Tag};
 use crate::font_shaper::face::Face;
 use crate::font_variations::substitutions_of;
 use crate::language_tags::LanguageTags;
 use crate::layout_plan::{
-    FontLayout, KernLayout, PlanBuilder, ShapePlan, ShaperRules, TextProperties,
+    FeatureFlags, FontLayout, KernLayout, PlanBuilder, ShapePlan, ShaperRules, TextProperties,
 };
 use crate::memory::AllocError;
 use crate::position_tables::kern_table::KernTable;
@@ -27,6 +29,10 @@ pub(crate) struct TextPlan {
     pub script: ScriptPlan,
     /// What it does with syllables.
     pub syllables: SyllablePlan,
+    /// The flags of the chains of Apple's table `morx`, where they stand in the place of the lookups of `GSUB`.
+    pub chain_flags: Option<ChainFlags>,
+    /// The bits of the glyphs that Apple's table `trak` moves.
+    pub trak_mask: u32,
 }
 
 impl TextPlan {
@@ -103,10 +109,19 @@ impl Face<'_> {
             gsub_substitutions: substitutions_of(self.layout.gsub, self.coordinates()),
             gpos_substitutions: substitutions_of(self.layout.gpos, self.coordinates()),
         };
+        let substitutes = self.substitutes_by_morx(segment.direction);
         let mut builder = ShapePlan::begin(&font, text)?;
-        let chosen = add_features(&mut builder, segment, features)?;
-        let shape =
-            ShapePlan::complete(builder, &font, segment.direction, rules_of(chosen.shaper))?;
+        let chosen = add_features(&mut builder, segment, features, substitutes)?;
+        let mut shape = ShapePlan::complete(builder, &font, segment.direction, chosen.rules)?;
+        if substitutes {
+            shape.adjust_mark_positioning_when_zeroing = false;
+        }
+        let chain_flags = if substitutes {
+            Some(self.chain_flags(features)?)
+        } else {
+            None
+        };
+        let trak_mask = shape.layout.mask(Tag::from_bytes(b"trak"));
         let syllables = syllable_plan(chosen.shaper, segment.script, &shape.layout);
         let script = script_plan(
             chosen.shaper,
@@ -118,7 +133,23 @@ impl Face<'_> {
             shape,
             script,
             syllables,
+            chain_flags,
+            trak_mask,
         })
+    }
+
+    /// Whether Apple's table `morx` substitutes glyphs in place of the lookups of `GSUB`: in horizontal
+    /// lines, and where the font has no lookups of `GSUB`.
+    fn substitutes_by_morx(&self, direction: Direction) -> bool {
+        self.lookups.metamorphosis.is_there()
+            && (direction.is_horizontal() || self.layout.gsub.is_empty())
+    }
+
+    /// The flags of the chains of `morx`, where these features are asked for.
+    fn chain_flags(&self, features: &[Feature]) -> Result<ChainFlags, AllocError> {
+        let names = FeatureNames::new(self.layout.feat);
+        let selected = selected_features(&names, features)?;
+        ChainFlags::new(&self.lookups.metamorphosis, selected.as_slice())
     }
 }
 
@@ -127,33 +158,41 @@ impl Face<'_> {
 struct ChosenShaper {
     /// The shaper.
     shaper: ScriptShaper,
+    /// What it says of positions; where glyphs are substituted by `morx`, marks are placed as the script's own shaper places them.
+    rules: ShaperRules,
     /// Whether the font has the script in its table `GSUB`.
     finds_script: bool,
 }
 
-/// Chooses the shaper of a script, and asks for its features, those of every text and of a user.
+/// Chooses the shaper of a script, and asks for its features, those of every text and of a user. Where
+/// glyphs are substituted by `morx`, the font does all, as with the shaper of Zawgyi.
 fn add_features(
     builder: &mut PlanBuilder,
     segment: &SegmentProperties,
     features: &[Feature],
+    substitutes_by_morx: bool,
 ) -> Result<ChosenShaper, AllocError> {
+    let own = ScriptShaper::of(segment.script, segment.direction, builder.gsub.script.tag);
+    let does_all = substitutes_by_morx && own != ScriptShaper::Default;
+    let shaper = if does_all { ScriptShaper::Zawgyi } else { own };
     let chosen = ChosenShaper {
-        shaper: ScriptShaper::of(segment.script, segment.direction, builder.gsub.script.tag),
+        shaper,
+        rules: ShaperRules {
+            gpos_script: shaper.gpos_script(),
+            zero_marks: own.zero_width_marks() != ZeroWidthMarks::Never,
+            fallback_position: own.fallback_position(),
+        },
         finds_script: builder.gsub.script.is_found,
     };
+    let with_fallback = FeatureFlags {
+        has_fallback: true,
+        ..FeatureFlags::NONE
+    };
+    builder.enable_feature(Tag::from_bytes(b"trak"), with_fallback)?;
     collect_features(chosen.shaper, builder, segment.script)?;
     ShapePlan::add_common_features(builder, segment.direction, features)?;
     override_features(chosen.shaper, builder)?;
     Ok(chosen)
-}
-
-/// What a script's shaper says of positions.
-fn rules_of(shaper: ScriptShaper) -> ShaperRules {
-    ShaperRules {
-        gpos_script: shaper.gpos_script(),
-        zero_marks: shaper.zero_width_marks() != ZeroWidthMarks::Never,
-        fallback_position: shaper.fallback_position(),
-    }
 }
 
 /// What the plan asks of the font's table `kern`.

@@ -2,6 +2,7 @@
 
 //! Where glyphs stand before any lookup moves them.
 
+use crate::apple_substitution::deletion::is_deleted;
 use crate::buffer::{
     BufferFlags, Flags, GlyphPosition, HB_BUFFER_SCRATCH_FLAG_HAS_DEFAULT_IGNORABLES,
     HB_BUFFER_SCRATCH_FLAG_HAS_SPACE_FALLBACK, hb_buffer_t, hb_glyph_info_t,
@@ -139,6 +140,22 @@ pub(crate) fn zero_width_default_ignorables(buffer: &mut hb_buffer_t) {
             .get(i)
             .is_some_and(|info| is_default_ignorable(info))
         {
+            take_width_at(buffer, i);
+        }
+    }
+}
+
+/// Takes the width of glyphs that Apple's table `morx` deleted.
+///
+/// # Requires
+///
+/// - `closed: buffer.old.have_output ≡ false`
+/// - `placed: IsSome buffer.old.positions`
+pub(crate) fn zero_width_deleted_glyphs(buffer: &mut hb_buffer_t) {
+    debug_assert!(!buffer.have_output());
+    debug_assert!(buffer.have_positions());
+    for i in 0..buffer.len() {
+        if buffer.info().get(i).is_some_and(|info| is_deleted(info)) {
             take_width_at(buffer, i);
         }
     }

@@ -4,6 +4,9 @@
 
 use crate::buffer::{CharExt, Direction, Mirrors, hb_buffer_t, hb_glyph_info_t};
 use crate::font_shaper::face::Face;
+use crate::font_shaper::glyph_info::{
+    is_decimal_number, is_letter, is_unicode_mark, is_unicode_space,
+};
 use crate::layout_plan::ShapePlan;
 use crate::unicode_tables::mirrors;
 
@@ -26,39 +29,52 @@ pub(crate) fn rotate_characters(
 
 /// Replaces each of the characters so.
 fn rotate_all(infos: &mut [hb_glyph_info_t], face: &Face, plan: &ShapePlan, direction: Direction) {
-    if direction.is_backward()
-        && let Some(mirrors) = mirrors()
-    {
-        mirror_all(infos, face, &mirrors, plan.rtlm_mask);
+    if direction.is_backward() {
+        let mirrors = if infos.iter().any(may_be_mirrored) {
+            mirrors()
+        } else {
+            None
+        };
+        mirror_all(infos, face, mirrors.as_ref(), plan.rtlm_mask);
     }
     if direction.is_vertical() && !plan.has_vert {
         make_all_vertical(infos, face);
     }
 }
 
+/// Whether a character may have a mirror image: no letter, mark, digit or space has one.
+fn may_be_mirrored(info: &hb_glyph_info_t) -> bool {
+    !is_letter(info)
+        && !is_unicode_mark(info)
+        && !is_decimal_number(info)
+        && !is_unicode_space(info)
+}
+
 /// Replaces each character by its mirror image, or gives it the mask.
-fn mirror_all(infos: &mut [hb_glyph_info_t], face: &Face, mirrors: &Mirrors, mask: u32) {
+fn mirror_all(infos: &mut [hb_glyph_info_t], face: &Face, mirrors: Option<&Mirrors>, mask: u32) {
     for i in 0..infos.len() {
         mirror(&mut infos[i], face, mirrors, mask);
     }
 }
 
 /// Replaces a character by its mirror image, or gives it the mask.
-fn mirror(info: &mut hb_glyph_info_t, face: &Face, mirrors: &Mirrors, mask: u32) {
+fn mirror(info: &mut hb_glyph_info_t, face: &Face, mirrors: Option<&Mirrors>, mask: u32) {
     if !is_mirrored(info, face, mirrors) {
         info.mask |= mask;
     }
 }
 
 /// Replaces a character by its mirror image, and says whether the font has a glyph for that.
-fn is_mirrored(info: &mut hb_glyph_info_t, face: &Face, mirrors: &Mirrors) -> bool {
-    match char::from_u32(info.glyph_id) {
-        Some(character) => match character.mirrored(mirrors) {
-            Some(mirrored) => replace_character(info, face, mirrored),
-            None => false,
-        },
+fn is_mirrored(info: &mut hb_glyph_info_t, face: &Face, mirrors: Option<&Mirrors>) -> bool {
+    match mirror_image(info, mirrors) {
+        Some(image) => replace_character(info, face, image),
         None => false,
     }
+}
+
+/// The mirror image of a character.
+fn mirror_image(info: &hb_glyph_info_t, mirrors: Option<&Mirrors>) -> Option<char> {
+    char::from_u32(info.glyph_id)?.mirrored(mirrors?)
 }
 
 /// Replaces each character by its vertical form.

@@ -2,6 +2,7 @@
 
 //! The shaping of a text by a font: HarfBuzz's steps, one after the other.
 
+use crate::apple_substitution::remove_deleted_glyphs;
 use crate::buffer::{
     BufferFlags, Direction, Feature, Flags, GlyphBuffer, UnicodeBuffer, hb_buffer_t,
     hb_glyph_info_t,
@@ -14,13 +15,14 @@ use crate::font_shaper::masks::set_masks;
 use crate::font_shaper::normalization::normalize;
 use crate::font_shaper::planning::TextPlan;
 use crate::font_shaper::positions::{
-    position_glyphs, zero_mark_widths, zero_width_default_ignorables,
+    position_glyphs, zero_mark_widths, zero_width_default_ignorables, zero_width_deleted_glyphs,
 };
 use crate::font_shaper::rotation::rotate_characters;
 use crate::font_shaper::substitution::substitute;
 use crate::font_shaper::text::{
     ensure_native_direction, form_clusters, insert_dotted_circle, set_direction, set_properties,
 };
+use crate::font_shaper::tracking::track;
 use crate::font_shaper::verification::VerifyError;
 use crate::font_shaper::watch::{Step, Unwatched, Watch};
 use crate::glyph_positions::position_finish_offsets;
@@ -333,6 +335,7 @@ fn finish_glyphs(
 ) -> Result<bool, AllocError> {
     debug_assert!(!buffer.have_output());
     debug_assert!(buffer.have_positions());
+    remove_deleted(buffer, plan);
     show_variation_selectors(buffer);
     hide_ignorables(buffer, face);
     if !face.stretch_marks(buffer, &plan.script)? {
@@ -340,6 +343,21 @@ fn finish_glyphs(
     }
     propagate_flags(buffer);
     Ok(true)
+}
+
+/// Takes out glyphs that were deleted by Apple's table `morx`, unless `GPOS` positioned the others
+/// without them.
+///
+/// # Requires
+///
+/// - `closed: buffer.old.have_output ≡ false`
+/// - `placed: IsSome buffer.old.positions`
+fn remove_deleted(buffer: &mut hb_buffer_t, plan: &TextPlan) {
+    debug_assert!(!buffer.have_output());
+    debug_assert!(buffer.have_positions());
+    if plan.chain_flags.is_some() && !plan.shape.apply_gpos {
+        remove_deleted_glyphs(buffer);
+    }
 }
 
 /// Sets the properties of the characters, and makes clusters of them.
@@ -437,7 +455,9 @@ fn position<W: Watch>(
     let early = plan.script.shaper.zero_width_marks() == ZeroWidthMarks::Early;
     zero_marks(buffer, plan.shape.zero_marks && early, adjusts);
     position_by_lookups(buffer, face, &plan.shape, watch)?;
+    track(buffer, face, plan.trak_mask);
     zero_marks(buffer, plan.shape.zero_marks && !early, adjusts);
+    zero_deleted(buffer, plan);
     finish_positions(buffer, face, &plan.shape, direction)
 }
 
@@ -467,6 +487,20 @@ fn finish_positions(
         position_marks(buffer, face, direction, adjusts)?;
     }
     Ok(())
+}
+
+/// Takes the width of glyphs that were deleted by Apple's table `morx`.
+///
+/// # Requires
+///
+/// - `closed: buffer.old.have_output ≡ false`
+/// - `placed: IsSome buffer.old.positions`
+fn zero_deleted(buffer: &mut hb_buffer_t, plan: &TextPlan) {
+    debug_assert!(!buffer.have_output());
+    debug_assert!(buffer.have_positions());
+    if plan.chain_flags.is_some() {
+        zero_width_deleted_glyphs(buffer);
+    }
 }
 
 /// Takes the width of marks, where that is said.

@@ -2,6 +2,7 @@
 
 //! The lookups that substitute glyphs, applied to a text stage by stage, and what the shaper of its script does between two stages.
 
+use crate::apple_substitution::{ChainFlags, Substitution, remove_deleted_glyphs};
 use crate::buffer::hb_buffer_t;
 use crate::font_shaper::cluster_order::ClusterCourse;
 use crate::font_shaper::face::Face;
@@ -28,6 +29,69 @@ use crate::syllabic_shapers::SyllablePause;
 ///
 /// `Ok(false)` where a call was refused for length.
 pub(crate) fn substitute<W: Watch>(
+    buffer: &mut hb_buffer_t,
+    face: &Face,
+    plan: &TextPlan,
+    watch: &mut W,
+) -> Result<bool, AllocError> {
+    debug_assert!(!buffer.have_output());
+    if let Some(flags) = &plan.chain_flags {
+        return substitute_by_morx(buffer, face, flags, plan.shape.apply_gpos);
+    }
+    substitute_by_gsub(buffer, face, plan, watch)
+}
+
+/// Substitutes glyphs by Apple's table `morx`. Those that it deletes are taken out at once where `GPOS`
+/// is to position the glyphs.
+///
+/// # Requires
+///
+/// - `buffer.old.have_output ≡ false`
+///
+/// # Errors
+///
+/// `Ok(false)` where a call was refused for length.
+fn substitute_by_morx(
+    buffer: &mut hb_buffer_t,
+    face: &Face,
+    flags: &ChainFlags,
+    removes_deleted: bool,
+) -> Result<bool, AllocError> {
+    debug_assert!(!buffer.have_output());
+    let substitution = Substitution {
+        table: &face.lookups.metamorphosis,
+        flags,
+        gdef: &face.definitions,
+    };
+    if !crate::apple_substitution::substitute(buffer, &substitution)? {
+        return Ok(false);
+    }
+    remove_deleted(buffer, removes_deleted);
+    Ok(true)
+}
+
+/// Takes out glyphs that were deleted, where this is said.
+///
+/// # Requires
+///
+/// - `buffer.old.have_output ≡ false`
+fn remove_deleted(buffer: &mut hb_buffer_t, removes: bool) {
+    debug_assert!(!buffer.have_output());
+    if removes {
+        remove_deleted_glyphs(buffer);
+    }
+}
+
+/// Applies the lookups of `GSUB`, stage by stage, with what the shaper of the script does between them.
+///
+/// # Requires
+///
+/// - `buffer.old.have_output ≡ false`
+///
+/// # Errors
+///
+/// `Ok(false)` where a call was refused for length.
+fn substitute_by_gsub<W: Watch>(
     buffer: &mut hb_buffer_t,
     face: &Face,
     plan: &TextPlan,

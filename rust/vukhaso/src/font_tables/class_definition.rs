@@ -94,6 +94,5 @@ fn listed_class(table: &[u8], glyph: GlyphId) -> Option<u16> {
 /// - `counts: count ≡ range_count table.now`
 /// - `rise: IsTrue are_rising → Rises (range_last table.now) count`
 fn ranged_class(table: &[u8], count: u16, are_rising: bool, glyph: GlyphId) -> Option<u16> {
-    let row = range_of(table, count, are_rising, glyph)?;
-    u16_at(table, 8 + 6 * usize::from(row))
+    range_of(table, count, are_rising, glyph).map(|range| range.value)
 }

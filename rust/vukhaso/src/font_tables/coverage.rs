@@ -4,9 +4,9 @@
 //! Table Formats", "Coverage table").
 
 use crate::common::GlyphId;
-use crate::font_tables::bytes::u16_at;
+use crate::font_tables::bytes::{tail, u16_at};
 use crate::font_tables::glyph_ranges::{last_glyphs, range_count, range_of};
-use crate::font_tables::rows::{Keys16, first_row, rises, rows_within};
+use crate::font_tables::rows::{Keys16, Numbers16, first_row, rises, rows_within};
 
 /// A coverage table.
 ///
@@ -94,6 +94,32 @@ fn listed_count(table: &[u8]) -> u16 {
     rows_within(table, 4, 2, usize::from(declared)) as u16
 }
 
+/// The place of the first glyph of a list that is not below a glyph.
+///
+/// # Requires
+///
+/// - `counts: count ≡ listed_count table.now`
+/// - `rise: IsTrue are_rising → Rises (listed_glyph table.now) count`
+fn first_listed(table: &[u8], count: u16, are_rising: bool, glyph: GlyphId) -> Option<usize> {
+    let (glyphs, _) = tail(table, 4).as_chunks::<2>();
+    first_row(
+        &Numbers16(glyphs),
+        usize::from(count),
+        u32::from(glyph.0),
+        are_rising,
+    )
+}
+
+/// A glyph of a list, by its place.
+///
+/// # Requires
+///
+/// - `row < listed_count table.now`
+fn listed_at(table: &[u8], row: usize) -> Option<u16> {
+    let (glyphs, _) = tail(table, 4).as_chunks::<2>();
+    u16_at(&glyphs[row], 0)
+}
+
 /// The place of a glyph in a list.
 ///
 /// # Requires
@@ -101,9 +127,8 @@ fn listed_count(table: &[u8]) -> u16 {
 /// - `counts: count ≡ listed_count table.now`
 /// - `rise: IsTrue are_rising → Rises (listed_glyph table.now) count`
 fn listed_index(table: &[u8], count: u16, are_rising: bool, glyph: GlyphId) -> Option<u32> {
-    let rows = listed_glyphs(table);
-    let row = first_row(&rows, usize::from(count), u32::from(glyph.0), are_rising)?;
-    if u16_at(table, 4 + 2 * row)? <= glyph.0 {
+    let row = first_listed(table, count, are_rising, glyph)?;
+    if listed_at(table, row)? <= glyph.0 {
         Some(row as u32)
     } else {
         None
@@ -117,8 +142,6 @@ fn listed_index(table: &[u8], count: u16, are_rising: bool, glyph: GlyphId) -> O
 /// - `counts: count ≡ range_count table.now`
 /// - `rise: IsTrue are_rising → Rises (range_last table.now) count`
 fn ranged_index(table: &[u8], count: u16, are_rising: bool, glyph: GlyphId) -> Option<u32> {
-    let row = usize::from(range_of(table, count, are_rising, glyph)?);
-    let first = u16_at(table, 4 + 6 * row)?;
-    let index = u16_at(table, 8 + 6 * row)?;
-    Some(u32::from(index) + u32::from(glyph.0 - first))
+    let range = range_of(table, count, are_rising, glyph)?;
+    Some(u32::from(range.value) + u32::from(glyph.0 - range.first))
 }

@@ -7,11 +7,15 @@ use crate::font_tables::bytes::{table_at_16, table_at_32, u16_at};
 use crate::font_tables::class_definition::ClassDefinition;
 use crate::font_tables::coverage::Coverage;
 
+/// The glyphs whose properties are found once.
+const FIRST_COUNT: usize = 256;
+
 /// A table `GDEF`, of version 1.
 ///
 /// # Proved
 ///
 /// ```text
+/// ghost firsts: { (glyph : ℕ) → glyph < 256 → slice_index first_props glyph ≡ glyph_props table.now glyph }
 /// ghost has_classes: { classes.table.now ≡ glyph_classes table.now }
 /// ghost has_attachments: { attachments.table.now ≡ mark_attachment_classes table.now }
 /// ghost has_sets: { sets.now ≡ mark_glyph_sets table.now }
@@ -23,6 +27,7 @@ pub struct Gdef<'a> {
     classes: ClassDefinition<'a>,
     attachments: ClassDefinition<'a>,
     sets: &'a [u8],
+    first_props: [u16; FIRST_COUNT],
 }
 
 impl<'a> Gdef<'a> {
@@ -36,11 +41,14 @@ impl<'a> Gdef<'a> {
     /// ```
     #[inline]
     pub fn new(table: &'a [u8]) -> Self {
+        let classes = ClassDefinition::new(subtable(table, 4));
+        let attachments = ClassDefinition::new(subtable(table, 10));
         Gdef {
             table,
-            classes: ClassDefinition::new(subtable(table, 4)),
-            attachments: ClassDefinition::new(subtable(table, 10)),
+            classes,
+            attachments,
             sets: mark_glyph_sets(table),
+            first_props: first_props(&classes, &attachments),
         }
     }
 
@@ -106,13 +114,37 @@ impl<'a> Gdef<'a> {
     /// ```
     #[inline]
     pub fn glyph_props(&self, glyph: GlyphId) -> u16 {
-        match self.glyph_class(glyph) {
-            1 => 2,
-            2 => 4,
-            3 => 8 + 256 * (self.mark_attachment_class(glyph) % 256),
-            _ => 0,
+        match self.first_props.get(usize::from(glyph.0)) {
+            Some(props) => *props,
+            None => props_of(&self.classes, &self.attachments, glyph),
         }
     }
+}
+
+/// The properties of a glyph, by its class and its attachment class.
+fn props_of(
+    classes: &ClassDefinition<'_>,
+    attachments: &ClassDefinition<'_>,
+    glyph: GlyphId,
+) -> u16 {
+    match classes.class(glyph) {
+        1 => 2,
+        2 => 4,
+        3 => 8 + 256 * (attachments.class(glyph) % 256),
+        _ => 0,
+    }
+}
+
+/// The properties of the first glyphs.
+fn first_props(
+    classes: &ClassDefinition<'_>,
+    attachments: &ClassDefinition<'_>,
+) -> [u16; FIRST_COUNT] {
+    let mut props = [0; FIRST_COUNT];
+    for glyph in 0..FIRST_COUNT {
+        props[glyph] = props_of(classes, attachments, GlyphId(glyph as u16));
+    }
+    props
 }
 
 /// The subtable that the offset at a place leads to.

@@ -41,12 +41,24 @@ pub struct Keys16<'a> {
 /// ```
 impl Rows for Keys16<'_> {
     fn last(&self, row: usize) -> Option<u32> {
-        let at = self.start.saturating_add(self.size.saturating_mul(row));
-        if at < self.table.len() {
-            u16_at(self.table, at).map(u32::from)
-        } else {
-            None
-        }
+        let at = self.size.checked_mul(row)?.checked_add(self.start)?;
+        u16_at(self.table, at).map(u32::from)
+    }
+}
+
+/// Numbers of 16 bits, each of which is the last key of its row.
+#[derive(Clone, Copy, Debug)]
+pub struct Numbers16<'a>(pub &'a [[u8; 2]]);
+
+///
+/// # Proved
+///
+/// ```text
+/// ghost last_of = { λ numbers row. option_and_then (λ number. number_16 number 0) (slice_get numbers.0.now row) }
+/// ```
+impl Rows for Numbers16<'_> {
+    fn last(&self, row: usize) -> Option<u32> {
+        u16_at(self.0.get(row)?, 0).map(u32::from)
     }
 }
 

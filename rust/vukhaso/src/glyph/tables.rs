@@ -5,7 +5,7 @@
 //! The rows are meant to be those of the Unicode Character Database, which nothing checks. Nothing is
 //! copied, and a row is found by bisection.
 
-use crate::glyph::row_search::{rises, row_at, row_of, value_of};
+use crate::glyph::row_search::{rises, row_of, value_of, value_of_pair};
 
 /// The canonical combining classes of characters (Unicode, field 3 of `UnicodeData.txt`).
 ///
@@ -119,7 +119,7 @@ impl<'a> Compositions<'a> {
 
     /// What the row of the pair says that it composes to.
     pub(crate) fn composition_of(&self, a: char, b: char) -> Option<char> {
-        row_at(self.rows, |row| row.0.cmp(&(a, b))).map(|row| row.1)
+        value_of_pair(self.rows, a, b)
     }
 }
 

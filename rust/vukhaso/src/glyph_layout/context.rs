@@ -4,12 +4,12 @@
 //! kinds 7 and 8 of `GPOS` (OpenType specification, "OpenType Layout Common Table Formats", "Sequence Context").
 
 use crate::font_tables::bytes::{table_at_16, u16_at};
-use crate::glyph_layout::filter::covered_index;
 use crate::glyph_layout::lookup_list::LookupList;
 use crate::glyph_layout::rule::{Meaning, Meanings, coverage_rule};
 use crate::glyph_layout::rule_set::{first_fit, fit};
 use crate::glyph_layout::search::{Search, Sides};
-use crate::glyph_layout::subtable::Subtable;
+use crate::glyph_layout::subtable::{NextAsked, Subtable};
+use crate::glyph_layout::walk::{Skip, Walk};
 use crate::glyph_layout::wanted::class_of;
 
 /// A rule that fits at the cursor. The places of its glyphs are in `Search::places`.
@@ -55,7 +55,7 @@ impl<'a> Fit<'a> {
 }
 
 /// The rule of a subtable that fits at the cursor. The subtable is one of the list, and a context,
-/// chained or not.
+/// chained or not; its coverage has the glyph at the cursor, at this index.
 ///
 /// # Requires
 ///
@@ -67,15 +67,15 @@ impl<'a> Fit<'a> {
 /// ensures spent { IsNotMore search.old.budget search.new.budget }
 /// ensures fits { IfSome result (IsFitWithin (length sides.now.out.now) (length sides.now.input.now)) }
 /// ```
+#[inline]
 pub fn fitting_rule<'a>(
     list: &'a LookupList<'a>,
     subtable: &Subtable<'a>,
+    index: u32,
     is_chained: bool,
     sides: &Sides,
     search: &mut Search,
 ) -> Option<Fit<'a>> {
-    let glyph = sides.input[0].glyph_id;
-    let index = covered_index(&subtable.coverage, glyph)?;
     let table = subtable.table;
     match subtable.format {
         1 => {
@@ -89,15 +89,73 @@ pub fn fitting_rule<'a>(
             )
         }
         2 => {
-            let class = class_of(&subtable.classes, glyph);
+            let class = class_of(&subtable.classes, sides.input[0].glyph_id);
             let set = set_at(table, if is_chained { 10 } else { 6 }, u32::from(class))?;
             first_fit(set, &class_meanings(subtable), is_chained, sides, search)
         }
-        3 => {
-            let coverages = list.coverages_from(subtable, 0);
-            fit(&coverage_rule(table, coverages, is_chained)?, sides, search)
-        }
+        3 => covered_fit(list, subtable, is_chained, sides, search),
         _ => None,
+    }
+}
+
+/// The rule of a context by coverages, if it fits at the cursor. Mostly the next glyph shows at once
+/// that it does not.
+///
+/// # Requires
+///
+/// - `0 < length sides.now.input.now`
+fn covered_fit<'a>(
+    list: &'a LookupList<'a>,
+    subtable: &Subtable<'a>,
+    is_chained: bool,
+    sides: &Sides,
+    search: &mut Search,
+) -> Option<Fit<'a>> {
+    if let Some(next) = &subtable.next
+        && let Some(to) = missed_next(next, sides)
+    {
+        search.budget.pay(1);
+        if !is_chained || !next.is_input {
+            search.reach.extend(sides.out.len(), to);
+        }
+        return None;
+    }
+    let coverages = list.coverages_from(subtable, 0);
+    fit(
+        &coverage_rule(subtable.table, coverages, is_chained)?,
+        sides,
+        search,
+    )
+}
+
+/// The walk by which a context by coverages looks for the glyph behind the one at the cursor.
+fn next_walk<'a>(next: &NextAsked, sides: &Sides<'a>) -> Walk<'a> {
+    if next.is_input {
+        sides.input_walk()
+    } else {
+        sides.context_walk(true)
+    }
+}
+
+/// How far glyphs were looked at, where the glyph behind the one at the cursor counts and is not what
+/// is asked for, or where there is none.
+///
+/// # Requires
+///
+/// - `0 < length sides.now.input.now`
+fn missed_next(next: &NextAsked, sides: &Sides) -> Option<usize> {
+    if sides.input.len() == 1 {
+        return Some(1);
+    }
+    let glyph = &sides.input[1];
+    if next.digest.may_have(glyph.glyph_id) {
+        return None;
+    }
+    let walk = next_walk(next, sides);
+    if walk.skip(glyph) == Skip::No {
+        Some(2)
+    } else {
+        None
     }
 }
 

@@ -10,8 +10,10 @@ use crate::font_tables::rows::{Keys16, rises, rows_within};
 use crate::glyph::hb_glyph_info_t;
 use crate::glyph_layout::digest::Digest;
 use crate::glyph_layout::filter::Filter;
+use crate::glyph_layout::search::MAX_CONTEXT_LENGTH;
+use crate::glyph_layout::seconds::seconds_of;
 use crate::glyph_layout::subtable::{
-    Form, Subtable, behind_list, positioning_form, substitution_form, table_or_empty,
+    Form, NextAsked, Subtable, behind_list, positioning_form, substitution_form, table_or_empty,
 };
 use crate::memory::{AllocError, Vec};
 
@@ -20,6 +22,9 @@ pub const SUBSTITUTION_EXTENSION: u16 = 7;
 
 /// The kind of an extension in `GPOS`.
 pub const POSITIONING_EXTENSION: u16 = 9;
+
+/// The kind of ligatures in `GSUB`.
+const LIGATURES: u16 = 4;
 
 /// So many rows are soon looked through.
 const FEW_ROWS: usize = 64;
@@ -103,6 +108,8 @@ pub struct LookupList<'a> {
     extension: u16,
     /// How many bytes may still be read.
     room: usize,
+    /// How many ligatures may still be read for their second glyphs.
+    second_room: usize,
 }
 
 impl<'a> LookupList<'a> {
@@ -125,6 +132,7 @@ impl<'a> LookupList<'a> {
             coverages: Vec::new(),
             extension,
             room: table.len().saturating_mul(64),
+            second_room: table.len(),
         };
         list.read_all(table_or_empty(table, 8), gdef)?;
         Ok(list)
@@ -189,6 +197,14 @@ impl<'a> LookupList<'a> {
         } else {
             &[]
         }
+    }
+
+    /// The second glyphs of the ligatures of a subtable, if it has ligatures, each with a second glyph.
+    fn seconds(&mut self, kind: u16, table: &[u8]) -> Option<Digest> {
+        if self.is_positioning() || kind != LIGATURES {
+            return None;
+        }
+        seconds_of(table, &mut self.second_room)
     }
 
     /// The coverages of a subtable from the one of this number on.
@@ -276,7 +292,9 @@ impl<'a> LookupList<'a> {
             classes: self.input_classes(form, table),
             classes_behind: self.classes_if(form == Form::ChainedClasses, table, 4),
             classes_ahead: self.ahead_classes(form, table),
+            next: self.next_asked(form, table, first_coverage),
             first_coverage,
+            seconds: self.seconds(kind, table),
         };
         self.subtables.push(subtable)?;
         Ok(())
@@ -336,6 +354,31 @@ impl<'a> LookupList<'a> {
             Some(coverage) => *coverage,
             None => Coverage::new(&[]),
         }
+    }
+
+    /// What a context by coverages asks of the glyph behind the one at the cursor: the second coverage of
+    /// the input, or where the input has one, the first behind it.
+    fn next_asked(&self, form: Form, table: &'a [u8], first: usize) -> Option<NextAsked<'a>> {
+        let (behind, input, ahead) = match form {
+            Form::Coverages => (0, u16_at(table, 2)?, 0),
+            Form::ChainedCoverages => {
+                let behind = u16_at(table, 2)?;
+                let input_at = 4 + 2 * usize::from(behind);
+                let input = u16_at(table, input_at)?;
+                (
+                    behind,
+                    input,
+                    u16_at(table, input_at + 2 + 2 * usize::from(input))?,
+                )
+            }
+            _ => return None,
+        };
+        if usize::from(input) > MAX_CONTEXT_LENGTH || input < 2 && ahead == 0 {
+            return None;
+        }
+        let number = usize::from(behind) + usize::from(input.min(1));
+        let coverage = self.coverages.get(first.saturating_add(number))?;
+        Some(NextAsked::new(*coverage, input > 1))
     }
 
     /// The classes of the input.

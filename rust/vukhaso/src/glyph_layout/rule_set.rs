@@ -98,6 +98,13 @@ pub(crate) struct Next {
     pub(crate) end: usize,
 }
 
+impl Next {
+    /// Whether a glyph stands there.
+    pub(crate) fn is_there(&self) -> bool {
+        self.glyph != NO_GLYPH
+    }
+}
+
 /// The glyphs behind the cursor, looked at once for many rules.
 #[derive(Clone, Copy, Debug)]
 enum Neighbours {
@@ -165,6 +172,26 @@ pub(crate) fn next_kept(walk: &Walk, glyphs: &[hb_glyph_info_t], place: usize) -
         glyph: glyphs[next].glyph_id,
         end: next + 1,
     })
+}
+
+/// No glyph of a font has this number.
+const NO_GLYPH: u32 = u32::MAX;
+
+/// The next glyph behind a place, if it counts whatever is asked for; behind the last place a glyph
+/// that nobody asks for.
+///
+/// # Requires
+///
+/// - `place < length glyphs.now`
+pub(crate) fn next_seen(walk: &Walk, glyphs: &[hb_glyph_info_t], place: usize) -> Option<Next> {
+    debug_assert!(place < glyphs.len());
+    if place + 1 == glyphs.len() {
+        return Some(Next {
+            glyph: NO_GLYPH,
+            end: glyphs.len(),
+        });
+    }
+    next_kept(walk, glyphs, place)
 }
 
 /// Whether a rule may fit, by the next two glyphs.

@@ -10,7 +10,7 @@ use crate::glyph_layout::glyph_table::Glyphs;
 use crate::glyph_layout::lookup_list::{Lookup, LookupList};
 use crate::glyph_layout::matching::{match_ahead, match_behind, match_input};
 use crate::glyph_layout::rule::{Meaning, Part};
-use crate::glyph_layout::rule_set::{Next, next_kept};
+use crate::glyph_layout::rule_set::{Next, next_seen};
 use crate::glyph_layout::search::{Search, Sides};
 use crate::glyph_layout::subtable::Subtable;
 use crate::glyph_layout::walk::LookupOptions;
@@ -115,12 +115,12 @@ fn edit_of<'a>(
         1 => Some(Edit::Replace(single(subtable, glyph.glyph_id, index)?)),
         2 => Some(multiple(subtable.table, index)),
         3 => alternate(subtable.table, index, glyph.mask, options),
-        4 => ligature_in(set_at(subtable.table, index), sides, search),
+        4 => ligature_by(subtable, index, sides, search),
         5 => Some(Edit::Apply(fitting_rule(
-            list, subtable, false, sides, search,
+            list, subtable, index, false, sides, search,
         )?)),
         6 => Some(Edit::Apply(fitting_rule(
-            list, subtable, true, sides, search,
+            list, subtable, index, true, sides, search,
         )?)),
         8 if !is_nested => reverse(list, subtable, index, sides, search),
         _ => None,
@@ -194,25 +194,69 @@ fn feature_value(feature: u32, mask: u32) -> u32 {
     }
 }
 
-/// The first ligature of a set whose components stand at the cursor.
+/// The first ligature of the set of a coverage index whose components stand at the cursor. Mostly the
+/// next glyph is the second one of no ligature at all.
 ///
 /// # Requires
 ///
 /// - `0 < length sides.now.input.now`
-fn ligature_in<'a>(set: &'a [u8], sides: &Sides, search: &mut Search) -> Option<Edit<'a>> {
-    let count = usize::from(u16_at(set, 0)?);
-    let next = if count > 4 {
-        next_kept(&sides.input_walk(), sides.input, 0)
-    } else {
-        None
+fn ligature_by<'a>(
+    subtable: &Subtable<'a>,
+    index: u32,
+    sides: &Sides,
+    search: &mut Search,
+) -> Option<Edit<'a>> {
+    let set = set_at(subtable.table, index);
+    let next = next_seen(&sides.input_walk(), sides.input, 0);
+    if let Some(end) = missed_second(subtable, &next, sides) {
+        if u16_at(set, 0).unwrap_or(0) > 0 {
+            search.reach.extend(sides.out.len(), end);
+        }
+        return None;
+    }
+    ligature_in(set, &next, sides, search)
+}
+
+/// How far glyphs were looked at, where the next glyph is the second one of no ligature of a subtable.
+///
+/// # Requires
+///
+/// - `next: IfSome next.now (IsNext (input_walk _sides.now) _sides.now.input.now 0)`
+fn missed_second(subtable: &Subtable, next: &Option<Next>, _sides: &Sides) -> Option<usize> {
+    let Some(next) = *next else {
+        return None;
     };
+    match subtable.seconds {
+        Some(seconds) if !seconds.may_have(next.glyph) => Some(next.end),
+        _ => None,
+    }
+}
+
+/// The first ligature of a set whose components stand at the cursor.
+///
+/// # Requires
+///
+/// - `some: 0 < length sides.now.input.now`
+/// - `next: IfSome next.now (IsNext (input_walk sides.now) sides.now.input.now 0)`
+fn ligature_in<'a>(
+    set: &'a [u8],
+    next: &Option<Next>,
+    sides: &Sides,
+    search: &mut Search,
+) -> Option<Edit<'a>> {
+    let count = usize::from(u16_at(set, 0)?);
+    let is_told_at_end = count > 4 && matches!(*next, Some(next) if next.is_there());
     let mut beyond = 0;
     for index in 0..count {
         if !search.budget.pay(1) {
             return None;
         }
-        if let Some(edit) = ligature_at(set, index, &next, &mut beyond, sides, search) {
+        if let Some(edit) = ligature_at(set, index, next, &mut beyond, sides, search) {
             return Some(edit);
+        }
+        if !is_told_at_end {
+            search.reach.extend(sides.out.len(), beyond);
+            beyond = 0;
         }
     }
     search.reach.extend(sides.out.len(), beyond);

@@ -109,7 +109,7 @@ pub fn set_trailing_run(out: &mut [hb_glyph_info_t], cluster: u32, mask: u32) {
 ///     out.old (slice_index_or input.old 0 zero_glyph) (drop 1 input.old)).rest }
 /// ```
 #[inline(always)]
-pub fn delete_head(
+pub fn keep_cluster(
     out: &mut [hb_glyph_info_t],
     input: &mut [hb_glyph_info_t],
     order: ClusterOrder,
@@ -119,17 +119,21 @@ pub fn delete_head(
     if !out.is_empty() && out[out.len() - 1].cluster <= input[0].cluster {
         return;
     }
-    keep_cluster(out, input, order);
+    keep_in_neighbour(out, input, order);
 }
 
-/// Keeps the cluster of the first glyph of the input as `delete_head` does, whatever stands before it.
+/// Keeps the cluster of the first glyph of the input as `keep_cluster` does, whatever stands before it.
 /// It stands out of line, as most deletions need no more than one test.
 ///
 /// # Requires
 ///
 /// - `0 < length input.old`
 #[inline(never)]
-fn keep_cluster(out: &mut [hb_glyph_info_t], input: &mut [hb_glyph_info_t], order: ClusterOrder) {
+fn keep_in_neighbour(
+    out: &mut [hb_glyph_info_t],
+    input: &mut [hb_glyph_info_t],
+    order: ClusterOrder,
+) {
     debug_assert!(!input.is_empty());
     let head = input[0];
     if lowers_run(out, input) {

@@ -4,7 +4,7 @@
 
 use crate::glyph::{GlyphPosition, hb_glyph_info_t};
 use crate::glyph_lists::cluster_order::ClusterOrder;
-use crate::glyph_lists::deletion::{delete_head, merges_next};
+use crate::glyph_lists::deletion::{keep_cluster, merges_next};
 
 /// Deletes the glyphs for which `deletes` holds as they stand when the walk comes to them, and moves
 /// the others down, and the items of `pos` with them, where there is one for each glyph. Returns how
@@ -68,7 +68,7 @@ fn delete_at(info: &mut [hb_glyph_info_t], kept: usize, at: usize, order: Cluste
     let (front, rest) = info.split_at_mut(at);
     let out = &mut front[..kept];
     let merges = order.is_any() && merges_next(out, rest);
-    delete_head(out, rest, order);
+    keep_cluster(out, rest, order);
     merges
 }
 

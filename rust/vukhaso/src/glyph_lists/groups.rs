@@ -47,8 +47,14 @@ pub fn group_end<F: Fn(&hb_glyph_info_t, &hb_glyph_info_t) -> bool>(
     group: &F,
 ) -> usize {
     debug_assert!(start < info.len());
+    let mut last = &info[start];
     let mut end = start + 1;
-    while end < info.len() && group(&info[end - 1], &info[end]) {
+    while end < info.len() {
+        let next = &info[end];
+        if !group(last, next) {
+            break;
+        }
+        last = next;
         end += 1;
     }
     end

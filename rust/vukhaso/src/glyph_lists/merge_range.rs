@@ -12,7 +12,7 @@ use crate::glyph_lists::cluster_reads::ClusterReads;
 /// - `within: end ≤ length (both_clusters reads.old)`
 /// - `first: first ≡ slice_index (both_clusters reads.old) start`
 /// - `last: last ≡ slice_index (both_clusters reads.old) (end - 1)`
-/// - `room: reads.old.reads < 2 ^ 99`
+/// - `few: FewReads reads.old`
 #[inline(always)]
 fn least_cluster(reads: &mut ClusterReads, start: usize, end: usize, first: u32, last: u32) -> u32 {
     debug_assert!(start + 2 <= end);
@@ -28,7 +28,7 @@ fn least_cluster(reads: &mut ClusterReads, start: usize, end: usize, first: u32,
 /// # Requires
 ///
 /// - `within: end ≤ length (both_clusters reads.old)`
-/// - `room: reads.old.reads < 2 ^ 100`
+/// - `few: FewReads reads.old`
 #[inline(always)]
 fn run_start_before(reads: &mut ClusterReads, cluster: u32, floor: usize, end: usize) -> usize {
     let mut start = end;
@@ -43,7 +43,7 @@ fn run_start_before(reads: &mut ClusterReads, cluster: u32, floor: usize, end: u
 /// # Requires
 ///
 /// - `within: start ≤ length (both_clusters reads.old)`
-/// - `room: reads.old.reads < 2 ^ 101`
+/// - `few: FewReads reads.old`
 #[inline(always)]
 fn run_end_after(reads: &mut ClusterReads, cluster: u32, start: usize) -> usize {
     let len = reads.len();

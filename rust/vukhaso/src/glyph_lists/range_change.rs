@@ -33,7 +33,7 @@ pub enum RangeChange {
 ///     (changed change (length out.old) (out.old ++ input.old) start end) }
 /// ```
 #[inline(always)]
-pub fn change_range(
+pub fn change(
     out: &mut [hb_glyph_info_t],
     input: &mut [hb_glyph_info_t],
     start: usize,

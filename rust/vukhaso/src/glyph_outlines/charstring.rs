@@ -190,7 +190,8 @@ impl State {
         }
     }
 
-    /// A number and an operator that neither calls nor ends: gives what follows it.
+    /// A number, or an operator that neither calls nor ends: gives what follows it.
+    #[inline(always)]
     pub(crate) fn step<'a>(&mut self, operator: u8, code: &'a [u8]) -> Option<&'a [u8]> {
         match operator {
             28 | 32..=254 => {
@@ -205,6 +206,13 @@ impl State {
                     Some(tail(code, 1))
                 }
             }
+            _ => self.obey(operator, code),
+        }
+    }
+
+    /// An operator that neither calls nor ends: gives what follows it.
+    fn obey<'a>(&mut self, operator: u8, code: &'a [u8]) -> Option<&'a [u8]> {
+        match operator {
             1 | 3 | 18 | 23 => {
                 self.count_stems();
                 self.count = 0;

@@ -33,5 +33,12 @@ pub(crate) fn fit_at<'a>(
         is_level: true,
     };
     let is_chained = turn.subtable.kind == CHAINED_CONTEXT;
-    fitting_rule(setting.list, &turn.subtable, is_chained, &sides, search)
+    fitting_rule(
+        setting.list,
+        turn.subtable,
+        turn.index,
+        is_chained,
+        &sides,
+        search,
+    )
 }

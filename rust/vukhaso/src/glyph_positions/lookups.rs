@@ -27,11 +27,11 @@ const MAX_NESTING_LEVEL: u32 = 64;
 #[derive(Clone, Copy, Debug)]
 struct Task<'a> {
     /// The font's lookups and its size.
-    setting: Setting<'a>,
+    setting: &'a Setting<'a>,
     /// The lookup.
-    lookup: Lookup<'a>,
+    lookup: &'a Lookup<'a>,
     /// How it is applied.
-    options: LookupOptions,
+    options: &'a LookupOptions,
     /// The place of the glyph.
     place: usize,
     /// How many levels of lookups it may apply.
@@ -77,11 +77,11 @@ pub fn position(
 ///
 /// - `closed: buffer.old.have_output ≡ false`
 /// - `placed: IsSome buffer.old.positions`
-fn place_all(
+fn place_all<'a>(
     buffer: &mut hb_buffer_t,
-    setting: &Setting,
+    setting: &'a Setting<'a>,
     lookup: u16,
-    options: &LookupOptions,
+    options: &'a LookupOptions,
     search: &mut Search,
 ) {
     debug_assert!(!buffer.have_output());
@@ -98,9 +98,9 @@ fn place_all(
             return;
         }
         let task = Task {
-            setting: *setting,
-            lookup: *lookup,
-            options: *options,
+            setting,
+            lookup,
+            options,
             place,
             depth: MAX_NESTING_LEVEL,
         };
@@ -130,7 +130,7 @@ fn place_by_lookup<'a>(
     debug_assert!(!buffer.have_output());
     debug_assert!(buffer.have_positions());
     let glyph = buffer.info().get(task.place)?.glyph_id;
-    let subtables = task.setting.list.subtables_of(&task.lookup);
+    let subtables = task.setting.list.subtables_of(task.lookup);
     search.budget.pay_for(subtables.len() / PASSED_A_STEP);
     for subtable in subtables {
         if subtable.digest.may_have(glyph)
@@ -156,7 +156,7 @@ fn place_by_lookup<'a>(
 fn place_by_subtable<'a>(
     buffer: &mut hb_buffer_t,
     task: &Task<'a>,
-    subtable: &Subtable<'a>,
+    subtable: &'a Subtable<'a>,
     index: u32,
     search: &mut Search,
     last: &mut LastBase,
@@ -164,9 +164,9 @@ fn place_by_subtable<'a>(
     debug_assert!(!buffer.have_output());
     debug_assert!(buffer.have_positions());
     let turn = Turn {
-        subtable: *subtable,
-        walk: Walk::over_input(task.lookup.filter, &task.options, true),
-        instance: task.setting.instance,
+        subtable,
+        walk: Walk::over_input(task.lookup.filter, task.options, true),
+        instance: &task.setting.instance,
         place: task.place,
         index,
     };
@@ -197,8 +197,8 @@ fn place_by_context<'a>(
 ) -> Option<usize> {
     debug_assert!(!buffer.have_output());
     debug_assert!(buffer.have_positions());
-    let context = Walk::over_context(task.lookup.filter, &task.options, true);
-    let fit = fit_at(buffer.info(), &task.setting, turn, &context, search);
+    let context = Walk::over_context(task.lookup.filter, task.options, true);
+    let fit = fit_at(buffer.info(), task.setting, turn, &context, search);
     let reached = turn.place.saturating_add(search.reach.to);
     mark_concat(buffer, search.reach.from, reached);
     let fit = fit?;
@@ -243,7 +243,7 @@ fn apply_records<'a>(
 fn nested_task<'a>(task: &Task<'a>, fit: &Fit, places: &Places, index: usize) -> Option<Task<'a>> {
     let record = fit.record(index)?;
     let at = *places.as_slice().get(record.sequence)?;
-    let lookup = *task.setting.list.lookup(record.lookup)?;
+    let lookup = task.setting.list.lookup(record.lookup)?;
     let depth = task.depth.checked_sub(1)?;
     Some(Task {
         setting: task.setting,

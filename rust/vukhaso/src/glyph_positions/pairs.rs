@@ -59,7 +59,7 @@ pub(crate) fn place_single(buffer: &mut hb_buffer_t, turn: &Turn) -> Option<usiz
         turn.place,
         &values,
         table,
-        &turn.instance,
+        turn.instance,
         is_horizontal,
     );
     Some(turn.place.saturating_add(1))
@@ -96,7 +96,7 @@ pub(crate) fn place_pair(buffer: &mut hb_buffer_t, turn: &Turn) -> Option<usize>
             None
         }
         PairFound::Pair(pair) => {
-            move_pair(buffer, &pair, &turn.instance);
+            move_pair(buffer, &pair, turn.instance);
             Some(if pair.uses_second {
                 pair.second.saturating_add(1)
             } else {

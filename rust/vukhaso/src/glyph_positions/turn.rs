@@ -20,11 +20,11 @@ pub struct Setting<'a> {
 #[derive(Clone, Copy, Debug)]
 pub(crate) struct Turn<'a> {
     /// The subtable.
-    pub subtable: Subtable<'a>,
+    pub subtable: &'a Subtable<'a>,
     /// The walk over the glyphs that the lookup does not pass over.
     pub walk: Walk<'a>,
     /// The size and the variations of the font.
-    pub instance: Instance<'a>,
+    pub instance: &'a Instance<'a>,
     /// The place of the glyph.
     pub place: usize,
     /// The glyph's coverage index.

@@ -45,8 +45,8 @@ pub(crate) fn merge_out(info: &mut [hb_glyph_info_t], gap: Range<usize>, start: 
     merging::merge_out(&mut front[..gap.start], input, start, end);
 }
 
-/// Changes the glyphs from `start` to `end` of the two sides as one list, as
-/// `range_change::change_range` does.
+/// Changes the glyphs from `start` to `end` of the two sides as one list, as `range_change::change`
+/// does.
 ///
 /// # Requires
 ///
@@ -56,7 +56,7 @@ pub(crate) fn merge_out(info: &mut [hb_glyph_info_t], gap: Range<usize>, start: 
 /// - `range: start ≤ end`
 /// - `within: end ≤ gap.start + (length info.old - gap.end)`
 #[inline(always)]
-pub(crate) fn change_range(
+pub(crate) fn change(
     info: &mut [hb_glyph_info_t],
     gap: Range<usize>,
     start: usize,
@@ -65,10 +65,10 @@ pub(crate) fn change_range(
 ) {
     debug_assert!(start <= end);
     let (front, input) = info.split_at_mut(gap.end);
-    range_change::change_range(&mut front[..gap.start], input, start, end, change);
+    range_change::change(&mut front[..gap.start], input, start, end, change);
 }
 
-/// Keeps the cluster of the first glyph of the input, which then leaves it, as `deletion::delete_head`
+/// Keeps the cluster of the first glyph of the input, which then leaves it, as `deletion::keep_cluster`
 /// does.
 ///
 /// # Requires
@@ -76,7 +76,7 @@ pub(crate) fn change_range(
 /// - `gap: gap.start ≤ gap.end`
 /// - `glyph: gap.end < length info.old`
 #[inline(always)]
-pub(crate) fn delete_head(info: &mut [hb_glyph_info_t], gap: Range<usize>, order: ClusterOrder) {
+pub(crate) fn keep_cluster(info: &mut [hb_glyph_info_t], gap: Range<usize>, order: ClusterOrder) {
     let (front, input) = info.split_at_mut(gap.end);
-    deletion::delete_head(&mut front[..gap.start], input, order);
+    deletion::keep_cluster(&mut front[..gap.start], input, order);
 }

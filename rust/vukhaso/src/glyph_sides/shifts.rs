@@ -53,34 +53,35 @@ pub(crate) fn close_gap(info: &mut Vec<hb_glyph_info_t>, to: usize, from: usize)
     debug_assert!(to <= from);
     debug_assert!(from <= info.len());
     if to < from {
-        let left = info.len() - from;
-        put_down(info, to, from, left);
-        info.truncate(to + left);
+        let count = info.len() - from;
+        put_down(info, to, from, count);
+        info.truncate(to + count);
     }
 }
 
-/// Moves the glyphs from `start` to `end` up, so that they end at a place.
+/// Moves the glyphs from `start` to `end` up, so that they end at a place: the input then begins with
+/// them.
 ///
 /// # Requires
 ///
 /// - `order: start ≤ end`
 /// - `up: end ≤ at`
 /// - `within: at ≤ vec_len info.old`
-pub(crate) fn shift_back(info: &mut Vec<hb_glyph_info_t>, start: usize, end: usize, at: usize) {
+pub(crate) fn shift_up(info: &mut Vec<hb_glyph_info_t>, start: usize, end: usize, at: usize) {
     debug_assert!(start <= end);
     debug_assert!(end <= at);
     debug_assert!(at <= info.len());
-    shift_up(info, start, end, at);
+    shift_range(info, start, end, at);
 }
 
-/// The same, in words of ranges.
+/// Moves a range as `shift_up` does. Its clauses speak of the range, as those of `copy_within` do.
 ///
 /// # Requires
 ///
 /// - `order: start ≤ end`
 /// - `up: end ≤ at`
 /// - `within: at ≤ vec_len info.old`
-fn shift_up(info: &mut Vec<hb_glyph_info_t>, start: usize, end: usize, at: usize) {
+fn shift_range(info: &mut Vec<hb_glyph_info_t>, start: usize, end: usize, at: usize) {
     debug_assert!(start <= end);
     debug_assert!(end <= at);
     debug_assert!(at <= info.len());
@@ -132,7 +133,7 @@ pub(crate) fn open_gap(info: &mut Vec<hb_glyph_info_t>, at: usize, more: usize) 
 ///
 /// - `within: at ≤ vec_len info.old`
 /// - `fits: length glyphs.now ≤ at`
-pub(crate) fn put_back(info: &mut Vec<hb_glyph_info_t>, at: usize, glyphs: &[hb_glyph_info_t]) {
+pub(crate) fn write_before(info: &mut Vec<hb_glyph_info_t>, at: usize, glyphs: &[hb_glyph_info_t]) {
     debug_assert!(at <= info.len());
     debug_assert!(glyphs.len() <= at);
     info.as_mut_slice()[at - glyphs.len()..at].copy_from_slice(glyphs);

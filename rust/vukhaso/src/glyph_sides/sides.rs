@@ -38,7 +38,7 @@ pub struct Sides {
     /// How many places before the cursor stand free, where the output is in place: so many more glyphs were read than
     /// were put out.
     gap: usize,
-    /// How many places in front of the input stand free, for glyphs that are taken back past its start. There are none
+    /// How many places in front of the input stand free, for rewinds past its start. There are none
     /// while the output is in place.
     front: usize,
     /// The place of the cursor in `info`.
@@ -142,7 +142,7 @@ impl Sides {
     ///
     /// As many glyphs at the cursor, and that neither side holds more than `max_len`.
     ///
-    /// - `within: more ≤ left self.now`
+    /// - `within: more ≤ lookahead_len self.now`
     /// - `out: length self.now.out ≤ max_len`
     /// - `input: len self.now ≤ max_len`
     ///
@@ -154,7 +154,6 @@ impl Sides {
     /// ```
     #[inline(always)]
     pub fn next_exceeds(&self, more: usize, max_len: usize) -> bool {
-        debug_assert!(more <= self.left());
         debug_assert!(self.out_len() <= max_len);
         debug_assert!(self.len() <= max_len);
         self.is_separate && more > max_len - self.out_info.len()
@@ -222,10 +221,10 @@ impl Sides {
     /// # Proved
     ///
     /// ```text
-    /// ensures { result ≡ left self.now }
+    /// ensures { result ≡ lookahead_len self.now }
     /// ```
     #[inline(always)]
-    pub fn left(&self) -> usize {
+    pub fn lookahead_len(&self) -> usize {
         self.info.len() - self.cursor
     }
 

@@ -37,19 +37,15 @@ impl ValueRecord {
     /// ```text
     /// ensures { result ≡ value_record table.now format at }
     /// ```
+    #[inline]
     pub fn read(table: &[u8], format: u16, at: usize) -> Option<Self> {
         if at > table.len() || table.len() - at < record_size(format) {
             return None;
         }
-        Some(ValueRecord {
-            x_placement: field(table, format, 1, at).cast_signed(),
-            y_placement: field(table, format, 2, at).cast_signed(),
-            x_advance: field(table, format, 4, at).cast_signed(),
-            y_advance: field(table, format, 8, at).cast_signed(),
-            x_placement_device: field(table, format, 16, at),
-            y_placement_device: field(table, format, 32, at),
-            x_advance_device: field(table, format, 64, at),
-            y_advance_device: field(table, format, 128, at),
+        Some(if format == 0 {
+            no_values()
+        } else {
+            fields(table, format, at)
         })
     }
 
@@ -130,6 +126,39 @@ impl ValueRecord {
     }
 }
 
+/// The record that names nothing.
+fn no_values() -> ValueRecord {
+    ValueRecord {
+        x_placement: 0,
+        y_placement: 0,
+        x_advance: 0,
+        y_advance: 0,
+        x_placement_device: 0,
+        y_placement_device: 0,
+        x_advance_device: 0,
+        y_advance_device: 0,
+    }
+}
+
+/// The record of a format at a place, field by field.
+///
+/// # Requires
+///
+/// - `within: at ≤ length table.now`
+fn fields(table: &[u8], format: u16, at: usize) -> ValueRecord {
+    debug_assert!(at <= table.len());
+    ValueRecord {
+        x_placement: field(table, format, 1, at).cast_signed(),
+        y_placement: field(table, format, 2, at).cast_signed(),
+        x_advance: field(table, format, 4, at).cast_signed(),
+        y_advance: field(table, format, 8, at).cast_signed(),
+        x_placement_device: field(table, format, 16, at),
+        y_placement_device: field(table, format, 32, at),
+        x_advance_device: field(table, format, 64, at),
+        y_advance_device: field(table, format, 128, at),
+    }
+}
+
 /// Whether device tables correct numbers across, or upwards: whether there are pixels or variations.
 fn uses_devices(instance: &Instance<'_>, is_horizontal: bool) -> bool {
     let ppem = if is_horizontal {
@@ -142,12 +171,30 @@ fn uses_devices(instance: &Instance<'_>, is_horizontal: bool) -> bool {
 
 /// A number across, moved by a value and its device table.
 fn moved_x(base: &[u8], instance: &Instance<'_>, value: i16, device: u16, number: i32) -> i32 {
+    if value == 0 && device == 0 {
+        number
+    } else {
+        scaled_x(base, instance, value, device, number)
+    }
+}
+
+/// A number across, moved by a value of any length and its device table.
+fn scaled_x(base: &[u8], instance: &Instance<'_>, value: i16, device: u16, number: i32) -> i32 {
     let length = instance.scale.em_scale_x(i32::from(value));
     plus(number, length, x_correction(base, device, instance))
 }
 
 /// A number upwards, moved by a value and its device table.
 fn moved_y(base: &[u8], instance: &Instance<'_>, value: i16, device: u16, number: i32) -> i32 {
+    if value == 0 && device == 0 {
+        number
+    } else {
+        scaled_y(base, instance, value, device, number)
+    }
+}
+
+/// A number upwards, moved by a value of any length and its device table.
+fn scaled_y(base: &[u8], instance: &Instance<'_>, value: i16, device: u16, number: i32) -> i32 {
     let length = instance.scale.em_scale_y(i32::from(value));
     plus(number, length, y_correction(base, device, instance))
 }

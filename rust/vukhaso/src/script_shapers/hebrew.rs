@@ -4,6 +4,7 @@
 
 use crate::buffer::{hb_buffer_t, hb_glyph_info_t};
 use crate::glyph::modified_combining_class::{CCC10, CCC14, CCC17, CCC18, CCC22};
+use crate::glyph::row_search::value_of_pair;
 use crate::script_shapers::item::modified_combining_class;
 use crate::script_shapers::moves::{merge, move_back};
 
@@ -65,19 +66,7 @@ static PRESENTATION_FORMS: [((char, char), char); 36] = [
 /// The character of a letter and a mark, where the font does not place marks: the forms that canonical
 /// composition leaves out, which old fonts have.
 pub(crate) fn presentation_form(a: char, b: char) -> Option<char> {
-    form_in(&PRESENTATION_FORMS, a, b)
-}
-
-/// What the row of a pair says that it makes.
-///
-/// # Requires
-///
-/// - `IsTrue (pairs_rise rows.now)`
-fn form_in(rows: &[((char, char), char)], a: char, b: char) -> Option<char> {
-    match rows.binary_search_by(|row| row.0.cmp(&(a, b))) {
-        Ok(at) => Some(rows[at].1),
-        Err(_) => None,
-    }
+    value_of_pair(&PRESENTATION_FORMS, a, b)
 }
 
 /// Puts a meteg, or another mark below, before a sheva or hiriq that stands behind a patah or qamats,

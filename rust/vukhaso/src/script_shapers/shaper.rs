@@ -153,10 +153,10 @@ impl ScriptShaper {
     /// # Proved
     ///
     /// ```text
-    /// ensures hangul { is_canonical self ≡ true → (s : ℕ) → HangulComposes s a b → result ≡ Some s }
-    /// ensures data { is_canonical self ≡ true → ((s : ℕ) → ¬ HangulComposes s a b) → result ≡ composite a b }
-    /// ensures hebrew { self ≡ Hebrew → ((s : ℕ) → ¬ HangulComposes s a b)
-    ///     → result ≡ option_or (composite a b) (if has_gpos_mark then None else composition_of a b presentation_forms) }
+    /// ensures own { has_own_composite self a b ≡ true → result ≡ own_composite self a b }
+    /// ensures hangul { has_own_composite self a b ≡ false → (s : ℕ) → HangulComposes s a b → result ≡ Some s }
+    /// ensures data { has_own_composite self a b ≡ false → ((s : ℕ) → ¬ HangulComposes s a b)
+    ///     → result ≡ other_composite self has_gpos_mark a b }
     /// ```
     #[inline]
     pub fn compose(self, a: char, b: char, has_gpos_mark: bool) -> Option<char> {
@@ -175,8 +175,10 @@ impl ScriptShaper {
     /// # Proved
     ///
     /// ```text
-    /// ensures hangul { is_taken_apart self ≡ true → (a b : ℕ) → HangulComposes character a b → result ≡ Some (a, Some b) }
-    /// ensures data { is_taken_apart self ≡ true → ((a b : ℕ) → ¬ HangulComposes character a b)
+    /// ensures own { has_own_parts self character ≡ true → result ≡ own_parts self character }
+    /// ensures hangul { has_own_parts self character ≡ false → (a b : ℕ) → HangulComposes character a b
+    ///     → result ≡ Some (a, Some b) }
+    /// ensures data { has_own_parts self character ≡ false → ((a b : ℕ) → ¬ HangulComposes character a b)
     ///     → result ≡ parts_of (canonical_mapping character) }
     /// ```
     #[inline]

@@ -6,17 +6,16 @@ use crate::buffer::{HB_BUFFER_SCRATCH_FLAG_HAS_BROKEN_SYLLABLE, hb_buffer_t, hb_
 use crate::glyph::{BufferFlags, Flags};
 use crate::memory::AllocError;
 use crate::syllabic_shapers::category::position::Position;
+use crate::syllabic_shapers::font::FontForms;
 use crate::syllabic_shapers::item::{category_byte, set_category_byte, set_position};
 use crate::syllabic_shapers::syllables::kind_of;
 
 /// The dotted circle.
 pub(crate) const DOTTED_CIRCLE: u32 = 0x25CC;
 
-/// What is put before the signs of a broken syllable.
+/// How a shaper takes the dotted circle.
 #[derive(Clone, Copy, Debug)]
-pub(crate) struct Circle {
-    /// The glyph of the dotted circle.
-    pub glyph: u32,
+pub(crate) struct CircleKind {
     /// The byte of its category.
     pub category: u8,
     /// Where it stands.
@@ -27,7 +26,14 @@ pub(crate) struct Circle {
     pub broken: u8,
 }
 
-/// Puts a dotted circle into each broken syllable.
+/// What is put before the signs of a broken syllable: a glyph, and how it is taken.
+#[derive(Clone, Copy, Debug)]
+struct Circle {
+    glyph: u32,
+    kind: CircleKind,
+}
+
+/// Puts a dotted circle into each broken syllable, where the font has one.
 ///
 /// # Requires
 ///
@@ -36,9 +42,10 @@ pub(crate) struct Circle {
 /// # Errors
 ///
 /// `Ok(false)` where the text would become too long.
-pub(crate) fn insert_dotted_circles(
+pub(crate) fn insert_dotted_circles<F: FontForms>(
     buffer: &mut hb_buffer_t,
-    circle: &Circle,
+    font: &F,
+    kind: CircleKind,
 ) -> Result<bool, AllocError> {
     debug_assert!(!buffer.have_output());
     let is_wanted = buffer.scratch_flags & HB_BUFFER_SCRATCH_FLAG_HAS_BROKEN_SYLLABLE != 0
@@ -48,8 +55,11 @@ pub(crate) fn insert_dotted_circles(
     if !is_wanted {
         return Ok(true);
     }
+    let Some(glyph) = font.glyph_of(DOTTED_CIRCLE) else {
+        return Ok(true);
+    };
     buffer.clear_output();
-    if !put_circles(buffer, circle)? {
+    if !put_circles(buffer, &Circle { glyph, kind })? {
         return Ok(false);
     }
     buffer.sync()
@@ -94,9 +104,9 @@ fn read_next(
     debug_assert!(buffer.have_output());
     debug_assert!(!buffer.info().is_empty());
     let syllable = buffer.cur(0).syllable();
-    let is_first = syllable != last && kind_of(buffer.cur(0)) == circle.broken;
+    let is_first = syllable != last && kind_of(buffer.cur(0)) == circle.kind.broken;
     if is_first {
-        let rephs = reph_count(buffer.info(), syllable, circle.repha);
+        let rephs = reph_count(buffer.info(), syllable, circle.kind.repha);
         if !put_circle(buffer, circle, rephs)? {
             return Ok(None);
         }
@@ -149,8 +159,8 @@ fn circle_at(circle: &Circle, current: &hb_glyph_info_t) -> hb_glyph_info_t {
         cluster: current.cluster,
         ..hb_glyph_info_t::default()
     };
-    set_category_byte(&mut info, circle.category);
-    set_position(&mut info, circle.position);
+    set_category_byte(&mut info, circle.kind.category);
+    set_position(&mut info, circle.kind.position);
     info.set_syllable(current.syllable());
     info
 }

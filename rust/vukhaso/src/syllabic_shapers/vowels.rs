@@ -6,6 +6,7 @@
 mod rows;
 
 use crate::buffer::{hb_buffer_t, hb_glyph_info_t};
+use crate::glyph::row_search::row_at;
 use crate::glyph::{BufferFlags, CharExt, Flags, UnicodeProps};
 use crate::memory::AllocError;
 use crate::syllabic_shapers::dotted_circle::DOTTED_CIRCLE;
@@ -95,10 +96,10 @@ fn sequence_length(buffer: &hb_buffer_t) -> Option<usize> {
     if buffer.script != Some(first.script()) {
         return None;
     }
-    let at = SEQUENCES
-        .binary_search_by(|row| (row.0 as u32, row.1 as u32).cmp(&(first as u32, second)))
-        .ok()?;
-    match SEQUENCES[at].2 {
+    let row = row_at(&SEQUENCES, |row| {
+        (row.0 as u32, row.1 as u32).cmp(&(first as u32, second))
+    })?;
+    match row.2 {
         None => Some(2),
         Some(third) if infos.get(2)?.glyph_id == third as u32 => Some(3),
         Some(_) => None,

@@ -5,6 +5,7 @@
 
 type Fail = Box<dyn std::error::Error>;
 
+mod apple_tests;
 mod buffer_tests;
 mod font_tests;
 mod glyph_tests;

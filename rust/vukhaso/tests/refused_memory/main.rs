@@ -12,8 +12,8 @@
 use allocator::refusing;
 use fault_tests::growth::GROWTHS;
 use fault_tests::rendered::RENDERED;
-use fault_tests::runs::apart::{APART_RUNS, BECOMING};
 use fault_tests::runs::in_place::IN_PLACE;
+use fault_tests::runs::separate::{BECOMING, SEPARATE_RUNS};
 use fault_tests::runs::whole::WHOLE;
 use fault_tests::runs::within_room::WITHIN_ROOM;
 use fault_tests::said::{Made, Tags, Told};
@@ -68,7 +68,13 @@ fn growing_texts_and_rendering() {
 
 #[test]
 fn lists_of_calls() {
-    for runs in [&IN_PLACE[..], &BECOMING, &APART_RUNS, &WITHIN_ROOM, &WHOLE] {
+    for runs in [
+        &IN_PLACE[..],
+        &BECOMING,
+        &SEPARATE_RUNS,
+        &WITHIN_ROOM,
+        &WHOLE,
+    ] {
         runs.iter().for_each(watch_each);
     }
 }

@@ -8,6 +8,6 @@ pub returns-clause-input : goal.returns-clause-input
 returns-clause-input c =
     let a = c.args in
     drop_further c.write_copies.new.info _ (a.gap.start + length a.ids.now) (a.gap.end + a.count) c.requires.room
-    c.write_copies.ensures.left
+    c.write_copies.ensures.behind
     ∙ sym (drop-drop a.count a.gap.end _)
     ∙ ap (drop a.count) (grind (arith, common_steps))

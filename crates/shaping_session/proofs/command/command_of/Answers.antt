@@ -5,7 +5,7 @@ use Rattle.shaping_session.proofs.command.command_of.Goals.{in-push+in_ok-text-i
 use Rattle.shaping_session.proofs.command.command_of.Goals.{in-add+in_ok-character-in-add+in_ok-number-in-add, in-new}
 use Rattle.shaping_session.proofs.command.command_of.Goals.{in-level+in_ok-number-in-level+in_ok-level_of-in-level}
 use Rattle.shaping_session.proofs.command.command_of.Goals.{in-flags+in_ok-number-in-flags+in_ok-flags_of-in-flags}
-use Rattle.shaping_session.proofs.command.command_of.Goals.{in-limit+in_ok-place-in-limit, in-state}
+use Rattle.shaping_session.proofs.command.command_of.Goals.{in-limit+in_ok-number_64-in-limit, in-state}
 use Rattle.shaping_session.proofs.command.command_of.Goals.{in-serialize+in_ok-number-in-serialize+in_ok-serialize_flags_of-in-serialize}
 use Rattle.shaping_session.proofs.command.command_of.Goals.{in-feature+in_ok-text-in-feature}
 use Rattle.shaping_session.proofs.command.command_of.Goals.{in-tags+in_ok-script-in-tags+in_ok-language-in-tags}
@@ -46,7 +46,7 @@ returns c =
       | in-new w ↦ search rules
       | in-level+in_ok-number-in-level+in_ok-level_of-in-level w ↦ search rules
       | in-flags+in_ok-number-in-flags+in_ok-flags_of-in-flags w ↦ search rules
-      | in-limit+in_ok-place-in-limit w ↦ search rules
+      | in-limit+in_ok-number_64-in-limit w ↦ search rules
       | in-state w ↦ search rules
       | in-serialize+in_ok-number-in-serialize+in_ok-serialize_flags_of-in-serialize w ↦ search rules
       | in-feature+in_ok-text-in-feature w ↦ search rules

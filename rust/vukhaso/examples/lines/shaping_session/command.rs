@@ -92,10 +92,10 @@ fn command_named<'a>(name: &str, words: &mut Words<'a>) -> Result<Option<Command
 
 /// The command that replaces glyphs: how many, by how many, and their ids.
 fn replacement(words: &mut Words<'_>) -> Result<Option<Command<'static>>, AllocError> {
-    let Some(num_in) = words.place() else {
+    let Some(num_in) = words.number_64() else {
         return Ok(None);
     };
-    let Some(num_out) = words.place() else {
+    let Some(num_out) = words.number_64() else {
         return Ok(None);
     };
     let Some(ids) = ids(num_out, words)? else {
@@ -129,7 +129,7 @@ fn command_of<'a>(name: &str, words: &mut Words<'a>) -> Option<Command<'a>> {
         "new" => Command::New,
         "level" => Command::Level(level_of(words.number()?)?),
         "flags" => Command::Flags(flags_of(words.number()?)?),
-        "limit" => Command::Limit(words.place()?),
+        "limit" => Command::Limit(words.number_64()?),
         // what is printed
         "state" => Command::State,
         "serialize" => Command::Serialize(serialize_flags_of(words.number()?)?),
@@ -151,15 +151,15 @@ fn call_of(name: &str, words: &mut Words<'_>) -> Option<Call<'static>> {
     Some(match name {
         "clear_output" => Call::ClearOutput,
         "next_glyph" => Call::NextGlyph,
-        "next_glyphs" => Call::NextGlyphs(words.place()?),
+        "next_glyphs" => Call::NextGlyphs(words.number_64()?),
         "skip_glyph" => Call::SkipGlyph,
-        "move_to" => Call::MoveTo(words.place()?),
+        "move_to" => Call::MoveTo(words.number_64()?),
         "sync" => Call::Sync,
         "replace_glyph" => Call::ReplaceGlyph(words.number()?),
         "output_glyph" => Call::OutputGlyph(words.number()?),
         "copy_glyph" => Call::CopyGlyph,
         "delete_glyph" => Call::DeleteGlyph,
-        _ => range_call_of(name, words.place()?, words.place()?)?,
+        _ => range_call_of(name, words.number_64()?, words.number_64()?)?,
     })
 }
 

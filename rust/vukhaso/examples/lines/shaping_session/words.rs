@@ -65,11 +65,11 @@ impl<'a> Words<'a> {
     /// # Proved
     ///
     /// ```text
-    /// ensures number { result ≡ next_place self.old }
+    /// ensures number { result ≡ next_u64 self.old }
     /// ensures rest { self.new ≡ past_first_word self.old }
     /// ```
     #[inline]
-    pub fn place(&mut self) -> Option<usize> {
+    pub fn number_64(&mut self) -> Option<usize> {
         let value = decimal(self.word()?)?;
         usize::try_from(value).ok()
     }

@@ -290,7 +290,7 @@ impl hb_buffer_t {
     fn sync_longer(&mut self) -> Result<bool, AllocError> {
         debug_assert!(self.have_output());
         debug_assert!(self.idx() < self.out_len());
-        let (out_len, left) = (self.sides.out_len(), self.sides.left());
+        let (out_len, left) = (self.sides.out_len(), self.sides.lookahead_len());
         if left > self.max_len - out_len {
             self.successful = false;
             return Ok(false);

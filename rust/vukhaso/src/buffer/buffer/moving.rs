@@ -45,7 +45,7 @@ impl hb_buffer_t {
             return self.next_glyphs(i - out_len);
         }
         let count = out_len - i;
-        let left = self.sides.left();
+        let left = self.sides.lookahead_len();
         if left > self.max_len - count {
             self.successful = false;
             return Ok(false);
@@ -53,7 +53,7 @@ impl hb_buffer_t {
         if count > self.sides.idx() {
             self.pos.reserve(count + left)?;
         }
-        self.sides.take_back(i)?;
+        self.sides.rewind(i)?;
         Ok(true)
     }
 }

@@ -3,7 +3,7 @@
 //! The first round of normalization: a glyph is found for each character, or for its parts.
 
 use super::drop_behind;
-use super::parts::{MOST_STEPS, Parts, Taking, add_parts};
+use super::parts::Taking;
 use super::variations::read_variations;
 use crate::buffer::{
     CharExt, HB_BUFFER_SCRATCH_FLAG_HAS_SPACE_FALLBACK, hb_buffer_t, hb_glyph_info_t,
@@ -16,6 +16,7 @@ use crate::font_shaper::glyph_info::{
 use crate::glyph::hb_unicode_funcs_t::NOT_SPACE;
 use crate::glyph::space_t;
 use crate::memory::AllocError;
+use crate::passes::normalization::{Parts, add_font_parts};
 use crate::script_shapers::{NormalizationMode, ScriptShaper};
 
 /// The hyphen that no line is broken at, and the one that stands for it.
@@ -187,9 +188,7 @@ fn decompose_current(buffer: &mut hb_buffer_t, taking: &Taking) -> Result<bool, 
     debug_assert!(buffer.have_output());
     debug_assert!(!buffer.info().is_empty());
     let mut parts = Parts::new();
-    if let Some(character) = char::from_u32(buffer.cur(0).glyph_id)
-        && add_parts(&mut parts, taking, character, MOST_STEPS)
-    {
+    if add_font_parts(&mut parts, taking, buffer.cur(0).glyph_id) {
         return put_parts(buffer, taking.face, &parts);
     }
     if buffer.cur(0).glyph_index() == 0 {
@@ -204,7 +203,7 @@ fn decompose_current(buffer: &mut hb_buffer_t, taking: &Taking) -> Result<bool, 
 ///
 /// - `opened: buffer.old.have_output ≡ true`
 /// - `glyph: 0 < length buffer.old.input`
-fn put_parts(buffer: &mut hb_buffer_t, face: &Face, parts: &[char]) -> Result<bool, AllocError> {
+fn put_parts(buffer: &mut hb_buffer_t, face: &Face, parts: &[u32]) -> Result<bool, AllocError> {
     debug_assert!(buffer.have_output());
     debug_assert!(!buffer.info().is_empty());
     for part in parts.iter() {
@@ -222,12 +221,12 @@ fn put_parts(buffer: &mut hb_buffer_t, face: &Face, parts: &[char]) -> Result<bo
 ///
 /// - `opened: buffer.old.have_output ≡ true`
 /// - `glyph: 0 < length buffer.old.input`
-fn put_part(buffer: &mut hb_buffer_t, face: &Face, part: char) -> Result<bool, AllocError> {
+fn put_part(buffer: &mut hb_buffer_t, face: &Face, part: u32) -> Result<bool, AllocError> {
     debug_assert!(buffer.have_output());
     debug_assert!(!buffer.info().is_empty());
-    let glyph = face.glyph_index(part as u32);
+    let glyph = face.glyph_index(part);
     set_current_glyph(buffer, glyph.map_or(0, |glyph| u32::from(glyph.0)));
-    if !buffer.output_glyph(part as u32)? {
+    if !buffer.output_glyph(part)? {
         return Ok(false);
     }
     set_last_properties(buffer);

@@ -1,16 +1,10 @@
 // Written by tools/plain_rust from crates/font_shaper. Do not edit.
 
-//! The parts of a character that the font has glyphs for.
+//! What a character is taken apart into, by the rules of a script and the glyphs of a font.
 
-use crate::arrayvec::ArrayVec;
 use crate::font_shaper::face::Face;
+use crate::passes::normalization::FontCharacters;
 use crate::script_shapers::ScriptShaper;
-
-/// How often a character is taken apart at most. No character of Unicode needs as many.
-pub(crate) const MOST_STEPS: usize = 8;
-
-/// Room for the parts of one character.
-pub(crate) type Parts = ArrayVec<char, 9>;
 
 /// How characters are taken apart.
 #[derive(Clone, Copy, Debug)]
@@ -23,48 +17,44 @@ pub(crate) struct Taking<'a> {
     pub shortest: bool,
 }
 
-/// Adds the parts of a character in at most so many steps, if the font has a glyph for each: the fewest
-/// parts that do, or the most. Whether there are such parts; if not, nothing is added.
 ///
-/// # Requires
+/// # Proved
 ///
-/// - `length parts.old.items + steps < 9`
-pub(crate) fn add_parts(parts: &mut Parts, taking: &Taking, character: char, steps: usize) -> bool {
-    if steps == 0 {
-        return false;
+/// ```text
+/// ghost font = { λ taking. font_of taking.face.now taking.shaper taking.shortest }
+/// ```
+impl FontCharacters for Taking<'_> {
+    fn has_glyph(&self, character: u32) -> bool {
+        self.face.glyph_index(character).is_some()
     }
-    let Some((first, second)) = taking.shaper.decompose(character) else {
-        return false;
-    };
-    if second.is_some_and(|second| !taking.face.has_glyph(second))
-        || !add_first(parts, taking, first, steps)
-    {
-        return false;
+
+    fn parts_of(&self, character: u32) -> Option<(u32, u32)> {
+        parts_of(self.shaper, character)
     }
-    if let Some(second) = second {
-        parts.push(second);
+
+    fn takes_fewest(&self) -> bool {
+        self.shortest
     }
-    true
 }
 
-/// Adds the first part of a character, or the parts of that.
-///
-/// # Requires
-///
-/// - `some: 0 < steps`
-/// - `room: length parts.old.items + steps < 9`
-fn add_first(parts: &mut Parts, taking: &Taking, first: char, steps: usize) -> bool {
-    debug_assert!(0 < steps);
-    let has_first = taking.face.has_glyph(first);
-    if taking.shortest && has_first {
-        parts.push(first);
-        return true;
+/// The two parts of a code point, the second U+0000 where there is none.
+fn parts_of(shaper: ScriptShaper, character: u32) -> Option<(u32, u32)> {
+    match char::from_u32(character) {
+        Some(character) => parts_of_char(shaper, character),
+        None => None,
     }
-    if add_parts(parts, taking, first, steps - 1) {
-        return true;
+}
+
+/// Those of a character.
+fn parts_of_char(shaper: ScriptShaper, character: char) -> Option<(u32, u32)> {
+    with_zero(shaper.decompose(character))
+}
+
+/// Two parts, with U+0000 where there is no second.
+fn with_zero(parts: Option<(char, Option<char>)>) -> Option<(u32, u32)> {
+    match parts {
+        Some((first, Some(second))) => Some((first as u32, second as u32)),
+        Some((first, None)) => Some((first as u32, 0)),
+        None => None,
     }
-    if has_first {
-        parts.push(first);
-    }
-    has_first
 }

@@ -3,17 +3,17 @@
 //! The third round of normalization: marks are composed with the character before them, where the font has the composed
 //! character.
 
-use super::drop_behind;
+use super::pairs::Composing;
+use super::reordering::KeptClasses;
 use crate::buffer::{hb_buffer_t, hb_glyph_info_t};
-use crate::common::GlyphId;
 use crate::font_shaper::face::Face;
-use crate::font_shaper::glyph_info::{
-    is_unicode_mark, modified_combining_class, set_unicode_props,
-};
+use crate::font_shaper::glyph_info::set_unicode_props;
 use crate::memory::AllocError;
+use crate::passes::normalization::next_turn;
 use crate::script_shapers::ScriptPlan;
 
-/// Composes marks with the last starter before them, unless a mark between blocks them.
+/// Composes marks with the last starter before them, unless a mark between blocks them. The first
+/// character of the text is a starter, whatever it is.
 ///
 /// # Requires
 ///
@@ -24,163 +24,90 @@ pub(crate) fn recompose_all(
     script: &ScriptPlan,
 ) -> Result<bool, AllocError> {
     debug_assert!(!buffer.have_output());
+    if !buffer.successful() {
+        return Ok(false);
+    }
+    let composing = Composing::new(face, script);
+    // Read for what its contract says: the list is no longer than `max_len`.
+    let _ = buffer.len();
     buffer.clear_output();
-    let mut starter = 0;
-    for _turn in 0..buffer.len() {
-        if buffer.lookahead_len() == 0 {
-            break;
-        }
-        match recompose_next(buffer, face, script, starter)? {
-            Some(next) => starter = next,
-            None => return Ok(false),
-        }
+    let mut starter = None;
+    while buffer.lookahead_len() > 0 {
+        starter = recompose_next(buffer, &composing, starter);
     }
     buffer.sync()
 }
 
-/// Reads a character, and composes it with the starter at a place of the out side, or puts it out.
+/// Reads a character, and composes it with the last starter, which stands at this place of the out
+/// side, or puts it out. Gives the place of the last starter.
 ///
 /// # Requires
 ///
-/// - `opened: buffer.old.have_output ≡ true`
-/// - `glyph: 0 < length buffer.old.input`
-///
-/// # Errors
-///
-/// Gives the place of the last starter; `None` where a call was refused.
+/// - `ready: IsReady buffer.old`
+/// - `some: 0 < length buffer.old.input`
+/// - `place: IsPlace starter buffer.old`
 fn recompose_next(
     buffer: &mut hb_buffer_t,
-    face: &Face,
-    script: &ScriptPlan,
-    starter: usize,
-) -> Result<Option<usize>, AllocError> {
-    debug_assert!(buffer.have_output());
+    composing: &Composing,
+    starter: Option<usize>,
+) -> Option<usize> {
     debug_assert!(!buffer.info().is_empty());
-    let composite = composite_of(buffer.out_info(), buffer.cur(0), script, starter);
-    if let Some(composed) = composite
-        && let Some(glyph) = face.glyph_index(composed as u32)
-    {
-        let was_composed = compose_current(buffer, starter, composed, glyph)?;
-        return Ok(if was_composed { Some(starter) } else { None });
-    }
-    let is_starter = modified_combining_class(buffer.cur(0)) == 0;
-    let place = buffer.out_len();
-    if !buffer.next_glyph()? {
-        return Ok(None);
-    }
-    Ok(Some(if is_starter { place } else { starter }))
-}
-
-/// What the starter and a mark compose to: the marks between them have lower classes.
-fn composite_of(
-    out: &[hb_glyph_info_t],
-    mark: &hb_glyph_info_t,
-    script: &ScriptPlan,
-    starter: usize,
-) -> Option<char> {
-    if !is_unicode_mark(mark) {
-        return None;
-    }
-    let first = out.get(starter)?;
-    let last = out.last()?;
-    let is_blocked = starter + 1 != out.len()
-        && modified_combining_class(last) >= modified_combining_class(mark);
-    if is_blocked {
-        return None;
-    }
-    script.shaper.compose(
-        char::from_u32(first.glyph_id)?,
-        char::from_u32(mark.glyph_id)?,
-        script.has_gpos_mark,
-    )
-}
-
-/// Merges the current character into the starter, which becomes another character.
-///
-/// # Requires
-///
-/// - `opened: buffer.old.have_output ≡ true`
-/// - `glyph: 0 < length buffer.old.input`
-fn compose_current(
-    buffer: &mut hb_buffer_t,
-    starter: usize,
-    composed: char,
-    glyph: GlyphId,
-) -> Result<bool, AllocError> {
-    debug_assert!(buffer.have_output());
-    debug_assert!(!buffer.info().is_empty());
-    if !buffer.next_glyph()? {
-        return Ok(false);
-    }
-    let end = buffer.out_len();
-    if starter > end {
-        return Ok(false);
-    }
-    buffer.merge_out_clusters(starter, end);
+    let starter = starter_or_first(buffer, starter);
     let count = buffer.out_len();
-    if count == 0 || !buffer.move_to(count - 1)? || buffer.lookahead_len() == 0 {
-        return Ok(false);
+    let next = next_turn(buffer, composing, &KeptClasses, starter);
+    if buffer.out_len() == count {
+        set_composed(buffer, composing.face, next);
     }
-    drop_behind(buffer);
-    set_composed(buffer, starter, composed, glyph);
-    Ok(true)
+    next
 }
 
-/// Sets the character at a place of the out side.
+/// The last starter, or the first character where there is none yet.
 ///
 /// # Requires
 ///
-/// - `buffer.old.have_output ≡ true`
-fn set_composed(buffer: &mut hb_buffer_t, place: usize, composed: char, glyph: GlyphId) {
-    debug_assert!(buffer.have_output());
-    let scratch_flags = set_in_out(buffer, place, composed, glyph);
+/// - `IsPlace starter buffer.now`
+fn starter_or_first(buffer: &hb_buffer_t, starter: Option<usize>) -> Option<usize> {
+    match starter {
+        None if buffer.out_len() > 0 => Some(0),
+        starter => starter,
+    }
+}
+
+/// Finds the glyph and the properties of the last starter.
+///
+/// # Requires
+///
+/// - `IsReady buffer.old`
+fn set_composed(buffer: &mut hb_buffer_t, face: &Face, starter: Option<usize>) {
+    let scratch_flags = set_in_out(buffer, face, starter);
     buffer.scratch_flags = scratch_flags;
 }
 
-/// Sets the character at a place of a buffer's out side; the scratch flags that then hold.
-///
-/// # Requires
-///
-/// - `buffer.old.have_output ≡ true`
-fn set_in_out(buffer: &mut hb_buffer_t, place: usize, composed: char, glyph: GlyphId) -> u32 {
-    debug_assert!(buffer.have_output());
+/// Finds those of the last starter, which stands at this place of the out side; the scratch flags that
+/// then hold.
+fn set_in_out(buffer: &mut hb_buffer_t, face: &Face, starter: Option<usize>) -> u32 {
     let mut scratch_flags = buffer.scratch_flags;
-    if place < buffer.out_len() {
-        set_at(
-            buffer.out_info_mut(),
-            place,
-            composed,
-            glyph,
-            &mut scratch_flags,
-        );
-    }
+    set_at(buffer.out_info_mut(), face, starter, &mut scratch_flags);
     scratch_flags
 }
 
-/// Sets the character at a place.
-///
-/// # Requires
-///
-/// - `place < length infos.old`
+/// Finds those of the character at a place, if there is one.
 fn set_at(
     infos: &mut [hb_glyph_info_t],
-    place: usize,
-    composed: char,
-    glyph: GlyphId,
+    face: &Face,
+    place: Option<usize>,
     scratch_flags: &mut u32,
 ) {
-    debug_assert!(place < infos.len());
-    set_character(&mut infos[place], composed, glyph, scratch_flags);
+    if let Some(place) = place
+        && place < infos.len()
+    {
+        set_character(&mut infos[place], face, scratch_flags);
+    }
 }
 
-/// Makes another character of this one, with its glyph.
-fn set_character(
-    info: &mut hb_glyph_info_t,
-    composed: char,
-    glyph: GlyphId,
-    scratch_flags: &mut u32,
-) {
-    info.glyph_id = composed as u32;
-    info.set_glyph_index(u32::from(glyph.0));
+/// Finds the glyph and the properties of a character.
+fn set_character(info: &mut hb_glyph_info_t, face: &Face, scratch_flags: &mut u32) {
+    let glyph = face.glyph_index(info.glyph_id);
+    info.set_glyph_index(glyph.map_or(0, |glyph| u32::from(glyph.0)));
     set_unicode_props(info, scratch_flags);
 }

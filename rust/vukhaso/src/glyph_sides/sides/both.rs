@@ -115,10 +115,10 @@ impl Sides {
         let at = if self.is_open { self.cursor } else { 0 };
         if self.is_separate {
             let input = &mut self.info[at..];
-            range_change::change_range(&mut self.out_info, input, from, to, change);
+            range_change::change(&mut self.out_info, input, from, to, change);
             return;
         }
-        one_slice::change_range(&mut self.info, at - self.gap..at, from, to, change);
+        one_slice::change(&mut self.info, at - self.gap..at, from, to, change);
     }
 
     /// Scans the input's glyphs from `start` to `end`, counted from its start. With an output open, `start`
@@ -135,7 +135,7 @@ impl Sides {
     /// ```text
     /// ensures is { self.new ≡ record self.old {
     ///       input = on_part (scan_of (is_any order) bits) self.old.input
-    ///           (left_place start self.old) (left_place end self.old);
+    ///           (input_place start self.old) (input_place end self.old);
     ///     } }
     /// ensures out_len { length self.new.out ≡ length self.old.out }
     /// ensures input_len { length self.new.input ≡ length self.old.input }
@@ -172,12 +172,12 @@ impl Sides {
         debug_assert!(!self.input().is_empty());
         if self.is_separate {
             let at = self.cursor;
-            deletion::delete_head(&mut self.out_info, &mut self.info[at..], order);
+            deletion::keep_cluster(&mut self.out_info, &mut self.info[at..], order);
             self.cursor += 1;
             return;
         }
         let (gap, cursor) = (self.gap, self.cursor);
-        one_slice::delete_head(&mut self.info, cursor - gap..cursor, order);
+        one_slice::keep_cluster(&mut self.info, cursor - gap..cursor, order);
         self.gap = gap + 1;
         self.cursor = cursor + 1;
     }

@@ -19,7 +19,7 @@ impl Sides {
     ///
     /// As many glyphs there.
     ///
-    /// - `n ≤ left self.old`
+    /// - `n ≤ lookahead_len self.old`
     ///
     /// # Errors
     ///
@@ -33,7 +33,6 @@ impl Sides {
     /// ```
     #[inline(always)]
     pub fn next(&mut self, n: usize) -> Result<(), AllocError> {
-        debug_assert!(n <= self.left());
         if self.is_separate {
             return self.next_separate(n);
         }
@@ -52,7 +51,7 @@ impl Sides {
     ///
     /// One at the cursor.
     ///
-    /// - `0 < left self.old`
+    /// - `0 < lookahead_len self.old`
     ///
     /// # Errors
     ///
@@ -66,7 +65,6 @@ impl Sides {
     /// ```
     #[inline(always)]
     pub fn next_one(&mut self) -> Result<(), AllocError> {
-        debug_assert!(0 < self.left());
         if self.is_separate {
             return self.next_one_separate();
         }
@@ -88,6 +86,7 @@ impl Sides {
     /// - `opened: self.old.is_open ≡ true`
     /// - `separate: self.old.is_separate ≡ true`
     /// - `glyph: 0 < length self.old.input`
+    #[inline(always)]
     fn next_one_separate(&mut self) -> Result<(), AllocError> {
         debug_assert!(self.is_open());
         debug_assert!(self.is_separate());
@@ -120,7 +119,7 @@ impl Sides {
     ///
     /// As many glyphs there.
     ///
-    /// - `count ≤ left self.old`
+    /// - `count ≤ lookahead_len self.old`
     ///
     /// # Proved
     ///
@@ -129,7 +128,6 @@ impl Sides {
     /// ```
     #[inline(always)]
     pub fn skip(&mut self, count: usize) {
-        debug_assert!(count <= self.left());
         if self.is_open && !self.is_separate {
             self.gap += count;
         }

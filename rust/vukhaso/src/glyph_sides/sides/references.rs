@@ -13,7 +13,7 @@ impl Sides {
     ///
     /// That there is one.
     ///
-    /// - `i < left self.now`
+    /// - `i < lookahead_len self.now`
     ///
     /// # Proved
     ///
@@ -22,7 +22,6 @@ impl Sides {
     /// ```
     #[inline(always)]
     pub fn cur(&self, i: usize) -> &hb_glyph_info_t {
-        debug_assert!(i < self.left());
         &self.info[self.cursor + i]
     }
 
@@ -30,7 +29,7 @@ impl Sides {
     ///
     /// # Requires
     ///
-    /// - `i < left self.old`
+    /// - `i < lookahead_len self.old`
     ///
     /// # Proved
     ///
@@ -41,7 +40,6 @@ impl Sides {
     /// ```
     #[inline(always)]
     pub fn cur_mut(&mut self, i: usize) -> &mut hb_glyph_info_t {
-        debug_assert!(i < self.left());
         &mut self.info[self.cursor + i]
     }
 

@@ -2,8 +2,8 @@
 
 //! Pairs of characters are composed.
 
-use super::parts::{class_of, composed_of};
-use crate::buffer::{CombiningClasses, Compositions, hb_buffer_t};
+use super::rules::{CharacterPairs, MarkClasses};
+use crate::buffer::hb_buffer_t;
 use crate::memory::AllocError;
 
 /// Composes pairs of characters: the last starter and each character after it that is not blocked,
@@ -27,9 +27,9 @@ use crate::memory::AllocError;
 /// ensures result { result ≡ Ok buffer.old.successful }
 /// ensures refused { buffer.old.successful ≡ false → buffer.new ≡ buffer.old }
 /// ensures composed { buffer.old.successful ≡ true → cores buffer.new.input
-///     ≡ composed compositions.now classes.now (cores buffer.old.input) }
+///     ≡ composed (P.pairs compositions.now) (C.classes classes.now) (cores buffer.old.input) }
 /// ensures glyphs { buffer.old.successful ≡ true → buffer.new.input
-///     ≡ composed_glyphs (any_order buffer.old) compositions.now classes.now buffer.old.input }
+///     ≡ composed_glyphs (any_order buffer.old) (P.pairs compositions.now) (C.classes classes.now) buffer.old.input }
 /// ensures monotone { IsMonotone buffer.old.input → IsMonotone buffer.new.input }
 /// ensures merges { any_order buffer.old ≡ false → IsCoarse buffer.old.input
 ///     → IsCoarse buffer.new.input }
@@ -37,10 +37,10 @@ use crate::memory::AllocError;
 ///     → buffer.new ≡ closed_over buffer.new.input buffer.old }
 /// ```
 #[inline]
-pub fn compose_marks(
+pub fn compose_marks<P: CharacterPairs, C: MarkClasses>(
     buffer: &mut hb_buffer_t,
-    compositions: &Compositions,
-    classes: &CombiningClasses,
+    compositions: &P,
+    classes: &C,
 ) -> Result<bool, AllocError> {
     debug_assert!(!buffer.have_output());
     if !buffer.successful() {
@@ -64,10 +64,33 @@ pub fn compose_marks(
 /// - `ready: IsReady buffer.old`
 /// - `some: 0 < length buffer.old.input`
 /// - `place: IsPlace starter buffer.old`
-fn next_turn(
+///
+/// # Proved
+///
+/// ```text
+/// ensures ready { IsReady buffer.new }
+/// ensures place { IsPlace result buffer.new }
+/// ensures same { so_far (P.pairs compositions.now) (C.classes classes.now) result (cores buffer.new.out) (cores buffer.new.input)
+///     ≡ so_far (P.pairs compositions.now) (C.classes classes.now) starter (cores buffer.old.out) (cores buffer.old.input) }
+/// ensures glyphs { composed_at (any_order buffer.old) (P.pairs compositions.now) (C.classes classes.now) result (length buffer.new.out)
+///     (length buffer.new.input) (both buffer.new)
+///     ≡ composed_at (any_order buffer.old) (P.pairs compositions.now) (C.classes classes.now) starter (length buffer.old.out)
+///     (length buffer.old.input) (both buffer.old) }
+/// ensures merges { any_order buffer.old ≡ false → IsCoarse (both buffer.old)
+///     → IsCoarse (both buffer.new) }
+/// ensures others { buffer.new ≡ record buffer.old {
+///       out = buffer.new.out;
+///       input = buffer.new.input;
+///       idx = buffer.new.idx;
+///     } }
+/// ensures shorter { length buffer.new.input < length buffer.old.input }
+/// ensures keeps { KeepsClusters buffer.old buffer.new }
+/// ```
+#[inline]
+pub fn next_turn<P: CharacterPairs, C: MarkClasses>(
     buffer: &mut hb_buffer_t,
-    compositions: &Compositions,
-    classes: &CombiningClasses,
+    compositions: &P,
+    classes: &C,
     starter: Option<usize>,
 ) -> Option<usize> {
     debug_assert!(!buffer.info().is_empty());
@@ -89,13 +112,13 @@ fn next_turn(
 ///
 /// - `ready: IsReady buffer.old`
 /// - `some: 0 < length buffer.old.input`
-fn keep_behind(
+fn keep_behind<C: MarkClasses>(
     buffer: &mut hb_buffer_t,
-    classes: &CombiningClasses,
+    classes: &C,
     starter: Option<usize>,
 ) -> Option<usize> {
     debug_assert!(!buffer.info().is_empty());
-    let class = class_of(classes, buffer.cur(0).glyph_id);
+    let class = classes.class_of(buffer.cur(0));
     let at = buffer.out_len();
     keep_one(buffer);
     if class == 0 { Some(at) } else { starter }
@@ -108,22 +131,22 @@ fn keep_behind(
 /// - `opened: buffer.now.have_output ≡ true`
 /// - `some: 0 < length buffer.now.input`
 /// - `place: at < length buffer.now.out`
-fn pair_at(
+fn pair_at<P: CharacterPairs, C: MarkClasses>(
     buffer: &hb_buffer_t,
-    compositions: &Compositions,
-    classes: &CombiningClasses,
+    compositions: &P,
+    classes: &C,
     at: usize,
 ) -> Option<u32> {
     debug_assert!(buffer.have_output());
     debug_assert!(!buffer.info().is_empty());
     debug_assert!(at < buffer.out_len());
     let out = buffer.out_info();
-    let id = buffer.cur(0).glyph_id;
+    let info = buffer.cur(0);
     let last = out.len() - 1;
-    if at < last && class_of(classes, id) <= class_of(classes, out[last].glyph_id) {
+    if at < last && classes.class_of(info) <= classes.class_of(&out[last]) {
         return None;
     }
-    composed_of(compositions, out[at].glyph_id, id)
+    compositions.composed_of(&out[at], info)
 }
 
 /// Merges the glyph at the cursor into the one at place `at` of the out side, which gets another id.

@@ -15,7 +15,7 @@ pub(crate) fn parts_of(decompositions: &Decompositions, id: u32) -> Option<(u32,
     }
 }
 
-/// The same of a character.
+/// The two parts of a character, by the rule of Hangul or by the table.
 fn parts_of_char(decompositions: &Decompositions, c: char) -> Option<(char, char)> {
     crate::glyph::decompose(decompositions, c)
 }

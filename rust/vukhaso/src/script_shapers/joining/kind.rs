@@ -2,8 +2,8 @@
 
 //! The types of letters by which they join.
 
+use crate::glyph::row_search::{range_order, row_at};
 use crate::script_shapers::joining::rows::ROWS;
-use crate::script_shapers::joining::search::kind_in;
 
 /// How a character joins its neighbours (Unicode, Joining_Type, and for two groups of Syriac letters Joining_Group).
 #[derive(Clone, Copy, PartialEq, Eq, Debug)]
@@ -109,4 +109,13 @@ pub fn joining_type(character: u32, is_mark_or_format: bool) -> JoiningType {
         None if is_mark_or_format => Transparent,
         None => NonJoining,
     }
+}
+
+/// What the row that holds the character has.
+///
+/// # Requires
+///
+/// - `IsTrue (are_apart rows.now)`
+fn kind_in(rows: &[(char, char, JoiningType)], c: u32) -> Option<JoiningType> {
+    row_at(rows, |row| range_order(row.0 as u32, row.1 as u32, c)).map(|row| row.2)
 }

@@ -2,10 +2,10 @@
 
 //! The category of a character, by bisection.
 
+use crate::glyph::row_search::{range_order, row_at};
 use crate::syllabic_shapers::category::Category;
 use crate::syllabic_shapers::category::position::Position;
 use crate::syllabic_shapers::category::rows::ROWS;
-use core::cmp::Ordering;
 
 /// What a character is in a syllable, and where it stands there.
 ///
@@ -14,19 +14,10 @@ use core::cmp::Ordering;
 /// That it returns.
 #[inline]
 pub fn category_of(character: u32) -> (Category, Position) {
-    match ROWS.binary_search_by(|row| place(row, character)) {
-        Ok(at) => (ROWS[at].2, ROWS[at].3),
-        Err(_) => (Category::Other, Position::End),
-    }
-}
-
-/// Where the row lies from the character.
-fn place(row: &(char, char, Category, Position), character: u32) -> Ordering {
-    if character < row.0 as u32 {
-        Ordering::Greater
-    } else if (row.1 as u32) < character {
-        Ordering::Less
-    } else {
-        Ordering::Equal
+    match row_at(&ROWS, |row| {
+        range_order(row.0 as u32, row.1 as u32, character)
+    }) {
+        Some(row) => (row.2, row.3),
+        None => (Category::Other, Position::End),
     }
 }

@@ -8,7 +8,7 @@ use crate::memory::AllocError;
 use crate::syllabic_shapers::category::Category;
 use crate::syllabic_shapers::category::position::Position;
 use crate::syllabic_shapers::clusters::merge;
-use crate::syllabic_shapers::dotted_circle::{Circle, DOTTED_CIRCLE, insert_dotted_circles};
+use crate::syllabic_shapers::dotted_circle::{CircleKind, insert_dotted_circles};
 use crate::syllabic_shapers::font::{FontForms, FormFeature};
 use crate::syllabic_shapers::indic::base::{Base, find_base};
 use crate::syllabic_shapers::indic::initial_masks::{mask_pref, set_masks};
@@ -22,6 +22,13 @@ use core::ops::Range;
 
 /// The kinds of syllables that are reordered come before this one, but for symbols.
 const SYMBOL: u8 = 3;
+
+const CIRCLE: CircleKind = CircleKind {
+    category: Category::DottedCircle as u8,
+    position: Position::End,
+    repha: Some(Category::Repha as u8),
+    broken: BROKEN,
+};
 
 /// Puts the glyphs of each syllable in order.
 ///
@@ -37,17 +44,8 @@ pub(crate) fn order_initially<F: FontForms>(
     if let Some(virama) = plan.virama_glyph(font) {
         place_consonants(buffer, font, virama);
     }
-    if let Some(glyph) = font.glyph_of(DOTTED_CIRCLE) {
-        let circle = Circle {
-            glyph,
-            category: Category::DottedCircle as u8,
-            position: Position::End,
-            repha: Some(Category::Repha as u8),
-            broken: BROKEN,
-        };
-        if !insert_dotted_circles(buffer, &circle)? {
-            return Ok(false);
-        }
+    if !insert_dotted_circles(buffer, font, CIRCLE)? {
+        return Ok(false);
     }
     order_syllables(buffer, plan, font)?;
     Ok(true)

@@ -6,7 +6,7 @@ use crate::buffer::hb_buffer_t;
 use crate::memory::AllocError;
 use crate::syllabic_shapers::category::Category;
 use crate::syllabic_shapers::category::position::Position;
-use crate::syllabic_shapers::dotted_circle::{Circle, DOTTED_CIRCLE, insert_dotted_circles};
+use crate::syllabic_shapers::dotted_circle::{CircleKind, insert_dotted_circles};
 use crate::syllabic_shapers::font::FontForms;
 use crate::syllabic_shapers::machine::Machine;
 use crate::syllabic_shapers::myanmar::machine_rows::{ENDS, NEXT, OTHER, WIDTH};
@@ -15,6 +15,13 @@ use crate::syllabic_shapers::syllables::find_syllables;
 
 /// The kind of syllables without a base.
 pub(crate) const BROKEN: u8 = 1;
+
+const CIRCLE: CircleKind = CircleKind {
+    category: Category::DottedCircle as u8,
+    position: Position::Start,
+    repha: None,
+    broken: BROKEN,
+};
 
 /// Finds the syllables, before the first lookups.
 ///
@@ -48,17 +55,8 @@ pub(crate) fn reordering<F: FontForms>(
     font: &F,
 ) -> Result<bool, AllocError> {
     debug_assert!(!buffer.have_output());
-    if let Some(glyph) = font.glyph_of(DOTTED_CIRCLE) {
-        let circle = Circle {
-            glyph,
-            category: Category::DottedCircle as u8,
-            position: Position::Start,
-            repha: None,
-            broken: BROKEN,
-        };
-        if !insert_dotted_circles(buffer, &circle)? {
-            return Ok(false);
-        }
+    if !insert_dotted_circles(buffer, font, CIRCLE)? {
+        return Ok(false);
     }
     order_syllables(buffer);
     Ok(true)

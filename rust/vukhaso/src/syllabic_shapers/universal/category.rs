@@ -2,8 +2,8 @@
 
 //! What a character is in a syllable of the universal shaper.
 
+use crate::glyph::row_search::{range_order, row_at};
 use crate::syllabic_shapers::universal::rows::ROWS;
-use core::cmp::Ordering;
 
 /// What a character is in a syllable (OpenType, "Creating and supporting OpenType fonts for the Universal Shaping Engine", "Character
 /// classification").
@@ -106,19 +106,8 @@ pub enum UniversalCategory {
 /// That it returns.
 #[inline]
 pub fn universal_category_of(character: u32) -> UniversalCategory {
-    match ROWS.binary_search_by(|row| place(row, character)) {
-        Ok(at) => ROWS[at].2,
-        Err(_) => UniversalCategory::Other,
-    }
-}
-
-/// Where the row lies from the character.
-fn place(row: &(u32, u32, UniversalCategory), character: u32) -> Ordering {
-    if character < row.0 {
-        Ordering::Greater
-    } else if row.1 < character {
-        Ordering::Less
-    } else {
-        Ordering::Equal
+    match row_at(&ROWS, |row| range_order(row.0, row.1, character)) {
+        Some(row) => row.2,
+        None => UniversalCategory::Other,
     }
 }

@@ -5,7 +5,7 @@
 use crate::buffer::hb_buffer_t;
 use crate::memory::AllocError;
 use crate::syllabic_shapers::category::position::Position;
-use crate::syllabic_shapers::dotted_circle::{Circle, DOTTED_CIRCLE, insert_dotted_circles};
+use crate::syllabic_shapers::dotted_circle::{CircleKind, insert_dotted_circles};
 use crate::syllabic_shapers::font::FontForms;
 use crate::syllabic_shapers::machine::Machine;
 use crate::syllabic_shapers::plan::SyllablePause;
@@ -21,6 +21,13 @@ use crate::syllabic_shapers::universal::recorded::{
 
 /// The kind of syllables without a base.
 pub(crate) const BROKEN: u8 = 7;
+
+const CIRCLE: CircleKind = CircleKind {
+    category: UniversalCategory::Base as u8,
+    position: Position::Start,
+    repha: Some(UniversalCategory::Repha as u8),
+    broken: BROKEN,
+};
 
 /// How a text of the universal shaper is shaped by a font.
 #[derive(Clone, Copy, PartialEq, Eq, Debug, Default)]
@@ -102,17 +109,8 @@ impl UniversalPlan {
 /// - `buffer.old.have_output ≡ false`
 fn reordering<F: FontForms>(buffer: &mut hb_buffer_t, font: &F) -> Result<bool, AllocError> {
     debug_assert!(!buffer.have_output());
-    if let Some(glyph) = font.glyph_of(DOTTED_CIRCLE) {
-        let circle = Circle {
-            glyph,
-            category: UniversalCategory::Base as u8,
-            position: Position::Start,
-            repha: Some(UniversalCategory::Repha as u8),
-            broken: BROKEN,
-        };
-        if !insert_dotted_circles(buffer, &circle)? {
-            return Ok(false);
-        }
+    if !insert_dotted_circles(buffer, font, CIRCLE)? {
+        return Ok(false);
     }
     order_syllables(buffer);
     Ok(true)

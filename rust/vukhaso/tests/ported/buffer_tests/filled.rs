@@ -19,7 +19,7 @@ const LIMIT: usize = 130;
 #[derive(Clone, Copy)]
 struct Filled<'a> {
     before: &'a [(usize, Call<'a>)],
-    apart: (usize, usize),
+    separate: (usize, usize),
     last: Call<'a>,
     sides: (usize, usize),
     ends: (u32, u32),
@@ -71,7 +71,7 @@ fn assert_filled(run: &Filled<'_>) -> Result<(), Fail> {
     for (times, call) in run.before {
         make(&mut buffer, *times, *call);
     }
-    assert!(buffer.have_separate_output() && sides(&buffer) == run.apart);
+    assert!(buffer.have_separate_output() && sides(&buffer) == run.separate);
     make(&mut buffer, 1, run.last);
     assert!(sides(&buffer) == run.sides);
     assert_ends(&buffer, run.ends);

@@ -13,11 +13,11 @@ fn buffer_of(glyphs: &[(u32, u32)]) -> hb_buffer_t {
     for (glyph, (_, mask)) in buffer.info_slice_mut().iter_mut().zip(glyphs) {
         glyph.mask = *mask;
     }
-    place(&mut buffer);
+    set_advances(&mut buffer);
     buffer
 }
 
-fn place(buffer: &mut hb_buffer_t) {
+fn set_advances(buffer: &mut hb_buffer_t) {
     assert!(!buffer.have_output());
     buffer.clear_positions();
     for (pos, advance) in buffer.pos_mut().iter_mut().zip([10, 20, 30, 40, 50]) {

@@ -118,7 +118,7 @@ fn refused(text: &str) -> hb_buffer_t {
 }
 
 /// Advances of 10, 20 and so on.
-fn place(buffer: &mut hb_buffer_t) {
+fn set_advances(buffer: &mut hb_buffer_t) {
     assert!(!buffer.have_output());
     buffer.clear_positions();
     for (position, advance) in buffer.pos_mut().iter_mut().zip([10, 20, 30, 40, 50]) {
@@ -131,7 +131,7 @@ fn place(buffer: &mut hb_buffer_t) {
 fn clusters_change_places() {
     let mut buffer = buffer_of("abcd");
     merge_middle(&mut buffer);
-    place(&mut buffer);
+    set_advances(&mut buffer);
     assert_cluster_count(&buffer, 3);
     assert!(!buffer.have_output());
     reverse_clusters(&mut buffer);
@@ -161,7 +161,7 @@ fn marks_stay_behind_their_bases() {
 
 fn assert_reversed(merge: bool, clusters: &[u32]) {
     let mut buffer = buffer_of("ae\u{301}b");
-    place(&mut buffer);
+    set_advances(&mut buffer);
     assert!(!buffer.have_output());
     reverse_with_marks(&mut buffer, &[0x300, 0x301], merge);
     assert_ids(buffer.info(), &[98, 101, 0x301, 97]);

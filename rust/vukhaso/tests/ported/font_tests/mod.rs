@@ -5,6 +5,8 @@
 #[cfg(test)]
 mod characters;
 #[cfg(test)]
+mod color;
+#[cfg(test)]
 mod outlines;
 #[cfg(test)]
 mod tables;

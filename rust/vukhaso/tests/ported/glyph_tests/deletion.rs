@@ -2,7 +2,7 @@
 
 use crate::glyph_tests::lists::{assert_clusters, assert_glyphs, glyph, glyphs};
 use vukhaso::glyph_lists::cluster_order::ClusterOrder::{Any, Monotone};
-use vukhaso::glyph_lists::deletion::{delete_head, merges_next, set_trailing_run};
+use vukhaso::glyph_lists::deletion::{keep_cluster, merges_next, set_trailing_run};
 
 /// What was put out, if anything, and the current glyph with the two glyphs after it.
 #[test]
@@ -19,7 +19,7 @@ fn a_lower_cluster_is_kept() {
         let mut out = glyphs(before);
         let mut input = glyphs(input);
         assert!(out_len <= 2);
-        delete_head(&mut out[..out_len], &mut input, order);
+        keep_cluster(&mut out[..out_len], &mut input, order);
         assert_clusters(&out, &after);
         assert_glyphs(&input[1..], &rest);
     }

@@ -25,12 +25,12 @@ fn opened(clusters: &[u32]) -> Sides {
 }
 
 fn next(sides: &mut Sides, n: usize) {
-    assert!(n <= sides.left());
+    assert!(n <= sides.lookahead_len());
     assert!(sides.next(n).is_ok());
 }
 
 fn skip(sides: &mut Sides, n: usize) {
-    assert!(n <= sides.left());
+    assert!(n <= sides.lookahead_len());
     sides.skip(n);
 }
 
@@ -56,7 +56,7 @@ fn assert_sides(sides: &Sides, out: &[u32], input: &[u32], is_separate: bool) {
 #[test]
 fn glyphs_are_put_out_in_place() {
     let mut sides = opened(&[0, 1, 2, 3, 4]);
-    assert!(sides.left() > 0);
+    assert!(sides.lookahead_len() > 0);
     assert!(sides.next_one().is_ok());
     skip(&mut sides, 1);
     put(&mut sides, 9, 0);
@@ -78,12 +78,12 @@ fn more_than_was_read_is_separate() {
     put(&mut sides, 8, 1);
     next(&mut sides, 1);
     assert_sides(&sides, &[7, 8, 1], &[2], true);
-    assert!(sides.left() > 0);
+    assert!(sides.lookahead_len() > 0);
     assert!(sides.len() <= 3);
     assert!(sides.out_len() <= 3);
     assert!(sides.next_exceeds(1, 3));
     assert!(sides.out_len() > 1);
-    assert!(sides.take_back(1).is_ok());
+    assert!(sides.rewind(1).is_ok());
     assert_sides(&sides, &[7], &[8, 1, 2], true);
     close(&mut sides);
     assert_sides(&sides, &[], &[7, 8, 1, 2], false);
@@ -130,7 +130,7 @@ fn both_sides_are_merged_and_marked_as_one_list() {
     assert!(!sides.input().is_empty());
     sides.delete_head(ClusterOrder::Monotone);
     assert!(sides.out_len() == 1);
-    assert!(sides.left() == 2);
+    assert!(sides.lookahead_len() == 2);
 }
 
 #[test]
@@ -156,7 +156,7 @@ fn scans_mark_outside_the_least_cluster() {
 fn single_glyphs_are_read_and_written() {
     let mut sides = opened(&[0, 1, 2]);
     next(&mut sides, 1);
-    assert!(sides.left() > 1);
+    assert!(sides.lookahead_len() > 1);
     assert!(sides.cur(1).cluster == 2);
     sides.cur_mut(1).cluster = 7;
     assert!(sides.out_len() > 0);

@@ -3,6 +3,8 @@
 //! Tests of `shaping_passes`, over what it makes public, as in the `tests/` folder of a Rust crate.
 
 #[cfg(test)]
+mod fonts;
+#[cfg(test)]
 mod lines;
 #[cfg(test)]
 mod mark_order;

@@ -1,8 +1,14 @@
 // Written by tools/plain_rust from crates/shaper_tests. Do not edit.
 
-//! Tests of `font_shaper` over a small font, as in the `tests/` folder of a Rust crate. What is expected comes from
-//! HarfBuzz's `hb-shape` over the same font.
+//! Tests of `font_shaper` over small fonts, as in the `tests/` folder of a Rust crate. What is expected comes from
+//! HarfBuzz's `hb-shape` over the same fonts.
 
+#[cfg(test)]
+mod apple;
+#[cfg(test)]
+mod apple_font;
+#[cfg(test)]
+mod color;
 #[cfg(test)]
 mod face;
 #[cfg(test)]

@@ -100,7 +100,7 @@ impl Run<'_> {
     fn make_all(&self, buffer: &mut hb_buffer_t, answers: &mut [Answer; MOST]) -> Result<(), Lost> {
         make_rooms(buffer, self.rooms)?;
         make(buffer, self.calls, answers)?;
-        self.place(buffer);
+        self.set_positions(buffer);
         Ok(())
     }
 
@@ -115,7 +115,7 @@ impl Run<'_> {
     }
 
     /// Turns positions on where that is part of the run.
-    fn place(&self, buffer: &mut hb_buffer_t) {
+    fn set_positions(&self, buffer: &mut hb_buffer_t) {
         if self.is_placed && !buffer.have_output() {
             buffer.clear_positions();
         }
@@ -125,7 +125,7 @@ impl Run<'_> {
         let buffer = &mut begun.buffer;
         self.watch_rooms(begun.level, buffer)?;
         let answers = self.watch_calls(begun.level, buffer)?;
-        self.place(buffer);
+        self.set_positions(buffer);
         if answers != begun.answers {
             return Err(Lost::Answers);
         }

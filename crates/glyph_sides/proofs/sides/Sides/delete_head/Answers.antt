@@ -6,7 +6,7 @@ use Rattle.glyph_sides.proofs.sides.Sides.delete_head.Goals as goal
 pub returns-then-self-clause-is : goal.returns-then-self-clause-is
 returns-then-self-clause-is c =
     let b = c.self.inside in
-    let input = c.delete_head.new.input in
+    let input = c.keep_cluster.new.input in
     let rest = next_left b.cursor (take b.cursor b.info.items ++ input)
-    ∙ ap (drop 1) (behind b.cursor b.info.items input c.self.invariant.cursor_within) ∙ c.delete_head.ensures.rest in
+    ∙ ap (drop 1) (behind b.cursor b.info.items input c.self.invariant.cursor_within) ∙ c.keep_cluster.ensures.rest in
     grind (arith, common_steps, rest)

@@ -11,7 +11,7 @@ returns-clause-done c =
     let placed = b.cursor - b.gap in
     let room : placed + length a.ids.now ≤ b.cursor + a.read = grind (arith, common_steps) in
     let left = drop_further c.write_copies.new.info _ (placed + length a.ids.now) (b.cursor + a.read)
-    room c.write_copies.ensures.left in
+    room c.write_copies.ensures.behind in
     let put = c.write_copies.ensures.put in
     let count = length_copies a.glyph a.ids.now in
     grind (arith, common_steps, left, put, count)

@@ -4,7 +4,7 @@ use Rattle.glyph_lists.specs.ClusterOrder.{is_any}
 use Rattle.glyph_lists.specs.Parts.{on_part}
 use Rattle.glyph_lists.specs.Scans.{scan_of}
 use Rattle.glyph_lists.proofs.SidesLemmas.{on_part-at}
-use Rattle.glyph_sides.specs.TwoLists.{left_place}
+use Rattle.glyph_sides.specs.TwoLists.{input_place}
 use Rattle.glyph_sides.proofs.Views.{sides}
 use Rattle.glyph_sides.proofs.sides.Sides.scan_input.Goals as goal
 
@@ -15,8 +15,8 @@ returns-clause-is c =
     let scan = scan_of (is_any a.order) a.bits in
     let xs = b.info.items in
     let n = if b.is_open then b.cursor else 0 in
-    let p = left_place a.start a.self.now in
-    let q = left_place a.end a.self.now in
+    let p = input_place a.start a.self.now in
+    let q = input_place a.end a.self.now in
     let from : b.front + a.start ≡ n + p = grind (arith) in
     let to : b.front + a.end ≡ n + q = grind (arith) in
     let moved : on_part scan xs (b.front + a.start) (b.front + a.end) ≡ take n xs ++ on_part scan (drop n xs) p q =

@@ -9,38 +9,43 @@ use Rattle.shaping_passes.proofs.NormalizationMergesLemmas.{order_kept}
 use Rattle.shaping_passes.proofs.normalization.composition.compose_marks.Goals as goal
 
 pub loop-starter-init : goal.loop-starter-init
-loop-starter-init c =
+loop-starter-init g c =
     let s = c.args.buffer.now in
     let n : len s ≡ length s.input = cond-false _ _ _ c.requires in
-    turns_begun c.args.compositions.now c.args.classes.now s c.clear_output.new.self c.clear_output.ensures.is
+    turns_begun (g.P.CharacterPairs.pairs c.args.compositions.now) (g.C.MarkClasses.classes c.args.classes.now)
+    (g.met.C.MarkClasses.alike c.args.classes.now) (g.met.P.CharacterPairs.alike c.args.compositions.now) s c.clear_output.new.self c.clear_output.ensures.is
     (search rules) (omega (arith, n, c.len.ensures.within))
 
 pub returns-clause-composed : goal.returns-clause-composed
-returns-clause-composed c = λ _.
+returns-clause-composed g c = λ _.
     let s = c.args.buffer.now in
     let t = c.loop-starter.buffer in
     let k = c.loop-starter.invariant in
     let e : lookahead_len t ≡ t.idx + length t.input - t.idx = ap (λ n. n - t.idx) (cond-true _ _ _ k.ready.opened) in
     let none : length t.input ≡ 0 = omega (arith, e, c.lookahead_len.ensures) in
     ap (λ (x : State). cores x.input)
-    (last_state c.args.compositions.now c.args.classes.now s t c.loop-starter.starter k none c.sync.result c.sync.new.self
+    (last_state (g.P.CharacterPairs.pairs c.args.compositions.now) (g.C.MarkClasses.classes c.args.classes.now)
+    (g.met.C.MarkClasses.alike c.args.classes.now) (g.met.P.CharacterPairs.alike c.args.compositions.now) s t c.loop-starter.starter k none c.sync.result c.sync.new.self
     c.sync.ensures.meets)
-    ∙ last_cores c.args.compositions.now c.args.classes.now s t c.loop-starter.starter k none
+    ∙ last_cores (g.P.CharacterPairs.pairs c.args.compositions.now) (g.C.MarkClasses.classes c.args.classes.now)
+    (g.met.C.MarkClasses.alike c.args.classes.now) (g.met.P.CharacterPairs.alike c.args.compositions.now) s t c.loop-starter.starter k none
 
 pub returns-clause-glyphs : goal.returns-clause-glyphs
-returns-clause-glyphs c = λ _.
+returns-clause-glyphs g c = λ _.
     let s = c.args.buffer.now in
     let t = c.loop-starter.buffer in
     let k = c.loop-starter.invariant in
     let e : lookahead_len t ≡ t.idx + length t.input - t.idx = ap (λ n. n - t.idx) (cond-true _ _ _ k.ready.opened) in
     let none : length t.input ≡ 0 = omega (arith, e, c.lookahead_len.ensures) in
     ap (λ (x : State). x.input)
-    (last_state c.args.compositions.now c.args.classes.now s t c.loop-starter.starter k none c.sync.result c.sync.new.self
+    (last_state (g.P.CharacterPairs.pairs c.args.compositions.now) (g.C.MarkClasses.classes c.args.classes.now)
+    (g.met.C.MarkClasses.alike c.args.classes.now) (g.met.P.CharacterPairs.alike c.args.compositions.now) s t c.loop-starter.starter k none c.sync.result c.sync.new.self
     c.sync.ensures.meets)
-    ∙ last_glyphs c.args.compositions.now c.args.classes.now s t c.loop-starter.starter k none
+    ∙ last_glyphs (g.P.CharacterPairs.pairs c.args.compositions.now) (g.C.MarkClasses.classes c.args.classes.now)
+    (g.met.C.MarkClasses.alike c.args.classes.now) (g.met.P.CharacterPairs.alike c.args.compositions.now) s t c.loop-starter.starter k none
 
 pub returns-clause-monotone : goal.returns-clause-monotone
-returns-clause-monotone c = λ order.
+returns-clause-monotone g c = λ order.
     let s = c.args.buffer.now in
     let t = c.loop-starter.buffer in
     let k = c.loop-starter.invariant in
@@ -48,7 +53,10 @@ returns-clause-monotone c = λ order.
     let none : length t.input ≡ 0 = omega (arith, e, c.lookahead_len.ensures) in
     subst IsMonotone
     (sym (ap (λ (x : State). x.input)
-    (last_state c.args.compositions.now c.args.classes.now s t c.loop-starter.starter k none c.sync.result c.sync.new.self
+    (last_state (g.P.CharacterPairs.pairs c.args.compositions.now) (g.C.MarkClasses.classes c.args.classes.now)
+    (g.met.C.MarkClasses.alike c.args.classes.now) (g.met.P.CharacterPairs.alike c.args.compositions.now) s t c.loop-starter.starter k none c.sync.result c.sync.new.self
     c.sync.ensures.meets)
-    ∙ last_glyphs c.args.compositions.now c.args.classes.now s t c.loop-starter.starter k none))
-    (order_kept c.args.compositions.now c.args.classes.now (any_order s) s.input order)
+    ∙ last_glyphs (g.P.CharacterPairs.pairs c.args.compositions.now) (g.C.MarkClasses.classes c.args.classes.now)
+    (g.met.C.MarkClasses.alike c.args.classes.now) (g.met.P.CharacterPairs.alike c.args.compositions.now) s t c.loop-starter.starter k none))
+    (order_kept (g.P.CharacterPairs.pairs c.args.compositions.now) (g.C.MarkClasses.classes c.args.classes.now)
+    (g.met.C.MarkClasses.alike c.args.classes.now) (g.met.P.CharacterPairs.alike c.args.compositions.now) (any_order s) s.input order)

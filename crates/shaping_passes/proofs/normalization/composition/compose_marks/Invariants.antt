@@ -3,7 +3,8 @@ use Rattle.shaping_passes.proofs.NormalizationCompositionLemmas.{Turns}
 use Rattle.shaping_passes.proofs.normalization.composition.compose_marks.Given as goal
 
 abbrev pub invariant-loop-starter : goal.invariant-loop-starter
-invariant-loop-starter l = Turns l.compositions l.classes l.fn.buffer l.buffer l.starter
+invariant-loop-starter g l = Turns (g.P.CharacterPairs.pairs l.compositions) (g.C.MarkClasses.classes l.classes) (g.met.C.MarkClasses.alike l.classes)
+    (g.met.P.CharacterPairs.alike l.compositions) l.fn.buffer l.buffer l.starter
 
 abbrev pub decreases-loop-starter : goal.decreases-loop-starter
-decreases-loop-starter l = length l.buffer.input
+decreases-loop-starter g l = length l.buffer.input

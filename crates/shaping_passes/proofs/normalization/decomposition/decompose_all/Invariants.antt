@@ -3,8 +3,8 @@ use Rattle.shaping_passes.proofs.NormalizationDecompositionLemmas.{IsAt}
 use Rattle.shaping_passes.proofs.normalization.decomposition.decompose_all.Given as goal
 
 abbrev pub invariant-loop-buffer : goal.invariant-loop-buffer
-invariant-loop-buffer l =
-    (l.fn.buffer.successful ≡ true) × IsAt l.decompositions l.fn.buffer l.buffer
+invariant-loop-buffer g l =
+    (l.fn.buffer.successful ≡ true) × IsAt (g.F.FontCharacters.font l.font) l.fn.buffer l.buffer
 
 abbrev pub decreases-loop-buffer : goal.decreases-loop-buffer
-decreases-loop-buffer l = length l.buffer.input
+decreases-loop-buffer g l = length l.buffer.input

@@ -1,43 +1,64 @@
-use Rattle.std.proofs.Common.{◌≡◌, ℕ, List, ◌++◌, length, take, sym, ap, ◌∙◌, arith, subst}
+use Rattle.std.proofs.Common.{◌≡◌, [], length, take, sym, ap, ◌∙◌, arith, subst}
 use Rattle.std.proofs.lemmas.List.{take_all}
+use Rattle.std.specs.Prelude.{is_some, unwrap_or, ◌&&◌, true, false}
 use Rattle.glyph_lists.specs.Replacement.{copies}
 use Rattle.shaping_buffer.specs.ClusterStep.{head_of}
 use Rattle.shaping_buffer.specs.Step.{Outcome, Meets, put_out, skip_glyph, replace_glyphs}
-use Rattle.shaping_passes.specs.NormalizationParts.{parts_of}
-use Rattle.shaping_passes.specs.NormalizationDecomposition.{decomposition, most_steps}
-use Rattle.shaping_passes.proofs.NormalizationDecompositionLemmas.{decomposition_none, next_one, replaced_one, left}
-use Rattle.shaping_passes.proofs.NormalizationDecompositionLemmas.{head_is}
+use Rattle.shaping_passes.specs.NormalizationDecomposition.{decomposition_with, parts_with, most_steps}
+use Rattle.shaping_passes.proofs.NormalizationDecompositionLemmas.{stays_whole, keeps_whole, gives_way, next_one}
+use Rattle.shaping_passes.proofs.NormalizationDecompositionLemmas.{replaced_one, left, head_is}
 use Rattle.shaping_passes.proofs.normalization.decomposition.decompose_current.Goals as goal
 
-pub returns-in-None : goal.returns-in-None
-returns-in-None c =
+pub returns-then-stays : goal.returns-then-stays
+returns-then-stays g c =
     let s = c.args.buffer.now in
-    let rows = c.args.decompositions.now in
+    let font = g.F.FontCharacters.font c.args.font.now in
     let id = (head_of s).glyph_id in
     let head = head_is s c.cur.result.now c.requires.opened c.requires.some c.cur.ensures in
-    let whole = decomposition_none most_steps rows id
-    (ap (λ g. parts_of rows g.glyph_id) (sym head) ∙ sym c.in-None.ensures) in
+    let stays : (font.fewest && font.has id) ≡ true =
+    ap (λ g. font.fewest && font.has g.glyph_id) (sym head) ∙ sym c.stays.ensures ∙ c.if-stays.true in
     let P : Outcome → Type 0 = λ o. Meets o s c.next_glyph.result c.next_glyph.new.self in
     subst P
     (next_one s c.requires.opened (left s c.requires.opened c.requires.some)
-    ∙ ap (λ ids. put_out (copies (head_of s) ids) s (skip_glyph s)) (sym whole))
+    ∙ ap (λ ids. put_out (copies (head_of s) ids) s (skip_glyph s)) (sym (stays_whole font id stays)))
     c.next_glyph.ensures.meets
 
-pub returns-in-Some : goal.returns-in-Some
-returns-in-Some c =
+pub returns-then-add_font_parts : goal.returns-then-add_font_parts
+returns-then-add_font_parts g c =
     let s = c.args.buffer.now in
-    let rows = c.args.decompositions.now in
+    let font = g.F.FontCharacters.font c.args.font.now in
     let id = (head_of s).glyph_id in
     let head = head_is s c.cur.result.now c.requires.opened c.requires.some c.cur.ensures in
+    let goes : (font.fewest && font.has id) ≡ false =
+    ap (λ g. font.fewest && font.has g.glyph_id) (sym head) ∙ sym c.stays.ensures ∙ c.if-stays.false in
+    let found : is_some (parts_with font most_steps id) ≡ true =
+    ap (λ g. is_some (parts_with font most_steps g.glyph_id)) (sym head) ∙ sym c.add_font_parts.ensures.found
+    ∙ c.if-add_font_parts.true in
     let same = c.deref.ensures.0 in
-    let made = c.add_parts.ensures
-    ∙ ap (λ (l : List ℕ). l ++ decomposition most_steps rows c.cur.result.now.glyph_id) c.new-parts.ensures in
-    let ids : take c.len.result c.deref.result.now ≡ decomposition most_steps rows id =
-    take_all c.len.result c.deref.result.now (omega (arith, ap length same, c.len.ensures.value)) ∙ same ∙ made
-    ∙ ap (λ g. decomposition most_steps rows g.glyph_id) head in
+    let ids : take c.len.result c.deref.result.now ≡ decomposition_with font id =
+    take_all c.len.result c.deref.result.now (omega (arith, ap length same, c.len.ensures.value)) ∙ same
+    ∙ c.add_font_parts.ensures.parts ∙ ap (λ g. unwrap_or (parts_with font most_steps g.glyph_id) []) head
+    ∙ sym (gives_way font id goes found) in
     let P : Outcome → Type 0 = λ o. Meets o s c.replace_glyphs.result c.replace_glyphs.new.self in
     subst P
     (ap (λ l. replace_glyphs 1 l s) ids
-    ∙ replaced_one (decomposition most_steps rows id) s c.requires.opened
-    (left s c.requires.opened c.requires.some))
+    ∙ replaced_one (decomposition_with font id) s c.requires.opened (left s c.requires.opened c.requires.some))
     c.replace_glyphs.ensures.meets
+
+pub returns-else-add_font_parts : goal.returns-else-add_font_parts
+returns-else-add_font_parts g c =
+    let s = c.args.buffer.now in
+    let font = g.F.FontCharacters.font c.args.font.now in
+    let id = (head_of s).glyph_id in
+    let head = head_is s c.cur.result.now c.requires.opened c.requires.some c.cur.ensures in
+    let goes : (font.fewest && font.has id) ≡ false =
+    ap (λ g. font.fewest && font.has g.glyph_id) (sym head) ∙ sym c.stays.ensures ∙ c.if-stays.false in
+    let none : is_some (parts_with font most_steps id) ≡ false =
+    ap (λ g. is_some (parts_with font most_steps g.glyph_id)) (sym head) ∙ sym c.add_font_parts.ensures.found
+    ∙ c.if-add_font_parts.false in
+    let P : Outcome → Type 0 = λ o. Meets o s c.next_glyph-else-add_font_parts.result
+    c.next_glyph-else-add_font_parts.new.self in
+    subst P
+    (next_one s c.requires.opened (left s c.requires.opened c.requires.some)
+    ∙ ap (λ ids. put_out (copies (head_of s) ids) s (skip_glyph s)) (sym (keeps_whole font id goes none)))
+    c.next_glyph-else-add_font_parts.ensures.meets

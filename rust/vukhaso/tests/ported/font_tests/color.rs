@@ -1,0 +1,197 @@
+// Written by tools/plain_rust from crates/font_tests. Do not edit.
+
+//! Tests of `color_glyphs`. The boxes in font units are those that HarfBuzz's `hb-shape --show-extents` prints for a font of six
+//! glyphs with these tables, of which an em has 1,000 units.
+use vukhaso::color_glyphs::strikes::{Strikes, best_strike, wanted_size};
+use vukhaso::color_glyphs::{CbdtTables, ColrTable, PixelBox, SbixTable};
+use vukhaso::common::GlyphId;
+use vukhaso::glyph::GlyphExtents;
+
+/// The numbers of a box: its left side, its top, its width and its height.
+type Numbers = [i32; 4];
+
+/// The numbers of a box.
+fn numbers_of(extents: GlyphExtents) -> Numbers {
+    [
+        extents.x_bearing,
+        extents.y_bearing,
+        extents.width,
+        extents.height,
+    ]
+}
+
+/// The numbers of a bitmap's box in font units.
+fn in_units(found: Option<PixelBox>) -> Option<Numbers> {
+    Some(numbers_of(found?.in_units(1000)))
+}
+
+/// Sizes of strikes.
+#[derive(Clone, Copy)]
+struct Sizes([u16; 4]);
+
+///
+/// # Proved
+///
+/// ```text
+/// ghost size_of = { λ sizes strike. unwrap_or (slice_get sizes.0 strike) 0 }
+/// ```
+impl Strikes for Sizes {
+    fn size(&self, strike: u32) -> u16 {
+        self.0.get(strike as usize).copied().unwrap_or(0)
+    }
+}
+
+#[test]
+fn the_strike_is_the_smallest_that_is_large_enough() {
+    let sizes = Sizes([20, 128, 40, 128]);
+    for (wanted, strike) in [
+        (1, 0),
+        (20, 0),
+        (21, 2),
+        (40, 2),
+        (41, 1),
+        (128, 1),
+        (129, 1),
+    ] {
+        assert_eq!(best_strike(&sizes, 4, wanted), strike, "{wanted}");
+    }
+    assert_eq!(best_strike(&sizes, 4, wanted_size(0, 0)), 1);
+    assert_eq!(best_strike(&sizes, 0, 20), 0);
+    assert_eq!(wanted_size(12, 0), 12);
+    assert_eq!(wanted_size(12, 13), 13);
+}
+
+/// Strikes of 20 and 40 pixels: a PNG, a glyph that has the same, a JPEG, a PNG whose header is cut short, and a glyph that
+/// has what it has itself.
+static SBIX: [u8; 232] = [
+    0, 1, 0, 1, 0, 0, 0, 2, 0, 0, 0, 16, 0, 0, 0, 159, 0, 20, 0, 72, 0, 0, 0, 32, 0, 0, 0, 73, 0,
+    0, 0, 83, 0, 0, 0, 124, 0, 0, 0, 133, 0, 0, 0, 143, 0, 0, 0, 143, 0, 3, 255, 252, 112, 110,
+    103, 32, 137, 80, 78, 71, 13, 10, 26, 10, 0, 0, 0, 13, 73, 72, 68, 82, 0, 0, 0, 20, 0, 0, 0,
+    24, 8, 6, 0, 0, 0, 0, 0, 0, 0, 0, 0, 0, 0, 100, 117, 112, 101, 0, 0, 0, 0, 0, 0, 106, 112, 103,
+    32, 137, 80, 78, 71, 13, 10, 26, 10, 0, 0, 0, 13, 73, 72, 68, 82, 0, 0, 0, 20, 0, 0, 0, 24, 8,
+    6, 0, 0, 0, 0, 0, 0, 0, 0, 1, 0, 2, 112, 110, 103, 32, 120, 0, 0, 0, 0, 100, 117, 112, 101, 0,
+    4, 0, 40, 0, 72, 0, 0, 0, 32, 0, 0, 0, 73, 0, 0, 0, 73, 0, 0, 0, 73, 0, 0, 0, 73, 0, 0, 0, 73,
+    0, 0, 0, 73, 255, 249, 0, 9, 112, 110, 103, 32, 137, 80, 78, 71, 13, 10, 26, 10, 0, 0, 0, 13,
+    73, 72, 68, 82, 0, 0, 0, 37, 0, 0, 0, 41, 8, 6, 0, 0, 0, 0, 0, 0, 0,
+];
+
+/// The boxes of its glyphs in the strike of 20 pixels.
+static GRAPHICS: [Option<Numbers>; 6] = [
+    Some([150, 1000, 1000, -1200]),
+    Some([150, 1000, 1000, -1200]),
+    None,
+    Some([50, 100, 0, 0]),
+    None,
+    None,
+];
+
+#[test]
+fn a_png_of_sbix_says_its_box() {
+    let small = SbixTable::new(&SBIX, 6, 20);
+    for (glyph, &found) in (0..6).zip(&GRAPHICS) {
+        assert!(
+            in_units(small.glyph_box(GlyphId(glyph))) == found,
+            "{glyph}"
+        );
+    }
+    assert!(small.glyph_box(GlyphId(6)).is_none());
+    let large = SbixTable::new(&SBIX, 6, 21);
+    let found = large.glyph_box(GlyphId(0));
+    assert!(
+        found.map(|found| (found.x_ppem, numbers_of(found.extents)))
+            == Some((40, [-7, 50, 37, -41]))
+    );
+    assert!(in_units(found) == Some([-175, 1250, 925, -1025]));
+    assert!(large.glyph_box(GlyphId(1)).is_none());
+    assert!(SbixTable::new(&[], 6, 20).glyph_box(GlyphId(0)).is_none());
+}
+
+/// Strikes of 20 by 24 and of 60 by 50 pixels: glyphs 1 and 2 with small metrics, 3 with big ones, 4 with no image, 5 with no metrics
+/// of its own, and glyph 0 in the larger strike.
+static CBLC: [u8; 204] = [
+    0, 3, 0, 0, 0, 0, 0, 2, 0, 0, 0, 104, 0, 0, 0, 76, 0, 0, 0, 3, 0, 0, 0, 0, 0, 0, 0, 0, 0, 0, 0,
+    0, 0, 0, 0, 0, 0, 0, 0, 0, 0, 0, 0, 0, 0, 0, 0, 0, 0, 0, 0, 5, 20, 24, 32, 1, 0, 0, 0, 180, 0,
+    0, 0, 24, 0, 0, 0, 1, 0, 0, 0, 0, 0, 0, 0, 0, 0, 0, 0, 0, 0, 0, 0, 0, 0, 0, 0, 0, 0, 0, 0, 0,
+    0, 0, 0, 0, 0, 0, 0, 5, 60, 50, 32, 1, 0, 1, 0, 2, 0, 0, 0, 24, 0, 3, 0, 4, 0, 0, 0, 44, 0, 5,
+    0, 5, 0, 0, 0, 60, 0, 1, 0, 17, 0, 0, 0, 4, 0, 0, 0, 0, 0, 0, 0, 10, 0, 0, 0, 20, 0, 3, 0, 18,
+    0, 0, 0, 24, 0, 0, 0, 13, 0, 13, 0, 0, 0, 1, 0, 19, 0, 0, 0, 37, 0, 0, 0, 0, 0, 0, 0, 14, 0, 0,
+    0, 0, 0, 0, 0, 8, 0, 1, 0, 17, 0, 0, 0, 51, 0, 0, 0, 0, 0, 0, 0, 10,
+];
+
+/// Their images.
+static CBDT: [u8; 61] = [
+    0, 3, 0, 0, 20, 22, 1, 18, 30, 0, 0, 0, 1, 97, 25, 27, 253, 251, 30, 0, 0, 0, 1, 97, 30, 31, 2,
+    29, 30, 1, 2, 3, 0, 0, 0, 1, 98, 97, 98, 99, 100, 101, 102, 103, 104, 105, 106, 107, 108, 109,
+    110, 40, 44, 2, 36, 30, 0, 0, 0, 1, 97,
+];
+
+/// The boxes of the glyphs from 1 on in the strike of 20 by 24 pixels.
+static IMAGES: [Option<Numbers>; 5] = [
+    Some([50, 750, 1100, -833]),
+    Some([-150, -208, 1350, -1042]),
+    Some([100, 1208, 1550, -1250]),
+    None,
+    None,
+];
+
+#[test]
+fn the_metrics_of_an_image_say_its_box() {
+    let small = CbdtTables::new(&CBLC, &CBDT, 24);
+    for (glyph, &found) in (1..6).zip(&IMAGES) {
+        assert!(
+            in_units(small.glyph_box(GlyphId(glyph))) == found,
+            "{glyph}"
+        );
+    }
+    assert!(small.glyph_box(GlyphId(0)).is_none());
+    let large = CbdtTables::new(&CBLC, &CBDT, 25);
+    let found = large.glyph_box(GlyphId(0));
+    assert!(found.map(|found| (found.x_ppem, found.y_ppem)) == Some((60, 50)));
+    assert!(in_units(found) == Some([33, 720, 733, -800]));
+    assert!(large.glyph_box(GlyphId(1)).is_none());
+    assert!(
+        CbdtTables::new(&CBLC, &[], 25)
+            .glyph_box(GlyphId(0))
+            .is_none()
+    );
+}
+
+/// Boxes that glyphs are clipped to: one for the glyphs 0 and 1, one that varies for 2, and one that is nowhere for 4.
+static COLR: [u8; 144] = [
+    0, 1, 0, 0, 0, 0, 0, 0, 0, 0, 0, 0, 0, 0, 0, 0, 0, 0, 0, 0, 0, 0, 0, 0, 0, 34, 0, 0, 0, 82, 0,
+    0, 0, 106, 1, 0, 0, 0, 3, 0, 0, 0, 1, 0, 0, 26, 0, 2, 0, 2, 0, 0, 35, 0, 4, 0, 4, 0, 0, 0, 1,
+    0, 10, 255, 236, 1, 44, 1, 144, 2, 0, 10, 255, 236, 1, 44, 1, 144, 0, 0, 0, 16, 0, 1, 0, 20, 0,
+    0, 0, 0, 0, 0, 0, 0, 0, 0, 0, 0, 0, 0, 0, 0, 0, 1, 2, 3, 0, 1, 0, 0, 0, 12, 0, 1, 0, 0, 0, 22,
+    0, 1, 0, 1, 0, 0, 64, 0, 64, 0, 0, 4, 0, 1, 0, 1, 0, 0, 0, 8, 255, 251, 0, 30, 0, 41,
+];
+
+/// Coordinates, and the box of glyph 2 there.
+static CLIPS: [(i32, Numbers); 3] = [
+    (16384, [18, 441, 312, -466]),
+    (8192, [14, 421, 301, -443]),
+    (-10923, [10, 400, 290, -420]),
+];
+
+/// The numbers of the box of a glyph at these coordinates.
+fn box_at(glyph: u16, coordinates: &[i32]) -> Option<Numbers> {
+    let found = ColrTable::new(&COLR).clip_box(GlyphId(glyph), coordinates)?;
+    Some(numbers_of(found))
+}
+
+#[test]
+fn a_glyph_is_clipped_to_its_box() {
+    for glyph in 0..3 {
+        assert!(box_at(glyph, &[]) == Some([10, 400, 290, -420]), "{glyph}");
+    }
+    for &(coordinate, found) in &CLIPS {
+        assert!(
+            box_at(0, &[coordinate]) == Some([10, 400, 290, -420]),
+            "{coordinate}"
+        );
+        assert!(box_at(2, &[coordinate]) == Some(found), "{coordinate}");
+    }
+    assert!(box_at(3, &[]) == None);
+    assert!(box_at(4, &[]) == Some([0; 4]));
+    assert!(box_at(5, &[]) == None);
+    assert!(ColrTable::new(&[]).clip_box(GlyphId(0), &[]).is_none());
+}
