@@ -1,6 +1,4 @@
-use rb_glyph::row_search::{
-    holds, range_order, rises, row_at, row_of, value_of, value_of_pair,
-};
+use rb_glyph::row_search::{holds, range_order, rises, row_at, row_of, value_of, value_of_pair};
 use std::cmp::Ordering;
 
 const LETTERS: [(char, u32); 3] = [('b', 1), ('d', 2), ('f', 3)];
