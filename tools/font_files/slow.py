@@ -139,6 +139,19 @@ def many_groups():
     return font({"cmap": ot.cmap({(3, 10): mapping})}), "abcdefgh" * 30, []
 
 
+def unsorted_groups():
+    """Groups of characters that fall."""
+    rows = b"".join(long_numbers(2 * at, 2 * at, at & 0x3F) for at in reversed(range(100_000)))
+    mapping = numbers(12, 0) + long_numbers(16 + len(rows), 0, 100_000) + rows
+    return font({"cmap": ot.cmap({(3, 10): mapping})}), "abcdefgh" * 3, []
+
+
+def unsorted_classes():
+    """Ranges of classes that fall."""
+    rows = b"".join(numbers(at, at, 3) for at in reversed(range(65_535)))
+    return font({"GDEF": numbers(1, 0, 12, 0, 0, 0) + numbers(2, 65_535) + rows}), "abcdefgh" * 3, []
+
+
 def charstrings(text, shared_routines, own):
     names = [".notdef", "a"]
     made = cff.cff("Slow", names, {".notdef": "endchar", "a": text}, shared_routines, own, (0, 0, 1, 1))
@@ -166,5 +179,5 @@ def glyph_of_itself():
 
 FONTS = {make.__name__: make for make in (
     calls_of_calls, calls_itself, many_calls, many_lookups, many_features, grows, grows_in_calls, many_ligatures, many_rules,
-    many_subtables, extends_itself, many_marks, long_cursive, many_kern_tables, many_groups, routines_of_routines,
-    routine_calls_itself, glyph_of_itself)}
+    many_subtables, extends_itself, many_marks, long_cursive, many_kern_tables, many_groups, unsorted_groups, unsorted_classes,
+    routines_of_routines, routine_calls_itself, glyph_of_itself)}

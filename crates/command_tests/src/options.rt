@@ -1,7 +1,7 @@
 //! What a command line asks for.
 
-use shape_command::arguments::matches_of;
-use shape_command::options::{Options, OptionsError, TextSource};
+use shape_command::options::TextSource;
+use shape_command::run::options_of;
 use shaping_buffer::{BufferClusterLevel, Direction, Flags, SerializeFlags};
 use std::test::Fail;
 
@@ -24,10 +24,7 @@ fn options_are_read(rt: HostRuntime) -> Result<(), Fail> {
         "x",
         "text",
     ];
-    let matches = matches_of(rt.alloc(), &words)?;
-    let options = Options::from_matches(rt.alloc(), &matches)
-        .ok()
-        .ok_or("read")?;
+    let options = options_of(rt.alloc(), &words).ok().ok_or("read")?;
     assert_eq!(rt; options.font_file, "font.ttf");
     assert_eq!(rt; options.font.index, 2);
     assert!(rt; options.font.size == Some((20, 30)));
@@ -87,11 +84,35 @@ static REFUSED: [(&[&str], &str); 10] = [
 #[test]
 fn mistakes_are_told(rt: HostRuntime) -> Result<(), Fail> {
     for (words, message) in &REFUSED {
-        let matches = matches_of(rt.alloc(), words)?;
-        let error = Options::from_matches(rt.alloc(), &matches)
-            .err()
-            .ok_or("refused")?;
+        let error = options_of(rt.alloc(), words).err().ok_or("refused")?;
         assert_eq!(rt; error.to_string(rt.alloc())?.as_str(), *message);
+    }
+    Ok(())
+}
+
+/// A size, and the length of an em across and upwards; none where it is refused.
+static SIZES: [(&str, Option<(i32, i32)>); 10] = [
+    ("20", Some((20, 20))),
+    ("20 30", Some((20, 30))),
+    ("20,30", Some((20, 30))),
+    (" 20, 30", Some((20, 30))),
+    ("12.7", Some((12, 12))),
+    ("-12.7 .5", Some((-12, 0))),
+    ("", None),
+    (".", None),
+    ("1.x", None),
+    ("20 30 40", None),
+];
+
+#[test]
+fn sizes_are_read(rt: HostRuntime) -> Result<(), Fail> {
+    for (text, size) in &SIZES {
+        let words = ["program", "font", "--font-size", *text];
+        let read = match options_of(rt.alloc(), &words) {
+            Ok(options) => options.font.size,
+            Err(_) => None,
+        };
+        assert!(rt; read == *size, "{text}");
     }
     Ok(())
 }

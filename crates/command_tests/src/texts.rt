@@ -1,11 +1,11 @@
-//! Lists of characters, of features and of words, and sizes. Characters, replacements and sizes are those that HarfBuzz's
+//! Lists of characters, of features, of variations and of words. Characters and replacements are those that HarfBuzz's
 //! `hb-shape` shows; the texts of UTF-8 are those of the Unicode standard.
 
 use shape_command::batch::words_of_line;
 use shape_command::code_points::{CodePointsError, code_points, text_of_code_points};
 use shape_command::features::features;
-use shape_command::sizes::sizes;
 use shape_command::text::lossy_text;
+use shape_command::variations::variations;
 use std::test::Fail;
 
 /// A list of characters, and its text.
@@ -96,23 +96,35 @@ fn bytes_that_are_no_text_are_replaced(rt: HostRuntime) -> Result<(), Fail> {
     Ok(())
 }
 
-/// A size, and the length of an em across and upwards; none where it is refused.
-static SIZES: [(&str, Option<(i32, i32)>); 10] = [
-    ("20", Some((20, 20))),
-    ("20 30", Some((20, 30))),
-    ("20,30", Some((20, 30))),
-    (" 20, 30", Some((20, 30))),
-    ("12.7", Some((12, 12))),
-    ("-12.7 .5", Some((-12, 0))),
-    ("", None),
-    (".", None),
-    ("1.x", None),
-    ("20 30 40", None),
+/// A list of variations, and the tag and the value of each, as HarfBuzz's `hb_variation_from_string` reads them.
+static VARIATIONS: [(&str, &[(&[u8; 4], f32)]); 8] = [
+    ("", &[]),
+    ("wght=500", &[(b"wght", 500.0)]),
+    (
+        "wght=500,slnt=-7.5 wdth=1e2",
+        &[(b"wght", 500.0), (b"slnt", -7.5), (b"wdth", 100.0)],
+    ),
+    ("wght500", &[]),
+    ("x=+.5", &[(b"x   ", 0.5)]),
+    ("wght=,=3,weight=4,wght=1x", &[]),
+    ("wght=inf,wght=nan", &[]),
+    ("a_1=2,,a-1,a-1=2", &[(b"a_1 ", 2.0), (b"a   ", -1.0)]),
 ];
 
 #[test]
-fn sizes_are_read(rt: HostRuntime) {
-    for (text, size) in &SIZES {
-        assert!(rt; sizes(text) == *size, "{text}");
+fn variations_are_read(rt: HostRuntime) -> Result<(), Fail> {
+    for (list, wanted) in &VARIATIONS {
+        let read = variations(rt.alloc(), list)?;
+        let read: Vec<([u8; 4], f32)> = read
+            .as_slice()
+            .iter()
+            .map(|variation| (variation.tag.to_bytes(), variation.value))
+            .collect(rt.alloc())?;
+        let wanted: Vec<([u8; 4], f32)> = wanted
+            .iter()
+            .map(|(tag, value)| (**tag, *value))
+            .collect(rt.alloc())?;
+        assert!(rt; read.as_slice() == wanted.as_slice(), "{list}");
     }
+    Ok(())
 }

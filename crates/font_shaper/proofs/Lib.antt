@@ -12,3 +12,4 @@ pub mod RisingLemmas
 pub mod StageLemmas
 pub mod CourseLemmas
 pub mod PartsLemmas
+pub mod KeptPlanLemmas

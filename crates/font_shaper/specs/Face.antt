@@ -1,8 +1,6 @@
 -- What is kept of a font: its tables, by their tags, and what they say.
 use Rattle.std.specs.Prelude.{ℕ, List, [], length, not, ◌≡◌, ◌/◌, ◌==◌, codes, unwrap_or, if◌then◌else◌, bit_and}
-use Rattle.rb_common.specs.Tag.{tag_of}
 use Rattle.font_tables.specs.Bytes.{number_16, is_number}
-use Rattle.font_tables.specs.Directory.{table_of}
 use Rattle.font_tables.specs.Head.{units_per_em, glyph_count, index_to_loc_format}
 use Rattle.font_tables.specs.IgnoredGdef.{is_ignored}
 use Rattle.font_tables.specs.Extents.{long_metric_count, horizontal_extents}
@@ -11,12 +9,10 @@ use Rattle.font_tables.specs.declared.directory.Tables.{Tables}
 use Rattle.character_maps.specs.Choice.{chosen_subtable, chosen_encoding, variation_subtable}
 use Rattle.color_glyphs.specs.Strikes.{wanted_size}
 use Rattle.font_shaper.specs.declared.color.ColorTables.{ColorTables}
+use Rattle.font_shaper.specs.Tables.{table_in}
+use Rattle.font_shaper.specs.FaceVariations.{AreVariationsOf}
 use Rattle.font_shaper.specs.declared.face.Face.{Face}
 use Rattle.font_shaper.specs.declared.layout.Layout.{Layout}
-
--- the table with these letters in a directory
-abbrev pub table_in : Tables → List ℕ → List ℕ
-table_in tables letters = table_of tables.file.now tables.directory (tag_of letters)
 
 -- the table with these letters in the font's directory
 abbrev pub table : Face → List ℕ → List ℕ
@@ -85,3 +81,4 @@ pub record KeepsItsTables (face : Face) : Type 0 where
   pub outlined : face.outlines.glyf.glyph_count ≡ face.glyph_count
   pub positioned : face.has_gpos ≡ is_number (number_16 (table face (codes "GPOS")) 0) 1
   pub scaled : face.scale.units_per_em ≡ face.units_per_em
+  pub varied : AreVariationsOf face.variations face.tables face.definitions.table.now

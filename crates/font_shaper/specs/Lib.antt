@@ -1,9 +1,12 @@
 pub mod Face
+pub mod FaceVariations
 pub mod FaceNames
 pub mod Measures
+pub mod Plans
 pub mod FallbackMarks
 pub mod Graphemes
 pub mod ShapedClusters
+pub mod Tables
 pub mod ClusterOrder
 pub mod Marks
 pub mod FontRules

@@ -153,10 +153,25 @@ fn propagate_all(infos: &mut [hb_glyph_info_t], flags: BufferFlags)
     let mut start = 0;
     while start < infos.len() {
         let end = cluster_end(infos, start);
-        let mask = flags_of_cluster(all_flags(&infos[start..end]), flags);
-        set_masks(infos, start, end, mask);
+        if end - start == 1 {
+            set_own_flags(infos, start, flags);
+        } else {
+            let mask = flags_of_cluster(all_flags(&infos[start..end]), flags);
+            set_masks(infos, start, end, mask);
+        }
         start = end;
     }
+}
+
+/// Gives the only glyph of a cluster its glyph flags.
+#[inline]
+#[tactic(auto, using(shaping_buffer::proofs::ClosedKeepsLemmas::clusters_written))]
+fn set_own_flags(infos: &mut [hb_glyph_info_t], place: usize, flags: BufferFlags)
+    requires { place < length infos.old }
+    ensures { clusters infos.new ≡ clusters infos.old }
+{
+    let all = infos[place].mask & glyph_flag::DEFINED;
+    infos[place].mask = flags_of_cluster(all, flags);
 }
 
 /// All glyph flags of some glyphs.

@@ -168,6 +168,8 @@ impl<'a> Face<'a> {
     pub fn set_scale(&mut self, x: i32, y: i32)
         ensures across { self.new.scale.x ≡ x }
         ensures upwards { self.new.scale.y ≡ y }
+        ensures pixels { (self.new.scale.x_ppem ≡ self.old.scale.x_ppem) × (self.new.scale.y_ppem ≡ self.old.scale.y_ppem) }
+        ensures tables { self.new.tables ≡ self.old.tables }
         ensures kept { KeepsItsTables self.old → KeepsItsTables self.new }
     {
         let mut scale = Scale::new(self.units_per_em, x, y);
@@ -182,6 +184,8 @@ impl<'a> Face<'a> {
     pub fn set_pixels_per_em(&mut self, x: u16, y: u16)
         ensures across { self.new.scale.x_ppem ≡ x }
         ensures upwards { self.new.scale.y_ppem ≡ y }
+        ensures size { (self.new.scale.x ≡ self.old.scale.x) × (self.new.scale.y ≡ self.old.scale.y) }
+        ensures tables { self.new.tables ≡ self.old.tables }
         ensures kept { KeepsItsTables self.old → KeepsItsTables self.new }
     {
         self.scale.x_ppem = x;
@@ -193,6 +197,7 @@ impl<'a> Face<'a> {
     /// apart at some sizes in points. HarfBuzz's name is `hb_font_set_ptem`.
     pub fn set_points_per_em(&mut self, points: f32)
         ensures points { self.new.points_per_em ≡ points }
+        ensures tables { self.new.tables ≡ self.old.tables }
         ensures kept { KeepsItsTables self.old → KeepsItsTables self.new }
     {
         self.points_per_em = points;

@@ -31,6 +31,7 @@ fn set_general_category(info: &mut hb_glyph_info_t, category: u16)
 }
 
 /// Sets the properties of an item that is not shaped yet, and adds what is to be remembered of it.
+#[inline]
 pub(crate) fn set_unicode_props(info: &mut hb_glyph_info_t, scratch_flags: &mut u32)
     ensures { info.new.cluster ≡ info.old.cluster }
 {

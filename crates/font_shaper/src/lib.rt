@@ -37,7 +37,9 @@ pub use color::ColorTables;
 pub use comparison::{Differences, compare};
 pub use face::{Face, Lookups};
 pub use font_variations::{Axis, Variation};
-pub use kept_plan::{ShapePlan, shape_with_plan, shape_with_plan_watched};
+pub use kept_plan::{
+    KeptPlan, ShapePlan, shape_with_kept_plan, shape_with_plan, shape_with_plan_watched,
+};
 pub use layout::Layout;
 pub use names::FaceNames;
 pub use shaping::{ShapeError, shape, shape_watched};

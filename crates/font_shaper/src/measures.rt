@@ -1,9 +1,8 @@
 //! The measures of glyphs at the size at which a font is used, as HarfBuzz's functions of a font give them. What a font
 //! says in font units is scaled as soon as it is read.
 
-ghost use Rattle.std.specs.Prelude.{◌≡◌, [], pos};
-ghost use Rattle.font_tables.specs.Metrics.{advance};
-ghost use Rattle.font_shaper.specs.Measures.{hor_advance, short, extents_of_em};
+ghost use Rattle.std.specs.Prelude.{◌≡◌, [], IsSome};
+ghost use Rattle.font_shaper.specs.Measures.{hor_advance, hor_units, short, extents_of_em};
 
 use crate::bounds::BoundsSource;
 use crate::face::Face;
@@ -17,9 +16,11 @@ use std::alloc::AllocError;
 use std::num::{nearest_i64_to_f32, saturating_f32_to_i32};
 
 impl Face<'_> {
-    /// How far a glyph moves the pen to the right in horizontal lines.
+    /// How far a glyph moves the pen to the right in horizontal lines (OpenType specification, `hmtx` and `HVAR`). Where variations
+    /// are chosen of a font without `HVAR`, its outlines say it (`gvar`).
     pub fn glyph_hor_advance(&self, glyph: GlyphId) -> i32
-        ensures { self.now.variations.coordinates.items ≡ [] → result ≡ hor_advance self.now glyph.0 }
+        ensures plain { self.now.variations.coordinates.items ≡ [] → result ≡ hor_advance self.now glyph.0 }
+        ensures varied { IsSome self.now.variations.horizontal → result ≡ hor_advance self.now glyph.0 }
     {
         self.scale.em_scale_x(short(self.horizontal_units(glyph)))
     }
@@ -27,7 +28,8 @@ impl Face<'_> {
     /// How far a glyph moves the pen to the right in horizontal lines, in font units: by the table `hmtx`, and by the variations
     /// that are chosen.
     fn horizontal_units(&self, glyph: GlyphId) -> i32
-        ensures { self.now.variations.coordinates.items ≡ [] → result ≡ pos (advance self.now.horizontal glyph.0) }
+        ensures plain { self.now.variations.coordinates.items ≡ [] → result ≡ hor_units self.now glyph.0 }
+        ensures varied { IsSome self.now.variations.horizontal → result ≡ hor_units self.now glyph.0 }
     {
         let advance = i32::from(self.horizontal.advance(glyph));
         if self.coordinates().is_empty() || !self.horizontal.has_advance(glyph) {

@@ -16,7 +16,7 @@ use rb_common::{Direction, Script, Tag};
 use rb_text::tags::tags_from_script_and_language;
 use rb_text::{Feature, Language, LanguageTable};
 use script_features::{collect_features, override_features, script_plan, syllable_plan};
-use script_shapers::{ScriptPlan, ScriptShaper, ZeroWidthMarks};
+use script_shapers::{FallbackLookups, ScriptPlan, ScriptShaper, ZeroWidthMarks};
 use shaping_buffer::hb_buffer_t;
 use std::alloc::AllocError;
 use syllabic_shapers::SyllablePlan;
@@ -34,6 +34,8 @@ pub(crate) struct TextPlan {
     pub chain_flags: Option<ChainFlags>,
     /// The bits of the glyphs that Apple's table `trak` moves.
     pub trak_mask: u32,
+    /// The lookups that join Arabic letters, where the font has no features for them.
+    pub fallback: Option<FallbackLookups>,
 }
 
 impl TextPlan {
@@ -141,12 +143,14 @@ impl Face<'_> {
             &shape.layout,
             chosen.finds_script,
         );
+        let fallback = self.fallback_of(&script)?;
         Ok(TextPlan {
             shape,
             script,
             syllables,
             chain_flags,
             trak_mask,
+            fallback,
         })
     }
 
@@ -162,6 +166,14 @@ impl Face<'_> {
         let names = FeatureNames::new(self.layout.feat);
         let selected = selected_features(self.alloc, &names, features)?;
         ChainFlags::new(self.alloc, &self.lookups.metamorphosis, selected.as_slice())
+    }
+
+    /// The lookups that join Arabic letters, where the shaper of the script makes them.
+    fn fallback_of(&self, script: &ScriptPlan) -> Result<Option<FallbackLookups>, AllocError> {
+        if !script.does_fallback {
+            return Ok(None);
+        }
+        Ok(Some(FallbackLookups::new(self.alloc, self, script)?))
     }
 }
 

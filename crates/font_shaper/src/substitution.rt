@@ -12,10 +12,10 @@ use crate::watch::{Step, Watch};
 use apple_substitution::{ChainFlags, Substitution, remove_deleted_glyphs};
 use font_tables::gdef::Gdef;
 use glyph_layout::lookup_list::SUBSTITUTION_EXTENSION;
-use glyph_layout::{LookupList, LookupOptions};
+use glyph_layout::{Digest, LookupList, LookupOptions};
 use glyph_substitution::{Progress, Substitutions};
 use layout_plan::{Pause, PlannedLookup};
-use script_shapers::{FallbackLookups, ScriptPlan};
+use script_shapers::FallbackLookups;
 use shaping_buffer::hb_buffer_t;
 use std::alloc::AllocError;
 use syllabic_shapers::SyllablePause;
@@ -109,15 +109,19 @@ fn apply_stages<W: Watch>(
     ensures keeps { KeepsStage plan.now.syllables buffer.old buffer.new }
 {
     let mut progress = Progress::new(budget_of(buffer));
+    let mut glyphs = Digest::of_glyphs(buffer.info());
     let mut start = 0;
     for stage in &plan.shape.layout.stages {
         let lookups = &plan.shape.layout.gsub_lookups;
         let lookups = lookups.get(start..stage.end).unwrap_or(&[]);
-        if !apply_stage(buffer, face, lookups, &mut progress, watch)? {
+        if !apply_stage(buffer, face, lookups, &mut glyphs, &mut progress, watch)? {
             return Ok(false);
         }
         if !pause(buffer, face, plan, stage.pause, &mut progress)? {
             return Ok(false);
+        }
+        if stage.pause != Pause::Nothing {
+            glyphs = Digest::of_glyphs(buffer.info());
         }
         start = stage.end;
     }
@@ -130,6 +134,7 @@ fn apply_stage<W: Watch>(
     buffer: &mut hb_buffer_t,
     face: &Face,
     lookups: &[PlannedLookup],
+    glyphs: &mut Digest,
     progress: &mut Progress,
     watch: &mut W,
 ) -> Result<bool, AllocError>
@@ -138,15 +143,43 @@ fn apply_stage<W: Watch>(
     ensures keeps { KeepsClusters buffer.old buffer.new }
 {
     for planned in lookups {
-        let substitutions = Substitutions {
-            list: &face.lookups.substitutions,
-            gdef: &face.definitions,
-            options: options_of(planned),
-        };
-        if !glyph_substitution::substitute(buffer, &substitutions, planned.index, progress)? {
+        if !apply_planned(buffer, face, planned, glyphs, progress)? {
             return Ok(false);
         }
         watch.step(Step::Substituted(planned.index), buffer)?;
+    }
+    Ok(true)
+}
+
+/// Applies a lookup of the plan if it may be for one of the glyphs, and where it changed some sees which there are now.
+/// `Ok(false)` where a call was refused for length.
+#[inline]
+#[tactic(auto, using(shaping_buffer::proofs::ClosedKeepsLemmas::kept))]
+fn apply_planned(
+    buffer: &mut hb_buffer_t,
+    face: &Face,
+    planned: &PlannedLookup,
+    glyphs: &mut Digest,
+    progress: &mut Progress,
+) -> Result<bool, AllocError>
+    requires { buffer.old.have_output ≡ false }
+    ensures closed { IfOk result (λ done. done ≡ true → buffer.new.have_output ≡ false) }
+    ensures keeps { KeepsClusters buffer.old buffer.new }
+{
+    if !face.lookups.substitutions.may_apply(planned.index, glyphs) {
+        return Ok(true);
+    }
+    let substitutions = Substitutions {
+        list: &face.lookups.substitutions,
+        gdef: &face.definitions,
+        options: options_of(planned),
+    };
+    if !glyph_substitution::substitute(buffer, &substitutions, planned.index, progress)? {
+        return Ok(false);
+    }
+    if progress.has_changed {
+        progress.has_changed = false;
+        *glyphs = Digest::of_glyphs(buffer.info());
     }
     Ok(true)
 }
@@ -169,9 +202,7 @@ fn pause(
             plan.script.record_stch(buffer);
             Ok(true)
         }
-        Pause::ArabicFallback if plan.script.does_fallback => {
-            face.join_by_fallback(buffer, &plan.script, progress)
-        }
+        Pause::ArabicFallback => face.join_by_fallback(buffer, plan, progress),
         Pause::SetUpSyllables => face.work_on_syllables(buffer, plan, SyllablePause::SetUp),
         Pause::InitialReordering => {
             face.work_on_syllables(buffer, plan, SyllablePause::InitialReordering)
@@ -194,15 +225,17 @@ impl Face<'_> {
     fn join_by_fallback(
         &self,
         buffer: &mut hb_buffer_t,
-        plan: &ScriptPlan,
+        plan: &TextPlan,
         progress: &mut Progress,
     ) -> Result<bool, AllocError>
         requires { buffer.old.have_output ≡ false }
         ensures closed { IfOk result (λ done. done ≡ true → buffer.new.have_output ≡ false) }
         ensures keeps { KeepsClusters buffer.old buffer.new }
     {
-        let fallback = FallbackLookups::new(self.alloc, self, plan)?;
-        self.apply_fallback(buffer, &fallback, progress)
+        match &plan.fallback {
+            Some(fallback) => self.apply_fallback(buffer, fallback, progress),
+            None => Ok(true),
+        }
     }
 
     /// Applies the lookups of a fallback. `Ok(false)` where a call was refused for length.

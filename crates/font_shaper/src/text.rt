@@ -18,6 +18,9 @@ use shaping_buffer::{
 };
 use std::alloc::AllocError;
 
+/// No character before this one goes on with a grapheme: the first that emoji are made from.
+const FIRST_PICTOGRAPHIC: u32 = 0xA9;
+
 /// The dotted circle, which a mark without a base is put on.
 const DOTTED_CIRCLE: u32 = 0x25CC;
 
@@ -64,6 +67,7 @@ fn continues_grapheme(infos: &[hb_glyph_info_t], i: usize) -> bool
     let info = &infos[i];
     let before = if i > 0 { infos.get(i - 1) } else { None };
     match info.glyph_id {
+        0..FIRST_PICTOGRAPHIC => false,
         0x1F3FB..=0x1F3FF => general_category(info) == RB_UNICODE_GENERAL_CATEGORY_MODIFIER_SYMBOL,
         0x1F1E6..=0x1F1FF => {
             before.is_some_and(|before| is_regional_indicator(before) && !is_continuation(before))

@@ -1,6 +1,8 @@
 //! Variations of a font: those that it has, and those that are chosen.
 
-ghost use Rattle.std.specs.Prelude.{◌≡◌};
+ghost use Rattle.std.specs.Prelude.{◌≡◌, [], None, OnOk, OnErr};
+ghost use Rattle.font_shaper.specs.Face.{KeepsItsTables};
+ghost use Rattle.font_shaper.specs.FaceVariations.{AreVariationsOf, DiffersInChoice};
 
 use crate::face::Face;
 use font_tables::directory::Tables;
@@ -44,12 +46,10 @@ pub struct FaceVariations<'a> {
 impl<'a> FaceVariations<'a> {
     /// What the tables of a font say of its variations, of which none are chosen. `GDEF` is passed apart, since some are not
     /// believed.
-    pub(crate) fn new(
-        alloc: Global,
-        tables: &Tables<'a>,
-        gdef: &'a [u8],
-        glyph_count: u16,
-    ) -> Self {
+    pub(crate) fn new(alloc: Global, tables: &Tables<'a>, gdef: &'a [u8], glyph_count: u16) -> Self
+        ensures tables { AreVariationsOf result tables.now gdef.now }
+        ensures none { result.coordinates.items ≡ [] }
+    {
         FaceVariations {
             axes: VariationAxes::new(tables.table(Tag::from_bytes(b"fvar"))),
             maps: AxisMaps::new(tables.table(Tag::from_bytes(b"avar"))),
@@ -66,7 +66,11 @@ impl<'a> FaceVariations<'a> {
     }
 
     /// Chooses a value on each axis. Nothing is changed where memory runs out.
-    fn choose(&mut self, alloc: Global, chosen: Vec<f32>) -> Result<(), AllocError> {
+    fn choose(&mut self, alloc: Global, chosen: Vec<f32>) -> Result<(), AllocError>
+        ensures chosen { OnOk result (self.new.chosen ≡ chosen) }
+        ensures only { DiffersInChoice self.old self.new }
+        ensures same { OnErr result (self.new ≡ self.old) }
+    {
         let mut coordinates = normalized(alloc, &self.axes, chosen.as_slice())?;
         self.maps.map_segments(coordinates.as_mut_slice());
         if self.maps.has_second_map() {
@@ -78,7 +82,10 @@ impl<'a> FaceVariations<'a> {
     }
 
     /// Chooses no variations.
-    fn clear(&mut self) {
+    fn clear(&mut self)
+        ensures none { self.new.coordinates.items ≡ [] }
+        ensures only { DiffersInChoice self.old self.new }
+    {
         self.chosen.clear();
         self.coordinates.clear();
     }
@@ -88,7 +95,15 @@ impl Face<'_> {
     /// Chooses variations of the font in place of those that were chosen before: the value of each axis that is named, and else
     /// that of the named instance, or the default. A tag of which the font has no axis is passed over. Nothing is changed where
     /// memory runs out. HarfBuzz's name is `hb_font_set_variations`.
-    pub fn set_variations(&mut self, variations: &[Variation]) -> Result<(), AllocError> {
+    pub fn set_variations(&mut self, variations: &[Variation]) -> Result<(), AllocError>
+        ensures none { variations.now ≡ [] → self.old.variations.instance ≡ None
+            → self.new.variations.coordinates.items ≡ [] }
+        ensures instance { self.new.variations.instance ≡ self.old.variations.instance }
+        ensures size { self.new.scale ≡ self.old.scale }
+        ensures tables { self.new.tables ≡ self.old.tables }
+        ensures kept { KeepsItsTables self.old → KeepsItsTables self.new }
+        ensures same { OnErr result (self.new ≡ self.old) }
+    {
         let instance = self.variations.instance;
         if variations.is_empty() && instance.is_none() {
             self.variations.clear();
@@ -99,7 +114,13 @@ impl Face<'_> {
     }
 
     /// Chooses the value of one axis, and leaves the others as they are. HarfBuzz's name is `hb_font_set_variation`.
-    pub fn set_variation(&mut self, tag: Tag, value: f32) -> Result<(), AllocError> {
+    pub fn set_variation(&mut self, tag: Tag, value: f32) -> Result<(), AllocError>
+        ensures instance { self.new.variations.instance ≡ self.old.variations.instance }
+        ensures size { self.new.scale ≡ self.old.scale }
+        ensures tables { self.new.tables ≡ self.old.tables }
+        ensures kept { KeepsItsTables self.old → KeepsItsTables self.new }
+        ensures same { OnErr result (self.new ≡ self.old) }
+    {
         let variation = Variation { tag, value };
         let mut chosen = if self.variations.chosen.is_empty() {
             let instance = self.variations.instance;
@@ -113,7 +134,14 @@ impl Face<'_> {
 
     /// Chooses a named instance of the font, by its number, or none, and no other variations (OpenType specification, `fvar`).
     /// A number that the font does not have chooses the defaults. HarfBuzz's name is `hb_font_set_var_named_instance`.
-    pub fn set_named_instance(&mut self, instance: Option<u32>) -> Result<(), AllocError> {
+    pub fn set_named_instance(&mut self, instance: Option<u32>) -> Result<(), AllocError>
+        ensures none { instance ≡ None → self.new.variations.coordinates.items ≡ [] }
+        ensures instance { OnOk result (self.new.variations.instance ≡ instance) }
+        ensures size { self.new.scale ≡ self.old.scale }
+        ensures tables { self.new.tables ≡ self.old.tables }
+        ensures kept { KeepsItsTables self.old → KeepsItsTables self.new }
+        ensures same { OnErr result (self.new ≡ self.old) }
+    {
         let before = self.variations.instance;
         self.variations.instance = instance;
         match self.set_variations(&[]) {

@@ -8,7 +8,8 @@ ghost use Rattle.font_shaper.specs.ShapedClusters.{ShapedClusters};
 use crate::comparison::is_elsewhere;
 use crate::face::Face;
 use crate::original::Original;
-use crate::shaping::{ShapeError, shape_once};
+use crate::planning::TextPlan;
+use crate::shaping::{ShapeError, shape_planned};
 use crate::watch::Unwatched;
 use shaping_buffer::{
     BufferFlags, Feature, Flags, GlyphBuffer, GlyphPosition, glyph_flag, hb_buffer_t,
@@ -86,10 +87,28 @@ impl<'a> InOrder<'a> {
     }
 }
 
+/// How a text and parts of it are shaped.
+#[derive(Clone, Copy)]
+struct Shaping<'a> {
+    face: &'a Face<'a>,
+    plan: &'a TextPlan,
+    features: &'a [Feature],
+}
+
+impl Shaping<'_> {
+    /// Shapes the text of a buffer.
+    fn shape(&self, buffer: hb_buffer_t) -> Result<GlyphBuffer, ShapeError>
+        requires { buffer.have_output ≡ false }
+    {
+        shape_planned(self.face, self.plan, self.features, buffer, &mut Unwatched)
+    }
+}
+
 impl Face<'_> {
-    /// Shapes the text of a buffer, and tests its glyphs.
+    /// Shapes the text of a buffer by a plan, and tests its glyphs.
     pub(crate) fn shape_verified(
         &self,
+        plan: &TextPlan,
         features: &[Feature],
         buffer: hb_buffer_t,
     ) -> Result<GlyphBuffer, ShapeError>
@@ -100,8 +119,13 @@ impl Face<'_> {
         ensures clusters { IfOk result (ShapedClusters buffer) }
     {
         let text = Original::of(self.alloc, &buffer)?;
-        let glyphs = shape_once(self, features, buffer, &mut Unwatched)?;
-        verify(self.alloc, self, features, &text, &glyphs)?;
+        let glyphs = shape_planned(self, plan, features, buffer, &mut Unwatched)?;
+        let shaping = Shaping {
+            face: self,
+            plan,
+            features,
+        };
+        verify(self.alloc, shaping, &text, &glyphs)?;
         Ok(glyphs)
     }
 }
@@ -109,8 +133,7 @@ impl Face<'_> {
 /// Tests glyphs by their text. Where clusters may stand in any order there is no test.
 fn verify(
     alloc: Global,
-    face: &Face,
-    features: &[Feature],
+    shaping: Shaping<'_>,
     text: &Original,
     glyphs: &GlyphBuffer,
 ) -> Result<(), ShapeError> {
@@ -121,11 +144,11 @@ fn verify(
     if !are_monotone(glyphs) {
         return Err(ShapeError::Unverified(VerifyError::NotMonotone));
     }
-    if !is_safe_to_break(alloc, face, features, text, glyphs)? {
+    if !is_safe_to_break(alloc, shaping, text, glyphs)? {
         return Err(ShapeError::Unverified(VerifyError::UnsafeToBreak));
     }
     if text.flags.contains(BufferFlags::PRODUCE_UNSAFE_TO_CONCAT)
-        && !is_safe_to_concat(alloc, face, features, text, glyphs)?
+        && !is_safe_to_concat(alloc, shaping, text, glyphs)?
     {
         return Err(ShapeError::Unverified(VerifyError::UnsafeToConcat));
     }
@@ -182,8 +205,7 @@ fn first_of(characters: &[hb_glyph_info_t], from: usize, cluster: u32) -> usize 
 /// Whether the parts of a text that is cut wherever this is safe have the glyphs of the whole.
 fn is_safe_to_break(
     alloc: Global,
-    face: &Face,
-    features: &[Feature],
+    shaping: Shaping<'_>,
     text: &Original,
     glyphs: InOrder<'_>,
 ) -> Result<bool, ShapeError> {
@@ -199,7 +221,7 @@ fn is_safe_to_break(
             && start < end
         {
             let buffer = part_of(alloc, text, *start, *end)?;
-            let shaped = shape_once(face, features, buffer, &mut Unwatched)?;
+            let shaped = shaping.shape(buffer)?;
             let shaped = InOrder::of(&shaped, glyphs.is_forward);
             if !stands_at(shaped, 0, shaped.len(), glyphs, compared) {
                 return Ok(false);
@@ -264,8 +286,7 @@ fn is_same_glyph(one: &hb_glyph_info_t, other: &hb_glyph_info_t) -> bool {
 /// the glyphs of both halves, part by part, are those of the whole.
 fn is_safe_to_concat(
     alloc: Global,
-    face: &Face,
-    features: &[Feature],
+    shaping: Shaping<'_>,
     text: &Original,
     glyphs: InOrder<'_>,
 ) -> Result<bool, ShapeError> {
@@ -275,8 +296,8 @@ fn is_safe_to_concat(
         glyphs,
         glyph_flag::UNSAFE_TO_CONCAT,
     )?;
-    let even = shaped_half(alloc, face, features, text, cuts.as_slice(), 0)?;
-    let odd = shaped_half(alloc, face, features, text, cuts.as_slice(), 1)?;
+    let even = shaped_half(alloc, shaping, text, cuts.as_slice(), 0)?;
+    let odd = shaped_half(alloc, shaping, text, cuts.as_slice(), 1)?;
     let even = InOrder::of(&even, glyphs.is_forward);
     let odd = InOrder::of(&odd, glyphs.is_forward);
     Ok(are_interleaved(even, odd, glyphs))
@@ -285,8 +306,7 @@ fn is_safe_to_concat(
 /// The glyphs of every other part of a text, beginning with this one.
 fn shaped_half(
     alloc: Global,
-    face: &Face,
-    features: &[Feature],
+    shaping: Shaping<'_>,
     text: &Original,
     cuts: &[usize],
     first: usize,
@@ -304,7 +324,7 @@ fn shaped_half(
     }
     let flags = text.flags.difference(BufferFlags::VERIFY);
     let buffer = text.finish(alloc, half, last, flags)?;
-    shape_once(face, features, buffer, &mut Unwatched)
+    shaping.shape(buffer)
 }
 
 /// Whether the parts of two texts in turn, each up to where the next may be joined, have these glyphs.

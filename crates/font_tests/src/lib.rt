@@ -6,6 +6,8 @@ mod characters;
 #[cfg(test)]
 mod color;
 #[cfg(test)]
+mod lookups;
+#[cfg(test)]
 mod outlines;
 #[cfg(test)]
 mod tables;

@@ -5,10 +5,13 @@ use Rattle.std.proofs.lemmas.Bool.{cases_Bool}
 use Rattle.std.proofs.lemmas.Grind.{common_steps}
 use Rattle.font_tables.specs.declared.coverage.Coverage.{Coverage}
 use Rattle.rb_glyph.specs.declared.info.hb_glyph_info_t.{hb_glyph_info_t}
+use Rattle.glyph_layout.specs.Context.{next_walk}
 use Rattle.glyph_layout.specs.Digest.{HasAll, may_have}
 use Rattle.glyph_layout.specs.Match.{place_of}
-use Rattle.glyph_layout.specs.Walk.{covered_index, glyph_at, first_kept, next_found, passes, skip_of, matches}
+use Rattle.glyph_layout.specs.Walk.{covered_index, glyph_at, first_kept, may_ignore, next_found, passes, skip_of, matches}
 use Rattle.glyph_layout.specs.declared.digest.Digest.{Digest}
+use Rattle.glyph_layout.specs.declared.search.Sides.{Sides}
+use Rattle.glyph_layout.specs.declared.subtable.NextAsked.{NextAsked}
 use Rattle.glyph_layout.specs.declared.walk.Walk.{Walk}
 use Rattle.glyph_layout.specs.declared.walk.Found.TheVariants.{At, Other, End}
 use Rattle.glyph_layout.specs.declared.walk.Skip.TheVariants.{No}
@@ -53,6 +56,19 @@ missed_other w d c gs more all none counts =
     kept_here (passes w (Covered c)) gs 1 more (counts_here w (Covered c) (glyph_at gs 1) counts) in
     let misses = other_misses w c (glyph_at gs 1) (not_covered d c (glyph_at gs 1).glyph_id all none) in
     not_at _ _ _ (subst (λ n. matches w (Covered c) (glyph_at gs n) ≡ false) (sym here) misses)
+
+-- a glyph that counts does so in each syllable
+pub counts_input : (next : NextAsked) (s : Sides) (g : hb_glyph_info_t) → next.is_input ≡ true → skip_of s.walk g ≡ No
+    → skip_of (next_walk next s) g ≡ No
+unfolding may_ignore
+counts_input next s g is counts = rw is counts
+
+pub counts_context : (next : NextAsked) (s : Sides) (g : hb_glyph_info_t) → next.is_input ≡ false
+    → skip_of s.context g ≡ No → skip_of (next_walk next s) g ≡ No
+unfolding may_ignore
+counts_context next s g is counts = rw is counts
+
+pub ruleset counting = (counts_input, counts_context)
 
 -- no glyph stands behind the cursor
 pub missed_end : (w : Walk) (x : Wanted) (gs : List hb_glyph_info_t) → length gs ≡ 1

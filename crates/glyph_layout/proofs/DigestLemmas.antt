@@ -3,15 +3,17 @@ use Rattle.std.proofs.Common.{◌≡◌, ℕ, zero, suc, ◌+◌, ◌-◌, ◌*�
 use Rattle.std.proofs.lemmas.Bool.{cases_lt, cases_Bool}
 use Rattle.std.proofs.lemmas.Grind.{common_steps}
 use Rattle.std.proofs.lemmas.Nat.Bits.{bit_at_or, bit_at_and, bit_at-lt, bit_at-zero, bit_at_ones, bit_at_mask_inside, bit_at_set_same, ones_shr, ones_shl}
-use Rattle.std.specs.Prelude.{is_some, bit_and, bit_or, nat_eq, nat_lt, unwrap_or, if◌then◌else◌, option_and_then, option_map}
+use Rattle.std.specs.Prelude.{is_some, IsTrue, bit_and, bit_or, nat_eq, nat_lt, unwrap_or, if◌then◌else◌, option_and_then, option_map}
 use Rattle.std.specs.Option.{option_or}
 use Rattle.std.specs.Int.{bit_at, w64}
 use Rattle.font_tables.specs.Rows.{first_below, first_row, is_within, is_at_most, reaches}
 use Rattle.font_tables.specs.Bytes.{number_16}
 use Rattle.font_tables.specs.Coverage.{listed_glyph, listed_count, listed_index, ranged_index, coverage_index}
 use Rattle.font_tables.specs.GlyphRanges.{range_first, range_last, range_value, range_count, range_of}
-use Rattle.glyph_layout.specs.Digest.{has_row}
+use Rattle.glyph_layout.specs.Digest.{IsForNone, has_row, may_have}
 use Rattle.glyph_layout.specs.Walk.{covered_index}
+use Rattle.glyph_layout.specs.declared.digest.Digest.{Digest}
+use Rattle.glyph_layout.specs.declared.lookup_list.Lookup.{Lookup}
 
 -- a word that has a row
 pub bit_of : (word row : ℕ) → has_row word row ≡ true → bit_at word (row % 64) ≡ 1
@@ -236,4 +238,14 @@ covered_nowhere table glyph no_list no_ranges some =
     elim (cases_Bool (nat_lt 65535 glyph)) [
       | inl past ↦ let none = rw past at some in grind (arith, common_steps)
       | inr low ↦ let none = rw (low, other, another) at some in grind (arith, common_steps)
+    ]
+
+-- ---- digests that have no glyph in common
+
+pub apart : (lookup : Lookup) (d : Digest)
+    → ((g : ℕ) → may_have lookup.digest g ≡ true → may_have d g ≡ true → IsTrue false) → IsForNone lookup d
+apart lookup d none = λ g has mask.
+    elim (cases_Bool (may_have lookup.digest g.glyph_id)) [
+      | inl both ↦ let met = none g.glyph_id both has in cc
+      | inr other ↦ rw other refl
     ]

@@ -1,5 +1,5 @@
 -- Steps of matches, and of the search for the first ligature.
-use Rattle.std.proofs.Common.{◌≡◌, ◌≢◌, ℕ, zero, suc, ◌+◌, ◌*◌, ◌<◌, ◌==◌, Bool, true, false, List, [], ◌∷◌, drop, Option, Some, None, refl, arith, subst, ◌-◌, nat_lt, sym, ◌∙◌, ap, inl, inr}
+use Rattle.std.proofs.Common.{◌≡◌, ◌≢◌, ℕ, zero, suc, ◌+◌, ◌*◌, ◌<◌, ◌==◌, Bool, true, false, List, length, [], ◌∷◌, drop, Option, Some, None, refl, arith, subst, ◌-◌, nat_lt, sym, ◌∙◌, ap, inl, inr}
 use Rattle.std.proofs.Common.{if◌then◌else◌, option_map, option_and_then, unwrap_or, is_some}
 use Rattle.std.proofs.lemmas.Bool.{cases_lt, cases_Bool}
 use Rattle.std.proofs.lemmas.Grind.{common_steps}
@@ -18,6 +18,7 @@ use Rattle.glyph_layout.specs.declared.walk.Found.TheVariants.{At, Other, End}
 use Rattle.glyph_layout.specs.declared.walk.Skip.TheVariants.{No}
 use Rattle.glyph_layout.specs.declared.wanted.Wanted.{Wanted}
 use Rattle.glyph_layout.specs.declared.wanted.Wanted.TheVariants.{Any, Glyph}
+use Rattle.glyph_layout.proofs.WalkLemmas.{kept_here}
 
 equal_true : (a b : ℕ) → a ≡ b → (a == b) ≡ true
 equal_true a b same = grind (arith, common_steps)
@@ -208,6 +209,17 @@ kept_other w gs i p asked found counts other =
     let there : p ≡ first_kept (passes w (Glyph asked)) gs (i + 1) = sym (same ∙ here) in
     let misses = subst (λ n. matches w (Glyph asked) (glyph_at gs n) ≡ false) there (other_misses w asked _ other) in
     not_at _ _ _ misses
+
+-- a glyph right behind a place that counts and is another than one asks for
+pub beside_other : (w : Walk) (gs : List hb_glyph_info_t) (i asked : ℕ) → i + 1 < length gs
+    → skip_of w (glyph_at gs (i + 1)) ≡ No → asked ≢ (glyph_at gs (i + 1)).glyph_id
+    → place_of (next_found w (Glyph asked) gs i) ≡ None
+unfolding next_found
+beside_other w gs i asked more counts other =
+    let here : first_kept (passes w (Glyph asked)) gs (i + 1) ≡ i + 1 =
+    kept_here (passes w (Glyph asked)) gs (i + 1) more (counts_here w asked _ counts) in
+    let misses = other_misses w asked (glyph_at gs (i + 1)) other in
+    not_at _ _ _ (subst (λ n. matches w (Glyph asked) (glyph_at gs n) ≡ false) (sym here) misses)
 
 never_if : (b : Bool) (x : Option ℕ) → x ≡ None → (if b then x else None) ≡ None
 never_if true x never = never

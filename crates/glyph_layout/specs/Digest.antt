@@ -1,5 +1,5 @@
 -- Sets of glyphs in three words, which may say of more glyphs that they are there.
-use Rattle.std.specs.Prelude.{ℕ, ◌≡◌, ◌/◌, ◌%◌, ◌==◌, ◌&&◌, Bool, not, true, List, All}
+use Rattle.std.specs.Prelude.{ℕ, ◌≡◌, ◌/◌, ◌%◌, ◌==◌, ◌&&◌, Bool, not, true, false, List, All}
 use Rattle.std.specs.Int.{bit_at}
 use Rattle.rb_glyph.specs.declared.info.hb_glyph_info_t.{hb_glyph_info_t}
 use Rattle.glyph_layout.specs.Walk.{passes_over, share}
@@ -30,3 +30,8 @@ HasGlyphs d glyphs = All (λ glyph. may_have d glyph.glyph_id ≡ true) glyphs
 -- does not pass over it
 abbrev pub is_for : Lookup → ℕ → hb_glyph_info_t → Bool
 is_for lookup mask g = may_have lookup.digest g.glyph_id && share g.mask mask && not (passes_over lookup.filter g)
+
+-- a lookup is for no glyph that a digest may have
+abbrev pub IsForNone : Lookup → Digest → Type 0
+IsForNone lookup d =
+    (g : hb_glyph_info_t) → may_have d g.glyph_id ≡ true → (mask : ℕ) → is_for lookup mask g ≡ false

@@ -1,18 +1,21 @@
 //! Contexts: rules of glyphs at the cursor, before them and behind them, as the kinds 5 and 6 of `GSUB` have them, and the
 //! kinds 7 and 8 of `GPOS` (OpenType specification, "OpenType Layout Common Table Formats", "Sequence Context").
 
-ghost use Rattle.std.specs.Prelude.{◌≡◌, ◌<◌, ◌≤◌, length, IfSome};
+ghost use Rattle.std.specs.Prelude.{◌≡◌, ◌<◌, ◌≤◌, length, IfSome, IsTrue};
 ghost use Rattle.glyph_layout.specs.Budget.{IsNotMore};
 ghost use Rattle.glyph_layout.specs.Context.{IsFitWithin, IsMissed, next_walk};
+ghost use Rattle.glyph_layout.specs.Walk.{skip_of};
+ghost use Rattle.glyph_layout.specs.declared.walk.Skip.TheVariants.{No};
 
 use crate::lookup_list::LookupList;
 use crate::rule::{Meaning, Meanings, coverage_rule};
 use crate::rule_set::{first_fit, fit};
 use crate::search::{Search, Sides};
 use crate::subtable::{NextAsked, Subtable};
-use crate::walk::{Skip, Walk};
+use crate::walk::Skip;
 use crate::wanted::class_of;
 use font_tables::bytes::{table_at_16, u16_at};
+use rb_glyph::hb_glyph_info_t;
 
 /// A rule that fits at the cursor. The places of its glyphs are in `Search::places`.
 #[derive(Clone, Copy, Debug)]
@@ -116,14 +119,15 @@ fn covered_fit<'a>(
     )
 }
 
-/// The walk by which a context by coverages looks for the glyph behind the one at the cursor.
-fn next_walk<'a>(next: &NextAsked, sides: &Sides<'a>) -> Walk<'a>
-    ensures { result ≡ next_walk next.now sides.now }
+/// Whether the glyph behind the one at the cursor counts for a context by coverages, whatever is asked for.
+#[tactic(auto, using(crate::proofs::ContextLemmas::counting))]
+fn counts_next(next: &NextAsked, sides: &Sides, glyph: &hb_glyph_info_t) -> bool
+    ensures { IsTrue result → skip_of (next_walk next.now sides.now) glyph.now ≡ No }
 {
     if next.is_input {
-        sides.input_walk()
+        sides.walk.skip(glyph) == Skip::No
     } else {
-        sides.context_walk(true)
+        sides.context.skip(glyph) == Skip::No
     }
 }
 
@@ -140,8 +144,7 @@ fn missed_next(next: &NextAsked, sides: &Sides) -> Option<usize>
     if next.digest.may_have(glyph.glyph_id) {
         return None;
     }
-    let walk = next_walk(next, sides);
-    if walk.skip(glyph) == Skip::No {
+    if counts_next(next, sides, glyph) {
         Some(2)
     } else {
         None

@@ -1,7 +1,8 @@
 //! The lookups of `GSUB` or `GPOS` (OpenType specification, "OpenType Layout Common Table Formats", "Lookup List table").
 
-ghost use Rattle.std.specs.Prelude.{ℕ, ◌≡◌, ◌<◌, ◌≤◌, true, false, All, length, slice_get, slice_range, option_copied};
-ghost use Rattle.glyph_layout.specs.Digest.{HasMore, is_for};
+ghost use Rattle.std.specs.Prelude.{ℕ, ◌≡◌, ◌<◌, ◌≤◌, true, false, All, IsFalse, Some, length, slice_get, slice_range, option_copied};
+ghost use Rattle.glyph_layout.specs.Digest.{HasMore, IsForNone, is_for};
+ghost use Rattle.glyph_layout.specs.declared.lookup_list.Lookup.{Lookup};
 ghost use Rattle.glyph_layout.specs.Seconds.{AreSeconds};
 ghost use Rattle.glyph_layout.specs.Walk.{glyph_at};
 
@@ -135,8 +136,12 @@ impl<'a> LookupList<'a> {
         self.lookups.get(usize::from(index))
     }
 
-    /// Whether the lookup of this index may do something in a text of such glyphs.
-    pub fn may_apply(&self, index: u16, glyphs: &Digest) -> bool {
+    /// Whether the lookup of this index may do something in a text of such glyphs. Where it may not, it is for none of them.
+    #[tactic(auto, using(crate::proofs::DigestLemmas::apart))]
+    pub fn may_apply(&self, index: u16, glyphs: &Digest) -> bool
+        ensures { (lookup : Lookup) → slice_get self.now.lookups.items index ≡ Some lookup → IsFalse result
+            → IsForNone lookup glyphs.now }
+    {
         match self.lookup(index) {
             Some(lookup) => lookup.digest.meets(glyphs),
             None => false,

@@ -8,10 +8,10 @@ ghost use Rattle.glyph_layout.specs.Rule.{ArePlaces, input_walk, part_wanted};
 
 use crate::context::Fit;
 use crate::matching::{match_ahead, match_behind, match_input};
-use crate::rule::{Meanings, Part, Rule, rule_in};
+use crate::rule::{Meaning, Meanings, Part, Rule, rule_in};
 use crate::search::{Search, Sides};
 use crate::walk::{Found, Skip, Walk};
-use crate::wanted::Wanted;
+use crate::wanted::{Wanted, class_of};
 use font_tables::bytes::{table_at_16, u16_at};
 use rb_glyph::hb_glyph_info_t;
 
@@ -76,26 +76,100 @@ pub(crate) fn first_fit<'a>(
     } else {
         Neighbours::Unknown
     };
+    let behind = seen_by_few(count, meanings, is_chained, sides);
     let mut beyond = Beyond::new(&ahead, is_chained);
     for index in 0..count {
         if !search.budget.pay(1) {
             return None;
         }
         if let Some(table) = table_at_16(set, 2 + 2 * index)
+            && !is_missed(table, &behind, sides, search)
             && let Some(rule) = rule_in(table, meanings, is_chained)
             && may_fit(&rule, &ahead, &mut beyond)
+            && let Some(found) = fit(&rule, sides, search)
         {
-            let found = fit(&rule, sides, search);
-            if let Some(found) = found {
-                return Some(Fit {
-                    beyond: beyond.to,
-                    ..found
-                });
-            }
+            return Some(Fit {
+                beyond: beyond.to,
+                ..found
+            });
         }
     }
     search.reach.extend(sides.out.len(), beyond.to);
     None
+}
+
+/// What stands behind the glyph at the cursor, in the numbers of rules that ask for it behind their input.
+#[derive(Clone, Copy, Debug)]
+struct Behind {
+    /// The number that a rule has to ask for; none where no rule fits.
+    number: Option<u16>,
+    /// How far glyphs were looked at.
+    end: usize,
+}
+
+/// What stands behind the glyph at the cursor, for a set of few chained rules.
+fn seen_by_few(count: usize, meanings: &Meanings, is_chained: bool, sides: &Sides) -> Option<Behind>
+    requires { 0 < length sides.now.input.now }
+{
+    if count <= 4 && is_chained {
+        seen_behind(&meanings.ahead, sides)
+    } else {
+        None
+    }
+}
+
+/// What stands behind the glyph at the cursor, where it counts whatever is asked for, or where there is nothing.
+fn seen_behind(ahead: &Meaning, sides: &Sides) -> Option<Behind>
+    requires { 0 < length sides.now.input.now }
+{
+    if sides.input.len() == 1 {
+        return Some(Behind {
+            number: None,
+            end: 1,
+        });
+    }
+    let glyph = &sides.input[1];
+    if sides.context.skip(glyph) != Skip::No {
+        return None;
+    }
+    let number = match *ahead {
+        Meaning::Glyphs => u16::try_from(glyph.glyph_id).ok(),
+        Meaning::Classes(classes) => Some(class_of(&classes, glyph.glyph_id)),
+        Meaning::Coverages(_) => return None,
+    };
+    Some(Behind {
+        number: if sides.context_walk(true).is_within(glyph) {
+            number
+        } else {
+            None
+        },
+        end: 2,
+    })
+}
+
+/// Whether a chained rule asks for something else behind its only glyph than what stands there.
+fn is_missed(table: &[u8], behind: &Option<Behind>, sides: &Sides, search: &mut Search) -> bool
+    ensures { IsNotMore search.old.budget search.new.budget }
+{
+    let Some(behind) = *behind else {
+        return false;
+    };
+    let asked = first_ahead(table);
+    if asked.is_none() || asked == behind.number {
+        return false;
+    }
+    search.budget.pay(1);
+    search.reach.extend(sides.out.len(), behind.end);
+    true
+}
+
+/// The first number behind the input of a chained rule whose input is a single glyph, if it has one there.
+fn first_ahead(table: &[u8]) -> Option<u16> {
+    let input_at = 2 + 2 * usize::from(u16_at(table, 0)?);
+    if u16_at(table, input_at)? > 1 || u16_at(table, input_at + 2)? == 0 {
+        return None;
+    }
+    u16_at(table, input_at + 4)
 }
 
 /// A glyph behind the cursor.
@@ -168,6 +242,9 @@ pub(crate) fn next_kept(walk: &Walk, glyphs: &[hb_glyph_info_t], place: usize) -
     requires { place < length glyphs.now }
     ensures { IfSome result (IsNext walk.now glyphs.now place) }
 {
+    if let Some(next) = next_beside(walk, glyphs, place) {
+        return Some(next);
+    }
     let Found::At(next) = walk.next(&Wanted::Any, glyphs, place) else {
         return None;
     };
@@ -177,6 +254,25 @@ pub(crate) fn next_kept(walk: &Walk, glyphs: &[hb_glyph_info_t], place: usize) -
     Some(Next {
         glyph: glyphs[next].glyph_id,
         end: next + 1,
+    })
+}
+
+/// The glyph right behind a place, if it counts whatever is asked for.
+#[tactic(auto, using(crate::proofs::MatchLemmas::beside_other))]
+fn next_beside(walk: &Walk, glyphs: &[hb_glyph_info_t], place: usize) -> Option<Next>
+    requires { place < length glyphs.now }
+    ensures { IfSome result (IsNext walk.now glyphs.now place) }
+{
+    if place + 1 >= glyphs.len() {
+        return None;
+    }
+    let beside = &glyphs[place + 1];
+    if walk.skip(beside) != Skip::No || !walk.is_within(beside) {
+        return None;
+    }
+    Some(Next {
+        glyph: beside.glyph_id,
+        end: place + 2,
     })
 }
 

@@ -3,6 +3,7 @@
 
 ghost use Rattle.std.specs.Prelude.{◌≡◌, ◌≤◌, ◌+◌, false, length, IsSome, IfSome};
 ghost use Rattle.glyph_layout.specs.Budget.{IsNotMore};
+ghost use Rattle.glyph_layout.specs.Walk.{covered_index};
 ghost use Rattle.glyph_lists.specs.Masks.{reset_masks};
 ghost use Rattle.shaping_buffer.specs.KeepsClusters.{KeepsClusters};
 
@@ -85,6 +86,13 @@ fn place_all<'a>(
         return;
     };
     search.budget.pay_for(1 + buffer.len() / PASSED_A_STEP);
+    let mut task = Task {
+        setting,
+        lookup,
+        options,
+        place: 0,
+        depth: MAX_NESTING_LEVEL,
+    };
     let mut last = LastBase::none();
     let mut next = 0;
     for _turn in 0..buffer.len() {
@@ -92,13 +100,7 @@ fn place_all<'a>(
         if place == buffer.len() || search.budget.is_spent() {
             return;
         }
-        let task = Task {
-            setting,
-            lookup,
-            options,
-            place,
-            depth: MAX_NESTING_LEVEL,
-        };
+        task.place = place;
         next = place_by_lookup(buffer, &task, search, &mut last)
             .unwrap_or(0)
             .max(place + 1);
@@ -134,7 +136,7 @@ fn place_by_lookup<'a>(
     for subtable in subtables {
         if subtable.digest.may_have(glyph)
             && search.budget.pay(SUBTABLE_STEPS)
-            && let Some(index) = covered_index(&subtable.coverage, glyph)
+            && let Some(index) = index_in(subtable, glyph)
         {
             let next = place_by_subtable(buffer, task, subtable, index, search, last);
             if next.is_some() {
@@ -145,8 +147,17 @@ fn place_by_lookup<'a>(
     None
 }
 
+/// The coverage index of a glyph in a subtable.
+#[inline(never)]
+fn index_in(subtable: &Subtable, glyph: u32) -> Option<u32>
+    ensures { result ≡ covered_index subtable.now.coverage.table.now glyph }
+{
+    covered_index(&subtable.coverage, glyph)
+}
+
 /// Positions the glyph, which has this coverage index in a subtable, by the subtable, and says where the walk goes on; `None` where the subtable does not fit.
 #[cycle(nested)]
+#[inline(never)]
 fn place_by_subtable<'a>(
     buffer: &mut hb_buffer_t,
     task: &Task<'a>,

@@ -1,32 +1,24 @@
 //! Single glyphs and pairs that are moved (HarfBuzz, `SinglePos`, `PairPos`).
 
-ghost use Rattle.std.specs.Prelude.{◌≡◌, false, IsSome};
+ghost use Rattle.std.specs.Prelude.{◌≡◌, ◌<◌, ℕ, List, true, false, length, IsSome};
+ghost use Rattle.glyph_layout.specs.Walk.{next_found};
+ghost use Rattle.glyph_layout.specs.declared.wanted.Wanted.TheVariants.{Shown};
 ghost use Rattle.glyph_lists.specs.Masks.{reset_masks};
-ghost use Rattle.position_tables.specs.Values.{moved};
+ghost use Rattle.position_tables.specs.Values.{across, moved};
 ghost use Rattle.glyph_positions.specs.Placing.{changed_at, pair_moved};
 
 use crate::flags::{mark_break, mark_concat};
 use crate::turn::Turn;
-use glyph_layout::walk::Found;
+use glyph_layout::walk::{Found, Walk};
 use glyph_layout::wanted::{Wanted, class_of};
 use position_tables::instance::Instance;
 use position_tables::pairs::{
-    PairValues, classed_pair, listed_pair, pair_formats, pair_set, single_values,
+    PairValues, classed_advance, classed_pair, is_kerning, listed_advance, listed_pair,
+    pair_formats, pair_set, single_values,
 };
-use position_tables::values::ValueRecord;
+use position_tables::values::{ValueRecord, advanced};
 use rb_glyph::{GlyphPosition, hb_glyph_info_t};
 use shaping_buffer::hb_buffer_t;
-
-/// What a subtable finds at a glyph.
-#[derive(Clone, Copy, Debug)]
-enum PairFound<'a> {
-    /// It is not for the glyph.
-    Nothing,
-    /// It has no pair with what comes up to this place.
-    NoPair(usize),
-    /// A pair.
-    Pair(Pair<'a>),
-}
 
 /// A pair of glyphs.
 #[derive(Clone, Copy, Debug)]
@@ -95,40 +87,103 @@ pub(crate) fn place_pair(buffer: &mut hb_buffer_t, turn: &Turn) -> Option<usize>
     ensures level { buffer.new.cluster_level ≡ buffer.old.cluster_level }
     ensures glyphs { reset_masks 0 buffer.new.input ≡ reset_masks 0 buffer.old.input }
 {
-    match pair_of(buffer.info(), turn) {
-        PairFound::Nothing => None,
-        PairFound::NoPair(end) => {
-            mark_concat(buffer, turn.place, end);
-            None
-        }
-        PairFound::Pair(pair) => {
+    let glyphs = buffer.info();
+    let first = glyphs.get(turn.place)?.glyph_id;
+    let (second, end) = match next_shown(&turn.walk, glyphs, turn.place) {
+        Found::At(place) => (Some(place), place.saturating_add(1)),
+        Found::Other(place) => (None, place.saturating_add(1)),
+        Found::End => (None, glyphs.len()),
+    };
+    if let Some(second) = second
+        && let Some(next) = glyphs.get(second)
+    {
+        let glyphs = (first, next.glyph_id);
+        if buffer.direction.is_horizontal() && is_kerning(turn.subtable.table) {
+            if let Some(advance) = advance_of(turn, glyphs) {
+                kern_pair(buffer, turn, end, advance);
+                return Some(second);
+            }
+        } else if let Some(pair) = pair_with(turn, glyphs, second) {
             move_pair(buffer, &pair, turn.instance);
-            Some(if pair.uses_second {
-                pair.second.saturating_add(1)
-            } else {
-                pair.second
-            })
+            return Some(if pair.uses_second { end } else { second });
         }
+    }
+    mark_concat(buffer, turn.place, end);
+    None
+}
+
+/// The advance of the pair of these glyphs.
+#[inline]
+fn advance_of(turn: &Turn, glyphs: (u32, u32)) -> Option<i16> {
+    let (first, second) = glyphs;
+    match turn.subtable.format {
+        1 => listed_advance(
+            pair_set(turn.subtable.table, turn.index)?,
+            u16::try_from(second).ok()?,
+        ),
+        2 => {
+            let first = class_of(&turn.subtable.classes, first);
+            classed_advance(
+                turn.subtable.table,
+                first,
+                class_of(&turn.subtable.classes_ahead, second),
+            )
+        }
+        _ => None,
     }
 }
 
-/// The pair of the glyph and the next one that is not passed over.
-fn pair_of<'a>(glyphs: &[hb_glyph_info_t], turn: &Turn<'a>) -> PairFound<'a> {
-    let Some(first) = glyphs.get(turn.place) else {
-        return PairFound::Nothing;
-    };
-    match turn.walk.next(&Wanted::Shown, glyphs, turn.place) {
-        Found::At(place) => match glyphs.get(place) {
-            Some(second) => pair_with(turn, (first.glyph_id, second.glyph_id), place),
-            None => PairFound::Nothing,
-        },
-        Found::Other(place) => PairFound::NoPair(place.saturating_add(1)),
-        Found::End => PairFound::NoPair(glyphs.len()),
+/// Kerns the pair of the glyph and the one before a place.
+#[inline]
+fn kern_pair(buffer: &mut hb_buffer_t, turn: &Turn, end: usize, advance: i16)
+    requires closed { buffer.old.have_output ≡ false }
+    requires placed { IsSome buffer.old.positions }
+    ensures closed { buffer.new.have_output ≡ false }
+    ensures placed { IsSome buffer.new.positions }
+    ensures level { buffer.new.cluster_level ≡ buffer.old.cluster_level }
+    ensures glyphs { reset_masks 0 buffer.new.input ≡ reset_masks 0 buffer.old.input }
+{
+    if advance != 0 {
+        advance_at(buffer.pos_mut(), turn.place, advance, turn.instance);
+        mark_break(buffer, turn.place, end);
+    } else if turn.subtable.format == 2 {
+        mark_concat(buffer, turn.place, end);
+    }
+}
+
+/// Moves the advance of the glyph at a place.
+#[inline]
+#[tactic(auto, unfolding(crate::specs::Placing::changed_at))]
+fn advance_at(positions: &mut [GlyphPosition], place: usize, advance: i16, instance: &Instance<'_>)
+    ensures { (base : List ℕ) → positions.new
+        ≡ changed_at (moved base instance.now true (across advance)) place positions.old }
+{
+    if place < positions.len() {
+        positions[place] = advanced(advance, instance, positions[place]);
+    }
+}
+
+/// The next glyph that is not passed over, which most often is the one behind.
+#[inline]
+#[tactic(auto, using(crate::proofs::PairLemmas::next_is_behind))]
+fn next_shown(walk: &Walk, glyphs: &[hb_glyph_info_t], place: usize) -> Found
+    requires { place < length glyphs.now }
+    ensures { result ≡ next_found walk.now Shown glyphs.now place }
+{
+    let behind = place + 1;
+    if behind < glyphs.len()
+        && !walk.passes(&Wanted::Shown, &glyphs[behind])
+        && walk.matches(&Wanted::Shown, &glyphs[behind])
+    {
+        Found::At(behind)
+    } else {
+        walk.next(&Wanted::Shown, glyphs, place)
     }
 }
 
 /// The pair of these glyphs, of which the second stands at a place.
-fn pair_with<'a>(turn: &Turn<'a>, glyphs: (u32, u32), second: usize) -> PairFound<'a> {
+#[inline]
+fn pair_with<'a>(turn: &Turn<'a>, glyphs: (u32, u32), second: usize) -> Option<Pair<'a>> {
     let table = turn.subtable.table;
     let is_classed = turn.subtable.format == 2;
     let base = if is_classed {
@@ -136,20 +191,19 @@ fn pair_with<'a>(turn: &Turn<'a>, glyphs: (u32, u32), second: usize) -> PairFoun
     } else {
         pair_set(table, turn.index).unwrap_or(&[])
     };
-    match values_of(turn, base, glyphs) {
-        Some(values) => PairFound::Pair(Pair {
-            first: turn.place,
-            second,
-            values,
-            base,
-            uses_second: pair_formats(table).1 != 0,
-            is_classed,
-        }),
-        None => PairFound::NoPair(second.saturating_add(1)),
-    }
+    let values = values_of(turn, base, glyphs)?;
+    Some(Pair {
+        first: turn.place,
+        second,
+        values,
+        base,
+        uses_second: pair_formats(table).1 != 0,
+        is_classed,
+    })
 }
 
 /// The records of a pair.
+#[inline]
 fn values_of(turn: &Turn, base: &[u8], glyphs: (u32, u32)) -> Option<PairValues> {
     let (first, second) = glyphs;
     match turn.subtable.format {

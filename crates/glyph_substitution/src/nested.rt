@@ -151,6 +151,7 @@ fn make(
     ensures keeps { KeepsClusters buffer.old buffer.new }
 {
     let gdef = substitutions.gdef;
+    progress.has_changed = true;
     match *edit {
         Edit::Replace(glyph) => replace(buffer, gdef, glyph),
         Edit::Choose(set) => choose(buffer, gdef, &set, progress),

@@ -48,6 +48,7 @@ fn substitute_one(
     let edit = decide(buffer.info(), substitutions, lookup, progress, place);
     mark_concat(buffer, &progress.search.reach, place);
     if let Some(edit) = edit {
+        progress.has_changed = true;
         make(buffer, substitutions.gdef, place, &edit);
     }
 }

@@ -35,6 +35,8 @@ pub struct Progress {
     pub search: Search,
     /// The state of the random numbers, which choose alternates.
     pub random_state: u32,
+    /// Whether a lookup changed the glyphs of the text. Whoever has seen it may take it back.
+    pub has_changed: bool,
 }
 
 impl Progress {
@@ -45,6 +47,7 @@ impl Progress {
         Progress {
             search: Search::new(budget),
             random_state: 1,
+            has_changed: false,
         }
     }
 }
@@ -73,10 +76,14 @@ pub fn substitute(
         .search
         .budget
         .pay_for(1 + buffer.len() / PASSED_A_STEP);
-    if mask == 0 || lookup.first_place(mask, buffer.info(), 0) == buffer.len() {
+    if mask == 0 {
         return Ok(true);
     }
-    apply(buffer, substitutions, lookup, progress)
+    let first = lookup.first_place(mask, buffer.info(), 0);
+    if first == buffer.len() {
+        return Ok(true);
+    }
+    apply(buffer, substitutions, lookup, first, progress)
 }
 
 /// Applies a lookup at each glyph, from the side that it is applied from.
@@ -84,9 +91,11 @@ fn apply(
     buffer: &mut hb_buffer_t,
     substitutions: &Substitutions,
     lookup: &Lookup,
+    first: usize,
     progress: &mut Progress,
 ) -> Result<bool, AllocError>
-    requires { buffer.old.have_output ≡ false }
+    requires closed { buffer.old.have_output ≡ false }
+    requires first { first ≤ length buffer.old.input }
     ensures left { IsLeftClosed result buffer.new }
     ensures spent { IsNotMore progress.old.search.budget progress.new.search.budget }
     ensures keeps { KeepsClusters buffer.old buffer.new }
@@ -99,7 +108,7 @@ fn apply(
         substitute_reverse(buffer, substitutions, lookup, progress);
         return Ok(true);
     }
-    substitute_forward(buffer, substitutions, lookup, progress)
+    substitute_forward(buffer, substitutions, lookup, first, progress)
 }
 
 /// Whether a lookup is applied from the end.
@@ -110,19 +119,24 @@ fn is_reverse(list: &LookupList, lookup: &Lookup) -> bool {
     }
 }
 
-/// Applies a lookup from the first glyph on.
+/// Applies a lookup from the glyph at a place on: it is for none of those before.
 fn substitute_forward(
     buffer: &mut hb_buffer_t,
     substitutions: &Substitutions,
     lookup: &Lookup,
+    first: usize,
     progress: &mut Progress,
 ) -> Result<bool, AllocError>
-    requires { buffer.old.have_output ≡ false }
+    requires closed { buffer.old.have_output ≡ false }
+    requires first { first ≤ length buffer.old.input }
     ensures left { IsLeftClosed result buffer.new }
     ensures spent { IsNotMore progress.old.search.budget progress.new.search.budget }
     ensures keeps { KeepsClusters buffer.old buffer.new }
 {
     buffer.clear_output();
+    if first > 0 && !buffer.next_glyphs(first)? {
+        return Ok(false);
+    }
     for _turn in 0..buffer.len() {
         if buffer.lookahead_len() == 0 || progress.search.budget.is_spent() {
             break;
@@ -137,40 +151,43 @@ fn substitute_forward(
     buffer.sync()
 }
 
-/// Puts out the glyphs that the lookup is not for, and applies it at the next one, if there is one.
+/// Applies the lookup at the cursor, and puts out the glyphs behind that it is not for.
 fn substitute_next(
     buffer: &mut hb_buffer_t,
     substitutions: &Substitutions,
     lookup: &Lookup,
     progress: &mut Progress,
 ) -> Result<bool, AllocError>
-    requires { buffer.old.have_output ≡ true }
+    requires opened { buffer.old.have_output ≡ true }
+    requires glyph { 0 < length buffer.old.input }
     ensures left { IsLeftOpen result buffer.new }
     ensures spent { IsNotMore progress.old.search.budget progress.new.search.budget }
     ensures keeps { KeepsClusters buffer.old buffer.new }
 {
-    let passed = lookup.first_place(substitutions.options.mask, buffer.info(), 0);
-    if passed > 0 && !buffer.next_glyphs(passed)? {
-        return Ok(false);
-    }
-    if buffer.lookahead_len() == 0 {
-        return Ok(true);
-    }
     match apply_at(buffer, substitutions, lookup, progress, MAX_NESTING_LEVEL)? {
-        Step::Applied => Ok(true),
+        Step::Applied => go_on(buffer, substitutions, lookup, 0),
         Step::Refused => Ok(false),
-        Step::Passed => go_on(buffer),
+        Step::Passed => go_on(buffer, substitutions, lookup, 1),
     }
 }
 
-/// Puts the current glyph out, if there is one.
-fn go_on(buffer: &mut hb_buffer_t) -> Result<bool, AllocError>
+/// Puts out so many glyphs, if there are as many, and those behind them that the lookup is not for.
+fn go_on(
+    buffer: &mut hb_buffer_t,
+    substitutions: &Substitutions,
+    lookup: &Lookup,
+    count: usize,
+) -> Result<bool, AllocError>
     requires { buffer.old.have_output ≡ true }
     ensures left { IsLeftOpen result buffer.new }
     ensures keeps { KeepsClusters buffer.old buffer.new }
 {
-    if buffer.lookahead_len() == 0 {
+    let input = buffer.info();
+    let mask = substitutions.options.mask;
+    let start = count.min(input.len());
+    let passed = lookup.first_place(mask, input, start);
+    if passed == 0 {
         return Ok(true);
     }
-    buffer.next_glyph()
+    buffer.next_glyphs(passed)
 }

@@ -2,6 +2,8 @@
 --
 -- A value takes the bits below the next power of two (`MaskLemmas`). Features get their bits one after the other, each
 -- from the first free bit on, so what was given before stays below it, and no two share a bit (`AllocationLemmas`).
+-- Requests and features stand in the order of their tags, so a bisection finds one, or its place (`OrderLemmas`).
 
 pub mod MaskLemmas
 pub mod AllocationLemmas
+pub mod OrderLemmas

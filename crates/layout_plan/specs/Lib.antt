@@ -3,6 +3,7 @@ pub mod Choice
 pub mod Masks
 pub mod Allocation
 pub mod AllocationSteps
+pub mod Order
 pub mod Plan
 pub mod Requests
 pub mod Pauses

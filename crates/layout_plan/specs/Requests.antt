@@ -1,8 +1,9 @@
 -- Features that are asked for.
-use Rattle.std.specs.Prelude.{ℕ, ◌||◌, None, if◌then◌else◌, max, min}
+use Rattle.std.specs.Prelude.{ℕ, ◌||◌, ◌==◌, List, [], ◌∷◌, None, if◌then◌else◌, max, min, nat_lt}
 use Rattle.rb_common.specs.declared.tag.Tag.{Tag}
 use Rattle.layout_plan.specs.declared.request.FeatureFlags.{FeatureFlags}
 use Rattle.layout_plan.specs.declared.request.FeatureRequest.{FeatureRequest}
+use Rattle.layout_plan.specs.Order.{KeysRise}
 
 -- a value that is asked for: each glyph has it by default, if the feature is one of every glyph
 unfoldable pub requested : Tag → FeatureFlags → ℕ → ℕ → FeatureRequest
@@ -28,3 +29,15 @@ merged before later = record before {
   default_value = if later.flags.is_global then later.default_value else before.default_value;
   stage = min before.stage later.stage;
 }
+
+-- requests in the order of their tags, each tag once
+abbrev pub AreInOrder : List FeatureRequest → Type 0
+AreInOrder requests = KeysRise (λ request. request.tag.0) requests
+
+-- one more request, in its place by its tag; the request of its tag, if there is one, takes it in
+abbrev pub with_request : FeatureRequest → List FeatureRequest → List FeatureRequest
+with_request later [] = later ∷ []
+with_request later (request ∷ others) =
+    if request.tag.0 == later.tag.0 then merged request later ∷ others
+    else if nat_lt later.tag.0 request.tag.0 then later ∷ request ∷ others
+    else request ∷ with_request later others

@@ -1,5 +1,6 @@
 -- The script list and the feature list of a table GSUB or GPOS.
-use Rattle.std.specs.Prelude.{ℕ, List, [], Option, Some, None, ◌+◌, ◌*◌, nat_eq, nat_lt, if◌then◌else◌, option_and_then, unwrap_or}
+use Rattle.std.specs.Prelude.{ℕ, Bool, List, [], Option, Some, None, ◌+◌, ◌*◌, nat_eq, nat_lt, if◌then◌else◌, option_and_then, unwrap_or}
+use Rattle.std.specs.Prelude.{is_some}
 use Rattle.font_tables.specs.Bytes.{number_16, number_32, table_at_16, is_number}
 use Rattle.font_tables.specs.Rows.{first_below, rows_within}
 use Rattle.font_variations.specs.FeatureVariations.{substitute_of}
@@ -62,3 +63,12 @@ system_feature_count system = rows_within system 6 2 (unwrap_or (number_16 syste
 -- the number of the feature that a language system lists in a place
 abbrev pub system_feature : List ℕ → ℕ → Option ℕ
 system_feature system place = number_16 system (6 + 2 * place)
+
+-- the tag of the feature that a language system lists in a place
+abbrev pub tag_in_system : List ℕ → List ℕ → ℕ → Option ℕ
+tag_in_system features system place = option_and_then (feature_tag features) (system_feature system place)
+
+-- whether a language system lists a feature with a tag
+abbrev pub lists_feature : List ℕ → List ℕ → ℕ → Bool
+lists_feature features system tag =
+    is_some (first_below (λ place. is_number (tag_in_system features system place) tag) (system_feature_count system))

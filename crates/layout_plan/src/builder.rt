@@ -1,6 +1,11 @@
 //! The features of a text, collected: HarfBuzz's `hb_ot_map_builder_t`.
 
-ghost use Rattle.std.specs.Prelude.{◌≡◌, ◌<◌, ◌≤◌, ◌++◌, ◌∷◌, [], length, IfOk, IfErr};
+ghost use Rattle.std.specs.Prelude.{◌≡◌, ◌≢◌, ◌<◌, ◌≤◌, ◌++◌, ◌∷◌, ◌||◌, [], length, vec_len, map, true, IfOk, IfErr};
+ghost use Rattle.font_tables.specs.Bytes.{is_number};
+ghost use Rattle.layout_plan.specs.Choice.{script_of, system_of};
+ghost use Rattle.layout_plan.specs.Order.{IsPlaceOf, IsGapFor};
+ghost use Rattle.layout_plan.specs.Requests.{AreInOrder};
+ghost use Rattle.layout_plan.specs.Tables.{list_of, lookup_count, lists_feature, tag_in_system};
 
 use crate::allocation::{global_mask, planned_features};
 use crate::choice::{
@@ -27,7 +32,16 @@ pub struct ChosenTable<'a> {
 
 impl<'a> ChosenTable<'a> {
     /// What is chosen of a table for a text with these script tags and these language tags, the best first.
-    pub fn new(table: &'a [u8], scripts: &[Tag], languages: &[Tag]) -> Self {
+    pub fn new(table: &'a [u8], scripts: &[Tag], languages: &[Tag]) -> Self
+        ensures scripts { result.lists.scripts.now ≡ list_of table.now 4 }
+        ensures features { result.lists.features.now ≡ list_of table.now 6 }
+        ensures lookups { result.lists.lookup_count ≡ lookup_count table.now }
+        ensures substitutions { result.lists.substitutions.now ≡ [] }
+        ensures script { (result.script.tag.0, result.script.table.now)
+            ≡ script_of (list_of table.now 4) (map (λ tag. tag.0) scripts.now) }
+        ensures system { result.system.now
+            ≡ system_of result.script.table.now (map (λ tag. tag.0) languages.now) }
+    {
         let lists = LayoutTable::new(table);
         let script = select_script(lists.scripts, scripts);
         ChosenTable {
@@ -65,21 +79,30 @@ impl<'a> ChosenTable<'a> {
     }
 
     /// Whether the language system has a feature with this tag.
-    pub fn has_feature(&self, tag: Tag) -> bool {
+    pub fn has_feature(&self, tag: Tag) -> bool
+        ensures { result ≡ lists_feature self.now.lists.features.now self.now.system.now tag.0 }
+    {
         for place in 0..feature_count(self.system) {
-            if self.system_feature_tag(place) == Some(tag) {
+            if self.has_feature_at(place, tag) {
                 return true;
             }
         }
         false
     }
 
-    /// The tag of the feature that the language system lists in a place.
-    fn system_feature_tag(&self, place: usize) -> Option<Tag>
+    /// Whether the feature that the language system lists in a place has this tag.
+    fn has_feature_at(&self, place: usize, tag: Tag) -> bool
         requires { place < 65536 }
+        ensures { result
+            ≡ is_number (tag_in_system self.now.lists.features.now self.now.system.now place) tag.0 }
     {
-        let index = u16_at(self.system, 6 + 2 * place)?;
-        self.lists.feature_tag(index)
+        match u16_at(self.system, 6 + 2 * place) {
+            Some(index) => match self.lists.feature_tag(index) {
+                Some(found) => found.0 == tag.0,
+                None => false,
+            },
+            None => false,
+        }
     }
 }
 
@@ -99,9 +122,13 @@ pub struct PlanBuilder<'a> {
 impl<'a> PlanBuilder<'a> {
     ghost use Rattle.layout_plan.specs.Plan.{IsPlan};
     ghost use Rattle.layout_plan.specs.Pauses.{HasSamePauses};
+    ghost use Rattle.layout_plan.specs.Requests.{requested, with_request};
 
     /// No features yet.
-    pub fn new(alloc: Global, gsub: ChosenTable<'a>, gpos: ChosenTable<'a>) -> Self {
+    pub fn new(alloc: Global, gsub: ChosenTable<'a>, gpos: ChosenTable<'a>) -> Self
+        ensures tables { (result.gsub ≡ gsub.entry) × (result.gpos ≡ gpos.entry) }
+        ensures empty { (result.requests.items ≡ []) × (result.pauses.items ≡ []) }
+    {
         PlanBuilder {
             gsub,
             gpos,
@@ -111,7 +138,10 @@ impl<'a> PlanBuilder<'a> {
     }
 
     /// Whether one of the tables has a feature with this tag.
-    pub fn has_feature(&self, tag: Tag) -> bool {
+    pub fn has_feature(&self, tag: Tag) -> bool
+        ensures { result ≡ lists_feature self.now.gsub.lists.features.now self.now.gsub.system.now tag.0
+            || lists_feature self.now.gpos.lists.features.now self.now.gpos.system.now tag.0 }
+    {
         self.gsub.has_feature(tag) || self.gpos.has_feature(tag)
     }
 
@@ -122,7 +152,11 @@ impl<'a> PlanBuilder<'a> {
         flags: FeatureFlags,
         value: u32,
     ) -> Result<(), AllocError>
-        ensures { HasSamePauses self.old self.new }
+        ensures pauses { HasSamePauses self.old self.new }
+        ensures null { tag.0 ≡ 0 → self.new.requests.items ≡ self.old.requests.items }
+        ensures asked { tag.0 ≢ 0 → AreInOrder self.old.requests.items → IfOk result (λ _. self.new.requests.items
+            ≡ with_request (requested tag flags value (vec_len self.old.pauses)) self.old.requests.items) }
+        ensures refused { IfErr result (λ _. self.new.requests.items ≡ self.old.requests.items) }
     {
         if tag.is_null() {
             return Ok(());
@@ -140,7 +174,12 @@ impl<'a> PlanBuilder<'a> {
 
     /// Asks for a feature of every glyph, with the value 1.
     pub fn enable_feature(&mut self, tag: Tag, flags: FeatureFlags) -> Result<(), AllocError>
-        ensures { HasSamePauses self.old self.new }
+        ensures pauses { HasSamePauses self.old self.new }
+        ensures null { tag.0 ≡ 0 → self.new.requests.items ≡ self.old.requests.items }
+        ensures asked { tag.0 ≢ 0 → AreInOrder self.old.requests.items → IfOk result (λ _. self.new.requests.items
+            ≡ with_request (requested tag (record flags { is_global = true }) 1 (vec_len self.old.pauses))
+            self.old.requests.items) }
+        ensures refused { IfErr result (λ _. self.new.requests.items ≡ self.old.requests.items) }
     {
         let flags = FeatureFlags {
             is_global: true,
@@ -203,10 +242,11 @@ impl<'a> PlanBuilder<'a> {
 
 /// The place of the request of a tag, or where it belongs.
 fn place_of(requests: &[FeatureRequest], tag: Tag) -> Result<usize, usize>
-    ensures found { IfOk result (λ place. place < length requests.now) }
+    ensures found { IfOk result (IsPlaceOf (λ request. request.tag.0) tag.0 requests.now) }
     ensures fits { IfErr result (λ place. place ≤ length requests.now) }
+    ensures gap { AreInOrder requests.now → IfErr result (IsGapFor (λ request. request.tag.0) tag.0 requests.now) }
 {
-    requests.binary_search_by_key(&tag, |request| request.tag)
+    requests.binary_search_by_key(&tag.0, |request| request.tag.0)
 }
 
 /// Finds the features of both tables that have the tags of the requests.

@@ -1,6 +1,10 @@
 //! Which lookups of a font are applied, in which order, and to which glyphs: HarfBuzz's `hb_ot_map_t`.
 
-ghost use Rattle.std.specs.Prelude.{◌≡◌};
+ghost use Rattle.std.specs.Prelude.{◌≡◌, [], None, MatchResult, false};
+ghost use Rattle.std.specs.Option.{option_copied};
+ghost use Rattle.layout_plan.specs.Masks.{mask_of, value_in};
+ghost use Rattle.layout_plan.specs.Order.{IsPlaceOf};
+ghost use Rattle.layout_plan.specs.Plan.{IsReadOf, IsWithTag};
 ghost use Rattle.layout_plan.specs.Stages.{lookups_of_stage, stage_start};
 
 use crate::bits::FeatureBits;
@@ -101,16 +105,19 @@ pub struct LayoutPlan {
 
 impl LayoutPlan {
     /// The feature with a tag; `None` where the plan has none.
-    pub fn feature(&self, tag: Tag) -> Option<&PlannedFeature> {
-        let place = self
-            .features
-            .binary_search_by_key(&tag, |feature| feature.tag)
-            .ok()?;
-        self.features.get(place)
+    pub fn feature(&self, tag: Tag) -> Option<&PlannedFeature>
+        ensures { IsWithTag self.now.features.items tag.0 (option_copied result) }
+    {
+        match place_of(self.features.as_slice(), tag) {
+            Ok(place) => self.features.get(place),
+            Err(_) => None,
+        }
     }
 
     /// The mask of a feature; 0 where the plan has none with this tag.
-    pub fn mask(&self, tag: Tag) -> u32 {
+    pub fn mask(&self, tag: Tag) -> u32
+        ensures { IsReadOf self.now.features.items tag.0 (λ f. mask_of f.bits.shift f.bits.count) 0 result }
+    {
         match self.feature(tag) {
             Some(feature) => feature.bits.mask(),
             None => 0,
@@ -118,7 +125,9 @@ impl LayoutPlan {
     }
 
     /// The mask of the value 1 of a feature; 0 where the plan has none with this tag.
-    pub fn one_mask(&self, tag: Tag) -> u32 {
+    pub fn one_mask(&self, tag: Tag) -> u32
+        ensures { IsReadOf self.now.features.items tag.0 (λ f. value_in f.bits.shift f.bits.count 1) 0 result }
+    {
         match self.feature(tag) {
             Some(feature) => feature.bits.of_value(1),
             None => 0,
@@ -126,7 +135,10 @@ impl LayoutPlan {
     }
 
     /// The lookups of substitution that are applied in the stage of a feature; none where the plan has none with this tag.
-    pub fn stage_lookups(&self, tag: Tag) -> &[PlannedLookup] {
+    pub fn stage_lookups(&self, tag: Tag) -> &[PlannedLookup]
+        ensures { IsReadOf self.now.features.items tag.0
+            (λ f. lookups_of_stage self.now.stages.items self.now.gsub_lookups.items f.stage) [] result.now }
+    {
         match self.feature(tag) {
             Some(feature) => self.lookups_of_stage(feature.stage),
             None => &[],
@@ -151,12 +163,21 @@ impl LayoutPlan {
     }
 
     /// Whether a feature has to be made by a fallback.
-    pub fn needs_fallback(&self, tag: Tag) -> bool {
+    pub fn needs_fallback(&self, tag: Tag) -> bool
+        ensures { IsReadOf self.now.features.items tag.0 (λ f. f.needs_fallback) false result }
+    {
         match self.feature(tag) {
             Some(feature) => feature.needs_fallback,
             None => false,
         }
     }
+}
+
+/// The place of the feature with a tag, or where it belongs.
+fn place_of(features: &[PlannedFeature], tag: Tag) -> Result<usize, usize>
+    ensures { MatchResult result (IsPlaceOf (λ f. f.tag.0) tag.0 features.now) (λ _. IsWithTag features.now tag.0 None) }
+{
+    features.binary_search_by_key(&tag.0, |feature| feature.tag.0)
 }
 
 /// The place of a stage's first lookup, in the list of all.

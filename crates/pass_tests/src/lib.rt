@@ -10,4 +10,10 @@ mod mark_order;
 #[cfg(test)]
 mod normalization;
 #[cfg(test)]
+mod rules;
+#[cfg(test)]
+mod runs;
+#[cfg(test)]
+mod turns;
+#[cfg(test)]
 mod visible;

@@ -36,6 +36,10 @@ anchor table instance = option_and_then (λ format.
     if nat_le 1 format && nat_le format 3 then known_anchor table format instance
     else Some (record { x = pos 0; y = pos 0; x_delta = pos 0; y_delta = pos 0 })) (number_16 table 0)
 
+-- where a number of font units is at a size, with its correction
+abbrev pub placed : ℤ → ℤ → ℤ → ℕ → ℤ
+placed n delta size units_per_em = int_wrapping_add w32 (distance n size units_per_em) delta
+
 -- from one number of font units to another, with their corrections
 abbrev pub between : ℤ → ℤ → ℤ → ℤ → ℤ → ℕ → ℤ
 between from from_delta to to_delta size units_per_em =

@@ -1,8 +1,9 @@
 -- The table `kern`: subtables of pairs of glyphs, or of pairs of classes.
-use Rattle.std.specs.Prelude.{◌≡◌, ℕ, ℤ, List, Option, None, Some, ◌+◌, ◌-◌, ◌*◌, ◌/◌, ◌&&◌, nat_le, nat_lt}
+use Rattle.std.specs.Prelude.{◌≡◌, ◌⊎◌, ℕ, ℤ, List, Option, None, Some, ◌+◌, ◌-◌, ◌*◌, ◌/◌, ◌&&◌, nat_le, nat_lt}
 use Rattle.std.specs.Prelude.{if◌then◌else◌, unwrap_or, pos, option_and_then, drop}
 use Rattle.font_tables.specs.Bytes.{number_16, number_32, signed_16}
-use Rattle.font_tables.specs.Rows.{rows_within}
+use Rattle.font_tables.specs.Rows.{rows_within, Rises, AreThere}
+use Rattle.position_tables.specs.SortedRows.{IsNowhere}
 
 -- Rows of six bytes, from the eighth byte behind the header on: the first glyph, the second glyph, and the value. The two glyphs
 -- together are the key.
@@ -18,6 +19,18 @@ abbrev pub IsOfPair : List ℕ → ℕ → ℕ → ℕ → ℤ → Type 0
 IsOfPair subtable header left right value =
     (row : ℕ) × ((pair_key subtable header row ≡ Some (left * 65536 + right))
     × (unwrap_or (signed_16 subtable (header + 12 + 6 * row)) (pos 0) ≡ value))
+
+-- where the rows rise by their keys, none has these two glyphs
+abbrev pub IsMissing : List ℕ → ℕ → ℕ → ℕ → Type 0
+IsMissing subtable header left right =
+    let count = pair_count subtable header in
+    AreThere (pair_key subtable header) count → Rises (pair_key subtable header) count
+    → IsNowhere (pair_key subtable header) count (left * 65536 + right)
+
+-- the value is that of a row with these two glyphs, and 0 where there is none
+abbrev pub IsListed : List ℕ → ℕ → ℕ → ℕ → ℤ → Type 0
+IsListed subtable header left right value =
+    IsOfPair subtable header left right value ⊎ (IsMissing subtable header left right × (value ≡ pos 0))
 
 -- The number of a glyph in a list of numbers, those of so many glyphs from a first glyph on; `None` where the list does not have
 -- the glyph.

@@ -1,9 +1,10 @@
 -- Adjustments of single glyphs and of pairs: subtables of the kinds 1 and 2.
-use Rattle.std.specs.Prelude.{◌≡◌, ℕ, List, Option, None, Some, ◌+◌, ◌*◌, ◌&&◌, nat_eq, nat_lt}
+use Rattle.std.specs.Prelude.{◌≡◌, ◌⊎◌, ℕ, ℤ, List, Option, None, Some, ◌+◌, ◌*◌, ◌&&◌, nat_eq, nat_lt}
 use Rattle.std.specs.Prelude.{if◌then◌else◌, unwrap_or, option_map, option_and_then}
 use Rattle.font_tables.specs.Bytes.{number_16, table_at_16}
-use Rattle.font_tables.specs.Rows.{rows_within}
-use Rattle.position_tables.specs.Values.{record_size, value_record}
+use Rattle.font_tables.specs.Rows.{rows_within, Rises, AreThere}
+use Rattle.position_tables.specs.SortedRows.{IsNowhere}
+use Rattle.position_tables.specs.Values.{across, no_values, record_size, value_record}
 use Rattle.position_tables.specs.declared.values.ValueRecord.{ValueRecord}
 use Rattle.position_tables.specs.declared.pairs.PairValues.{PairValues}
 
@@ -26,6 +27,10 @@ pair_at table format1 format2 at =
     option_and_then (λ first. option_map (λ second. record { first = first; second = second })
     (value_record table format2 (at + record_size format1))) (value_record table format1 at)
 
+-- the records of a pair of which the first glyph has another advance to the right, and nothing else is changed
+abbrev pub kerned : ℤ → PairValues
+kerned advance = record { first = across advance; second = no_values }
+
 -- how many bytes a row of pairs has, where a glyph of two bytes stands before the records
 abbrev pub row_size : ℕ → ℕ → ℕ
 row_size format1 format2 = 2 + record_size format1 + record_size format2
@@ -43,6 +48,14 @@ abbrev pub IsInRow : List ℕ → ℕ → ℕ → ℕ → PairValues → Type 0
 IsInRow set format1 format2 second values =
     (row : ℕ) × ((second_of set (row_size format1 format2) row ≡ Some second)
     × (pair_at set format1 format2 (4 + row_size format1 format2 * row) ≡ Some values))
+
+-- no row has this second glyph, if the rows rise by it, or one that has it is cut short
+abbrev pub IsInNoRow : List ℕ → ℕ → ℕ → ℕ → Type 0
+IsInNoRow set format1 format2 second =
+    let size = row_size format1 format2 in
+    (AreThere (second_of set size) (row_count set size) → Rises (second_of set size) (row_count set size)
+    → IsNowhere (second_of set size) (row_count set size) second)
+    ⊎ ((row : ℕ) × ((second_of set size row ≡ Some second) × (pair_at set format1 format2 (4 + size * row) ≡ None)))
 
 -- the set of the pairs of the first glyph with this coverage index
 abbrev pub pair_set : List ℕ → ℕ → Option (List ℕ)

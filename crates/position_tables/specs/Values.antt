@@ -1,10 +1,12 @@
 -- Value records: by how much a glyph is moved, and its advance changed.
-use Rattle.std.specs.Prelude.{ℕ, ℤ, pos, List, Option, None, Some, Bool, ◌+◌, ◌*◌, ◌/◌, ◌%◌, nat_eq, nat_le, length}
-use Rattle.std.specs.Prelude.{if◌then◌else◌, unwrap_or}
+use Rattle.std.specs.Prelude.{◌≡◌, ℕ, ℤ, pos, List, Option, None, Some, Bool, not, ◌&&◌, ◌||◌, ◌+◌, ◌*◌, ◌/◌, ◌%◌, nat_eq, nat_le, length}
+use Rattle.std.specs.Prelude.{if◌then◌else◌, unwrap_or, false, FitsSigned}
+use Rattle.std.specs.Ordering.{int_eq}
 use Rattle.std.specs.Int.{w16, w32, cast_signed, int_wrapping_add, int_wrapping_sub}
 use Rattle.std.specs.Int.Count.{ones}
 use Rattle.font_tables.specs.Bytes.{number_16}
 use Rattle.font_tables.specs.Scale.{em_scale}
+use Rattle.font_variations.specs.VariationStore.{is_varied}
 use Rattle.rb_glyph.specs.declared.position.GlyphPosition.{GlyphPosition}
 use Rattle.position_tables.specs.Corrections.{x_correction, y_correction}
 use Rattle.position_tables.specs.declared.instance.Instance.{Instance}
@@ -49,6 +51,10 @@ no_values = record {
   y_advance_device = 0;
 }
 
+-- the record of an advance to the right alone
+abbrev pub across : ℤ → ValueRecord
+across advance = record no_values { x_advance = advance }
+
 -- the record of a format at a place; `None` unless the table holds all of it
 unfoldable pub value_record : List ℕ → ℕ → ℕ → Option ValueRecord
 value_record table format at =
@@ -84,3 +90,26 @@ moved base instance is_horizontal v p = record p {
   x_advance = if is_horizontal then moved_x base instance v.x_advance v.x_advance_device p.x_advance else p.x_advance;
   y_advance = if is_horizontal then p.y_advance else moved_back base instance v.y_advance v.y_advance_device p.y_advance;
 }
+
+-- whether corrections may be other than 0, where an em has so many pixels: it has some, or variations are chosen
+abbrev pub has_corrections : Instance → ℕ → Bool
+has_corrections instance ppem = not (nat_eq ppem 0) || is_varied instance.deltas
+
+-- whether a value or its device table may move a number
+abbrev pub may_move : Instance → ℕ → ℤ → ℕ → Bool
+may_move instance ppem value device = not (int_eq value (pos 0)) || (not (nat_eq device 0) && has_corrections instance ppem)
+
+-- whether a record may move a glyph of a horizontal or a vertical line, or change its advance
+unfoldable pub has_effect : Instance → Bool → ValueRecord → Bool
+has_effect instance is_horizontal v =
+    may_move instance instance.scale.x_ppem v.x_placement v.x_placement_device
+    || may_move instance instance.scale.y_ppem v.y_placement v.y_placement_device
+    || (if is_horizontal then may_move instance instance.scale.x_ppem v.x_advance v.x_advance_device
+    else may_move instance instance.scale.y_ppem v.y_advance v.y_advance_device)
+
+-- where a record has no effect, a glyph stays where it is, and keeps its advance
+abbrev pub EffectIsTold : Type 0
+EffectIsTold =
+    (instance : Instance) (is_horizontal : Bool) (v : ValueRecord) → has_effect instance is_horizontal v ≡ false
+    → (base : List ℕ) (p : GlyphPosition) → FitsSigned w32 p.x_offset → FitsSigned w32 p.y_offset
+    → FitsSigned w32 p.x_advance → FitsSigned w32 p.y_advance → moved base instance is_horizontal v p ≡ p

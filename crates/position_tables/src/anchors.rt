@@ -6,7 +6,7 @@ ghost use Rattle.std.specs.Prelude.{◌-ℤ◌};
 ghost use Rattle.std.specs.Int.{w32, int_wrapping_add, int_wrapping_sub};
 ghost use Rattle.std.specs.Option.{option_copied};
 ghost use Rattle.position_tables.specs.Anchors.{anchor, known_anchor, anchor_size, device_offset, coordinate, between, anchor_in, mark_class, mark_anchor};
-ghost use Rattle.position_tables.specs.Anchors.{ligature_matrix};
+ghost use Rattle.position_tables.specs.Anchors.{ligature_matrix, placed};
 
 use crate::devices::{x_correction, y_correction};
 use crate::instance::Instance;
@@ -47,14 +47,18 @@ impl Anchor {
     }
 
     /// How far it is to the right, at this size.
-    pub fn x_at(&self, scale: &Scale) -> i32 {
+    pub fn x_at(&self, scale: &Scale) -> i32
+        ensures { result ≡ placed self.now.x self.now.x_delta scale.now.x scale.now.units_per_em }
+    {
         scale
             .distance_x(i32::from(self.x))
             .wrapping_add(self.x_delta)
     }
 
     /// How far up it is, at this size.
-    pub fn y_at(&self, scale: &Scale) -> i32 {
+    pub fn y_at(&self, scale: &Scale) -> i32
+        ensures { result ≡ placed self.now.y self.now.y_delta scale.now.y scale.now.units_per_em }
+    {
         scale
             .distance_y(i32::from(self.y))
             .wrapping_add(self.y_delta)

@@ -2,11 +2,10 @@
 //! Apple's TrueType Reference Manual, "The 'kern' table"). Of its formats 0 and 2 are read: pairs of glyphs, and pairs of
 //! classes. Those of state machines and of indexed classes are passed over.
 
-ghost use Rattle.std.specs.Prelude.{◌≡◌, ◌<◌, ◌≤◌, ◌+◌, ◌-◌, ◌*◌, ◌/◌, ℕ, pos, IfSome, Some, None, length, unwrap_or};
+ghost use Rattle.std.specs.Prelude.{◌≡◌, ◌≢◌, ◌<◌, ◌≤◌, ◌+◌, ◌-◌, ◌*◌, ◌/◌, ℕ, pos, IfSome, Some, None, length, unwrap_or};
+ghost use Rattle.std.specs.Prelude.{not, nat_eq, if◌then◌else◌};
 ghost use Rattle.font_tables.specs.Bytes.{number_16, signed_16};
-ghost use Rattle.font_tables.specs.Rows.{Rises, AreThere};
-ghost use Rattle.position_tables.specs.SortedRows.{IsNowhere};
-ghost use Rattle.position_tables.specs.KernTable.{pair_key, pair_count, IsOfPair, class_number, value_at, classed_value};
+ghost use Rattle.position_tables.specs.KernTable.{pair_key, IsOfPair, IsMissing, IsListed, class_number, value_at, classed_value};
 
 use crate::sorted_rows::{Keys32, row_of};
 use font_tables::bytes::{i16_at, part, tail, u8_at, u16_at, u32_at};
@@ -77,7 +76,9 @@ impl<'a> KernTable<'a> {
     }
 
     /// Where the first subtable begins.
-    pub fn start(&self) -> usize {
+    pub fn start(&self) -> usize
+        ensures { result ≡ (if self.now.is_apple then 8 else 4) }
+    {
         if self.is_apple { 8 } else { 4 }
     }
 
@@ -119,7 +120,9 @@ impl<'a> KernTable<'a> {
     }
 
     /// Whether the table has any subtables.
-    pub fn has_kerning(&self) -> bool {
+    pub fn has_kerning(&self) -> bool
+        ensures { result ≡ not (nat_eq self.now.count 0) }
+    {
         self.count != 0
     }
 
@@ -193,7 +196,11 @@ fn apple_subtable(rest: &[u8]) -> Option<KernSubtable<'_>> {
 
 impl KernSubtable<'_> {
     /// The value of a pair, in font units: 0 where the subtable has none, or is of another format than 0 and 2.
-    pub fn kerning(&self, left: u16, right: u16) -> i16 {
+    pub fn kerning(&self, left: u16, right: u16) -> i16
+        ensures pairs { self.now.format ≡ 0 → IsListed self.now.table.now self.now.header left right result }
+        ensures classes { self.now.format ≡ 2 → result ≡ classed_value self.now.table.now self.now.header left right }
+        ensures others { self.now.format ≢ 0 → self.now.format ≢ 2 → result ≡ pos 0 }
+    {
         match self.format {
             0 => pair_value(self.table, self.header, left, right).unwrap_or(0),
             2 => classed_value(self.table, self.header, left, right),
@@ -220,7 +227,8 @@ impl KernSubtable<'_> {
 /// The value of a pair in a subtable of format 0, whose row is found by bisection, as the rows rise by their two glyphs; `None`
 /// where there is no row.
 pub fn pair_value(subtable: &[u8], header: u8, left: u16, right: u16) -> Option<i16>
-    ensures { IfSome result (IsOfPair subtable.now header left right) }
+    ensures is { IfSome result (IsOfPair subtable.now header left right) }
+    ensures all { result ≡ None → IsMissing subtable.now header left right }
 {
     let row = pair_row(subtable, usize::from(header), left, right)?;
     Some(value_of_row(subtable, usize::from(header), row))
@@ -231,9 +239,7 @@ pub fn pair_row(subtable: &[u8], header: usize, left: u16, right: u16) -> Option
     requires { header < 256 }
     ensures within { IfSome result (λ row. row < 65536) }
     ensures key { IfSome result (λ row. pair_key subtable.now header row ≡ Some (left * 65536 + right)) }
-    ensures all { let count = pair_count subtable.now header in
-        AreThere (pair_key subtable.now header) count → Rises (pair_key subtable.now header) count → result ≡ None
-        → IsNowhere (pair_key subtable.now header) count (left * 65536 + right) }
+    ensures all { result ≡ None → IsMissing subtable.now header left right }
 {
     let rows = Keys32 {
         table: subtable,

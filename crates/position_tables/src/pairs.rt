@@ -1,17 +1,20 @@
 //! Adjustments of single glyphs and of pairs: subtables of the kinds 1 and 2 of `GPOS` (OpenType specification, "GPOS - Glyph
 //! Positioning Table", "Single adjustment positioning", "Pair adjustment positioning").
 
-ghost use Rattle.std.specs.Prelude.{◌≡◌, ◌<◌, ◌≤◌, ◌+◌, ◌*◌, ◌^◌, ℕ, Some, None, length, IfSome};
+ghost use Rattle.std.specs.Prelude.{◌≡◌, ◌<◌, ◌≤◌, ◌+◌, ◌*◌, ◌^◌, ℕ, Some, None, length, option_map, IfSome, IsTrue};
 ghost use Rattle.std.specs.Option.{option_copied};
 ghost use Rattle.font_tables.specs.Rows.{Rises, AreThere};
 ghost use Rattle.position_tables.specs.SortedRows.{IsNowhere};
-ghost use Rattle.position_tables.specs.Pairs.{number, single_values, pair_at, row_size, row_count, second_of, IsInRow, pair_set};
-ghost use Rattle.position_tables.specs.Pairs.{classed_pair};
+ghost use Rattle.position_tables.specs.Pairs.{number, single_values, pair_at, row_size, row_count, second_of, IsInRow, kerned, pair_set};
+ghost use Rattle.position_tables.specs.Pairs.{classed_pair, IsInNoRow};
 
 use crate::sorted_rows::row_of;
 use crate::values::{ValueRecord, record_size};
-use font_tables::bytes::{table_at_16, u16_at};
+use font_tables::bytes::{i16_at, table_at_16, u16_at};
 use font_tables::rows::{Keys16, rows_within};
+
+/// The format of a record that has the advance to the right, and nothing else.
+const ADVANCE_ACROSS: u16 = 4;
 
 /// By how much the glyphs of a pair are moved.
 #[derive(Clone, Copy, Debug)]
@@ -23,6 +26,7 @@ pub struct PairValues {
 }
 
 /// The number at a place, and 0 outside of the table.
+#[inline]
 fn number(table: &[u8], at: usize) -> u16
     ensures { result ≡ number table.now at }
 {
@@ -47,6 +51,7 @@ pub fn single_values(subtable: &[u8], index: u32) -> Option<ValueRecord>
 }
 
 /// The formats of the records of both glyphs.
+#[inline]
 pub fn pair_formats(subtable: &[u8]) -> (u16, u16)
     ensures first { result.0 ≡ number subtable.now 4 }
     ensures second { result.1 ≡ number subtable.now 6 }
@@ -69,6 +74,7 @@ pub fn pair_set(subtable: &[u8], index: u32) -> Option<&[u8]>
 /// rise by their second glyphs. `None` where there is no row.
 pub fn listed_pair(set: &[u8], formats: (u16, u16), second: u16) -> Option<PairValues>
     ensures row { IfSome result (IsInRow set.now formats.0 formats.1 second) }
+    ensures none { result ≡ None → IsInNoRow set.now formats.0 formats.1 second }
 {
     let row = second_row(set, row_size(formats), second)?;
     pair_at(set, formats, 4 + row_size(formats) * row)
@@ -127,4 +133,38 @@ pub fn classed_pair(subtable: &[u8], first: u16, second: u16) -> Option<PairValu
     } else {
         None
     }
+}
+
+/// Whether pairs have the advance of the first glyph to the right, and nothing else, as kerning has.
+#[inline]
+pub fn is_kerning(subtable: &[u8]) -> bool
+    ensures format { IsTrue result → number subtable.now 4 ≡ 4 }
+    ensures none { IsTrue result → number subtable.now 6 ≡ 0 }
+{
+    number(subtable, 4) == ADVANCE_ACROSS && number(subtable, 6) == 0
+}
+
+/// The advance of a pair of classes, as `classed_pair` has it where pairs have nothing else.
+#[inline]
+#[tactic(auto, using(crate::proofs::PairLemmas::classed_kerned))]
+pub fn classed_advance(subtable: &[u8], first: u16, second: u16) -> Option<i16>
+    ensures { number subtable.now 4 ≡ 4 → number subtable.now 6 ≡ 0
+        → option_map kerned result ≡ classed_pair subtable.now first second }
+{
+    let seconds = number(subtable, 14);
+    if first < number(subtable, 12) && second < seconds {
+        let row = usize::from(first) * usize::from(seconds);
+        i16_at(subtable, 16 + 2 * (row + usize::from(second)))
+    } else {
+        None
+    }
+}
+
+/// The advance of the pair with this second glyph in a set of pairs, as `listed_pair` has it where pairs have nothing else.
+#[inline]
+pub fn listed_advance(set: &[u8], second: u16) -> Option<i16>
+    ensures row { IfSome result (λ advance. IsInRow set.now 4 0 second (kerned advance)) }
+{
+    let row = second_row(set, 4, second)?;
+    i16_at(set, 4 + 4 * row)
 }

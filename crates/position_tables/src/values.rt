@@ -1,9 +1,10 @@
 //! Value records: by how much a glyph is moved, and its advance changed (OpenType specification, "GPOS - Glyph Positioning
 //! Table", "Value record").
 
-ghost use Rattle.std.specs.Prelude.{◌≡◌, ◌≤◌, ◌<◌, ◌+◌, ◌*◌, ◌%◌, length};
+ghost use Rattle.std.specs.Prelude.{◌≡◌, ◌≤◌, ◌<◌, ◌+◌, ◌*◌, ◌%◌, ◌&&◌, ◌||◌, ℕ, List, true, not, nat_eq, pos, length, if◌then◌else◌};
+ghost use Rattle.std.specs.Ordering.{int_eq};
 ghost use Rattle.position_tables.specs.Values.{no_values, field, fields, names, record_size, value_record, moved, moved_x, moved_y, moved_back};
-ghost use Rattle.position_tables.specs.Values.{plus, minus};
+ghost use Rattle.position_tables.specs.Values.{across, plus, minus, has_corrections, has_effect, EffectIsTold};
 
 use crate::devices::{x_correction, y_correction};
 use crate::instance::Instance;
@@ -96,21 +97,36 @@ impl ValueRecord {
 
     /// Whether the record has a number other than 0 for a horizontal or a vertical line, or the offset of a device table
     /// where there are pixels or variations. A pair that is moved by such a record may not be parted.
-    pub fn has_effect(&self, instance: &Instance<'_>, is_horizontal: bool) -> bool {
+    #[tactic(auto, unfolding(crate::specs::Values::has_effect))]
+    pub fn has_effect(&self, instance: &Instance<'_>, is_horizontal: bool) -> bool
+        ensures { result ≡ has_effect instance.now is_horizontal self.now }
+    {
         let (x, y) = (uses_devices(instance, true), uses_devices(instance, false));
-        let (advance, advance_device, is_used) = if is_horizontal {
-            (self.x_advance, self.x_advance_device, x)
-        } else {
-            (self.y_advance, self.y_advance_device, y)
-        };
-        self.x_placement != 0
-            || self.y_placement != 0
-            || advance != 0
-            || self.x_placement_device != 0 && x
-            || self.y_placement_device != 0 && y
-            || advance_device != 0 && is_used
+        may_move(self.x_placement, self.x_placement_device, x)
+            || may_move(self.y_placement, self.y_placement_device, y)
+            || if is_horizontal {
+                may_move(self.x_advance, self.x_advance_device, x)
+            } else {
+                may_move(self.y_advance, self.y_advance_device, y)
+            }
     }
 }
+
+/// The position of a glyph of a horizontal line that is moved by a record of this advance to the right, and of nothing else.
+#[inline]
+pub fn advanced(advance: i16, instance: &Instance<'_>, position: GlyphPosition) -> GlyphPosition
+    ensures { (base : List ℕ) → result ≡ moved base instance.now true (across advance) position }
+{
+    let length = instance.scale.em_scale_x(i32::from(advance));
+    let mut moved = position;
+    moved.x_advance = position.x_advance.wrapping_add(length);
+    moved
+}
+
+/// A record without an effect moves no glyph, and changes no advance.
+pub fn records_without_effect_move_nothing()
+    ensures { EffectIsTold }
+{}
 
 /// The record that names nothing.
 fn no_values() -> ValueRecord
@@ -146,8 +162,18 @@ fn fields(table: &[u8], format: u16, at: usize) -> ValueRecord
     }
 }
 
+/// Whether a value moves a number, or its device table may, where device tables are asked.
+fn may_move(value: i16, device: u16, uses_devices: bool) -> bool
+    ensures { result ≡ not (int_eq value (pos 0)) || (not (nat_eq device 0) && uses_devices) }
+{
+    value != 0 || device != 0 && uses_devices
+}
+
 /// Whether device tables correct numbers across, or upwards: whether there are pixels or variations.
-fn uses_devices(instance: &Instance<'_>, is_horizontal: bool) -> bool {
+fn uses_devices(instance: &Instance<'_>, is_horizontal: bool) -> bool
+    ensures { result ≡ has_corrections instance.now
+        (if is_horizontal then instance.now.scale.x_ppem else instance.now.scale.y_ppem) }
+{
     let ppem = if is_horizontal {
         instance.scale.x_ppem
     } else {

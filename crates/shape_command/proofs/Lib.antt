@@ -9,3 +9,4 @@ mod BatchLemmas
 mod CodePointLemmas
 mod FeatureLemmas
 mod LineLemmas
+mod RunLemmas

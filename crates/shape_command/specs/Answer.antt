@@ -1,5 +1,5 @@
 -- What an answer reads as.
-use Rattle.std.specs.Prelude.{ℕ, List, [], ◌∷◌, ◌++◌, string_bytes}
+use Rattle.std.specs.Prelude.{ℕ, Bool, true, false, List, [], ◌∷◌, ◌++◌, string_bytes}
 use Rattle.shape_command.specs.declared.shaper.Answer.{Answer}
 use Rattle.shape_command.specs.declared.shaper.Answer.TheVariants.{Empty, Glyphs, Failed, Unverified}
 use Rattle.shape_command.specs.Lines.{failure_line, unverified_line}
@@ -9,3 +9,10 @@ answer_text Empty = []
 answer_text (Glyphs text) = 91 ∷ string_bytes text ++ 93 ∷ []
 answer_text Failed = failure_line
 answer_text (Unverified error) = unverified_line error
+
+-- whether a line with this answer was shaped
+abbrev pub is_shaped : Answer → Bool
+is_shaped Empty = true
+is_shaped (Glyphs text) = true
+is_shaped Failed = false
+is_shaped (Unverified error) = false

@@ -1,7 +1,10 @@
 pub mod Answer
 pub mod Batch
 pub mod CodePoints
+pub mod Errors
 pub mod Features
+pub mod HeldFile
 pub mod Lines
 pub mod Prepared
 pub mod Status
+pub mod Variations

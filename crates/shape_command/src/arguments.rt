@@ -179,6 +179,9 @@ fn named<'a>(alloc: Global, name: &'static str) -> Result<Arg<'a>, Error> {
 }
 
 /// What the words of a command line say; the first is the name of the program.
-pub fn matches_of<'a, S: AsStr>(alloc: Global, words: &'a [S]) -> Result<ArgMatches<'a>, Error> {
+pub(crate) fn matches_of<'a, S: AsStr>(
+    alloc: Global,
+    words: &'a [S],
+) -> Result<ArgMatches<'a>, Error> {
     command(alloc)?.try_get_matches_from(words)
 }

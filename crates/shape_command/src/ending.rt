@@ -1,6 +1,6 @@
 //! How the program ends.
 
-ghost use Rattle.std.specs.Prelude.{◌≡◌};
+ghost use Rattle.std.specs.Prelude.{◌≡◌, ◌≤◌};
 ghost use Rattle.std.specs.Process.{exit_status};
 ghost use Rattle.shape_command.specs.Status.{status_after};
 
@@ -17,14 +17,17 @@ pub(crate) const NAME: &str = "vukhaso_shape";
 
 /// All that the program does. It gives the status to end with: 0, or 1 where something failed, which is said on
 /// standard error.
-pub fn run_to_end<F: Files + AllocGlobal + Env + Input + Print + Eprint>(rt: &F) -> ExitCode {
+pub fn run_to_end<F: Files + AllocGlobal + Env + Input + Print + Eprint>(rt: &F) -> ExitCode
+    ensures { exit_status result ≤ 1 }
+{
     conclude(rt, run(rt))
 }
 
 /// Says on standard error why a run ended early, and gives the status to end with: 0 where every line was shaped, and
 /// else 1. It is public for its test alone.
 pub fn conclude<E: Eprint>(error_output: &E, outcome: io::Result<bool>) -> ExitCode
-    ensures { exit_status result ≡ status_after outcome }
+    ensures is { exit_status result ≡ status_after outcome }
+    ensures least { exit_status result ≤ 1 }
 {
     match outcome {
         Ok(true) => ExitCode::from(0),

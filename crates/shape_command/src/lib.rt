@@ -1,7 +1,7 @@
 //! The program `vukhaso_shape`, used as HarfBuzz's `hb-shape` is: options, lines of a text, and what is printed.
 #![tactic(auto)]
 
-pub mod arguments;
+mod arguments;
 pub mod batch;
 mod batch_answers;
 pub mod code_points;
@@ -15,6 +15,6 @@ pub mod options;
 mod picture;
 pub mod run;
 pub mod shaper;
-pub mod sizes;
+mod sizes;
 pub mod text;
 pub mod variations;

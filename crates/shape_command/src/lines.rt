@@ -6,7 +6,7 @@ ghost use Rattle.std.specs.Io.KnownBytes.{Appends};
 ghost use Rattle.shape_command.specs.Answer.{answer_text};
 ghost use Rattle.shape_command.specs.Lines.{TakesLine, without_line_feed, AnswersAll, AnswersParagraph, IsAnswer, unverified_line};
 
-use crate::shaper::{Answer, LineNames, LineShaper};
+use crate::shaper::{Answer, LineNames, LineShaper, LineState};
 use font_shaper::VerifyError;
 use std::alloc::{AllocError, Global};
 use std::io::{self, BufRead, ErrorKind, Read, Write};
@@ -41,7 +41,7 @@ fn read_error(error: io::Error) -> LinesError {
 pub fn answer_lines<N: LineNames, R: BufRead, W: Write>(
     alloc: Global,
     shaper: &LineShaper<'_>,
-    names: &mut N,
+    state: &mut LineState<N>,
     reader: &mut R,
     writer: &mut W,
 ) -> Result<bool, LinesError>
@@ -56,7 +56,7 @@ pub fn answer_lines<N: LineNames, R: BufRead, W: Write>(
         if !found {
             return Ok(all_shaped);
         }
-        let answer = shaper.answer(alloc, names, line.as_slice())?;
+        let answer = shaper.answer(alloc, state, line.as_slice())?;
         all_shaped &= answer.is_shaped();
         write_answer(writer, &answer)?;
     }
@@ -67,7 +67,7 @@ pub fn answer_lines<N: LineNames, R: BufRead, W: Write>(
 pub fn answer_paragraph<N: LineNames, R: Read, W: Write>(
     alloc: Global,
     shaper: &LineShaper<'_>,
-    names: &mut N,
+    state: &mut LineState<N>,
     reader: &mut R,
     writer: &mut W,
 ) -> Result<bool, LinesError>
@@ -83,7 +83,7 @@ pub fn answer_paragraph<N: LineNames, R: Read, W: Write>(
     if read == 0 {
         return Ok(true);
     }
-    let answer = shaper.answer(alloc, names, text.as_slice())?;
+    let answer = shaper.answer(alloc, state, text.as_slice())?;
     write_answer(writer, &answer)?;
     Ok(answer.is_shaped())
 }

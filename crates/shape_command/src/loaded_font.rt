@@ -1,13 +1,19 @@
 //! A font of a file, which is kept for all command lines in a row that name it.
 
+ghost use Rattle.std.specs.Prelude.{◌≡◌, None, option_map, IfOk, IfSome, OnErr};
+ghost use Rattle.font_tables.specs.Directory.{font_of};
+ghost use Rattle.font_shaper.specs.Face.{KeepsItsTables};
+
 use crate::font_file::FontFile;
 use crate::options::{FontChoice, Options};
+use crate::shaper::KeptLine;
 use font_shaper::{Face, FaceNames, Variation};
 use std::alloc::{AllocError, Global};
+use std::mem;
 
 /// A font at a size, with the names of its glyphs once they were asked for.
 #[derive(Drop)]
-pub struct LoadedFont<'f> {
+pub(crate) struct LoadedFont<'f> {
     file: &'f FontFile,
     choice: FontChoice,
     /// The variations that are chosen.
@@ -16,28 +22,28 @@ pub struct LoadedFont<'f> {
     pub face: Face<'f>,
     /// The names of its glyphs, where they were asked for.
     pub names: Option<FaceNames<'f>>,
+    /// What is kept of the last line that was answered.
+    pub kept: KeptLine,
 }
 
 impl<'f> LoadedFont<'f> {
     /// A font of the file that was read last; `None` where the file has no such font. `Err(AllocError)` where memory
     /// runs out.
-    pub fn new(
+    pub(crate) fn new(
         alloc: Global,
         file: &'f FontFile,
         choice: FontChoice,
-    ) -> Result<Option<Self>, AllocError> {
+    ) -> Result<Option<Self>, AllocError>
+        ensures found { IfOk result (λ found. option_map (λ font. (font.face.tables.file.now, font.face.tables.directory)) found
+            ≡ font_of file.now.bytes choice.index) }
+        ensures keeps { IfOk result (λ found. IfSome found (λ font. KeepsItsTables font.face)) }
+    {
         let Some(mut face) = Face::parse(alloc, file.data(), choice.index)? else {
             return Ok(None);
         };
-        if let Some((x, y)) = choice.size {
-            face.set_scale(x, y);
-        }
-        if let Some((x, y)) = choice.pixels {
-            face.set_pixels_per_em(x, y);
-        }
-        if let Some(points) = choice.points {
-            face.set_points_per_em(points);
-        }
+        set_size(&mut face, choice.size);
+        set_pixels(&mut face, choice.pixels);
+        set_points(&mut face, choice.points);
         face.set_named_instance(choice.named_instance)?;
         Ok(Some(LoadedFont {
             file,
@@ -45,24 +51,26 @@ impl<'f> LoadedFont<'f> {
             variations: Vec::new(alloc),
             face,
             names: None,
+            kept: KeptLine::new(),
         }))
     }
 
     /// Whether it is the font that options name, at their size.
-    pub fn is_named_by(&self, options: &Options<'_>) -> bool {
+    pub(crate) fn is_named_by(&self, options: &Options<'_>) -> bool {
         self.file.is_of(options.font_file) && self.choice == options.font
     }
 
     /// Chooses variations of the font, unless they are those that are chosen. Then the names are to be found anew, with the extents
     /// of glyphs.
-    pub fn vary(&mut self, alloc: Global, variations: &[Variation]) -> Result<(), AllocError> {
+    pub(crate) fn vary(&mut self, alloc: Global, variations: &[Variation]) -> Result<(), AllocError>
+        ensures tables { self.new.face.tables ≡ self.old.face.tables }
+        ensures keeps { KeepsItsTables self.old.face → KeepsItsTables self.new.face }
+        ensures same { OnErr result (self.new ≡ self.old) }
+    {
         if self.variations.as_slice() == variations {
             return Ok(());
         }
-        let mut chosen = Vec::new(alloc);
-        for variation in variations {
-            chosen.push(*variation)?;
-        }
+        let chosen = Vec::from_slice(alloc, variations)?;
         self.face.set_variations(variations)?;
         self.variations = chosen;
         self.names = None;
@@ -70,10 +78,49 @@ impl<'f> LoadedFont<'f> {
     }
 
     /// The names of the glyphs, which are found where they are asked for the first time. The caller puts them back.
-    pub fn take_names(&mut self, alloc: Global) -> Result<FaceNames<'f>, AllocError> {
+    pub(crate) fn take_names(&mut self, alloc: Global) -> Result<FaceNames<'f>, AllocError>
+        ensures { self.new ≡ record self.old { names = None } }
+    {
         match self.names.take() {
             Some(names) => Ok(names),
             None => FaceNames::new(alloc, &self.face),
         }
+    }
+
+    /// What is kept of the last line. The caller puts it back.
+    pub(crate) fn take_kept(&mut self) -> KeptLine
+        ensures { result ≡ self.old.kept }
+    {
+        mem::replace(&mut self.kept, KeptLine::new())
+    }
+}
+
+/// Says how long an em is, where that is said.
+fn set_size(face: &mut Face<'_>, size: Option<(i32, i32)>)
+    ensures tables { face.new.tables ≡ face.old.tables }
+    ensures keeps { KeepsItsTables face.old → KeepsItsTables face.new }
+{
+    if let Some((x, y)) = size {
+        face.set_scale(x, y);
+    }
+}
+
+/// Says how many points an em has, where that is said.
+fn set_points(face: &mut Face<'_>, points: Option<f32>)
+    ensures tables { face.new.tables ≡ face.old.tables }
+    ensures keeps { KeepsItsTables face.old → KeepsItsTables face.new }
+{
+    if let Some(points) = points {
+        face.set_points_per_em(points);
+    }
+}
+
+/// Says how many pixels an em has, where that is said.
+fn set_pixels(face: &mut Face<'_>, pixels: Option<(u16, u16)>)
+    ensures tables { face.new.tables ≡ face.old.tables }
+    ensures keeps { KeepsItsTables face.old → KeepsItsTables face.new }
+{
+    if let Some((x, y)) = pixels {
+        face.set_pixels_per_em(x, y);
     }
 }

@@ -135,7 +135,10 @@ pub struct Options<'a> {
 
 impl<'a> Options<'a> {
     /// What the words of a command line ask for.
-    pub fn from_matches(alloc: Global, matches: &ArgMatches<'a>) -> Result<Self, OptionsError<'a>> {
+    pub(crate) fn from_matches(
+        alloc: Global,
+        matches: &ArgMatches<'a>,
+    ) -> Result<Self, OptionsError<'a>> {
         refuse_unsupported(matches)?;
         let (font_file, text) = font_and_text(matches)?;
         Ok(Options {

@@ -91,14 +91,14 @@ fn positions_look_alike(positions: &[GlyphPosition], others: &[GlyphPosition]) -
 
 /// The steps of shaping, which it is told as the text is shaped.
 #[derive(Drop)]
-pub struct Picture {
+pub(crate) struct Picture {
     alloc: Global,
     rows: Vec<Row>,
 }
 
 impl Picture {
     /// A picture with no row yet.
-    pub fn new(alloc: Global) -> Self {
+    pub(crate) fn new(alloc: Global) -> Self {
         Picture {
             alloc,
             rows: Vec::new(alloc),
@@ -107,7 +107,7 @@ impl Picture {
 
     /// The picture as the text of an SVG file: a colour for each cluster, under each glyph its cluster and its advance, and
     /// a bar before each glyph that is unsafe to break before.
-    pub fn draw<N: GlyphNames>(&self, names: &N) -> Result<String, AllocError> {
+    pub(crate) fn draw<N: GlyphNames>(&self, names: &N) -> Result<String, AllocError> {
         let mut svg = String::new(self.alloc);
         let most = self.rows.iter().map(|row| row.glyphs.len()).max();
         let width = left_of(most.unwrap_or(0)).max(LEAST_WIDTH);

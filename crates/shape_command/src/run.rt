@@ -1,12 +1,15 @@
 //! What the program does.
 
+ghost use Rattle.std.specs.Prelude.{◌≡◌, Some, true, IfErr, IsSome, OnOk};
+ghost use Rattle.shape_command.specs.Errors.{concerns_words};
+
 use crate::arguments::matches_of;
 use crate::drawing::draw_text;
 use crate::font_file::FontFile;
 use crate::lines::{LinesError, answer_lines, answer_paragraph};
 use crate::loaded_font::LoadedFont;
 use crate::options::{Options, OptionsError, TextSource};
-use crate::shaper::{LineNames, LineShaper};
+use crate::shaper::{LineNames, LineShaper, LineState};
 use shaping_buffer::{Flags, NoGlyphNames, SerializeFlags};
 use std::alloc::{AllocError, Global};
 use std::convert::AsStr;
@@ -58,6 +61,11 @@ impl From<AllocError> for CommandError<'_> {
 }
 
 impl<'a> From<OptionsError<'a>> for CommandError<'a> {
+    ghost use Rattle.std.specs.Prelude.{◌≡◌, true};
+    ghost use Rattle.shape_command.specs.Errors.{concerns_words};
+
+    ghost from_gives = { λ _ e. concerns_words e ≡ true };
+
     fn from(error: OptionsError<'a>) -> Self {
         match error {
             OptionsError::Memory => CommandError::Memory,
@@ -78,14 +86,16 @@ impl<'a> CommandError<'a> {
 }
 
 /// Answers a command line, whose first word is the name of the program, and says whether each line was shaped. The
-/// font's file is read unless it was read last.
+/// font's file is read unless it was read last, and held for the next command line.
 pub fn answer_command<'a, F: Files + AllocGlobal, S: AsStr, R: BufRead, W: Write>(
     rt: &F,
     words: &'a [S],
     file: &mut FontFile,
     input: &mut R,
     output: &mut W,
-) -> Result<bool, CommandError<'a>> {
+) -> Result<bool, CommandError<'a>>
+    ensures { OnOk result (IsSome file.new.path) }
+{
     let options = options_of(rt.alloc(), words)?;
     read_font_file(rt, &options, file)?;
     match LoadedFont::new(rt.alloc(), file, options.font)? {
@@ -94,11 +104,14 @@ pub fn answer_command<'a, F: Files + AllocGlobal, S: AsStr, R: BufRead, W: Write
     }
 }
 
-/// What a command line asks for.
-pub(crate) fn options_of<'a, S: AsStr>(
+/// What a command line asks for; its first word is the name of the program. An error is one of the words, or says that there is
+/// no memory: no file is read.
+pub fn options_of<'a, S: AsStr>(
     alloc: Global,
     words: &'a [S],
-) -> Result<Options<'a>, CommandError<'a>> {
+) -> Result<Options<'a>, CommandError<'a>>
+    ensures { IfErr result (λ e. concerns_words e ≡ true) }
+{
     match matches_of(alloc, words) {
         Ok(matches) => Ok(Options::from_matches(alloc, &matches)?),
         Err(error) => Err(CommandError::Words(error)),
@@ -110,7 +123,9 @@ pub(crate) fn read_font_file<'a, F: Files + AllocGlobal>(
     rt: &F,
     options: &Options<'a>,
     file: &mut FontFile,
-) -> Result<(), CommandError<'a>> {
+) -> Result<(), CommandError<'a>>
+    ensures { OnOk result (file.new.path ≡ Some options.now.font_file.now) }
+{
     let path = options.font_file;
     match file.read(rt, path) {
         Ok(()) => Ok(()),
@@ -130,15 +145,27 @@ pub(crate) fn answer_options<'a, F: Files + AllocGlobal, R: BufRead, W: Write>(
     if options.svg {
         return draw_text(rt.alloc(), options, font, output);
     }
-    if !asks_font(options.output) {
+    if asks_font(options.output) {
+        let names = font.take_names(rt.alloc())?;
+        let mut state = LineState {
+            names,
+            kept: font.take_kept(),
+        };
         let shaper = shaper_of(font, options);
-        return answer_text(rt, &shaper, &mut NoGlyphNames, &options.text, input, output);
+        let answered = answer_text(rt, &shaper, &mut state, &options.text, input, output);
+        font.kept = state.kept;
+        font.names = Some(state.names);
+        answered
+    } else {
+        let mut state = LineState {
+            names: NoGlyphNames,
+            kept: font.take_kept(),
+        };
+        let shaper = shaper_of(font, options);
+        let answered = answer_text(rt, &shaper, &mut state, &options.text, input, output);
+        font.kept = state.kept;
+        answered
     }
-    let mut names = font.take_names(rt.alloc())?;
-    let shaper = shaper_of(font, options);
-    let answered = answer_text(rt, &shaper, &mut names, &options.text, input, output);
-    font.names = Some(names);
-    answered
 }
 
 /// How lines are shaped with a font and printed.
@@ -160,7 +187,7 @@ fn asks_font(flags: SerializeFlags) -> bool {
 fn answer_text<'a, F: Files + AllocGlobal, N: LineNames, R: BufRead, W: Write>(
     rt: &F,
     shaper: &LineShaper<'_>,
-    names: &mut N,
+    state: &mut LineState<N>,
     text: &TextSource<'a>,
     input: &mut R,
     output: &mut W,
@@ -168,15 +195,15 @@ fn answer_text<'a, F: Files + AllocGlobal, N: LineNames, R: BufRead, W: Write>(
     match text {
         TextSource::Given(text) => {
             let mut bytes = text.as_bytes();
-            answer_all(rt.alloc(), shaper, names, "TEXT", &mut bytes, output)
+            answer_all(rt.alloc(), shaper, state, "TEXT", &mut bytes, output)
         }
         TextSource::CodePoints(text) => {
             let mut bytes = text.as_bytes();
-            answer_all(rt.alloc(), shaper, names, "TEXT", &mut bytes, output)
+            answer_all(rt.alloc(), shaper, state, "TEXT", &mut bytes, output)
         }
-        TextSource::Input => answer_all(rt.alloc(), shaper, names, "-", input, output),
+        TextSource::Input => answer_all(rt.alloc(), shaper, state, "-", input, output),
         TextSource::File(file) => match open(rt, file) {
-            Ok(mut reader) => { answer_all(rt.alloc(), shaper, names, *file, &mut reader, output) }
+            Ok(mut reader) => { answer_all(rt.alloc(), shaper, state, *file, &mut reader, output) }
             Err(error) => Err(CommandError::Text { file: *file, error }),
         },
     }
@@ -191,15 +218,15 @@ fn open<F: Files + AllocGlobal>(rt: &F, file: &str) -> io::Result<BufReader<F::F
 fn answer_all<'a, N: LineNames, R: BufRead, W: Write>(
     alloc: Global,
     shaper: &LineShaper<'_>,
-    names: &mut N,
+    state: &mut LineState<N>,
     file: &'a str,
     reader: &mut R,
     writer: &mut W,
 ) -> Result<bool, CommandError<'a>> {
     let answered = if shaper.single_par {
-        answer_paragraph(alloc, shaper, names, reader, writer)
+        answer_paragraph(alloc, shaper, state, reader, writer)
     } else {
-        answer_lines(alloc, shaper, names, reader, writer)
+        answer_lines(alloc, shaper, state, reader, writer)
     };
     match answered {
         Ok(all_shaped) => Ok(all_shaped),

@@ -1,14 +1,14 @@
 //! What a line is answered with.
 
-ghost use Rattle.std.specs.Prelude.{◌≡◌, IfOk};
-ghost use Rattle.shape_command.specs.Answer.{answer_text};
+ghost use Rattle.std.specs.Prelude.{◌≡◌, None, IfOk};
+ghost use Rattle.shape_command.specs.Answer.{answer_text, is_shaped};
 ghost use Rattle.shape_command.specs.Lines.{IsAnswer, glyphs_line};
 
 use crate::options::LineOptions;
-use crate::text::{empty_text, fill, lossy_text};
-use font_shaper::{Face, FaceNames, ShapeError, VerifyError, shape};
+use crate::text::{emptied, empty_text, fill, lossy_text};
+use font_shaper::{Face, FaceNames, KeptPlan, ShapeError, VerifyError, shape_with_kept_plan};
 use shaping_buffer::{
-    Flags, GlyphBuffer, GlyphNames, NoGlyphNames, SerializeFlags, hb_glyph_info_t,
+    Flags, GlyphBuffer, GlyphNames, NoGlyphNames, SerializeFlags, UnicodeBuffer, hb_glyph_info_t,
 };
 use std::alloc::{AllocError, Global};
 
@@ -45,9 +45,54 @@ pub enum Answer {
 
 impl Answer {
     /// Whether the line was shaped.
-    pub fn is_shaped(&self) -> bool {
+    pub fn is_shaped(&self) -> bool
+        ensures { result ≡ is_shaped self.now }
+    {
         matches!(self, Answer::Empty | Answer::Glyphs(_))
     }
+}
+
+/// What is kept of a line for the next one of the same font.
+#[derive(Drop)]
+pub struct KeptLine {
+    /// The plan of its text.
+    pub plan: KeptPlan,
+    /// Its buffer, emptied.
+    pub text: Option<UnicodeBuffer>,
+}
+
+impl KeptLine {
+    /// Nothing is kept.
+    pub fn new() -> Self
+        ensures plan { result.plan ≡ None }
+        ensures text { result.text ≡ None }
+    {
+        KeptLine {
+            plan: KeptPlan::new(),
+            text: None,
+        }
+    }
+
+    /// An empty text for the next line, in the buffer that is kept, if one is. In it characters that are invisible by default are
+    /// to have the glyph of the options.
+    pub fn take_text(&mut self, alloc: Global, options: &LineOptions<'_>) -> UnicodeBuffer
+        ensures invisible { result.invisible ≡ options.now.invisible_glyph }
+        ensures plan { self.new.plan ≡ self.old.plan }
+    {
+        match self.text.take() {
+            Some(text) => emptied(text, options),
+            None => empty_text(alloc, options),
+        }
+    }
+}
+
+/// What lines are answered by that changes from line to line.
+#[derive(Drop)]
+pub struct LineState<N> {
+    /// Names and extents of glyphs.
+    pub names: N,
+    /// What is kept of the line before.
+    pub kept: KeptLine,
 }
 
 /// A font, and how lines are shaped with it and printed.
@@ -68,16 +113,16 @@ impl LineShaper<'_> {
     pub fn answer<N: LineNames>(
         &self,
         alloc: Global,
-        names: &mut N,
+        state: &mut LineState<N>,
         line: &[u8],
     ) -> Result<Answer, AllocError>
         ensures { IfOk result (λ answer. IsAnswer self.now.output (answer_text answer)) }
     {
         match std::str::from_utf8(line) {
-            Ok(line) => self.answer_to_text(alloc, names, line),
+            Ok(line) => self.answer_to_text(alloc, state, line),
             Err(_) => {
                 let line = lossy_text(alloc, line)?;
-                self.answer_to_text(alloc, names, line.as_str())
+                self.answer_to_text(alloc, state, line.as_str())
             }
         }
     }
@@ -86,22 +131,37 @@ impl LineShaper<'_> {
     fn answer_to_text<N: LineNames>(
         &self,
         alloc: Global,
-        names: &mut N,
+        state: &mut LineState<N>,
         line: &str,
     ) -> Result<Answer, AllocError>
         ensures { IfOk result (λ answer. IsAnswer self.now.output (answer_text answer)) }
     {
-        let mut text = empty_text(alloc, self.options);
+        let mut text = state.kept.take_text(alloc, self.options);
         if !fill(alloc, self.options, line, &mut text)? {
             return Ok(Answer::Failed);
         }
-        match shape(self.face, self.options.features.as_slice(), text) {
-            Ok(glyphs) => self.print(alloc, names, &glyphs),
+        let features = self.options.features.as_slice();
+        match shape_with_kept_plan(self.face, features, &mut state.kept.plan, text) {
+            Ok(glyphs) => self.print_and_keep(alloc, state, glyphs),
             Err(ShapeError::TooLong) => Ok(Answer::Failed),
             Err(ShapeError::OtherPlan) => Ok(Answer::Failed),
             Err(ShapeError::Unverified(error)) => Ok(Answer::Unverified(error)),
             Err(ShapeError::Memory) => Err(AllocError),
         }
+    }
+
+    /// What is printed of glyphs, whose buffer is kept for the next line.
+    fn print_and_keep<N: LineNames>(
+        &self,
+        alloc: Global,
+        state: &mut LineState<N>,
+        glyphs: GlyphBuffer,
+    ) -> Result<Answer, AllocError>
+        ensures { IfOk result (λ answer. IsAnswer self.now.output (answer_text answer)) }
+    {
+        let answer = self.print(alloc, &mut state.names, &glyphs)?;
+        state.kept.text = Some(glyphs.clear());
+        Ok(answer)
     }
 
     /// What is printed of glyphs: their text. It is public for its clause, which says more than that of `answer`.

@@ -1,13 +1,13 @@
 //! One or two numbers, as the sizes of a font are given.
 
 /// The whole parts of one number, for both directions, or of two.
-pub fn sizes(text: &str) -> Option<(i32, i32)> {
+pub(crate) fn sizes(text: &str) -> Option<(i32, i32)> {
     let (first, second) = one_or_two(text);
     Some((whole_part(first)?, whole_part(second)?))
 }
 
 /// One text for both, or two with spaces or commas between them.
-pub fn one_or_two(text: &str) -> (&str, &str) {
+pub(crate) fn one_or_two(text: &str) -> (&str, &str) {
     let text = text.trim_start_matches(' ');
     match text.find([' ', ',']) {
         Some(end) => {

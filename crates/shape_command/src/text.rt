@@ -9,7 +9,7 @@ ghost use Rattle.shaping_buffer.specs.Step.{GrowthMeets};
 ghost use Rattle.shape_command.specs.Prepared.{prepared, with_properties, language_of};
 
 use crate::options::LineOptions;
-use shaping_buffer::{GlyphBuffer, Language, LanguageError, UnicodeBuffer, hb_buffer_t};
+use shaping_buffer::{GlyphBuffer, Language, LanguageError, UnicodeBuffer};
 use std::alloc::{AllocError, Global};
 
 /// The bytes as a text, in which each byte that is no part of a character in UTF-8 is a replacement character, as in
@@ -51,7 +51,14 @@ fn push_lossy<'a>(text: &mut String, bytes: &'a [u8]) -> Result<&'a [u8], AllocE
 pub fn empty_text(alloc: Global, options: &LineOptions<'_>) -> UnicodeBuffer
     ensures { result.invisible ≡ options.now.invisible_glyph }
 {
-    let mut buffer = hb_buffer_t::new(alloc);
+    emptied(UnicodeBuffer::new(alloc), options)
+}
+
+/// A text that is emptied, with the room of its buffer, for which the options say the same.
+pub fn emptied(text: UnicodeBuffer, options: &LineOptions<'_>) -> UnicodeBuffer
+    ensures { result ≡ cleared (record text { invisible = options.now.invisible_glyph }) }
+{
+    let mut buffer = text.into_buffer();
     buffer.invisible = options.invisible_glyph;
     buffer.clear_positions();
     GlyphBuffer::from_buffer(buffer).clear()

@@ -13,6 +13,8 @@ mod face;
 #[cfg(test)]
 mod marks;
 #[cfg(test)]
+mod plans;
+#[cfg(test)]
 mod shaping;
 #[cfg(test)]
 mod upright;

@@ -1,17 +1,18 @@
 -- A replacement, in the words of the two sides.
-use Rattle.std.proofs.Common.{◌≡◌, inl, inr, ℕ, ◌+◌, ◌-◌, ◌<◌, ◌≤◌, ◌&&◌, not, Bool, true, false, List, ◌++◌}
+use Rattle.std.proofs.Common.{◌≡◌, inl, inr, ℕ, ◌+◌, ◌-◌, ◌<◌, ◌≤◌, ◌&&◌, ◌||◌, not, Bool, true, false, List, ◌++◌, Result, Ok, Err}
 use Rattle.std.proofs.Common.{length, take, drop, sym, ap, ◌∙◌, arith, length-append, get_or, leb, ltb}
-use Rattle.std.proofs.lemmas.Bool.{cond-true, cond-false, cases_lt, false≢true, le-leb, lt-leb}
-use Rattle.std.proofs.lemmas.List.{get_or-drop, drop-drop}
+use Rattle.std.proofs.lemmas.Bool.{cond-true, cond-false, cases_lt, false≢true, le-leb, lt-leb, le-ltb}
+use Rattle.std.proofs.lemmas.List.{get_or-drop, drop-drop, length-take-le}
 use Rattle.std.specs.Prelude.{slice_index_or}
+use Rattle.std.specs.declared.alloc.AllocError.{AllocError}
 use Rattle.rb_glyph.specs.declared.info.hb_glyph_info_t.{hb_glyph_info_t}
 use Rattle.glyph_lists.specs.Clusters.{zero_glyph}
 use Rattle.glyph_lists.specs.Deletion.{merge_or_mark}
 use Rattle.glyph_lists.specs.Replacement.{copies, replacement}
-use Rattle.glyph_lists.proofs.LengthsLemmas.{length_copies}
+use Rattle.glyph_lists.proofs.LengthsLemmas.{length_copies, length-merge_or_mark}
 use Rattle.shaping_buffer.specs.State.{State}
 use Rattle.shaping_buffer.specs.ClusterStep.{both, any_order, flagged_if}
-use Rattle.shaping_buffer.specs.Step.{Outcome, limited, settled, replace_glyphs}
+use Rattle.shaping_buffer.specs.Step.{Outcome, Meets, limited, settled, replace_glyphs}
 
 -- both sides, the first n glyphs of the input merged
 abbrev pub front_merged : Bool → ℕ → State → List hb_glyph_info_t
@@ -42,6 +43,30 @@ pub replaced_done : (n : ℕ) (ids : List ℕ) (s : State) → s.have_output ≡
     → replace_glyphs n ids s ≡ record { done = true; state = settled (front_replaced n ids s) }
 replaced_done n ids s opened fits = replaced_sides n ids s opened
     ∙ cond-true (leb (length s.out + length ids) s.max_len) _ _ (le-leb (length s.out + length ids) s.max_len fits)
+
+-- an output in place stays so where no more is put out than is read
+front_in_place : (n : ℕ) (ids : List ℕ) (s : State) → s.have_separate_output ≡ false → length s.out ≤ s.idx → length ids ≤ n
+    → (settled (front_replaced n ids s)).have_separate_output ≡ false
+front_in_place n ids s together near fewer =
+    let l = front_merged (any_order s) n s in
+    let head = slice_index_or (drop (length s.out) l) 0 zero_glyph in
+    let all : length l ≡ length s.out + length s.input =
+    length-merge_or_mark (any_order s) (both s) (length s.out) (length s.out + n) 0 ∙ length-append s.out s.input in
+    let out : length (take (length s.out) l) ≡ length s.out = length-take-le (length s.out) l (omega (arith, all)) in
+    let size : length (take (length s.out) l ++ copies head ids) ≤ s.idx + n =
+    omega (arith, length-append (take (length s.out) l) (copies head ids), length_copies head ids, out, near, fewer) in
+    ap (λ b. b || ltb (s.idx + n) (length (take (length s.out) l ++ copies head ids))) together ∙ le-ltb _ _ size
+
+-- such a replacement is done, and asks for no memory
+pub replaced_in_place : (n : ℕ) (ids : List ℕ) (s new : State) (result : Result Bool AllocError)
+    → Meets (replace_glyphs n ids s) s result new → s.have_output ≡ true → s.have_separate_output ≡ false
+    → length s.out ≤ s.idx → length s.out + length ids ≤ s.max_len → length ids ≤ n → result ≡ Ok true
+replaced_in_place n ids s new (Ok b) meets opened together near fits fewer =
+    ap Ok (meets.0 ∙ ap (λ (o : Outcome). o.done) (replaced_done n ids s opened fits))
+replaced_in_place n ids s new (Err e) meets opened together near fits fewer =
+    let is = replaced_done n ids s opened fits in
+    absurd (false≢true (sym (ap (λ b. b || (replace_glyphs n ids s).state.have_separate_output) together
+    ∙ ap (λ (o : Outcome). o.state.have_separate_output) is ∙ front_in_place n ids s together near fewer) ∙ meets.0.1))
 
 pub replaced_refused : (n : ℕ) (ids : List ℕ) (s : State) → s.have_output ≡ true → s.max_len < length s.out + length ids
     → replace_glyphs n ids s ≡ record { done = false; state = record s { successful = false } }

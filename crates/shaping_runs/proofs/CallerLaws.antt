@@ -1,11 +1,9 @@
 -- What each call does to the lengths of both sides. `lengths` are rewrite rules for the loops of callers, who name them
 -- in an attribute: `#[tactic(auto, using(shaping_runs::proofs::CallerLaws::lengths))]`.
-use Rattle.std.proofs.Common.{◌≡◌, ◌≤◌, ◌+◌, ◌-◌, ℕ, Bool, true, false, cond, List, [], ◌∷◌, ◌++◌, length, map}
+use Rattle.std.proofs.Common.{◌≡◌, ◌≤◌, ◌+◌, ◌-◌, ℕ, true, cond, List, [], ◌∷◌, ◌++◌, length, map}
 use Rattle.std.proofs.Common.{take, drop, refl, sym, ap, ◌∙◌, subst, arith, ltb, leb, ◌||◌, length-append}
 use Rattle.std.proofs.Common.{length-drop, eqb}
-use Rattle.std.specs.Prelude.{Result, Ok, Err}
-use Rattle.std.specs.declared.alloc.AllocError.{AllocError}
-use Rattle.std.proofs.lemmas.Bool.{cond_both, cond-true, false≢true, le-ltb, le-leb, eqb-true}
+use Rattle.std.proofs.lemmas.Bool.{cond_both, cond-true, false≢true, le-ltb, eqb-true}
 use Rattle.std.proofs.lemmas.List.{length-map, length-take-le}
 use Rattle.rb_glyph.specs.declared.info.hb_glyph_info_t.{hb_glyph_info_t}
 use Rattle.glyph_lists.specs.Clusters.{run_merge}
@@ -13,8 +11,8 @@ use Rattle.glyph_lists.specs.Deletion.{merge_or_mark}
 use Rattle.glyph_lists.specs.Replacement.{copies}
 use Rattle.glyph_lists.proofs.LengthsLemmas.{length-merge_or_mark, length-deletion, length_copies}
 use Rattle.glyph_lists.proofs.MergesLemmas.{length-run_merge}
-use Rattle.shaping_buffer.specs.State.{State, len, lookahead_len}
-use Rattle.shaping_buffer.specs.Step.{Outcome, Meets, limited, settled, put_out, skip_glyph, skip_glyphs}
+use Rattle.shaping_buffer.specs.State.{State}
+use Rattle.shaping_buffer.specs.Step.{Outcome, limited, settled, put_out, skip_glyph, skip_glyphs}
 use Rattle.shaping_buffer.specs.Step.{next_glyphs, replace_glyph, replace_glyphs, output_glyph, output_info, copy_glyph}
 use Rattle.shaping_buffer.specs.Step.{with_id, glyph_to_copy}
 use Rattle.shaping_buffer.specs.ClusterStep.{both, both_place, floor_of, any_order, with_both, merge_clusters}
@@ -178,48 +176,3 @@ module _ (s : State) where
   merge_out_clusters_moves start end =
       moves 0 0 s (merge_out_clusters start end s) (omega (arith, merge_out_clusters_out start end s))
       (omega (arith, merge_out_clusters_input start end s)) (omega arith) refl refl refl refl
-
--- ---- in place
-
-replaced_done : (n : ℕ) (ids : List ℕ) (s : State) → s.have_output ≡ true → length s.out ≤ s.idx → len s ≤ s.max_len
-    → n ≤ length s.input → length ids ≤ n → (replace_glyphs n ids s).done ≡ true
-replaced_done n ids s opened near fits within fewer =
-    let g = head_of (merge_clusters s.idx (s.idx + n) s) in
-    let held = length (s.out ++ copies g ids) in
-    let all : len s ≡ s.idx + length s.input = cond-true s.have_output _ _ opened in
-    let few : held ≤ s.max_len =
-    omega (arith, length-append s.out (copies g ids), length_copies g ids, near, fits, all, within, fewer) in
-    ap (λ (o : Outcome). o.done) (cond-true (leb held s.max_len) _ _ (le-leb held s.max_len few))
-
-pub replaced_in_place : (n : ℕ) (ids : List ℕ) (s new : State) (result : Result Bool AllocError)
-    → Meets (replace_glyphs n ids s) s result new → s.have_output ≡ true → s.have_separate_output ≡ false
-    → length s.out ≤ s.idx → len s ≤ s.max_len → n ≤ length s.input → length ids ≤ n → result ≡ Ok true
-replaced_in_place n ids s new (Ok done) meets opened together near fits within fewer =
-    ap Ok (meets.0 ∙ replaced_done n ids s opened near fits within fewer)
-replaced_in_place n ids s new (Err e) meets opened together near fits within fewer =
-    let after = (replace_glyphs n ids s).state in
-    let moved = replace_glyphs_moves s n ids opened (replaced_done n ids s opened near fits within fewer) in
-    absurd (false≢true (sym (ap (λ b. b || after.have_separate_output) together ∙ moved.in_place fewer together near)
-    ∙ meets.0.1))
-
--- ---- a loop in place
-
--- so many glyphs are left to read
-pub left_to_read : (n : ℕ) (s : State) → s.have_output ≡ true → n ≤ lookahead_len s → n ≤ length s.input
-left_to_read n s opened within =
-    let left : lookahead_len s ≡ length s.input =
-    ap (λ b. cond b (s.idx + length s.input) (length s.input) - s.idx) opened ∙ omega arith in
-    omega (arith, left, within)
-
--- what a replacement of n glyphs by k leaves, where the output has no more glyphs than were read
-pub replaced_moves : (n k : ℕ) (ids : List ℕ) (s new : State) (done : Bool)
-    → Meets (replace_glyphs n (take k ids) s) s (Ok done) new → s.have_output ≡ true → length s.out ≤ s.idx
-    → len s ≤ s.max_len → n ≤ lookahead_len s → k ≤ n → k ≤ length ids → Moves k n s new
-replaced_moves n k ids s new done meets opened near fits within fewer some =
-    let count : length (take k ids) ≡ k = length-take-le k ids some in
-    let input : n ≤ length s.input = left_to_read n s opened within in
-    let on : (replace_glyphs n (take k ids) s).done ≡ true =
-    replaced_done n (take k ids) s opened near fits input (omega (arith, count, fewer)) in
-    let moved : Moves (length (take k ids)) n s new =
-    subst (Moves (length (take k ids)) n s) (sym meets.1) (replace_glyphs_moves s n (take k ids) opened on) in
-    subst (λ put. Moves put n s new) count moved

@@ -4,13 +4,11 @@
 //! holds for every state. As rewrite rules they are `lengths` of `shaping_runs::proofs::CallerLaws`, which a caller whose
 //! loop counts glyphs names in its attribute.
 
-ghost use Rattle.std.specs.Prelude.{◌≡◌, ◌<◌, ◌≤◌, ℕ, Bool, true, false, Ok, Result, List, length};
-ghost use Rattle.std.specs.declared.alloc.AllocError.{AllocError};
+ghost use Rattle.std.specs.Prelude.{◌≡◌, ◌<◌, ◌≤◌, ℕ, true, List, length};
 ghost use Rattle.rb_glyph.specs.declared.info.hb_glyph_info_t.{hb_glyph_info_t};
 ghost use Rattle.shaping_buffer.specs.ClusterStep as cluster_step;
-ghost use Rattle.shaping_buffer.specs.State.{State, len};
+ghost use Rattle.shaping_buffer.specs.State.{State};
 ghost use Rattle.shaping_buffer.specs.Step as step;
-ghost use Rattle.shaping_buffer.specs.Step.{Meets};
 ghost use Rattle.shaping_runs.specs.Moves.{Moves};
 
 /// With an output open, a done cursor call puts out so many glyphs and reads so many.
@@ -40,13 +38,4 @@ pub fn merges_keep_lengths()
         → Moves 0 0 s (cluster_step.merge_clusters start end s) }
     ensures merge_out_clusters { (start end : ℕ) (s : State)
         → Moves 0 0 s (cluster_step.merge_out_clusters start end s) }
-{}
-
-/// A replacement by no more glyphs than it reads is done while the output is in place, and asks for no memory: the
-/// clause `in_place` of `next_glyph`, of `replace_glyphs`.
-pub fn replacements_in_place_are_done()
-    ensures { (n : ℕ) (ids : List ℕ) (s new : State) (result : Result Bool AllocError)
-        → Meets (step.replace_glyphs n ids s) s result new
-        → s.have_output ≡ true → s.have_separate_output ≡ false → length s.out ≤ s.idx
-        → len s ≤ s.max_len → n ≤ length s.input → length ids ≤ n → result ≡ Ok true }
 {}

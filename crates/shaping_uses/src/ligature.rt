@@ -15,11 +15,12 @@ const LIGATURE_FI: u32 = 0xFB01;
 
 /// Puts the ligature in place of each f and the i behind it. The pass stays in place, so it asks for no memory and is
 /// always done. Requires that no output is open and no refusal stands.
-#[tactic(auto, using(shaping_runs::proofs::CallerLaws::lengths))]
+#[tactic(auto, using(crate::proofs::LigatureLemmas::ligature_lengths))]
 pub fn ligate(buffer: &mut hb_buffer_t) -> Result<bool, AllocError>
     requires closed { buffer.old.have_output ≡ false }
     requires successful { buffer.old.successful ≡ true }
     ensures done { result ≡ Ok true }
+    ensures closed { buffer.new.have_output ≡ false }
     ensures no_longer { length buffer.new.input ≤ length buffer.old.input }
 {
     buffer.clear_output();

@@ -1,6 +1,8 @@
 //! Forms and ligatures of Arabic letters in a font that has them as characters and has no features for them: HarfBuzz's
 //! `arabic_fallback_plan_t`, as the bytes of a table `GSUB`.
 
+ghost use Rattle.std.specs.Prelude.{◌≡◌, ◌≢◌, ◌≤◌, ◌+◌, All, length, IfOk, OnOk};
+
 use crate::arabic::lookup_bytes::{LigatureRow, ligature_lookup, single_lookup, table_of};
 use crate::arabic::presentation_rows::{
     LETTERS, LIGATURES_OF_MARKS, LIGATURES_OF_THREE, LIGATURES_OF_TWO,
@@ -35,19 +37,23 @@ struct Collected {
 
 impl FallbackLookups {
     /// The lookups of a font, for a plan that `does_fallback`: the initial, medial, final and isolated forms, and then ligatures of
-    /// three letters, of two and of marks. There are none where the font has no such characters.
+    /// three letters, of two and of marks. There are none where the font has no such characters, and none for glyphs of no mask.
+    /// `Err(AllocError)` where memory runs out.
     pub fn new<F: FontGlyphs>(
         alloc: Global,
         font: &F,
         plan: &ScriptPlan,
-    ) -> Result<FallbackLookups, AllocError> {
+    ) -> Result<FallbackLookups, AllocError>
+        ensures few { IfOk result (λ fallback. length fallback.masks.items ≤ 7) }
+        ensures masks { IfOk result (λ fallback. All (λ mask. mask ≢ 0) fallback.masks.items) }
+    {
         let mut collected = Collected {
             alloc,
             lookups: Vec::new(alloc),
             masks: Vec::new(alloc),
         };
-        for (column, form) in FORMS.iter().enumerate() {
-            let number = usize::from(form.number());
+        for column in 0..FORMS.len() {
+            let number = usize::from(FORMS[column].number());
             let mask = plan.masks.get(number).copied().unwrap_or(0);
             collected.add_forms(font, column, mask)?;
         }
@@ -64,7 +70,11 @@ impl FallbackLookups {
 
 impl Collected {
     /// Adds a lookup, where there is one and a glyph may have its mask.
-    fn add(&mut self, lookup: Option<Vec<u8>>, mask: u32) -> Result<(), AllocError> {
+    fn add(&mut self, lookup: Option<Vec<u8>>, mask: u32) -> Result<(), AllocError>
+        ensures few { OnOk result (length self.new.masks.items ≤ length self.old.masks.items + 1) }
+        ensures masks { OnOk result (All (λ mask. mask ≢ 0) self.old.masks.items
+            → All (λ mask. mask ≢ 0) self.new.masks.items) }
+    {
         if let Some(lookup) = lookup
             && mask != 0
         {
@@ -80,7 +90,11 @@ impl Collected {
         font: &F,
         column: usize,
         mask: u32,
-    ) -> Result<(), AllocError> {
+    ) -> Result<(), AllocError>
+        ensures few { OnOk result (length self.new.masks.items ≤ length self.old.masks.items + 1) }
+        ensures masks { OnOk result (All (λ mask. mask ≢ 0) self.old.masks.items
+            → All (λ mask. mask ≢ 0) self.new.masks.items) }
+    {
         let mut pairs = Vec::new(self.alloc);
         for (letter, forms) in LETTERS.iter() {
             let form = forms.get(column).copied().unwrap_or(0);
@@ -98,7 +112,11 @@ impl Collected {
     }
 
     /// Adds the lookup of ligatures of three letters.
-    fn add_three<F: FontGlyphs>(&mut self, font: &F, mask: u32) -> Result<(), AllocError> {
+    fn add_three<F: FontGlyphs>(&mut self, font: &F, mask: u32) -> Result<(), AllocError>
+        ensures few { OnOk result (length self.new.masks.items ≤ length self.old.masks.items + 1) }
+        ensures masks { OnOk result (All (λ mask. mask ≢ 0) self.old.masks.items
+            → All (λ mask. mask ≢ 0) self.new.masks.items) }
+    {
         let mut rows = Vec::new(self.alloc);
         for (parts, ligature) in LIGATURES_OF_THREE.iter() {
             let [first, second, third] = *parts;
@@ -117,7 +135,11 @@ impl Collected {
         ligatures: &[([u16; 2], u16)],
         flag: u16,
         mask: u32,
-    ) -> Result<(), AllocError> {
+    ) -> Result<(), AllocError>
+        ensures few { OnOk result (length self.new.masks.items ≤ length self.old.masks.items + 1) }
+        ensures masks { OnOk result (All (λ mask. mask ≢ 0) self.old.masks.items
+            → All (λ mask. mask ≢ 0) self.new.masks.items) }
+    {
         let mut rows = Vec::new(self.alloc);
         for (parts, ligature) in ligatures {
             add_row(&mut rows, font, *parts, None, *ligature)?;

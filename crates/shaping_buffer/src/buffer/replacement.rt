@@ -1,7 +1,7 @@
 //! Replacement of several glyphs at once, as HarfBuzz's `hb_buffer_t` makes it where a ligature is formed or a glyph is
 //! decomposed.
 
-ghost use Rattle.std.specs.Prelude.{◌≡◌, ◌<◌, ◌≤◌, true, length, take};
+ghost use Rattle.std.specs.Prelude.{◌≡◌, ◌<◌, ◌≤◌, true, false, length, take};
 ghost use Rattle.shaping_buffer.specs.State.{lookahead_len};
 ghost use Rattle.shaping_buffer.specs.Step as step;
 ghost use Rattle.shaping_buffer.specs.Step.{Meets};
@@ -32,6 +32,7 @@ impl hb_buffer_t {
             self.old result self.new }
         ensures keeps_order { KeepsClusterOrder self.old self.new }
         ensures keeps { 0 < num_out → KeepsClusters self.old self.new }
+        ensures in_place { self.old.have_separate_output ≡ false → num_out ≤ num_in → result ≡ Ok true }
     {
         let ids = &glyph_data[..num_out];
         let order = self.cluster_order();
@@ -48,7 +49,8 @@ impl hb_buffer_t {
         requires opened { self.old.have_output ≡ true }
         requires glyph { 0 < length self.old.input }
         requires within { count ≤ length self.old.input }
-        ensures { Meets (step.replace_glyphs count ids.now self.old) self.old result self.new }
+        ensures meets { Meets (step.replace_glyphs count ids.now self.old) self.old result self.new }
+        ensures in_place { self.old.have_separate_output ≡ false → length ids.now ≤ count → result ≡ Ok true }
     {
         if ids.len() > self.max_len - self.sides.out_len() {
             self.successful = false;

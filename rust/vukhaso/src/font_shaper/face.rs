@@ -185,6 +185,8 @@ impl<'a> Face<'a> {
     /// ```text
     /// ensures across { self.new.scale.x ≡ x }
     /// ensures upwards { self.new.scale.y ≡ y }
+    /// ensures pixels { (self.new.scale.x_ppem ≡ self.old.scale.x_ppem) × (self.new.scale.y_ppem ≡ self.old.scale.y_ppem) }
+    /// ensures tables { self.new.tables ≡ self.old.tables }
     /// ensures kept { KeepsItsTables self.old → KeepsItsTables self.new }
     /// ```
     #[inline]
@@ -204,6 +206,8 @@ impl<'a> Face<'a> {
     /// ```text
     /// ensures across { self.new.scale.x_ppem ≡ x }
     /// ensures upwards { self.new.scale.y_ppem ≡ y }
+    /// ensures size { (self.new.scale.x ≡ self.old.scale.x) × (self.new.scale.y ≡ self.old.scale.y) }
+    /// ensures tables { self.new.tables ≡ self.old.tables }
     /// ensures kept { KeepsItsTables self.old → KeepsItsTables self.new }
     /// ```
     #[inline]
@@ -220,6 +224,7 @@ impl<'a> Face<'a> {
     ///
     /// ```text
     /// ensures points { self.new.points_per_em ≡ points }
+    /// ensures tables { self.new.tables ≡ self.old.tables }
     /// ensures kept { KeepsItsTables self.old → KeepsItsTables self.new }
     /// ```
     #[inline]

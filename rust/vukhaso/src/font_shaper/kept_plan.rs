@@ -2,22 +2,37 @@
 
 //! Plans that are kept: how texts of one script, language and direction are shaped by a font, found once for all of them.
 
-use crate::buffer::{BufferFlags, Direction, Feature, Flags, GlyphBuffer, Language, UnicodeBuffer};
+use crate::buffer::{Direction, Feature, GlyphBuffer, Language, UnicodeBuffer, hb_buffer_t};
 use crate::common::{Script, script};
 use crate::font_shaper::face::Face;
 use crate::font_shaper::planning::{SegmentProperties, TextPlan};
-use crate::font_shaper::shaping::{ShapeError, shape_planned};
+use crate::font_shaper::shaping::{ShapeError, shape_by_plan};
 use crate::font_shaper::watch::{Unwatched, Watch};
-use crate::memory::{AllocError, Vec};
+use crate::memory::{AllocError, String, Vec};
 
-/// How texts of a script, a language and a direction are shaped by a font, with some features.
+/// How texts of a script, a language and a direction are shaped by a font, with some features, and at the variations that were
+/// chosen when it was made.
+///
+/// # Proved
+///
+/// ```text
+/// ghost Value = { PlannedTexts }
+/// ghost view = { λ p. record {
+///   direction = p.direction;
+///   script = p.script;
+///   language = option_map string_bytes p.language;
+///   features = p.features.items;
+///   coordinates = p.coordinates.items;
+/// } }
+/// ```
 #[derive(Debug)]
 pub struct ShapePlan {
     plan: TextPlan,
     direction: Direction,
     script: Option<Script>,
-    language: Option<Language>,
+    language: Option<String>,
     features: Vec<Feature>,
+    coordinates: Vec<i32>,
 }
 
 impl ShapePlan {
@@ -29,7 +44,15 @@ impl ShapePlan {
     ///
     /// # Proved
     ///
-    /// That it returns.
+    /// ```text
+    /// ensures { IfOk result (λ plan. plan ≡ record {
+    ///       direction = direction;
+    ///       script = script;
+    ///       language = option_copied language.entry;
+    ///       features = user_features.now;
+    ///       coordinates = face.now.variations.coordinates.items;
+    ///     }) }
+    /// ```
     #[inline]
     pub fn new(
         face: &Face,
@@ -46,9 +69,10 @@ impl ShapePlan {
         Ok(ShapePlan {
             plan: face.plan_for(&segment, user_features)?,
             direction,
-            script: segment.script,
-            language: face.copy_of_language(language)?,
+            script,
+            language: face.text_of_language(language)?,
             features: face.copy_of_features(user_features)?,
+            coordinates: face.copy_of_coordinates()?,
         })
     }
 
@@ -56,7 +80,9 @@ impl ShapePlan {
     ///
     /// # Proved
     ///
-    /// That it returns.
+    /// ```text
+    /// ensures { result ≡ self.now.direction }
+    /// ```
     #[inline]
     pub fn direction(&self) -> Direction {
         self.direction
@@ -66,7 +92,9 @@ impl ShapePlan {
     ///
     /// # Proved
     ///
-    /// That it returns.
+    /// ```text
+    /// ensures { result ≡ self.now.script }
+    /// ```
     #[inline]
     pub fn script(&self) -> Option<Script> {
         self.script
@@ -76,38 +104,154 @@ impl ShapePlan {
     ///
     /// # Proved
     ///
-    /// That it returns.
+    /// ```text
+    /// ensures direction { result ≡ true → self.now.direction ≡ text.now.direction }
+    /// ensures script { result ≡ true
+    ///     → unwrap_or self.now.script unknown_script ≡ unwrap_or text.now.script unknown_script }
+    /// ensures language { result ≡ true → self.now.language ≡ text.now.language }
+    /// ```
     #[inline]
     pub fn is_for(&self, text: &UnicodeBuffer) -> bool {
         self.direction == text.direction()
             && self.script.unwrap_or(script::UNKNOWN) == text.script()
-            && self.language.as_ref() == text.language()
+            && is_text_of(&self.language, text.language())
+    }
+
+    /// Whether it is the plan that would be made for the text of a buffer.
+    fn is_plan_of(&self, face: &Face, features: &[Feature], buffer: &hb_buffer_t) -> bool {
+        self.is_said(buffer.direction, buffer.script, buffer.language.as_ref())
+            && self.is_with(features, face.coordinates())
+    }
+
+    /// Whether its texts have this direction, this script and this language.
+    fn is_said(
+        &self,
+        direction: Direction,
+        script: Option<Script>,
+        language: Option<&Language>,
+    ) -> bool {
+        self.direction == direction && self.script == script && is_text_of(&self.language, language)
+    }
+
+    /// Whether it was made with these features, at these coordinates.
+    fn is_with(&self, features: &[Feature], coordinates: &[i32]) -> bool {
+        self.features.as_slice() == features && self.coordinates.as_slice() == coordinates
     }
 }
 
 impl Face<'_> {
-    /// A copy of a language, which is kept with a plan.
-    fn copy_of_language(
-        &self,
-        language: Option<&Language>,
-    ) -> Result<Option<Language>, AllocError> {
-        match language {
-            Some(language) => match Language::from_str(language.as_str()) {
-                Ok(copy) => Ok(Some(copy)),
-                Err(_) => Err(AllocError),
-            },
-            None => Ok(None),
-        }
+    /// The text of a language, which is kept with a plan.
+    fn text_of_language(&self, language: Option<&Language>) -> Result<Option<String>, AllocError> {
+        let Some(language) = language else {
+            return Ok(None);
+        };
+        let mut text = String::new();
+        text.push_str(language.as_str())?;
+        Ok(Some(text))
     }
 
     /// A copy of features, which is kept with a plan.
     fn copy_of_features(&self, features: &[Feature]) -> Result<Vec<Feature>, AllocError> {
         let mut copy = Vec::new();
-        for feature in features {
-            copy.push(*feature)?;
-        }
+        copy.extend_from_slice(features)?;
         Ok(copy)
     }
+
+    /// A copy of the coordinates that are chosen, which is kept with a plan.
+    fn copy_of_coordinates(&self) -> Result<Vec<i32>, AllocError> {
+        let mut copy = Vec::new();
+        copy.extend_from_slice(self.coordinates())?;
+        Ok(copy)
+    }
+}
+
+/// Whether a text that is kept is that of a language.
+fn is_text_of(text: &Option<String>, language: Option<&Language>) -> bool {
+    match (text, language) {
+        (Some(text), Some(language)) => text.as_str() == language.as_str(),
+        (None, None) => true,
+        _ => false,
+    }
+}
+
+/// The plan of the text before, which is used again for texts of the same font that it is for too, as HarfBuzz does it.
+///
+/// # Proved
+///
+/// ```text
+/// ghost Value = { Option PlannedTexts }
+/// ghost view = { λ k. k.plan }
+/// ```
+#[derive(Debug)]
+pub struct KeptPlan {
+    plan: Option<ShapePlan>,
+}
+
+impl KeptPlan {
+    /// No plan.
+    ///
+    /// # Proved
+    ///
+    /// ```text
+    /// ensures { result ≡ None }
+    /// ```
+    #[inline]
+    pub fn new() -> Self {
+        KeptPlan { plan: None }
+    }
+
+    /// The plan for the text of a buffer: the one that was kept, where a new one would be the same, and
+    /// else a new one.
+    fn take(
+        &mut self,
+        face: &Face,
+        features: &[Feature],
+        buffer: &hb_buffer_t,
+    ) -> Result<ShapePlan, AllocError> {
+        match self.plan.take() {
+            Some(plan) if plan.is_plan_of(face, features, buffer) => Ok(plan),
+            _ => ShapePlan::new(
+                face,
+                buffer.direction,
+                buffer.script,
+                buffer.language.as_ref(),
+                features,
+            ),
+        }
+    }
+}
+
+/// Shapes a text by a font, as `shape` does, by the plan of the text before where a new plan would be
+/// the same. The plan is kept for the next text of the same font; whatever is chosen of the font
+/// between two texts, its size and its variations, may change.
+///
+/// # Errors
+///
+/// `Err`: the clauses below say when.
+///
+/// # Proved
+///
+/// ```text
+/// ensures placed { IfOk result HasPositions }
+/// ensures within { IfOk result (λ glyphs. length glyphs.input ≤ (enter text).max_len) }
+/// ensures direction { IfOk result (λ glyphs. glyphs.direction ≡ (guessed text).direction) }
+/// ensures clusters { IfOk result (ShapedClusters text) }
+/// ensures planned { IfOk result (λ _. kept.new ≡ Some (planned face.now features.now (guessed text))) }
+/// ```
+#[inline]
+pub fn shape_with_kept_plan(
+    face: &Face,
+    features: &[Feature],
+    kept: &mut KeptPlan,
+    text: UnicodeBuffer,
+) -> Result<GlyphBuffer, ShapeError> {
+    let mut text = text;
+    text.guess_segment_properties();
+    let buffer = text.into_buffer();
+    let plan = kept.take(face, features, &buffer)?;
+    let shaped = shape_by_plan(face, &plan.plan, features, buffer, &mut Unwatched);
+    kept.plan = Some(plan);
+    shaped
 }
 
 /// Shapes a text by a font and a plan that was made for both.
@@ -161,10 +305,5 @@ pub fn shape_with_plan_watched<W: Watch>(
         return Err(ShapeError::OtherPlan);
     }
     let buffer = text.into_buffer();
-    let features = plan.features.as_slice();
-    if buffer.flags.contains(BufferFlags::VERIFY) {
-        face.shape_verified(features, buffer)
-    } else {
-        shape_planned(face, &plan.plan, features, buffer, watch)
-    }
+    shape_by_plan(face, &plan.plan, plan.features.as_slice(), buffer, watch)
 }

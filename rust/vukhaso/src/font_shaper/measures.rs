@@ -17,12 +17,14 @@ use crate::numbers::Round;
 use crate::numbers::{nearest_i64_to_f32, saturating_f32_to_i32};
 
 impl Face<'_> {
-    /// How far a glyph moves the pen to the right in horizontal lines.
+    /// How far a glyph moves the pen to the right in horizontal lines (OpenType specification, `hmtx` and
+    /// `HVAR`). Where variations are chosen of a font without `HVAR`, its outlines say it (`gvar`).
     ///
     /// # Proved
     ///
     /// ```text
-    /// ensures { self.now.variations.coordinates.items ≡ [] → result ≡ hor_advance self.now glyph.0 }
+    /// ensures plain { self.now.variations.coordinates.items ≡ [] → result ≡ hor_advance self.now glyph.0 }
+    /// ensures varied { IsSome self.now.variations.horizontal → result ≡ hor_advance self.now glyph.0 }
     /// ```
     #[inline]
     pub fn glyph_hor_advance(&self, glyph: GlyphId) -> i32 {

@@ -15,7 +15,7 @@ use crate::layout_plan::{
 use crate::memory::AllocError;
 use crate::position_tables::kern_table::KernTable;
 use crate::script_features::{collect_features, override_features, script_plan, syllable_plan};
-use crate::script_shapers::{ScriptPlan, ScriptShaper, ZeroWidthMarks};
+use crate::script_shapers::{FallbackLookups, ScriptPlan, ScriptShaper, ZeroWidthMarks};
 use crate::syllabic_shapers::SyllablePlan;
 use crate::text::tags::tags_from_script_and_language;
 use crate::text::{Feature, Language, LanguageTable};
@@ -33,6 +33,8 @@ pub(crate) struct TextPlan {
     pub chain_flags: Option<ChainFlags>,
     /// The bits of the glyphs that Apple's table `trak` moves.
     pub trak_mask: u32,
+    /// The lookups that join Arabic letters, where the font has no features for them.
+    pub fallback: Option<FallbackLookups>,
 }
 
 impl TextPlan {
@@ -129,12 +131,14 @@ impl Face<'_> {
             &shape.layout,
             chosen.finds_script,
         );
+        let fallback = self.fallback_of(&script)?;
         Ok(TextPlan {
             shape,
             script,
             syllables,
             chain_flags,
             trak_mask,
+            fallback,
         })
     }
 
@@ -150,6 +154,14 @@ impl Face<'_> {
         let names = FeatureNames::new(self.layout.feat);
         let selected = selected_features(&names, features)?;
         ChainFlags::new(&self.lookups.metamorphosis, selected.as_slice())
+    }
+
+    /// The lookups that join Arabic letters, where the shaper of the script makes them.
+    fn fallback_of(&self, script: &ScriptPlan) -> Result<Option<FallbackLookups>, AllocError> {
+        if !script.does_fallback {
+            return Ok(None);
+        }
+        Ok(Some(FallbackLookups::new(self, script)?))
     }
 }
 

@@ -24,6 +24,10 @@ pub(crate) fn position_glyphs(buffer: &mut hb_buffer_t, face: &Face) -> Result<(
     let has_spaces = buffer.scratch_flags & HB_BUFFER_SCRATCH_FLAG_HAS_SPACE_FALLBACK != 0;
     let invisible = buffer.invisible;
     buffer.clear_positions();
+    if is_horizontal && !has_spaces {
+        advance_glyphs(buffer, face);
+        return Ok(());
+    }
     for i in 0..buffer.len() {
         let Some(info) = buffer.info().get(i) else {
             break;
@@ -36,6 +40,26 @@ pub(crate) fn position_glyphs(buffer: &mut hb_buffer_t, face: &Face) -> Result<(
         set_position(buffer, i, position);
     }
     Ok(())
+}
+
+/// Gives each glyph of a horizontal line the font's advance.
+///
+/// # Requires
+///
+/// - `closed: buffer.old.have_output ≡ false`
+/// - `placed: IsSome buffer.old.positions`
+fn advance_glyphs(buffer: &mut hb_buffer_t, face: &Face) {
+    debug_assert!(!buffer.have_output());
+    debug_assert!(buffer.have_positions());
+    for i in 0..buffer.len() {
+        let Some(info) = buffer.info().get(i) else {
+            break;
+        };
+        let advance = face.glyph_hor_advance(glyph_of(info));
+        if let Some(position) = buffer.pos_mut().get_mut(i) {
+            position.x_advance = advance;
+        }
+    }
 }
 
 /// The glyph of an item.

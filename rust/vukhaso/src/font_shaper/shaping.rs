@@ -119,27 +119,28 @@ pub fn shape_watched<W: Watch>(
     let mut text = text;
     text.guess_segment_properties();
     let buffer = text.into_buffer();
-    if buffer.flags.contains(BufferFlags::VERIFY) {
-        face.shape_verified(features, buffer)
-    } else {
-        shape_once(face, features, buffer, watch)
-    }
+    let plan = face.plan(&buffer, features)?;
+    shape_by_plan(face, &plan, features, buffer, watch)
 }
 
-/// Shapes the text of a buffer, without tests.
+/// Shapes the text of a buffer by a plan, and tests its glyphs where the buffer is to be verified.
 ///
 /// # Requires
 ///
 /// - `buffer.have_output ≡ false`
-pub(crate) fn shape_once<W: Watch>(
+pub(crate) fn shape_by_plan<W: Watch>(
     face: &Face,
+    plan: &TextPlan,
     features: &[Feature],
     buffer: hb_buffer_t,
     watch: &mut W,
 ) -> Result<GlyphBuffer, ShapeError> {
     debug_assert!(!buffer.have_output());
-    let plan = face.plan(&buffer, features)?;
-    shape_planned(face, &plan, features, buffer, watch)
+    if buffer.flags.contains(BufferFlags::VERIFY) {
+        face.shape_verified(plan, features, buffer)
+    } else {
+        shape_planned(face, plan, features, buffer, watch)
+    }
 }
 
 /// Shapes the text of a buffer by a plan, without tests.

@@ -11,11 +11,11 @@ use crate::font_shaper::planning::TextPlan;
 use crate::font_shaper::watch::{Step, Watch};
 use crate::font_tables::gdef::Gdef;
 use crate::glyph_layout::lookup_list::SUBSTITUTION_EXTENSION;
-use crate::glyph_layout::{LookupList, LookupOptions};
+use crate::glyph_layout::{Digest, LookupList, LookupOptions};
 use crate::glyph_substitution::{Progress, Substitutions};
 use crate::layout_plan::{Pause, PlannedLookup};
 use crate::memory::AllocError;
-use crate::script_shapers::{FallbackLookups, ScriptPlan};
+use crate::script_shapers::FallbackLookups;
 use crate::syllabic_shapers::SyllablePause;
 
 /// Applies the lookups of `GSUB`, stage by stage, and lets clusters run as they ran before, also where
@@ -126,15 +126,19 @@ fn apply_stages<W: Watch>(
 ) -> Result<bool, AllocError> {
     debug_assert!(!buffer.have_output());
     let mut progress = Progress::new(budget_of(buffer));
+    let mut glyphs = Digest::of_glyphs(buffer.info());
     let mut start = 0;
     for stage in &plan.shape.layout.stages {
         let lookups = &plan.shape.layout.gsub_lookups;
         let lookups = lookups.get(start..stage.end).unwrap_or(&[]);
-        if !apply_stage(buffer, face, lookups, &mut progress, watch)? {
+        if !apply_stage(buffer, face, lookups, &mut glyphs, &mut progress, watch)? {
             return Ok(false);
         }
         if !pause(buffer, face, plan, stage.pause, &mut progress)? {
             return Ok(false);
+        }
+        if stage.pause != Pause::Nothing {
+            glyphs = Digest::of_glyphs(buffer.info());
         }
         start = stage.end;
     }
@@ -154,21 +158,53 @@ fn apply_stage<W: Watch>(
     buffer: &mut hb_buffer_t,
     face: &Face,
     lookups: &[PlannedLookup],
+    glyphs: &mut Digest,
     progress: &mut Progress,
     watch: &mut W,
 ) -> Result<bool, AllocError> {
     debug_assert!(!buffer.have_output());
     for planned in lookups {
-        let substitutions = Substitutions {
-            list: &face.lookups.substitutions,
-            gdef: &face.definitions,
-            options: options_of(planned),
-        };
-        if !crate::glyph_substitution::substitute(buffer, &substitutions, planned.index, progress)?
-        {
+        if !apply_planned(buffer, face, planned, glyphs, progress)? {
             return Ok(false);
         }
         watch.step(Step::Substituted(planned.index), buffer)?;
+    }
+    Ok(true)
+}
+
+/// Applies a lookup of the plan if it may be for one of the glyphs, and where it changed some sees
+/// which there are now.
+///
+/// # Requires
+///
+/// - `buffer.old.have_output ≡ false`
+///
+/// # Errors
+///
+/// `Ok(false)` where a call was refused for length.
+#[inline(always)]
+fn apply_planned(
+    buffer: &mut hb_buffer_t,
+    face: &Face,
+    planned: &PlannedLookup,
+    glyphs: &mut Digest,
+    progress: &mut Progress,
+) -> Result<bool, AllocError> {
+    debug_assert!(!buffer.have_output());
+    if !face.lookups.substitutions.may_apply(planned.index, glyphs) {
+        return Ok(true);
+    }
+    let substitutions = Substitutions {
+        list: &face.lookups.substitutions,
+        gdef: &face.definitions,
+        options: options_of(planned),
+    };
+    if !crate::glyph_substitution::substitute(buffer, &substitutions, planned.index, progress)? {
+        return Ok(false);
+    }
+    if progress.has_changed {
+        progress.has_changed = false;
+        *glyphs = Digest::of_glyphs(buffer.info());
     }
     Ok(true)
 }
@@ -195,9 +231,7 @@ fn pause(
             plan.script.record_stch(buffer);
             Ok(true)
         }
-        Pause::ArabicFallback if plan.script.does_fallback => {
-            face.join_by_fallback(buffer, &plan.script, progress)
-        }
+        Pause::ArabicFallback => face.join_by_fallback(buffer, plan, progress),
         Pause::SetUpSyllables => face.work_on_syllables(buffer, plan, SyllablePause::SetUp),
         Pause::InitialReordering => {
             face.work_on_syllables(buffer, plan, SyllablePause::InitialReordering)
@@ -227,12 +261,14 @@ impl Face<'_> {
     fn join_by_fallback(
         &self,
         buffer: &mut hb_buffer_t,
-        plan: &ScriptPlan,
+        plan: &TextPlan,
         progress: &mut Progress,
     ) -> Result<bool, AllocError> {
         debug_assert!(!buffer.have_output());
-        let fallback = FallbackLookups::new(self, plan)?;
-        self.apply_fallback(buffer, &fallback, progress)
+        match &plan.fallback {
+            Some(fallback) => self.apply_fallback(buffer, fallback, progress),
+            None => Ok(true),
+        }
     }
 
     /// Applies the lookups of a fallback.

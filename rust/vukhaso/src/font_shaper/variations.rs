@@ -94,7 +94,15 @@ impl Face<'_> {
     ///
     /// # Proved
     ///
-    /// That it returns.
+    /// ```text
+    /// ensures none { variations.now ≡ [] → self.old.variations.instance ≡ None
+    ///     → self.new.variations.coordinates.items ≡ [] }
+    /// ensures instance { self.new.variations.instance ≡ self.old.variations.instance }
+    /// ensures size { self.new.scale ≡ self.old.scale }
+    /// ensures tables { self.new.tables ≡ self.old.tables }
+    /// ensures kept { KeepsItsTables self.old → KeepsItsTables self.new }
+    /// ensures same { OnErr result (self.new ≡ self.old) }
+    /// ```
     #[inline]
     pub fn set_variations(&mut self, variations: &[Variation]) -> Result<(), AllocError> {
         let instance = self.variations.instance;
@@ -115,7 +123,13 @@ impl Face<'_> {
     ///
     /// # Proved
     ///
-    /// That it returns.
+    /// ```text
+    /// ensures instance { self.new.variations.instance ≡ self.old.variations.instance }
+    /// ensures size { self.new.scale ≡ self.old.scale }
+    /// ensures tables { self.new.tables ≡ self.old.tables }
+    /// ensures kept { KeepsItsTables self.old → KeepsItsTables self.new }
+    /// ensures same { OnErr result (self.new ≡ self.old) }
+    /// ```
     #[inline]
     pub fn set_variation(&mut self, tag: Tag, value: f32) -> Result<(), AllocError> {
         let variation = Variation { tag, value };
@@ -139,7 +153,14 @@ impl Face<'_> {
     ///
     /// # Proved
     ///
-    /// That it returns.
+    /// ```text
+    /// ensures none { instance ≡ None → self.new.variations.coordinates.items ≡ [] }
+    /// ensures instance { OnOk result (self.new.variations.instance ≡ instance) }
+    /// ensures size { self.new.scale ≡ self.old.scale }
+    /// ensures tables { self.new.tables ≡ self.old.tables }
+    /// ensures kept { KeepsItsTables self.old → KeepsItsTables self.new }
+    /// ensures same { OnErr result (self.new ≡ self.old) }
+    /// ```
     #[inline]
     pub fn set_named_instance(&mut self, instance: Option<u32>) -> Result<(), AllocError> {
         let before = self.variations.instance;

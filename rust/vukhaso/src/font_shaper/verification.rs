@@ -9,7 +9,8 @@ use crate::buffer::{
 use crate::font_shaper::comparison::is_elsewhere;
 use crate::font_shaper::face::Face;
 use crate::font_shaper::original::Original;
-use crate::font_shaper::shaping::{ShapeError, shape_once};
+use crate::font_shaper::planning::TextPlan;
+use crate::font_shaper::shaping::{ShapeError, shape_planned};
 use crate::font_shaper::watch::Unwatched;
 use crate::memory::{AllocError, Vec};
 
@@ -98,32 +99,53 @@ impl<'a> InOrder<'a> {
     }
 }
 
+/// How a text and parts of it are shaped.
+#[derive(Clone, Copy)]
+struct Shaping<'a> {
+    face: &'a Face<'a>,
+    plan: &'a TextPlan,
+    features: &'a [Feature],
+}
+
+impl Shaping<'_> {
+    /// Shapes the text of a buffer.
+    ///
+    /// # Requires
+    ///
+    /// - `buffer.have_output ≡ false`
+    fn shape(&self, buffer: hb_buffer_t) -> Result<GlyphBuffer, ShapeError> {
+        debug_assert!(!buffer.have_output());
+        shape_planned(self.face, self.plan, self.features, buffer, &mut Unwatched)
+    }
+}
+
 impl Face<'_> {
-    /// Shapes the text of a buffer, and tests its glyphs.
+    /// Shapes the text of a buffer by a plan, and tests its glyphs.
     ///
     /// # Requires
     ///
     /// - `buffer.have_output ≡ false`
     pub(crate) fn shape_verified(
         &self,
+        plan: &TextPlan,
         features: &[Feature],
         buffer: hb_buffer_t,
     ) -> Result<GlyphBuffer, ShapeError> {
         debug_assert!(!buffer.have_output());
         let text = Original::of(&buffer)?;
-        let glyphs = shape_once(self, features, buffer, &mut Unwatched)?;
-        verify(self, features, &text, &glyphs)?;
+        let glyphs = shape_planned(self, plan, features, buffer, &mut Unwatched)?;
+        let shaping = Shaping {
+            face: self,
+            plan,
+            features,
+        };
+        verify(shaping, &text, &glyphs)?;
         Ok(glyphs)
     }
 }
 
 /// Tests glyphs by their text. Where clusters may stand in any order there is no test.
-fn verify(
-    face: &Face,
-    features: &[Feature],
-    text: &Original,
-    glyphs: &GlyphBuffer,
-) -> Result<(), ShapeError> {
+fn verify(shaping: Shaping<'_>, text: &Original, glyphs: &GlyphBuffer) -> Result<(), ShapeError> {
     if !text.has_monotone_level() {
         return Ok(());
     }
@@ -131,11 +153,11 @@ fn verify(
     if !are_monotone(glyphs) {
         return Err(ShapeError::Unverified(VerifyError::NotMonotone));
     }
-    if !is_safe_to_break(face, features, text, glyphs)? {
+    if !is_safe_to_break(shaping, text, glyphs)? {
         return Err(ShapeError::Unverified(VerifyError::UnsafeToBreak));
     }
     if text.flags.contains(BufferFlags::PRODUCE_UNSAFE_TO_CONCAT)
-        && !is_safe_to_concat(face, features, text, glyphs)?
+        && !is_safe_to_concat(shaping, text, glyphs)?
     {
         return Err(ShapeError::Unverified(VerifyError::UnsafeToConcat));
     }
@@ -190,8 +212,7 @@ fn first_of(characters: &[hb_glyph_info_t], from: usize, cluster: u32) -> usize 
 
 /// Whether the parts of a text that is cut wherever this is safe have the glyphs of the whole.
 fn is_safe_to_break(
-    face: &Face,
-    features: &[Feature],
+    shaping: Shaping<'_>,
     text: &Original,
     glyphs: InOrder<'_>,
 ) -> Result<bool, ShapeError> {
@@ -206,7 +227,7 @@ fn is_safe_to_break(
             && start < end
         {
             let buffer = part_of(text, *start, *end)?;
-            let shaped = shape_once(face, features, buffer, &mut Unwatched)?;
+            let shaped = shaping.shape(buffer)?;
             let shaped = InOrder::of(&shaped, glyphs.is_forward);
             if !stands_at(shaped, 0, shaped.len(), glyphs, compared) {
                 return Ok(false);
@@ -263,8 +284,7 @@ fn is_same_glyph(one: &hb_glyph_info_t, other: &hb_glyph_info_t) -> bool {
 /// Whether the parts of a text that is cut wherever this is safe have their glyphs also where every
 /// other part is left out: the glyphs of both halves, part by part, are those of the whole.
 fn is_safe_to_concat(
-    face: &Face,
-    features: &[Feature],
+    shaping: Shaping<'_>,
     text: &Original,
     glyphs: InOrder<'_>,
 ) -> Result<bool, ShapeError> {
@@ -273,8 +293,8 @@ fn is_safe_to_concat(
         glyphs,
         glyph_flag::UNSAFE_TO_CONCAT,
     )?;
-    let even = shaped_half(face, features, text, cuts.as_slice(), 0)?;
-    let odd = shaped_half(face, features, text, cuts.as_slice(), 1)?;
+    let even = shaped_half(shaping, text, cuts.as_slice(), 0)?;
+    let odd = shaped_half(shaping, text, cuts.as_slice(), 1)?;
     let even = InOrder::of(&even, glyphs.is_forward);
     let odd = InOrder::of(&odd, glyphs.is_forward);
     Ok(are_interleaved(even, odd, glyphs))
@@ -282,8 +302,7 @@ fn is_safe_to_concat(
 
 /// The glyphs of every other part of a text, beginning with this one.
 fn shaped_half(
-    face: &Face,
-    features: &[Feature],
+    shaping: Shaping<'_>,
     text: &Original,
     cuts: &[usize],
     first: usize,
@@ -301,7 +320,7 @@ fn shaped_half(
     }
     let flags = text.flags.difference(BufferFlags::VERIFY);
     let buffer = text.finish(half, last, flags)?;
-    shape_once(face, features, buffer, &mut Unwatched)
+    shaping.shape(buffer)
 }
 
 /// Whether the parts of two texts in turn, each up to where the next may be joined, have these glyphs.

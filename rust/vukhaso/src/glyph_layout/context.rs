@@ -4,12 +4,13 @@
 //! kinds 7 and 8 of `GPOS` (OpenType specification, "OpenType Layout Common Table Formats", "Sequence Context").
 
 use crate::font_tables::bytes::{table_at_16, u16_at};
+use crate::glyph::hb_glyph_info_t;
 use crate::glyph_layout::lookup_list::LookupList;
 use crate::glyph_layout::rule::{Meaning, Meanings, coverage_rule};
 use crate::glyph_layout::rule_set::{first_fit, fit};
 use crate::glyph_layout::search::{Search, Sides};
 use crate::glyph_layout::subtable::{NextAsked, Subtable};
-use crate::glyph_layout::walk::{Skip, Walk};
+use crate::glyph_layout::walk::Skip;
 use crate::glyph_layout::wanted::class_of;
 
 /// A rule that fits at the cursor. The places of its glyphs are in `Search::places`.
@@ -128,12 +129,13 @@ fn covered_fit<'a>(
     )
 }
 
-/// The walk by which a context by coverages looks for the glyph behind the one at the cursor.
-fn next_walk<'a>(next: &NextAsked, sides: &Sides<'a>) -> Walk<'a> {
+/// Whether the glyph behind the one at the cursor counts for a context by coverages, whatever is asked
+/// for.
+fn counts_next(next: &NextAsked, sides: &Sides, glyph: &hb_glyph_info_t) -> bool {
     if next.is_input {
-        sides.input_walk()
+        sides.walk.skip(glyph) == Skip::No
     } else {
-        sides.context_walk(true)
+        sides.context.skip(glyph) == Skip::No
     }
 }
 
@@ -151,8 +153,7 @@ fn missed_next(next: &NextAsked, sides: &Sides) -> Option<usize> {
     if next.digest.may_have(glyph.glyph_id) {
         return None;
     }
-    let walk = next_walk(next, sides);
-    if walk.skip(glyph) == Skip::No {
+    if counts_next(next, sides, glyph) {
         Some(2)
     } else {
         None

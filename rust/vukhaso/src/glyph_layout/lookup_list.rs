@@ -160,11 +160,15 @@ impl<'a> LookupList<'a> {
         self.lookups.get(usize::from(index))
     }
 
-    /// Whether the lookup of this index may do something in a text of such glyphs.
+    /// Whether the lookup of this index may do something in a text of such glyphs. Where it may not, it is
+    /// for none of them.
     ///
     /// # Proved
     ///
-    /// That it returns.
+    /// ```text
+    /// ensures { (lookup : Lookup) → slice_get self.now.lookups.items index ≡ Some lookup → IsFalse result
+    ///     → IsForNone lookup glyphs.now }
+    /// ```
     #[inline]
     pub fn may_apply(&self, index: u16, glyphs: &Digest) -> bool {
         match self.lookup(index) {

@@ -6,10 +6,10 @@ use crate::font_tables::bytes::{table_at_16, u16_at};
 use crate::glyph::hb_glyph_info_t;
 use crate::glyph_layout::context::Fit;
 use crate::glyph_layout::matching::{match_ahead, match_behind, match_input};
-use crate::glyph_layout::rule::{Meanings, Part, Rule, rule_in};
+use crate::glyph_layout::rule::{Meaning, Meanings, Part, Rule, rule_in};
 use crate::glyph_layout::search::{Search, Sides};
 use crate::glyph_layout::walk::{Found, Skip, Walk};
-use crate::glyph_layout::wanted::Wanted;
+use crate::glyph_layout::wanted::{Wanted, class_of};
 
 /// The rule, if it fits at the cursor.
 ///
@@ -67,26 +67,109 @@ pub(crate) fn first_fit<'a>(
     } else {
         Neighbours::Unknown
     };
+    let behind = seen_by_few(count, meanings, is_chained, sides);
     let mut beyond = Beyond::new(&ahead, is_chained);
     for index in 0..count {
         if !search.budget.pay(1) {
             return None;
         }
         if let Some(table) = table_at_16(set, 2 + 2 * index)
+            && !is_missed(table, &behind, sides, search)
             && let Some(rule) = rule_in(table, meanings, is_chained)
             && may_fit(&rule, &ahead, &mut beyond)
+            && let Some(found) = fit(&rule, sides, search)
         {
-            let found = fit(&rule, sides, search);
-            if let Some(found) = found {
-                return Some(Fit {
-                    beyond: beyond.to,
-                    ..found
-                });
-            }
+            return Some(Fit {
+                beyond: beyond.to,
+                ..found
+            });
         }
     }
     search.reach.extend(sides.out.len(), beyond.to);
     None
+}
+
+/// What stands behind the glyph at the cursor, in the numbers of rules that ask for it behind their input.
+#[derive(Clone, Copy, Debug)]
+struct Behind {
+    /// The number that a rule has to ask for; none where no rule fits.
+    number: Option<u16>,
+    /// How far glyphs were looked at.
+    end: usize,
+}
+
+/// What stands behind the glyph at the cursor, for a set of few chained rules.
+///
+/// # Requires
+///
+/// - `0 < length sides.now.input.now`
+fn seen_by_few(
+    count: usize,
+    meanings: &Meanings,
+    is_chained: bool,
+    sides: &Sides,
+) -> Option<Behind> {
+    if count <= 4 && is_chained {
+        seen_behind(&meanings.ahead, sides)
+    } else {
+        None
+    }
+}
+
+/// What stands behind the glyph at the cursor, where it counts whatever is asked for, or where there is
+/// nothing.
+///
+/// # Requires
+///
+/// - `0 < length sides.now.input.now`
+fn seen_behind(ahead: &Meaning, sides: &Sides) -> Option<Behind> {
+    if sides.input.len() == 1 {
+        return Some(Behind {
+            number: None,
+            end: 1,
+        });
+    }
+    let glyph = &sides.input[1];
+    if sides.context.skip(glyph) != Skip::No {
+        return None;
+    }
+    let number = match *ahead {
+        Meaning::Glyphs => u16::try_from(glyph.glyph_id).ok(),
+        Meaning::Classes(classes) => Some(class_of(&classes, glyph.glyph_id)),
+        Meaning::Coverages(_) => return None,
+    };
+    Some(Behind {
+        number: if sides.context_walk(true).is_within(glyph) {
+            number
+        } else {
+            None
+        },
+        end: 2,
+    })
+}
+
+/// Whether a chained rule asks for something else behind its only glyph than what stands there.
+fn is_missed(table: &[u8], behind: &Option<Behind>, sides: &Sides, search: &mut Search) -> bool {
+    let Some(behind) = *behind else {
+        return false;
+    };
+    let asked = first_ahead(table);
+    if asked.is_none() || asked == behind.number {
+        return false;
+    }
+    search.budget.pay(1);
+    search.reach.extend(sides.out.len(), behind.end);
+    true
+}
+
+/// The first number behind the input of a chained rule whose input is a single glyph, if it has one
+/// there.
+fn first_ahead(table: &[u8]) -> Option<u16> {
+    let input_at = 2 + 2 * usize::from(u16_at(table, 0)?);
+    if u16_at(table, input_at)? > 1 || u16_at(table, input_at + 2)? == 0 {
+        return None;
+    }
+    u16_at(table, input_at + 4)
 }
 
 /// A glyph behind the cursor.
@@ -162,6 +245,9 @@ fn next_two(sides: &Sides, is_chained: bool) -> Neighbours {
 /// - `place < length glyphs.now`
 pub(crate) fn next_kept(walk: &Walk, glyphs: &[hb_glyph_info_t], place: usize) -> Option<Next> {
     debug_assert!(place < glyphs.len());
+    if let Some(next) = next_beside(walk, glyphs, place) {
+        return Some(next);
+    }
     let Found::At(next) = walk.next(&Wanted::Any, glyphs, place) else {
         return None;
     };
@@ -171,6 +257,26 @@ pub(crate) fn next_kept(walk: &Walk, glyphs: &[hb_glyph_info_t], place: usize) -
     Some(Next {
         glyph: glyphs[next].glyph_id,
         end: next + 1,
+    })
+}
+
+/// The glyph right behind a place, if it counts whatever is asked for.
+///
+/// # Requires
+///
+/// - `place < length glyphs.now`
+fn next_beside(walk: &Walk, glyphs: &[hb_glyph_info_t], place: usize) -> Option<Next> {
+    debug_assert!(place < glyphs.len());
+    if place + 1 >= glyphs.len() {
+        return None;
+    }
+    let beside = &glyphs[place + 1];
+    if walk.skip(beside) != Skip::No || !walk.is_within(beside) {
+        return None;
+    }
+    Some(Next {
+        glyph: beside.glyph_id,
+        end: place + 2,
     })
 }
 

@@ -90,6 +90,13 @@ fn place_all<'a>(
         return;
     };
     search.budget.pay_for(1 + buffer.len() / PASSED_A_STEP);
+    let mut task = Task {
+        setting,
+        lookup,
+        options,
+        place: 0,
+        depth: MAX_NESTING_LEVEL,
+    };
     let mut last = LastBase::none();
     let mut next = 0;
     for _turn in 0..buffer.len() {
@@ -97,13 +104,7 @@ fn place_all<'a>(
         if place == buffer.len() || search.budget.is_spent() {
             return;
         }
-        let task = Task {
-            setting,
-            lookup,
-            options,
-            place,
-            depth: MAX_NESTING_LEVEL,
-        };
+        task.place = place;
         next = place_by_lookup(buffer, &task, search, &mut last)
             .unwrap_or(0)
             .max(place + 1);
@@ -135,7 +136,7 @@ fn place_by_lookup<'a>(
     for subtable in subtables {
         if subtable.digest.may_have(glyph)
             && search.budget.pay(SUBTABLE_STEPS)
-            && let Some(index) = covered_index(&subtable.coverage, glyph)
+            && let Some(index) = index_in(subtable, glyph)
         {
             let next = place_by_subtable(buffer, task, subtable, index, search, last);
             if next.is_some() {
@@ -146,6 +147,12 @@ fn place_by_lookup<'a>(
     None
 }
 
+/// The coverage index of a glyph in a subtable.
+#[inline(never)]
+fn index_in(subtable: &Subtable, glyph: u32) -> Option<u32> {
+    covered_index(&subtable.coverage, glyph)
+}
+
 /// Positions the glyph, which has this coverage index in a subtable, by the subtable, and says where
 /// the walk goes on; `None` where the subtable does not fit.
 ///
@@ -153,6 +160,7 @@ fn place_by_lookup<'a>(
 ///
 /// - `closed: buffer.old.have_output ≡ false`
 /// - `placed: IsSome buffer.old.positions`
+#[inline(never)]
 fn place_by_subtable<'a>(
     buffer: &mut hb_buffer_t,
     task: &Task<'a>,

@@ -4,26 +4,16 @@
 
 use crate::buffer::hb_buffer_t;
 use crate::glyph::{GlyphPosition, hb_glyph_info_t};
-use crate::glyph_layout::walk::Found;
+use crate::glyph_layout::walk::{Found, Walk};
 use crate::glyph_layout::wanted::{Wanted, class_of};
 use crate::glyph_positions::flags::{mark_break, mark_concat};
 use crate::glyph_positions::turn::Turn;
 use crate::position_tables::instance::Instance;
 use crate::position_tables::pairs::{
-    PairValues, classed_pair, listed_pair, pair_formats, pair_set, single_values,
+    PairValues, classed_advance, classed_pair, is_kerning, listed_advance, listed_pair,
+    pair_formats, pair_set, single_values,
 };
-use crate::position_tables::values::ValueRecord;
-
-/// What a subtable finds at a glyph.
-#[derive(Clone, Copy, Debug)]
-enum PairFound<'a> {
-    /// It is not for the glyph.
-    Nothing,
-    /// It has no pair with what comes up to this place.
-    NoPair(usize),
-    /// A pair.
-    Pair(Pair<'a>),
-}
+use crate::position_tables::values::{ValueRecord, advanced};
 
 /// A pair of glyphs.
 #[derive(Clone, Copy, Debug)]
@@ -89,40 +79,105 @@ fn move_at(
 pub(crate) fn place_pair(buffer: &mut hb_buffer_t, turn: &Turn) -> Option<usize> {
     debug_assert!(!buffer.have_output());
     debug_assert!(buffer.have_positions());
-    match pair_of(buffer.info(), turn) {
-        PairFound::Nothing => None,
-        PairFound::NoPair(end) => {
-            mark_concat(buffer, turn.place, end);
-            None
-        }
-        PairFound::Pair(pair) => {
+    let glyphs = buffer.info();
+    let first = glyphs.get(turn.place)?.glyph_id;
+    let (second, end) = match next_shown(&turn.walk, glyphs, turn.place) {
+        Found::At(place) => (Some(place), place.saturating_add(1)),
+        Found::Other(place) => (None, place.saturating_add(1)),
+        Found::End => (None, glyphs.len()),
+    };
+    if let Some(second) = second
+        && let Some(next) = glyphs.get(second)
+    {
+        let glyphs = (first, next.glyph_id);
+        if buffer.direction.is_horizontal() && is_kerning(turn.subtable.table) {
+            if let Some(advance) = advance_of(turn, glyphs) {
+                kern_pair(buffer, turn, end, advance);
+                return Some(second);
+            }
+        } else if let Some(pair) = pair_with(turn, glyphs, second) {
             move_pair(buffer, &pair, turn.instance);
-            Some(if pair.uses_second {
-                pair.second.saturating_add(1)
-            } else {
-                pair.second
-            })
+            return Some(if pair.uses_second { end } else { second });
         }
+    }
+    mark_concat(buffer, turn.place, end);
+    None
+}
+
+/// The advance of the pair of these glyphs.
+#[inline(always)]
+fn advance_of(turn: &Turn, glyphs: (u32, u32)) -> Option<i16> {
+    let (first, second) = glyphs;
+    match turn.subtable.format {
+        1 => listed_advance(
+            pair_set(turn.subtable.table, turn.index)?,
+            u16::try_from(second).ok()?,
+        ),
+        2 => {
+            let first = class_of(&turn.subtable.classes, first);
+            classed_advance(
+                turn.subtable.table,
+                first,
+                class_of(&turn.subtable.classes_ahead, second),
+            )
+        }
+        _ => None,
     }
 }
 
-/// The pair of the glyph and the next one that is not passed over.
-fn pair_of<'a>(glyphs: &[hb_glyph_info_t], turn: &Turn<'a>) -> PairFound<'a> {
-    let Some(first) = glyphs.get(turn.place) else {
-        return PairFound::Nothing;
-    };
-    match turn.walk.next(&Wanted::Shown, glyphs, turn.place) {
-        Found::At(place) => match glyphs.get(place) {
-            Some(second) => pair_with(turn, (first.glyph_id, second.glyph_id), place),
-            None => PairFound::Nothing,
-        },
-        Found::Other(place) => PairFound::NoPair(place.saturating_add(1)),
-        Found::End => PairFound::NoPair(glyphs.len()),
+/// Kerns the pair of the glyph and the one before a place.
+///
+/// # Requires
+///
+/// - `closed: buffer.old.have_output ≡ false`
+/// - `placed: IsSome buffer.old.positions`
+#[inline(always)]
+fn kern_pair(buffer: &mut hb_buffer_t, turn: &Turn, end: usize, advance: i16) {
+    debug_assert!(!buffer.have_output());
+    debug_assert!(buffer.have_positions());
+    if advance != 0 {
+        advance_at(buffer.pos_mut(), turn.place, advance, turn.instance);
+        mark_break(buffer, turn.place, end);
+    } else if turn.subtable.format == 2 {
+        mark_concat(buffer, turn.place, end);
+    }
+}
+
+/// Moves the advance of the glyph at a place.
+#[inline(always)]
+fn advance_at(
+    positions: &mut [GlyphPosition],
+    place: usize,
+    advance: i16,
+    instance: &Instance<'_>,
+) {
+    if place < positions.len() {
+        positions[place] = advanced(advance, instance, positions[place]);
+    }
+}
+
+/// The next glyph that is not passed over, which most often is the one behind.
+///
+/// # Requires
+///
+/// - `place < length glyphs.now`
+#[inline(always)]
+fn next_shown(walk: &Walk, glyphs: &[hb_glyph_info_t], place: usize) -> Found {
+    debug_assert!(place < glyphs.len());
+    let behind = place + 1;
+    if behind < glyphs.len()
+        && !walk.passes(&Wanted::Shown, &glyphs[behind])
+        && walk.matches(&Wanted::Shown, &glyphs[behind])
+    {
+        Found::At(behind)
+    } else {
+        walk.next(&Wanted::Shown, glyphs, place)
     }
 }
 
 /// The pair of these glyphs, of which the second stands at a place.
-fn pair_with<'a>(turn: &Turn<'a>, glyphs: (u32, u32), second: usize) -> PairFound<'a> {
+#[inline(always)]
+fn pair_with<'a>(turn: &Turn<'a>, glyphs: (u32, u32), second: usize) -> Option<Pair<'a>> {
     let table = turn.subtable.table;
     let is_classed = turn.subtable.format == 2;
     let base = if is_classed {
@@ -130,20 +185,19 @@ fn pair_with<'a>(turn: &Turn<'a>, glyphs: (u32, u32), second: usize) -> PairFoun
     } else {
         pair_set(table, turn.index).unwrap_or(&[])
     };
-    match values_of(turn, base, glyphs) {
-        Some(values) => PairFound::Pair(Pair {
-            first: turn.place,
-            second,
-            values,
-            base,
-            uses_second: pair_formats(table).1 != 0,
-            is_classed,
-        }),
-        None => PairFound::NoPair(second.saturating_add(1)),
-    }
+    let values = values_of(turn, base, glyphs)?;
+    Some(Pair {
+        first: turn.place,
+        second,
+        values,
+        base,
+        uses_second: pair_formats(table).1 != 0,
+        is_classed,
+    })
 }
 
 /// The records of a pair.
+#[inline(always)]
 fn values_of(turn: &Turn, base: &[u8], glyphs: (u32, u32)) -> Option<PairValues> {
     let (first, second) = glyphs;
     match turn.subtable.format {

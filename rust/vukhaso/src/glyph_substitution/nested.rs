@@ -155,6 +155,7 @@ fn make(
     debug_assert!(buffer.have_output());
     debug_assert!(!buffer.info().is_empty());
     let gdef = substitutions.gdef;
+    progress.has_changed = true;
     match *edit {
         Edit::Replace(glyph) => replace(buffer, gdef, glyph),
         Edit::Choose(set) => choose(buffer, gdef, &set, progress),

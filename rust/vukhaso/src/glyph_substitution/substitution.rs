@@ -32,6 +32,8 @@ pub struct Progress {
     pub search: Search,
     /// The state of the random numbers, which choose alternates.
     pub random_state: u32,
+    /// Whether a lookup changed the glyphs of the text. Whoever has seen it may take it back.
+    pub has_changed: bool,
 }
 
 impl Progress {
@@ -47,6 +49,7 @@ impl Progress {
         Progress {
             search: Search::new(budget),
             random_state: 1,
+            has_changed: false,
         }
     }
 }
@@ -88,24 +91,31 @@ pub fn substitute(
         .search
         .budget
         .pay_for(1 + buffer.len() / PASSED_A_STEP);
-    if mask == 0 || lookup.first_place(mask, buffer.info(), 0) == buffer.len() {
+    if mask == 0 {
         return Ok(true);
     }
-    apply(buffer, substitutions, lookup, progress)
+    let first = lookup.first_place(mask, buffer.info(), 0);
+    if first == buffer.len() {
+        return Ok(true);
+    }
+    apply(buffer, substitutions, lookup, first, progress)
 }
 
 /// Applies a lookup at each glyph, from the side that it is applied from.
 ///
 /// # Requires
 ///
-/// - `buffer.old.have_output ≡ false`
+/// - `closed: buffer.old.have_output ≡ false`
+/// - `first: first ≤ length buffer.old.input`
 fn apply(
     buffer: &mut hb_buffer_t,
     substitutions: &Substitutions,
     lookup: &Lookup,
+    first: usize,
     progress: &mut Progress,
 ) -> Result<bool, AllocError> {
     debug_assert!(!buffer.have_output());
+    debug_assert!(first <= buffer.info().len());
     if progress.search.budget.is_spent() {
         fail(buffer);
         return Ok(true);
@@ -114,7 +124,7 @@ fn apply(
         substitute_reverse(buffer, substitutions, lookup, progress);
         return Ok(true);
     }
-    substitute_forward(buffer, substitutions, lookup, progress)
+    substitute_forward(buffer, substitutions, lookup, first, progress)
 }
 
 /// Whether a lookup is applied from the end.
@@ -125,19 +135,25 @@ fn is_reverse(list: &LookupList, lookup: &Lookup) -> bool {
     }
 }
 
-/// Applies a lookup from the first glyph on.
+/// Applies a lookup from the glyph at a place on: it is for none of those before.
 ///
 /// # Requires
 ///
-/// - `buffer.old.have_output ≡ false`
+/// - `closed: buffer.old.have_output ≡ false`
+/// - `first: first ≤ length buffer.old.input`
 fn substitute_forward(
     buffer: &mut hb_buffer_t,
     substitutions: &Substitutions,
     lookup: &Lookup,
+    first: usize,
     progress: &mut Progress,
 ) -> Result<bool, AllocError> {
     debug_assert!(!buffer.have_output());
+    debug_assert!(first <= buffer.info().len());
     buffer.clear_output();
+    if first > 0 && !buffer.next_glyphs(first)? {
+        return Ok(false);
+    }
     for _turn in 0..buffer.len() {
         if buffer.lookahead_len() == 0 || progress.search.budget.is_spent() {
             break;
@@ -152,11 +168,12 @@ fn substitute_forward(
     buffer.sync()
 }
 
-/// Puts out the glyphs that the lookup is not for, and applies it at the next one, if there is one.
+/// Applies the lookup at the cursor, and puts out the glyphs behind that it is not for.
 ///
 /// # Requires
 ///
-/// - `buffer.old.have_output ≡ true`
+/// - `opened: buffer.old.have_output ≡ true`
+/// - `glyph: 0 < length buffer.old.input`
 fn substitute_next(
     buffer: &mut hb_buffer_t,
     substitutions: &Substitutions,
@@ -164,29 +181,32 @@ fn substitute_next(
     progress: &mut Progress,
 ) -> Result<bool, AllocError> {
     debug_assert!(buffer.have_output());
-    let passed = lookup.first_place(substitutions.options.mask, buffer.info(), 0);
-    if passed > 0 && !buffer.next_glyphs(passed)? {
-        return Ok(false);
-    }
-    if buffer.lookahead_len() == 0 {
-        return Ok(true);
-    }
+    debug_assert!(!buffer.info().is_empty());
     match apply_at(buffer, substitutions, lookup, progress, MAX_NESTING_LEVEL)? {
-        Step::Applied => Ok(true),
+        Step::Applied => go_on(buffer, substitutions, lookup, 0),
         Step::Refused => Ok(false),
-        Step::Passed => go_on(buffer),
+        Step::Passed => go_on(buffer, substitutions, lookup, 1),
     }
 }
 
-/// Puts the current glyph out, if there is one.
+/// Puts out so many glyphs, if there are as many, and those behind them that the lookup is not for.
 ///
 /// # Requires
 ///
 /// - `buffer.old.have_output ≡ true`
-fn go_on(buffer: &mut hb_buffer_t) -> Result<bool, AllocError> {
+fn go_on(
+    buffer: &mut hb_buffer_t,
+    substitutions: &Substitutions,
+    lookup: &Lookup,
+    count: usize,
+) -> Result<bool, AllocError> {
     debug_assert!(buffer.have_output());
-    if buffer.lookahead_len() == 0 {
+    let input = buffer.info();
+    let mask = substitutions.options.mask;
+    let start = count.min(input.len());
+    let passed = lookup.first_place(mask, input, start);
+    if passed == 0 {
         return Ok(true);
     }
-    buffer.next_glyph()
+    buffer.next_glyphs(passed)
 }

@@ -30,7 +30,16 @@ impl<'a> ChosenTable<'a> {
     ///
     /// # Proved
     ///
-    /// That it returns.
+    /// ```text
+    /// ensures scripts { result.lists.scripts.now ≡ list_of table.now 4 }
+    /// ensures features { result.lists.features.now ≡ list_of table.now 6 }
+    /// ensures lookups { result.lists.lookup_count ≡ lookup_count table.now }
+    /// ensures substitutions { result.lists.substitutions.now ≡ [] }
+    /// ensures script { (result.script.tag.0, result.script.table.now)
+    ///     ≡ script_of (list_of table.now 4) (map (λ tag. tag.0) scripts.now) }
+    /// ensures system { result.system.now
+    ///     ≡ system_of result.script.table.now (map (λ tag. tag.0) languages.now) }
+    /// ```
     #[inline]
     pub fn new(table: &'a [u8], scripts: &[Tag], languages: &[Tag]) -> Self {
         let lists = LayoutTable::new(table);
@@ -79,26 +88,33 @@ impl<'a> ChosenTable<'a> {
     ///
     /// # Proved
     ///
-    /// That it returns.
+    /// ```text
+    /// ensures { result ≡ lists_feature self.now.lists.features.now self.now.system.now tag.0 }
+    /// ```
     #[inline]
     pub fn has_feature(&self, tag: Tag) -> bool {
         for place in 0..feature_count(self.system) {
-            if self.system_feature_tag(place) == Some(tag) {
+            if self.has_feature_at(place, tag) {
                 return true;
             }
         }
         false
     }
 
-    /// The tag of the feature that the language system lists in a place.
+    /// Whether the feature that the language system lists in a place has this tag.
     ///
     /// # Requires
     ///
     /// - `place < 65536`
-    fn system_feature_tag(&self, place: usize) -> Option<Tag> {
+    fn has_feature_at(&self, place: usize, tag: Tag) -> bool {
         debug_assert!(place < 65536);
-        let index = u16_at(self.system, 6 + 2 * place)?;
-        self.lists.feature_tag(index)
+        match u16_at(self.system, 6 + 2 * place) {
+            Some(index) => match self.lists.feature_tag(index) {
+                Some(found) => found.0 == tag.0,
+                None => false,
+            },
+            None => false,
+        }
     }
 }
 
@@ -120,7 +136,10 @@ impl<'a> PlanBuilder<'a> {
     ///
     /// # Proved
     ///
-    /// That it returns.
+    /// ```text
+    /// ensures tables { (result.gsub ≡ gsub.entry) × (result.gpos ≡ gpos.entry) }
+    /// ensures empty { (result.requests.items ≡ []) × (result.pauses.items ≡ []) }
+    /// ```
     #[inline]
     pub fn new(gsub: ChosenTable<'a>, gpos: ChosenTable<'a>) -> Self {
         PlanBuilder {
@@ -135,7 +154,10 @@ impl<'a> PlanBuilder<'a> {
     ///
     /// # Proved
     ///
-    /// That it returns.
+    /// ```text
+    /// ensures { result ≡ lists_feature self.now.gsub.lists.features.now self.now.gsub.system.now tag.0
+    ///     || lists_feature self.now.gpos.lists.features.now self.now.gpos.system.now tag.0 }
+    /// ```
     #[inline]
     pub fn has_feature(&self, tag: Tag) -> bool {
         self.gsub.has_feature(tag) || self.gpos.has_feature(tag)
@@ -151,7 +173,11 @@ impl<'a> PlanBuilder<'a> {
     /// # Proved
     ///
     /// ```text
-    /// ensures { HasSamePauses self.old self.new }
+    /// ensures pauses { HasSamePauses self.old self.new }
+    /// ensures null { tag.0 ≡ 0 → self.new.requests.items ≡ self.old.requests.items }
+    /// ensures asked { tag.0 ≢ 0 → AreInOrder self.old.requests.items → IfOk result (λ _. self.new.requests.items
+    ///     ≡ with_request (requested tag flags value (vec_len self.old.pauses)) self.old.requests.items) }
+    /// ensures refused { IfErr result (λ _. self.new.requests.items ≡ self.old.requests.items) }
     /// ```
     #[inline]
     pub fn add_feature(
@@ -183,7 +209,12 @@ impl<'a> PlanBuilder<'a> {
     /// # Proved
     ///
     /// ```text
-    /// ensures { HasSamePauses self.old self.new }
+    /// ensures pauses { HasSamePauses self.old self.new }
+    /// ensures null { tag.0 ≡ 0 → self.new.requests.items ≡ self.old.requests.items }
+    /// ensures asked { tag.0 ≢ 0 → AreInOrder self.old.requests.items → IfOk result (λ _. self.new.requests.items
+    ///     ≡ with_request (requested tag (record flags { is_global = true }) 1 (vec_len self.old.pauses))
+    ///     self.old.requests.items) }
+    /// ensures refused { IfErr result (λ _. self.new.requests.items ≡ self.old.requests.items) }
     /// ```
     #[inline]
     pub fn enable_feature(&mut self, tag: Tag, flags: FeatureFlags) -> Result<(), AllocError> {
@@ -273,7 +304,7 @@ impl<'a> PlanBuilder<'a> {
 
 /// The place of the request of a tag, or where it belongs.
 fn place_of(requests: &[FeatureRequest], tag: Tag) -> Result<usize, usize> {
-    requests.binary_search_by_key(&tag, |request| request.tag)
+    requests.binary_search_by_key(&tag.0, |request| request.tag.0)
 }
 
 /// Finds the features of both tables that have the tags of the requests.

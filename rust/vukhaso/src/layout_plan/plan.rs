@@ -104,21 +104,24 @@ impl LayoutPlan {
     ///
     /// # Proved
     ///
-    /// That it returns.
+    /// ```text
+    /// ensures { IsWithTag self.now.features.items tag.0 (option_copied result) }
+    /// ```
     #[inline]
     pub fn feature(&self, tag: Tag) -> Option<&PlannedFeature> {
-        let place = self
-            .features
-            .binary_search_by_key(&tag, |feature| feature.tag)
-            .ok()?;
-        self.features.get(place)
+        match place_of(self.features.as_slice(), tag) {
+            Ok(place) => self.features.get(place),
+            Err(_) => None,
+        }
     }
 
     /// The mask of a feature; 0 where the plan has none with this tag.
     ///
     /// # Proved
     ///
-    /// That it returns.
+    /// ```text
+    /// ensures { IsReadOf self.now.features.items tag.0 (λ f. mask_of f.bits.shift f.bits.count) 0 result }
+    /// ```
     #[inline]
     pub fn mask(&self, tag: Tag) -> u32 {
         match self.feature(tag) {
@@ -131,7 +134,9 @@ impl LayoutPlan {
     ///
     /// # Proved
     ///
-    /// That it returns.
+    /// ```text
+    /// ensures { IsReadOf self.now.features.items tag.0 (λ f. value_in f.bits.shift f.bits.count 1) 0 result }
+    /// ```
     #[inline]
     pub fn one_mask(&self, tag: Tag) -> u32 {
         match self.feature(tag) {
@@ -145,7 +150,10 @@ impl LayoutPlan {
     ///
     /// # Proved
     ///
-    /// That it returns.
+    /// ```text
+    /// ensures { IsReadOf self.now.features.items tag.0
+    ///     (λ f. lookups_of_stage self.now.stages.items self.now.gsub_lookups.items f.stage) [] result.now }
+    /// ```
     #[inline]
     pub fn stage_lookups(&self, tag: Tag) -> &[PlannedLookup] {
         match self.feature(tag) {
@@ -173,7 +181,9 @@ impl LayoutPlan {
     ///
     /// # Proved
     ///
-    /// That it returns.
+    /// ```text
+    /// ensures { IsReadOf self.now.features.items tag.0 (λ f. f.needs_fallback) false result }
+    /// ```
     #[inline]
     pub fn needs_fallback(&self, tag: Tag) -> bool {
         match self.feature(tag) {
@@ -181,6 +191,11 @@ impl LayoutPlan {
             None => false,
         }
     }
+}
+
+/// The place of the feature with a tag, or where it belongs.
+fn place_of(features: &[PlannedFeature], tag: Tag) -> Result<usize, usize> {
+    features.binary_search_by_key(&tag.0, |feature| feature.tag.0)
 }
 
 /// The place of a stage's first lookup, in the list of all.

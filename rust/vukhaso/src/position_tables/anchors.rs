@@ -49,7 +49,9 @@ impl Anchor {
     ///
     /// # Proved
     ///
-    /// That it returns.
+    /// ```text
+    /// ensures { result ≡ placed self.now.x self.now.x_delta scale.now.x scale.now.units_per_em }
+    /// ```
     #[inline]
     pub fn x_at(&self, scale: &Scale) -> i32 {
         scale
@@ -61,7 +63,9 @@ impl Anchor {
     ///
     /// # Proved
     ///
-    /// That it returns.
+    /// ```text
+    /// ensures { result ≡ placed self.now.y self.now.y_delta scale.now.y scale.now.units_per_em }
+    /// ```
     #[inline]
     pub fn y_at(&self, scale: &Scale) -> i32 {
         scale

@@ -81,7 +81,9 @@ impl<'a> KernTable<'a> {
     ///
     /// # Proved
     ///
-    /// That it returns.
+    /// ```text
+    /// ensures { result ≡ (if self.now.is_apple then 8 else 4) }
+    /// ```
     #[inline]
     pub fn start(&self) -> usize {
         if self.is_apple { 8 } else { 4 }
@@ -133,7 +135,9 @@ impl<'a> KernTable<'a> {
     ///
     /// # Proved
     ///
-    /// That it returns.
+    /// ```text
+    /// ensures { result ≡ not (nat_eq self.now.count 0) }
+    /// ```
     #[inline]
     pub fn has_kerning(&self) -> bool {
         self.count != 0
@@ -225,7 +229,11 @@ impl KernSubtable<'_> {
     ///
     /// # Proved
     ///
-    /// That it returns.
+    /// ```text
+    /// ensures pairs { self.now.format ≡ 0 → IsListed self.now.table.now self.now.header left right result }
+    /// ensures classes { self.now.format ≡ 2 → result ≡ classed_value self.now.table.now self.now.header left right }
+    /// ensures others { self.now.format ≢ 0 → self.now.format ≢ 2 → result ≡ pos 0 }
+    /// ```
     #[inline]
     pub fn kerning(&self, left: u16, right: u16) -> i16 {
         match self.format {
@@ -257,7 +265,8 @@ impl KernSubtable<'_> {
 /// # Proved
 ///
 /// ```text
-/// ensures { IfSome result (IsOfPair subtable.now header left right) }
+/// ensures is { IfSome result (IsOfPair subtable.now header left right) }
+/// ensures all { result ≡ None → IsMissing subtable.now header left right }
 /// ```
 #[inline]
 pub fn pair_value(subtable: &[u8], header: u8, left: u16, right: u16) -> Option<i16> {
@@ -277,9 +286,7 @@ pub fn pair_value(subtable: &[u8], header: u8, left: u16, right: u16) -> Option<
 /// ```text
 /// ensures within { IfSome result (λ row. row < 65536) }
 /// ensures key { IfSome result (λ row. pair_key subtable.now header row ≡ Some (left * 65536 + right)) }
-/// ensures all { let count = pair_count subtable.now header in
-///     AreThere (pair_key subtable.now header) count → Rises (pair_key subtable.now header) count → result ≡ None
-///     → IsNowhere (pair_key subtable.now header) count (left * 65536 + right) }
+/// ensures all { result ≡ None → IsMissing subtable.now header left right }
 /// ```
 #[inline]
 pub fn pair_row(subtable: &[u8], header: usize, left: u16, right: u16) -> Option<usize> {

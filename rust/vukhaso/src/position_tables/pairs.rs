@@ -3,10 +3,13 @@
 //! Adjustments of single glyphs and of pairs: subtables of the kinds 1 and 2 of `GPOS` (OpenType specification, "GPOS - Glyph
 //! Positioning Table", "Single adjustment positioning", "Pair adjustment positioning").
 
-use crate::font_tables::bytes::{table_at_16, u16_at};
+use crate::font_tables::bytes::{i16_at, table_at_16, u16_at};
 use crate::font_tables::rows::{Keys16, rows_within};
 use crate::position_tables::sorted_rows::row_of;
 use crate::position_tables::values::{ValueRecord, record_size};
+
+/// The format of a record that has the advance to the right, and nothing else.
+const ADVANCE_ACROSS: u16 = 4;
 
 /// By how much the glyphs of a pair are moved.
 #[derive(Clone, Copy, Debug)]
@@ -18,6 +21,7 @@ pub struct PairValues {
 }
 
 /// The number at a place, and 0 outside of the table.
+#[inline(always)]
 fn number(table: &[u8], at: usize) -> u16 {
     u16_at(table, at).unwrap_or(0)
 }
@@ -51,7 +55,7 @@ pub fn single_values(subtable: &[u8], index: u32) -> Option<ValueRecord> {
 /// ensures first { result.0 ≡ number subtable.now 4 }
 /// ensures second { result.1 ≡ number subtable.now 6 }
 /// ```
-#[inline]
+#[inline(always)]
 pub fn pair_formats(subtable: &[u8]) -> (u16, u16) {
     (number(subtable, 4), number(subtable, 6))
 }
@@ -79,6 +83,7 @@ pub fn pair_set(subtable: &[u8], index: u32) -> Option<&[u8]> {
 ///
 /// ```text
 /// ensures row { IfSome result (IsInRow set.now formats.0 formats.1 second) }
+/// ensures none { result ≡ None → IsInNoRow set.now formats.0 formats.1 second }
 /// ```
 #[inline]
 pub fn listed_pair(set: &[u8], formats: (u16, u16), second: u16) -> Option<PairValues> {
@@ -149,4 +154,50 @@ pub fn classed_pair(subtable: &[u8], first: u16, second: u16) -> Option<PairValu
     } else {
         None
     }
+}
+
+/// Whether pairs have the advance of the first glyph to the right, and nothing else, as kerning has.
+///
+/// # Proved
+///
+/// ```text
+/// ensures format { IsTrue result → number subtable.now 4 ≡ 4 }
+/// ensures none { IsTrue result → number subtable.now 6 ≡ 0 }
+/// ```
+#[inline(always)]
+pub fn is_kerning(subtable: &[u8]) -> bool {
+    number(subtable, 4) == ADVANCE_ACROSS && number(subtable, 6) == 0
+}
+
+/// The advance of a pair of classes, as `classed_pair` has it where pairs have nothing else.
+///
+/// # Proved
+///
+/// ```text
+/// ensures { number subtable.now 4 ≡ 4 → number subtable.now 6 ≡ 0
+///     → option_map kerned result ≡ classed_pair subtable.now first second }
+/// ```
+#[inline(always)]
+pub fn classed_advance(subtable: &[u8], first: u16, second: u16) -> Option<i16> {
+    let seconds = number(subtable, 14);
+    if first < number(subtable, 12) && second < seconds {
+        let row = usize::from(first) * usize::from(seconds);
+        i16_at(subtable, 16 + 2 * (row + usize::from(second)))
+    } else {
+        None
+    }
+}
+
+/// The advance of the pair with this second glyph in a set of pairs, as `listed_pair` has it where
+/// pairs have nothing else.
+///
+/// # Proved
+///
+/// ```text
+/// ensures row { IfSome result (λ advance. IsInRow set.now 4 0 second (kerned advance)) }
+/// ```
+#[inline(always)]
+pub fn listed_advance(set: &[u8], second: u16) -> Option<i16> {
+    let row = second_row(set, 4, second)?;
+    i16_at(set, 4 + 4 * row)
 }

@@ -108,22 +108,36 @@ impl ValueRecord {
     ///
     /// # Proved
     ///
-    /// That it returns.
+    /// ```text
+    /// ensures { result ≡ has_effect instance.now is_horizontal self.now }
+    /// ```
     #[inline]
     pub fn has_effect(&self, instance: &Instance<'_>, is_horizontal: bool) -> bool {
         let (x, y) = (uses_devices(instance, true), uses_devices(instance, false));
-        let (advance, advance_device, is_used) = if is_horizontal {
-            (self.x_advance, self.x_advance_device, x)
-        } else {
-            (self.y_advance, self.y_advance_device, y)
-        };
-        self.x_placement != 0
-            || self.y_placement != 0
-            || advance != 0
-            || self.x_placement_device != 0 && x
-            || self.y_placement_device != 0 && y
-            || advance_device != 0 && is_used
+        may_move(self.x_placement, self.x_placement_device, x)
+            || may_move(self.y_placement, self.y_placement_device, y)
+            || if is_horizontal {
+                may_move(self.x_advance, self.x_advance_device, x)
+            } else {
+                may_move(self.y_advance, self.y_advance_device, y)
+            }
     }
+}
+
+/// The position of a glyph of a horizontal line that is moved by a record of this advance to the right,
+/// and of nothing else.
+///
+/// # Proved
+///
+/// ```text
+/// ensures { (base : List ℕ) → result ≡ moved base instance.now true (across advance) position }
+/// ```
+#[inline(always)]
+pub fn advanced(advance: i16, instance: &Instance<'_>, position: GlyphPosition) -> GlyphPosition {
+    let length = instance.scale.em_scale_x(i32::from(advance));
+    let mut moved = position;
+    moved.x_advance = position.x_advance.wrapping_add(length);
+    moved
 }
 
 /// The record that names nothing.
@@ -157,6 +171,11 @@ fn fields(table: &[u8], format: u16, at: usize) -> ValueRecord {
         x_advance_device: field(table, format, 64, at),
         y_advance_device: field(table, format, 128, at),
     }
+}
+
+/// Whether a value moves a number, or its device table may, where device tables are asked.
+fn may_move(value: i16, device: u16, uses_devices: bool) -> bool {
+    value != 0 || device != 0 && uses_devices
 }
 
 /// Whether device tables correct numbers across, or upwards: whether there are pixels or variations.

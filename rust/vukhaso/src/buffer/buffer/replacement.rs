@@ -32,6 +32,7 @@ impl hb_buffer_t {
     ///     self.old result self.new }
     /// ensures keeps_order { KeepsClusterOrder self.old self.new }
     /// ensures keeps { 0 < num_out → KeepsClusters self.old self.new }
+    /// ensures in_place { self.old.have_separate_output ≡ false → num_out ≤ num_in → result ≡ Ok true }
     /// ```
     // Inlined as in HarfBuzz, where it is a template: a caller mostly knows both counts.
     #[inline(always)]

@@ -39,22 +39,25 @@ struct Collected {
 impl FallbackLookups {
     /// The lookups of a font, for a plan that `does_fallback`: the initial, medial, final and isolated
     /// forms, and then ligatures of three letters, of two and of marks. There are none where the font has
-    /// no such characters.
+    /// no such characters, and none for glyphs of no mask.
     ///
     /// # Errors
     ///
-    /// `Err(AllocError)` where memory ran out.
+    /// `Err(AllocError)` where memory runs out.
     ///
     /// # Proved
     ///
-    /// That it returns.
+    /// ```text
+    /// ensures few { IfOk result (λ fallback. length fallback.masks.items ≤ 7) }
+    /// ensures masks { IfOk result (λ fallback. All (λ mask. mask ≢ 0) fallback.masks.items) }
+    /// ```
     pub fn new<F: FontGlyphs>(font: &F, plan: &ScriptPlan) -> Result<FallbackLookups, AllocError> {
         let mut collected = Collected {
             lookups: Vec::new(),
             masks: Vec::new(),
         };
-        for (column, form) in FORMS.iter().enumerate() {
-            let number = usize::from(form.number());
+        for column in 0..FORMS.len() {
+            let number = usize::from(FORMS[column].number());
             let mask = plan.masks.get(number).copied().unwrap_or(0);
             collected.add_forms(font, column, mask)?;
         }

@@ -3,6 +3,7 @@
 //! Lookups of `GPOS` and the table `kern` over small tables. What is expected follows from the OpenType specification, and is what
 //! HarfBuzz makes of the same tables.
 
+use crate::position_tests::bytes::bytes_of;
 use vukhaso::buffer::{UnicodeBuffer, hb_buffer_t, hb_glyph_info_t};
 use vukhaso::common::Direction;
 use vukhaso::font_tables::bytes::tail;
@@ -27,16 +28,6 @@ const OPTIONS: LookupOptions = LookupOptions {
     per_syllable: false,
     random: false,
 };
-
-/// A table in numbers of 16 bits.
-fn bytes_of(words: &[u16]) -> Result<Vec<u8>, AllocError> {
-    let mut bytes = Vec::new();
-    for word in words {
-        bytes.push((*word / 256) as u8)?;
-        bytes.push((*word % 256) as u8)?;
-    }
-    Ok(bytes)
-}
 
 /// A table `GPOS` with one lookup of this kind and flag, which has one subtable.
 fn gpos_of(kind: u16, flag: u16, subtable: &[u16]) -> Result<Vec<u8>, AllocError> {
@@ -169,6 +160,41 @@ fn the_second_glyph_of_a_pair() -> Result<(), AllocError> {
     assert!(!is_unsafe(&buffer, 0));
     assert!(is_unsafe(&buffer, 1));
     assert!(is_unsafe(&buffer, 3));
+    Ok(())
+}
+
+#[test]
+fn kerning_by_classes() -> Result<(), AllocError> {
+    let pairs = [
+        2, 20, 4, 0, 26, 32, 1, 2, 0, 0xFFCE, 1, 1, 10, 1, 0, 0, 1, 11, 1, 1,
+    ];
+    let gpos = gpos_of(2, 8, &pairs)?;
+    let glyphs = [10, 11, 10, 12, 10, 20, 11];
+    let buffer = positioned(&gpos, Direction::LeftToRight, &glyphs)?;
+    assert_eq!(at(&buffer, 0), (550, 0, 0));
+    assert_eq!(at(&buffer, 1), (600, 0, 0));
+    assert_eq!(at(&buffer, 2), (600, 0, 0));
+    assert_eq!(at(&buffer, 4), (550, 0, 0));
+    assert!(is_unsafe(&buffer, 1));
+    assert!(!is_unsafe(&buffer, 3));
+    assert!(is_unsafe(&buffer, 6));
+    let downward = positioned(&gpos, Direction::TopToBottom, &[10, 11])?;
+    assert_eq!(at(&downward, 0), (600, 0, 0));
+    assert!(!is_unsafe(&downward, 1));
+    Ok(())
+}
+
+#[test]
+fn kerning_by_glyphs() -> Result<(), AllocError> {
+    let pairs = [1, 12, 4, 0, 1, 18, 1, 1, 10, 2, 11, 0xFFCE, 12, 20];
+    let gpos = gpos_of(2, 0, &pairs)?;
+    let glyphs = [10, 12, 10, 11, 10, 13];
+    let buffer = positioned(&gpos, Direction::LeftToRight, &glyphs)?;
+    assert_eq!(at(&buffer, 0), (620, 0, 0));
+    assert_eq!(at(&buffer, 2), (550, 0, 0));
+    assert_eq!(at(&buffer, 4), (600, 0, 0));
+    assert!(is_unsafe(&buffer, 3));
+    assert!(!is_unsafe(&buffer, 5));
     Ok(())
 }
 

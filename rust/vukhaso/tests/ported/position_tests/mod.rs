@@ -1,6 +1,14 @@
 // Written by tools/plain_rust from crates/position_tests. Do not edit.
 
-//! Tests of positions by the tables `GPOS` and `kern`.
+//! Tests of positions by the tables `GPOS` and `kern`, and of what those tables hold.
 
 #[cfg(test)]
+mod anchors;
+#[cfg(test)]
+mod bytes;
+#[cfg(test)]
+mod kern_tables;
+#[cfg(test)]
 mod lookups;
+#[cfg(test)]
+mod tables;

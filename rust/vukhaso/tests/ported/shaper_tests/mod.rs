@@ -14,6 +14,8 @@ mod face;
 #[cfg(test)]
 mod marks;
 #[cfg(test)]
+mod plans;
+#[cfg(test)]
 mod shaping;
 #[cfg(test)]
 mod upright;

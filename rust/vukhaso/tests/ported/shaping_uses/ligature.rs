@@ -30,6 +30,7 @@ const LIGATURE_FI: u32 = 0xFB01;
 ///
 /// ```text
 /// ensures done { result ≡ Ok true }
+/// ensures closed { buffer.new.have_output ≡ false }
 /// ensures no_longer { length buffer.new.input ≤ length buffer.old.input }
 /// ```
 #[inline]

@@ -21,6 +21,7 @@ returns-then-replace_kept c =
       keeps = λ with_some. kept_replacement s (Ok true) _ a.num_in ids c.requires.opened some within
           (rw (replaced_done a.num_in ids s c.requires.opened fits) (refl, grind (arith, common_steps)))
           (omega arith);
+      in_place = λ together fewer. refl;
     }
 
 pub returns-clause-keeps_order : goal.returns-clause-keeps_order
@@ -42,3 +43,10 @@ returns-clause-keeps c = λ with_some.
     length-take-le a.num_out a.glyph_data.now c.requires.ids in
     kept_replacement s c.replace_any.result _ a.num_in (take a.num_out a.glyph_data.now) c.requires.opened some within
     (grind (arith, common_steps)) (omega arith)
+
+pub returns-clause-in_place : goal.returns-clause-in_place
+returns-clause-in_place c = λ together fewer.
+    let a = c.args in
+    let size : length (take a.num_out a.glyph_data.now) ≡ a.num_out =
+    length-take-le a.num_out a.glyph_data.now c.requires.ids in
+    c.replace_any.ensures.in_place (grind (arith, common_steps)) (omega (arith, size, fewer))

@@ -8,7 +8,8 @@ use std::ops::Bound;
 use vukhaso::common::{Direction, Tag};
 use vukhaso::layout_plan::builder::ChosenTable;
 use vukhaso::layout_plan::{
-    FeatureFlags, FontLayout, KernLayout, LayoutPlan, Pause, PlanBuilder, ShapePlan, TextProperties,
+    FeatureFlags, FontLayout, KernLayout, LayoutPlan, Pause, PlanBuilder, ShapePlan, ShaperRules,
+    TextProperties,
 };
 use vukhaso::text::Feature;
 
@@ -106,23 +107,73 @@ fn stages_part_lookups() -> Result<(), Fail> {
     };
     assert_eq!((first.end, first.pause), (1, Pause::SetUpSyllables));
     assert_eq!((second.end, second.pause), (2, Pause::Nothing));
+    for (tag, index) in [(b"frac", 2), (b"liga", 1)] {
+        let lookups = plan.stage_lookups(Tag::from_bytes(tag));
+        assert!(lookups.len() == 1 && lookups.iter().all(|lookup| lookup.index == index));
+    }
+    assert!(plan.stage_lookups(Tag::from_bytes(b"smcp")).is_empty());
+    Ok(())
+}
+
+/// The table of a feature, as variations of a font choose it: `liga` has the lookup 0 in the place of the lookup 1.
+const SUBSTITUTIONS: &[u8] = &[0, 1, 0, 0, 0, 1, 0, 0, 0, 0, 0, 12, 0, 0, 0, 1, 0, 0];
+
+#[test]
+fn features_vary() -> Result<(), Fail> {
+    let scripts = [Tag::from_bytes(b"latn")];
+    let gsub = ChosenTable::new(TABLE, &scripts, &[]).with_substitutions(SUBSTITUTIONS);
+    let gpos = ChosenTable::new(&[], &scripts, &[]);
+    let mut builder = PlanBuilder::new(gsub, gpos);
+    builder.enable_feature(Tag::from_bytes(b"frac"), FeatureFlags::NONE)?;
+    builder.enable_feature(Tag::from_bytes(b"liga"), FeatureFlags::NONE)?;
+    let plan = builder.compile()?;
+    assert!(has_lookups(&plan, &[(0, 0x8000_0000), (2, 0x8000_0000)]));
+    Ok(())
+}
+
+/// A font with the table, and neither `GPOS` nor `kern`.
+const FONT: FontLayout<'static> = FontLayout {
+    gsub: TABLE,
+    gpos: &[],
+    kern: KernLayout {
+        is_there: false,
+        is_cross_stream: false,
+        has_machine: false,
+    },
+    gsub_substitutions: &[],
+    gpos_substitutions: &[],
+};
+
+/// A script's shaper asks for its features between those that come first and those of every text, and
+/// says what becomes of marks.
+#[test]
+fn a_shaper_has_features_and_rules() -> Result<(), Fail> {
+    let text = TextProperties {
+        direction: Direction::LeftToRight,
+        scripts: &[Tag::from_bytes(b"latn")],
+        languages: &[],
+    };
+    let rules = ShaperRules {
+        gpos_script: None,
+        zero_marks: false,
+        fallback_position: false,
+    };
+    let mut builder = ShapePlan::begin(&FONT, &text)?;
+    builder.enable_feature(Tag::from_bytes(b"smcp"), FeatureFlags::NONE)?;
+    ShapePlan::add_common_features(&mut builder, text.direction, &[])?;
+    let plan = ShapePlan::complete(builder, &FONT, text.direction, rules)?;
+    assert!(has_lookups(
+        &plan.layout,
+        &[(0, 0x8000_0000), (1, 0x8000_0000), (2, 0x10)]
+    ));
+    assert!(plan.has_frac && plan.apply_fallback_kern);
+    assert!(!plan.zero_marks && !plan.fallback_mark_positioning);
     Ok(())
 }
 
 /// What the default shaper asks for, and what follows for a font without `GPOS` and `kern`.
 #[test]
 fn the_default_shaper_plans() -> Result<(), Fail> {
-    let font = FontLayout {
-        gsub: TABLE,
-        gpos: &[],
-        kern: KernLayout {
-            is_there: false,
-            is_cross_stream: false,
-            has_machine: false,
-        },
-        gsub_substitutions: &[],
-        gpos_substitutions: &[],
-    };
     let text = TextProperties {
         direction: Direction::LeftToRight,
         scripts: &[Tag::from_bytes(b"latn")],
@@ -130,7 +181,7 @@ fn the_default_shaper_plans() -> Result<(), Fail> {
     };
     let small_capitals = Tag::from_bytes(b"smcp");
     let feature = Feature::new(small_capitals, 1, Bound::Included(1), Bound::Excluded(3));
-    let plan = ShapePlan::new(&font, &text, &[feature])?;
+    let plan = ShapePlan::new(&FONT, &text, &[feature])?;
     assert_eq!(plan.frac_mask, 0x10);
     assert!(plan.has_frac);
     assert_eq!(plan.kern_mask, 0x8000_0000);

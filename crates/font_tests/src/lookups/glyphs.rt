@@ -1,0 +1,153 @@
+//! Sets of glyphs, what a lookup passes over, and the parts of ligatures.
+
+use crate::lookups::bytes_of;
+use font_tables::coverage::Coverage;
+use glyph_layout::filter::covered_index;
+use glyph_layout::glyph_table::Glyphs;
+use glyph_layout::ligature_parts::{
+    component_count, ligature_component, ligature_id, ligature_properties, mark_properties,
+};
+use glyph_layout::{Budget, Digest, Filter, Reach};
+use rb_glyph::hb_glyph_info_t;
+use std::alloc::AllocError;
+
+/// A glyph with these glyph properties and ligature properties.
+fn glyph_of(id: u32, properties: u16, ligature: u8) -> hb_glyph_info_t {
+    hb_glyph_info_t {
+        glyph_id: id,
+        var1: u32::from(properties) + u32::from(ligature) * 65536,
+        ..hb_glyph_info_t::default()
+    }
+}
+
+/// Of a glyph, its neighbour and one 64 glyphs on, a digest has the one that was added.
+#[test]
+fn digests_have_what_was_added(rt: HostRuntime) {
+    let mut one = Digest::new();
+    assert!(rt; !one.may_have(5));
+    one.add(5);
+    assert!(rt; (one.may_have(5), one.may_have(6), one.may_have(69)) == (true, false, false));
+    let mut others = Digest::new();
+    others.add_range(600, 602);
+    assert!(rt; others.may_have(600) && others.may_have(601) && others.may_have(602));
+    assert!(rt; !others.may_have(599) && !others.may_have(603));
+    assert!(rt; !one.meets(&others));
+    others.add_all(&one);
+    assert!(rt; others.may_have(5) && one.meets(&others));
+}
+
+#[test]
+fn digests_are_of_coverages_and_texts(rt: HostRuntime) -> Result<(), AllocError> {
+    let listed = bytes_of(rt.alloc(), &[1, 2, 5, 9])?;
+    let ranged = bytes_of(rt.alloc(), &[2, 1, 5, 9, 0])?;
+    let text = Digest::of_glyphs(&[glyph_of(5, 0, 0), glyph_of(9, 0, 0)]);
+    for digest in [Digest::of_coverage(&Coverage::new(&listed)), text] {
+        assert!(rt;
+            (digest.may_have(5), digest.may_have(7), digest.may_have(9)) == (true, false, true)
+        );
+    }
+    let range = Digest::of_coverage(&Coverage::new(&ranged));
+    assert!(rt; (range.may_have(4), range.may_have(7), range.may_have(9)) == (false, true, true));
+    assert!(rt; covered_index(&Coverage::new(&listed), 9) == Some(1));
+    assert!(rt; covered_index(&Coverage::new(&listed), 65536 + 9) == None);
+    Ok(())
+}
+
+/// The flag of a lookup, the properties of a glyph of the number 9, and whether the glyph is passed over. The set of marks has
+/// the glyph 5 alone.
+static PASSED: [(u16, u16, bool); 9] = [
+    (0x0000, 0x0008, false),
+    // bases, ligatures and marks
+    (0x0002, 0x0002, true),
+    (0x0004, 0x0002, false),
+    (0x0004, 0x0004, true),
+    (0x0008, 0x0008, true),
+    // marks of another class, and those that are not in the set
+    (0x0100, 0x0108, false),
+    (0x0100, 0x0208, true),
+    (0x0100, 0x0002, false),
+    (0x0010, 0x0008, true),
+];
+
+#[test]
+fn flags_say_what_is_passed_over(rt: HostRuntime) -> Result<(), AllocError> {
+    let marks = bytes_of(rt.alloc(), &[1, 1, 5])?;
+    for (flags, properties, is_passed) in &PASSED {
+        let filter = Filter {
+            flags: *flags,
+            marks: Coverage::new(&marks),
+        };
+        let glyph = glyph_of(9, *properties, 0);
+        assert!(rt;
+            filter.passes_over(&glyph) == *is_passed,
+            "{flags} {properties}"
+        );
+    }
+    let of_set = Filter {
+        flags: 0x0010,
+        marks: Coverage::new(&marks),
+    };
+    assert!(rt; !of_set.passes_over(&glyph_of(5, 0x0008, 0)));
+    Ok(())
+}
+
+/// The ligature of the number 3 has two components, and a mark belongs to the first of them.
+#[test]
+fn glyphs_are_parts_of_ligatures(rt: HostRuntime) {
+    let ligature = glyph_of(9, 0x0004, ligature_properties(3, 2));
+    let mark = glyph_of(10, 0x0008, mark_properties(3, 1));
+    let letter = glyph_of(11, 0x0002, 0);
+    assert!(rt;
+        (
+            ligature_id(&ligature),
+            ligature_component(&ligature),
+            component_count(&ligature)
+        ) == (3, 0, 2)
+    );
+    assert!(rt;
+        (
+            ligature_id(&mark),
+            ligature_component(&mark),
+            component_count(&mark)
+        ) == (3, 1, 1)
+    );
+    assert!(rt;
+        (
+            ligature_id(&letter),
+            ligature_component(&letter),
+            component_count(&letter)
+        ) == (0, 0, 1)
+    );
+}
+
+/// Glyphs that do not all lie in their table are none.
+#[test]
+fn tables_list_glyphs(rt: HostRuntime) -> Result<(), AllocError> {
+    let whole = bytes_of(rt.alloc(), &[2, 7, 9])?;
+    let glyphs = Glyphs::new(&whole);
+    assert!(rt; (glyphs.len(), glyphs.glyph(0), glyphs.glyph(1)) == (2, 7, 9));
+    let cut = bytes_of(rt.alloc(), &[3, 7, 9])?;
+    assert!(rt; Glyphs::new(&cut).len() == 0);
+    Ok(())
+}
+
+/// What is left of a budget, once some was paid and then too much was asked for.
+#[test]
+fn budgets_are_spent(rt: HostRuntime) {
+    let mut budget = Budget::new(1, 10);
+    let steps = budget.steps;
+    assert!(rt; budget.pay(24) && budget.pay_for(10));
+    assert!(rt; budget.steps.saturating_add(34) == steps);
+    assert!(rt; (budget.nest(), budget.nest()) == (true, false));
+    assert!(rt; !budget.is_spent());
+    assert!(rt; !budget.pay(u32::MAX));
+    assert!(rt; budget.is_spent());
+}
+
+#[test]
+fn reaches_are_taken_together(rt: HostRuntime) {
+    let mut reach = Reach::none(4);
+    reach.extend(2, 3);
+    reach.extend(3, 1);
+    assert!(rt; (reach.from, reach.to) == (2, 3));
+}

@@ -1,0 +1,158 @@
+//! Anchors and the arrays in which they stand, after the OpenType specification, "GPOS - Glyph Positioning Table".
+
+use crate::bytes::bytes_of;
+use font_tables::scale::Scale;
+use font_variations::Deltas;
+use position_tables::anchors::{Anchor, anchor_in, ligature_matrix, mark_anchor, mark_class};
+use position_tables::instance::Instance;
+use std::alloc::AllocError;
+
+/// Where an anchor is: across and up, and how far it is moved.
+type Place = (i16, i16, i32, i32);
+
+/// An anchor in numbers of 16 bits, where an em of 1,000 units has 12 pixels across and 10 up, and where it is.
+struct Row {
+    name: &'static str,
+    words: &'static [u16],
+    place: Option<Place>,
+}
+
+static ROWS: [Row; 6] = [
+    Row {
+        name: "format 1 is two numbers",
+        words: &[1, 189, 0xFF99],
+        place: Some((189, -103, 0, 0)),
+    },
+    Row {
+        name: "the point of format 2 is not used",
+        words: &[2, 322, 900, 13],
+        place: Some((322, 900, 0, 0)),
+    },
+    Row {
+        name: "format 3 has a device table for each number: one pixel across, and three down",
+        words: &[3, 279, 1301, 10, 18, 11, 15, 1, 0x5540, 9, 11, 2, 0x0D00],
+        place: Some((279, 1301, 83, -300)),
+    },
+    Row {
+        name: "an offset of 0 is no device table",
+        words: &[3, 279, 1301, 0, 10, 9, 11, 2, 0x0D00],
+        place: Some((279, 1301, 0, -300)),
+    },
+    Row {
+        name: "one of an unknown format is the origin",
+        words: &[4, 7, 7],
+        place: Some((0, 0, 0, 0)),
+    },
+    Row {
+        name: "one that is cut short is none",
+        words: &[3, 279, 1301, 0],
+        place: None,
+    },
+];
+
+/// A font in pixels, 12 across and 10 up.
+fn in_pixels<'a>() -> Instance<'a> {
+    let mut scale = Scale::of_em(1000);
+    scale.x_ppem = 12;
+    scale.y_ppem = 10;
+    Instance {
+        scale,
+        deltas: Deltas::NONE,
+    }
+}
+
+#[test]
+fn anchors_are_read(rt: HostRuntime) -> Result<(), AllocError> {
+    let instance = in_pixels();
+    for row in &ROWS {
+        let table = bytes_of(rt.alloc(), row.words)?;
+        let place = match Anchor::read(&table, &instance) {
+            Some(anchor) => Some((anchor.x, anchor.y, anchor.x_delta, anchor.y_delta)),
+            None => None,
+        };
+        assert!(rt; place == row.place, "{}", row.name);
+    }
+    Ok(())
+}
+
+/// From a mark's anchor to that of its base, where an em is twice as long across as it has font units, and half as long up.
+#[test]
+fn anchors_are_apart(rt: HostRuntime) {
+    let mark = Anchor {
+        x: 100,
+        y: 200,
+        x_delta: 3,
+        y_delta: -4,
+    };
+    let base = Anchor {
+        x: 300,
+        y: 500,
+        x_delta: 10,
+        y_delta: 20,
+    };
+    let scale = Scale::new(1000, 2000, 500);
+    assert!(rt; (mark.x_at(&scale), mark.y_at(&scale)) == (203, 96));
+    assert!(rt; (base.x_at(&scale), base.y_at(&scale)) == (610, 270));
+    assert!(rt; (mark.x_to(&base, &scale), mark.y_to(&base, &scale)) == (407, 174));
+    assert!(rt; (base.x_to(&mark, &scale), base.y_to(&mark, &scale)) == (-407, -174));
+}
+
+/// Two marks, of the classes 2 and 0, each with its anchor.
+const MARKS: &[u16] = &[2, 2, 10, 0, 16, 1, 11, 12, 1, 21, 22];
+
+/// Two rows of two columns, of which the second row has no anchor in its second column.
+const MATRIX: &[u16] = &[2, 10, 16, 22, 0, 1, 1, 2, 1, 3, 4, 1, 5, 6];
+
+/// The first number of the table at which an array's offset leads.
+fn format_and_x(table: &[u8]) -> Option<(u8, u8)> {
+    match (table.get(1), table.get(3)) {
+        (Some(format), Some(x)) => Some((*format, *x)),
+        _ => None,
+    }
+}
+
+#[test]
+fn marks_have_classes_and_anchors(rt: HostRuntime) -> Result<(), AllocError> {
+    let marks = bytes_of(rt.alloc(), MARKS)?;
+    assert!(rt;
+        (
+            mark_class(&marks, 0),
+            mark_class(&marks, 1),
+            mark_class(&marks, 2)
+        ) == (2, 0, 0)
+    );
+    assert!(rt; format_and_x(mark_anchor(&marks, 0)) == Some((1, 11)));
+    assert!(rt; format_and_x(mark_anchor(&marks, 1)) == Some((1, 21)));
+    assert!(rt; mark_anchor(&marks, 2).is_empty());
+    Ok(())
+}
+
+#[test]
+fn anchors_stand_in_rows_and_columns(rt: HostRuntime) -> Result<(), AllocError> {
+    let matrix = bytes_of(rt.alloc(), MATRIX)?;
+    for ((row, column), x) in [((0, 0), 1), ((0, 1), 3), ((1, 0), 5)] {
+        let anchor = anchor_in(&matrix, row, column, 2);
+        assert!(rt;
+            anchor.is_some_and(|table| format_and_x(table) == Some((1, x))),
+            "{row} {column}"
+        );
+    }
+    for (row, column) in [(1, 1), (0, 2), (2, 0)] {
+        assert!(rt;
+            anchor_in(&matrix, row, column, 2).is_none(),
+            "{row} {column}"
+        );
+    }
+    Ok(())
+}
+
+#[test]
+fn ligatures_have_matrices(rt: HostRuntime) -> Result<(), AllocError> {
+    let ligatures = bytes_of(rt.alloc(), &[2, 0, 6, 3, 7])?;
+    assert!(rt; ligature_matrix(&ligatures, 0).is_none());
+    assert!(rt;
+        ligature_matrix(&ligatures, 1).is_some_and(|matrix| format_and_x(matrix) == Some((3, 7)))
+    );
+    assert!(rt; ligature_matrix(&ligatures, 2).is_none());
+    Ok(())
+}

@@ -1,0 +1,13 @@
+//! Tables that are written as numbers of 16 bits.
+
+use std::alloc::{AllocError, Global};
+
+/// A table in numbers of 16 bits.
+pub(crate) fn bytes_of(alloc: Global, words: &[u16]) -> Result<Vec<u8>, AllocError> {
+    let mut bytes = Vec::new(alloc);
+    for word in words {
+        bytes.push((*word / 256) as u8)?;
+        bytes.push((*word % 256) as u8)?;
+    }
+    Ok(bytes)
+}

@@ -1,0 +1,76 @@
+//! Plans that are made for texts, and kept.
+
+use crate::upright::UPRIGHT;
+use font_shaper::{
+    Face, FaceNames, KeptPlan, ShapeError, ShapePlan, shape_with_kept_plan, shape_with_plan,
+};
+use rb_common::script;
+use shaping_buffer::{BufferFlags, Direction, Flags, Language, SerializeFlags, UnicodeBuffer};
+use std::alloc::Global;
+use std::test::Fail;
+
+/// A text with a direction.
+fn text_of(alloc: Global, text: &str, direction: Direction) -> Result<UnicodeBuffer, Fail> {
+    let mut buffer = UnicodeBuffer::new(alloc);
+    let _ = buffer.push_str(text)?;
+    buffer.set_direction(direction);
+    Ok(buffer)
+}
+
+/// A plan shapes the texts that it is for, and no others.
+#[test]
+fn a_plan_is_for_its_texts(rt: HostRuntime) -> Result<(), Fail> {
+    let face = Face::parse(rt.alloc(), UPRIGHT, 0)?.ok_or("no font")?;
+    let names = FaceNames::new(rt.alloc(), &face)?;
+    let turkish = Language::from_str(rt.alloc(), "tr")?;
+    let latin = Some(script::LATIN);
+    let plan = ShapePlan::new(&face, Direction::LeftToRight, latin, None, &[])?;
+    let other = ShapePlan::new(&face, Direction::LeftToRight, latin, Some(&turkish), &[])?;
+    assert!(rt; plan.direction() == Direction::LeftToRight);
+    assert!(rt; plan.script() == latin);
+    let mut text = text_of(rt.alloc(), "ab", Direction::LeftToRight)?;
+    text.guess_segment_properties();
+    assert!(rt; plan.is_for(&text) && !other.is_for(&text));
+    let glyphs = shape_with_plan(&face, &plan, text)?;
+    let written = glyphs.serialize(rt.alloc(), &names, SerializeFlags::empty())?;
+    assert_eq!(rt; written.as_str(), "a=0+410|b=1+420");
+    let text = text_of(rt.alloc(), "ab", Direction::RightToLeft)?;
+    assert!(rt; shape_with_plan(&face, &plan, text).err() == Some(ShapeError::OtherPlan));
+    Ok(())
+}
+
+/// Texts in all directions, one after the other, and their glyphs.
+static TEXTS: [(&str, Direction, &str); 6] = [
+    ("ab", Direction::LeftToRight, "a=0+410|b=1+420"),
+    ("b", Direction::LeftToRight, "b=0+420"),
+    ("ab", Direction::RightToLeft, "b=1+420|a=0+410"),
+    (
+        "bc",
+        Direction::TopToBottom,
+        "b=0@-210,-880+0,-1000|c=1@-215,-850+0,-1000",
+    ),
+    (
+        "bc",
+        Direction::BottomToTop,
+        "c=1@-215,-850+0,-1000|b=0@-210,-880+0,-1000",
+    ),
+    ("c", Direction::LeftToRight, "c=0+430"),
+];
+
+/// A plan that is kept gives way to another where the next text is another, and a text is verified by it too.
+#[test]
+fn a_kept_plan_gives_way(rt: HostRuntime) -> Result<(), Fail> {
+    let face = Face::parse(rt.alloc(), UPRIGHT, 0)?.ok_or("no font")?;
+    let names = FaceNames::new(rt.alloc(), &face)?;
+    let mut kept = KeptPlan::new();
+    for (characters, direction, wanted) in &TEXTS {
+        for flags in [BufferFlags::empty(), BufferFlags::VERIFY] {
+            let mut text = text_of(rt.alloc(), characters, *direction)?;
+            text.set_flags(flags);
+            let glyphs = shape_with_kept_plan(&face, &[], &mut kept, text)?;
+            let written = glyphs.serialize(rt.alloc(), &names, SerializeFlags::empty())?;
+            assert_eq!(rt; written.as_str(), *wanted);
+        }
+    }
+    Ok(())
+}

@@ -1,0 +1,160 @@
+// Written by tools/plain_rust from crates/pass_tests. Do not edit.
+
+//! Runs of marks: where one ends, and what one becomes whose marks are put in order (the Unicode Standard, section 3.11).
+
+use crate::Fail;
+use vukhaso::buffer::{CombiningClasses, UnicodeBuffer, hb_buffer_t, hb_glyph_info_t};
+use vukhaso::memory::String;
+use vukhaso::passes::normalization::{MOST_MARKS, MarkClasses, order_run, run_end};
+use vukhaso::passes::order_marks;
+
+static CLASSES: [(char, u8); 3] = [('\u{301}', 230), ('\u{315}', 232), ('\u{323}', 220)];
+
+/// Two runs, of two marks and of one.
+const TWO_RUNS: &str = "a\u{315}\u{301}bc\u{323}";
+
+/// Places in that text, and where the run ends that begins there; at a starter none does.
+static ENDS: [(usize, usize); 7] = [(0, 0), (1, 3), (2, 3), (3, 3), (4, 4), (5, 6), (6, 6)];
+
+/// A text, the run of marks that is put in order, and what the text becomes.
+struct Row {
+    name: &'static str,
+    text: &'static str,
+    start: usize,
+    end: usize,
+    want: &'static str,
+}
+
+static ROWS: [Row; 4] = [
+    Row {
+        name: "marks stand in the order of their classes",
+        text: "a\u{315}\u{301}\u{323}b",
+        start: 1,
+        end: 4,
+        want: "a\u{323}\u{301}\u{315}b",
+    },
+    Row {
+        name: "marks of one class stay in their order",
+        text: "a\u{301}\u{315}\u{301}\u{323}b",
+        start: 1,
+        end: 5,
+        want: "a\u{323}\u{301}\u{301}\u{315}b",
+    },
+    Row {
+        name: "a mark before the run stays, though it is of a higher class",
+        text: "\u{315}\u{301}\u{323}",
+        start: 1,
+        end: 3,
+        want: "\u{315}\u{323}\u{301}",
+    },
+    Row {
+        name: "a mark behind the run stays, though it is of a lower class",
+        text: "\u{315}\u{301}\u{323}",
+        start: 0,
+        end: 2,
+        want: "\u{301}\u{315}\u{323}",
+    },
+];
+
+/// Classes that a shaper has of its own: this mark goes before any other.
+struct First<'a> {
+    mark: u32,
+    others: &'a CombiningClasses<'a>,
+}
+
+///
+/// # Proved
+///
+/// ```text
+/// ghost classes = { λ own g. if g.glyph_id == own.mark then 1 else class_at own.others.now g }
+/// ghost alike = { λ own g. refl }
+/// ```
+impl MarkClasses for First<'_> {
+    fn class_of(&self, info: &hb_glyph_info_t) -> u16 {
+        if info.glyph_id == self.mark {
+            1
+        } else {
+            self.others.class_of(info)
+        }
+    }
+}
+
+/// A buffer over a text, with no output open.
+fn buffer_of(text: &str) -> hb_buffer_t {
+    let mut characters = UnicodeBuffer::new();
+    assert!(characters.push_str(text) == Ok(true));
+    characters.into_buffer()
+}
+
+/// Asserts which characters stand in the list.
+fn assert_characters(buffer: &hb_buffer_t, want: &str, name: &str) {
+    assert!(buffer.info().len() == want.chars().count(), "{name}");
+    for (glyph, c) in buffer.info().iter().zip(want.chars()) {
+        assert!(glyph.glyph_id == c as u32, "{name}");
+    }
+}
+
+/// Puts the run from one place to another in order.
+fn order<C: MarkClasses>(buffer: &mut hb_buffer_t, classes: &C, start: usize, end: usize) {
+    assert!(!buffer.have_output());
+    assert!(start < end && end <= buffer.info().len());
+    order_run(buffer, classes, start, end);
+}
+
+#[test]
+fn runs_end_at_starters() -> Result<(), Fail> {
+    let classes = CombiningClasses::new(&CLASSES).ok_or("rows that rise")?;
+    let buffer = buffer_of(TWO_RUNS);
+    for (start, end) in &ENDS {
+        assert!(*start <= buffer.info().len());
+        assert!(
+            run_end(buffer.info(), &classes, *start) == *end,
+            "from {start}"
+        );
+    }
+    Ok(())
+}
+
+#[test]
+fn runs_are_put_in_order() -> Result<(), Fail> {
+    let classes = CombiningClasses::new(&CLASSES).ok_or("rows that rise")?;
+    for row in &ROWS {
+        let mut buffer = buffer_of(row.text);
+        order(&mut buffer, &classes, row.start, row.end);
+        assert_characters(&buffer, row.want, row.name);
+    }
+    Ok(())
+}
+
+/// A shaper's own classes are asked in place of those of Unicode.
+#[test]
+fn a_shaper_may_have_its_own_classes() -> Result<(), Fail> {
+    let classes = CombiningClasses::new(&CLASSES).ok_or("rows that rise")?;
+    let first = First {
+        mark: 0x315,
+        others: &classes,
+    };
+    let mut buffer = buffer_of("a\u{323}\u{301}\u{315}");
+    order(&mut buffer, &first, 1, 4);
+    assert_characters(&buffer, "a\u{315}\u{323}\u{301}", "the last mark");
+    Ok(())
+}
+
+/// A run of 33 marks is put in order by `order_run`, and stays as it is in a text that `order_marks`
+/// puts in order.
+#[test]
+fn long_runs_stay_as_they_are() -> Result<(), Fail> {
+    const ACUTES: &str = "\u{301}\u{301}\u{301}\u{301}\u{301}\u{301}\u{301}\u{301}";
+    let classes = CombiningClasses::new(&CLASSES).ok_or("rows that rise")?;
+    let below = "\u{323}";
+    let long = String::format(format_args!("{ACUTES}{ACUTES}{ACUTES}{ACUTES}{below}"))?;
+    let in_order = String::format(format_args!("{below}{ACUTES}{ACUTES}{ACUTES}{ACUTES}"))?;
+    let mut buffer = buffer_of(&long);
+    assert!(buffer.info().len() == MOST_MARKS + 1);
+    assert!(!buffer.have_output());
+    order_marks(&mut buffer, &classes);
+    assert_characters(&buffer, &long, "a long run");
+    order(&mut buffer, &classes, 0, 33);
+    assert_characters(&buffer, &in_order, "one that is put in order");
+    Ok(())
+}

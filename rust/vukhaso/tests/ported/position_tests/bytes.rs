@@ -1,0 +1,15 @@
+// Written by tools/plain_rust from crates/position_tests. Do not edit.
+
+//! Tables that are written as numbers of 16 bits.
+
+use vukhaso::memory::{AllocError, Vec};
+
+/// A table in numbers of 16 bits.
+pub(crate) fn bytes_of(words: &[u16]) -> Result<Vec<u8>, AllocError> {
+    let mut bytes = Vec::new();
+    for word in words {
+        bytes.push((*word / 256) as u8)?;
+        bytes.push((*word % 256) as u8)?;
+    }
+    Ok(bytes)
+}
