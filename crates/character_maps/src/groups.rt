@@ -76,7 +76,7 @@ fn glyph_in_group(format: u16, code: u32, start: u32, glyph: u32) -> Option<u16>
 }
 
 /// The glyph that a row gives to a code that it reaches.
-#[tactic(auto, using(crate::proofs::Outside::groups_outside), unfolding(crate::specs::Subtables::group_glyph))]
+#[tactic(auto, using(crate::proofs::Outside::group_glyph_outside), unfolding(crate::specs::Subtables::group_glyph))]
 fn group_glyph(table: &[u8], format: u16, code: u32, row: usize) -> Option<u16>
     ensures { result ≡ group_glyph table.now format code row }
 {

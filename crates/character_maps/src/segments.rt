@@ -41,7 +41,7 @@ pub(crate) fn segments_rise(table: &[u8]) -> bool
 }
 
 /// The number at a place of a list behind the ends: starts (1), deltas (2), range offsets and then glyphs (3).
-#[tactic(auto, using(crate::proofs::Outside::numbers_outside), unfolding(crate::specs::Subtables::number_of_list))]
+#[tactic(auto, using(crate::proofs::Outside::number_of_list_outside), unfolding(crate::specs::Subtables::number_of_list))]
 fn number_of_list(table: &[u8], list: usize, place: usize) -> Option<u16>
     requires { list < 4 }
     ensures { result ≡ number_of_list table.now list place }
@@ -103,7 +103,7 @@ fn glyph_in_segment(table: &[u8], code: u32, segment: &Segment) -> Option<u16>
 }
 
 /// The glyph that a row gives to a code that it reaches.
-#[tactic(auto, using(crate::proofs::Outside::segments_outside), unfolding(crate::specs::Subtables::segment_glyph))]
+#[tactic(auto, using(crate::proofs::Outside::segment_glyph_outside), unfolding(crate::specs::Subtables::segment_glyph))]
 fn segment_glyph(table: &[u8], code: u32, row: usize) -> Option<u16>
     ensures { result ≡ segment_glyph table.now code row }
 {

@@ -51,7 +51,7 @@ impl Rows for Keys24<'_> {
 
     ghost last_of = { λ keys row. number_24 keys.table.now (keys.start + keys.size * row) };
 
-    #[tactic(auto, using(crate::proofs::Outside::outside_24))]
+    #[tactic(auto, using(crate::proofs::Outside::number_24_outside))]
     fn last(&self, row: usize) -> Option<u32> {
         let place = self.start.saturating_add(self.size.saturating_mul(row));
         if place < self.table.len() {
@@ -257,7 +257,7 @@ fn mapped_glyph(own: &[u8], character: u32, are_rising: bool) -> Option<u16>
 }
 
 /// The glyph of a row.
-#[tactic(auto, using(crate::proofs::Outside::mapped_glyphs_outside))]
+#[tactic(auto, using(crate::proofs::Outside::number_16_outside_row))]
 fn glyph_of_row(own: &[u8], row: usize) -> Option<u16>
     ensures { result ≡ option_and_then some_glyph (number_16 own.now (7 + 5 * row)) }
 {

@@ -9,14 +9,14 @@ use Rattle.script_shapers.specs.declared.shaper.ScriptShaper.{ScriptShaper}
 use Rattle.shaping_passes.proofs.NormalizationPartsLemmas.{decomposed_is, composed_is}
 use Rattle.font_shaper.specs.FontRules.{with_zero, parts_of_char, composite_of}
 
-pub parts_are : (shaper : ScriptShaper) (c : ℕ) (r : Option (ℕ × Option ℕ))
+pub with_zero-parts_of_char : (shaper : ScriptShaper) (c : ℕ) (r : Option (ℕ × Option ℕ))
     → (has_own_parts shaper c ≡ true → r ≡ own_parts shaper c)
     → (has_own_parts shaper c ≡ false → (a b : ℕ) → HangulComposes c a b → r ≡ Some (a, Some b))
     → (has_own_parts shaper c ≡ false → ((a b : ℕ) → ¬ HangulComposes c a b)
     → r ≡ mapping.parts_of (canonical_mapping c))
     → with_zero r ≡ parts_of_char shaper c
 unfolding parts_of_char
-parts_are shaper c r own hangul table = elim (cases_Bool (has_own_parts shaper c)) [
+with_zero-parts_of_char shaper c r own hangul table = elim (cases_Bool (has_own_parts shaper c)) [
   | inl is_own ↦ ap with_zero (own is_own) ∙ sym (cond-true _ _ _ is_own)
   | inr is_not ↦ decomposed_is c (with_zero (mapping.parts_of (canonical_mapping c))) (with_zero r)
       (λ a b made. ap with_zero (hangul is_not a b made)) (λ none. ap with_zero (table is_not none))

@@ -23,10 +23,10 @@ length-least_from [] = refl
 length-least_from (c ∷ cs) = ap suc (length-least_from cs)
 
 -- the first of them is the least of all
-head-least_from : (cs : List ℕ) → 0 < length cs → get_or (least_from cs) 0 0 ≡ least cs
+get_or-least_from : (cs : List ℕ) → 0 < length cs → get_or (least_from cs) 0 0 ≡ least cs
 unfolding least_from
-head-least_from [] some = absurd (omega arith)
-head-least_from (c ∷ cs) some = refl
+get_or-least_from [] some = absurd (omega arith)
+get_or-least_from (c ∷ cs) some = refl
 
 least-cons : (c : ℕ) (cs : List ℕ) → 0 < length cs → least (c ∷ cs) ≡ min c (least cs)
 unfolding least
@@ -43,7 +43,7 @@ never_falls-least_from (c ∷ cs) zero (suc j) le in_cs =
     omega (
       arith,
       never_falls-least_from cs 0 j (omega arith) (omega arith),
-      head-least_from cs some,
+      get_or-least_from cs some,
       least-cons c cs some,
     )
 never_falls-least_from (c ∷ cs) (suc i) zero le in_cs = absurd (omega arith)
@@ -69,31 +69,32 @@ unfolding least_from
 least-least_from [] = refl
 least-least_from (c ∷ cs) =
     let n = length-least_from (c ∷ cs) in
-    let head = head-least_from (c ∷ cs) (omega arith) in
+    let head = get_or-least_from (c ∷ cs) (omega arith) in
     least_is (least_from (c ∷ cs)) 0 (least (c ∷ cs)) (omega arith) head
     (λ j in_cs. omega (arith, never_falls-least_from (c ∷ cs) 0 j (omega arith) in_cs, head))
 
 -- ---- the glyphs
 
-in_front : (g : hb_glyph_info_t) (l : List hb_glyph_info_t) → clusters (rising l) ≡ least_from (clusters l)
+cluster-in_front_of : (g : hb_glyph_info_t) (l : List hb_glyph_info_t) → clusters (rising l) ≡ least_from (clusters l)
     → (in_front_of (rising l) g).cluster ≡ least (clusters (g ∷ l))
 unfolding rising least least_from
-in_front g [] same = refl
-in_front g (h ∷ l) same =
+cluster-in_front_of g [] same = refl
+cluster-in_front_of g (h ∷ l) same =
     cluster-with_cluster _ _ g ∙ ap (λ cs. min g.cluster (get_or cs 0 0)) same
 
 pub clusters-rising : (l : List hb_glyph_info_t) → clusters (rising l) ≡ least_from (clusters l)
 unfolding rising least_from
 clusters-rising [] = refl
 clusters-rising (g ∷ l) =
-    ap (λ c. c ∷ clusters (rising l)) (in_front g l (clusters-rising l))
+    ap (λ c. c ∷ clusters (rising l)) (cluster-in_front_of g l (clusters-rising l))
     ∙ ap (λ cs. least (clusters (g ∷ l)) ∷ cs) (clusters-rising l)
 
 -- glyphs whose clusters never fall stay
-front_stays : (g : hb_glyph_info_t) (l : List hb_glyph_info_t) → NeverFalls (clusters (g ∷ l)) → in_front_of l g ≡ g
+in_front_of-stays : (g : hb_glyph_info_t) (l : List hb_glyph_info_t) → NeverFalls (clusters (g ∷ l))
+    → in_front_of l g ≡ g
 unfolding with_cluster
-front_stays g [] up = refl
-front_stays g (h ∷ l) up =
+in_front_of-stays g [] up = refl
+in_front_of-stays g (h ∷ l) up =
     let le : g.cluster ≤ h.cluster = up 0 1 (omega arith) (omega arith) in
     let e : g.cluster ≡ min g.cluster h.cluster = omega (arith, le) in
     cond-true _ _ _ (eq-eqb _ _ e)
@@ -103,7 +104,7 @@ unfolding rising
 rising_stays [] up = refl
 rising_stays (g ∷ l) up =
     let rest : rising l ≡ l = rising_stays l (λ i j le in_l. up (suc i) (suc j) (omega arith) (omega arith)) in
-    ap (λ m. in_front_of m g ∷ m) rest ∙ ap (λ h. h ∷ l) (front_stays g l up)
+    ap (λ m. in_front_of m g ∷ m) rest ∙ ap (λ h. h ∷ l) (in_front_of-stays g l up)
 
 -- ---- the walk from the last glyph to the first
 
@@ -112,16 +113,16 @@ pub record IsRaisedFrom (k : ℕ) (old now : List hb_glyph_info_t) : Type 0 wher
   pub front : take k now ≡ take k old
   pub behind : drop k now ≡ rising (drop k old)
 
-short_stays : (l : List hb_glyph_info_t) → length l ≤ 1 → rising l ≡ l
+rising-short : (l : List hb_glyph_info_t) → length l ≤ 1 → rising l ≡ l
 unfolding rising
-short_stays [] few = refl
-short_stays (g ∷ []) few = refl
-short_stays (g ∷ h ∷ l) few = absurd (omega arith)
+rising-short [] few = refl
+rising-short (g ∷ []) few = refl
+rising-short (g ∷ h ∷ l) few = absurd (omega arith)
 
 pub raised_none : (l : List hb_glyph_info_t) → IsRaisedFrom (length l - 1) l l
 raised_none l = record {
   front = refl;
-  behind = sym (short_stays (drop (length l - 1) l) (omega (arith, length-drop (length l - 1) l)));
+  behind = sym (rising-short (drop (length l - 1) l) (omega (arith, length-drop (length l - 1) l)));
 }
 
 pub raised_all : (k : ℕ) (old now : List hb_glyph_info_t) → k ≤ 0 → IsRaisedFrom k old now → now ≡ rising old

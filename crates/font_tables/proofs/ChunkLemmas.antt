@@ -27,15 +27,16 @@ number_16-take size at bytes fits inside =
     grind (arith, long, high, low)
 
 -- the number of 16 bits in a chunk is that of the table
-pub chunk_16 : (size count row place : ℕ) (bytes : List ℕ) → row < count → count * size ≤ length bytes → place + 2 ≤ size
+pub option_and_then-chunk_16 : (size count row place : ℕ) (bytes : List ℕ) → row < count → count * size ≤ length bytes
+    → place + 2 ≤ size
     → option_and_then (λ chunk. number_16 chunk place) (slice_get (first_chunks size count bytes) row)
     ≡ number_16 bytes (place + size * row)
-chunk_16 size zero row place bytes less inside fits = absurd (omega arith)
-chunk_16 size (suc count) zero place bytes less inside fits =
+option_and_then-chunk_16 size zero row place bytes less inside fits = absurd (omega arith)
+option_and_then-chunk_16 size (suc count) zero place bytes less inside fits =
     number_16-take size place bytes fits (omega arith) ∙ ap (number_16 bytes) (omega arith)
-chunk_16 size (suc count) (suc row) place bytes less inside fits =
+option_and_then-chunk_16 size (suc count) (suc row) place bytes less inside fits =
     let shorter : count * size ≤ length (drop size bytes) = simp length-drop (omega arith) in
-    let rest = chunk_16 size count row place (drop size bytes) (omega arith) shorter fits in
+    let rest = option_and_then-chunk_16 size count row place (drop size bytes) (omega arith) shorter fits in
     rest ∙ number_16-drop size (place + size * row) bytes ∙ ap (number_16 bytes) (simp mul-suc (omega arith))
 
 pub number_32-drop : (first at : ℕ) (bytes : List ℕ) → number_32 (drop first bytes) at ≡ number_32 bytes (first + at)
@@ -60,15 +61,16 @@ number_32-take size at bytes fits inside =
     grind (arith, long, one, two, three, four)
 
 -- the number of 32 bits in a chunk is that of the table
-pub chunk_32 : (size count row place : ℕ) (bytes : List ℕ) → row < count → count * size ≤ length bytes → place + 4 ≤ size
+pub option_and_then-chunk_32 : (size count row place : ℕ) (bytes : List ℕ) → row < count → count * size ≤ length bytes
+    → place + 4 ≤ size
     → option_and_then (λ chunk. number_32 chunk place) (slice_get (first_chunks size count bytes) row)
     ≡ number_32 bytes (place + size * row)
-chunk_32 size zero row place bytes less inside fits = absurd (omega arith)
-chunk_32 size (suc count) zero place bytes less inside fits =
+option_and_then-chunk_32 size zero row place bytes less inside fits = absurd (omega arith)
+option_and_then-chunk_32 size (suc count) zero place bytes less inside fits =
     number_32-take size place bytes fits (omega arith) ∙ ap (number_32 bytes) (omega arith)
-chunk_32 size (suc count) (suc row) place bytes less inside fits =
+option_and_then-chunk_32 size (suc count) (suc row) place bytes less inside fits =
     let shorter : count * size ≤ length (drop size bytes) = simp length-drop (omega arith) in
-    let rest = chunk_32 size count row place (drop size bytes) (omega arith) shorter fits in
+    let rest = option_and_then-chunk_32 size count row place (drop size bytes) (omega arith) shorter fits in
     rest ∙ number_32-drop size (place + size * row) bytes ∙ ap (number_32 bytes) (simp mul-suc (omega arith))
 
 -- rows with the same last keys
@@ -97,7 +99,8 @@ rows_from_16 start size count place at bytes rest chunks behind are inside fits 
   same = λ row less.
       let long : length rest ≡ length bytes - start = rw behind (length-drop start bytes) in
       let less_than : row < length rest / size = rw long (omega arith) in
-      let in_rest = chunk_16 size (length rest / size) row place rest less_than (div-mul-le_self _ _) fits in
+      let in_rest =
+      option_and_then-chunk_16 size (length rest / size) row place rest less_than (div-mul-le_self _ _) fits in
       let whole : number_16 rest (place + size * row) ≡ number_16 bytes (start + (place + size * row)) =
       rw behind (number_16-drop start (place + size * row) bytes) in
       let there : start + (place + size * row) ≡ at + size * row = omega arith in
@@ -113,7 +116,8 @@ rows_from_32 start size count place at bytes rest chunks behind are inside fits 
   same = λ row less.
       let long : length rest ≡ length bytes - start = rw behind (length-drop start bytes) in
       let less_than : row < length rest / size = rw long (omega arith) in
-      let in_rest = chunk_32 size (length rest / size) row place rest less_than (div-mul-le_self _ _) fits in
+      let in_rest =
+      option_and_then-chunk_32 size (length rest / size) row place rest less_than (div-mul-le_self _ _) fits in
       let whole : number_32 rest (place + size * row) ≡ number_32 bytes (start + (place + size * row)) =
       rw behind (number_32-drop start (place + size * row) bytes) in
       let there : start + (place + size * row) ≡ at + size * row = omega arith in
@@ -128,10 +132,11 @@ chunk_count start size count bytes rest behind is =
     rw long at is
 
 -- the number of 16 bits in a row that is read
-pub row_16 : (start size row place at : ℕ) (bytes rest chunk : List ℕ) (chunks : List (List ℕ)) → rest ≡ drop start bytes
+pub number_16-row : (start size row place at : ℕ) (bytes rest chunk : List ℕ) (chunks : List (List ℕ))
+    → rest ≡ drop start bytes
     → chunks ≡ first_chunks size (length rest / size) rest → row < length chunks → row < (length bytes - start) / size
     → place + 2 ≤ size → start + place ≡ at → number_16 (get_or chunks row chunk) place ≡ number_16 bytes (at + size * row)
-row_16 start size row place at bytes rest chunk chunks behind are read inside fits begins =
+number_16-row start size row place at bytes rest chunk chunks behind are read inside fits begins =
     let rows = rows_from_16 start size (suc row) place at bytes rest chunks behind are (omega arith) fits begins in
     let there = slice_get-get_or chunks row chunk read in
     rw there at (rows.same row (omega arith))

@@ -64,9 +64,9 @@ Starts-push strings starts more n at size next s there is items place = record {
       rw (add-one, ← same) (string_start-next strings n at (s.here ∙ there));
 }
 
-pub Starts-end : (strings starts : List ℕ) (n at : ℕ) → Starts strings starts n at → string_at strings at ≡ None
+pub slice_get-starts : (strings starts : List ℕ) (n at : ℕ) → Starts strings starts n at → string_at strings at ≡ None
     → (i : ℕ) → slice_get starts i ≡ string_start strings i
-Starts-end strings starts n at s none i =
+slice_get-starts strings starts n at s none i =
     elim (cases_lt i n) [
       | inl below ↦ s.so_far i below
       | inr past ↦

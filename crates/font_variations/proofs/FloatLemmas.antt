@@ -6,36 +6,36 @@ use Rattle.std.specs.Float.{float_zero, two_to}
 use Rattle.std.specs.Float.Ieee.{of_bits, of_fields, odd, binary32}
 use Rattle.font_variations.specs.Rounding.{half}
 
-half_is : of_bits binary32 0x3f00_0000 ≡ half
+of_bits-half : of_bits binary32 0x3f00_0000 ≡ half
 unfolding of_bits of_fields odd
-half_is = refl
+of_bits-half = refl
 
 -- one half
 pub of_bits_half : (b : ℕ) → b ≡ 0x3f00_0000 → of_bits binary32 b ≡ half
-of_bits_half b e = ap (of_bits binary32) e ∙ half_is
+of_bits_half b e = ap (of_bits binary32) e ∙ of_bits-half
 
-zero_is : of_bits binary32 0 ≡ float_zero
+of_bits-zero : of_bits binary32 0 ≡ float_zero
 unfolding of_bits of_fields odd
-zero_is = refl
+of_bits-zero = refl
 
 -- nothing
 pub of_bits_zero : (b : ℕ) → b ≡ 0 → of_bits binary32 b ≡ float_zero
-of_bits_zero b e = ap (of_bits binary32) e ∙ zero_is
+of_bits_zero b e = ap (of_bits binary32) e ∙ of_bits-zero
 
-power_14_is : of_bits binary32 0x4680_0000 ≡ two_to 14
+of_bits-power_14 : of_bits binary32 0x4680_0000 ≡ two_to 14
 unfolding of_bits of_fields odd
-power_14_is = refl
+of_bits-power_14 = refl
 
-power_16_is : of_bits binary32 0x4780_0000 ≡ two_to 16
+of_bits-power_16 : of_bits binary32 0x4780_0000 ≡ two_to 16
 unfolding of_bits of_fields odd
-power_16_is = refl
+of_bits-power_16 = refl
 
 -- 16384 and 65536
 pub of_bits_power_14 : (b : ℕ) → b ≡ 0x4680_0000 → of_bits binary32 b ≡ two_to 14
-of_bits_power_14 b e = ap (of_bits binary32) e ∙ power_14_is
+of_bits_power_14 b e = ap (of_bits binary32) e ∙ of_bits-power_14
 
 pub of_bits_power_16 : (b : ℕ) → b ≡ 0x4780_0000 → of_bits binary32 b ≡ two_to 16
-of_bits_power_16 b e = ap (of_bits binary32) e ∙ power_16_is
+of_bits_power_16 b e = ap (of_bits binary32) e ∙ of_bits-power_16
 
 pub ruleset powers = (of_bits_power_14, of_bits_power_16, to_z-of_z)
 

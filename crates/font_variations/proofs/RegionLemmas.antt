@@ -32,11 +32,12 @@ has_zero_from f (suc n) i less nothing =
     ]
 
 -- a region one of whose axes leaves nothing
-pub region_nothing : (list : List ℕ) (region : ℕ) (coordinates : List ℤ)
+pub region_scalar-nothing : (list : List ℕ) (region : ℕ) (coordinates : List ℤ)
     → has_zero (factor list region coordinates) (unwrap_or (number_16 list 0) 0) ≡ true
     → region_scalar list region coordinates ≡ float_zero
 unfolding region_scalar
-region_nothing list region coordinates nothing = rw nothing (if_same (nat_lt region (unwrap_or (number_16 list 2) 0)) float_zero)
+region_scalar-nothing list region coordinates nothing =
+    rw nothing (if_same (nat_lt region (unwrap_or (number_16 list 2) 0)) float_zero)
 
 -- one more factor that is something
 pub has_zero_more : (f : ℕ → Float) (i n : ℕ) → n ≡ i + 1 → has_zero f i ≡ false → eq (f i) float_zero ≡ false → has_zero f n ≡ false
@@ -49,24 +50,26 @@ product_more f i n e = rw (e, add-one) refl
 pub ruleset factors = (has_zero_from, has_zero_more, product_more, of_bits_zero)
 
 -- the scalar on each side of the peak
-pub inner_rises : (start peak end at : ℤ) → is_outside start end at ≡ false → int_lt at peak ≡ true
+pub inner_scalar-rises : (start peak end at : ℤ) → is_outside start end at ≡ false → int_lt at peak ≡ true
     → inner_scalar start peak end at ≡ div binary32 (float (at -ℤ start)) (float (peak -ℤ start))
-inner_rises start peak end at inside before = rw (inside, before) refl
+inner_scalar-rises start peak end at inside before = rw (inside, before) refl
 
-pub inner_falls : (start peak end at : ℤ) → is_outside start end at ≡ false → int_lt at peak ≡ false
+pub inner_scalar-falls : (start peak end at : ℤ) → is_outside start end at ≡ false → int_lt at peak ≡ false
     → inner_scalar start peak end at ≡ div binary32 (float (end -ℤ at)) (float (end -ℤ peak))
-inner_falls start peak end at inside behind = rw (inside, behind) refl
+inner_scalar-falls start peak end at inside behind = rw (inside, behind) refl
 
 -- a scalar that counts in full, and one between the default and the peak
-pub axis_disordered : (start peak end at : ℤ) → is_at_peak peak at ≡ false → int_eq at (pos 0) ≡ false → is_disordered start peak end ≡ true
+pub axis_scalar-disordered : (start peak end at : ℤ) → is_at_peak peak at ≡ false → int_eq at (pos 0) ≡ false
+    → is_disordered start peak end ≡ true
     → axis_scalar start peak end at ≡ float_one
 unfolding axis_scalar
-axis_disordered start peak end at other some disordered = rw (other, some, disordered) refl
+axis_scalar-disordered start peak end at other some disordered = rw (other, some, disordered) refl
 
-pub axis_inner : (start peak end at : ℤ) → is_at_peak peak at ≡ false → int_eq at (pos 0) ≡ false → is_disordered start peak end ≡ false
+pub axis_scalar-inner : (start peak end at : ℤ) → is_at_peak peak at ≡ false → int_eq at (pos 0) ≡ false
+    → is_disordered start peak end ≡ false
     → axis_scalar start peak end at ≡ inner_scalar start peak end at
 unfolding axis_scalar
-axis_inner start peak end at other some ordered = rw (other, some, ordered) refl
+axis_scalar-inner start peak end at other some ordered = rw (other, some, ordered) refl
 
 eqb_suc_zero : (n : ℕ) → int_eq (pos (suc n)) (pos 0) ≡ false
 eqb_suc_zero n = grind (arith, common_steps)

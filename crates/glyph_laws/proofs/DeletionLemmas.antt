@@ -17,7 +17,7 @@ use Rattle.glyph_lists.proofs.ClustersLemmas.{length-clusters, range_least_more,
 use Rattle.glyph_lists.proofs.RunsLemmas.{run_start-le, run_start_more, run_start-append, widened_start_run}
 use Rattle.glyph_lists.proofs.RunsLemmas.{widened_end_plain}
 use Rattle.glyph_lists.proofs.MergesLemmas.{cluster-with_cluster, with_cluster_others}
-use Rattle.glyph_lists.proofs.RunMergeLemmas.{run_merge_from}
+use Rattle.glyph_lists.proofs.RunMergeLemmas.{map_range_is_run_merge}
 use Rattle.glyph_lists.proofs.LengthsLemmas.{length-merge_or_mark}
 use Rattle.glyph_laws.proofs.OrderLemmas.{run_merge_keeps_order, run_merge_keeps_coarse}
 use Rattle.glyph_laws.proofs.ReadingsLemmas.{Reading, at, reading_dropped, reading_alike, monotone_reading}
@@ -53,13 +53,13 @@ retold_alike c v w l r a in_l =
     (λ j _. each (λ g. g.var2) (λ g. (with_cluster_others c w g).2 ∙ sym (with_cluster_others c v g).2) j)
 
 -- the merge of the last glyph of `out` with a head of a lower cluster
-merged_back : (out : List hb_glyph_info_t) (x : hb_glyph_info_t) (rest : List hb_glyph_info_t) → 0 < length out
+run_merge-back : (out : List hb_glyph_info_t) (x : hb_glyph_info_t) (rest : List hb_glyph_info_t) → 0 < length out
     → x.cluster < last_cluster out
     → run_merge (out ++ x ∷ rest) (length out - 1) (length out + 1) 0
     ≡ map_range (with_cluster x.cluster 0) out (run_start (clusters out) (last_cluster out) 0 (length out)) (length out)
     ++ with_cluster x.cluster 0 x ∷ rest
 unfolding last_cluster
-merged_back out x rest some low =
+run_merge-back out x rest some low =
     let n = length out in
     let l = out ++ x ∷ rest in
     let cs = clusters l in
@@ -93,7 +93,7 @@ merged_back out x rest some low =
     let z1 : a - n ≡ 0 = omega arith in
     let z2 : n + 1 - n ≡ 1 = omega arith in
     let k : min (n + 1) n ≡ n = omega arith in
-    sym (run_merge_from l (n - 1) (n + 1) 0 c a (n + 1) (omega arith) m start end)
+    sym (map_range_is_run_merge l (n - 1) (n + 1) 0 c a (n + 1) (omega arith) m start end)
     ∙ map_range-append f out (x ∷ rest) a (n + 1) (omega arith)
     ∙ ap (λ b. map_range f out a (n + 1) ++ map_range f (x ∷ rest) b (n + 1 - n)) z1
     ∙ ap (λ b. map_range f out a (n + 1) ++ map_range f (x ∷ rest) 0 b) z2
@@ -123,7 +123,7 @@ module _ (P : List hb_glyph_info_t → Type 0)
   retold_keeps out x rest h some low =
       let a = run_start (clusters out) (last_cluster out) 0 (length out) in
       let l2 : P (map_range (with_cluster x.cluster 0) out a (length out) ++ with_cluster x.cluster 0 x ∷ rest) =
-      subst P (merged_back out x rest some low)
+      subst P (run_merge-back out x rest some low)
       (merges _ (length out - 1) (length out + 1) (omega (arith, length-append out (x ∷ rest))) h) in
       reads _ _ (retold_alike x.cluster 0 x.mask out rest a
       (run_start-le (clusters out) (last_cluster out) 0 (length out)))

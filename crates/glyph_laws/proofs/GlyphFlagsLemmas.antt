@@ -26,13 +26,13 @@ by_bits : (mask : ℕ) → (bit_at mask 0 ≡ 1 → bit_at mask 1 ≡ 1) → Bre
 by_bits mask h = λ is_set. (bit_set_by_shift mask 1).0
     (shr_and_one mask 1 ∙ h (sym (shr_and_one mask 0) ∙ (bit_set_by_shift mask 0).1 is_set))
 
-bits_of : (mask : ℕ) → BreakImpliesConcat mask → bit_at mask 0 ≡ 1 → bit_at mask 1 ≡ 1
-bits_of mask h e =
+bit_at-mask : (mask : ℕ) → BreakImpliesConcat mask → bit_at mask 0 ≡ 1 → bit_at mask 1 ≡ 1
+bit_at-mask mask h e =
     sym (shr_and_one mask 1) ∙ (bit_set_by_shift mask 1).1 (h ((bit_set_by_shift mask 0).0 (shr_and_one mask 0 ∙ e)))
 
 -- the low three bits become those of another mask
 pub flags_replaced : (old new : ℕ) → BreakImpliesConcat new → BreakImpliesConcat (old / 8 * 8 + new % 8)
-flags_replaced old new h = by_bits (old / 8 * 8 + new % 8) (λ e. omega (arith, bits_of new h (omega arith)))
+flags_replaced old new h = by_bits (old / 8 * 8 + new % 8) (λ e. omega (arith, bit_at-mask new h (omega arith)))
 
 -- the bits of another mask are added
 pub flags_added : (old new : ℕ) → BreakImpliesConcat old → BreakImpliesConcat new → BreakImpliesConcat (bit_or old new)
@@ -44,8 +44,8 @@ flags_added old new h h2 =
     let small = bit_at-lt old 1 in
     let small2 = bit_at-lt new 1 in
     elim (cases_lt (bit_at old 0) 1) [
-      | inl none ↦ omega (arith, bits_of new h2 (omega (arith, bit_at-lt new 0)))
-      | inr some ↦ omega (arith, bits_of old h (omega (arith, bit_at-lt old 0)))
+      | inl none ↦ omega (arith, bit_at-mask new h2 (omega (arith, bit_at-lt new 0)))
+      | inr some ↦ omega (arith, bit_at-mask old h (omega (arith, bit_at-lt old 0)))
     ])
 
 -- the bits that scans and concat calls add

@@ -30,16 +30,16 @@ least_from_ends xs m (inr down) some a z low =
     let w = least-stands xs some in
     omega (arith, down w.0 (length xs - 1) (omega (arith, w.1)) (omega arith), w.2)
 
-ends_of_one : (c z : ℕ) → least (c ∷ z ∷ []) ≡ min c z
+least-one_end : (c z : ℕ) → least (c ∷ z ∷ []) ≡ min c z
 unfolding least
-ends_of_one c z = refl
+least-one_end c z = refl
 
-ends_of_two : (c y d z : ℕ) → least (c ∷ y ∷ d ∷ z ∷ []) ≡ min c (min y (min d z))
+least-two_ends : (c y d z : ℕ) → least (c ∷ y ∷ d ∷ z ∷ []) ≡ min c (min y (min d z))
 unfolding least
-ends_of_two c y d z = refl
+least-two_ends c y d z = refl
 
-last_at : (c : ℕ) (cs : List ℕ) → get_or (c ∷ cs) (length (c ∷ cs) - 1) 0 ≡ get_or (c ∷ cs) (length cs) 0
-last_at c cs = let n : suc (length cs) - 1 ≡ length cs = omega arith in ap (λ j. get_or (c ∷ cs) j 0) n
+get_or-last : (c : ℕ) (cs : List ℕ) → get_or (c ∷ cs) (length (c ∷ cs) - 1) 0 ≡ get_or (c ∷ cs) (length cs) 0
+get_or-last c cs = let n : suc (length cs) - 1 ≡ length cs = omega arith in ap (λ j. get_or (c ∷ cs) j 0) n
 
 -- the least of the ends of two lists, of which either may be empty, is the least of all
 pub least_of_ends : (cs ds : List ℕ) → NeverFalls (cs ++ ds) ⊎ NeverRises (cs ++ ds)
@@ -47,13 +47,13 @@ pub least_of_ends : (cs ds : List ℕ) → NeverFalls (cs ++ ds) ⊎ NeverRises 
 unfolding ends
 least_of_ends [] [] mono = refl
 least_of_ends [] (d ∷ ds) mono =
-    let z = last_at d ds in
-    let e = ends_of_one d (get_or (d ∷ ds) (length ds) 0) in
+    let z = get_or-last d ds in
+    let e = least-one_end d (get_or (d ∷ ds) (length ds) 0) in
     least_from_ends (d ∷ ds) _ mono (omega arith) (omega arith) (omega arith)
     (omega (arith, least-le (d ∷ ds) 0 (omega arith), least-le (d ∷ ds) (length ds) (omega arith)))
 least_of_ends (c ∷ cs) [] mono =
-    let z = last_at c cs in
-    let e = ends_of_one c (get_or (c ∷ cs) (length cs) 0) in
+    let z = get_or-last c cs in
+    let e = least-one_end c (get_or (c ∷ cs) (length cs) 0) in
     let P : List ℕ → Type 0 = λ ys. NeverFalls ys ⊎ NeverRises ys in
     least_from_ends (c ∷ cs) _ (subst P (append-nil (c ∷ cs)) mono) (omega arith) (omega arith) (omega arith)
     (omega (arith, least-le (c ∷ cs) 0 (omega arith), least-le (c ∷ cs) (length cs) (omega arith)))
@@ -70,7 +70,7 @@ least_of_ends (c ∷ cs) (d ∷ ds) mono =
     let z : get_or xs (length xs - 1) 0 ≡ get_or (d ∷ ds) (length ds) 0 =
     get_or-append_right (c ∷ cs) (d ∷ ds) (suc (length cs)) (length xs - 1) 0 refl (omega arith)
     ∙ ap (λ j. get_or (d ∷ ds) j 0) i1 in
-    let e = ends_of_two c (get_or (c ∷ cs) (length cs) 0) d (get_or (d ∷ ds) (length ds) 0) in
+    let e = least-two_ends c (get_or (c ∷ cs) (length cs) 0) d (get_or (d ∷ ds) (length ds) 0) in
     least_from_ends xs _ mono (omega arith) (omega arith) (omega arith)
     (omega (
       arith,
@@ -95,12 +95,12 @@ abbrev other : ℕ → ℕ → hb_glyph_info_t → hb_glyph_info_t
 other b m g = cond (eqb g.cluster m) g (with_glyph_flags b g)
 
 -- the range holds just the glyphs that are not in m
-marks_by_range : (r : List hb_glyph_info_t) (bits m a z : ℕ) → a ≤ z
+map_range-marks : (r : List hb_glyph_info_t) (bits m a z : ℕ) → a ≤ z
     → ((k : ℕ) → a ≤ k → k < z → k < length r → eqb (get_or (clusters r) k 0) m ≡ false)
     → ((k : ℕ) → k < a → k < length r → eqb (get_or (clusters r) k 0) m ≡ true)
     → ((k : ℕ) → z ≤ k → k < length r → eqb (get_or (clusters r) k 0) m ≡ true)
     → map_range (with_glyph_flags bits) r a z ≡ mark_others bits m r
-marks_by_range r bits m a z up within before after =
+map_range-marks r bits m a z up within before after =
     let n = length-map_range (with_glyph_flags bits) r a z up in
     same_lists _ _ (n ∙ sym (length-map r (other bits m)))
     (λ k d h.
@@ -128,7 +128,7 @@ mark_part_is_mark_others bits m r together =
     let p : ℕ → Bool = λ c. not (eqb c m) in
     elim (cases_Bool (eqb (get_or cs 0 0) m)) [
       | inl first ↦ cond-true _ _ _ first
-          ∙ marks_by_range r bits m (length r - suffix_len p cs) (length r) (omega arith)
+          ∙ map_range-marks r bits m (length r - suffix_len p cs) (length r) (omega arith)
           (λ k h h2 h3. eqb_from_not _ (suffix_passes p cs k 0 (omega arith) (omega arith)))
           (λ k h h2.
           let e = eqb-true _ m (eqb_from_not_false _ (suffix_stops p cs 0 (omega arith))) in
@@ -138,7 +138,7 @@ mark_part_is_mark_others bits m r together =
       | inr no_first ↦ cond-false _ _ _ no_first ∙
           elim (cases_Bool (eqb (get_or cs (length r - 1) 0) m)) [
             | inl last ↦ cond-true _ _ _ last
-                ∙ marks_by_range r bits m 0 (prefix_len p cs) (omega arith)
+                ∙ map_range-marks r bits m 0 (prefix_len p cs) (omega arith)
                 (λ k h h2 h3. eqb_from_not _ (prefix_len_passes p cs k 0 h2))
                 (λ k h h2. absurd (omega arith))
                 (λ k h h2.
@@ -175,10 +175,10 @@ IsContiguous-right r s mono = λ i j k i_j j_k in_s alike.
     (at i ∙ alike ∙ sym (at k)) ∙ at i
 
 -- the scan of two parts, and the scan of one
-pub end_mark_two_is_mark : (bits : ℕ) (r s : List hb_glyph_info_t) → IsMonotone (r ++ s)
+pub append-mark_part : (bits : ℕ) (r s : List hb_glyph_info_t) → IsMonotone (r ++ s)
     → mark_part bits (ends_least r s) r ++ mark_part bits (ends_least r s) s ≡ mark bits (r ++ s)
 unfolding ends_least mark
-end_mark_two_is_mark bits r s mono =
+append-mark_part bits r s mono =
     let m = least (ends (clusters r) ++ ends (clusters s)) in
     let of_both : clusters (r ++ s) ≡ clusters r ++ clusters s = map-append (λ g. g.cluster) r s in
     let P : List ℕ → Type 0 = λ cs. NeverFalls cs ⊎ NeverRises cs in

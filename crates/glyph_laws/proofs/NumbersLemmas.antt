@@ -15,7 +15,8 @@ use Rattle.glyph_lists.specs.Deletion.{is_not_empty, has_neighbour_in, lowers_ru
 use Rattle.glyph_lists.proofs.PartsLemmas.{length-map_range, map_range-before, map_range-within}
 use Rattle.glyph_lists.proofs.ClustersLemmas.{get_or-clusters, length-clusters, occurs_at, occurs_place, least-le}
 use Rattle.glyph_lists.proofs.ClustersLemmas.{least-stands, least_is, range_least-le, range_least-stands}
-use Rattle.glyph_lists.proofs.RunsLemmas.{run_start-le, run_start-all, run_start_more, run_end-all, widened_start-le}
+use Rattle.glyph_lists.proofs.RunsLemmas.{run_start-le, get_or-run_start, run_start_more, get_or-run_end}
+use Rattle.glyph_lists.proofs.RunsLemmas.{widened_start-le}
 use Rattle.glyph_lists.proofs.RunsLemmas.{widened_end-ge, widened_start_plain, widened_start_run, widened_end_plain}
 use Rattle.glyph_lists.proofs.RunsLemmas.{widened_end_run}
 use Rattle.glyph_lists.proofs.MergesLemmas.{cluster-with_cluster, run_merge_outside, run_merge_inside, run_merge_short}
@@ -74,7 +75,7 @@ module _ (cs : List ℕ) (p q floor : ℕ) (some : p < q) (in_l : q ≤ length c
         | inl lt ↦ elim (cases_Bool (eqb (get_or cs p 0) m)) [
           | inl e ↦ absurd (omega (arith, widened_start_plain cs p q floor (eqb-true _ _ e)))
           | inr e ↦
-              let run : get_or cs k 0 ≡ get_or cs p 0 = run_start-all cs (get_or cs p 0) floor p k (omega arith)
+              let run : get_or cs k 0 ≡ get_or cs p 0 = get_or-run_start cs (get_or cs p 0) floor p k (omega arith)
               (omega (arith, widened_start_run cs p q floor (eqb-false _ _ e))) lt in
               omega (arith, run, range_least-le cs p q in_l p (omega arith) some)
         ]
@@ -84,7 +85,7 @@ module _ (cs : List ℕ) (p q floor : ℕ) (some : p < q) (in_l : q ≤ length c
             | inl e ↦ absurd (omega (arith, widened_end_plain cs p q (eqb-true _ _ e)))
             | inr e ↦
                 let run : get_or cs k 0 ≡ get_or cs (q - 1) 0 =
-                run_end-all cs (get_or cs (q - 1) 0) q k ge2
+                get_or-run_end cs (get_or cs (q - 1) 0) q k ge2
                 (omega (arith, widened_end_run cs p q (eqb-false _ _ e))) in
                 omega (arith, run, range_least-le cs p q in_l (q - 1) (omega arith) (omega arith))
           ]
@@ -297,7 +298,7 @@ module _ (c : ℕ) (out : List hb_glyph_info_t) (x : hb_glyph_info_t) (rest : Li
             ap (λ g. g.cluster) (map_range-before f out a n (omega arith) w.0 zero_glyph lt w.1) ∙ w.2,
           )
           | inr ge ↦
-              let e : get_or cs w.0 0 ≡ last = run_start-all cs last 0 n w.0 (omega arith) ge w.1 in
+              let e : get_or cs w.0 0 ≡ last = get_or-run_start cs last 0 n w.0 (omega arith) ge w.1 in
               absurd (omega (arith, e, get_or-clusters out w.0 zero_glyph w.1, w.2, low_x))
         ]
         | inr b ↦ elim b [

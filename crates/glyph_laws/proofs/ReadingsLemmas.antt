@@ -25,9 +25,9 @@ pub record Reading (xs ys : List hb_glyph_info_t) : Type 0 where
   pub cluster : (j : ℕ) → j < length ys → (at ys j).cluster ≡ (at xs (from j)).cluster
   pub var2 : (j : ℕ) → j < length ys → (at ys j).var2 ≡ (at xs (from j)).var2
 
-cluster_read : (xs ys : List hb_glyph_info_t) (r : Reading xs ys) (j : ℕ) → j < length ys
+get_or-read : (xs ys : List hb_glyph_info_t) (r : Reading xs ys) (j : ℕ) → j < length ys
     → get_or (clusters ys) j 0 ≡ get_or (clusters xs) (r.from j) 0
-cluster_read xs ys r j h =
+get_or-read xs ys r j h =
     get_or-clusters ys j zero_glyph h ∙ r.cluster j h
     ∙ sym (get_or-clusters xs (r.from j) zero_glyph (r.within j h))
 
@@ -38,8 +38,8 @@ rising_reading xs ys r up i j h h2 =
     let n2 = length-clusters ys in
     omega (
       arith,
-      cluster_read xs ys r i (omega arith),
-      cluster_read xs ys r j (omega arith),
+      get_or-read xs ys r i (omega arith),
+      get_or-read xs ys r j (omega arith),
       up (r.from i) (r.from j) (r.up i j h) (omega (arith, r.within j (omega arith))),
     )
 
@@ -49,8 +49,8 @@ falling_reading xs ys r down i j h h2 =
     let n2 = length-clusters ys in
     omega (
       arith,
-      cluster_read xs ys r i (omega arith),
-      cluster_read xs ys r j (omega arith),
+      get_or-read xs ys r i (omega arith),
+      get_or-read xs ys r j (omega arith),
       down (r.from i) (r.from j) (r.up i j h) (omega (arith, r.within j (omega arith))),
     )
 

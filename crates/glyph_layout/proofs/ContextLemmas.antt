@@ -17,7 +17,7 @@ use Rattle.glyph_layout.specs.declared.walk.Found.TheVariants.{At, Other, End}
 use Rattle.glyph_layout.specs.declared.walk.Skip.TheVariants.{No}
 use Rattle.glyph_layout.specs.declared.wanted.Wanted.{Wanted}
 use Rattle.glyph_layout.specs.declared.wanted.Wanted.TheVariants.{Covered}
-use Rattle.glyph_layout.proofs.WalkLemmas.{kept_here}
+use Rattle.glyph_layout.proofs.WalkLemmas.{first_kept-here}
 
 -- a glyph that a digest does not have is not in the set
 not_covered : (d : Digest) (c : Coverage) (g : ℕ) → HasAll (λ g. is_some (covered_index c.table.now g) ≡ true) d
@@ -39,41 +39,41 @@ other_misses : (w : Walk) (c : Coverage) (g : hb_glyph_info_t) → is_some (cove
 unfolding matches
 other_misses w c g other = grind (arith, common_steps)
 
-not_at : (b m : Bool) (n : ℕ) → m ≡ false → place_of (if b then (if m then At n else Other n) else End) ≡ None
-not_at true m n misses = rw misses refl
-not_at false m n misses = refl
+place_of-not_at : (b m : Bool) (n : ℕ) → m ≡ false → place_of (if b then (if m then At n else Other n) else End) ≡ None
+place_of-not_at true m n misses = rw misses refl
+place_of-not_at false m n misses = refl
 
-pub end_of : (b m : Bool) (n : ℕ) → b ≡ false → place_of (if b then (if m then At n else Other n) else End) ≡ None
-end_of b m n e = rw e refl
+pub place_of-end : (b m : Bool) (n : ℕ) → b ≡ false → place_of (if b then (if m then At n else Other n) else End) ≡ None
+place_of-end b m n e = rw e refl
 
 -- the glyph behind the cursor counts, and a digest does not have it
-pub missed_other : (w : Walk) (d : Digest) (c : Coverage) (gs : List hb_glyph_info_t) → 1 < length gs
+pub place_of-missed_other : (w : Walk) (d : Digest) (c : Coverage) (gs : List hb_glyph_info_t) → 1 < length gs
     → HasAll (λ g. is_some (covered_index c.table.now g) ≡ true) d → may_have d (glyph_at gs 1).glyph_id ≡ false
     → skip_of w (glyph_at gs 1) ≡ No → place_of (next_found w (Covered c) gs 0) ≡ None
 unfolding next_found
-missed_other w d c gs more all none counts =
+place_of-missed_other w d c gs more all none counts =
     let here : first_kept (passes w (Covered c)) gs (0 + 1) ≡ 1 =
-    kept_here (passes w (Covered c)) gs 1 more (counts_here w (Covered c) (glyph_at gs 1) counts) in
+    first_kept-here (passes w (Covered c)) gs 1 more (counts_here w (Covered c) (glyph_at gs 1) counts) in
     let misses = other_misses w c (glyph_at gs 1) (not_covered d c (glyph_at gs 1).glyph_id all none) in
-    not_at _ _ _ (subst (λ n. matches w (Covered c) (glyph_at gs n) ≡ false) (sym here) misses)
+    place_of-not_at _ _ _ (subst (λ n. matches w (Covered c) (glyph_at gs n) ≡ false) (sym here) misses)
 
 -- a glyph that counts does so in each syllable
-pub counts_input : (next : NextAsked) (s : Sides) (g : hb_glyph_info_t) → next.is_input ≡ true → skip_of s.walk g ≡ No
+pub skip_of_input : (next : NextAsked) (s : Sides) (g : hb_glyph_info_t) → next.is_input ≡ true → skip_of s.walk g ≡ No
     → skip_of (next_walk next s) g ≡ No
 unfolding may_ignore
-counts_input next s g is counts = rw is counts
+skip_of_input next s g is counts = rw is counts
 
-pub counts_context : (next : NextAsked) (s : Sides) (g : hb_glyph_info_t) → next.is_input ≡ false
+pub skip_of_context : (next : NextAsked) (s : Sides) (g : hb_glyph_info_t) → next.is_input ≡ false
     → skip_of s.context g ≡ No → skip_of (next_walk next s) g ≡ No
 unfolding may_ignore
-counts_context next s g is counts = rw is counts
+skip_of_context next s g is counts = rw is counts
 
-pub ruleset counting = (counts_input, counts_context)
+pub ruleset counting = (skip_of_input, skip_of_context)
 
 -- no glyph stands behind the cursor
-pub missed_end : (w : Walk) (x : Wanted) (gs : List hb_glyph_info_t) → length gs ≡ 1
+pub place_of-missed_end : (w : Walk) (x : Wanted) (gs : List hb_glyph_info_t) → length gs ≡ 1
     → place_of (next_found w x gs 0) ≡ None
 unfolding next_found
-missed_end w x gs one = end_of _ _ _ (grind (arith, one))
+place_of-missed_end w x gs one = place_of-end _ _ _ (grind (arith, one))
 
-pub ruleset missed = (missed_other, missed_end)
+pub ruleset missed = (place_of-missed_other, place_of-missed_end)

@@ -16,38 +16,39 @@ use Rattle.glyph_layout.specs.declared.digest.Digest.{Digest}
 use Rattle.glyph_layout.specs.declared.lookup_list.Lookup.{Lookup}
 
 -- a word that has a row
-pub bit_of : (word row : ℕ) → has_row word row ≡ true → bit_at word (row % 64) ≡ 1
-bit_of word row has = grind (arith, common_steps)
+pub bit_at-row : (word row : ℕ) → has_row word row ≡ true → bit_at word (row % 64) ≡ 1
+bit_at-row word row has = grind (arith, common_steps)
 
 pub row_of : (word row : ℕ) → bit_at word (row % 64) ≡ 1 → has_row word row ≡ true
 row_of word row has = eq-eqb (bit_at word (row % 64)) 1 has
 
-bit_left : (a b i : ℕ) → bit_at a i ≡ 1 → bit_at (bit_or a b) i ≡ 1
-bit_left a b i one =
+bit_at-or_left : (a b i : ℕ) → bit_at a i ≡ 1 → bit_at (bit_or a b) i ≡ 1
+bit_at-or_left a b i one =
     let most : bit_at b i < 2 = bit_at-lt b i in
     rw (bit_at_or a b i, one) (omega arith)
 
-bit_right : (a b i : ℕ) → bit_at b i ≡ 1 → bit_at (bit_or a b) i ≡ 1
-bit_right a b i one =
+bit_at-or_right : (a b i : ℕ) → bit_at b i ≡ 1 → bit_at (bit_or a b) i ≡ 1
+bit_at-or_right a b i one =
     let most : bit_at a i < 2 = bit_at-lt a i in
     rw (bit_at_or a b i, one) (omega arith)
 
-bit_both : (a b i : ℕ) → bit_at a i ≡ 1 → bit_at b i ≡ 1 → bit_at (bit_and a b) i ≡ 1
-bit_both a b i one two = rw (bit_at_and a b i, one, two) refl
+bit_at-and : (a b i : ℕ) → bit_at a i ≡ 1 → bit_at b i ≡ 1 → bit_at (bit_and a b) i ≡ 1
+bit_at-and a b i one two = rw (bit_at_and a b i, one, two) refl
 
 pub or_left : (word other row : ℕ) → has_row word row ≡ true → has_row (bit_or word other) row ≡ true
 or_left word other row has =
-    row_of (bit_or word other) row (bit_left word other (row % 64) (bit_of word row has))
+    row_of (bit_or word other) row (bit_at-or_left word other (row % 64) (bit_at-row word row has))
 
 pub or_right : (word other row : ℕ) → has_row other row ≡ true → has_row (bit_or word other) row ≡ true
 or_right word other row has =
-    row_of (bit_or word other) row (bit_right word other (row % 64) (bit_of other row has))
+    row_of (bit_or word other) row (bit_at-or_right word other (row % 64) (bit_at-row other row has))
 
 -- two words that have a row both share a bit
 pub shared : (word other row : ℕ) → has_row word row ≡ true → has_row other row ≡ true
     → nat_eq (bit_and word other) 0 ≡ false
 shared word other row has too =
-    let both : bit_at (bit_and word other) (row % 64) ≡ 1 = bit_both word other (row % 64) (bit_of word row has) (bit_of other row too) in
+    let both : bit_at (bit_and word other) (row % 64) ≡ 1 =
+    bit_at-and word other (row % 64) (bit_at-row word row has) (bit_at-row other row too) in
     elim (cases_Bool (nat_eq (bit_and word other) 0)) [
       | inl none ↦
           let nothing : bit_and word other ≡ 0 = grind (arith, common_steps) in
@@ -66,31 +67,32 @@ all_rows row =
     let within : row % 64 < 64 = omega arith in
     row_of 18446744073709551615 row (bit_at_ones 64 (row % 64) within)
 
-from_first : (first i : ℕ) → first ≤ i → i < 64 → bit_at (18446744073709551615 * 2 ^ first % 18446744073709551616) i ≡ 1
-from_first first i least most =
+bit_at-from_first : (first i : ℕ) → first ≤ i → i < 64
+    → bit_at (18446744073709551615 * 2 ^ first % 18446744073709551616) i ≡ 1
+bit_at-from_first first i least most =
     let within : first ≤ 64 = omega arith in
     rw (ones_shl 64 first within) (bit_at_mask_inside first 64 i least most)
 
-to_last : (last i : ℕ) → last < 64 → i ≤ last → bit_at (18446744073709551615 / 2 ^ (63 - last)) i ≡ 1
-to_last last i below most =
+bit_at-to_last : (last i : ℕ) → last < 64 → i ≤ last → bit_at (18446744073709551615 / 2 ^ (63 - last)) i ≡ 1
+bit_at-to_last last i below most =
     let within : 63 - last ≤ 64 = omega arith in
     let lower : i < 64 - (63 - last) = omega arith in
     rw (ones_shr 64 (63 - last) within) (bit_at_ones (64 - (63 - last)) i lower)
 
 -- the bits of rows between two, where the last one is not lower, and where it is
-pub rows_inside : (first last i : ℕ) → last < 64 → first ≤ i → i ≤ last
+pub bit_at-rows_inside : (first last i : ℕ) → last < 64 → first ≤ i → i ≤ last
     → bit_at (bit_and (18446744073709551615 * 2 ^ first % 18446744073709551616) (18446744073709551615 / 2 ^ (63 - last))) i ≡ 1
-rows_inside first last i below least most =
+bit_at-rows_inside first last i below least most =
     let within : i < 64 = omega arith in
-    bit_both _ _ i (from_first first i least within) (to_last last i below most)
+    bit_at-and _ _ i (bit_at-from_first first i least within) (bit_at-to_last last i below most)
 
-pub rows_behind : (first last i : ℕ) → first ≤ i → i < 64
+pub bit_at-rows_behind : (first last i : ℕ) → first ≤ i → i < 64
     → bit_at (bit_or (18446744073709551615 * 2 ^ first % 18446744073709551616) (18446744073709551615 / 2 ^ (63 - last))) i ≡ 1
-rows_behind first last i least within = bit_left _ _ i (from_first first i least within)
+bit_at-rows_behind first last i least within = bit_at-or_left _ _ i (bit_at-from_first first i least within)
 
-pub rows_before : (first last i : ℕ) → last < 64 → i ≤ last
+pub bit_at-rows_before : (first last i : ℕ) → last < 64 → i ≤ last
     → bit_at (bit_or (18446744073709551615 * 2 ^ first % 18446744073709551616) (18446744073709551615 / 2 ^ (63 - last))) i ≡ 1
-rows_before first last i below most = bit_right _ _ i (to_last last i below most)
+bit_at-rows_before first last i below most = bit_at-or_right _ _ i (bit_at-to_last last i below most)
 
 -- a row between two, counted round
 pub row_between : (word first last row : ℕ) → first ≤ row → row ≤ last → last - first < 63

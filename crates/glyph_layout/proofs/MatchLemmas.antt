@@ -18,7 +18,7 @@ use Rattle.glyph_layout.specs.declared.walk.Found.TheVariants.{At, Other, End}
 use Rattle.glyph_layout.specs.declared.walk.Skip.TheVariants.{No}
 use Rattle.glyph_layout.specs.declared.wanted.Wanted.{Wanted}
 use Rattle.glyph_layout.specs.declared.wanted.Wanted.TheVariants.{Any, Glyph}
-use Rattle.glyph_layout.proofs.WalkLemmas.{kept_here}
+use Rattle.glyph_layout.proofs.WalkLemmas.{first_kept-here}
 
 equal_true : (a b : ℕ) → a ≡ b → (a == b) ≡ true
 equal_true a b same = grind (arith, common_steps)
@@ -35,29 +35,29 @@ hidden_other f id gs i j next other =
     rw e (rw other refl)
 
 -- the ligature itself
-pub hidden_here : (f : Filter) (id : ℕ) (gs : List hb_glyph_info_t) (i j : ℕ) → i ≡ j + 1
+pub is_hidden_before-here : (f : Filter) (id : ℕ) (gs : List hb_glyph_info_t) (i j : ℕ) → i ≡ j + 1
     → (ligature_id (glyph_at gs j) == id) ≡ true → (ligature_component (glyph_at gs j) == 0) ≡ true
     → is_hidden_before f id gs i ≡ passes_over f (glyph_at gs j)
 unfolding is_hidden_before
-hidden_here f id gs i j next same itself =
+is_hidden_before-here f id gs i j next same itself =
     let e : i ≡ suc j = omega (arith, next) in
     rw e (rw (same, itself) refl)
 
 -- a mark of it
-pub hidden_later : (f : Filter) (id : ℕ) (gs : List hb_glyph_info_t) (i j : ℕ) → i ≡ j + 1
+pub is_hidden_before-later : (f : Filter) (id : ℕ) (gs : List hb_glyph_info_t) (i j : ℕ) → i ≡ j + 1
     → (ligature_id (glyph_at gs j) == id) ≡ true → (ligature_component (glyph_at gs j) == 0) ≡ false
     → is_hidden_before f id gs i ≡ is_hidden_before f id gs j
 unfolding is_hidden_before
-hidden_later f id gs i j next same mark =
+is_hidden_before-later f id gs i j next same mark =
     let e : i ≡ suc j = omega (arith, next) in
     rw e (rw (same, mark) refl)
 
 -- the same of numbers
-pub hidden_mark : (f : Filter) (id : ℕ) (gs : List hb_glyph_info_t) (i j : ℕ) → i ≡ j + 1
+pub is_hidden_before-mark : (f : Filter) (id : ℕ) (gs : List hb_glyph_info_t) (i j : ℕ) → i ≡ j + 1
     → ligature_id (glyph_at gs j) ≡ id → (ligature_component (glyph_at gs j) ≡ 0 → ⊥)
     → is_hidden_before f id gs i ≡ is_hidden_before f id gs j
-hidden_mark f id gs i j next same mark =
-    hidden_later f id gs i j next (equal_true _ _ same) (unequal_false _ _ mark)
+is_hidden_before-mark f id gs i j next same mark =
+    is_hidden_before-later f id gs i j next (equal_true _ _ same) (unequal_false _ _ mark)
 
 -- no glyph
 pub hidden_nowhere : (f : Filter) (id : ℕ) (gs : List hb_glyph_info_t) (i : ℕ) → i ≡ 0
@@ -65,74 +65,74 @@ pub hidden_nowhere : (f : Filter) (id : ℕ) (gs : List hb_glyph_info_t) (i : �
 unfolding is_hidden_before
 hidden_nowhere f id gs i end = rw end refl
 
-pub ruleset leaving = (hidden_other, hidden_here, hidden_later, hidden_nowhere)
+pub ruleset leaving = (hidden_other, is_hidden_before-here, is_hidden_before-later, hidden_nowhere)
 
 -- a match of the first glyph alone
-pub last_none : (s : Sides) (asked : ℕ → Option Wanted) → last_place s asked 0 ≡ Some 0
+pub last_place_none : (s : Sides) (asked : ℕ → Option Wanted) → last_place s asked 0 ≡ Some 0
 unfolding last_place
-last_none s asked = refl
+last_place_none s asked = refl
 
 -- one more glyph of a match
-pub last_more : (s : Sides) (asked : ℕ → Option Wanted) (k p q : ℕ) → last_place s asked k ≡ Some p
+pub last_place-more : (s : Sides) (asked : ℕ → Option Wanted) (k p q : ℕ) → last_place s asked k ≡ Some p
     → next_place (input_walk s) (asked k) s.input.now p ≡ Some q → joins s q ≡ true
     → last_place s asked (k + 1) ≡ Some q
 unfolding last_place
-last_more s asked k p q so_far next joining =
+last_place-more s asked k p q so_far next joining =
     let e : k + 1 ≡ suc k = omega arith in
     rw e (rw so_far (rw next (rw joining refl)))
 
 -- no match of more where one of fewer is none
-pub last_never : (s : Sides) (asked : ℕ → Option Wanted) (n k : ℕ) → last_place s asked k ≡ None → k < n + 1
+pub last_place-never : (s : Sides) (asked : ℕ → Option Wanted) (n k : ℕ) → last_place s asked k ≡ None → k < n + 1
     → last_place s asked n ≡ None
 unfolding last_place
-last_never s asked zero zero never less = never
-last_never s asked zero (suc k) never less = absurd (omega (arith, less))
-last_never s asked (suc n) k never less =
+last_place-never s asked zero zero never less = never
+last_place-never s asked zero (suc k) never less = absurd (omega (arith, less))
+last_place-never s asked (suc n) k never less =
     elim (cases_lt k (suc n)) [
-      | inl below ↦ rw (last_never s asked n k never (omega (arith, below))) refl
+      | inl below ↦ rw (last_place-never s asked n k never (omega (arith, below))) refl
       | inr most ↦
           let here : k ≡ suc n = omega arith in
           rw here at never
     ]
 
 -- a glyph that is not there
-pub last_missing : (s : Sides) (asked : ℕ → Option Wanted) (n k p : ℕ) → last_place s asked k ≡ Some p → k < n
+pub last_place-missing : (s : Sides) (asked : ℕ → Option Wanted) (n k p : ℕ) → last_place s asked k ≡ Some p → k < n
     → next_place (input_walk s) (asked k) s.input.now p ≡ None → last_place s asked n ≡ None
 unfolding last_place
-last_missing s asked n k p so_far less missing =
+last_place-missing s asked n k p so_far less missing =
     let here : last_place s asked (suc k) ≡ None = rw so_far (rw missing refl) in
-    last_never s asked n (suc k) here (omega (arith, less))
+    last_place-never s asked n (suc k) here (omega (arith, less))
 
 -- a glyph that may not join
-pub last_apart : (s : Sides) (asked : ℕ → Option Wanted) (n k p q : ℕ) → last_place s asked k ≡ Some p → k < n
+pub last_place-apart : (s : Sides) (asked : ℕ → Option Wanted) (n k p q : ℕ) → last_place s asked k ≡ Some p → k < n
     → next_place (input_walk s) (asked k) s.input.now p ≡ Some q → joins s q ≡ false
     → last_place s asked n ≡ None
 unfolding last_place
-last_apart s asked n k p q so_far less next apart =
+last_place-apart s asked n k p q so_far less next apart =
     let here : last_place s asked (suc k) ≡ None = rw so_far (rw next (rw apart refl)) in
-    last_never s asked n (suc k) here (omega (arith, less))
+    last_place-never s asked n (suc k) here (omega (arith, less))
 
 -- the first of no ligatures
-pub first_nowhere : (s : Sides) (set : List ℕ) → first_of s set 0 ≡ None
+pub first_of-nowhere : (s : Sides) (set : List ℕ) → first_of s set 0 ≡ None
 unfolding first_of
-first_nowhere s set = refl
+first_of-nowhere s set = refl
 
 -- one more ligature that does not fit
-pub first_later : (s : Sides) (set : List ℕ) (k : ℕ) → first_of s set k ≡ None → ligature_at s set k ≡ None
+pub first_of-later : (s : Sides) (set : List ℕ) (k : ℕ) → first_of s set k ≡ None → ligature_at s set k ≡ None
     → first_of s set (k + 1) ≡ None
 unfolding first_of
-first_later s set k so_far misses =
+first_of-later s set k so_far misses =
     let e : k + 1 ≡ suc k = omega arith in
     rw e (rw so_far misses)
 
 -- the first that fits
-pub first_here : (s : Sides) (set : List ℕ) (n k : ℕ) (found : ℕ × ℕ) → first_of s set k ≡ None → k < n
+pub first_of-here : (s : Sides) (set : List ℕ) (n k : ℕ) (found : ℕ × ℕ) → first_of s set k ≡ None → k < n
     → ligature_at s set k ≡ Some found → first_of s set n ≡ Some found
 unfolding first_of
-first_here s set zero k found so_far less fits = absurd (omega (arith, less))
-first_here s set (suc n) k found so_far less fits =
+first_of-here s set zero k found so_far less fits = absurd (omega (arith, less))
+first_of-here s set (suc n) k found so_far less fits =
     elim (cases_lt k n) [
-      | inl below ↦ rw (first_here s set n k found so_far below fits) refl
+      | inl below ↦ rw (first_of-here s set n k found so_far below fits) refl
       | inr most ↦
           let here : n ≡ k = omega (arith, less, most) in
           rw here (rw so_far fits)
@@ -142,35 +142,36 @@ first_here s set (suc n) k found so_far less fits =
 pub first_is : (s : Sides) (set : List ℕ) (n k : ℕ) (found : Option (ℕ × ℕ)) → first_of s set k ≡ None → k < n
     → found ≡ ligature_at s set k → is_some found ≡ true → found ≡ first_of s set n
 first_is s set n k None so_far less is some = cc
-first_is s set n k (Some found) so_far less is some = sym (first_here s set n k found so_far less (sym is))
+first_is s set n k (Some found) so_far less is some = sym (first_of-here s set n k found so_far less (sym is))
 
-pub ruleset first_steps = (first_nowhere, first_later)
+pub ruleset first_steps = (first_of-nowhere, first_of-later)
 
 -- where one walk passes over all that another does, and stays where that one stays, they stay at the same place
-same_passed : (p q : hb_glyph_info_t → Bool) (gs : List hb_glyph_info_t) → ((g : hb_glyph_info_t) → p g ≡ true → q g ≡ true)
+passed_over-same : (p q : hb_glyph_info_t → Bool) (gs : List hb_glyph_info_t)
+    → ((g : hb_glyph_info_t) → p g ≡ true → q g ≡ true)
     → q (glyph_at gs (passed_over p gs)) ≡ false → passed_over q gs ≡ passed_over p gs
-same_passed p q [] more stays = refl
-same_passed p q (g ∷ gs) more stays =
+passed_over-same p q [] more stays = refl
+passed_over-same p q (g ∷ gs) more stays =
     elim (cases_Bool (p g)) [
       | inl passes ↦
           let too = more g passes in
           let rest : q (glyph_at gs (passed_over p gs)) ≡ false = rw passes at stays in
-          rw (passes, too, same_passed p q gs more rest) refl
+          rw (passes, too, passed_over-same p q gs more rest) refl
       | inr keeps ↦
           let here : q g ≡ false = rw keeps at stays in
           rw (keeps, here) refl
     ]
 
-same_kept : (p q : hb_glyph_info_t → Bool) (gs : List hb_glyph_info_t) (i : ℕ)
+first_kept-same : (p q : hb_glyph_info_t → Bool) (gs : List hb_glyph_info_t) (i : ℕ)
     → ((g : hb_glyph_info_t) → p g ≡ true → q g ≡ true)
     → q (glyph_at gs (first_kept p gs i)) ≡ false → first_kept q gs i ≡ first_kept p gs i
-same_kept p q gs zero more stays =
+first_kept-same p q gs zero more stays =
     let e : 0 + passed_over p gs ≡ passed_over p gs = omega arith in
-    ap (λ n. 0 + n) (same_passed p q gs more (subst (λ n. q (glyph_at gs n) ≡ false) e stays))
-same_kept p q [] (suc i) more stays = refl
-same_kept p q (g ∷ gs) (suc i) more stays =
+    ap (λ n. 0 + n) (passed_over-same p q gs more (subst (λ n. q (glyph_at gs n) ≡ false) e stays))
+first_kept-same p q [] (suc i) more stays = refl
+first_kept-same p q (g ∷ gs) (suc i) more stays =
     let e : suc i + passed_over p (drop i gs) ≡ suc (i + passed_over p (drop i gs)) = omega arith in
-    let rest = same_kept p q gs i more (subst (λ n. q (glyph_at (g ∷ gs) n) ≡ false) e stays) in
+    let rest = first_kept-same p q gs i more (subst (λ n. q (glyph_at (g ∷ gs) n) ≡ false) e stays) in
     omega (arith, rest)
 
 -- a walk that asks for one glyph passes over all that one passes over that asks for none
@@ -193,114 +194,121 @@ at_is true true n p e = cc
 at_is true false n p e = cc
 at_is false m n p e = cc
 
-not_at : (b m : Bool) (n : ℕ) → m ≡ false → place_of (if b then (if m then At n else Other n) else End) ≡ None
-not_at true m n misses = rw misses refl
-not_at false m n misses = refl
+place_of-not_at : (b m : Bool) (n : ℕ) → m ≡ false → place_of (if b then (if m then At n else Other n) else End) ≡ None
+place_of-not_at true m n misses = rw misses refl
+place_of-not_at false m n misses = refl
 
 -- a glyph that counts and is another than one asks for
-pub kept_other : (w : Walk) (gs : List hb_glyph_info_t) (i p asked : ℕ) → next_found w Any gs i ≡ At p
+pub place_of_kept_other : (w : Walk) (gs : List hb_glyph_info_t) (i p asked : ℕ) → next_found w Any gs i ≡ At p
     → skip_of w (glyph_at gs p) ≡ No → asked ≢ (glyph_at gs p).glyph_id
     → place_of (next_found w (Glyph asked) gs i) ≡ None
 unfolding next_found
-kept_other w gs i p asked found counts other =
+place_of_kept_other w gs i p asked found counts other =
     let here : first_kept (passes w Any) gs (i + 1) ≡ p = at_is _ _ _ _ found in
     let stays = subst (λ n. passes w (Glyph asked) (glyph_at gs n) ≡ false) (sym here) (counts_here w asked _ counts) in
-    let same = same_kept (passes w Any) (passes w (Glyph asked)) gs (i + 1) (any_passes w asked) stays in
+    let same = first_kept-same (passes w Any) (passes w (Glyph asked)) gs (i + 1) (any_passes w asked) stays in
     let there : p ≡ first_kept (passes w (Glyph asked)) gs (i + 1) = sym (same ∙ here) in
     let misses = subst (λ n. matches w (Glyph asked) (glyph_at gs n) ≡ false) there (other_misses w asked _ other) in
-    not_at _ _ _ misses
+    place_of-not_at _ _ _ misses
 
 -- a glyph right behind a place that counts and is another than one asks for
-pub beside_other : (w : Walk) (gs : List hb_glyph_info_t) (i asked : ℕ) → i + 1 < length gs
+pub place_of_beside_other : (w : Walk) (gs : List hb_glyph_info_t) (i asked : ℕ) → i + 1 < length gs
     → skip_of w (glyph_at gs (i + 1)) ≡ No → asked ≢ (glyph_at gs (i + 1)).glyph_id
     → place_of (next_found w (Glyph asked) gs i) ≡ None
 unfolding next_found
-beside_other w gs i asked more counts other =
+place_of_beside_other w gs i asked more counts other =
     let here : first_kept (passes w (Glyph asked)) gs (i + 1) ≡ i + 1 =
-    kept_here (passes w (Glyph asked)) gs (i + 1) more (counts_here w asked _ counts) in
+    first_kept-here (passes w (Glyph asked)) gs (i + 1) more (counts_here w asked _ counts) in
     let misses = other_misses w asked (glyph_at gs (i + 1)) other in
-    not_at _ _ _ (subst (λ n. matches w (Glyph asked) (glyph_at gs n) ≡ false) (sym here) misses)
+    place_of-not_at _ _ _ (subst (λ n. matches w (Glyph asked) (glyph_at gs n) ≡ false) (sym here) misses)
 
 never_if : (b : Bool) (x : Option ℕ) → x ≡ None → (if b then x else None) ≡ None
 never_if true x never = never
 never_if false x never = refl
 
-never_else : (b : Bool) (x : Option ℕ) → x ≡ None → (if b then None else x) ≡ None
-never_else true x never = refl
-never_else false x never = never
+if-never : (b : Bool) (x : Option ℕ) → x ≡ None → (if b then None else x) ≡ None
+if-never true x never = refl
+if-never false x never = never
 
 -- a match whose last glyph is not there
-pub match_never : (s : Sides) (asked : ℕ → Option Wanted) (n : ℕ) → last_place s asked n ≡ None → match_end s asked n ≡ None
-match_never s asked n never =
+pub match_end-never : (s : Sides) (asked : ℕ → Option Wanted) (n : ℕ) → last_place s asked n ≡ None
+    → match_end s asked n ≡ None
+match_end-never s asked n never =
     never_if (nat_lt n 64) (option_map (λ place. place + 1) (last_place s asked n)) (rw never refl)
 
-missing_second : (w : Walk) (gs : List hb_glyph_info_t) (second : Option ℕ) (next : Next) → IsNext w gs 0 next
+next_place-missing_second : (w : Walk) (gs : List hb_glyph_info_t) (second : Option ℕ) (next : Next)
+    → IsNext w gs 0 next
     → second ≢ Some next.glyph → next_place w (option_map Glyph second) gs 0 ≡ None
-missing_second w gs None next is other = refl
-missing_second w gs (Some n) next is other = is n (λ e. other (ap Some e))
+next_place-missing_second w gs None next is other = refl
+next_place-missing_second w gs (Some n) next is other = is n (λ e. other (ap Some e))
 
-components_other : (s : Sides) (t : List ℕ) (count : Option ℕ) → 1 < unwrap_or count 0
+components_end-other : (s : Sides) (t : List ℕ) (count : Option ℕ) → 1 < unwrap_or count 0
     → next_place (input_walk s) (wanted_by rule.Glyphs (drop 4 t) 0) s.input.now 0 ≡ None
     → components_end s t count ≡ None
-components_other s t None more missing = absurd (omega arith)
-components_other s t (Some n) more missing =
-    never_else _ _ (match_never _ _ _
-    (last_missing s (wanted_by rule.Glyphs (drop 4 t)) (n - 1) 0 0 (last_none s _) (omega arith) missing))
+components_end-other s t None more missing = absurd (omega arith)
+components_end-other s t (Some n) more missing =
+    if-never _ _ (match_end-never _ _ _
+    (last_place-missing s (wanted_by rule.Glyphs (drop 4 t)) (n - 1) 0 0 (last_place_none s _) (omega arith) missing))
 
-of_none : (glyph end : Option ℕ) → end ≡ None → option_and_then {U = ℕ × ℕ} (λ g. option_map (λ e. (g, e)) end) glyph ≡ None
-of_none None end never = refl
-of_none (Some g) end never = rw never refl
+option_and_then-none : (glyph end : Option ℕ) → end ≡ None
+    → option_and_then {U = ℕ × ℕ} (λ g. option_map (λ e. (g, e)) end) glyph ≡ None
+option_and_then-none None end never = refl
+option_and_then-none (Some g) end never = rw never refl
 
 -- a ligature that asks for another second glyph
-of_other : (s : Sides) (t : List ℕ) (next : Next) → AsksForOther t next.glyph → IsNext (input_walk s) s.input.now 0 next
+ligature_of-other : (s : Sides) (t : List ℕ) (next : Next) → AsksForOther t next.glyph
+    → IsNext (input_walk s) s.input.now 0 next
     → ligature_of s t ≡ None
 unfolding ligature_of
-of_other s t next asks is =
-    of_none (number_16 t 0) (components_end s t (number_16 t 2))
-    (components_other s t (number_16 t 2) asks.0 (missing_second (input_walk s) s.input.now _ next is asks.1))
+ligature_of-other s t next asks is =
+    option_and_then-none (number_16 t 0) (components_end s t (number_16 t 2))
+    (components_end-other s t (number_16 t 2) asks.0
+    (next_place-missing_second (input_walk s) s.input.now _ next is asks.1))
 
-of_some : (glyph end : Option ℕ) (g e : ℕ) → glyph ≡ Some g → end ≡ Some e
+option_and_then-some : (glyph end : Option ℕ) (g e : ℕ) → glyph ≡ Some g → end ≡ Some e
     → option_and_then {U = ℕ × ℕ} (λ x. option_map (λ y. (x, y)) end) glyph ≡ Some (g, e)
-of_some glyph end g e p q = rw (p, q) refl
+option_and_then-some glyph end g e p q = rw (p, q) refl
 
-some_else : (b : Bool) (x : Option ℕ) (e : ℕ) → b ≡ false → x ≡ Some e → (if b then None else x) ≡ Some e
-some_else b x e here is = rw here is
+if-some : (b : Bool) (x : Option ℕ) (e : ℕ) → b ≡ false → x ≡ Some e → (if b then None else x) ≡ Some e
+if-some b x e here is = rw here is
 
-components_some : (s : Sides) (t : List ℕ) (count : Option ℕ) (n e : ℕ) → count ≡ Some n → 0 < n
+components_end-some : (s : Sides) (t : List ℕ) (count : Option ℕ) (n e : ℕ) → count ≡ Some n → 0 < n
     → match_end s (wanted_by rule.Glyphs (drop 4 t)) (n - 1) ≡ Some e → components_end s t count ≡ Some e
-components_some s t count n e is some ends =
-    rw is (some_else (n == 0) (match_end s (wanted_by rule.Glyphs (drop 4 t)) (n - 1)) e (unequal_false n 0 (omega arith)) ends)
+components_end-some s t count n e is some ends =
+    rw is (if-some (n == 0) (match_end s (wanted_by rule.Glyphs (drop 4 t)) (n - 1)) e
+    (unequal_false n 0 (omega arith)) ends)
 
 -- a ligature whose components stand at the cursor
-pub of_match : (s : Sides) (t : List ℕ) (g n e : ℕ) → number_16 t 0 ≡ Some g → number_16 t 2 ≡ Some n → 0 < n
+pub ligature_of-match : (s : Sides) (t : List ℕ) (g n e : ℕ) → number_16 t 0 ≡ Some g → number_16 t 2 ≡ Some n → 0 < n
     → match_end s (wanted_by rule.Glyphs (drop 4 t)) (n - 1) ≡ Some e → ligature_of s t ≡ Some (g, e)
 unfolding ligature_of
-of_match s t g n e glyph count some ends =
-    of_some (number_16 t 0) (components_end s t (number_16 t 2)) g e glyph
-    (components_some s t (number_16 t 2) n e count some ends)
+ligature_of-match s t g n e glyph count some ends =
+    option_and_then-some (number_16 t 0) (components_end s t (number_16 t 2)) g e glyph
+    (components_end-some s t (number_16 t 2) n e count some ends)
 
 -- one of a single component
-pub of_single : (s : Sides) (t : List ℕ) (g n : ℕ) → number_16 t 0 ≡ Some g → number_16 t 2 ≡ Some n → n ≡ 1
+pub ligature_of-single : (s : Sides) (t : List ℕ) (g n : ℕ) → number_16 t 0 ≡ Some g → number_16 t 2 ≡ Some n → n ≡ 1
     → ligature_of s t ≡ Some (g, 1)
 unfolding last_place
-of_single s t g n glyph count one =
+ligature_of-single s t g n glyph count one =
     let ends : match_end s (wanted_by rule.Glyphs (drop 4 t)) (n - 1) ≡ Some 1 = rw one refl in
-    of_match s t g n 1 glyph count (omega arith) ends
+    ligature_of-match s t g n 1 glyph count (omega arith) ends
 
 -- no table
-pub at_none : (s : Sides) (set : List ℕ) (k : ℕ) → table_at_16 set (2 + 2 * k) ≡ None → ligature_at s set k ≡ None
+pub ligature_at-none : (s : Sides) (set : List ℕ) (k : ℕ) → table_at_16 set (2 + 2 * k) ≡ None
+    → ligature_at s set k ≡ None
 unfolding ligature_at
-at_none s set k none = rw none refl
+ligature_at-none s set k none = rw none refl
 
 -- a table
-pub at_some : (s : Sides) (set t : List ℕ) (k : ℕ) → table_at_16 set (2 + 2 * k) ≡ Some t
+pub ligature_at-some : (s : Sides) (set t : List ℕ) (k : ℕ) → table_at_16 set (2 + 2 * k) ≡ Some t
     → ligature_at s set k ≡ ligature_of s t
 unfolding ligature_at
-at_some s set t k some = rw some refl
+ligature_at-some s set t k some = rw some refl
 
 -- a table that asks for another second glyph
-pub at_other : (s : Sides) (set t : List ℕ) (k : ℕ) (next : Next) → table_at_16 set (2 + 2 * k) ≡ Some t
+pub ligature_at-other : (s : Sides) (set t : List ℕ) (k : ℕ) (next : Next) → table_at_16 set (2 + 2 * k) ≡ Some t
     → AsksForOther t next.glyph → IsNext (input_walk s) s.input.now 0 next → ligature_at s set k ≡ None
-at_other s set t k next some asks is = at_some s set t k some ∙ of_other s t next asks is
+ligature_at-other s set t k next some asks is = ligature_at-some s set t k some ∙ ligature_of-other s t next asks is
 
-pub ruleset at_steps = (at_none, at_some)
+pub ruleset at_steps = (ligature_at-none, ligature_at-some)

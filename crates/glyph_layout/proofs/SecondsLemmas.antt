@@ -16,8 +16,8 @@ use Rattle.glyph_layout.specs.declared.rule_set.Next.{Next}
 use Rattle.glyph_layout.specs.declared.search.Sides.{Sides}
 use Rattle.glyph_layout.specs.declared.walk.Walk.{Walk}
 use Rattle.glyph_layout.specs.declared.wanted.Wanted.TheVariants.{Glyph}
-use Rattle.glyph_layout.proofs.ContextLemmas.{end_of}
-use Rattle.glyph_layout.proofs.MatchLemmas.{first_nowhere, first_later, at_none, at_other}
+use Rattle.glyph_layout.proofs.ContextLemmas.{place_of-end}
+use Rattle.glyph_layout.proofs.MatchLemmas.{first_of-nowhere, first_of-later, ligature_at-none, ligature_at-other}
 
 not_before : (d e : Digest) (g : ℕ) → HasMore d e → may_have e g ≡ false → may_have d g ≡ false
 not_before d e g more none =
@@ -59,8 +59,8 @@ one_more_set table d e n more here before k less =
     ]
 
 -- a set that is not there has no ligatures
-else_empty : (b : Bool) (set : List ℕ) → b ≡ false → (if b then set else []) ≡ []
-else_empty b set is = rw is refl
+if-empty : (b : Bool) (set : List ℕ) → b ≡ false → (if b then set else []) ≡ []
+if-empty b set is = rw is refl
 
 none_there : (d : Digest) → HasSecondOfEach [] d
 unfolding number_16
@@ -70,31 +70,33 @@ pub sets_end : (table : List ℕ) (d : Digest) (k : ℕ) → unwrap_or (number_1
 unfolding set_at
 sets_end table d k beyond =
     let out : nat_lt k (unwrap_or (number_16 table 4) 0) ≡ false = grind (arith, common_steps) in
-    subst (λ set. HasSecondOfEach set d) (sym (else_empty _ _ out)) (none_there d)
+    subst (λ set. HasSecondOfEach set d) (sym (if-empty _ _ out)) (none_there d)
 
 -- the ligature of a number
-missed_in : (s : Sides) (set : List ℕ) (d : Digest) (next : Next) (k : ℕ) (o : Option (List ℕ)) → table_at_16 set (2 + 2 * k) ≡ o
+ligature_at-missed : (s : Sides) (set : List ℕ) (d : Digest) (next : Next) (k : ℕ) (o : Option (List ℕ))
+    → table_at_16 set (2 + 2 * k) ≡ o
     → HasSecondAt set k d → IsNext (input_walk s) s.input.now 0 next → may_have d next.glyph ≡ false
     → ligature_at s set k ≡ None
-missed_in s set d next k None e has is none = at_none s set k e
-missed_in s set d next k (Some t) e has is none = at_other s set t k next e (has t e next.glyph none) is
+ligature_at-missed s set d next k None e has is none = ligature_at-none s set k e
+ligature_at-missed s set d next k (Some t) e has is none =
+    ligature_at-other s set t k next e (has t e next.glyph none) is
 
 -- none of so many ligatures
-pub first_missed : (s : Sides) (set : List ℕ) (d : Digest) (next : Next) (n : ℕ) → HasSecondOfEach set d
+pub first_of-missed : (s : Sides) (set : List ℕ) (d : Digest) (next : Next) (n : ℕ) → HasSecondOfEach set d
     → IsNext (input_walk s) s.input.now 0 next → may_have d next.glyph ≡ false → n < unwrap_or (number_16 set 0) 0 + 1
     → first_of s set n ≡ None
-first_missed s set d next zero has is none within = first_nowhere s set
-first_missed s set d next (suc k) has is none within =
-    let so_far = first_missed s set d next k has is none (omega (arith, within)) in
+first_of-missed s set d next zero has is none within = first_of-nowhere s set
+first_of-missed s set d next (suc k) has is none within =
+    let so_far = first_of-missed s set d next k has is none (omega (arith, within)) in
     let e : k + 1 ≡ suc k = omega arith in
     subst (λ n. first_of s set n ≡ None) e
-    (first_later s set k so_far (missed_in s set d next k _ refl (has k (omega (arith, within))) is none))
+    (first_of-later s set k so_far (ligature_at-missed s set d next k _ refl (has k (omega (arith, within))) is none))
 
 -- whoever asks for a glyph behind the last one does not find it
-pub next_end : (w : Walk) (gs : List hb_glyph_info_t) (i asked : ℕ) → i + 1 ≡ length gs
+pub place_of-end : (w : Walk) (gs : List hb_glyph_info_t) (i asked : ℕ) → i + 1 ≡ length gs
     → place_of (next_found w (Glyph asked) gs i) ≡ None
 unfolding next_found
-next_end w gs i asked end = end_of _ _ _ (grind (arith, end))
+place_of-end w gs i asked end = place_of-end _ _ _ (grind (arith, end))
 
 -- a set that is there, or not
 pub each_set : (table : List ℕ) (d e : Digest) (n index : ℕ) → ((k : ℕ) → k < n → HasSecondOfEach (set_at table k) d)

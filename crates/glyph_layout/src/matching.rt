@@ -100,7 +100,7 @@ fn step_behind(
 
 /// Looks for the glyphs of the input behind the first, and leaves their places in `search`. `Ok` says where they end, and
 /// `Err` how far glyphs were looked at: 0 where nothing was seen that could be told of.
-#[tactic(auto, using(crate::proofs::MatchLemmas::last_none))]
+#[tactic(auto, using(crate::proofs::MatchLemmas::last_place_none))]
 pub(crate) fn match_input(sides: &Sides, part: &Part, search: &mut Search) -> Result<usize, usize>
     requires { 0 < length sides.now.input.now }
     ensures spent { IsNotMore search.old.budget search.new.budget }

@@ -237,7 +237,7 @@ fn next_two(sides: &Sides, is_chained: bool) -> Neighbours
 }
 
 /// The next glyph behind a place, if it counts whatever is asked for.
-#[tactic(auto, using(crate::proofs::MatchLemmas::kept_other))]
+#[tactic(auto, using(crate::proofs::MatchLemmas::place_of_kept_other))]
 pub(crate) fn next_kept(walk: &Walk, glyphs: &[hb_glyph_info_t], place: usize) -> Option<Next>
     requires { place < length glyphs.now }
     ensures { IfSome result (IsNext walk.now glyphs.now place) }
@@ -258,7 +258,7 @@ pub(crate) fn next_kept(walk: &Walk, glyphs: &[hb_glyph_info_t], place: usize) -
 }
 
 /// The glyph right behind a place, if it counts whatever is asked for.
-#[tactic(auto, using(crate::proofs::MatchLemmas::beside_other))]
+#[tactic(auto, using(crate::proofs::MatchLemmas::place_of_beside_other))]
 fn next_beside(walk: &Walk, glyphs: &[hb_glyph_info_t], place: usize) -> Option<Next>
     requires { place < length glyphs.now }
     ensures { IfSome result (IsNext walk.now glyphs.now place) }

@@ -132,9 +132,9 @@ least_nothing [] h = refl
 least_nothing (g ∷ l) h = absurd (omega arith)
 
 -- the least of all places
-pub least_whole : (cs : List ℕ) (n : ℕ) → length cs ≤ n → range_least cs 0 n ≡ least cs
+pub range_least-whole : (cs : List ℕ) (n : ℕ) → length cs ≤ n → range_least cs 0 n ≡ least cs
 unfolding range_least
-least_whole cs n h = ap least (take_all (n - 0) cs (omega arith))
+range_least-whole cs n h = ap least (take_all (n - 0) cs (omega arith))
 
 -- the least of a range is not above a number of the range, and is one of them
 module _ (cs : List ℕ) (p q : ℕ) (in_cs : q ≤ length cs) where

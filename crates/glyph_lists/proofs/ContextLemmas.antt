@@ -56,11 +56,11 @@ read_on {done = done} {bytes = bytes} r rest c next is one = record {
 }
 
 -- nothing is left where no byte is
-pub none_on : (bytes : List ℕ) → length bytes ≡ 0 → chars bytes ≡ []
-none_on bytes none = ap chars (nil_from_length bytes none) ∙ chars-nil
+pub chars-none : (bytes : List ℕ) → length bytes ≡ 0 → chars bytes ≡ []
+chars-none bytes none = ap chars (nil_from_length bytes none) ∙ chars-nil
 
-pub none_back : (bytes : List ℕ) → length bytes ≡ 0 → reverse (chars bytes) ≡ []
-none_back bytes none = ap reverse (none_on bytes none)
+pub reverse-no_chars : (bytes : List ℕ) → length bytes ≡ 0 → reverse (chars bytes) ≡ []
+reverse-no_chars bytes none = ap reverse (chars-none bytes none)
 
 -- at the end nothing more may be read, or nothing is left
 pub read_all : {all done left bytes : List ℕ} {more : ℕ} (r : Reading all done left bytes more) → (0 < more → left ≡ [])

@@ -23,12 +23,12 @@ abbrev the_sides : List hb_glyph_info_t → List hb_glyph_info_t → OutAndRest
 the_sides xs ys = record { out = xs; rest = ys }
 
 -- a deletion in the list, of which the front was lent in two parts
-pub deleted_in_place : (any_order : Bool) (k i : ℕ) (l front back out2 back2 : List hb_glyph_info_t) → k ≤ i
+pub sides_at_deleted : (any_order : Bool) (k i : ℕ) (l front back out2 back2 : List hb_glyph_info_t) → k ≤ i
     → i < length l → front ≡ take i l → back ≡ drop i l
     → out2 ≡ (deletion any_order (take k front) (get_or back 0 zero_glyph) (drop 1 back)).out
     → drop 1 back2 ≡ (deletion any_order (take k front) (get_or back 0 zero_glyph) (drop 1 back)).rest
     → sides_at k (i + 1) (out2 ++ drop k front ++ back2) ≡ after_deletion any_order (sides_at k i l)
-deleted_in_place any_order k i l front back out2 back2 up within front_is back_is out_is rest_is =
+sides_at_deleted any_order k i l front back out2 back2 up within front_is back_is out_is rest_is =
     let d = deletion any_order (take k front) (get_or back 0 zero_glyph) (drop 1 back) in
     let same : take k front ≡ take k l = ap (take k) front_is ∙ take_front k i l up in
     let n : length out2 ≡ k = ap length out_is
@@ -47,22 +47,23 @@ deleted_in_place any_order k i l front back out2 back2 up within front_is back_i
     ∙ ap (λ ys. deletion any_order (take k l) (get_or ys 0 zero_glyph) (drop 1 ys)) back_is
 
 -- the head of what is left
-pub head_at : (i : ℕ) (l : List hb_glyph_info_t) → get_or (drop i l) 0 zero_glyph ≡ get_or l i zero_glyph
-head_at i l = let n : i + 0 ≡ i = omega arith in get_or-drop i l 0 zero_glyph ∙ ap (λ j. get_or l j zero_glyph) n
+pub get_or-drop_zero_glyph : (i : ℕ) (l : List hb_glyph_info_t) → get_or (drop i l) 0 zero_glyph ≡ get_or l i zero_glyph
+get_or-drop_zero_glyph i l = let n : i + 0 ≡ i =
+    omega arith in get_or-drop i l 0 zero_glyph ∙ ap (λ j. get_or l j zero_glyph) n
 
 -- ---- what each turn keeps
 
-merged_at_deletion : (merged any_order is merges later : Bool) → is ≡ true
+or-merged_at_deletion : (merged any_order is merges later : Bool) → is ≡ true
     → ((merged || (any_order && merges)) || (any_order && later)) ≡ (merged || (any_order && ((is && merges) || later)))
-merged_at_deletion true any_order is merges later h = refl
-merged_at_deletion false false is merges later h = refl
-merged_at_deletion false true true merges later h = refl
-merged_at_deletion false true false merges later h = cc
+or-merged_at_deletion true any_order is merges later h = refl
+or-merged_at_deletion false false is merges later h = refl
+or-merged_at_deletion false true true merges later h = refl
+or-merged_at_deletion false true false merges later h = cc
 
-merged_at_next : (merged any_order is merges later : Bool) → is ≡ false
+or-merged_at_next : (merged any_order is merges later : Bool) → is ≡ false
     → (merged || (any_order && later)) ≡ (merged || (any_order && ((is && merges) || later)))
-merged_at_next merged any_order false merges later h = refl
-merged_at_next merged any_order true merges later h = cc
+or-merged_at_next merged any_order false merges later h = refl
+or-merged_at_next merged any_order true merges later h = cc
 
 module _ (any_order : Bool) (test : hb_glyph_info_t → Bool) where
   kept_deletion : {X : Type 0} (s s2 : OutAndRest) (r : List X) → test (head_of s) ≡ true → s2 ≡ after_turn any_order test s
@@ -106,12 +107,12 @@ module _ (any_order : Bool) (test : hb_glyph_info_t → Bool) where
           → sides_at k (i + 1) l2 ≡ after_deletion any_order now
           → merges2 ≡ (merges || (any_order && deletion_merges now)) → Leads t k (i + 1) l2 ps merges2
       leads_deletion merges2 is e m =
-          let h : test (head_of now) ≡ true = ap test (head_at i l) ∙ is in
+          let h : test (head_of now) ≡ true = ap test (get_or-drop_zero_glyph i l) ∙ is in
           let s2 = sides_at k (i + 1) l2 in
           let made : s2 ≡ after_turn any_order test now = e ∙ sym (cond-true _ _ _ h) in (
             ap (after_walk any_order test t) made ∙ sym (ap (λ n. after_walk any_order test n now) fewer) ∙ before.0,
             ap (λ b. b || (any_order && walk_merges any_order test t s2)) m
-                ∙ merged_at_deletion merges any_order (test (head_of now)) (deletion_merges now)
+                ∙ or-merged_at_deletion merges any_order (test (head_of now)) (deletion_merges now)
                 (walk_merges any_order test t s2) h
                 ∙ ap (λ s. merges || (any_order
                 && ((test (head_of now) && deletion_merges now) || walk_merges any_order test t s))) made
@@ -128,13 +129,14 @@ module _ (any_order : Bool) (test : hb_glyph_info_t → Bool) where
           → (i < length ps → take (k + 1) ps2 ≡ take k ps ++ take 1 (drop i ps)) → drop (i + 1) ps2 ≡ drop 1 (drop i ps)
           → Leads t (k + 1) (i + 1) l2 ps2 merges
       leads_next ps2 within len_is is front rest front_pos rest_pos =
-          let h : test (head_of now) ≡ false = ap test (head_at i l) ∙ is in
+          let h : test (head_of now) ≡ false = ap test (get_or-drop_zero_glyph i l) ∙ is in
           let s2 = sides_at (k + 1) (i + 1) l2 in
           let moved : s2 ≡ after_next now = ap (λ xs. the_sides xs (drop (i + 1) l2)) front
           ∙ ap (λ ys. the_sides (take k l ++ take 1 (drop i l)) ys) rest in
           let made : s2 ≡ after_turn any_order test now = moved ∙ sym (cond-false _ _ _ h) in (
             ap (after_walk any_order test t) made ∙ sym (ap (λ n. after_walk any_order test n now) fewer) ∙ before.0,
-            merged_at_next merges any_order (test (head_of now)) (deletion_merges now) (walk_merges any_order test t s2) h
+            or-merged_at_next merges any_order (test (head_of now)) (deletion_merges now)
+                (walk_merges any_order test t s2) h
                 ∙ ap (λ s. merges || (any_order
                 && ((test (head_of now) && deletion_merges now) || walk_merges any_order test t s))) made
                 ∙ sym (ap (λ n. merges || (any_order && walk_merges any_order test n now)) fewer)

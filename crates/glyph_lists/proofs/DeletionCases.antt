@@ -18,11 +18,11 @@ unfolding begins_with
 begins_none c [] h = refl
 begins_none c (g ∷ l) h = absurd (omega arith)
 
-pub begins_some : (c : ℕ) (l : List hb_glyph_info_t) (d : hb_glyph_info_t) → 0 < length l
+pub begins_with-some : (c : ℕ) (l : List hb_glyph_info_t) (d : hb_glyph_info_t) → 0 < length l
     → begins_with c l ≡ eqb (get_or l 0 d).cluster c
 unfolding begins_with
-begins_some c [] d h = absurd (omega arith)
-begins_some c (g ∷ l) d h = refl
+begins_with-some c [] d h = absurd (omega arith)
+begins_with-some c (g ∷ l) d h = refl
 
 pub not_empty_none : (l : List hb_glyph_info_t) → length l ≡ 0 → is_not_empty l ≡ false
 unfolding is_not_empty
@@ -48,20 +48,20 @@ not_true : (b : Bool) → not b ≡ true → b ≡ false
 not_true true e = sym e
 not_true false e = refl
 
-pub last_at : (l : List hb_glyph_info_t) (d : hb_glyph_info_t) → 0 < length l
+pub last_cluster-at : (l : List hb_glyph_info_t) (d : hb_glyph_info_t) → 0 < length l
     → last_cluster l ≡ (get_or l (length l - 1) d).cluster
 unfolding last_cluster
-last_at l d h = get_or-clusters l (length l - 1) d (omega arith)
+last_cluster-at l d h = get_or-clusters l (length l - 1) d (omega arith)
 
-pub ruleset neighbours = (begins_none, begins_some, not_empty_none, not_empty_some, last_at)
+pub ruleset neighbours = (begins_none, begins_with-some, not_empty_none, not_empty_some, last_cluster-at)
 
 -- ---- the trailing run
 
-pub trailing_run_from : (c w last a : ℕ) (l : List hb_glyph_info_t) → last ≡ last_cluster l
+pub map_range-trailing_run : (c w last a : ℕ) (l : List hb_glyph_info_t) → last ≡ last_cluster l
     → a ≡ run_start (clusters l) last 0 (length l) → map_range (with_cluster c w) l a (length l)
     ≡ with_trailing_run c w l
 unfolding with_trailing_run
-trailing_run_from c w last a l e h =
+map_range-trailing_run c w last a l e h =
     ap (λ k. map_range (with_cluster c w) l k (length l))
     (h ∙ ap (λ k. run_start (clusters l) k 0 (length l)) e)
 
@@ -71,17 +71,17 @@ pub nothing_taken : (out l : List hb_glyph_info_t) → length out ≡ 0 → take
 nothing_taken [] l h = refl
 nothing_taken (g ∷ out) l h = absurd (omega arith)
 
-nothing_before : (any_order : Bool) (out l : List hb_glyph_info_t) → length out ≡ 0
+drop-nothing_before : (any_order : Bool) (out l : List hb_glyph_info_t) → length out ≡ 0
     → drop (length out) (merge_or_mark any_order (out ++ l) (length out + 0) (length out + 2) 0) ≡ merge_or_mark any_order l 0 2 0
-nothing_before any_order [] l h = refl
-nothing_before any_order (g ∷ out) l h = absurd (omega arith)
+drop-nothing_before any_order [] l h = refl
+drop-nothing_before any_order (g ∷ out) l h = absurd (omega arith)
 
 -- the rest of the input, once its first glyph has left
-pub rest_merged : (any_order : Bool) (out l l2 : List hb_glyph_info_t) → 0 < length l → length out ≡ 0
+pub drop-merged : (any_order : Bool) (out l l2 : List hb_glyph_info_t) → 0 < length l → length out ≡ 0
     → l2 ≡ drop (length out) (merge_or_mark any_order (out ++ l) (length out + 0) (length out + 2) 0)
     → drop 1 l2 ≡ drop 1 (merge_or_mark any_order (get_or l 0 zero_glyph ∷ drop 1 l) 0 2 0)
-rest_merged any_order out l l2 h none e =
-    ap (drop 1) (e ∙ nothing_before any_order out l none)
+drop-merged any_order out l l2 h none e =
+    ap (drop 1) (e ∙ drop-nothing_before any_order out l none)
     ∙ ap (λ xs. drop 1 (merge_or_mark any_order xs 0 2 0)) (drop_more l 0 zero_glyph h)
 
 -- ---- the cases
@@ -148,9 +148,9 @@ module _ (out : List hb_glyph_info_t) (x : hb_glyph_info_t) (rest : List hb_glyp
   pub merges_some : merges_next out x rest ≡ true → 0 < length rest
   merges_some h = length_some rest (merges_parts h).1
 
-pub ruleset trailing = (last_at, trailing_run_from)
+pub ruleset trailing = (last_cluster-at, map_range-trailing_run)
 
-pub ruleset kept = (deletion_keeps, last_at)
+pub ruleset kept = (deletion_keeps, last_cluster-at)
 
 pub ruleset cases = (
   deletion_lowers,
@@ -160,5 +160,5 @@ pub ruleset cases = (
   merges_none,
   merges_some,
   nothing_taken,
-  rest_merged,
+  drop-merged,
 )

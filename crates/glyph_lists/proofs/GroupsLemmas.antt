@@ -15,9 +15,9 @@ use Rattle.glyph_lists.specs.Groups.{groups_in_reverse, reverse_range}
 -- ---- where a group ends
 
 -- the last glyph of a list is the last of its group
-pub group_of_last : (test : Test) (l : List hb_glyph_info_t) (i : ℕ) → i < length l → length l ≤ i + 1
+pub first_group_len_of_last : (test : Test) (l : List hb_glyph_info_t) (i : ℕ) → i < length l → length l ≤ i + 1
     → first_group_len test (drop i l) ≡ 1
-group_of_last test l i h last = ap (first_group_len test) (drop_more l i zero_glyph h)
+first_group_len_of_last test l i h last = ap (first_group_len test) (drop_more l i zero_glyph h)
     ∙ ap (group_len test (get_or l i zero_glyph)) (drop_all (i + 1) l last)
 
 -- ---- the lengths of the groups
@@ -88,9 +88,9 @@ pub length-reverse_range : {X : Type 0} (a b : ℕ) (xs : List X) → a ≤ b �
 length-reverse_range a b xs up = simp (length-append, length-reverse, length-take, length-drop) (omega arith)
 
 -- what stands after the range stays
-pub after_reverse_range : {X : Type 0} (a b : ℕ) (xs : List X) → a ≤ b → b ≤ length xs
+pub drop-reverse_range : {X : Type 0} (a b : ℕ) (xs : List X) → a ≤ b → b ≤ length xs
     → drop b (reverse_range a b xs) ≡ drop b xs
-after_reverse_range a b xs up in_xs =
+drop-reverse_range a b xs up in_xs =
     let front = take a xs ++ reverse (part xs a b) in
     let n : length front ≡ b = simp (length-append, length-reverse, length-take, length-drop) (omega arith) in
     ap (λ k. drop k (front ++ drop b xs)) (sym n) ∙ drop-append_seam front (drop b xs)
@@ -101,9 +101,9 @@ ranges_reversed [] start xs = xs
 ranges_reversed (n ∷ ns) start xs = ranges_reversed ns (start + n) (reverse_range start (start + n) xs)
 
 -- the next range
-one_range : {X : Type 0} (n : ℕ) (done xs : List X)
+reverse_range-one : {X : Type 0} (n : ℕ) (done xs : List X)
     → reverse_range (length done) (length done + n) (done ++ xs) ≡ done ++ reverse (take n xs) ++ drop n xs
-one_range n done xs =
+reverse_range-one n done xs =
     let k : length done + n - length done ≡ n = omega arith in
     ap (λ ys. ys ++ reverse (part (done ++ xs) (length done) (length done + n)) ++ drop (length done + n) (done ++ xs))
     (take-append_seam done xs)
@@ -121,7 +121,7 @@ reversed_after (n ∷ ns) done xs all =
     let m : length next ≡ length done + n = simp (length-append, length-reverse, length-take) (omega arith) in
     let left : total ns ≡ length (drop n xs) = simp length-drop (omega arith) in
     let after = groups_in_reverse ns (drop n xs) in
-    ap (λ ys. reverse (ranges_reversed ns (length done + n) ys)) (one_range n done xs)
+    ap (λ ys. reverse (ranges_reversed ns (length done + n) ys)) (reverse_range-one n done xs)
     ∙ ap (λ k. reverse (ranges_reversed ns k (next ++ drop n xs))) (sym m)
     ∙ reversed_after ns next (drop n xs) left
     ∙ ap (λ ys. after ++ ys) (reverse-append done (reverse (take n xs))

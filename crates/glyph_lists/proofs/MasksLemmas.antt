@@ -9,14 +9,14 @@ use Rattle.glyph_lists.proofs.MapLemmas.{mapped_at, mapped_more, mapped_all}
 abbrev pub bits_set : ℕ → ℕ → ℕ → ℕ → hb_glyph_info_t → hb_glyph_info_t
 bits_set value mask start end g = cond (in_clusters start end g.cluster) (with_bits value mask g) g
 
-pub masks_set_none : (value mask start end : ℕ) (l : List hb_glyph_info_t) → mask ≡ 0
+pub set_masks-none : (value mask start end : ℕ) (l : List hb_glyph_info_t) → mask ≡ 0
     → set_masks value mask start end l ≡ l
 unfolding set_masks
-masks_set_none value mask start end l h = cond-true _ _ _ (eq-eqb mask 0 h)
+set_masks-none value mask start end l h = cond-true _ _ _ (eq-eqb mask 0 h)
 
-pub masks_set_each : (value mask start end : ℕ) (l : List hb_glyph_info_t) → (mask ≡ 0 → ⊥)
+pub set_masks-each : (value mask start end : ℕ) (l : List hb_glyph_info_t) → (mask ≡ 0 → ⊥)
     → set_masks value mask start end l ≡ map (bits_set value mask start end) l
 unfolding set_masks
-masks_set_each value mask start end l h = cond-false _ _ _ (ne_eqb mask 0 h)
+set_masks-each value mask start end l h = cond-false _ _ _ (ne_eqb mask 0 h)
 
-pub ruleset masks = (masks_set_none, masks_set_each, mapped_at, mapped_more, mapped_all)
+pub ruleset masks = (set_masks-none, set_masks-each, mapped_at, mapped_more, mapped_all)

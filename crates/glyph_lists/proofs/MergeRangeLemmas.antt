@@ -1,6 +1,6 @@
 -- The least cluster of a range, from a walk along it.
 use Rattle.glyph_lists.proofs.ClustersLemmas.{length-clusters, length_clusters-append, get_or-clusters}
-use Rattle.glyph_lists.proofs.ClustersLemmas.{range_least_more, range_least_one, range_least_last, least_whole}
+use Rattle.glyph_lists.proofs.ClustersLemmas.{range_least_more, range_least_one, range_least_last, range_least-whole}
 use Rattle.glyph_lists.proofs.ClustersLemmas.{least_nothing}
 
 pub ruleset walks = (
@@ -10,6 +10,6 @@ pub ruleset walks = (
   range_least_more,
   range_least_one,
   range_least_last,
-  least_whole,
+  range_least-whole,
   least_nothing,
 )

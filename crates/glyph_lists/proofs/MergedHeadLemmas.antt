@@ -14,21 +14,22 @@ use Rattle.glyph_lists.proofs.ClustersLemmas.{range_least_last}
 use Rattle.glyph_lists.proofs.RunsLemmas.{run_start_here, run_start_none, run_end_here, run_end_none}
 use Rattle.glyph_lists.proofs.RunsLemmas.{widened_start_plain, widened_start_run, widened_end_plain, widened_end_run}
 use Rattle.glyph_lists.proofs.MergesLemmas.{with_cluster-same}
-use Rattle.glyph_lists.proofs.RunMergeLemmas.{run_merge_from}
-use Rattle.glyph_lists.proofs.SidesLemmas.{range_in_out, range_in_input, merge_or_mark_merges, merge_or_mark_short}
+use Rattle.glyph_lists.proofs.RunMergeLemmas.{map_range_is_run_merge}
+use Rattle.glyph_lists.proofs.SidesLemmas.{take-map_range, drop-map_range_input, merge_or_mark_merges}
+use Rattle.glyph_lists.proofs.SidesLemmas.{merge_or_mark_short}
 
 -- ---- fewer than two glyphs
 
-short_merged : (any_order : Bool) (n : ℕ) (out input : List hb_glyph_info_t) → n < 2 → n ≤ length input
+front_merged-short : (any_order : Bool) (n : ℕ) (out input : List hb_glyph_info_t) → n < 2 → n ≤ length input
     → front_merged any_order n out input ≡ out ++ input
-short_merged any_order n out input short within =
+front_merged-short any_order n out input short within =
     merge_or_mark_short any_order (out ++ input) (length out) (length out + n) 0 (omega arith)
     (omega (arith, length-append out input))
 
 pub short_leaves : (any_order : Bool) (n : ℕ) (out input : List hb_glyph_info_t) → n < 2 → n ≤ length input
     → LeavesHead any_order n out input (get_or input 0 zero_glyph)
 short_leaves any_order n out input short within =
-    let e = short_merged any_order n out input short within in
+    let e = front_merged-short any_order n out input short within in
     let rest = ap (drop (length out)) e ∙ drop-append_seam out input in
     record {
       before = ap (take (length out)) e ∙ take-append_seam out input;
@@ -85,15 +86,15 @@ module _ (out input : List hb_glyph_info_t) (two : 2 ≤ length input) where
       let up : n ≤ n + 2 = omega arith in
       let e : front_merged false 2 out input ≡ map_range f l n (n + 2) =
       merge_or_mark_merges false l n (n + 2) 0 refl
-      ∙ sym (run_merge_from l n (n + 2) 0 m n (n + 2) (omega arith) least start end) in
+      ∙ sym (map_range_is_run_merge l n (n + 2) 0 m n (n + 2) (omega arith) least start end) in
       let none : n - n ≡ 0 = omega arith in
       let some : n + 2 - n ≡ 2 = omega arith in
       let rest : drop n (front_merged false 2 out input) ≡ map_range f input 0 2 =
-      ap (drop n) e ∙ range_in_input f out input n (n + 2) up
+      ap (drop n) e ∙ drop-map_range_input f out input n (n + 2) up
       ∙ ap (λ k. map_range f input k (n + 2 - n)) none ∙ ap (map_range f input 0) some in
       record {
         before =
-            ap (take n) e ∙ range_in_out f out input n (n + 2) up ∙ map_range_past f out n (n + 2) up (omega arith);
+            ap (take n) e ∙ take-map_range f out input n (n + 2) up ∙ map_range_past f out n (n + 2) up (omega arith);
         head = ap (λ xs. get_or xs 0 zero_glyph) rest
             ∙ map_range-within f input 0 2 (omega arith) 0 zero_glyph (omega arith) (omega arith) (omega arith);
         behind = ap (drop 2) rest ∙ drop-map_range f input 2 0 2 (omega arith) two ∙ map_range_none f (drop 2 input) 0;
@@ -136,7 +137,7 @@ module _ (out input : List hb_glyph_info_t) (two : 2 ≤ length input) where
       pair_leaves (c 1) (sym least) (sym start) (sym end)
 
 -- a cluster that is read of the input alone
-pub input_alone : (out input : List hb_glyph_info_t) (k : ℕ) → out ≡ [] → k < length input
+pub get_or-input_alone : (out input : List hb_glyph_info_t) (k : ℕ) → out ≡ [] → k < length input
     → get_or (clusters (out ++ input)) k 0 ≡ (get_or input k zero_glyph).cluster
-input_alone out input k none within =
+get_or-input_alone out input k none within =
     ap (λ xs. get_or (clusters (xs ++ input)) k 0) none ∙ get_or-clusters input k zero_glyph within

@@ -9,11 +9,11 @@ use Rattle.glyph_lists.specs.Parts.{part, map_range}
 use Rattle.glyph_lists.specs.Clusters.{clusters, occurs, with_cluster, cluster_merge, run_merge, run_start, run_end}
 use Rattle.glyph_lists.specs.Clusters.{range_least, widened_start, widened_end, zero_glyph, least}
 use Rattle.glyph_lists.proofs.PartsLemmas.{length-map_range, map_range-before, map_range-within, map_range-after}
-use Rattle.glyph_lists.proofs.PartsLemmas.{map_range_more, map_range_none}
+use Rattle.glyph_lists.proofs.PartsLemmas.{set-map_range_more, map_range_none}
 use Rattle.glyph_lists.proofs.ClustersLemmas.{occurs_at, least-stands, length-clusters, get_or-clusters, clusters-part}
 use Rattle.glyph_lists.proofs.ClustersLemmas.{occurs_part_at, occurs_part_place, range_least_one}
 use Rattle.glyph_lists.proofs.ClustersLemmas.{IsContiguous}
-use Rattle.glyph_lists.proofs.RunsLemmas.{run_end-ge, run_end-all, run_end-stops, run_start-le, run_start-all}
+use Rattle.glyph_lists.proofs.RunsLemmas.{run_end-ge, get_or-run_end, run_end-stops, run_start-le, get_or-run_start}
 use Rattle.glyph_lists.proofs.RunsLemmas.{run_start-stops, widened_start-le, widened_end-ge, widened_start_plain}
 use Rattle.glyph_lists.proofs.RunsLemmas.{widened_start_run, widened_end_plain, widened_end_run}
 
@@ -61,12 +61,12 @@ merged_stays rs m g f =
 
 -- ---- the range that takes in all glyphs that are not in m already
 
-pub merge_by_range : (l : List hb_glyph_info_t) (rs : List ℕ) (m a b : ℕ) → a ≤ b
+pub map_range-with_cluster : (l : List hb_glyph_info_t) (rs : List ℕ) (m a b : ℕ) → a ≤ b
     → ((k : ℕ) → a ≤ k → k < b → k < length l → occurs (get_or (clusters l) k 0) rs ≡ true)
     → ((k : ℕ) → k < a → k < length l → occurs (get_or (clusters l) k 0) rs ≡ true → get_or (clusters l) k 0 ≡ m)
     → ((k : ℕ) → b ≤ k → k < length l → occurs (get_or (clusters l) k 0) rs ≡ true → get_or (clusters l) k 0 ≡ m)
     → map_range (with_cluster m 0) l a b ≡ map (merged rs m) l
-merge_by_range l rs m a b up within before after =
+map_range-with_cluster l rs m a b up within before after =
     let n = length-map_range (with_cluster m 0) l a b up in
     same_lists _ _ (n ∙ sym (length-map l (merged rs m)))
     (λ k d h.
@@ -133,7 +133,7 @@ module _ (cs : List ℕ) (together : IsContiguous cs) (p q : ℕ) (some : p < q)
         | inl lt ↦ elim (cases_Bool (eqb (get_or cs p 0) m)) [
           | inl e ↦ absurd (omega (arith, widened_start_plain cs p q 0 (eqb-true _ _ e)))
           | inr e ↦ occurs_part_at (get_or cs k 0) cs p q p (omega arith) some in_l
-              (sym (run_start-all cs (get_or cs p 0) 0 p k (omega arith)
+              (sym (get_or-run_start cs (get_or cs p 0) 0 p k (omega arith)
               (omega (arith, widened_start_run cs p q 0 (eqb-false _ _ e))) lt))
         ]
         | inr ge ↦ elim (cases_lt k q) [
@@ -141,7 +141,7 @@ module _ (cs : List ℕ) (together : IsContiguous cs) (p q : ℕ) (some : p < q)
           | inr ge2 ↦ elim (cases_Bool (eqb (get_or cs (q - 1) 0) m)) [
             | inl e ↦ absurd (omega (arith, widened_end_plain cs p q (eqb-true _ _ e)))
             | inr e ↦ occurs_part_at (get_or cs k 0) cs p q (q - 1) (omega arith) (omega arith) in_l
-                (sym (run_end-all cs (get_or cs (q - 1) 0) q k ge2
+                (sym (get_or-run_end cs (get_or cs (q - 1) 0) q k ge2
                 (omega (arith, widened_end_run cs p q (eqb-false _ _ e)))))
           ]
         ]
@@ -150,9 +150,9 @@ module _ (cs : List ℕ) (together : IsContiguous cs) (p q : ℕ) (some : p < q)
 -- ---- the law
 
 -- the merge of no glyphs
-pub merge_nothing : (l : List hb_glyph_info_t) → cluster_merge l [] ≡ l
+pub cluster_merge-nothing : (l : List hb_glyph_info_t) → cluster_merge l [] ≡ l
 unfolding cluster_merge
-merge_nothing l = map-id l
+cluster_merge-nothing l = map-id l
 
 -- where equal numbers stand together, the run merge of a range is the cluster merge of its glyphs
 pub run_merge_is_cluster_merge : (l : List hb_glyph_info_t) (p q : ℕ) → q ≤ length l → IsContiguous (clusters l)
@@ -165,7 +165,7 @@ run_merge_is_cluster_merge l p q in_l together =
           let cs = clusters l in
           let in_cs : q ≤ length cs = omega arith in
           cond-false _ _ _ (lt-leb q p some)
-          ∙ merge_by_range l (part cs p q) (range_least cs p q) (widened_start cs p q 0) (widened_end cs p q)
+          ∙ map_range-with_cluster l (part cs p q) (range_least cs p q) (widened_start cs p q 0) (widened_end cs p q)
           (omega (arith, widened_start-le cs p q 0, widened_end-ge cs p q))
           (λ k h h2 _. widened_within cs together p q some in_cs k h h2)
           (λ k h _. widened_before cs together p q some in_cs k h)
@@ -173,7 +173,7 @@ run_merge_is_cluster_merge l p q in_l together =
           ∙ ap (λ rs. map (merged rs (least rs)) l) (sym (clusters-part l p q))
       | inr none ↦
           let e : q - p ≡ 0 = omega arith in
-          cond-true _ _ _ (le-leb q p none) ∙ sym (merge_nothing l)
+          cond-true _ _ _ (le-leb q p none) ∙ sym (cluster_merge-nothing l)
           ∙ ap (λ k. cluster_merge l (take k (drop p l))) (sym e)
     ]
 
@@ -208,7 +208,7 @@ run_merge_one l p floor in_l =
     cond-false _ _ _ (lt-leb (p + 1) p (omega arith))
     ∙ ap (λ a. map_range (with_cluster m 0) l a (widened_end cs p (p + 1))) (cond-true _ _ _ first)
     ∙ ap (λ b. map_range (with_cluster m 0) l p b) (cond-true _ _ _ last)
-    ∙ sym (map_range_more (with_cluster m 0) l p p (get_or l p zero_glyph) zero_glyph (omega arith) in_l (sym same))
+    ∙ sym (set-map_range_more (with_cluster m 0) l p p (get_or l p zero_glyph) zero_glyph (omega arith) in_l (sym same))
     ∙ ap (λ x. set x p (get_or l p zero_glyph)) (map_range_none (with_cluster m 0) l p)
     ∙ set-get_or l p zero_glyph
 
@@ -263,7 +263,7 @@ merge_nothing_shares : (l : List hb_glyph_info_t) (i j : ℕ)
     ⊎ ((occurs (get_or (clusters l) i 0) [] ≡ true) × (occurs (get_or (clusters l) j 0) [] ≡ true)))
 merge_nothing_shares l i j =
     let at : (k : ℕ) → get_or (clusters (cluster_merge l [])) k 0 ≡ get_or (clusters l) k 0 =
-    λ k. ap (λ x. get_or (clusters x) k 0) (merge_nothing l) in (
+    λ k. ap (λ x. get_or (clusters x) k 0) (cluster_merge-nothing l) in (
       λ e. inl (sym (at i) ∙ e ∙ at j),
       λ e. elim e [ inl same ↦ at i ∙ same ∙ sym (at j) | inr both ↦ absurd (false≢true both.0) ],
     )

@@ -72,9 +72,9 @@ part_more xs a i d from_a in_xs =
     ∙ ap (λ x. take (i - a) (drop a xs) ++ x ∷ []) (get_or-drop a xs (i - a) d ∙ ap (λ j. get_or xs j d) m)
 
 -- one place more is mapped by a write at that place
-pub map_range_more : {X : Type 0} (f : X → X) (l : List X) (a i : ℕ) (y d : X) → a ≤ i → i < length l
+pub set-map_range_more : {X : Type 0} (f : X → X) (l : List X) (a i : ℕ) (y d : X) → a ≤ i → i < length l
     → y ≡ f (get_or l i d) → set (map_range f l a i) i y ≡ map_range f l a (i + 1)
-map_range_more f l a i y d from_a in_l e =
+set-map_range_more f l a i y d from_a in_l e =
     let p = take a l ++ map f (part l a i) in
     let n : length p ≡ i = simp (length-append, length-map, length-take, length-drop) (omega arith) in
     ap (λ s. set (p ++ s) i y) (drop_more l i d in_l)
@@ -86,9 +86,9 @@ map_range_more f l a i y d from_a in_l e =
     (sym (ap (map f) (part_more l a i d from_a in_l) ∙ map_push f (part l a i) (get_or l i d)))
 
 -- one place more at the front of a range
-pub map_range_front : {X : Type 0} (f : X → X) (l : List X) (s b : ℕ) (y d : X) → s < b → s < length l
+pub set-map_range_front : {X : Type 0} (f : X → X) (l : List X) (s b : ℕ) (y d : X) → s < b → s < length l
     → y ≡ f (get_or l s d) → set (map_range f l (s + 1) b) s y ≡ map_range f l s b
-map_range_front f l s b y d some in_l e =
+set-map_range_front f l s b y d some in_l e =
     let x = get_or l s d in
     let m = map f (part l (s + 1) b) in
     let n : length (take s l) ≡ s = simp length-take (omega arith) in
@@ -104,13 +104,13 @@ map_range_front f l s b y d some in_l e =
     ∙ sym (ap (λ xs. take s l ++ map f xs ++ drop b l) range)
 
 -- the next place after a mapped range, and the one before it, are as they were
-pub map_range_next : {X : Type 0} (f : X → X) (l : List X) (a b : ℕ) (d : X) → a ≤ b → b < length l
+pub get_or-map_range_next : {X : Type 0} (f : X → X) (l : List X) (a b : ℕ) (d : X) → a ≤ b → b < length l
     → get_or (map_range f l a b) b d ≡ get_or l b d
-map_range_next f l a b d up in_l = map_range-after f l a b up b d (omega arith) in_l
+get_or-map_range_next f l a b d up in_l = map_range-after f l a b up b d (omega arith) in_l
 
-pub map_range_last : {X : Type 0} (f : X → X) (l : List X) (a b : ℕ) (d : X) → 0 < a → a ≤ b → a ≤ length l
+pub get_or-map_range_last : {X : Type 0} (f : X → X) (l : List X) (a b : ℕ) (d : X) → 0 < a → a ≤ b → a ≤ length l
     → get_or (map_range f l a b) (a - 1) d ≡ get_or l (a - 1) d
-map_range_last f l a b d some up in_l = map_range-before f l a b up (a - 1) d (omega arith) (omega arith)
+get_or-map_range_last f l a b d some up in_l = map_range-before f l a b up (a - 1) d (omega arith) (omega arith)
 
 -- an end of the range that f leaves as it is
 pub map_range_after_first : {X : Type 0} (f : X → X) (l : List X) (s b : ℕ) (d : X) → s < b → s < length l
@@ -120,7 +120,7 @@ map_range_after_first f l s b d some in_l same =
     let m = map_range f l (s + 1) b in
     sym (set-get_or m s d)
     ∙ ap (set m s) (map_range-before f l (s + 1) b (omega arith) s d (omega arith) in_l)
-    ∙ map_range_front f l s b (get_or l s d) d some in_l (sym same)
+    ∙ set-map_range_front f l s b (get_or l s d) d some in_l (sym same)
 
 pub map_range_to_last : {X : Type 0} (f : X → X) (l : List X) (a i : ℕ) (d : X) → a ≤ i → i < length l
     → f (get_or l i d) ≡ get_or l i d
@@ -128,8 +128,8 @@ pub map_range_to_last : {X : Type 0} (f : X → X) (l : List X) (a i : ℕ) (d :
 map_range_to_last f l a i d up in_l same =
     let m = map_range f l a i in
     sym (set-get_or m i d)
-    ∙ ap (set m i) (map_range_next f l a i d up in_l)
-    ∙ map_range_more f l a i (get_or l i d) d up in_l (sym same)
+    ∙ ap (set m i) (get_or-map_range_next f l a i d up in_l)
+    ∙ set-map_range_more f l a i (get_or l i d) d up in_l (sym same)
 
 -- an empty range
 pub map_range_none : {X : Type 0} (f : X → X) (l : List X) (a : ℕ) → map_range f l a a ≡ l
@@ -156,8 +156,8 @@ map_range_same f same l a b up =
     ])
 
 -- a list is what stands before a part, the part, and what stands after it
-pub parts_whole : {X : Type 0} (l : List X) (a b : ℕ) → a ≤ b → take a l ++ part l a b ++ drop b l ≡ l
-parts_whole l a b up =
+pub append-part : {X : Type 0} (l : List X) (a b : ℕ) → a ≤ b → take a l ++ part l a b ++ drop b l ≡ l
+append-part l a b up =
     ap (λ xs. take a l ++ xs ++ drop b l) (sym (map-id (part l a b))) ∙ map_range_same (λ x. x) (λ x. refl) l a b up
 
 -- g reads the same of a list with a new part, if it does of the part
@@ -167,7 +167,7 @@ map-new_part g l new a b up same =
     map-append g (take a l ++ new) (drop b l)
     ∙ ap (λ ys. ys ++ map g (drop b l)) (map-append g (take a l) new ∙ ap (λ ys. map g (take a l) ++ ys) same
     ∙ sym (map-append g (take a l) (part l a b)))
-    ∙ sym (map-append g (take a l ++ part l a b) (drop b l)) ∙ ap (map g) (parts_whole l a b up)
+    ∙ sym (map-append g (take a l ++ part l a b) (drop b l)) ∙ ap (map g) (append-part l a b up)
 
 -- g reads the same of each element that f changes
 pub map-map_same : {X Y : Type 0} (g : X → Y) (f : X → X) → ((x : X) → g (f x) ≡ g x) → (l : List X)

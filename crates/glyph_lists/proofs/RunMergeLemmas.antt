@@ -6,7 +6,8 @@ use Rattle.glyph_lists.specs.Parts.{map_range}
 use Rattle.glyph_lists.specs.Clusters.{clusters, with_cluster, run_merge, run_start, run_end}
 use Rattle.glyph_lists.specs.Clusters.{range_least, widened_start, widened_end, zero_glyph}
 use Rattle.glyph_lists.specs.PairChange.{moved_to}
-use Rattle.glyph_lists.proofs.PartsLemmas.{map_range_none, map_range_front, map_range_after_first, map_range_to_last}
+use Rattle.glyph_lists.proofs.PartsLemmas.{map_range_none, set-map_range_front, map_range_after_first}
+use Rattle.glyph_lists.proofs.PartsLemmas.{map_range_to_last}
 use Rattle.glyph_lists.proofs.ClustersLemmas.{length-clusters, get_or-clusters, range_least_one, range_least_more}
 use Rattle.glyph_lists.proofs.RunsLemmas.{widened_start-le, widened_end-ge, widened_start_plain, widened_start_run}
 use Rattle.glyph_lists.proofs.RunsLemmas.{widened_end_plain, widened_end_run, run_end_here, run_end_none}
@@ -16,34 +17,35 @@ use Rattle.glyph_lists.proofs.MergesLemmas.{with_cluster-same}
 -- ---- the parts of `run_merge`, as a body finds them
 
 -- with m the least of the range, and a to b the widened range
-pub run_merge_from : (l : List hb_glyph_info_t) (p q floor m a b : ℕ) → p < q → m ≡ range_least (clusters l) p q
+pub map_range_is_run_merge : (l : List hb_glyph_info_t) (p q floor m a b : ℕ) → p < q → m ≡ range_least (clusters l) p q
     → a ≡ widened_start (clusters l) p q floor → b ≡ widened_end (clusters l) p q
     → map_range (with_cluster m 0) l a b ≡ run_merge l p q floor
 unfolding run_merge
-run_merge_from l p q floor m a b some em ea eb =
+map_range_is_run_merge l p q floor m a b some em ea eb =
     ap (λ x. map_range (with_cluster x 0) l a b) em
     ∙ ap (λ x. map_range (with_cluster (range_least (clusters l) p q) 0) l x b) ea
     ∙ ap (λ x. map_range (with_cluster (range_least (clusters l) p q) 0) l (widened_start (clusters l) p q floor) x) eb
     ∙ sym (cond-false _ _ _ (lt-leb q p some))
 
 -- the same of two glyphs, of which one is in the least cluster already: the first, or else the second
-pub run_merge_after_first : (l : List hb_glyph_info_t) (p floor m b : ℕ) → p + 2 ≤ length l
+pub map_range-after_first : (l : List hb_glyph_info_t) (p floor m b : ℕ) → p + 2 ≤ length l
     → m ≡ range_least (clusters l) p (p + 2)
     → b ≡ widened_end (clusters l) p (p + 2) → (get_or l p zero_glyph).cluster ≡ m
     → map_range (with_cluster m 0) l (p + 1) b ≡ run_merge l p (p + 2) floor
-run_merge_after_first l p floor m b in_l em eb is =
+map_range-after_first l p floor m b in_l em eb is =
     let cs = clusters l in
     let past : p < b = omega (arith, widened_end-ge cs p (p + 2)) in
     let first : get_or cs p 0 ≡ range_least cs p (p + 2) = get_or-clusters l p zero_glyph (omega arith) ∙ is ∙ em in
     map_range_after_first (with_cluster m 0) l p b zero_glyph past (omega arith)
     (with_cluster-same m 0 (get_or l p zero_glyph) is)
-    ∙ run_merge_from l p (p + 2) floor m p b (omega arith) em (sym (widened_start_plain cs p (p + 2) floor first)) eb
+    ∙ map_range_is_run_merge l p (p + 2) floor m p b (omega arith) em
+    (sym (widened_start_plain cs p (p + 2) floor first)) eb
 
-pub run_merge_to_last : (l : List hb_glyph_info_t) (p floor m a : ℕ) → p + 2 ≤ length l
+pub map_range-to_last : (l : List hb_glyph_info_t) (p floor m a : ℕ) → p + 2 ≤ length l
     → m ≡ range_least (clusters l) p (p + 2)
     → a ≡ widened_start (clusters l) p (p + 2) floor → ((get_or l p zero_glyph).cluster ≡ m → ⊥)
     → map_range (with_cluster m 0) l a (p + 1) ≡ run_merge l p (p + 2) floor
-run_merge_to_last l p floor m a in_l em ea off =
+map_range-to_last l p floor m a in_l em ea off =
     let cs = clusters l in
     let n = length-clusters l in
     let first = get_or-clusters l p zero_glyph (omega arith) in
@@ -58,43 +60,43 @@ run_merge_to_last l p floor m a in_l em ea off =
     (omega arith)
     (with_cluster-same m 0 (get_or l (p + 1) zero_glyph) (sym second ∙ last))
     ∙ ap (map_range (with_cluster m 0) l a) (sym e)
-    ∙ run_merge_from l p (p + 2) floor m a (p + 2) (omega arith) em ea
+    ∙ map_range_is_run_merge l p (p + 2) floor m a (p + 2) (omega arith) em ea
     (sym (widened_end_plain cs p (p + 2) (ap (λ k. get_or cs k 0) place ∙ last ∙ em)))
 
 -- ---- two glyphs, whose clusters were read
 
-two_least : (cs : List ℕ) (p : ℕ) → p + 2 ≤ length cs
+range_least-two : (cs : List ℕ) (p : ℕ) → p + 2 ≤ length cs
     → range_least cs p (p + 2) ≡ min (get_or cs p 0) (get_or cs (p + 1) 0)
-two_least cs p in_cs =
+range_least-two cs p in_cs =
     let e : p + 2 ≡ p + 1 + 1 = omega arith in
     ap (range_least cs p) e ∙ range_least_more cs p (p + 1) (omega arith) (omega arith)
     ∙ ap (λ k. min k (get_or cs (p + 1) 0)) (range_least_one cs p (omega arith))
 
 -- the second goes to the first's cluster, with its run
-pub run_merge_rising : (l : List hb_glyph_info_t) (p floor x y b : ℕ) → p + 2 ≤ length l → x ≡ get_or (clusters l) p 0
+pub map_range-rising : (l : List hb_glyph_info_t) (p floor x y b : ℕ) → p + 2 ≤ length l → x ≡ get_or (clusters l) p 0
     → y ≡ get_or (clusters l) (p + 1) 0 → x < y → b ≡ run_end (clusters l) y (p + 2)
     → map_range (with_cluster x 0) l (p + 1) b ≡ run_merge l p (p + 2) floor
-run_merge_rising l p floor x y b in_l ex ey up eb =
+map_range-rising l p floor x y b in_l ex ey up eb =
     let cs = clusters l in
-    let two = two_least cs p (omega (arith, in_l, length-clusters l)) in
+    let two = range_least-two cs p (omega (arith, in_l, length-clusters l)) in
     let least : x ≡ range_least cs p (p + 2) = omega (arith, two, ex, ey, up) in
     let place : p + 2 - 1 ≡ p + 1 = omega arith in
     let last : get_or cs (p + 2 - 1) 0 ≡ y = ap (λ k. get_or cs k 0) place ∙ sym ey in
-    run_merge_after_first l p floor x b in_l least
+    map_range-after_first l p floor x b in_l least
     (eb ∙ ap (λ k. run_end cs k (p + 2)) (sym last)
     ∙ sym (widened_end_run cs p (p + 2) (λ h. omega (arith, h, last, least, up))))
     (sym (get_or-clusters l p zero_glyph (omega arith)) ∙ sym ex)
 
 -- the first goes to the second's cluster, with its run
-pub run_merge_falling : (l : List hb_glyph_info_t) (p floor x y a : ℕ) → p + 2 ≤ length l → x ≡ get_or (clusters l) p 0
+pub map_range-falling : (l : List hb_glyph_info_t) (p floor x y a : ℕ) → p + 2 ≤ length l → x ≡ get_or (clusters l) p 0
     → y ≡ get_or (clusters l) (p + 1) 0 → y < x → a ≡ run_start (clusters l) x floor p
     → map_range (with_cluster y 0) l a (p + 1) ≡ run_merge l p (p + 2) floor
-run_merge_falling l p floor x y a in_l ex ey down ea =
+map_range-falling l p floor x y a in_l ex ey down ea =
     let cs = clusters l in
-    let two = two_least cs p (omega (arith, in_l, length-clusters l)) in
+    let two = range_least-two cs p (omega (arith, in_l, length-clusters l)) in
     let least : y ≡ range_least cs p (p + 2) = omega (arith, two, ex, ey, down) in
     let first = get_or-clusters l p zero_glyph (omega arith) in
-    run_merge_to_last l p floor y a in_l least
+    map_range-to_last l p floor y a in_l least
     (ea ∙ ap (λ k. run_start cs k floor p) ex
     ∙ sym (widened_start_run cs p (p + 2) floor (λ h. omega (arith, h, ex, least, down))))
     (λ h. omega (arith, h, first, ex, down))
@@ -104,7 +106,7 @@ pub run_merge_level : (l : List hb_glyph_info_t) (p floor x : ℕ) → p + 2 ≤
     → x ≡ get_or (clusters l) (p + 1) 0 → l ≡ run_merge l p (p + 2) floor
 run_merge_level l p floor x in_l ex ey =
     let cs = clusters l in
-    let two = two_least cs p (omega (arith, in_l, length-clusters l)) in
+    let two = range_least-two cs p (omega (arith, in_l, length-clusters l)) in
     let least : x ≡ range_least cs p (p + 2) = omega (arith, two, ex, ey) in
     let f = with_cluster x 0 in
     let e : p + 2 ≡ p + 1 + 1 = omega arith in
@@ -116,17 +118,17 @@ run_merge_level l p floor x in_l ex ey =
     ∙ map_range_to_last f l p (p + 1) zero_glyph (omega arith) (omega arith)
     (same (p + 1) (sym (get_or-clusters l (p + 1) zero_glyph (omega arith)) ∙ sym ey))
     ∙ ap (map_range f l p) (sym e)
-    ∙ run_merge_from l p (p + 2) floor x p (p + 2) (omega arith) least
+    ∙ map_range_is_run_merge l p (p + 2) floor x p (p + 2) (omega arith) least
     (sym (widened_start_plain cs p (p + 2) floor (sym ex ∙ least)))
     (sym (widened_end_plain cs p (p + 2) (ap (λ k. get_or cs k 0) place ∙ sym ey ∙ least)))
 
 -- ---- one of the two, where no run of it goes on
 
-one_mapped : (f : hb_glyph_info_t → hb_glyph_info_t) (l : List hb_glyph_info_t) (k : ℕ) → k < length l
+map_range-one : (f : hb_glyph_info_t → hb_glyph_info_t) (l : List hb_glyph_info_t) (k : ℕ) → k < length l
     → map_range f l k (k + 1) ≡ set l k (f (get_or l k zero_glyph))
-one_mapped f l k in_l =
+map_range-one f l k in_l =
     sym (ap (λ xs. set xs k (f (get_or l k zero_glyph))) (sym (map_range_none f l (k + 1)))
-    ∙ map_range_front f l k (k + 1) (f (get_or l k zero_glyph)) zero_glyph (omega arith) in_l refl)
+    ∙ set-map_range_front f l k (k + 1) (f (get_or l k zero_glyph)) zero_glyph (omega arith) in_l refl)
 
 pub run_merge_second : (l : List hb_glyph_info_t) (p floor x y : ℕ) → p + 2 ≤ length l → x ≡ get_or (clusters l) p 0
     → y ≡ get_or (clusters l) (p + 1) 0 → x < y → (p + 2 < length l → get_or (clusters l) (p + 2) 0 ≡ y → ⊥)
@@ -139,8 +141,8 @@ run_merge_second l p floor x y in_l ex ey up alone =
       | inl lt ↦ sym (run_end_here cs y (p + 2) (omega (arith, n, lt)) (alone lt))
       | inr ge ↦ sym (run_end_none cs y (p + 2) (omega (arith, n, ge)))
     ] in
-    sym (run_merge_rising l p floor x y (p + 2) in_l ex ey up end)
-    ∙ ap (map_range (with_cluster x 0) l (p + 1)) e ∙ one_mapped (with_cluster x 0) l (p + 1) (omega arith)
+    sym (map_range-rising l p floor x y (p + 2) in_l ex ey up end)
+    ∙ ap (map_range (with_cluster x 0) l (p + 1)) e ∙ map_range-one (with_cluster x 0) l (p + 1) (omega arith)
 
 pub run_merge_first : (l : List hb_glyph_info_t) (p floor x y : ℕ) → p + 2 ≤ length l → x ≡ get_or (clusters l) p 0
     → y ≡ get_or (clusters l) (p + 1) 0 → y < x → (floor < p → get_or (clusters l) (p - 1) 0 ≡ x → ⊥)
@@ -152,22 +154,22 @@ run_merge_first l p floor x y in_l ex ey down alone =
       | inl lt ↦ sym (run_start_here cs x floor p lt (omega (arith, n, in_l)) (alone lt))
       | inr ge ↦ sym (run_start_none cs x floor p ge)
     ] in
-    sym (run_merge_falling l p floor x y p in_l ex ey down start) ∙ one_mapped (with_cluster y 0) l p (omega arith)
+    sym (map_range-falling l p floor x y p in_l ex ey down start) ∙ map_range-one (with_cluster y 0) l p (omega arith)
 
 -- ---- one of the two, whose run goes on: the widened range has a third glyph
 
-pair_least : (cs : List ℕ) (p q : ℕ) → q ≡ p + 2 → q ≤ length cs
+range_least-pair : (cs : List ℕ) (p q : ℕ) → q ≡ p + 2 → q ≤ length cs
     → range_least cs p q ≡ min (get_or cs p 0) (get_or cs (q - 1) 0)
-pair_least cs p q pair in_cs =
+range_least-pair cs p q pair in_cs =
     let last : p + 1 ≡ q - 1 = omega (arith, pair) in
-    ap (range_least cs p) pair ∙ two_least cs p (omega (arith, pair, in_cs))
+    ap (range_least cs p) pair ∙ range_least-two cs p (omega (arith, pair, in_cs))
     ∙ ap (λ k. min (get_or cs p 0) (get_or cs k 0)) last
 
 pub widened_by_second : (cs : List ℕ) (p q floor x y : ℕ) → q ≡ p + 2 → q < length cs → x ≡ get_or cs p 0
     → y ≡ get_or cs (q - 1) 0 → x < y → get_or cs q 0 ≡ y → widened_start cs p q floor + 2 < widened_end cs p q
 widened_by_second cs p q floor x y pair in_cs ex ey up on =
     let off : get_or cs (q - 1) 0 ≡ range_least cs p q → ⊥ =
-    λ h. omega (arith, h, ex, ey, up, pair_least cs p q pair (omega (arith, in_cs))) in
+    λ h. omega (arith, h, ex, ey, up, range_least-pair cs p q pair (omega (arith, in_cs))) in
     let end = widened_end_run cs p q off ∙ ap (λ k. run_end cs k q) (sym ey) in
     omega (
       arith,
@@ -182,7 +184,7 @@ pub widened_by_first : (cs : List ℕ) (p q floor x y : ℕ) → q ≡ p + 2 →
     → widened_start cs p q floor + 2 < widened_end cs p q
 widened_by_first cs p q floor x y pair in_cs ex ey down above on =
     let off : get_or cs p 0 ≡ range_least cs p q → ⊥ =
-    λ h. omega (arith, h, ex, ey, down, pair_least cs p q pair in_cs) in
+    λ h. omega (arith, h, ex, ey, down, range_least-pair cs p q pair in_cs) in
     let start = widened_start_run cs p q floor off ∙ ap (λ k. run_start cs k floor p) (sym ex) in
     omega (
       arith,

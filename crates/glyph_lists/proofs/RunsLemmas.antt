@@ -24,9 +24,9 @@ unfolding run_end
 run_end-le cs c q in_cs = omega (arith, prefix_len-le-length (λ d. eqb d c) (drop q cs), length-drop q cs)
 
 -- each place of the run has its number, and the one after it has another
-pub run_end-all : (cs : List ℕ) (c q k : ℕ) → q ≤ k → k < run_end cs c q → get_or cs k 0 ≡ c
+pub get_or-run_end : (cs : List ℕ) (c q k : ℕ) → q ≤ k → k < run_end cs c q → get_or cs k 0 ≡ c
 unfolding run_end
-run_end-all cs c q k from_q in_run =
+get_or-run_end cs c q k from_q in_run =
     let e = prefix_len_passes (λ d. eqb d c) (drop q cs) (k - q) 0 (omega arith) in
     let n : q + (k - q) ≡ k = omega arith in
     ap (λ j. get_or cs j 0) (sym n) ∙ sym (get_or-drop q cs (k - q) 0) ∙ eqb-true _ c e
@@ -62,10 +62,10 @@ unfolding run_start
 run_start-le cs c floor p = omega arith
 
 -- each place of the run has its number, and the one before it has another
-pub run_start-all : (cs : List ℕ) (c floor p k : ℕ) → p ≤ length cs → run_start cs c floor p ≤ k → k < p
+pub get_or-run_start : (cs : List ℕ) (c floor p k : ℕ) → p ≤ length cs → run_start cs c floor p ≤ k → k < p
     → get_or cs k 0 ≡ c
 unfolding run_start
-run_start-all cs c floor p k in_cs in_run before_p =
+get_or-run_start cs c floor p k in_cs in_run before_p =
     let le = suffix_len-le-length (λ d. eqb d c) (part cs floor p) in
     let n = length-part cs floor p in_cs in
     sym (get_or-part cs floor p k 0 (omega arith) before_p)

@@ -10,8 +10,8 @@ use Rattle.rb_glyph.specs.declared.info.hb_glyph_info_t.{hb_glyph_info_t}
 use Rattle.glyph_lists.specs.Parts.{map_range}
 use Rattle.glyph_lists.specs.Clusters.{clusters, least}
 use Rattle.glyph_lists.specs.Marks.{with_glyph_flags, mark_others, mark_part, ends, ends_least}
-use Rattle.glyph_lists.proofs.PartsLemmas.{length-map_range, map_range_none, map_range_more, map_range_front}
-use Rattle.glyph_lists.proofs.PartsLemmas.{map_range_next, map_range_last, map_range_past}
+use Rattle.glyph_lists.proofs.PartsLemmas.{length-map_range, map_range_none, set-map_range_more, set-map_range_front}
+use Rattle.glyph_lists.proofs.PartsLemmas.{get_or-map_range_next, get_or-map_range_last, map_range_past}
 use Rattle.glyph_lists.proofs.ClustersLemmas.{length-clusters, get_or-clusters, clusters-append}
 
 -- where the first c stands from place q on
@@ -22,65 +22,69 @@ first_from c cs q = q + prefix_len (λ d. not (eqb d c)) (drop q cs)
 unfoldable pub last_before : ℕ → List ℕ → ℕ → ℕ
 last_before c cs q = q - suffix_len (λ d. not (eqb d c)) (take q cs)
 
-pub first_more : (c : ℕ) (cs : List ℕ) (q : ℕ) → q < length cs → (get_or cs q 0 ≡ c → ⊥)
+pub first_from-more : (c : ℕ) (cs : List ℕ) (q : ℕ) → q < length cs → (get_or cs q 0 ≡ c → ⊥)
     → first_from c cs (q + 1) ≡ first_from c cs q
 unfolding first_from
-first_more c cs q h off = omega (arith, prefix_len-drop_yes (λ d. not (eqb d c)) cs q 0 h (ap not (ne_eqb _ c off)))
+first_from-more c cs q h off =
+    omega (arith, prefix_len-drop_yes (λ d. not (eqb d c)) cs q 0 h (ap not (ne_eqb _ c off)))
 
-pub first_here : (c : ℕ) (cs : List ℕ) (q : ℕ) → q < length cs → get_or cs q 0 ≡ c → first_from c cs q ≡ q
+pub first_from-here : (c : ℕ) (cs : List ℕ) (q : ℕ) → q < length cs → get_or cs q 0 ≡ c → first_from c cs q ≡ q
 unfolding first_from
-first_here c cs q h is = omega (arith, prefix_len-drop_no (λ d. not (eqb d c)) cs q 0 h (ap not (eq-eqb _ c is)))
+first_from-here c cs q h is = omega (arith, prefix_len-drop_no (λ d. not (eqb d c)) cs q 0 h (ap not (eq-eqb _ c is)))
 
-pub first_none : (c : ℕ) (cs : List ℕ) (q : ℕ) → length cs ≤ q → first_from c cs q ≡ q
+pub first_from-none : (c : ℕ) (cs : List ℕ) (q : ℕ) → length cs ≤ q → first_from c cs q ≡ q
 unfolding first_from
-first_none c cs q h = omega (arith, prefix_len-drop_all (λ d. not (eqb d c)) cs q h)
+first_from-none c cs q h = omega (arith, prefix_len-drop_all (λ d. not (eqb d c)) cs q h)
 
-pub first_is : (c : ℕ) (cs : List ℕ) → first_from c cs 0 ≡ prefix_len (λ d. not (eqb d c)) cs
+pub first_from-zero : (c : ℕ) (cs : List ℕ) → first_from c cs 0 ≡ prefix_len (λ d. not (eqb d c)) cs
 unfolding first_from
-first_is c cs = omega arith
+first_from-zero c cs = omega arith
 
-pub last_more : (c : ℕ) (cs : List ℕ) (q : ℕ) → 0 < q → q ≤ length cs → (get_or cs (q - 1) 0 ≡ c → ⊥)
+pub last_before-more : (c : ℕ) (cs : List ℕ) (q : ℕ) → 0 < q → q ≤ length cs → (get_or cs (q - 1) 0 ≡ c → ⊥)
     → last_before c cs (q - 1) ≡ last_before c cs q
 unfolding last_before
-last_more c cs q h h2 off =
+last_before-more c cs q h h2 off =
     omega (arith, suffix_len-take_yes (λ d. not (eqb d c)) cs q 0 h h2 (ap not (ne_eqb _ c off)))
 
-pub last_here : (c : ℕ) (cs : List ℕ) (q : ℕ) → 0 < q → q ≤ length cs → get_or cs (q - 1) 0 ≡ c → last_before c cs q ≡ q
+pub last_before-here : (c : ℕ) (cs : List ℕ) (q : ℕ) → 0 < q → q ≤ length cs → get_or cs (q - 1) 0 ≡ c
+    → last_before c cs q ≡ q
 unfolding last_before
-last_here c cs q h h2 is = omega (arith, suffix_len-take_no (λ d. not (eqb d c)) cs q 0 h h2 (ap not (eq-eqb _ c is)))
+last_before-here c cs q h h2 is =
+    omega (arith, suffix_len-take_no (λ d. not (eqb d c)) cs q 0 h h2 (ap not (eq-eqb _ c is)))
 
-pub last_none : (c : ℕ) (cs : List ℕ) (q : ℕ) → q ≤ 0 → last_before c cs q ≡ q
+pub last_before_none : (c : ℕ) (cs : List ℕ) (q : ℕ) → q ≤ 0 → last_before c cs q ≡ q
 unfolding last_before
-last_none c cs q h = omega arith
+last_before_none c cs q h = omega arith
 
-pub last_is : (c : ℕ) (cs : List ℕ) (q : ℕ) → length cs ≤ q
+pub last_before-length : (c : ℕ) (cs : List ℕ) (q : ℕ) → length cs ≤ q
     → last_before c cs q ≡ q - suffix_len (λ d. not (eqb d c)) cs
 unfolding last_before
-last_is c cs q h = ap (λ xs. q - suffix_len (λ d. not (eqb d c)) xs) (take_all q cs h)
+last_before-length c cs q h = ap (λ xs. q - suffix_len (λ d. not (eqb d c)) xs) (take_all q cs h)
 
 -- a walk down that came to the first number, and a walk up that came to the last
-pub last_at_first : (c : ℕ) (cs : List ℕ) (q : ℕ) → 0 < length cs → get_or cs 0 0 ≡ c → q ≡ 1 → last_before c cs q ≡ q
-last_at_first c cs q h is e =
-    last_here c cs q (omega arith) (omega arith) (ap (λ k. get_or cs (k - 1) 0) e ∙ is)
+pub last_before-first : (c : ℕ) (cs : List ℕ) (q : ℕ) → 0 < length cs → get_or cs 0 0 ≡ c → q ≡ 1
+    → last_before c cs q ≡ q
+last_before-first c cs q h is e =
+    last_before-here c cs q (omega arith) (omega arith) (ap (λ k. get_or cs (k - 1) 0) e ∙ is)
 
-pub first_at_last : (c : ℕ) (cs : List ℕ) (q : ℕ) → q + 1 ≡ length cs → get_or cs (length cs - 1) 0 ≡ c
+pub first_from-last : (c : ℕ) (cs : List ℕ) (q : ℕ) → q + 1 ≡ length cs → get_or cs (length cs - 1) 0 ≡ c
     → first_from c cs q ≡ q
-first_at_last c cs q e is =
+first_from-last c cs q e is =
     let z : q ≡ length cs - 1 = omega arith in
-    first_here c cs q (omega arith) (ap (λ k. get_or cs k 0) z ∙ is)
+    first_from-here c cs q (omega arith) (ap (λ k. get_or cs k 0) z ∙ is)
 
 pub ruleset walks_up = (
   length-clusters,
   get_or-clusters,
   length-map_range,
   map_range_none,
-  map_range_more,
-  map_range_next,
-  first_more,
-  first_here,
-  first_none,
-  first_is,
-  first_at_last,
+  set-map_range_more,
+  get_or-map_range_next,
+  first_from-more,
+  first_from-here,
+  first_from-none,
+  first_from-zero,
+  first_from-last,
 )
 
 pub ruleset walks_down = (
@@ -88,52 +92,52 @@ pub ruleset walks_down = (
   get_or-clusters,
   length-map_range,
   map_range_none,
-  map_range_front,
-  map_range_last,
-  last_more,
-  last_here,
-  last_none,
-  last_is,
-  last_at_first,
+  set-map_range_front,
+  get_or-map_range_last,
+  last_before-more,
+  last_before-here,
+  last_before_none,
+  last_before-length,
+  last_before-first,
 )
 
 -- ---- one part
 
-nothing_marked : (bits a b : ℕ) → a ≤ b → map_range (with_glyph_flags bits) [] a b ≡ []
-nothing_marked bits a b up = map_range_past (with_glyph_flags bits) [] a b up (omega arith)
+map_range-nothing : (bits a b : ℕ) → a ≤ b → map_range (with_glyph_flags bits) [] a b ≡ []
+map_range-nothing bits a b up = map_range_past (with_glyph_flags bits) [] a b up (omega arith)
 
-pub part_nothing : (bits m : ℕ) (r : List hb_glyph_info_t) → length r ≡ 0 → mark_part bits m r ≡ r
+pub mark_part-nothing : (bits m : ℕ) (r : List hb_glyph_info_t) → length r ≡ 0 → mark_part bits m r ≡ r
 unfolding mark_part
-part_nothing bits m [] h =
+mark_part-nothing bits m [] h =
     elim (cases_Bool (eqb 0 m)) [
-      | inl e ↦ cond-true _ _ _ e ∙ nothing_marked bits (0 - suffix_len (λ c. not (eqb c m)) []) 0 (omega arith)
+      | inl e ↦ cond-true _ _ _ e ∙ map_range-nothing bits (0 - suffix_len (λ c. not (eqb c m)) []) 0 (omega arith)
       | inr e ↦ cond-false _ _ _ e ∙
           elim (cases_Bool (eqb 0 m)) [
-            | inl e2 ↦ cond-true _ _ _ e2 ∙ nothing_marked bits 0 (prefix_len (λ c. not (eqb c m)) []) (omega arith)
+            | inl e2 ↦ cond-true _ _ _ e2 ∙ map_range-nothing bits 0 (prefix_len (λ c. not (eqb c m)) []) (omega arith)
             | inr e2 ↦ cond-false _ _ _ e2
           ]
     ]
-part_nothing bits m (g ∷ r) h = absurd (omega arith)
+mark_part-nothing bits m (g ∷ r) h = absurd (omega arith)
 
-pub part_first : (bits m : ℕ) (r : List hb_glyph_info_t) → get_or (clusters r) 0 0 ≡ m
+pub mark_part-first : (bits m : ℕ) (r : List hb_glyph_info_t) → get_or (clusters r) 0 0 ≡ m
     → mark_part bits m r ≡ map_range (with_glyph_flags bits) r (length r - suffix_len (λ c. not (eqb c m)) (clusters r))
     (length r)
 unfolding mark_part
-part_first bits m r h = cond-true _ _ _ (eq-eqb _ m h)
+mark_part-first bits m r h = cond-true _ _ _ (eq-eqb _ m h)
 
-pub part_last : (bits m : ℕ) (r : List hb_glyph_info_t) → (get_or (clusters r) 0 0 ≡ m → ⊥)
+pub mark_part-last : (bits m : ℕ) (r : List hb_glyph_info_t) → (get_or (clusters r) 0 0 ≡ m → ⊥)
     → get_or (clusters r) (length r - 1) 0 ≡ m
     → mark_part bits m r ≡ map_range (with_glyph_flags bits) r 0 (prefix_len (λ c. not (eqb c m)) (clusters r))
 unfolding mark_part
-part_last bits m r h h2 = cond-false _ _ _ (ne_eqb _ m h) ∙ cond-true _ _ _ (eq-eqb _ m h2)
+mark_part-last bits m r h h2 = cond-false _ _ _ (ne_eqb _ m h) ∙ cond-true _ _ _ (eq-eqb _ m h2)
 
-pub part_else : (bits m : ℕ) (r : List hb_glyph_info_t) → (get_or (clusters r) 0 0 ≡ m → ⊥)
+pub mark_part-else : (bits m : ℕ) (r : List hb_glyph_info_t) → (get_or (clusters r) 0 0 ≡ m → ⊥)
     → (get_or (clusters r) (length r - 1) 0 ≡ m → ⊥)
     → mark_part bits m r ≡ mark_others bits m r
 unfolding mark_part
-part_else bits m r h h2 = cond-false _ _ _ (ne_eqb _ m h) ∙ cond-false _ _ _ (ne_eqb _ m h2)
+mark_part-else bits m r h h2 = cond-false _ _ _ (ne_eqb _ m h) ∙ cond-false _ _ _ (ne_eqb _ m h2)
 
-pub ruleset parts = (get_or-clusters, part_nothing, part_first, part_last, part_else)
+pub ruleset parts = (get_or-clusters, mark_part-nothing, mark_part-first, mark_part-last, mark_part-else)
 
 -- ---- the least of the ends
 
@@ -146,32 +150,32 @@ least_ends (g ∷ l) d h =
     ap (λ k. min g.cluster k) (ap (λ j. get_or (clusters (g ∷ l)) j 0) n
     ∙ get_or-clusters (g ∷ l) (suc (length l) - 1) d (omega arith))
 
-pub no_ends : (l : List hb_glyph_info_t) → length l ≡ 0 → least (ends (clusters l)) ≡ 0
+pub least-no_ends : (l : List hb_glyph_info_t) → length l ≡ 0 → least (ends (clusters l)) ≡ 0
 unfolding least ends
-no_ends [] h = refl
-no_ends (g ∷ l) h = absurd (omega arith)
+least-no_ends [] h = refl
+least-no_ends (g ∷ l) h = absurd (omega arith)
 
-pub ends_left : (r s : List hb_glyph_info_t) → length r ≡ 0 → ends_least r s ≡ least (ends (clusters s))
+pub ends_least-left : (r s : List hb_glyph_info_t) → length r ≡ 0 → ends_least r s ≡ least (ends (clusters s))
 unfolding ends_least ends
-ends_left [] s h = refl
-ends_left (g ∷ r) s h = absurd (omega arith)
+ends_least-left [] s h = refl
+ends_least-left (g ∷ r) s h = absurd (omega arith)
 
-pub ends_right : (r s : List hb_glyph_info_t) → length s ≡ 0 → ends_least r s ≡ least (ends (clusters r))
+pub ends_least-right : (r s : List hb_glyph_info_t) → length s ≡ 0 → ends_least r s ≡ least (ends (clusters r))
 unfolding ends_least ends
-ends_right r [] h = ap least (append-nil (ends (clusters r)))
-ends_right r (g ∷ s) h = absurd (omega arith)
+ends_least-right r [] h = ap least (append-nil (ends (clusters r)))
+ends_least-right r (g ∷ s) h = absurd (omega arith)
 
 min_four : (a b c d : ℕ) → min a (min b (min c d)) ≡ min (min a b) (min c d)
 min_four a b c d = omega arith
 
-pub ends_both : (r s : List hb_glyph_info_t) → 0 < length r → 0 < length s
+pub ends_least-both : (r s : List hb_glyph_info_t) → 0 < length r → 0 < length s
     → ends_least r s ≡ min (least (ends (clusters r))) (least (ends (clusters s)))
 unfolding ends_least ends least
-ends_both [] s h h2 = absurd (omega arith)
-ends_both (g ∷ r) [] h h2 = absurd (omega arith)
-ends_both (g ∷ r) (k ∷ s) h h2 = min_four _ _ _ _
+ends_least-both [] s h h2 = absurd (omega arith)
+ends_least-both (g ∷ r) [] h h2 = absurd (omega arith)
+ends_least-both (g ∷ r) (k ∷ s) h h2 = min_four _ _ _ _
 
-pub ruleset ends_of = (least_ends, no_ends, ends_left, ends_right, ends_both)
+pub ruleset ends_of = (least_ends, least-no_ends, ends_least-left, ends_least-right, ends_least-both)
 
 -- ---- the least of all
 

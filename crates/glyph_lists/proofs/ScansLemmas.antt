@@ -15,7 +15,7 @@ use Rattle.glyph_lists.specs.Clusters.{clusters, least}
 use Rattle.glyph_lists.specs.Marks.{with_glyph_flags, mark, mark_part, end_mark, ends, ends_least}
 use Rattle.glyph_lists.specs.Scans.{scan_of, scan_least, part_scan, two_part_scan}
 use Rattle.glyph_lists.proofs.PartsLemmas.{length-map_range}
-use Rattle.glyph_lists.proofs.ScanEndsLemmas.{part_nothing}
+use Rattle.glyph_lists.proofs.ScanEndsLemmas.{mark_part-nothing}
 use Rattle.glyph_lists.proofs.SidesLemmas.{on_part-past, cut_out, cut_input}
 
 -- ---- one part
@@ -23,7 +23,7 @@ use Rattle.glyph_lists.proofs.SidesLemmas.{on_part-past, cut_out, cut_input}
 -- the scan of no glyph
 pub part_scan-none : (any_order : Bool) (bits m : ℕ) → part_scan any_order bits m [] ≡ []
 part_scan-none true bits m = refl
-part_scan-none false bits m = part_nothing bits m [] refl
+part_scan-none false bits m = mark_part-nothing bits m [] refl
 
 length-mark_part : (bits m : ℕ) (r : List hb_glyph_info_t) → length (mark_part bits m r) ≡ length r
 unfolding mark_part
@@ -48,7 +48,7 @@ pub two_part_scan-none : (any_order : Bool) (bits : ℕ) (r : List hb_glyph_info
 unfolding scan_of two_part_scan mark end_mark ends_least least ends
 two_part_scan-none true bits r = refl
 two_part_scan-none false bits r = ap (λ xs. xs ++ mark_part bits (least (ends (clusters r))) r)
-    (part_nothing bits (least (ends (clusters r))) [] refl)
+    (mark_part-nothing bits (least (ends (clusters r))) [] refl)
 
 -- ---- the end of a list
 
@@ -77,9 +77,9 @@ module _ {X : Type 0} (xs : List X) (p : ℕ) where
       ∙ ap (λ ys. ys ++ g (drop p xs)) before_slice
 
 -- a slice that was written
-written : {X : Type 0} (g : List X → List X) (xs : List X) (a b : ℕ) → a ≤ b
+put_mid-part : {X : Type 0} (g : List X → List X) (xs : List X) (a b : ℕ) → a ≤ b
     → put_mid a (b - a) xs (g (part xs a b)) ≡ on_part g xs a b
-written g xs a b up =
+put_mid-part g xs a b up =
     let e : a + (b - a) ≡ b = omega arith in
     sym (append_assoc (take a xs) (g (part xs a b)) (drop (b - a) (drop a xs)))
     ∙ ap (λ ys. take a xs ++ g (part xs a b) ++ ys) (drop-drop (b - a) a xs ∙ ap (λ k. drop k xs) e)
@@ -194,7 +194,7 @@ module _ (any_order : Bool) (bits : ℕ) where
           ≡ take (length out) (on_part (two_part_scan any_order bits (length out - p)) (out ++ rest) p q)
       slice_scanned_out e =
           ap (put_mid seam (length out - seam) out) e
-          ∙ written (part_scan any_order bits m) out seam (length out) (omega arith)
+          ∙ put_mid-part (part_scan any_order bits m) out seam (length out) (omega arith)
           ∙ ap (λ k. on_part (part_scan any_order bits m) out k (length out)) es
           ∙ on_slice_end out p (part_scan any_order bits m)
           ∙ ap (λ k. take p out ++ part_scan any_order bits k in_out) least_is ∙ scanned_out
@@ -203,7 +203,7 @@ module _ (any_order : Bool) (bits : ℕ) where
           → put_mid from (to - from) rest ys
           ≡ drop (length out) (on_part (two_part_scan any_order bits (length out - p)) (out ++ rest) p q)
       slice_scanned_input e =
-          ap (put_mid from (to - from) rest) e ∙ written (part_scan any_order bits m) rest from to (omega arith)
+          ap (put_mid from (to - from) rest) e ∙ put_mid-part (part_scan any_order bits m) rest from to (omega arith)
           ∙ ap (λ k. on_part (part_scan any_order bits m) rest k to) ef
           ∙ ap (λ k. on_part (part_scan any_order bits m) rest (p - length out) k) et
           ∙ ap (λ k. on_part (part_scan any_order bits k) rest (p - length out) (q - length out)) least_is

@@ -18,9 +18,9 @@ use Rattle.glyph_lists.proofs.RunsLemmas.{run_end_none, widened_start-le, widene
 
 -- ---- two lists of numbers
 
-push : (b : Bool) (n x y : ℕ) → cond b (n + x) (n + y) ≡ n + cond b x y
-push true n x y = refl
-push false n x y = refl
+cond-add : (b : Bool) (n x y : ℕ) → cond b (n + x) (n + y) ≡ n + cond b x y
+cond-add true n x y = refl
+cond-add false n x y = refl
 
 module _ (cs ds : List ℕ) (apart : NoRunCrosses cs ds) (n : ℕ) (len : length cs ≡ n) where
   abbrev all : List ℕ
@@ -99,7 +99,7 @@ module _ (cs ds : List ℕ) (apart : NoRunCrosses cs ds) (n : ℕ) (len : length
       let t = eqb c (range_least ds a b) in
       ap (λ x. F x (range_least all (n + a) (n + b))) (at_right a) ∙ ap (F c) (least_right a b)
       ∙ ap (cond t (n + a)) (start_right c floor a (omega arith) (omega arith) (λ z. ap (λ i. get_or ds i 0) z))
-      ∙ push t n a (run_start ds c (floor - n) a)
+      ∙ cond-add t n a (run_start ds c (floor - n) a)
 
   pub widened_end_right : (a b : ℕ) → a < b → b ≤ length ds → widened_end all (n + a) (n + b) ≡ n + widened_end ds a b
   unfolding widened_end
@@ -110,7 +110,7 @@ module _ (cs ds : List ℕ) (apart : NoRunCrosses cs ds) (n : ℕ) (len : length
       let t = eqb c (range_least ds a b) in
       ap (λ i. F (get_or all i 0) (range_least all (n + a) (n + b))) e
       ∙ ap (λ x. F x (range_least all (n + a) (n + b))) (at_right (b - 1)) ∙ ap (F c) (least_right a b)
-      ∙ ap (cond t (n + b)) (end_right c b) ∙ push t n b (run_end ds c b)
+      ∙ ap (cond t (n + b)) (end_right c b) ∙ cond-add t n b (run_end ds c b)
 
   pub least_in_right : (a b : ℕ) → range_least all (n + a) (n + b) ≡ range_least ds a b
   least_in_right = least_right

@@ -15,9 +15,9 @@ use Rattle.glyph_lists.proofs.PartsLemmas.{length-map_range}
 use Rattle.glyph_lists.proofs.MergesLemmas.{run_merge_short}
 
 -- a range that ends past the list, or at its end
-pub range_cut : {X : Type 0} (f : X → X) (xs : List X) (a b n : ℕ) → length xs ≡ n → a ≤ b → a ≤ n
+pub map_range-cut : {X : Type 0} (f : X → X) (xs : List X) (a b n : ℕ) → length xs ≡ n → a ≤ b → a ≤ n
     → map_range f xs a (min b n) ≡ map_range f xs a b
-range_cut f xs a b n h up h2 = ap (λ k. map_range f xs a (min b k)) (sym h) ∙ map_range_cut f xs a b (omega arith)
+map_range-cut f xs a b n h up h2 = ap (λ k. map_range f xs a (min b k)) (sym h) ∙ map_range_cut f xs a b (omega arith)
 
 -- ---- a list that is cut where the first of two ends
 
@@ -36,15 +36,15 @@ pub cut_input : {X : Type 0} (out xs ys l : List X) → length xs ≡ length out
 cut_input out xs ys l n e = sym (ap (λ k. drop k l) (sym n) ∙ ap (drop (length xs)) e ∙ drop-append_seam xs ys)
 
 -- a range of both, on either side
-pub range_in_out : {X : Type 0} (f : X → X) (xs ys : List X) (a b : ℕ) → a ≤ b
+pub take-map_range : {X : Type 0} (f : X → X) (xs ys : List X) (a b : ℕ) → a ≤ b
     → take (length xs) (map_range f (xs ++ ys) a b) ≡ map_range f xs a b
-range_in_out f xs ys a b up =
+take-map_range f xs ys a b up =
     sym (cut_out xs (map_range f xs a b) (map_range f ys (a - length xs) (b - length xs)) _
     (length-map_range f xs a b up) (map_range-append f xs ys a b up))
 
-pub range_in_input : {X : Type 0} (f : X → X) (xs ys : List X) (a b : ℕ) → a ≤ b
+pub drop-map_range_input : {X : Type 0} (f : X → X) (xs ys : List X) (a b : ℕ) → a ≤ b
     → drop (length xs) (map_range f (xs ++ ys) a b) ≡ map_range f ys (a - length xs) (b - length xs)
-range_in_input f xs ys a b up =
+drop-map_range_input f xs ys a b up =
     sym (cut_input xs (map_range f xs a b) (map_range f ys (a - length xs) (b - length xs)) _
     (length-map_range f xs a b up) (map_range-append f xs ys a b up))
 
@@ -112,7 +112,7 @@ merge_or_mark_past any_order xs ys a b floor e h =
     ∙ ap (λ zs. zs ++ on_part (mark BREAK_BITS) (drop (length xs) (xs ++ ys)) a b) (take-append_seam xs ys)
     ∙ ap (λ zs. xs ++ on_part (mark BREAK_BITS) zs a b) (drop-append_seam xs ys)
 
-pub ruleset sides = (range_cut, range_in_out, range_in_input, map_range_none, map_range_past)
+pub ruleset sides = (map_range-cut, take-map_range, drop-map_range_input, map_range_none, map_range_past)
 
 pub ruleset merges = (
   merge_or_mark_merges,

@@ -54,7 +54,7 @@ pub fn delete_in_place<F: Fn(&hb_glyph_info_t) -> bool>(
 /// Deletes the glyph at `at` of a walk that kept the first `kept` glyphs. Returns whether it was merged with the next
 /// one, where merges mark.
 #[inline]
-#[tactic(auto, using(crate::proofs::DeletingWalkLemmas::deleted_in_place))]
+#[tactic(auto, using(crate::proofs::DeletingWalkLemmas::sides_at_deleted))]
 fn delete_at(info: &mut [hb_glyph_info_t], kept: usize, at: usize, order: ClusterOrder) -> bool
     requires order { kept ≤ at }
     requires within { at < length info.old }

@@ -15,7 +15,7 @@ pub fn reverse_range<T>(items: &mut [T], start: usize, end: usize)
 }
 
 /// The end of the group that begins at `start`, where `group` says of two neighbours whether they are in one group.
-#[tactic(auto, using(crate::proofs::GroupsLemmas::group_of_last))]
+#[tactic(auto, using(crate::proofs::GroupsLemmas::first_group_len_of_last))]
 pub fn group_end<F: Fn(&hb_glyph_info_t, &hb_glyph_info_t) -> bool>(
     info: &[hb_glyph_info_t],
     start: usize,

@@ -16,7 +16,7 @@ use rb_glyph::hb_glyph_info_t;
 
 /// Merges the glyphs from `start` to `end` of one list. It stands out of line, as most merges are of two glyphs.
 #[inline(never)]
-#[tactic(auto, using(crate::proofs::RunMergeLemmas::run_merge_from))]
+#[tactic(auto, using(crate::proofs::RunMergeLemmas::map_range_is_run_merge))]
 fn merge_many(info: &mut [hb_glyph_info_t], start: usize, end: usize, floor: usize)
     requires some { start + 2 ≤ end }
     requires within { end ≤ length info.old }
@@ -83,7 +83,7 @@ pub fn merge_slice(
 
 /// Merges the glyphs from `start` to `end` of the two sides as one list, `out` first.
 #[inline(never)]
-#[tactic(auto, using(crate::proofs::RunMergeLemmas::run_merge_from))]
+#[tactic(auto, using(crate::proofs::RunMergeLemmas::map_range_is_run_merge))]
 fn merge_across(
     out: &mut [hb_glyph_info_t],
     input: &mut [hb_glyph_info_t],

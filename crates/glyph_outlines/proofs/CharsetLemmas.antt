@@ -18,10 +18,10 @@ pub named-next : (is_long : Bool) (bs : List ℕ) (row before left : ℕ) → na
 unfolding named
 named-next is_long bs row before left so here = rw (add-one row, so, here) refl
 
-none_after : (o : Option ℕ) (left : Option ℕ) → left ≡ None
+option_and_then-none_after : (o : Option ℕ) (left : Option ℕ) → left ≡ None
     → option_and_then (λ before. option_map (λ left. before + left + 1) left) o ≡ None
-none_after None left none = refl
-none_after (Some before) left none = rw none refl
+option_and_then-none_after None left none = refl
+option_and_then-none_after (Some before) left none = rw none refl
 
 -- behind a range that does not lie in the table nothing is named
 pub named-outside : (is_long : Bool) (bs : List ℕ) (row rows : ℕ) → range_left is_long bs row ≡ None → row < rows
@@ -33,7 +33,7 @@ named-outside is_long bs row (suc rows) none behind =
       | inl more ↦ rw (named-outside is_long bs row rows none more) refl
       | inr here ↦
           let is : rows ≡ row = omega arith in
-          rw is (none_after (named is_long bs row) (range_left is_long bs row) none)
+          rw is (option_and_then-none_after (named is_long bs row) (range_left is_long bs row) none)
     ]
 
 -- the ranges before a row do not reach the glyph

@@ -6,11 +6,11 @@ use Rattle.glyph_layout.specs.Walk.{glyph_at, matches, next_found, passes}
 use Rattle.glyph_layout.specs.declared.walk.Walk.{Walk}
 use Rattle.glyph_layout.specs.declared.walk.Found.TheVariants.{At}
 use Rattle.glyph_layout.specs.declared.wanted.Wanted.TheVariants.{Shown}
-use Rattle.glyph_layout.proofs.WalkLemmas.{kept_here}
+use Rattle.glyph_layout.proofs.WalkLemmas.{first_kept-here}
 
 pub next_is_behind : (w : Walk) (gs : List hb_glyph_info_t) (i : ℕ) → i + 1 < length gs
     → passes w Shown (glyph_at gs (i + 1)) ≡ false → matches w Shown (glyph_at gs (i + 1)) ≡ true
     → At (i + 1) ≡ next_found w Shown gs i
 unfolding next_found
 next_is_behind w gs i within kept fits =
-    rw (kept_here (passes w Shown) gs (i + 1) within kept, lt-ltb (i + 1) (length gs) within, fits) refl
+    rw (first_kept-here (passes w Shown) gs (i + 1) within kept, lt-ltb (i + 1) (length gs) within, fits) refl

@@ -6,7 +6,7 @@ ghost use Rattle.glyph_lists.specs.Masks.{reset_masks};
 use shaping_buffer::{HB_BUFFER_SCRATCH_FLAG_HAS_GPOS_ATTACHMENT, hb_buffer_t};
 
 /// Marks glyphs from a place up to another as unsafe to break and to concatenate (HarfBuzz, `unsafe_to_break`).
-#[tactic(auto, using(crate::proofs::FlagLemmas::break_keeps))]
+#[tactic(auto, using(crate::proofs::FlagLemmas::reset_masks_unsafe_to_break))]
 pub(crate) fn mark_break(buffer: &mut hb_buffer_t, from: usize, to: usize)
     requires closed { buffer.old.have_output ≡ false }
     requires placed { IsSome buffer.old.positions }
@@ -24,7 +24,7 @@ pub(crate) fn mark_break(buffer: &mut hb_buffer_t, from: usize, to: usize)
 
 /// Marks glyphs from a place up to another as unsafe to concatenate, if the buffer's flags ask for that (HarfBuzz,
 /// `unsafe_to_concat`).
-#[tactic(auto, using(crate::proofs::FlagLemmas::concat_keeps))]
+#[tactic(auto, using(crate::proofs::FlagLemmas::reset_masks_unsafe_to_concat))]
 pub(crate) fn mark_concat(buffer: &mut hb_buffer_t, from: usize, to: usize)
     requires closed { buffer.old.have_output ≡ false }
     requires placed { IsSome buffer.old.positions }

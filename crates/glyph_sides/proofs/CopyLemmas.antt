@@ -11,9 +11,9 @@ use Rattle.glyph_lists.specs.Replacement.{copies}
 abbrev pub with_id : ℕ → hb_glyph_info_t → hb_glyph_info_t
 with_id id g = record g { glyph_id = id }
 
-pub copied : (g : hb_glyph_info_t) (ids : List ℕ) (i d : ℕ) → i < length ids
+pub copies-take : (g : hb_glyph_info_t) (ids : List ℕ) (i d : ℕ) → i < length ids
     → copies g (take (i + 1) ids) ≡ copies g (take i ids) ++ with_id (get_or ids i d) g ∷ []
-copied g ids i d h =
+copies-take g ids i d h =
     ap (copies g) (take_more ids i d h) ∙ map-append (λ id. with_id id g) (take i ids) (get_or ids i d ∷ [])
 
 set_at : {X : Type 0} (front rest : List X) (y a : X) → set (front ++ y ∷ rest) (length front) a ≡ front ++ a ∷ rest
@@ -30,12 +30,12 @@ set_next front before n a d long h =
     ∙ sym (append_assoc front (a ∷ []) (drop (suc n) before))
     ∙ ap (λ k. (front ++ a ∷ []) ++ drop k before) (sym (add-one n))
 
-pub copied_over : (x : hb_glyph_info_t) (ids : List ℕ) (old : List hb_glyph_info_t) (i d : ℕ) → i < length ids
+pub set_copies : (x : hb_glyph_info_t) (ids : List ℕ) (old : List hb_glyph_info_t) (i d : ℕ) → i < length ids
     → length ids ≤ length old
     → set (copies x (take i ids) ++ drop i old) i (with_id (get_or ids i d) x)
     ≡ copies x (take (i + 1) ids) ++ drop (i + 1) old
-copied_over x ids old i d h within =
+set_copies x ids old i d h within =
     let long : length (copies x (take i ids)) ≡ i =
     omega (arith, length-map (take i ids) (λ g. with_id g x), length-take-le i ids (omega arith)) in
     set_next (copies x (take i ids)) old i (with_id (get_or ids i d) x) x long (omega arith)
-    ∙ ap (λ l. l ++ drop (i + 1) old) (sym (copied x ids i d h))
+    ∙ ap (λ l. l ++ drop (i + 1) old) (sym (copies-take x ids i d h))

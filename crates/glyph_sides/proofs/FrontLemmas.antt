@@ -39,22 +39,23 @@ module _ (v : Vec hb_glyph_info_t) (n : ℕ) (ws : List hb_glyph_info_t) (within
       ∙ drop-drop (m - length front) n v.items
       ∙ (let e : n + (m - length front) ≡ m = grind (arith, long) in ap (λ k. drop k v.items) e)
 
-pub front_none : (v : Vec hb_glyph_info_t) (ws : List hb_glyph_info_t) → (with_front v 0 ws).items ≡ v.items
-front_none v ws = front_items v 0 ws (grind arith)
+pub items-with_front_none : (v : Vec hb_glyph_info_t) (ws : List hb_glyph_info_t) → (with_front v 0 ws).items ≡ v.items
+items-with_front_none v ws = front_items v 0 ws (grind arith)
 
 -- what is left to read, where the first were written over
-pub front_input : (is : Bool) (v : Vec hb_glyph_info_t) (n m : ℕ) (ws : List hb_glyph_info_t) → n ≤ length v.items
+pub if-with_front : (is : Bool) (v : Vec hb_glyph_info_t) (n m : ℕ) (ws : List hb_glyph_info_t) → n ≤ length v.items
     → n ≤ m → (is ≡ false → n ≡ 0)
     → (if is then drop m (with_front v n ws).items else (with_front v n ws).items)
     ≡ (if is then drop m v.items else v.items)
-front_input true v n m ws within after none = front_rest v n ws within m after
-front_input false v n m ws within after none = ap (λ k. (with_front v k ws).items) (none refl) ∙ front_none v ws
+if-with_front true v n m ws within after none = front_rest v n ws within m after
+if-with_front false v n m ws within after none =
+    ap (λ k. (with_front v k ws).items) (none refl) ∙ items-with_front_none v ws
 
 -- what was put out, where a glyph at the cursor or after it is written
-pub set_kept : {X : Type 0} (is : Bool) (ys xs : List X) (n i : ℕ) (x : X) → (is ≡ false → n ≤ i)
+pub if-set : {X : Type 0} (is : Bool) (ys xs : List X) (n i : ℕ) (x : X) → (is ≡ false → n ≤ i)
     → (if is then ys else take n (set xs i x)) ≡ (if is then ys else take n xs)
-set_kept true ys xs n i x h = refl
-set_kept false ys xs n i x h = take-set-le n xs i x (h refl)
+if-set true ys xs n i x h = refl
+if-set false ys xs n i x h = take-set-le n xs i x (h refl)
 
 -- the last glyph that was put out in place, written
 module _ {X : Type 0} (separate : Bool) (ys xs : List X) (n : ℕ) (x : X) (in_place : separate ≡ false)

@@ -12,9 +12,9 @@ place_closed k s closed none =
     omega (arith, start, before)
 
 -- the merge of both sides is that of the list
-pub closed_merge : (any_order : Bool) (a b : ℕ) (s : TwoLists) → s.is_open ≡ false → s.out ≡ []
+pub input-closed_merge : (any_order : Bool) (a b : ℕ) (s : TwoLists) → s.is_open ≡ false → s.out ≡ []
     → record s { input = merge_or_mark any_order s.input a b s.idx } ≡ input_merged any_order a b s
-closed_merge any_order a b s closed none =
+input-closed_merge any_order a b s closed none =
     let floor = if s.is_open then 0 else s.idx in
     let l = merge_or_mark any_order (both s) (place a s) (place b s) floor in
     let merged : l ≡ merge_or_mark any_order s.input a b s.idx =

@@ -26,9 +26,9 @@ length_replaced level n ids s =
     )
 
 -- the input becomes shorter by what is read
-pub left_replaced : (level : Bool) (n : ℕ) (ids : List ℕ) (s : TwoLists) → n ≤ length s.input
+pub add-length_replaced : (level : Bool) (n : ℕ) (ids : List ℕ) (s : TwoLists) → n ≤ length s.input
     → length (replaced level n ids s).input + n ≡ length s.input
-left_replaced level n ids s within =
+add-length_replaced level n ids s within =
     let l = merge_or_mark level (both s) (length s.out) (length s.out + n) 0 in
     omega (
       arith,
@@ -47,7 +47,7 @@ done_out level n ids s new (Err e) made = tt
 pub done_left : {T : Type 0} (level : Bool) (n : ℕ) (ids : List ℕ) (s new : TwoLists) (r : Result T AllocError)
     → n ≤ length s.input → Makes (replaced level n ids s) s r new → OnOk r (length new.input + n ≡ length s.input)
 done_left level n ids s new (Ok v) within made =
-    ap (λ (t : TwoLists). length t.input + n) made ∙ left_replaced level n ids s within
+    ap (λ (t : TwoLists). length t.input + n) made ∙ add-length_replaced level n ids s within
 done_left level n ids s new (Err e) within made = tt
 
 pub ruleset lengths = (done_out, done_left)

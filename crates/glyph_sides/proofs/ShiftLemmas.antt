@@ -19,15 +19,15 @@ drop_past i xs ys h =
     ap (λ k. drop k (xs ++ ys)) e ∙ drop-append-add xs ys (i - length xs)
 
 -- a part of a list
-pub range_is : {X : Type 0} (xs : List X) (start end : ℕ) → start ≤ end
+pub drop_is_range : {X : Type 0} (xs : List X) (start end : ℕ) → start ≤ end
     → drop start (take end xs) ≡ slice_range xs start end
-range_is xs start end h = let e : end ≡ start + (end - start) =
+drop_is_range xs start end h = let e : end ≡ start + (end - start) =
     omega arith in ap (λ k. drop start (take k xs)) e ∙ drop-take start (end - start) xs
 
 -- what lies after the glyphs that were copied down stays
-pub left_by_copy : {X : Type 0} (xs : List X) (to from count : ℕ) → to ≤ from → from + count ≤ length xs
+pub drop-copy_within : {X : Type 0} (xs : List X) (to from count : ℕ) → to ≤ from → from + count ≤ length xs
     → drop (from + count) (copy_within xs from (from + count) to) ≡ drop (from + count) xs
-left_by_copy xs to from count down within =
+drop-copy_within xs to from count down within =
     let n : ℕ = from + count - from in
     let ys = copy_within xs from (from + count) to in
     let e : to + n + (from - to) ≡ from + count = omega arith in
@@ -36,7 +36,7 @@ left_by_copy xs to from count down within =
     ∙ ap (drop (from - to)) (drop-paste xs to (drop from xs) n (omega arith) room)
     ∙ drop-drop (from - to) (to + n) xs ∙ ap (λ k. drop k xs) e
 
-pub ruleset down = (range_is, left_by_copy)
+pub ruleset down = (drop_is_range, drop-copy_within)
 
 -- what two lists share from a place on they share further on
 pub drop_further : {X : Type 0} (xs ys : List X) (n m : ℕ) → n ≤ m → drop n xs ≡ drop n ys → drop m xs ≡ drop m ys

@@ -6,41 +6,42 @@ use Rattle.std.proofs.Math.Seq.{drop-append_seam}
 use Rattle.std.proofs.lemmas.List.{drop-drop, drop-set-add, drop_at, length-take-le}
 
 -- what is left after one more glyph
-pub next_left : {X : Type 0} (n : ℕ) (xs : List X) → drop (n + 1) xs ≡ drop 1 (drop n xs)
-next_left n xs = sym (drop-drop 1 n xs)
+pub drop-next : {X : Type 0} (n : ℕ) (xs : List X) → drop (n + 1) xs ≡ drop 1 (drop n xs)
+drop-next n xs = sym (drop-drop 1 n xs)
 
 -- how many glyphs were put out in place: none with no output open
 pub placed_within : (is : Bool) (cursor gap : ℕ) → (if is then cursor - gap else 0) ≤ cursor
 placed_within true cursor gap = omega arith
 placed_within false cursor gap = omega arith
 
-pub none_placed : (is : Bool) (cursor gap : ℕ) → is ≡ false → (if is then cursor - gap else 0) ≡ 0
-none_placed true cursor gap e = cc
-none_placed false cursor gap e = refl
+pub sub-none_placed : (is : Bool) (cursor gap : ℕ) → is ≡ false → (if is then cursor - gap else 0) ≡ 0
+sub-none_placed true cursor gap e = cc
+sub-none_placed false cursor gap e = refl
 
 -- a write after the cursor, seen from the vector and from what is left
-pub set_left : {X : Type 0} (is : Bool) (n k : ℕ) (xs : List X) (x : X)
+pub if-set_left : {X : Type 0} (is : Bool) (n k : ℕ) (xs : List X) (x : X)
     → (if is then drop n (set xs (n + k) x) else set xs (n + k) x)
     ≡ set (if is then drop n xs else xs) (if is then k else n + k) x
-set_left true n k xs x = drop-set-add n xs k x
-set_left false n k xs x = refl
+if-set_left true n k xs x = drop-set-add n xs k x
+if-set_left false n k xs x = refl
 
 -- ---- what an open output leaves to read, or the whole input
 
 -- seen from the vector
-pub input_of : {X : Type 0} (is : Bool) (n : ℕ) (xs : List X)
+pub drop-input : {X : Type 0} (is : Bool) (n : ℕ) (xs : List X)
     → drop (if is then n else 0) xs ≡ (if is then drop n xs else xs)
-input_of true n xs = refl
-input_of false n xs = refl
+drop-input true n xs = refl
+drop-input false n xs = refl
 
 -- other items in place of it
-pub new_input : {X : Type 0} (is : Bool) (n : ℕ) (xs ys : List X) → n ≤ length xs
+pub append-new_input : {X : Type 0} (is : Bool) (n : ℕ) (xs ys : List X) → n ≤ length xs
     → (if is then drop n (take (if is then n else 0) xs ++ ys) else take (if is then n else 0) xs ++ ys) ≡ ys
-new_input true n xs ys h = drop_at (take n xs) ys n (length-take-le n xs h)
-new_input false n xs ys h = refl
+append-new_input true n xs ys h = drop_at (take n xs) ys n (length-take-le n xs h)
+append-new_input false n xs ys h = refl
 
-pub ruleset sides = (input_of, new_input)
+pub ruleset sides = (drop-input, append-new_input)
 
 -- what stands after a front that is whole
-pub behind : {X : Type 0} (n : ℕ) (xs ys : List X) → n ≤ length xs → drop n (take n xs ++ ys) ≡ ys
-behind n xs ys h = ap (λ k. drop k (take n xs ++ ys)) (sym (length-take-le n xs h)) ∙ drop-append_seam (take n xs) ys
+pub drop-behind : {X : Type 0} (n : ℕ) (xs ys : List X) → n ≤ length xs → drop n (take n xs ++ ys) ≡ ys
+drop-behind n xs ys h =
+    ap (λ k. drop k (take n xs ++ ys)) (sym (length-take-le n xs h)) ∙ drop-append_seam (take n xs) ys

@@ -47,7 +47,7 @@ pub(crate) fn write_copies(
 
 /// Fills a slice with a copy of a glyph under each id.
 #[inline(always)]
-#[tactic(auto, using(crate::proofs::CopyLemmas::copied_over))]
+#[tactic(auto, using(crate::proofs::CopyLemmas::set_copies))]
 fn fill(slots: &mut [hb_glyph_info_t], glyph: hb_glyph_info_t, ids: &[u32])
     requires { length slots.old ≡ length ids.now }
     ensures { slots.new ≡ copies glyph ids.now }

@@ -63,7 +63,7 @@ pub(crate) fn close_gap(info: &mut Vec<hb_glyph_info_t>, to: usize, from: usize)
 }
 
 /// Moves the glyphs from `start` to `end` up, so that they end at a place: the input then begins with them.
-#[tactic(auto, using(crate::proofs::ShiftLemmas::range_is))]
+#[tactic(auto, using(crate::proofs::ShiftLemmas::drop_is_range))]
 pub(crate) fn shift_up(info: &mut Vec<hb_glyph_info_t>, start: usize, end: usize, at: usize)
     requires order { start ≤ end }
     requires up { end ≤ at }

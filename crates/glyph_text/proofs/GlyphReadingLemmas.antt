@@ -71,10 +71,10 @@ point_read y z r s f0 f1 g0 g1 h k e =
     (ap (λ x. (x, y.1)) first.0 ∙ ap (λ x. (z.0, x)) second.0, second.1)
 
 -- a glyph's text, one part after another
-spread : (id cluster offset x y flags r : List ℕ)
+append-spread : (id cluster offset x y flags r : List ℕ)
     → (id ++ 61 ∷ cluster ++ (offset ++ (43 ∷ x ++ y)) ++ flags ++ []) ++ r
     ≡ id ++ 61 ∷ (cluster ++ (offset ++ 43 ∷ (x ++ (y ++ (flags ++ r)))))
-spread id cluster offset x y flags r =
+append-spread id cluster offset x y flags r =
     let position = offset ++ (43 ∷ x ++ y) in
     ap (λ l. l ++ r) (append-nil (id ++ 61 ∷ cluster ++ position ++ flags))
     ∙ append_assoc (id ++ 61 ∷ cluster ++ position) flags r
@@ -97,17 +97,17 @@ abbrev parts : Glyph → List ℕ → List ℕ
 parts g r = decimal g.0.glyph_id ++ 61 ∷ (decimal g.0.cluster
     ++ (offset_part g ++ 43 ∷ (signed_decimal g.1.x_advance ++ (y_part g ++ (flags_part g ++ r)))))
 
-glyph_text_is : (font : Font) (earlier : List GlyphPosition) (g : Glyph) (r : List ℕ)
+append-glyph_text : (font : Font) (earlier : List GlyphPosition) (g : Glyph) (r : List ℕ)
     → glyph_text font numbers_and_flags earlier g ++ r ≡ parts g r
-glyph_text_is font earlier g r =
-    spread (decimal g.0.glyph_id) (decimal g.0.cluster) (offset_part g) (signed_decimal g.1.x_advance) (y_part g)
+append-glyph_text font earlier g r =
+    append-spread (decimal g.0.glyph_id) (decimal g.0.cluster) (offset_part g) (signed_decimal g.1.x_advance) (y_part g)
     (flags_part g) r
 
-told_equal : (a b : Glyph) → a.0.glyph_id ≡ b.0.glyph_id → a.0.cluster ≡ b.0.cluster → a.1.x_offset ≡ b.1.x_offset
+told_of-equal : (a b : Glyph) → a.0.glyph_id ≡ b.0.glyph_id → a.0.cluster ≡ b.0.cluster → a.1.x_offset ≡ b.1.x_offset
     → a.1.y_offset ≡ b.1.y_offset
     → a.1.x_advance ≡ b.1.x_advance → a.1.y_advance ≡ b.1.y_advance
     → bit_and a.0.mask DEFINED ≡ bit_and b.0.mask DEFINED → told_of a ≡ told_of b
-told_equal a b id cluster x_offset y_offset x_advance y_advance flags =
+told_of-equal a b id cluster x_offset y_offset x_advance y_advance flags =
     rw id (rw cluster (rw x_offset (rw y_offset (rw x_advance (rw y_advance (rw flags refl))))))
 
 glyph_flags_small : (g : Glyph) → bit_and g.0.mask DEFINED < 2 ^ 64
@@ -151,7 +151,7 @@ glyph_read a b r s f g h k e =
     (NotFirst-ends 35 s (λ x. absurd (omega (arith, x))) k)
     (decimal_read (bit_and a.0.mask DEFINED) (bit_and b.0.mask DEFINED) r s (glyph_flags_small a) (glyph_flags_small b)
     (Stops-ends r h) (Stops-ends s k)) y.1 in (
-      told_equal a b id.0 cluster.0 (ap (λ (z : ℤ × ℤ). z.0) offset.0) (ap (λ (z : ℤ × ℤ). z.1) offset.0) x.0 y.0
+      told_of-equal a b id.0 cluster.0 (ap (λ (z : ℤ × ℤ). z.0) offset.0) (ap (λ (z : ℤ × ℤ). z.1) offset.0) x.0 y.0
           flags.0,
       flags.1,
     )
@@ -163,20 +163,20 @@ abbrev after_piece : List (List ℕ) → List ℕ
 after_piece [] = []
 after_piece (x ∷ xs) = 124 ∷ join_with_byte 124 (x ∷ xs)
 
-join-cons : (x : List ℕ) (xs : List (List ℕ)) → join_with_byte 124 (x ∷ xs) ≡ x ++ after_piece xs
-join-cons x [] = sym (append-nil x)
-join-cons x (y ∷ xs) = refl
+join_with_byte-cons : (x : List ℕ) (xs : List (List ℕ)) → join_with_byte 124 (x ∷ xs) ≡ x ++ after_piece xs
+join_with_byte-cons x [] = sym (append-nil x)
+join_with_byte-cons x (y ∷ xs) = refl
 
 Ends-after_piece : (xs : List (List ℕ)) → Ends (after_piece xs)
 Ends-after_piece [] = tt
 Ends-after_piece (x ∷ xs) = refl
 
-after_piece_read : (xs ys : List (List ℕ)) → after_piece xs ≡ after_piece ys
+join_with_byte-after_piece : (xs ys : List (List ℕ)) → after_piece xs ≡ after_piece ys
     → join_with_byte 124 xs ≡ join_with_byte 124 ys
-after_piece_read [] [] e = refl
-after_piece_read [] (y ∷ ys) e = absurd (omega (arith, ap length e))
-after_piece_read (x ∷ xs) [] e = absurd (omega (arith, ap length e))
-after_piece_read (x ∷ xs) (y ∷ ys) e = ap (drop 1) e
+join_with_byte-after_piece [] [] e = refl
+join_with_byte-after_piece [] (y ∷ ys) e = absurd (omega (arith, ap length e))
+join_with_byte-after_piece (x ∷ xs) [] e = absurd (omega (arith, ap length e))
+join_with_byte-after_piece (x ∷ xs) (y ∷ ys) e = ap (drop 1) e
 
 not_empty : (g : Glyph) (r : List ℕ) → FitsItsFields g → 0 < length (parts g r)
 not_empty g r f =
@@ -187,45 +187,47 @@ not_empty g r f =
     omega (arith, long, decimal_nonempty g.0.glyph_id (omega (arith, f.glyph_id)))
 
 -- the text of a glyph and those after it
-text_is : (font : Font) (earlier : List GlyphPosition) (g : Glyph) (gs : List Glyph)
+join_with_byte-glyph_texts : (font : Font) (earlier : List GlyphPosition) (g : Glyph) (gs : List Glyph)
     → join_with_byte 124 (glyph_texts font numbers_and_flags earlier (g ∷ gs))
     ≡ parts g (after_piece (glyph_texts font numbers_and_flags (earlier ++ g.1 ∷ []) gs))
-text_is font earlier g gs =
+join_with_byte-glyph_texts font earlier g gs =
     let later = glyph_texts font numbers_and_flags (earlier ++ g.1 ∷ []) gs in
-    join-cons (glyph_text font numbers_and_flags earlier g) later ∙ glyph_text_is font earlier g (after_piece later)
+    join_with_byte-cons (glyph_text font numbers_and_flags earlier g) later
+    ∙ append-glyph_text font earlier g (after_piece later)
 
-texts_read : (font other : Font) (p q : List GlyphPosition) (xs ys : List Glyph) → All FitsItsFields xs
+map-told_of_texts : (font other : Font) (p q : List GlyphPosition) (xs ys : List Glyph) → All FitsItsFields xs
     → All FitsItsFields ys
     → join_with_byte 124 (glyph_texts font numbers_and_flags p xs)
     ≡ join_with_byte 124 (glyph_texts other numbers_and_flags q ys) → map told_of xs ≡ map told_of ys
-texts_read font other p q [] [] f g e = refl
-texts_read font other p q [] (b ∷ ys) f g e =
+map-told_of_texts font other p q [] [] f g e = refl
+map-told_of_texts font other p q [] (b ∷ ys) f g e =
     absurd (omega (
       arith,
-      ap length (e ∙ text_is other q b ys),
+      ap length (e ∙ join_with_byte-glyph_texts other q b ys),
       not_empty b (after_piece (glyph_texts other numbers_and_flags (q ++ b.1 ∷ []) ys))
           (All-head FitsItsFields b ys g),
     ))
-texts_read font other p q (a ∷ xs) [] f g e =
+map-told_of_texts font other p q (a ∷ xs) [] f g e =
     absurd (omega (
       arith,
-      ap length (sym e ∙ text_is font p a xs),
+      ap length (sym e ∙ join_with_byte-glyph_texts font p a xs),
       not_empty a (after_piece (glyph_texts font numbers_and_flags (p ++ a.1 ∷ []) xs))
           (All-head FitsItsFields a xs f),
     ))
-texts_read font other p q (a ∷ xs) (b ∷ ys) f g e =
+map-told_of_texts font other p q (a ∷ xs) (b ∷ ys) f g e =
     let later_a = glyph_texts font numbers_and_flags (p ++ a.1 ∷ []) xs in
     let later_b = glyph_texts other numbers_and_flags (q ++ b.1 ∷ []) ys in
     let first = glyph_read a b (after_piece later_a) (after_piece later_b) (All-head FitsItsFields a xs f)
     (All-head FitsItsFields b ys g) (Ends-after_piece later_a) (Ends-after_piece later_b)
-    (sym (text_is font p a xs) ∙ e ∙ text_is other q b ys) in
+    (sym (join_with_byte-glyph_texts font p a xs) ∙ e ∙ join_with_byte-glyph_texts other q b ys) in
     ap (λ t. t ∷ map told_of xs) first.0
-    ∙ ap (λ l. told_of b ∷ l) (texts_read font other (p ++ a.1 ∷ []) (q ++ b.1 ∷ []) xs ys
-    (All-tail FitsItsFields a xs f) (All-tail FitsItsFields b ys g) (after_piece_read later_a later_b first.1))
+    ∙ ap (λ l. told_of b ∷ l) (map-told_of_texts font other (p ++ a.1 ∷ []) (q ++ b.1 ∷ []) xs ys
+    (All-tail FitsItsFields a xs f) (All-tail FitsItsFields b ys g)
+    (join_with_byte-after_piece later_a later_b first.1))
 
-pub equal_texts_read : (font other : Font) (xs ys : List Glyph) → All FitsItsFields xs → All FitsItsFields ys
+pub map-told_of_equal_texts : (font other : Font) (xs ys : List Glyph) → All FitsItsFields xs → All FitsItsFields ys
     → glyphs_text font numbers_and_flags xs ≡ glyphs_text other numbers_and_flags ys → map told_of xs ≡ map told_of ys
-equal_texts_read font other xs ys f g e = texts_read font other [] [] xs ys f g e
+map-told_of_equal_texts font other xs ys f g e = map-told_of_texts font other [] [] xs ys f g e
 
 -- ---- what is not read
 
@@ -238,12 +240,13 @@ text_of_told t =
     ++ cond (t.glyph_flags == 0) [] (35 ∷ decimal t.glyph_flags)
     ++ []
 
-told_texts : (font : Font) (earlier : List GlyphPosition) (gs : List Glyph)
+glyph_texts-told : (font : Font) (earlier : List GlyphPosition) (gs : List Glyph)
     → glyph_texts font numbers_and_flags earlier gs ≡ map text_of_told (map told_of gs)
-told_texts font earlier [] = refl
-told_texts font earlier (g ∷ gs) = ap (λ l. text_of_told (told_of g) ∷ l) (told_texts font (earlier ++ g.1 ∷ []) gs)
+glyph_texts-told font earlier [] = refl
+glyph_texts-told font earlier (g ∷ gs) =
+    ap (λ l. text_of_told (told_of g) ∷ l) (glyph_texts-told font (earlier ++ g.1 ∷ []) gs)
 
-pub equal_glyphs_written : (font other : Font) (xs ys : List Glyph) → map told_of xs ≡ map told_of ys
+pub glyphs_text-equal : (font other : Font) (xs ys : List Glyph) → map told_of xs ≡ map told_of ys
     → glyphs_text font numbers_and_flags xs ≡ glyphs_text other numbers_and_flags ys
-equal_glyphs_written font other xs ys e =
-    ap (join_with_byte 124) (told_texts font [] xs ∙ ap (map text_of_told) e ∙ sym (told_texts other [] ys))
+glyphs_text-equal font other xs ys e =
+    ap (join_with_byte 124) (glyph_texts-told font [] xs ∙ ap (map text_of_told) e ∙ sym (glyph_texts-told other [] ys))

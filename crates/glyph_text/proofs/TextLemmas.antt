@@ -42,36 +42,37 @@ pieces_more old headed placed flagged now bar name cluster position flags extent
     ∙ ap (λ l. l ++ extents) (append_assoc a (name ++ cluster ++ position) flags)
     ∙ append_assoc a (name ++ cluster ++ position ++ flags) extents
 
-chosen : (b : Bool) (f : ℤ → ℤ → List ℕ) (other : List ℕ) (x y u v : ℤ) → (b ≡ true → x ≡ u) → (b ≡ true → y ≡ v)
+cond-chosen : (b : Bool) (f : ℤ → ℤ → List ℕ) (other : List ℕ) (x y u v : ℤ) → (b ≡ true → x ≡ u) → (b ≡ true → y ≡ v)
     → cond b (f x y) other ≡ cond b (f u v) other
-chosen true f other x y u v e g = ap (λ x. f x y) (e refl) ∙ ap (λ y. f u y) (g refl)
-chosen false f other x y u v e g = refl
+cond-chosen true f other x y u v e g = ap (λ x. f x y) (e refl) ∙ ap (λ y. f u y) (g refl)
+cond-chosen false f other x y u v e g = refl
 
 -- the sums of the advances are written only under `NO_ADVANCES`
-pub position_same : (flags : SerializeFlags) (x y u v : ℤ) (p : GlyphPosition) → (has flags NO_ADVANCES ≡ true → x ≡ u)
+pub position_text-same : (flags : SerializeFlags) (x y u v : ℤ) (p : GlyphPosition)
+    → (has flags NO_ADVANCES ≡ true → x ≡ u)
     → (has flags NO_ADVANCES ≡ true → y ≡ v)
     → position_text flags x y p ≡ position_text flags u v p
-position_same flags x y u v p e g =
+position_text-same flags x y u v p e g =
     ap (λ text. cond (has flags NO_POSITIONS) [] text)
-    (chosen (has flags NO_ADVANCES) (λ x y. offset_text (x +ℤ p.x_offset) (y +ℤ p.y_offset))
+    (cond-chosen (has flags NO_ADVANCES) (λ x y. offset_text (x +ℤ p.x_offset) (y +ℤ p.y_offset))
     (offset_text p.x_offset p.y_offset ++ advance_text p.x_advance p.y_advance) x y u v e g)
 
-join_more : (x : List ℕ) (xs : List (List ℕ)) (piece : List ℕ)
+join_with_byte-more : (x : List ℕ) (xs : List (List ℕ)) (piece : List ℕ)
     → join_with_byte 124 ((x ∷ xs) ++ piece ∷ []) ≡ (join_with_byte 124 (x ∷ xs) ++ 124 ∷ []) ++ piece
-join_more x [] piece = sym (append_assoc x (124 ∷ []) piece)
-join_more x (y ∷ xs) piece =
+join_with_byte-more x [] piece = sym (append_assoc x (124 ∷ []) piece)
+join_with_byte-more x (y ∷ xs) piece =
     let rest = join_with_byte 124 (y ∷ xs) in
-    ap (λ l. x ++ 124 ∷ l) (join_more y xs piece)
+    ap (λ l. x ++ 124 ∷ l) (join_with_byte-more y xs piece)
     ∙ sym (append_assoc x (124 ∷ (rest ++ 124 ∷ [])) piece)
     ∙ ap (λ l. l ++ piece) (sym (append_assoc x (124 ∷ rest) (124 ∷ [])))
 
 -- the pieces before i, a bar, and the piece at i
-pub join-push : (pieces : List (List ℕ)) (i : ℕ) (piece : List ℕ) → length pieces ≡ i
+pub join_with_byte-push : (pieces : List (List ℕ)) (i : ℕ) (piece : List ℕ) → length pieces ≡ i
     → join_with_byte 124 (pieces ++ piece ∷ []) ≡ (join_with_byte 124 pieces ++ bar_before i) ++ piece
-join-push [] zero piece n = refl
-join-push [] (suc i) piece n = absurd (omega arith)
-join-push (x ∷ xs) zero piece n = absurd (omega arith)
-join-push (x ∷ xs) (suc i) piece n = join_more x xs piece
+join_with_byte-push [] zero piece n = refl
+join_with_byte-push [] (suc i) piece n = absurd (omega arith)
+join_with_byte-push (x ∷ xs) zero piece n = absurd (omega arith)
+join_with_byte-push (x ∷ xs) (suc i) piece n = join_with_byte-more x xs piece
 
 pub glyph_texts-push : (font : Font) (flags : SerializeFlags) (earlier : List GlyphPosition)
     (gs : List (hb_glyph_info_t × GlyphPosition)) (g : hb_glyph_info_t × GlyphPosition)
@@ -90,37 +91,39 @@ length-glyph_texts font flags earlier [] = refl
 length-glyph_texts font flags earlier (g ∷ gs) = ap suc (length-glyph_texts font flags (earlier ++ g.1 ∷ []) gs)
 
 -- the positions of the first glyphs
-positions_of-take : (infos : List hb_glyph_info_t) (positions : List GlyphPosition) (i : ℕ)
+map-positions_take : (infos : List hb_glyph_info_t) (positions : List GlyphPosition) (i : ℕ)
     → length positions ≡ length infos → i ≤ length infos
     → map (λ g. g.1) (take i (zip infos positions)) ≡ take i positions
-positions_of-take infos positions zero n h = refl
-positions_of-take [] [] (suc i) n h = refl
-positions_of-take [] (p ∷ ps) (suc i) n h = absurd (omega arith)
-positions_of-take (g ∷ gs) [] (suc i) n h = absurd (omega arith)
-positions_of-take (g ∷ gs) (p ∷ ps) (suc i) n h =
-    ap (λ l. p ∷ l) (positions_of-take gs ps i (omega arith) (omega arith))
+map-positions_take infos positions zero n h = refl
+map-positions_take [] [] (suc i) n h = refl
+map-positions_take [] (p ∷ ps) (suc i) n h = absurd (omega arith)
+map-positions_take (g ∷ gs) [] (suc i) n h = absurd (omega arith)
+map-positions_take (g ∷ gs) (p ∷ ps) (suc i) n h =
+    ap (λ l. p ∷ l) (map-positions_take gs ps i (omega arith) (omega arith))
 
-pub text_more : (font : Font) (flags : SerializeFlags) (infos : List hb_glyph_info_t) (positions : List GlyphPosition)
+pub glyphs_text-more : (font : Font) (flags : SerializeFlags) (infos : List hb_glyph_info_t)
+    (positions : List GlyphPosition)
     (i : ℕ) (d : hb_glyph_info_t) (e : GlyphPosition) → i < length infos → length positions ≡ length infos
     → glyphs_text font flags (take (i + 1) (zip infos positions))
     ≡ (glyphs_text font flags (take i (zip infos positions)) ++ bar_before i)
     ++ glyph_text font flags (take i positions) (get_or infos i d, get_or positions i e)
-text_more font flags infos positions i d e h n =
+glyphs_text-more font flags infos positions i d e h n =
     let gs = zip infos positions in
     let zipped : i < length gs = omega (arith, length-zip infos positions) in
     let g = get_or gs i (d, e) in
     let front = take i gs in
     ap (glyphs_text font flags) (take_more gs i (d, e) zipped)
     ∙ ap (join_with_byte 124) (glyph_texts-push font flags [] front g)
-    ∙ join-push (glyph_texts font flags [] front) i (glyph_text font flags (map (λ g. g.1) front) g)
+    ∙ join_with_byte-push (glyph_texts font flags [] front) i (glyph_text font flags (map (λ g. g.1) front) g)
     (length-glyph_texts font flags [] front ∙ length-take-le i gs (omega (arith, zipped)))
     ∙ ap (λ ps. (glyphs_text font flags front ++ bar_before i) ++ glyph_text font flags ps g)
-    (positions_of-take infos positions i n (omega arith))
+    (map-positions_take infos positions i n (omega arith))
     ∙ ap (λ p. (glyphs_text font flags front ++ bar_before i) ++ glyph_text font flags (take i positions) p)
     (get_or-zip infos positions i (d, e) h (omega arith))
 
-pub text_all : (font : Font) (flags : SerializeFlags) (infos : List hb_glyph_info_t) (positions : List GlyphPosition)
+pub glyphs_text_all : (font : Font) (flags : SerializeFlags) (infos : List hb_glyph_info_t)
+    (positions : List GlyphPosition)
     (i : ℕ) → length infos ≤ i
     → glyphs_text font flags (take i (zip infos positions)) ≡ glyphs_text font flags (zip infos positions)
-text_all font flags infos positions i h =
+glyphs_text_all font flags infos positions i h =
     ap (glyphs_text font flags) (take_all i (zip infos positions) (omega (arith, length-zip infos positions)))

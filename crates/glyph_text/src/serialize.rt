@@ -105,7 +105,7 @@ pub fn glyphs_text<F: GlyphNames>(
 }
 
 /// Each glyph's text, with bars between them.
-#[tactic(auto, using(crate::proofs::TextLemmas::text_all))]
+#[tactic(auto, using(crate::proofs::TextLemmas::glyphs_text_all))]
 fn write_glyphs<F: GlyphNames>(
     text: &mut String,
     font: &F,

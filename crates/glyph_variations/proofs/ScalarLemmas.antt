@@ -10,12 +10,12 @@ use Rattle.font_variations.proofs.RegionLemmas.{has_zero_from, has_zero_more}
 use Rattle.font_variations.specs.Regions.{has_zero, is_disordered}
 use Rattle.glyph_variations.specs.TupleScalar.{double, factor, factor_between, is_outside, product, scalar, slope}
 
-zero_is : of_bits binary64 0 ≡ float_zero
+of_bits-zero : of_bits binary64 0 ≡ float_zero
 unfolding of_bits of_fields odd
-zero_is = refl
+of_bits-zero = refl
 
 pub of_bits_zero_64 : (b : ℕ) → b ≡ 0 → of_bits binary64 b ≡ float_zero
-of_bits_zero_64 b e = ap (of_bits binary64) e ∙ zero_is
+of_bits_zero_64 b e = ap (of_bits binary64) e ∙ of_bits-zero
 
 -- literals, and signed numbers that went through their bits
 pub ruleset literals = (of_bits_zero_32, of_bits_zero_64, of_bits-one_f64, to_z-of_z)
@@ -43,10 +43,12 @@ pub slope_falls : (start peak end at : ℤ) → int_lt at peak ≡ false
 slope_falls start peak end at behind = rw behind refl
 
 -- outside of the ends, and between them
-pub between_nothing : (start peak end at : ℤ) → is_disordered start peak end ≡ false → is_outside start end at ≡ true
+pub factor_between-nothing : (start peak end at : ℤ) → is_disordered start peak end ≡ false
+    → is_outside start end at ≡ true
     → factor_between start peak end at ≡ float_zero
-between_nothing start peak end at ordered outside = rw (ordered, outside) refl
+factor_between-nothing start peak end at ordered outside = rw (ordered, outside) refl
 
-pub between_slope : (start peak end at : ℤ) → is_disordered start peak end ≡ false → is_outside start end at ≡ false
+pub factor_between-slope : (start peak end at : ℤ) → is_disordered start peak end ≡ false
+    → is_outside start end at ≡ false
     → factor_between start peak end at ≡ slope start peak end at
-between_slope start peak end at ordered inside = rw (ordered, inside) refl
+factor_between-slope start peak end at ordered inside = rw (ordered, inside) refl

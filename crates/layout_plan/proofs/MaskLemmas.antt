@@ -9,8 +9,8 @@ power_le i j le = pow-le-pow_right (lit< tt) le
 pub power_at_most : (i : ℕ) → i ≤ 32 → 2 ^ i ≤ 4294967296
 power_at_most i le = power_le i 32 le
 
-pub power_shifted : (i : ℕ) → i ≤ 32 → 1 * 2 ^ i % 18446744073709551616 ≡ 2 ^ i
-power_shifted i le =
+pub mul_power_shifted : (i : ℕ) → i ≤ 32 → 1 * 2 ^ i % 18446744073709551616 ≡ 2 ^ i
+mul_power_shifted i le =
     let fits : 2 ^ i < 18446744073709551616 = let most = power_at_most i le in omega arith in
     let one : 1 * 2 ^ i ≡ 2 ^ i = omega arith in
     rw one (mod-eq_of_lt fits)

@@ -85,30 +85,31 @@ tail_rises : (r : FeatureRequest) (l : List FeatureRequest) → KeysRise (λ q. 
 tail_rises r l ordered i j x y less isx isy = ordered (suc i) (suc j) x y (omega (arith, less)) isx isy
 
 -- a request of a tag that is there takes in a later one
-pub merged_there : (l : List FeatureRequest) (later before : FeatureRequest) (i : ℕ) → KeysRise (λ q. q.tag.0) l
+pub set-merged : (l : List FeatureRequest) (later before : FeatureRequest) (i : ℕ) → KeysRise (λ q. q.tag.0) l
     → slice_get l i ≡ Some before → before.tag.0 ≡ later.tag.0 → set l i (merged before later) ≡ with_request later l
-merged_there [] later before i ordered is same = cc
-merged_there (q ∷ l) later before zero ordered is same =
+set-merged [] later before i ordered is same = cc
+set-merged (q ∷ l) later before zero ordered is same =
     let e : q ≡ before = cc in
     let t : (q.tag.0 == later.tag.0) ≡ true = grind (arith, nat_tests, ap (λ (x : FeatureRequest). x.tag.0) e, same) in
     rw t (ap (λ x. merged x later ∷ l) (sym e))
-merged_there (q ∷ l) later before (suc i) ordered is same =
+set-merged (q ∷ l) later before (suc i) ordered is same =
     let lower = ordered zero (suc i) q before (omega arith) refl is in
     let other : (q.tag.0 == later.tag.0) ≡ false = grind (arith, nat_tests, lower, same) in
     let below : nat_lt later.tag.0 q.tag.0 ≡ false = grind (arith, nat_tests, lower, same) in
-    rw (other, below) (ap (λ m. q ∷ m) (merged_there l later before i (tail_rises q l ordered) is same))
+    rw (other, below) (ap (λ m. q ∷ m) (set-merged l later before i (tail_rises q l ordered) is same))
 
 -- a request of another tag is put in at the gap for it
-pub put_in : (l : List FeatureRequest) (later : FeatureRequest) (i : ℕ) → IsGapFor (λ q. q.tag.0) later.tag.0 l i
+pub insert-with_request : (l : List FeatureRequest) (later : FeatureRequest) (i : ℕ)
+    → IsGapFor (λ q. q.tag.0) later.tag.0 l i
     → insert l i later ≡ with_request later l
-put_in [] later zero gap = refl
-put_in [] later (suc i) gap = absurd (let within = gap.0 in omega (arith, within))
-put_in (q ∷ l) later zero gap =
+insert-with_request [] later zero gap = refl
+insert-with_request [] later (suc i) gap = absurd (let within = gap.0 in omega (arith, within))
+insert-with_request (q ∷ l) later zero gap =
     let higher = (gap.1 zero q refl).1 (omega arith) in
     let other : (q.tag.0 == later.tag.0) ≡ false = grind (arith, nat_tests, higher) in
     let below : nat_lt later.tag.0 q.tag.0 ≡ true = grind (arith, nat_tests, higher) in
     rw (other, below) refl
-put_in (q ∷ l) later (suc i) gap =
+insert-with_request (q ∷ l) later (suc i) gap =
     let lower = (gap.1 zero q refl).0 (omega arith) in
     let other : (q.tag.0 == later.tag.0) ≡ false = grind (arith, nat_tests, lower) in
     let below : nat_lt later.tag.0 q.tag.0 ≡ false = grind (arith, nat_tests, lower) in
@@ -118,17 +119,19 @@ put_in (q ∷ l) later (suc i) gap =
       λ j x is. let parts = gap.1 (suc j) x is in
           (λ before. parts.0 (omega (arith, before)), λ behind. parts.1 (omega (arith, behind))),
     ) in
-    rw (other, below) (ap (λ m. q ∷ m) (put_in l later i rest))
+    rw (other, below) (ap (λ m. q ∷ m) (insert-with_request l later i rest))
 
 -- a request that is merged at its place, or put in at its gap
-pub asked_there : (l : List FeatureRequest) (before request later new : FeatureRequest) (i tag : ℕ) → KeysRise (λ q. q.tag.0) l
+pub set-asked : (l : List FeatureRequest) (before request later new : FeatureRequest) (i tag : ℕ)
+    → KeysRise (λ q. q.tag.0) l
     → IsPlaceOf (λ q. q.tag.0) tag l i → before ≡ get_or l i before → new ≡ merged before request → request ≡ later
     → later.tag.0 ≡ tag → set l i new ≡ with_request later l
-asked_there l before request later new i tag ordered place is m same named =
+set-asked l before request later new i tag ordered place is m same named =
     let there = slice_get_read l (length l) i before refl place.0 is in
-    rw (m, same) (merged_there l later before i ordered there (place.1 before there ∙ sym named))
+    rw (m, same) (set-merged l later before i ordered there (place.1 before there ∙ sym named))
 
 pub asked_new : (l new : List FeatureRequest) (request later : FeatureRequest) (i tag : ℕ) → IsGapFor (λ q. q.tag.0) tag l i
     → new ≡ insert l i request → request ≡ later → later.tag.0 ≡ tag → new ≡ with_request later l
 asked_new l new request later i tag gap m same named =
-    rw (m, same) (put_in l later i (subst (λ t. IsGapFor (λ (q : FeatureRequest). q.tag.0) t l i) (sym named) gap))
+    rw (m, same)
+    (insert-with_request l later i (subst (λ t. IsGapFor (λ (q : FeatureRequest). q.tag.0) t l i) (sym named) gap))

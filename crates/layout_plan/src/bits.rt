@@ -61,7 +61,7 @@ impl FeatureBits {
 }
 
 /// The number in which only this bit is 1.
-#[tactic(auto, using(crate::proofs::MaskLemmas::power_at_most, crate::proofs::MaskLemmas::power_shifted, std::proofs::lemmas::Nat::pow_pos))]
+#[tactic(auto, using(crate::proofs::MaskLemmas::power_at_most, crate::proofs::MaskLemmas::mul_power_shifted, std::proofs::lemmas::Nat::pow_pos))]
 fn power(bit: u32) -> u64
     requires { bit ≤ 32 }
     ensures is { result ≡ 2 ^ bit }

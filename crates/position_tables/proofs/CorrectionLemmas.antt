@@ -18,24 +18,26 @@ number_is None n is = cc
 number_is (Some m) n is = ap Some (eqb-true m n is)
 
 -- a table of variations corrects no number of pixels
-no_pixels : (device : List ℕ) (ppem : ℕ) → is_number (number_16 device 4) 0x8000 ≡ true → delta_pixels device ppem ≡ pos 0
+delta_pixels-none : (device : List ℕ) (ppem : ℕ) → is_number (number_16 device 4) 0x8000 ≡ true
+    → delta_pixels device ppem ≡ pos 0
 unfolding delta_pixels
-no_pixels device ppem is = rw (number_is (number_16 device 4) 0x8000 is) refl
+delta_pixels-none device ppem is = rw (number_is (number_16 device 4) 0x8000 is) refl
 
-zero_times : (z : ℤ) → pos 0 *ℤ z ≡ pos 0
-zero_times z = grind (arith, ints)
+mul-zero : (z : ℤ) → pos 0 *ℤ z ≡ pos 0
+mul-zero z = grind (arith, ints)
 
-zero_parts : (n : ℕ) → 0 / n ≡ 0
-zero_parts n = zero-div n
+div-zero : (n : ℕ) → 0 / n ≡ 0
+div-zero n = zero-div n
 
 if_same : (b : Bool) (z : ℤ) → (if b then z else z) ≡ z
 if_same true z = refl
 if_same false z = refl
 
 -- no pixels are no correction
-no_correction : (table : List ℕ) (offset ppem : ℕ) (size : ℤ) → delta_pixels (drop offset table) ppem ≡ pos 0
+device_delta-none : (table : List ℕ) (offset ppem : ℕ) (size : ℤ) → delta_pixels (drop offset table) ppem ≡ pos 0
     → device_delta table offset ppem size ≡ pos 0
-no_correction table offset ppem size none = rw (none, zero_times, zero_parts ppem) (if_same (nat_eq offset 0 || nat_eq ppem 0) (pos 0))
+device_delta-none table offset ppem size none =
+    rw (none, mul-zero, div-zero ppem) (if_same (nat_eq offset 0 || nat_eq ppem 0) (pos 0))
 
 -- what a delta set is named by is a table of variations
 is_index : (a b : Bool) (o : Option ℕ) (i : ℕ) → (if a then None else if b then o else None) ≡ Some i → b ≡ true
@@ -48,21 +50,27 @@ unfolding variation_index
 named table offset i e = is_index (nat_eq offset 0) _ (number_32 (drop offset table) 0) i e
 
 -- a choice that gives what there is without it
-map_or_same : (f : ℕ → ℤ) (o : Option ℕ) (d : ℤ) → ((i : ℕ) → o ≡ Some i → f i ≡ d) → option_map_or f o d ≡ d
-map_or_same f None d same = refl
-map_or_same f (Some i) d same = same i refl
+option_map_or-same : (f : ℕ → ℤ) (o : Option ℕ) (d : ℤ) → ((i : ℕ) → o ≡ Some i → f i ≡ d) → option_map_or f o d ≡ d
+option_map_or-same f None d same = refl
+option_map_or-same f (Some i) d same = same i refl
 
 -- a correction across and upwards, where no variations are chosen
-pub x_unvaried : (table : List ℕ) (offset : ℕ) (instance : Instance) → is_varied instance.deltas ≡ false
+pub x_correction-unvaried : (table : List ℕ) (offset : ℕ) (instance : Instance) → is_varied instance.deltas ≡ false
     → x_correction table offset instance ≡ device_delta table offset instance.scale.x_ppem instance.scale.x
 unfolding x_correction
-x_unvaried table offset instance unvaried = map_or_same (x_delta instance) (variation_index table offset) _
-    (λ i e. rw unvaried (sym (no_correction table offset instance.scale.x_ppem instance.scale.x (no_pixels _ _ (named table offset i e)))))
+x_correction-unvaried table offset instance unvaried =
+    option_map_or-same (x_delta instance) (variation_index table offset) _
+    (λ i e. rw unvaried
+    (sym (device_delta-none table offset instance.scale.x_ppem instance.scale.x
+    (delta_pixels-none _ _ (named table offset i e)))))
 
-pub y_unvaried : (table : List ℕ) (offset : ℕ) (instance : Instance) → is_varied instance.deltas ≡ false
+pub y_correction-unvaried : (table : List ℕ) (offset : ℕ) (instance : Instance) → is_varied instance.deltas ≡ false
     → y_correction table offset instance ≡ device_delta table offset instance.scale.y_ppem instance.scale.y
 unfolding y_correction
-y_unvaried table offset instance unvaried = map_or_same (y_delta instance) (variation_index table offset) _
-    (λ i e. rw unvaried (sym (no_correction table offset instance.scale.y_ppem instance.scale.y (no_pixels _ _ (named table offset i e)))))
+y_correction-unvaried table offset instance unvaried =
+    option_map_or-same (y_delta instance) (variation_index table offset) _
+    (λ i e. rw unvaried
+    (sym (device_delta-none table offset instance.scale.y_ppem instance.scale.y
+    (delta_pixels-none _ _ (named table offset i e)))))
 
-pub ruleset unvaried = (x_unvaried, y_unvaried)
+pub ruleset unvaried = (x_correction-unvaried, y_correction-unvaried)

@@ -12,8 +12,9 @@ use Rattle.position_tables.specs.Corrections.{x_correction, y_correction}
 use Rattle.position_tables.specs.Devices.{device_delta}
 use Rattle.position_tables.specs.Values.{has_corrections, has_effect, may_move, minus, moved_x, moved_y, moved_back, EffectIsTold}
 use Rattle.position_tables.specs.declared.instance.Instance.{Instance}
-use Rattle.position_tables.proofs.CorrectionLemmas.{x_unvaried, y_unvaried}
-use Rattle.position_tables.proofs.ValueLemmas.{no_length, no_fit, no_x, no_y, plus_nothing}
+use Rattle.position_tables.proofs.CorrectionLemmas.{x_correction-unvaried, y_correction-unvaried}
+use Rattle.position_tables.proofs.ValueLemmas.{em_scale-zero, no_fit, x_correction-none, y_correction-none}
+use Rattle.position_tables.proofs.ValueLemmas.{plus_nothing}
 
 -- neither of two
 neither : (a b : Bool) → (a || b) ≡ false → (a ≡ false) × (b ≡ false)
@@ -31,64 +32,83 @@ is_zero z none = grind (arith, common_steps, Decides-int_eq)
 no_pixel : (n : ℕ) → not (nat_eq n 0) ≡ false → n ≡ 0
 no_pixel n none = grind (arith, common_steps)
 
-no_delta : (table : List ℕ) (offset ppem : ℕ) (size : ℤ) → ppem ≡ 0 → device_delta table offset ppem size ≡ pos 0
-no_delta table offset ppem size none = rw (none, or-true (nat_eq offset 0)) refl
+device_delta-none : (table : List ℕ) (offset ppem : ℕ) (size : ℤ) → ppem ≡ 0
+    → device_delta table offset ppem size ≡ pos 0
+device_delta-none table offset ppem size none = rw (none, or-true (nat_eq offset 0)) refl
 
 -- no correction where there is no device table, or it is not asked
-x_uncorrected : (base : List ℕ) (instance : Instance) (device : ℕ)
+x_correction-none : (base : List ℕ) (instance : Instance) (device : ℕ)
     → (not (nat_eq device 0) && has_corrections instance instance.scale.x_ppem) ≡ false → x_correction base device instance ≡ pos 0
-x_uncorrected base instance device none =
+x_correction-none base instance device none =
     elim (not_both (nat_eq device 0) (has_corrections instance instance.scale.x_ppem) none) [
-      | inl absent ↦ rw (eqb-true device 0 absent) (no_x base instance)
+      | inl absent ↦ rw (eqb-true device 0 absent) (x_correction-none base instance)
       | inr unasked ↦
           let parts = neither _ _ unasked in
-          x_unvaried base device instance parts.1
-          ∙ no_delta base device instance.scale.x_ppem instance.scale.x (no_pixel instance.scale.x_ppem parts.0)
+          x_correction-unvaried base device instance parts.1
+          ∙ device_delta-none base device instance.scale.x_ppem instance.scale.x
+          (no_pixel instance.scale.x_ppem parts.0)
     ]
 
-y_uncorrected : (base : List ℕ) (instance : Instance) (device : ℕ)
+y_correction-none : (base : List ℕ) (instance : Instance) (device : ℕ)
     → (not (nat_eq device 0) && has_corrections instance instance.scale.y_ppem) ≡ false → y_correction base device instance ≡ pos 0
-y_uncorrected base instance device none =
+y_correction-none base instance device none =
     elim (not_both (nat_eq device 0) (has_corrections instance instance.scale.y_ppem) none) [
-      | inl absent ↦ rw (eqb-true device 0 absent) (no_y base instance)
+      | inl absent ↦ rw (eqb-true device 0 absent) (y_correction-none base instance)
       | inr unasked ↦
           let parts = neither _ _ unasked in
-          y_unvaried base device instance parts.1
-          ∙ no_delta base device instance.scale.y_ppem instance.scale.y (no_pixel instance.scale.y_ppem parts.0)
+          y_correction-unvaried base device instance parts.1
+          ∙ device_delta-none base device instance.scale.y_ppem instance.scale.y
+          (no_pixel instance.scale.y_ppem parts.0)
     ]
 
-less_zero : (z : ℤ) → z -ℤ pos 0 ≡ z
-less_zero z = grind (arith, ints)
+sub-zero : (z : ℤ) → z -ℤ pos 0 ≡ z
+sub-zero z = grind (arith, ints)
 
-same_less : (n : ℤ) → FitsSigned w32 n → int_wrapping_sub w32 n (pos 0) ≡ n
-same_less n fits = wrapping_sub_is w32 n (pos 0) fits no_fit ∙ ap (int_wrap w32) (less_zero n) ∙ int_wrap_fits w32 n fits
+int_wrapping_sub-zero : (n : ℤ) → FitsSigned w32 n → int_wrapping_sub w32 n (pos 0) ≡ n
+int_wrapping_sub-zero n fits =
+    wrapping_sub_is w32 n (pos 0) fits no_fit ∙ ap (int_wrap w32) (sub-zero n) ∙ int_wrap_fits w32 n fits
 
 minus_nothing : (n : ℤ) → FitsSigned w32 n → minus n (pos 0) (pos 0) ≡ n
-minus_nothing n fits = rw (same_less n fits) (same_less n fits)
+minus_nothing n fits = rw (int_wrapping_sub-zero n fits) (int_wrapping_sub-zero n fits)
 
 -- numbers that stay
-x_kept : (base : List ℕ) (instance : Instance) (value : ℤ) (device : ℕ) (n : ℤ) → FitsSigned w32 n
+moved_x-kept : (base : List ℕ) (instance : Instance) (value : ℤ) (device : ℕ) (n : ℤ) → FitsSigned w32 n
     → may_move instance instance.scale.x_ppem value device ≡ false → moved_x base instance value device n ≡ n
 unfolding moved_x
-x_kept base instance value device n fits none =
+moved_x-kept base instance value device n fits none =
     let parts = neither _ _ none in
-    rw (is_zero value parts.0, no_length instance.scale.x instance.scale.units_per_em, x_uncorrected base instance device parts.1)
+    rw (
+      is_zero value parts.0,
+      em_scale-zero instance.scale.x instance.scale.units_per_em,
+      x_correction-none base
+          instance device parts.1,
+    )
     (plus_nothing n fits)
 
-y_kept : (base : List ℕ) (instance : Instance) (value : ℤ) (device : ℕ) (n : ℤ) → FitsSigned w32 n
+moved_y-kept : (base : List ℕ) (instance : Instance) (value : ℤ) (device : ℕ) (n : ℤ) → FitsSigned w32 n
     → may_move instance instance.scale.y_ppem value device ≡ false → moved_y base instance value device n ≡ n
 unfolding moved_y
-y_kept base instance value device n fits none =
+moved_y-kept base instance value device n fits none =
     let parts = neither _ _ none in
-    rw (is_zero value parts.0, no_length instance.scale.y instance.scale.units_per_em, y_uncorrected base instance device parts.1)
+    rw (
+      is_zero value parts.0,
+      em_scale-zero instance.scale.y instance.scale.units_per_em,
+      y_correction-none base
+          instance device parts.1,
+    )
     (plus_nothing n fits)
 
-back_kept : (base : List ℕ) (instance : Instance) (value : ℤ) (device : ℕ) (n : ℤ) → FitsSigned w32 n
+moved_back-kept : (base : List ℕ) (instance : Instance) (value : ℤ) (device : ℕ) (n : ℤ) → FitsSigned w32 n
     → may_move instance instance.scale.y_ppem value device ≡ false → moved_back base instance value device n ≡ n
 unfolding moved_back
-back_kept base instance value device n fits none =
+moved_back-kept base instance value device n fits none =
     let parts = neither _ _ none in
-    rw (is_zero value parts.0, no_length instance.scale.y instance.scale.units_per_em, y_uncorrected base instance device parts.1)
+    rw (
+      is_zero value parts.0,
+      em_scale-zero instance.scale.y instance.scale.units_per_em,
+      y_correction-none base
+          instance device parts.1,
+    )
     (minus_nothing n fits)
 
 -- a glyph that stays
@@ -101,9 +121,9 @@ no_effect instance true v none base p x y right down =
     let both = neither _ _ all in
     let placed = neither _ _ both.0 in
     rw (
-      x_kept base instance v.x_placement v.x_placement_device p.x_offset x placed.0,
-      y_kept base instance v.y_placement v.y_placement_device p.y_offset y placed.1,
-      x_kept base instance v.x_advance v.x_advance_device p.x_advance right both.1,
+      moved_x-kept base instance v.x_placement v.x_placement_device p.x_offset x placed.0,
+      moved_y-kept base instance v.y_placement v.y_placement_device p.y_offset y placed.1,
+      moved_x-kept base instance v.x_advance v.x_advance_device p.x_advance right both.1,
     ) refl
 no_effect instance false v none base p x y right down =
     let all : ((may_move instance instance.scale.x_ppem v.x_placement v.x_placement_device
@@ -112,7 +132,7 @@ no_effect instance false v none base p x y right down =
     let both = neither _ _ all in
     let placed = neither _ _ both.0 in
     rw (
-      x_kept base instance v.x_placement v.x_placement_device p.x_offset x placed.0,
-      y_kept base instance v.y_placement v.y_placement_device p.y_offset y placed.1,
-      back_kept base instance v.y_advance v.y_advance_device p.y_advance down both.1,
+      moved_x-kept base instance v.x_placement v.x_placement_device p.x_offset x placed.0,
+      moved_y-kept base instance v.y_placement v.y_placement_device p.y_offset y placed.1,
+      moved_back-kept base instance v.y_advance v.y_advance_device p.y_advance down both.1,
     ) refl

@@ -9,75 +9,82 @@ use Rattle.position_tables.specs.Values.{across, fields, no_values, record_size,
 use Rattle.position_tables.specs.Pairs.{IsInRow, classed_pair, kerned, number, pair_at, row_size, second_of}
 use Rattle.position_tables.specs.declared.pairs.PairValues.{PairValues}
 
-of_across : record_size 4 ≡ 2
+record_size-across : record_size 4 ≡ 2
 unfolding ones
-of_across = refl
+record_size-across = refl
 
-of_none : record_size 0 ≡ 0
+record_size-none : record_size 0 ≡ 0
 unfolding ones
-of_none = refl
+record_size-none = refl
 
-at_start : (at : ℕ) → at + 2 * ones 0 ≡ at
+add-no_ones : (at : ℕ) → at + 2 * ones 0 ≡ at
 unfolding ones
-at_start at = omega arith
+add-no_ones at = omega arith
 
 fields_across : (table : List ℕ) (at : ℕ) → fields table 4 at ≡ across (cast_signed w16 (unwrap_or (number_16 table at) 0))
 unfolding fields
-fields_across table at = ap (λ place. across (cast_signed w16 (unwrap_or (number_16 table place) 0))) (at_start at)
+fields_across table at = ap (λ place. across (cast_signed w16 (unwrap_or (number_16 table place) 0))) (add-no_ones at)
 
 fields_none : (table : List ℕ) (at : ℕ) → fields table 0 at ≡ no_values
 unfolding fields
 fields_none table at = refl
 
-value_across : (table : List ℕ) (at : ℕ) → value_record table 4 at ≡ option_map across (signed_16 table at)
+value_record-across : (table : List ℕ) (at : ℕ) → value_record table 4 at ≡ option_map across (signed_16 table at)
 unfolding value_record number_16
-value_across table at = rw (of_across, fields_across table at) (grind (arith, nat_tests))
+value_record-across table at = rw (record_size-across, fields_across table at) (grind (arith, nat_tests))
 
-value_none : (table : List ℕ) (at : ℕ) → at ≤ length table → value_record table 0 at ≡ Some no_values
+value_record-none : (table : List ℕ) (at : ℕ) → at ≤ length table → value_record table 0 at ≡ Some no_values
 unfolding value_record
-value_none table at within = rw (of_none, fields_none table at) (grind (arith, nat_tests))
+value_record-none table at within = rw (record_size-none, fields_none table at) (grind (arith, nat_tests))
 
 behind : (table : List ℕ) (at n : ℕ) → number_16 table at ≡ Some n → at + 2 ≤ length table
 unfolding number_16
 behind table at n there = grind (arith, nat_tests)
 
 -- behind the first record stands one that names nothing
-both : (table : List ℕ) (at : ℕ) (found : Option ℕ) → number_16 table at ≡ found
+option_and_then-both : (table : List ℕ) (at : ℕ) (found : Option ℕ) → number_16 table at ≡ found
     → option_and_then (λ first. option_map {U = PairValues} (λ second. record { first = first; second = second })
     (value_record table 0 (at + 2))) (option_map across (option_map (λ n. cast_signed w16 n) found))
     ≡ option_map kerned (option_map (λ n. cast_signed w16 n) found)
-both table at None there = refl
-both table at (Some n) there = rw (value_none table (at + 2) (behind table at n there)) refl
+option_and_then-both table at None there = refl
+option_and_then-both table at (Some n) there = rw (value_record-none table (at + 2) (behind table at n there)) refl
 
-pub pair_kerned : (table : List ℕ) (at : ℕ) → pair_at table 4 0 at ≡ option_map kerned (signed_16 table at)
+pub pair_at-kerned : (table : List ℕ) (at : ℕ) → pair_at table 4 0 at ≡ option_map kerned (signed_16 table at)
 unfolding pair_at
-pair_kerned table at = rw (of_across, value_across table at) (both table at (number_16 table at) refl)
+pair_at-kerned table at =
+    rw (record_size-across, value_record-across table at) (option_and_then-both table at (number_16 table at) refl)
 
-row_is : row_size 4 0 ≡ 4
-row_is = rw (of_across, of_none) refl
+row_size-kerned : row_size 4 0 ≡ 4
+row_size-kerned = rw (record_size-across, record_size-none) refl
 
 -- a row of two bytes behind the second glyph
 pub listed_kerned : (set : List ℕ) (second row : ℕ) (found : Option ℤ) → second_of set 4 row ≡ Some second
     → found ≡ signed_16 set (4 + 4 * row) → IfSome found (λ advance. IsInRow set 4 0 second (kerned advance))
 listed_kerned set second row None in_row there = tt
-listed_kerned set second row (Some advance) in_row there =
-    (row, (rw row_is in_row, rw row_is (pair_kerned set (4 + 4 * row) ∙ ap (option_map kerned) (sym there))))
+listed_kerned set second row (Some advance) in_row there = (
+  row,
+  (
+    rw row_size-kerned in_row,
+    rw row_size-kerned (pair_at-kerned set (4 + 4 * row)
+        ∙ ap (option_map kerned) (sym there)),
+  ),
+)
 
-place_is : (place : ℕ) → 16 + place * (2 + 0) ≡ 16 + 2 * place
-place_is place = omega arith
+add-place : (place : ℕ) → 16 + place * (2 + 0) ≡ 16 + 2 * place
+add-place place = omega arith
 
 -- rows of two bytes for each pair of classes
-pub classed_kerned : (table : List ℕ) (first second : ℕ) → number table 4 ≡ 4 → number table 6 ≡ 0
+pub classed_pair_kerned : (table : List ℕ) (first second : ℕ) → number table 4 ≡ 4 → number table 6 ≡ 0
     → classed_pair table first second
     ≡ (if nat_lt first (number table 12) && nat_lt second (number table 14)
     then option_map kerned (signed_16 table (16 + 2 * (first * number table 14 + second))) else None)
 unfolding classed_pair
-classed_kerned table first second four none =
+classed_pair_kerned table first second four none =
     rw (
       four,
       none,
-      of_across,
-      of_none,
-      place_is (first * number table 14 + second),
-      pair_kerned table (16 + 2 * (first * number table 14 + second)),
+      record_size-across,
+      record_size-none,
+      add-place (first * number table 14 + second),
+      pair_at-kerned table (16 + 2 * (first * number table 14 + second)),
     ) refl

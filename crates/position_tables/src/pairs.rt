@@ -146,7 +146,7 @@ pub fn is_kerning(subtable: &[u8]) -> bool
 
 /// The advance of a pair of classes, as `classed_pair` has it where pairs have nothing else.
 #[inline]
-#[tactic(auto, using(crate::proofs::PairLemmas::classed_kerned))]
+#[tactic(auto, using(crate::proofs::PairLemmas::classed_pair_kerned))]
 pub fn classed_advance(subtable: &[u8], first: u16, second: u16) -> Option<i16>
     ensures { number subtable.now 4 ≡ 4 → number subtable.now 6 ≡ 0
         → option_map kerned result ≡ classed_pair subtable.now first second }

@@ -34,7 +34,7 @@ pub struct ValueRecord {
 
 impl ValueRecord {
     /// The record of a format at a place; `None` unless the table holds all of it.
-    #[tactic(auto, using(crate::proofs::ValueLemmas::none_named), unfolding(crate::specs::Values::value_record))]
+    #[tactic(auto, using(crate::proofs::ValueLemmas::no_values_are_fields), unfolding(crate::specs::Values::value_record))]
     pub fn read(table: &[u8], format: u16, at: usize) -> Option<Self>
         ensures { result ≡ value_record table.now format at }
     {

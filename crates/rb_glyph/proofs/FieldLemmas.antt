@@ -11,12 +11,12 @@ use Rattle.std.specs.Int.{w16}
 use Rattle.rb_glyph.specs.Fields.{field, with_field, signed_of_field, field_of_signed}
 
 -- a shift and a mask read a field
-pub shift_and_mask : (word from bits : ℕ) → bit_and (word / 2 ^ from) (2 ^ bits - 1) ≡ field word from bits
-shift_and_mask word from bits = and_mask (word / 2 ^ from) bits
+pub bit_and-shift : (word from bits : ℕ) → bit_and (word / 2 ^ from) (2 ^ bits - 1) ≡ field word from bits
+bit_and-shift word from bits = and_mask (word / 2 ^ from) bits
 
 -- the complement of a field's mask, cut at the field's start
-mask_parts : (m n p : ℕ) → 0 < n → 0 < p → n ≤ m → m * p - 1 - (n - 1) * p ≡ (m - n) * p + (p - 1)
-mask_parts m n p some_n some_p h =
+sub-mask_parts : (m n p : ℕ) → 0 < n → 0 < p → n ≤ m → m * p - 1 - (n - 1) * p ≡ (m - n) * p + (p - 1)
+sub-mask_parts m n p some_n some_p h =
     let whole : m * p ≡ (m - n) * p + n * p = ap (λ x. x * p) (let e : m ≡ (m - n) + n = omega arith in e)
     ∙ add-mul (m - n) n p in
     let low : n * p ≡ (n - 1) * p + p = ap (λ x. x * p) (let e : n ≡ (n - 1) + 1 = omega arith in e)
@@ -24,14 +24,14 @@ mask_parts m n p some_n some_p h =
     omega arith
 
 -- 2 ^ (k + n), as the parts below and in a field
-pow_parts : (k n a : ℕ) → a * 2 ^ n * 2 ^ k ≡ a * 2 ^ (k + n)
-pow_parts k n a = mul_assoc a (2 ^ n) (2 ^ k) ∙ ap (λ x. a * x) (mul_comm (2 ^ n) (2 ^ k) ∙ sym (pow-add 2 k n))
+mul-pow : (k n a : ℕ) → a * 2 ^ n * 2 ^ k ≡ a * 2 ^ (k + n)
+mul-pow k n a = mul_assoc a (2 ^ n) (2 ^ k) ∙ ap (λ x. a * x) (mul_comm (2 ^ n) (2 ^ k) ∙ sym (pow-add 2 k n))
 
 -- a mask's complement clears a field of a word of any width
-pub field_cleared : (width word from bits : ℕ) → from + bits ≤ width → word < 2 ^ width
+pub bit_and-field_cleared : (width word from bits : ℕ) → from + bits ≤ width → word < 2 ^ width
     → bit_and word (2 ^ width - 1 - (2 ^ bits - 1) * 2 ^ from)
     ≡ word / 2 ^ (from + bits) * 2 ^ (from + bits) + word % 2 ^ from
-field_cleared width w k n within small =
+bit_and-field_cleared width w k n within small =
     let m : ℕ = width - k in
     let whole : 2 ^ width ≡ 2 ^ m * 2 ^ k = ap (λ x. 2 ^ x) (let e : width ≡ m + k = omega arith in e)
     ∙ pow-add 2 m k in
@@ -40,7 +40,7 @@ field_cleared width w k n within small =
     let some : 0 < 2 ^ n = pow_pos n in
     let step : 0 < 2 ^ k = pow_pos k in
     let mask : 2 ^ width - 1 - (2 ^ n - 1) * 2 ^ k ≡ (2 ^ m - 2 ^ n) * 2 ^ k + (2 ^ k - 1) =
-    ap (λ x. x - 1 - (2 ^ n - 1) * 2 ^ k) whole ∙ mask_parts (2 ^ m) (2 ^ n) (2 ^ k) some step fits_pow in
+    ap (λ x. x - 1 - (2 ^ n - 1) * 2 ^ k) whole ∙ sub-mask_parts (2 ^ m) (2 ^ n) (2 ^ k) some step fits_pow in
     let parts : w ≡ w / 2 ^ k * 2 ^ k + w % 2 ^ k = sym (shr_split w k) in
     let low : w % 2 ^ k < 2 ^ k = mod_below w (2 ^ k) step in
     let ones : 2 ^ k - 1 < 2 ^ k = omega arith in
@@ -53,15 +53,15 @@ field_cleared width w k n within small =
     ∙ and_block k (w / 2 ^ k) (2 ^ m - 2 ^ n) (w % 2 ^ k) (2 ^ k - 1) low ones
     ∙ ap (λ x. x * 2 ^ k + bit_and (w % 2 ^ k) (2 ^ k - 1)) high
     ∙ ap (λ x. w / 2 ^ (k + n) * 2 ^ n * 2 ^ k + x) rest
-    ∙ ap (λ x. x + w % 2 ^ k) (pow_parts k n (w / 2 ^ (k + n)))
+    ∙ ap (λ x. x + w % 2 ^ k) (mul-pow k n (w / 2 ^ (k + n)))
 
 -- a cleared field takes a value by `|`
-field_filled : (a r from bits value : ℕ) → r < 2 ^ from → value < 2 ^ bits
+bit_or-field_filled : (a r from bits value : ℕ) → r < 2 ^ from → value < 2 ^ bits
     → bit_or (a * 2 ^ (from + bits) + r) (value * 2 ^ from) ≡ a * 2 ^ (from + bits) + value * 2 ^ from + r
-field_filled a r k n v low fits =
+bit_or-field_filled a r k n v low fits =
     let nothing : 0 < 2 ^ k = pow_pos k in
     let whole : bit_or r 0 ≡ r = or_comm r 0 in
-    let top : a * 2 ^ (k + n) ≡ a * 2 ^ n * 2 ^ k = sym (pow_parts k n a) in
+    let top : a * 2 ^ (k + n) ≡ a * 2 ^ n * 2 ^ k = sym (mul-pow k n a) in
     let moved : v * 2 ^ k ≡ v * 2 ^ k + 0 = omega arith in
     ap (λ x. bit_or (x + r) (v * 2 ^ k)) top
     ∙ ap (λ x. bit_or (a * 2 ^ n * 2 ^ k + r) x) moved
@@ -69,27 +69,27 @@ field_filled a r k n v low fits =
     ∙ ap (λ x. x * 2 ^ k + bit_or r 0) (or_shifted a n v fits)
     ∙ ap (λ x. (a * 2 ^ n + v) * 2 ^ k + x) whole
     ∙ ap (λ x. x + r) (add-mul (a * 2 ^ n) v (2 ^ k))
-    ∙ ap (λ x. x + v * 2 ^ k + r) (pow_parts k n a)
+    ∙ ap (λ x. x + v * 2 ^ k + r) (mul-pow k n a)
 
 -- clearing by a mask and setting by `|` write a field
-pub mask_and_shift : (word from bits value : ℕ) → from + bits ≤ 32 → word < 2 ^ 32 → value < 2 ^ bits
+pub bit_or-mask : (word from bits value : ℕ) → from + bits ≤ 32 → word < 2 ^ 32 → value < 2 ^ bits
     → bit_or (bit_and word (2 ^ 32 - 1 - (2 ^ bits - 1) * 2 ^ from % 2 ^ 32)) (value * 2 ^ from % 2 ^ 32)
     ≡ with_field word from bits value
-mask_and_shift w k n v within small fits =
+bit_or-mask w k n v within small fits =
     let some : 0 < 2 ^ n = pow_pos n in
     let ones : 2 ^ n - 1 < 2 ^ n = omega arith in
     let room : n + k ≤ 32 = omega arith in
     ap (λ x. bit_or (bit_and w (2 ^ 32 - 1 - x)) (v * 2 ^ k % 2 ^ 32)) (shl_whole (2 ^ n - 1) n k 32 ones room)
     ∙ ap (λ x. bit_or (bit_and w (2 ^ 32 - 1 - (2 ^ n - 1) * 2 ^ k)) x) (shl_whole v n k 32 fits room)
-    ∙ ap (λ x. bit_or x (v * 2 ^ k)) (field_cleared 32 w k n within small)
-    ∙ field_filled (w / 2 ^ (k + n)) (w % 2 ^ k) k n v (mod_below w (2 ^ k) (pow_pos k)) fits
+    ∙ ap (λ x. bit_or x (v * 2 ^ k)) (bit_and-field_cleared 32 w k n within small)
+    ∙ bit_or-field_filled (w / 2 ^ (k + n)) (w % 2 ^ k) k n v (mod_below w (2 ^ k) (pow_pos k)) fits
 
 -- a word with a field set, by its parts
 module _ (word from bits value : ℕ) (fits : value < 2 ^ bits) where
   low_part : with_field word from bits value % 2 ^ from ≡ word % 2 ^ from
   low_part =
       ap (λ x. (x + value * 2 ^ from + word % 2 ^ from) % 2 ^ from)
-      (sym (pow_parts from bits (word / 2 ^ (from + bits))))
+      (sym (mul-pow from bits (word / 2 ^ (from + bits))))
       ∙ ap (λ x. (x + word % 2 ^ from) % 2 ^ from)
       (sym (add-mul (word / 2 ^ (from + bits) * 2 ^ bits) value (2 ^ from)))
       ∙ mod_low (word / 2 ^ (from + bits) * 2 ^ bits + value) from (word % 2 ^ from)
@@ -98,7 +98,7 @@ module _ (word from bits value : ℕ) (fits : value < 2 ^ bits) where
   high_parts : with_field word from bits value / 2 ^ from ≡ word / 2 ^ (from + bits) * 2 ^ bits + value
   high_parts =
       ap (λ x. (x + value * 2 ^ from + word % 2 ^ from) / 2 ^ from)
-      (sym (pow_parts from bits (word / 2 ^ (from + bits))))
+      (sym (mul-pow from bits (word / 2 ^ (from + bits))))
       ∙ ap (λ x. (x + word % 2 ^ from) / 2 ^ from)
       (sym (add-mul (word / 2 ^ (from + bits) * 2 ^ bits) value (2 ^ from)))
       ∙ shr_high (word / 2 ^ (from + bits) * 2 ^ bits + value) from (word % 2 ^ from)
@@ -137,16 +137,16 @@ module _ (word from bits value : ℕ) (fits : value < 2 ^ bits) where
         same_low : (x : ℕ) → x / 2 ^ other % 2 ^ size ≡ x % 2 ^ from % 2 ^ (size + other) / 2 ^ other
         same_low x = sym (field_of x size other) ∙ ap (λ y. y / 2 ^ other) (shorter x)
 
-pub whole_signed : (value : ℤ) → FitsSigned w16 value → signed_of_field 16 (field_of_signed 16 value) ≡ value
-whole_signed (pos n) h = grind (arith, ints)
-whole_signed (negsuc n) h = grind (arith, ints)
+pub signed_of_field-whole : (value : ℤ) → FitsSigned w16 value → signed_of_field 16 (field_of_signed 16 value) ≡ value
+signed_of_field-whole (pos n) h = grind (arith, ints)
+signed_of_field-whole (negsuc n) h = grind (arith, ints)
 
 -- what clears a bit of a field of 16 bits clears it in the word
-pub bit_cleared : (word : ℕ)
+pub with_field-bit_cleared : (word : ℕ)
     → with_field word 0 16 (bit_and (field word 0 16) (2 ^ 16 - 1 - 64)) ≡ with_field word 6 1 0
-bit_cleared word =
+with_field-bit_cleared word =
     let low : ℕ = field word 0 16 in
     let small : low < 2 ^ 16 = omega arith in
     let cleared : bit_and low (2 ^ 16 - 1 - 64) ≡ low / 2 ^ 7 * 2 ^ 7 + low % 2 ^ 6 =
-    field_cleared 16 low 6 1 (omega arith) small in
+    bit_and-field_cleared 16 low 6 1 (omega arith) small in
     ap (with_field word 0 16) cleared ∙ omega arith

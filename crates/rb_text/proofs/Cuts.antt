@@ -14,15 +14,15 @@ use Rattle.rb_text.proofs.Digits.{AllPass-take_while}
 use Rattle.rb_text.specs.TextParser.{first_if, after_if, skip_while, is_sign, number_in, after_number}
 use Rattle.rb_text.specs.Feature.{Stops, Whole, Optional, Number}
 
-none_stops : (p : ℕ → Bool) (r : List ℕ) → Stops p r → prefix_len p r ≡ 0
-none_stops p [] s = refl
-none_stops p (b ∷ bs) s = rw s refl
+prefix_len-none : (p : ℕ → Bool) (r : List ℕ) → Stops p r → prefix_len p r ≡ 0
+prefix_len-none p [] s = refl
+prefix_len-none p (b ∷ bs) s = rw s refl
 
 pub prefix_len-whole : (p : ℕ → Bool) (a r : List ℕ) → AllPass p a → Stops p r → prefix_len p (a ++ r) ≡ length a
 prefix_len-whole p a r all stops =
     let full : prefix_len p a ≡ length a = prefix_len_is p a (length a) 0 (omega arith) (λ k h. all k 0 h)
     (λ h. absurd (omega arith)) in
-    let none : prefix_len p r ≡ 0 = none_stops p r stops in
+    let none : prefix_len p r ≡ 0 = prefix_len-none p r stops in
     prefix_len-append p a r ∙ grind (arith, nat_tests)
 
 pub take_while-whole : (p : ℕ → Bool) (t a r : List ℕ) → Whole p t a r → take_while p t ≡ a

@@ -32,8 +32,8 @@ some_pair x y e = let k = some_inj x y e in (ap (λ p. p.0) k, ap (λ p. p.1) k)
 begins_self : (q : ℕ) (r : List ℕ) → begins_with q (q ∷ r) ≡ true
 begins_self q r = grind (arith, nat_tests)
 
-after_self : (q : ℕ) (r : List ℕ) → after_if (is_byte q) (q ∷ r) ≡ r
-after_self q r = grind (arith, nat_tests)
+after_if-self : (q : ℕ) (r : List ℕ) → after_if (is_byte q) (q ∷ r) ≡ r
+after_if-self q r = grind (arith, nat_tests)
 
 short_tag_of : (word : List ℕ) (tag : ℕ) → length word ≤ 4 → tag ≡ lossy_tag_of word → short_tag word ≡ Some tag
 short_tag_of word tag h e = rw e (grind (arith, nat_tests))
@@ -41,7 +41,7 @@ short_tag_of word tag h e = rw e (grind (arith, nat_tests))
 tag_in_quotes-again : (q : Option ℕ) (tag : ℕ) (l r : List ℕ) → l ≡ option_to_list q ++ r
     → tag_in_quotes q (Some tag) l ≡ Some (tag, r)
 tag_in_quotes-again None tag l r e = rw e refl
-tag_in_quotes-again (Some q) tag l r e = rw e (rw (begins_self q r, after_self q r) refl)
+tag_in_quotes-again (Some q) tag l r e = rw e (rw (begins_self q r, after_if-self q r) refl)
 
 pub tag_in-part : (t : List ℕ) (tag : ℕ) (r : List ℕ) → TagPart t tag r → tag_in t ≡ Some (tag, r)
 unfolding tag_in
@@ -71,14 +71,14 @@ false_true e = cc
 same_byte : (a b : ℕ) → (a == b) ≡ true → a ≡ b
 same_byte a b h = grind (arith, nat_tests)
 
-head_from : (q b : ℕ) (bs : List ℕ) (v : Bool) → (b == q) ≡ v → is_some (cond v (Some b) None) ≡ true
+cons-head : (q b : ℕ) (bs : List ℕ) (v : Bool) → (b == q) ≡ v → is_some (cond v (Some b) None) ≡ true
     → b ∷ bs ≡ q ∷ cond v bs (b ∷ bs)
-head_from q b bs true h e = ap (λ x. x ∷ bs) (same_byte b q h)
-head_from q b bs false h e = absurd (false_true e)
+cons-head q b bs true h e = ap (λ x. x ∷ bs) (same_byte b q h)
+cons-head q b bs false h e = absurd (false_true e)
 
 begins_from : (q : ℕ) (l : List ℕ) → begins_with q l ≡ true → l ≡ q ∷ after_if (is_byte q) l
 begins_from q [] e = cc
-begins_from q (b ∷ bs) e = head_from q b bs (b == q) refl e
+begins_from q (b ∷ bs) e = cons-head q b bs (b == q) refl e
 
 record Closed (quote short : Option ℕ) (l : List ℕ) (tag : ℕ) (r : List ℕ) : Type 0 where
   short_is : short ≡ Some tag
@@ -125,8 +125,8 @@ not_begins q (b ∷ bs) h = rw h refl
 one_separates : (s : ℕ) (l : List ℕ) → is_separator s ≡ true → is_some (first_if is_separator (s ∷ l)) ≡ true
 one_separates s l h = rw h refl
 
-one_behind : (s : ℕ) (l : List ℕ) → is_separator s ≡ true → after_if is_separator (s ∷ l) ≡ l
-one_behind s l h = rw h refl
+after_if-separator : (s : ℕ) (l : List ℕ) → is_separator s ≡ true → after_if is_separator (s ∷ l) ≡ l
+after_if-separator s l h = rw h refl
 
 pub range_in-none : (t : List ℕ) (from to : ℕ) (r : List ℕ) → NoRange t from to r → range_in t ≡ Some ((from, to), r)
 unfolding range_in
@@ -143,7 +143,7 @@ pub range_in-two : (t : List ℕ) (from to : ℕ) (r : List ℕ) → TwoNumbers 
 unfolding range_in
 range_in-two t from to r n =
     rw n.opened (rw (number_in-number _ _ _ n.first_is, after_number-number _ _ _ n.first_is)
-    (rw (one_separates n.separator n.behind n.separates, one_behind n.separator n.behind n.separates)
+    (rw (one_separates n.separator n.behind n.separates, after_if-separator n.separator n.behind n.separates)
     (rw (number_in-number _ _ _ n.second_is, after_number-number _ _ _ n.second_is, n.from_is, n.to_is) refl)))
 
 pub range_in-range : (t : List ℕ) (from to : ℕ) (r : List ℕ) → Range t from to r → range_in t ≡ Some ((from, to), r)
@@ -154,20 +154,21 @@ range_in-range t from to r h =
     ]
 
 -- the setting
-toggled_is : (equals : Option ℕ) (prefix value : ℕ) (o : Option Bool) (r : List ℕ) → Toggles equals prefix value o
+value_of_toggle-toggled : (equals : Option ℕ) (prefix value : ℕ) (o : Option Bool) (r : List ℕ)
+    → Toggles equals prefix value o
     → value_of_toggle (is_some equals) prefix o r ≡ Some (value, r)
-toggled_is equals prefix value (Some b) r h = rw h refl
-toggled_is equals prefix value None r h = rw (h.1, h.0) refl
+value_of_toggle-toggled equals prefix value (Some b) r h = rw h refl
+value_of_toggle-toggled equals prefix value None r h = rw (h.1, h.0) refl
 
-behind_is : (equals : Option ℕ) (prefix : ℕ) (n : Option ℤ) (t : List ℕ) (value : ℕ) (r : List ℕ)
+value_behind_number-some : (equals : Option ℕ) (prefix : ℕ) (n : Option ℤ) (t : List ℕ) (value : ℕ) (r : List ℕ)
     → Word equals prefix n t value r → value_behind_number (is_some equals) prefix n t ≡ Some (value, r)
-behind_is equals prefix (Some z) t value r h = rw (h.0, h.1) refl
-behind_is equals prefix None t value r h =
+value_behind_number-some equals prefix (Some z) t value r h = rw (h.0, h.1) refl
+value_behind_number-some equals prefix None t value r h =
     rw (skip_while-whole _ _ _ _ h.gap_is) (rw (
       take_while-whole _ _ _ _ h.letters_are,
       skip_while-whole _ _ _ _
           h.letters_are,
-    ) (toggled_is equals prefix value _ r h.value_is))
+    ) (value_of_toggle-toggled equals prefix value _ r h.value_is))
 
 pub setting_in-setting : (prefix : ℕ) (t : List ℕ) (value : ℕ) (r : List ℕ) → Setting prefix t value r
     → setting_in prefix t ≡ Some (value, r)
@@ -175,7 +176,7 @@ unfolding setting_in
 setting_in-setting prefix t value r s =
     rw (first_if-optional _ _ _ _ s.equals_is, after_if-optional _ _ _ _ s.equals_is)
     (rw (number_in-number _ _ _ s.number_is, after_number-number _ _ _ s.number_is)
-    (behind_is s.equals prefix s.number s.behind_digits value r s.word_is))
+    (value_behind_number-some s.equals prefix s.number s.behind_digits value r s.word_is))
 
 -- the whole
 some_bytes : (t : List ℕ) → ¬ (t ≡ []) → is_nil t ≡ false

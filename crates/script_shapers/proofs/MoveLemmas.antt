@@ -21,7 +21,7 @@ use Rattle.shaping_buffer.specs.ClusterStep.{any_order, both, merge_clusters, me
 use Rattle.shaping_buffer.specs.KeepsClusters.{KeepsClusters}
 use Rattle.shaping_buffer.specs.Lending.{with_input, with_out}
 use Rattle.shaping_buffer.proofs.LeastSteps.{stands_split}
-use Rattle.shaping_buffer.proofs.MergingLemmas.{closed_merge}
+use Rattle.shaping_buffer.proofs.MergingLemmas.{input-closed_merge}
 use Rattle.script_shapers.specs.Moves.{moved, IsOneCluster}
 
 -- lists that agree in their clusters place by place
@@ -141,9 +141,9 @@ keeps_moved s t level alike back = record {
 }
 
 -- what is written over a whole list
-refilled_same : (xs ws : List hb_glyph_info_t) → length ws ≡ length xs
+take-refilled : (xs ws : List hb_glyph_info_t) → length ws ≡ length xs
     → take (length xs) (ws ++ drop (length ws) xs) ≡ ws
-refilled_same xs ws same =
+take-refilled xs ws same =
     ap (λ (z : List hb_glyph_info_t). take (length xs) (ws ++ z)) (drop_all (length ws) xs (omega arith))
     ∙ ap (take (length xs)) (append-nil ws) ∙ take_all (length xs) ws (omega arith)
 
@@ -155,7 +155,7 @@ module _ (a m b : ℕ) (s : State) (gs now : List hb_glyph_info_t) (up : a ≤ m
       let l = s.input in
       let same : gs ≡ moved a m b l = is ∙ ap (moved a m b) was in
       let long : length gs ≡ length l = ap length same ∙ length-moved a m b l up up2 in_l in
-      let now_is : (with_input s gs).input ≡ moved a m b l = refilled_same l gs long ∙ same in
+      let now_is : (with_input s gs).input ≡ moved a m b l = take-refilled l gs long ∙ same in
       keeps_moved s (with_input s gs) refl
       (λ any. ap (λ x. clusters (s.out ++ x)) now_is ∙ map-append (λ g. g.cluster) s.out (moved a m b l)
       ∙ ap (λ cs. clusters s.out ++ cs) (one_alike a m b l up up2 in_l (one.alike any))
@@ -172,7 +172,7 @@ module _ (a m b : ℕ) (s : State) (gs now : List hb_glyph_info_t) (up : a ≤ m
       let l = s.out in
       let same : gs ≡ moved a m b l = is ∙ ap (moved a m b) was in
       let long : length gs ≡ length l = ap length same ∙ length-moved a m b l up up2 in_l in
-      let now_is : (with_out s gs).out ≡ moved a m b l = refilled_same l gs long ∙ same in
+      let now_is : (with_out s gs).out ≡ moved a m b l = take-refilled l gs long ∙ same in
       keeps_moved s (with_out s gs) refl
       (λ any. ap (λ x. clusters (x ++ s.input)) now_is ∙ map-append (λ g. g.cluster) (moved a m b l) s.input
       ∙ ap (λ cs. cs ++ clusters s.input) (one_alike a m b l up up2 in_l (one.alike any))
@@ -184,9 +184,9 @@ module _ (a m b : ℕ) (s : State) (gs now : List hb_glyph_info_t) (up : a ≤ m
 
 -- ---- a merged range is one cluster
 
-merged_one : (l : List hb_glyph_info_t) (a b floor : ℕ) → b ≤ length l → (k : ℕ) → a ≤ k → k < b
+cluster-run_merge : (l : List hb_glyph_info_t) (a b floor : ℕ) → b ≤ length l → (k : ℕ) → a ≤ k → k < b
     → (at (run_merge l a b floor) k).cluster ≡ (at (run_merge l a b floor) a).cluster
-merged_one l a b floor in_l k ge lt =
+cluster-run_merge l a b floor in_l k ge lt =
     let start = widened_start-le (clusters l) a b floor in
     let end = widened_end-ge (clusters l) a b in
     let some : a < b = omega arith in
@@ -202,10 +202,11 @@ module _ (a b : ℕ) (s t : State) where
         let n = length-run_merge s.input a b s.idx in
         let level : any_order s ≡ false = sym (ap any_order is) ∙ any in
         let now : t.input ≡ l =
-        ap (λ (u : State). u.input) is ∙ sym (ap (λ (u : State). u.input) (closed_merge a b s closed none level)) in
+        ap (λ (u : State). u.input) is
+        ∙ sym (ap (λ (u : State). u.input) (input-closed_merge a b s closed none level)) in
         ap (λ xs. get_or (clusters xs) k 0) now
         ∙ get_or-clusters l k zero_glyph (omega arith)
-        ∙ merged_one s.input a b s.idx in_l k ge lt
+        ∙ cluster-run_merge s.input a b s.idx in_l k ge lt
         ∙ sym (get_or-clusters l a zero_glyph (omega arith))
         ∙ sym (ap (λ xs. get_or (clusters xs) a 0) now);
   }
@@ -223,7 +224,7 @@ module _ (a b : ℕ) (s t : State) where
         ap (λ xs. get_or (clusters xs) k 0) now
         ∙ get_or-clusters (take (length s.out) l) k zero_glyph (omega arith)
         ∙ ap (λ g. g.cluster) (get_or-take (length s.out) l k zero_glyph (omega arith))
-        ∙ merged_one (both s) a b 0 (omega arith) k ge lt
+        ∙ cluster-run_merge (both s) a b 0 (omega arith) k ge lt
         ∙ ap (λ g. g.cluster) (sym (get_or-take (length s.out) l a zero_glyph (omega arith)))
         ∙ sym (get_or-clusters (take (length s.out) l) a zero_glyph (omega arith))
         ∙ sym (ap (λ xs. get_or (clusters xs) a 0) now);
@@ -244,10 +245,10 @@ pub part_is_one : (any : Bool) (a b c : ℕ) (l : List hb_glyph_info_t) → c �
 part_is_one any a b c l le one = record { alike = λ is k ge lt. one.alike is k ge (omega arith) }
 
 -- the last items of a range turned to its front
-pub moved_by_turning : (a m b : ℕ) (l ys : List hb_glyph_info_t) → a ≤ m → m ≤ b → b ≤ length l
+pub put_mid-moved : (a m b : ℕ) (l ys : List hb_glyph_info_t) → a ≤ m → m ≤ b → b ≤ length l
     → ys ≡ drop (length (part l a b) - (b - m)) (part l a b) ++ take (length (part l a b) - (b - m)) (part l a b)
     → put_mid a (b - a) l ys ≡ moved a m b l
-moved_by_turning a m b l ys up up2 in_l is =
+put_mid-moved a m b l ys up up2 in_l is =
     let n : length (part l a b) - (b - m) ≡ m - a = omega (arith, length-part l a b in_l) in
     let k : b - a ≡ m - a + (b - m) = omega arith in
     let start : a + (m - a) ≡ m = omega arith in

@@ -15,9 +15,9 @@ some_from : (n : ℕ) → (n ≡ 0 → ⊥) → 0 < n
 some_from zero h = absurd (h refl)
 some_from (suc n) h = omega arith
 
-pub line-some : (font : Font) (flags : SerializeFlags) (s : State) (text : List ℕ)
+pub append-glyphs_line : (font : Font) (flags : SerializeFlags) (s : State) (text : List ℕ)
     → (length s.input ≡ 0 → ⊥) → text ≡ text_of font flags s → 91 ∷ text ++ 93 ∷ [] ≡ glyphs_line font flags s
-line-some font flags s text h e =
+append-glyphs_line font flags s text h e =
     let some : 0 < length s.input = some_from (length s.input) h in
     let not_empty : (length s.input == 0) ≡ false = grind (arith, nat_tests) in
     ap (λ t. 91 ∷ t ++ 93 ∷ []) e ∙ sym (rw not_empty refl)

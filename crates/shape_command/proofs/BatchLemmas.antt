@@ -5,18 +5,18 @@ use Rattle.std.proofs.Math.Seq.{drop-cons}
 use Rattle.std.proofs.lemmas.List.{length-map, length-drop}
 use Rattle.shape_command.specs.Batch.{is_word, words_of}
 
-one_word : (words later : List (List ℕ)) (part : List ℕ) (v : Bool)
+append-one_word : (words later : List (List ℕ)) (part : List ℕ) (v : Bool)
     → (words ++ (if v then part ∷ [] else [])) ++ later ≡ words ++ (if v then part ∷ later else later)
-one_word words later part true = append_assoc words (part ∷ []) later
-one_word words later part false = ap (λ l. l ++ later) (append-nil words)
+append-one_word words later part true = append_assoc words (part ∷ []) later
+append-one_word words later part false = ap (λ l. l ++ later) (append-nil words)
 
 -- one part more
-pub word_step : (start words words' : List (List ℕ)) (parts : List (Bor (List ℕ))) (i : ℕ) (d : Bor (List ℕ))
+pub append-words_of : (start words words' : List (List ℕ)) (parts : List (Bor (List ℕ))) (i : ℕ) (d : Bor (List ℕ))
     → i < length parts → words ++ words_of (map (λ p. p.now) (drop i parts)) ≡ start
     → words' ≡ words
     ++ (if is_word (get_or parts i d).now (length parts - 1 - i) then (get_or parts i d).now ∷ [] else [])
     → words' ++ words_of (map (λ p. p.now) (drop (i + 1) parts)) ≡ start
-word_step start words words' parts i d h so_far e =
+append-words_of start words words' parts i d h so_far e =
     let part = (get_or parts i d).now in
     let rest = map (λ p. p.now) (drop (i + 1) parts) in
     let count : length parts - 1 - i ≡ length rest =
@@ -26,5 +26,5 @@ word_step start words words' parts i d h so_far e =
     let first : drop i parts ≡ get_or parts i d ∷ drop (i + 1) parts = rw add-one (drop-cons parts i d h) in
     let cut : map (λ p. p.now) (drop i parts) ≡ part ∷ rest = ap (map (λ p. p.now)) first in
     ap (λ l. l ++ words_of rest) (e ∙ ap (λ n. words ++ (if is_word part n then part ∷ [] else [])) count)
-    ∙ one_word words (words_of rest) part (is_word part (length rest))
+    ∙ append-one_word words (words_of rest) part (is_word part (length rest))
     ∙ ap (λ l. words ++ words_of l) (sym cut) ∙ so_far

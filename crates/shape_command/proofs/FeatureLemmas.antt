@@ -28,16 +28,16 @@ adds-append a b c xs ys p q =
     (p.0 ++ q.0, reads-append xs ys p.0 q.0 p.1 q.1, q.2 ∙ ap (λ l. l ++ q.0) p.2 ∙ append_assoc a p.0 q.0)
 
 -- one text more
-now-take : (items : List (Bor (List ℕ))) (i : ℕ) (d : Bor (List ℕ)) → i < length items
+map-take_more : (items : List (Bor (List ℕ))) (i : ℕ) (d : Bor (List ℕ)) → i < length items
     → map (λ t. t.now) (take (i + 1) items) ≡ map (λ t. t.now) (take i items) ++ (get_or items i d).now ∷ []
-now-take items i d h =
+map-take_more items i d h =
     ap (map (λ t. t.now)) (take_more items i d h) ∙ map-append (λ t. t.now) (take i items) (get_or items i d ∷ [])
 
 pub adds_one_more : (a b c : List Feature) (items : List (Bor (List ℕ))) (i : ℕ) (d : Bor (List ℕ)) → i < length items
     → AddsFeatures a b (map (λ t. t.now) (take i items)) → AddsFeatures b c ((get_or items i d).now ∷ [])
     → AddsFeatures a c (map (λ t. t.now) (take (i + 1) items))
 adds_one_more a b c items i d h p q =
-    subst (AddsFeatures a c) (sym (now-take items i d h))
+    subst (AddsFeatures a c) (sym (map-take_more items i d h))
     (adds-append a b c (map (λ t. t.now) (take i items)) ((get_or items i d).now ∷ []) p q)
 
 -- the texts of one part more
@@ -49,7 +49,7 @@ adds_part_more f a b c items i d h p q =
     let before = map (λ t. t.now) (take i items) in
     let one = (get_or items i d).now in
     let more : flat_map f (map (λ t. t.now) (take (i + 1) items)) ≡ flat_map f before ++ f one =
-    ap (flat_map f) (now-take items i d h) ∙ flat_map-append f before (one ∷ [])
+    ap (flat_map f) (map-take_more items i d h) ∙ flat_map-append f before (one ∷ [])
     ∙ ap (λ l. flat_map f before ++ l) (append-nil (f one)) in
     subst (AddsFeatures a c) (sym more) (adds-append a b c (flat_map f before) (f one) p q)
 

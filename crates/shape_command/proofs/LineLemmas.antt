@@ -58,9 +58,9 @@ some_taken b bytes = cases (b == 10) refl
     cases true f = rw f (omega arith)
     cases false f = rw f (omega arith)
 
-ends-cons : (b : ℕ) (text : List ℕ) → 0 < length text → ends_with_byte 10 (b ∷ text) ≡ ends_with_byte 10 text
-ends-cons b [] h = absurd (omega (arith, h))
-ends-cons b (c ∷ rest) h =
+ends_with_byte-cons : (b : ℕ) (text : List ℕ) → 0 < length text → ends_with_byte 10 (b ∷ text) ≡ ends_with_byte 10 text
+ends_with_byte-cons b [] h = absurd (omega (arith, h))
+ends_with_byte-cons b (c ∷ rest) h =
     let longer : nat_lt 0 (length (b ∷ c ∷ rest)) ≡ true = grind (arith, nat_tests) in
     let shorter : nat_lt 0 (length (c ∷ rest)) ≡ true = grind (arith, nat_tests) in
     let last : length (b ∷ c ∷ rest) - 1 ≡ suc (length (c ∷ rest) - 1) = omega arith in
@@ -81,7 +81,7 @@ line_open (b ∷ bytes) h e = cases (b == 10) refl (line_open bytes)
         → with_first b (lines_of bytes) ≡ (b ∷ take_through 10 bytes) ∷ lines_of (drop_through 10 bytes)
     later [] q ih = refl
     later (c ∷ rest) q ih =
-        let open_still = sym (ends-cons b (take_through 10 (c ∷ rest)) (some_taken c rest)) ∙ q in
+        let open_still = sym (ends_with_byte-cons b (take_through 10 (c ∷ rest)) (some_taken c rest)) ∙ q in
         ap (with_first b) (ih (omega arith) open_still)
 
     cases : (v : Bool) → (b == 10) ≡ v → OpenAs bytes

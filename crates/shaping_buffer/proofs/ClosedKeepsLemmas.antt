@@ -31,9 +31,9 @@ use Rattle.shaping_buffer.proofs.LeastSteps.{least_by, least_stays}
 
 -- ---- writes
 
-joined : (a b l m : List hb_glyph_info_t) → clusters b ≡ clusters a → clusters m ≡ clusters l
+clusters-append : (a b l m : List hb_glyph_info_t) → clusters b ≡ clusters a → clusters m ≡ clusters l
     → clusters (b ++ m) ≡ clusters (a ++ l)
-joined a b l m p q =
+clusters-append a b l m p q =
     map-append (λ g. g.cluster) b m ∙ ap (λ x. x ++ clusters m) p ∙ ap (λ x. clusters a ++ x) q
     ∙ sym (map-append (λ g. g.cluster) a l)
 
@@ -41,7 +41,7 @@ joined a b l m p q =
 pub keeps_sides : (s t : State) → t.cluster_level ≡ s.cluster_level → clusters t.out ≡ clusters s.out
     → clusters t.input ≡ clusters s.input → KeepsClusters s t
 keeps_sides s t level same_out same_input =
-    keeps_alike s t level (joined s.out t.out s.input t.input same_out same_input)
+    keeps_alike s t level (clusters-append s.out t.out s.input t.input same_out same_input)
 
 -- what is written over a whole list
 refilled_same : (xs ws : List hb_glyph_info_t) → length ws ≡ length xs → refilled xs ws ≡ ws
@@ -109,9 +109,9 @@ keeps_set_masks value mask start end s =
 
 -- ---- reversal: rising becomes falling
 
-at_reversed : (l : List hb_glyph_info_t) (k : ℕ) → k < length l
+slice_index-reverse : (l : List hb_glyph_info_t) (k : ℕ) → k < length l
     → slice_index (clusters (reverse l)) k ≡ slice_index (clusters l) (length l - 1 - k)
-at_reversed l k h =
+slice_index-reverse l k h =
     get_or-clusters (reverse l) k zero_glyph (omega (arith, length-reverse l))
     ∙ ap (λ g. g.cluster) (get_or-reverse l k zero_glyph h)
     ∙ sym (get_or-clusters l (length l - 1 - k) zero_glyph (omega arith))
@@ -122,7 +122,7 @@ rising-reverse l rises i j up in_r =
     let m = length-reverse l in
     let k = length-clusters l in
     let le = rises (length l - 1 - j) (length l - 1 - i) (omega arith) (omega arith) in
-    omega (arith, le, at_reversed l i (omega arith), at_reversed l j (omega arith))
+    omega (arith, le, slice_index-reverse l i (omega arith), slice_index-reverse l j (omega arith))
 
 falling-reverse : (l : List hb_glyph_info_t) → NeverRises (clusters l) → NeverFalls (clusters (reverse l))
 falling-reverse l falls i j up in_r =
@@ -130,7 +130,7 @@ falling-reverse l falls i j up in_r =
     let m = length-reverse l in
     let k = length-clusters l in
     let le = falls (length l - 1 - j) (length l - 1 - i) (omega arith) (omega arith) in
-    omega (arith, le, at_reversed l i (omega arith), at_reversed l j (omega arith))
+    omega (arith, le, slice_index-reverse l i (omega arith), slice_index-reverse l j (omega arith))
 
 running-reverse : (up : Bool) (l : List hb_glyph_info_t) → Runs up (clusters l) → Runs (not up) (clusters (reverse l))
 running-reverse true = rising-reverse

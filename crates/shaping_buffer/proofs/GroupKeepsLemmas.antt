@@ -10,7 +10,7 @@ use Rattle.glyph_lists.specs.Clusters.{clusters, zero_glyph, run_merge}
 use Rattle.glyph_lists.specs.Groups as groups
 use Rattle.glyph_lists.specs.Parts.{part}
 use Rattle.glyph_lists.proofs.ClustersLemmas.{get_or-clusters, length-clusters}
-use Rattle.glyph_lists.proofs.GroupsLemmas.{length-reverse_range, after_reverse_range, first_group_len-within}
+use Rattle.glyph_lists.proofs.GroupsLemmas.{length-reverse_range, drop-reverse_range, first_group_len-within}
 use Rattle.glyph_lists.proofs.MergesLemmas.{run_merge_inside, length-run_merge}
 use Rattle.glyph_lists.proofs.PartsLemmas.{length-part, get_or-part}
 use Rattle.glyph_lists.proofs.RunsLemmas.{widened_start-le, widened_end-ge}
@@ -24,7 +24,7 @@ use Rattle.shaping_buffer.proofs.ClosedKeepsLemmas.{keeps_list}
 use Rattle.shaping_buffer.proofs.GroupStepLemmas.{group_keeps, length_merged, reverse_each}
 use Rattle.shaping_buffer.proofs.KeepsLemmas.{keeps_none, keeps_then, keeps_merge_clusters}
 use Rattle.shaping_buffer.proofs.LeastSteps.{stands_alike}
-use Rattle.shaping_buffer.proofs.MergingLemmas.{closed_merge}
+use Rattle.shaping_buffer.proofs.MergingLemmas.{input-closed_merge}
 
 -- lists that agree in their clusters place by place
 same_clusters : (xs ys : List hb_glyph_info_t) → length ys ≡ length xs
@@ -128,7 +128,7 @@ merged_is_one a b s closed none in_l any k ge lt =
     let l = run_merge s.input a b s.idx in
     let n = length-run_merge s.input a b s.idx in
     let is : (merge_clusters a b s).input ≡ l =
-    sym (ap (λ (t : State). t.input) (closed_merge a b s closed none any)) in
+    sym (ap (λ (t : State). t.input) (input-closed_merge a b s closed none any)) in
     let start = widened_start-le (clusters s.input) a b s.idx in
     let end = widened_end-ge (clusters s.input) a b in
     let some : a < b = omega arith in
@@ -160,17 +160,17 @@ group_tests test x (y ∷ ys) (suc j) h =
     (λ _ more. group_tests test y ys j (omega arith)) (λ _ none. absurd (omega arith)) h
 
 -- all of a group are in the cluster of its first
-group_shares : (test : groups.Test) (l : List hb_glyph_info_t) → ShareClusters test l → (k : ℕ)
+cluster-group_shares : (test : groups.Test) (l : List hb_glyph_info_t) → ShareClusters test l → (k : ℕ)
     → k < groups.first_group_len test l → (at l k).cluster ≡ (at l 0).cluster
-group_shares test l share zero h = refl
-group_shares test [] share (suc k) h = absurd (omega arith)
-group_shares test (x ∷ xs) share (suc k) h =
+cluster-group_shares test l share zero h = refl
+cluster-group_shares test [] share (suc k) h = absurd (omega arith)
+cluster-group_shares test (x ∷ xs) share (suc k) h =
     let within = (first_group_len-within test (x ∷ xs) (omega arith)).1 in
     let i : k + 1 ≡ suc k = omega arith in
     sym (ap (λ n. (at (x ∷ xs) n).cluster) i)
     ∙ share k (omega arith)
     (ap (λ n. test (at (x ∷ xs) k) (at (x ∷ xs) n)) i ∙ group_tests test x xs k (omega arith))
-    ∙ group_shares test (x ∷ xs) share k (omega arith)
+    ∙ cluster-group_shares test (x ∷ xs) share k (omega arith)
 
 share-drop : (test : groups.Test) (n : ℕ) (l : List hb_glyph_info_t) → ShareClusters test l
     → ShareClusters test (drop n l)
@@ -203,13 +203,13 @@ shared_each test (suc turns) start s none share = cond_both (ltb start (length s
     get_or-clusters s.input k zero_glyph (omega arith)
     ∙ ap (λ j. (at s.input j).cluster) (sym i)
     ∙ sym (ap (λ g. g.cluster) (get_or-drop start s.input (k - start) zero_glyph))
-    ∙ group_shares test rest (share any) (k - start) (omega arith)
+    ∙ cluster-group_shares test rest (share any) (k - start) (omega arith)
     ∙ ap (λ g. g.cluster) (get_or-drop start s.input 0 zero_glyph)
     ∙ ap (λ j. (at s.input j).cluster) zero_at
     ∙ sym (get_or-clusters s.input start zero_glyph lt) in
     let t = group_step.reverse_range start end s in
     let next : drop end t.input ≡ drop n rest =
-    after_reverse_range start end s.input up in_l ∙ sym (drop-drop n start s.input) in
+    drop-reverse_range start end s.input up in_l ∙ sym (drop-drop n start s.input) in
     keeps_then s t (reverse_each false test turns end t) (keeps_reverse_range start end s none up in_l one)
     (shared_each test turns end t none
     (λ any. subst (ShareClusters test) (sym next) (share-drop test n rest (share any)))))

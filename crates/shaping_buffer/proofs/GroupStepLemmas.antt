@@ -12,7 +12,7 @@ use Rattle.glyph_lists.specs.Groups as groups
 use Rattle.glyph_lists.specs.Groups.{Test, group_end, group_lens, first_group_len}
 use Rattle.glyph_lists.proofs.LengthsLemmas.{length-merge_or_mark}
 use Rattle.glyph_lists.proofs.GroupsLemmas.{group_lens_first, first_group_len-within, total_of_groups, total}
-use Rattle.glyph_lists.proofs.GroupsLemmas.{length-reverse_range, after_reverse_range, ranges_reversed}
+use Rattle.glyph_lists.proofs.GroupsLemmas.{length-reverse_range, drop-reverse_range, ranges_reversed}
 use Rattle.glyph_lists.proofs.GroupsLemmas.{ranges_in_reverse}
 use Rattle.shaping_buffer.specs.State.{State, len}
 use Rattle.shaping_buffer.specs.ClusterStep.{merge_clusters, any_order, both, both_place, floor_of}
@@ -67,29 +67,29 @@ keeps_then s t u first second = second
 
 -- ---- one group after the other
 
-pub each_done : (merges : Bool) (test : Test) (turns start : ℕ) (s : State) → length s.input ≤ start
+pub reverse_each-done : (merges : Bool) (test : Test) (turns start : ℕ) (s : State) → length s.input ≤ start
     → reverse_each merges test turns start s ≡ s
-each_done merges test zero start s h = refl
-each_done merges test (suc turns) start s h = cond-false _ _ _ (le-ltb start (length s.input) h)
+reverse_each-done merges test zero start s h = refl
+reverse_each-done merges test (suc turns) start s h = cond-false _ _ _ (le-ltb start (length s.input) h)
 
-pub each_turn : (merges : Bool) (test : Test) (turns turns2 start end : ℕ) (s : State) → start < length s.input
+pub reverse_each-turn : (merges : Bool) (test : Test) (turns turns2 start end : ℕ) (s : State) → start < length s.input
     → turns ≡ suc turns2
     → end ≡ group_end test start s.input → reverse_each merges test turns2 end (reverse_group merges start end s)
     ≡ reverse_each merges test turns start s
-each_turn merges test turns turns2 start end s h e e2 =
+reverse_each-turn merges test turns turns2 start end s h e e2 =
     ap (λ k. reverse_each merges test turns2 k (reverse_group merges start k s)) e2
     ∙ sym (cond-true _ _ _ (lt-ltb start (length s.input) h))
     ∙ sym (ap (λ k. reverse_each merges test k start s) e)
 
 -- ---- merging
 
-each_merges : (test : Test) (turns start : ℕ) (s : State)
+reverse_each-merges : (test : Test) (turns start : ℕ) (s : State)
     → reverse_each true test turns start s ≡ merged_groups test turns start s
-each_merges test zero start s = refl
-each_merges test (suc turns) start s =
+reverse_each-merges test zero start s = refl
+reverse_each-merges test (suc turns) start s =
     let end = group_end test start s.input in
     ap (λ after. if nat_lt start (length s.input) then after else s)
-    (each_merges test turns end (reverse_group true start end s))
+    (reverse_each-merges test turns end (reverse_group true start end s))
 
 -- ---- not merging
 
@@ -97,20 +97,21 @@ same_option : {X : Type 0} (o : Option X) → o ≡ option_map (λ x. x) o
 same_option None = refl
 same_option (Some x) = refl
 
-option_twice : {X : Type 0} (f g : X → X) (o : Option X) → option_map f (option_map g o) ≡ option_map (λ x. f (g x)) o
-option_twice f g None = refl
-option_twice f g (Some x) = refl
+option_map-twice : {X : Type 0} (f g : X → X) (o : Option X)
+    → option_map f (option_map g o) ≡ option_map (λ x. f (g x)) o
+option_map-twice f g None = refl
+option_map-twice f g (Some x) = refl
 
 abbrev in_ranges : List ℕ → ℕ → State → State
 in_ranges ns start s =
     record s { input = ranges_reversed ns start s.input; positions = option_map (ranges_reversed ns start) s.positions }
 
-each_in_ranges : (test : Test) (turns start : ℕ) (s : State) → length s.input ≤ start + turns
+reverse_each-in_ranges : (test : Test) (turns start : ℕ) (s : State) → length s.input ≤ start + turns
     → reverse_each false test turns start s ≡ in_ranges (group_lens test (drop start s.input)) start s
-each_in_ranges test zero start s h =
+reverse_each-in_ranges test zero start s h =
     ap (λ o. record s { positions = o }) (same_option s.positions)
     ∙ sym (ap (λ xs. in_ranges (group_lens test xs) start s) (drop_all start s.input (omega arith)))
-each_in_ranges test (suc turns) start s h = elim (cases_lt start (length s.input)) [
+reverse_each-in_ranges test (suc turns) start s h = elim (cases_lt start (length s.input)) [
   | inl lt ↦
       let rest = drop start s.input in
       let some : 0 < length rest = omega (arith, length-drop start s.input) in
@@ -123,13 +124,13 @@ each_in_ranges test (suc turns) start s h = elim (cases_lt start (length s.input
       let ns = group_lens test (drop n rest) in
       let left : length t.input ≤ end + turns = omega (arith, length-reverse_range start end s.input (omega arith)) in
       let lens : group_lens test (drop end t.input) ≡ ns =
-      ap (group_lens test) (after_reverse_range start end s.input (omega arith) in_l
+      ap (group_lens test) (drop-reverse_range start end s.input (omega arith) in_l
       ∙ sym (drop-drop n start s.input)) in
       cond-true _ _ _ (lt-ltb start (length s.input) lt)
-      ∙ each_in_ranges test turns end t left
+      ∙ reverse_each-in_ranges test turns end t left
       ∙ ap (λ ks. in_ranges ks end t) lens
       ∙ ap (λ o. record s { input = ranges_reversed ns end t.input; positions = o })
-      (option_twice (ranges_reversed ns end) (groups.reverse_range start end) s.positions)
+      (option_map-twice (ranges_reversed ns end) (groups.reverse_range start end) s.positions)
       ∙ sym (ap (λ ks. in_ranges ks start s) (group_lens_first test rest some))
   | inr ge ↦ cond-false _ _ _ (le-ltb start (length s.input) ge)
       ∙ ap (λ o. record s { positions = o }) (same_option s.positions)
@@ -140,29 +141,29 @@ each_in_ranges test (suc turns) start s h = elim (cases_lt start (length s.input
 abbrev pub HasEachPosition : State → Type 0
 HasEachPosition s = (ps : List GlyphPosition) → s.positions ≡ Some ps → length ps ≡ length s.input
 
-positions_in_reverse : (ns : List ℕ) (n : ℕ) (o : Option (List GlyphPosition)) → total ns ≡ n
+option_map-ranges_reversed : (ns : List ℕ) (n : ℕ) (o : Option (List GlyphPosition)) → total ns ≡ n
     → ((ps : List GlyphPosition) → o ≡ Some ps → length ps ≡ n)
     → option_map reverse_list (option_map (ranges_reversed ns 0) o) ≡ option_map (groups.groups_in_reverse ns) o
-positions_in_reverse ns n None all each = refl
-positions_in_reverse ns n (Some ps) all each = ap Some (ranges_in_reverse ns ps (all ∙ sym (each ps refl)))
+option_map-ranges_reversed ns n None all each = refl
+option_map-ranges_reversed ns n (Some ps) all each = ap Some (ranges_in_reverse ns ps (all ∙ sym (each ps refl)))
 
 each_in_reverse : (test : Test) (s : State) → HasEachPosition s
     → reverse (reverse_each false test (length s.input) 0 s) ≡ groups_in_reverse test s
 each_in_reverse test s each =
     let ns = group_lens test s.input in
     let all = total_of_groups test s.input in
-    ap reverse (each_in_ranges test (length s.input) 0 s (omega arith))
+    ap reverse (reverse_each-in_ranges test (length s.input) 0 s (omega arith))
     ∙ ap (λ xs. record s {
       input = xs;
       positions = option_map reverse_list
           (option_map (ranges_reversed ns 0) s.positions);
     }) (ranges_in_reverse ns s.input all)
     ∙ ap (λ o. record s { input = groups.groups_in_reverse ns s.input; positions = o })
-    (positions_in_reverse ns (length s.input) s.positions all each)
+    (option_map-ranges_reversed ns (length s.input) s.positions all each)
 
 -- ---- both
 
-pub each_then_all : (merges : Bool) (test : Test) (s : State) → HasEachPosition s
+pub reverse-reverse_each : (merges : Bool) (test : Test) (s : State) → HasEachPosition s
     → reverse (reverse_each merges test (length s.input) 0 s) ≡ reverse_groups test merges s
-each_then_all true test s each = ap reverse (each_merges test (length s.input) 0 s)
-each_then_all false test s each = each_in_reverse test s each
+reverse-reverse_each true test s each = ap reverse (reverse_each-merges test (length s.input) 0 s)
+reverse-reverse_each false test s each = each_in_reverse test s each

@@ -32,8 +32,8 @@ use Rattle.shaping_buffer.specs.ClusterStep as cluster_step
 use Rattle.shaping_buffer.specs.ClusterStep.{both, both_place, any_order, head_of, merge_input, plain_scan}
 use Rattle.shaping_buffer.specs.ClusterStep.{flag_all, range_start, range_end, asks}
 use Rattle.shaping_buffer.specs.KeepsClusters.{KeepsClusterOrder, KeepsClusters, TurnsClusters, HasTwin, IsBeside}
-use Rattle.shaping_buffer.proofs.ReplacementLemmas.{replaced_sides, replaced_both}
-use Rattle.shaping_buffer.proofs.Steps.{StepsKeep, KeepingSteps, end_kept, front_left, next_keeps, rename_keeps}
+use Rattle.shaping_buffer.proofs.ReplacementLemmas.{replace_glyphs-sides, replaced_both}
+use Rattle.shaping_buffer.proofs.Steps.{StepsKeep, KeepingSteps, range_end-some, front_left, next_keeps, rename_keeps}
 use Rattle.shaping_buffer.proofs.Steps.{output_keeps, copy_keeps, move_keeps, skip_keeps, merge_keeps}
 use Rattle.shaping_buffer.proofs.Steps.{merge_out_keeps, plain_scan_keeps, scan_sides_keeps, flag_all_keeps}
 use Rattle.shaping_buffer.proofs.Steps.{replace_keeps, delete_keeps}
@@ -95,16 +95,16 @@ turns_then_keeps s t u a b = record {
       ∙ a.least any (some_before (both t) (both u) b.ordered.numbers some);
 }
 
-turned_back : (up : Bool) → not (not up) ≡ up
-turned_back true = refl
-turned_back false = refl
+not-not : (up : Bool) → not (not up) ≡ up
+not-not true = refl
+not-not false = refl
 
 -- a list that is turned twice keeps its order
 pub turns_twice : (s t u : State) → TurnsClusters s t → TurnsClusters t u → KeepsClusters s u
 turns_twice s t u a b = record {
   ordered = record {
     level = b.level ∙ a.level;
-    order = λ any up h. subst (λ way. Runs way (clusters (both u))) (turned_back up)
+    order = λ any up h. subst (λ way. Runs way (clusters (both u))) (not-not up)
         (b.order (same_order s t a.level any) (not up) (a.order any up h));
     numbers = λ c on. a.numbers c (b.numbers c on);
   };
@@ -162,27 +162,28 @@ module _ (may_want : Type 0) (o : Outcome) (s : State) where
 
 -- ---- levels
 
-limited_level : (held : ℕ) (s new : State) → new.cluster_level ≡ s.cluster_level
+cluster_level-limited : (held : ℕ) (s new : State) → new.cluster_level ≡ s.cluster_level
     → (limited held s new).state.cluster_level ≡ s.cluster_level
-limited_level held s new e =
+cluster_level-limited held s new e =
     cond_both (leb held s.max_len) _ _ (λ (o : Outcome). o.state.cluster_level ≡ s.cluster_level) (λ _. e) (λ _. refl)
 
-put_out_level : (xs : List hb_glyph_info_t) (s after : State) → after.cluster_level ≡ s.cluster_level
+cluster_level-put_out : (xs : List hb_glyph_info_t) (s after : State) → after.cluster_level ≡ s.cluster_level
     → (put_out xs s after).state.cluster_level ≡ s.cluster_level
-put_out_level xs s after e = limited_level (length (s.out ++ xs)) s (record after { out = after.out ++ xs }) e
+cluster_level-put_out xs s after e =
+    cluster_level-limited (length (s.out ++ xs)) s (record after { out = after.out ++ xs }) e
 
-next_level : (n : ℕ) (s : State) → (next_glyphs n s).state.cluster_level ≡ s.cluster_level
-next_level n s = cond_both s.have_output _ _ (λ (o : Outcome). o.state.cluster_level ≡ s.cluster_level)
-    (λ _. put_out_level (take n s.input) s (skip_glyphs n s) refl) (λ _. refl)
+cluster_level-next_glyphs : (n : ℕ) (s : State) → (next_glyphs n s).state.cluster_level ≡ s.cluster_level
+cluster_level-next_glyphs n s = cond_both s.have_output _ _ (λ (o : Outcome). o.state.cluster_level ≡ s.cluster_level)
+    (λ _. cluster_level-put_out (take n s.input) s (skip_glyphs n s) refl) (λ _. refl)
 
-move_level : (place : ℕ) (s : State) → (step.move_to place s).state.cluster_level ≡ s.cluster_level
-move_level place s = cond_both s.have_output _ _ (λ (o : Outcome). o.state.cluster_level ≡ s.cluster_level)
+cluster_level-move_to : (place : ℕ) (s : State) → (step.move_to place s).state.cluster_level ≡ s.cluster_level
+cluster_level-move_to place s = cond_both s.have_output _ _ (λ (o : Outcome). o.state.cluster_level ≡ s.cluster_level)
     (λ _. cond_both s.successful _ _ (λ (o : Outcome). o.state.cluster_level ≡ s.cluster_level)
-    (λ _. limited_level _ s (split_at place s) refl) (λ _. refl)) (λ _. refl)
+    (λ _. cluster_level-limited _ s (split_at place s) refl) (λ _. refl)) (λ _. refl)
 
-scan_level : (any : Bool) (bits start end : ℕ) (s : State)
+cluster_level-plain_scan : (any : Bool) (bits start end : ℕ) (s : State)
     → (plain_scan any bits start end s).cluster_level ≡ s.cluster_level
-scan_level any bits start end s =
+cluster_level-plain_scan any bits start end s =
     cond_both (ltb _ 2) _ _ (λ (t : State). t.cluster_level ≡ s.cluster_level) (λ _. refl) (λ _. refl)
 
 -- ---- the cursor calls
@@ -192,7 +193,7 @@ keeps_clear_output s none =
     keeps_alike s (step.clear_output s) refl (sym (ap (λ l. clusters (l ++ s.input)) none))
 
 pub keeps_next_glyphs : (n : ℕ) (s : State) → KeepsClusters s (next_glyphs n s).state
-keeps_next_glyphs n s = keeps_by s (next_glyphs n s).state (next_level n s)
+keeps_next_glyphs n s = keeps_by s (next_glyphs n s).state (cluster_level-next_glyphs n s)
     (λ P steps. next_keeps P (λ _. ⊤) steps n s)
 
 pub ordered_skip_glyph : (s : State) → KeepsClusterOrder s (step.skip_glyph s)
@@ -233,19 +234,20 @@ keeps_skip_glyph s twin =
 
 pub keeps_replace_glyph : (id : ℕ) (s : State) → s.have_output ≡ true → KeepsClusters s (step.replace_glyph id s).state
 keeps_replace_glyph id s opened = keeps_by s (step.replace_glyph id s).state
-    (put_out_level (map (with_id id) (take 1 s.input)) s (step.skip_glyph s) refl)
+    (cluster_level-put_out (map (with_id id) (take 1 s.input)) s (step.skip_glyph s) refl)
     (λ P steps. rename_keeps P (λ _. ⊤) steps id s opened)
 
 pub keeps_output_glyph : (id : ℕ) (s : State) → KeepsClusters s (step.output_glyph id s).state
 keeps_output_glyph id s = keeps_by s (step.output_glyph id s).state
-    (put_out_level (map (with_id id) (glyph_to_copy s)) s s refl) (λ P steps. output_keeps P (λ _. ⊤) steps id s)
+    (cluster_level-put_out (map (with_id id) (glyph_to_copy s)) s s refl)
+    (λ P steps. output_keeps P (λ _. ⊤) steps id s)
 
 pub keeps_copy_glyph : (s : State) → KeepsClusters s (step.copy_glyph s).state
-keeps_copy_glyph s = keeps_by s (step.copy_glyph s).state (put_out_level (take 1 s.input) s s refl)
+keeps_copy_glyph s = keeps_by s (step.copy_glyph s).state (cluster_level-put_out (take 1 s.input) s s refl)
     (λ P steps. copy_keeps P (λ _. ⊤) steps s)
 
 pub keeps_move_to : (place : ℕ) (s : State) → KeepsClusters s (step.move_to place s).state
-keeps_move_to place s = keeps_by s (step.move_to place s).state (move_level place s)
+keeps_move_to place s = keeps_by s (step.move_to place s).state (cluster_level-move_to place s)
     (λ P steps. move_keeps P (λ _. ⊤) steps place s)
 
 -- a limit keeps what both outcomes keep
@@ -304,15 +306,16 @@ left_within n s opened within = front_left s.have_output s.idx (length s.input) 
 
 -- ---- replacement and deletion
 
-replace_level : (n : ℕ) (ids : List ℕ) (s : State) → (step.replace_glyphs n ids s).state.cluster_level ≡ s.cluster_level
-replace_level n ids s =
+cluster_level-replace_glyphs : (n : ℕ) (ids : List ℕ) (s : State)
+    → (step.replace_glyphs n ids s).state.cluster_level ≡ s.cluster_level
+cluster_level-replace_glyphs n ids s =
     let m = cluster_step.merge_clusters s.idx (s.idx + n) s in
-    put_out_level (copies (head_of m) ids) s (skip_glyphs n m) refl
+    cluster_level-put_out (copies (head_of m) ids) s (skip_glyphs n m) refl
 
 pub ordered_replace_glyphs : (n : ℕ) (ids : List ℕ) (s : State) → s.have_output ≡ true → 0 < length s.input
     → n ≤ length s.input → KeepsClusterOrder s (step.replace_glyphs n ids s).state
 ordered_replace_glyphs n ids s opened some within = ordered_by s (step.replace_glyphs n ids s).state
-    (replace_level n ids s) (λ P steps. replace_keeps P (λ _. ⊤) steps n ids s opened some within)
+    (cluster_level-replace_glyphs n ids s) (λ P steps. replace_keeps P (λ _. ⊤) steps n ids s opened some within)
 
 replaced_least : (any : Bool) (l : List hb_glyph_info_t) (p q : ℕ) (ids : List ℕ) → any ≡ false → p ≤ q → q ≤ length l
     → p < length l → 0 < length ids
@@ -327,7 +330,7 @@ keeps_replace_glyphs n ids s opened some within with_some = record {
   least = λ any left.
       let P : List hb_glyph_info_t → Type 0 = λ l. least (clusters l) ≡ least (clusters (both s)) in
       let size = length-append s.out s.input in
-      subst P (ap (λ (o : Outcome). both o.state) (sym (replaced_sides n ids s opened)))
+      subst P (ap (λ (o : Outcome). both o.state) (sym (replace_glyphs-sides n ids s opened)))
       (cond_both (leb (length s.out + length ids) s.max_len) _ _ (λ (o : Outcome). P (both o.state))
       (λ _. subst P (sym (replaced_both n ids s))
       (replaced_least (any_order s) (both s) (length s.out) (length s.out + n) ids any (omega arith) (omega arith)
@@ -371,7 +374,7 @@ keeps_merge_out_clusters start end s in_out = keeps_by s (cluster_step.merge_out
 keeps_scan : (bits : ℕ) → BreakImpliesConcat bits → (start end : ℕ) (s : State) → start ≤ end
     → KeepsClusters s (plain_scan (any_order s) bits start end s)
 keeps_scan bits safe start end s up = keeps_by s (plain_scan (any_order s) bits start end s)
-    (scan_level (any_order s) bits start end s)
+    (cluster_level-plain_scan (any_order s) bits start end s)
     (λ P steps h. plain_scan_keeps P (λ _. ⊤) steps bits safe s h start end up)
 
 pub keeps_merge_grapheme_clusters : (start end : ℕ) (s : State) → start ≤ end → end ≤ len s
@@ -379,7 +382,8 @@ pub keeps_merge_grapheme_clusters : (start end : ℕ) (s : State) → start ≤ 
 keeps_merge_grapheme_clusters start end s up in_len =
     cond_both (groups_graphemes s.cluster_level) _ _ (KeepsClusters s)
     (λ _. keeps_by s _ refl (λ P steps. merge_keeps P (λ _. ⊤) steps false start end s in_len tt))
-    (λ _. keeps_scan BREAK_BITS three_agrees start (range_end (Some end) s) s (omega (arith, end_kept end s in_len)))
+    (λ _. keeps_scan BREAK_BITS three_agrees start (range_end (Some end) s) s
+    (omega (arith, range_end-some end s in_len)))
 
 pub keeps_unsafe_to_break : (start end : Option ℕ) (s : State) → range_start start ≤ range_end end s
     → KeepsClusters s (cluster_step.unsafe_to_break start end s)

@@ -9,9 +9,9 @@ use Rattle.shaping_buffer.specs.State.{State}
 use Rattle.shaping_buffer.specs.ClusterStep.{any_order, flagged_if, merge_sides, both_place, merge_clusters}
 
 -- the merge of both sides is that of the list
-pub closed_merge : (a b : ℕ) (s : State) → s.have_output ≡ false → s.out ≡ [] → any_order s ≡ false
+pub input-closed_merge : (a b : ℕ) (s : State) → s.have_output ≡ false → s.out ≡ [] → any_order s ≡ false
     → record s { input = run_merge s.input a b s.idx } ≡ merge_clusters a b s
-closed_merge a b s closed none level =
+input-closed_merge a b s closed none level =
     let lists : TwoLists = record {
       is_open = s.have_output;
       is_separate = s.have_separate_output;
@@ -22,6 +22,6 @@ closed_merge a b s closed none level =
     } in
     ap (λ xs. record s { input = xs }) (sym (merge_or_mark_merges (any_order s) s.input a b s.idx level))
     ∙ ap (λ (t : TwoLists). record s { out = t.out; input = t.input })
-    (sides.closed_merge (any_order s) a b lists closed none)
+    (sides.input-closed_merge (any_order s) a b lists closed none)
     ∙ sym (ap (λ m. record (merge_sides (any_order s) (both_place s a) (both_place s b) s)
     { scratch_flags = flagged_if (m && not (is_short a b)) s }) level)

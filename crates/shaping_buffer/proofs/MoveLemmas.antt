@@ -6,6 +6,6 @@ use Rattle.shaping_buffer.specs.State.{State}
 use Rattle.shaping_buffer.specs.Step.{move_to, next_glyphs}
 
 -- a move forward puts out the glyphs in between
-pub forward_is_next : (i : ℕ) (s : State) → s.have_output ≡ true → s.successful ≡ true → length s.out ≤ i
+pub move_to-forward : (i : ℕ) (s : State) → s.have_output ≡ true → s.successful ≡ true → length s.out ≤ i
     → i ≤ length s.out + length s.input → move_to i s ≡ next_glyphs (i - length s.out) s
-forward_is_next i s opened good ahead within = grind (arith, common_steps, take_past, drop_past)
+move_to-forward i s opened good ahead within = grind (arith, common_steps, take_past, drop_past)

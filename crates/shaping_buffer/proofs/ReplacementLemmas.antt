@@ -29,9 +29,9 @@ front_replaced n ids s =
       scratch_flags = flagged_if (any_order s && not (ltb n 2)) s;
     }
 
-pub replaced_sides : (n : ℕ) (ids : List ℕ) (s : State) → s.have_output ≡ true
+pub replace_glyphs-sides : (n : ℕ) (ids : List ℕ) (s : State) → s.have_output ≡ true
     → replace_glyphs n ids s ≡ limited (length s.out + length ids) s (front_replaced n ids s)
-replaced_sides n ids s opened =
+replace_glyphs-sides n ids s opened =
     let start : length s.out + (s.idx - s.idx) ≡ length s.out = omega arith in
     let end : length s.out + (s.idx + n - s.idx) ≡ length s.out + n = omega arith in
     let count : s.idx + n - s.idx ≡ n = omega arith in
@@ -39,9 +39,10 @@ replaced_sides n ids s opened =
     rw (opened, start, end, count, length-append s.out, length_copies head ids)
 
 -- it is done where the copies fit
-pub replaced_done : (n : ℕ) (ids : List ℕ) (s : State) → s.have_output ≡ true → length s.out + length ids ≤ s.max_len
+pub replace_glyphs-done : (n : ℕ) (ids : List ℕ) (s : State) → s.have_output ≡ true
+    → length s.out + length ids ≤ s.max_len
     → replace_glyphs n ids s ≡ record { done = true; state = settled (front_replaced n ids s) }
-replaced_done n ids s opened fits = replaced_sides n ids s opened
+replace_glyphs-done n ids s opened fits = replace_glyphs-sides n ids s opened
     ∙ cond-true (leb (length s.out + length ids) s.max_len) _ _ (le-leb (length s.out + length ids) s.max_len fits)
 
 -- an output in place stays so where no more is put out than is read
@@ -62,15 +63,16 @@ pub replaced_in_place : (n : ℕ) (ids : List ℕ) (s new : State) (result : Res
     → Meets (replace_glyphs n ids s) s result new → s.have_output ≡ true → s.have_separate_output ≡ false
     → length s.out ≤ s.idx → length s.out + length ids ≤ s.max_len → length ids ≤ n → result ≡ Ok true
 replaced_in_place n ids s new (Ok b) meets opened together near fits fewer =
-    ap Ok (meets.0 ∙ ap (λ (o : Outcome). o.done) (replaced_done n ids s opened fits))
+    ap Ok (meets.0 ∙ ap (λ (o : Outcome). o.done) (replace_glyphs-done n ids s opened fits))
 replaced_in_place n ids s new (Err e) meets opened together near fits fewer =
-    let is = replaced_done n ids s opened fits in
+    let is = replace_glyphs-done n ids s opened fits in
     absurd (false≢true (sym (ap (λ b. b || (replace_glyphs n ids s).state.have_separate_output) together
     ∙ ap (λ (o : Outcome). o.state.have_separate_output) is ∙ front_in_place n ids s together near fewer) ∙ meets.0.1))
 
-pub replaced_refused : (n : ℕ) (ids : List ℕ) (s : State) → s.have_output ≡ true → s.max_len < length s.out + length ids
+pub replace_glyphs-refused : (n : ℕ) (ids : List ℕ) (s : State) → s.have_output ≡ true
+    → s.max_len < length s.out + length ids
     → replace_glyphs n ids s ≡ record { done = false; state = record s { successful = false } }
-replaced_refused n ids s opened long = replaced_sides n ids s opened
+replace_glyphs-refused n ids s opened long = replace_glyphs-sides n ids s opened
     ∙ cond-false (leb (length s.out + length ids) s.max_len) _ _ (lt-leb (length s.out + length ids) s.max_len long)
 
 -- of both sides as one list it is a replacement
@@ -85,11 +87,12 @@ replaced_both n ids s =
     (get_or-drop p l 0 zero_glyph ∙ ap (λ k. get_or l k zero_glyph) start)
     ∙ ap (λ r. (take p l ++ copies (get_or l p zero_glyph) ids) ++ r) (drop-drop n p l)
 
-pub done_replacement : (n : ℕ) (ids : List ℕ) (s : State) → s.have_output ≡ true → (replace_glyphs n ids s).done ≡ true
+pub both-replace_glyphs : (n : ℕ) (ids : List ℕ) (s : State) → s.have_output ≡ true
+    → (replace_glyphs n ids s).done ≡ true
     → both (replace_glyphs n ids s).state ≡ replacement (any_order s) (both s) (length s.out) (length s.out + n) ids
-done_replacement n ids s opened done =
+both-replace_glyphs n ids s opened done =
     elim (cases_lt s.max_len (length s.out + length ids)) [
-      | inl long ↦ absurd (false≢true (sym (ap (λ (o : Outcome). o.done) (replaced_refused n ids s opened long))
+      | inl long ↦ absurd (false≢true (sym (ap (λ (o : Outcome). o.done) (replace_glyphs-refused n ids s opened long))
           ∙ done))
-      | inr fits ↦ ap (λ (o : Outcome). both o.state) (replaced_done n ids s opened fits) ∙ replaced_both n ids s
+      | inr fits ↦ ap (λ (o : Outcome). both o.state) (replace_glyphs-done n ids s opened fits) ∙ replaced_both n ids s
     ]

@@ -10,13 +10,13 @@ part_past_out g out ys a b up =
     cut_out out out _ _ refl (on_part-past g out ys (length out + a) (length out + b) (omega arith) (omega arith))
 
 -- and of the second it is that part
-pub part_in_input : {X : Type 0} (g : List X → List X) (out ys : List X) (a b : ℕ) → a ≤ b
+pub on_part-in_input : {X : Type 0} (g : List X → List X) (out ys : List X) (a b : ℕ) → a ≤ b
     → on_part g ys a b ≡ drop (length out) (on_part g (out ++ ys) (length out + a) (length out + b))
-part_in_input g out ys a b up =
+on_part-in_input g out ys a b up =
     let n = length out in
     let na : n + a - n ≡ a = omega arith in
     let nb : n + b - n ≡ b = omega arith in
     ap (λ k. on_part g ys k b) (sym na) ∙ ap (on_part g ys (n + a - n)) (sym nb)
     ∙ cut_input out out _ _ refl (on_part-past g out ys (n + a) (n + b) (omega arith) (omega arith))
 
-pub ruleset in_input = (part_past_out, part_in_input)
+pub ruleset in_input = (part_past_out, on_part-in_input)

@@ -19,13 +19,13 @@ use Rattle.shaping_buffer.specs.Step.{split_at, with_id, skip_glyph, replace_gly
 use Rattle.shaping_buffer.specs.Step.{glyph_to_copy}
 use Rattle.shaping_buffer.specs.ClusterStep.{both, with_both, both_place, floor_of, any_order, merge_sides}
 use Rattle.shaping_buffer.specs.ClusterStep.{merge_out_clusters, scan, plain_scan, scan_sides, flag_all, range_end}
-use Rattle.shaping_buffer.proofs.ReplacementLemmas.{front_replaced, replaced_sides, replaced_both}
+use Rattle.shaping_buffer.proofs.ReplacementLemmas.{front_replaced, replace_glyphs-sides, replaced_both}
 
 -- ---- conditions in words of numbers
 
 -- an end in the list is not cut
-pub end_kept : (end : ℕ) (s : State) → end ≤ len s → range_end (Some end) s ≡ end
-end_kept end s h = omega arith
+pub range_end-some : (end : ℕ) (s : State) → end ≤ len s → range_end (Some end) s ≡ end
+range_end-some end s h = omega arith
 
 pub place_within : (have_output : Bool) (idx n end : ℕ) → end ≤ cond have_output (idx + n) n
     → end - cond have_output idx 0 ≤ n
@@ -179,7 +179,7 @@ module _ (P : List hb_glyph_info_t → Type 0) (Floor : ℕ → Type 0) (steps :
       → P (both s) → P (both (replace_glyphs n ids s).state)
   replace_keeps n ids s e some within h =
       let size = length-append s.out s.input in
-      subst (λ (o : Outcome). P (both o.state)) (sym (replaced_sides n ids s e))
+      subst (λ (o : Outcome). P (both o.state)) (sym (replace_glyphs-sides n ids s e))
       (limited_keeps P Floor steps.keeping (length s.out + length ids) s (front_replaced n ids s) h
       (subst P (sym (replaced_both n ids s))
       (steps.after_replacement (any_order s) (both s) (length s.out) (length s.out + n) ids (omega arith)

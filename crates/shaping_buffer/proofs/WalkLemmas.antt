@@ -27,8 +27,8 @@ sides_of s = record { out = s.out; rest = s.input }
 abbrev moved : State → State
 moved s = settled (record s { out = s.out ++ take 1 s.input; input = drop 1 s.input; idx = s.idx + 1 })
 
-next_is_done : (s : State) → IsUnderWay s → (next_glyph s).state ≡ moved s
-next_is_done s h =
+state-next_glyph : (s : State) → IsUnderWay s → (next_glyph s).state ≡ moved s
+state-next_glyph s h =
     let fits : length (s.out ++ take 1 s.input) ≤ s.max_len = simp (length-append, length-take) (omega (arith, h.2)) in
     ap (λ (o : Outcome). o.state) (cond-true s.have_output _ _ h.0)
     ∙ ap (λ (o : Outcome). o.state) (cond-true (leb (length (s.out ++ take 1 s.input)) s.max_len) _ _ (le-leb _ _ fits))
@@ -37,8 +37,8 @@ next_is_done s h =
 
 -- ---- the scratch flag
 
-or_twice : (f m : ℕ) → bit_or (bit_or f m) m ≡ bit_or f m
-or_twice f m = omega (arith, or_add_and (bit_or f m) m, and_or_self m f)
+bit_or-twice : (f m : ℕ) → bit_or (bit_or f m) m ≡ bit_or f m
+bit_or-twice f m = omega (arith, or_add_and (bit_or f m) m, and_or_self m f)
 
 abbrev raised : Bool → ℕ → ℕ
 raised holds f = cond holds (bit_or f HB_BUFFER_SCRATCH_FLAG_HAS_GLYPH_FLAGS) f
@@ -53,7 +53,7 @@ raised_twice : (level first later : Bool) (f : ℕ)
 raised_twice false first later f = refl
 raised_twice true false later f = refl
 raised_twice true true false f = refl
-raised_twice true true true f = or_twice f HB_BUFFER_SCRATCH_FLAG_HAS_GLYPH_FLAGS
+raised_twice true true true f = bit_or-twice f HB_BUFFER_SCRATCH_FLAG_HAS_GLYPH_FLAGS
 
 -- ---- the walk
 
@@ -77,7 +77,7 @@ module _ (test : hb_glyph_info_t → Bool) (level_is : Bool) where
       ∙ raised_twice level_is merges later s.scratch_flags
       ∙ ap (λ (t : Bool). flagged_if (level_is && ((t && merges) || later)) s) (sym e)
   flags_of_turn later s level h false e =
-      ap (λ (t : State). flagged_if (level_is && later) t) (cond-false _ _ _ e ∙ next_is_done s h)
+      ap (λ (t : State). flagged_if (level_is && later) t) (cond-false _ _ _ e ∙ state-next_glyph s h)
       ∙ ap (λ (t : Bool). flagged_if (level_is && ((t && deletion_merges (sides_of s)) || later)) s) (sym e)
 
   one_more : (calls : ℕ) (s : State) → any_order s ≡ level_is → IsUnderWay s → (is : Bool) → test (head_of s) ≡ is
@@ -105,7 +105,8 @@ module _ (test : hb_glyph_info_t → Bool) (level_is : Bool) where
       simp (length-append, length-take, length-drop) (omega (arith, h.2)) in
       let made : sides_of (moved s) ≡ after_turn level_is test (sides_of s) = sym (cond-false _ _ _ e) in
       one_more calls s level h false e
-      (subst (λ t. Agrees calls t (after_turn level_is test (sides_of s))) (sym (cond-false _ _ _ e ∙ next_is_done s h))
+      (subst (λ t. Agrees calls t (after_turn level_is test (sides_of s))) (sym (cond-false _ _ _ e
+      ∙ state-next_glyph s h))
       (subst (λ u. Agrees calls (moved s) u) made (later (moved s) level (h.0, h.1, fits))))
 
   pub walks_agree : (calls : ℕ) (s : State) → any_order s ≡ level_is → IsUnderWay s → Agrees calls s (sides_of s)

@@ -23,28 +23,28 @@ use Rattle.shaping_passes.specs.Lines.{lines_from, line_ends}
 add_assoc : (a b c : ℤ) → (a +ℤ b) +ℤ c ≡ a +ℤ (b +ℤ c)
 add_assoc a b c = omega (arith, ints)
 
-advance-append : (xs ys : List GlyphPosition) → advance_of (xs ++ ys) ≡ advance_of xs +ℤ advance_of ys
-advance-append [] ys = omega (arith, ints)
-advance-append (p ∷ xs) ys =
-    ap (λ z. p.x_advance +ℤ z) (advance-append xs ys) ∙ sym (add_assoc p.x_advance (advance_of xs) (advance_of ys))
+advance_of-append : (xs ys : List GlyphPosition) → advance_of (xs ++ ys) ≡ advance_of xs +ℤ advance_of ys
+advance_of-append [] ys = omega (arith, ints)
+advance_of-append (p ∷ xs) ys =
+    ap (λ z. p.x_advance +ℤ z) (advance_of-append xs ys) ∙ sym (add_assoc p.x_advance (advance_of xs) (advance_of ys))
 
 -- two parts of a line, one after the other
-pub width-parts : (ps : List GlyphPosition) (a b c : ℕ) → a ≤ b → b ≤ c
+pub add-width_of : (ps : List GlyphPosition) (a b c : ℕ) → a ≤ b → b ≤ c
     → width_of ps a b +ℤ width_of ps b c ≡ width_of ps a c
-width-parts ps a b c ab bc =
+add-width_of ps a b c ab bc =
     let n : a + (b - a) ≡ b = omega arith in
     let m : (b - a) + (c - b) ≡ c - a = omega arith in
     sym (ap (λ k. advance_of (take k (drop a ps))) (sym m)
     ∙ ap advance_of (take-add (b - a) (c - b) (drop a ps))
     ∙ ap (λ l. advance_of (take (b - a) (drop a ps) ++ take (c - b) l)) (drop-drop (b - a) a ps ∙ ap (λ k. drop k ps) n)
-    ∙ advance-append (take (b - a) (drop a ps)) (take (c - b) (drop b ps)))
+    ∙ advance_of-append (take (b - a) (drop a ps)) (take (c - b) (drop b ps)))
 
-pub width-none : (ps : List GlyphPosition) (a : ℕ) → width_of ps a a ≡ pos 0
-width-none ps a = let n : a - a ≡ 0 = omega arith in rw n refl
+pub width_of-none : (ps : List GlyphPosition) (a : ℕ) → width_of ps a a ≡ pos 0
+width_of-none ps a = let n : a - a ≡ 0 = omega arith in rw n refl
 
-pub width-one : (ps : List GlyphPosition) (a : ℕ) (d : GlyphPosition) → a < length ps
+pub width_of-one : (ps : List GlyphPosition) (a : ℕ) (d : GlyphPosition) → a < length ps
     → width_of ps a (a + 1) ≡ (get_or ps a d).x_advance
-width-one ps a d some =
+width_of-one ps a d some =
     let n : (a + 1) - a ≡ 1 = omega arith in
     ap (λ k. advance_of (take k (drop a ps))) n
     ∙ ap (λ l. advance_of (take 1 l)) (drop_more ps a d some)
@@ -75,30 +75,31 @@ module _ (l : List hb_glyph_info_t) (k : ℕ) (some : k < length l) where
   later_past : may_end l (k + 1) ≡ false → later l k ≡ later l (k + 1)
   later_past e = later_by ∙ cond-false (may_end l (k + 1)) _ _ e
 
-left_is : (l : List hb_glyph_info_t) (ps : List GlyphPosition) (ws : List ℤ) (start end k : ℕ)
+ends_left-lines_from : (l : List hb_glyph_info_t) (ps : List GlyphPosition) (ws : List ℤ) (start end k : ℕ)
     → ends_left l ps ws start end k ≡ lines_from ps ws start (cond (ltb start end) (end ∷ later l k) (later l k))
 unfolding later
-left_is l ps ws start end k = refl
+ends_left-lines_from l ps ws start end k = refl
 
 module _ (l : List hb_glyph_info_t) (ps : List GlyphPosition) (ws : List ℤ) (start end k : ℕ) (some : k < length l) where
   -- no line may end behind the glyph
   pub none_ends : may_end l (k + 1) ≡ false → ends_left l ps ws start end k ≡ ends_left l ps ws start end (k + 1)
   none_ends e =
-      left_is l ps ws start end k
+      ends_left-lines_from l ps ws start end k
       ∙ ap (λ m. lines_from ps ws start (cond (ltb start end) (end ∷ m) m)) (later_past l k some e)
-      ∙ sym (left_is l ps ws start end (k + 1))
+      ∙ sym (ends_left-lines_from l ps ws start end (k + 1))
 
   here : start ≤ k → ends_left l ps ws start (k + 1) (k + 1) ≡ lines_from ps ws start ((k + 1) ∷ later l (k + 1))
   here before =
       let more : ltb start (k + 1) ≡ true = grind (arith, nat_tests) in
-      left_is l ps ws start (k + 1) (k + 1) ∙ ap (lines_from ps ws start) (cond-true (ltb start (k + 1)) _ _ more)
+      ends_left-lines_from l ps ws start (k + 1) (k + 1)
+      ∙ ap (lines_from ps ws start) (cond-true (ltb start (k + 1)) _ _ more)
 
   -- the line goes on to here
   pub goes_on : may_end l (k + 1) ≡ true → start ≤ k
       → (start < end → is_within (width_of ps start (k + 1)) ws ≡ true)
       → ends_left l ps ws start end k ≡ ends_left l ps ws start (k + 1) (k + 1)
   goes_on e before fits =
-      left_is l ps ws start end k
+      ends_left-lines_from l ps ws start end k
       ∙ ap (λ m. lines_from ps ws start (cond (ltb start end) (end ∷ m) m)) (later_here l k some e)
       ∙ cond_both (ltb start end) (end ∷ (k + 1) ∷ later l (k + 1)) ((k + 1) ∷ later l (k + 1))
       (λ m. lines_from ps ws start m ≡ lines_from ps ws start ((k + 1) ∷ later l (k + 1)))
@@ -112,17 +113,17 @@ module _ (l : List hb_glyph_info_t) (ps : List GlyphPosition) (ws : List ℤ) (s
   ended e less before wide =
       let is_less : ltb start end ≡ true = grind (arith, nat_tests) in
       let more : ltb end (k + 1) ≡ true = grind (arith, nat_tests) in
-      left_is l ps ws start end k
+      ends_left-lines_from l ps ws start end k
       ∙ ap (λ m. lines_from ps ws start (cond (ltb start end) (end ∷ m) m)) (later_here l k some e)
       ∙ ap (lines_from ps ws start) (cond-true (ltb start end) _ _ is_less)
       ∙ cond-false (is_within (width_of ps start (k + 1)) ws) _ _ wide
-      ∙ ap (λ m. end ∷ m) (sym (left_is l ps (widths_after ws) end (k + 1) (k + 1)
+      ∙ ap (λ m. end ∷ m) (sym (ends_left-lines_from l ps (widths_after ws) end (k + 1) (k + 1)
       ∙ ap (lines_from ps (widths_after ws) end) (cond-true (ltb end (k + 1)) _ _ more)))
 
 -- no glyph is left
-pub none_left : (l : List hb_glyph_info_t) (ps : List GlyphPosition) (ws : List ℤ) (start end : ℕ)
+pub ends_left-none : (l : List hb_glyph_info_t) (ps : List GlyphPosition) (ws : List ℤ) (start end : ℕ)
     → ends_left l ps ws start end (length l) ≡ (if ltb start end then end ∷ [] else [])
-none_left l ps ws start end =
+ends_left-none l ps ws start end =
     let n : length l - length l ≡ 0 = omega arith in
     ap (λ m. lines_from ps ws start (cond (ltb start end) (end ∷ ends_from l (length l + 1) m) (ends_from l (length l + 1) m)))
     n
@@ -203,11 +204,11 @@ fits-abs (pos n) small = record { sfits = omega arith }
 fits-abs (negsuc n) small = record { sfits = omega arith }
 
 -- a part of a line, and one glyph more
-pub width-more : (ps : List GlyphPosition) (a k : ℕ) → a ≤ k → k < length ps
+pub width_of-more : (ps : List GlyphPosition) (a k : ℕ) → a ≤ k → k < length ps
     → width_of ps a (k + 1) ≡ width_of ps a k +ℤ (get_or ps k zero_position).x_advance
-width-more ps a k before some =
-    sym (width-parts ps a k (k + 1) before (omega arith))
-    ∙ ap (λ z. width_of ps a k +ℤ z) (width-one ps k zero_position some)
+width_of-more ps a k before some =
+    sym (add-width_of ps a k (k + 1) before (omega arith))
+    ∙ ap (λ z. width_of ps a k +ℤ z) (width_of-one ps k zero_position some)
 
 -- ---- the step of the walk
 
@@ -247,7 +248,7 @@ module _ (l : List hb_glyph_info_t) (ps : List GlyphPosition) (whole : List ℕ)
   line_is : sum ≡ t +ℤ p → sum ≡ width_of ps start (k + 1)
   line_is e =
       e ∙ ap (λ z. z +ℤ p) is ∙ ap (λ z. width_of ps start end +ℤ z) piece
-      ∙ width-parts ps start end (k + 1) order (omega arith)
+      ∙ add-width_of ps start end (k + 1) order (omega arith)
 
   pub joined_on : (start < end → (sum ≡ t +ℤ p) × (is_within sum ws ≡ true)) → Joined l ps whole k end start ends ws t
   joined_on fits = record {
@@ -263,7 +264,7 @@ module _ (l : List hb_glyph_info_t) (ps : List GlyphPosition) (whole : List ℕ)
       → Joined l ps whole k end end (ends ++ end ∷ []) (widths_after ws) (pos 0)
   joined_next less e wide = record {
     order = omega arith;
-    taken = sym (width-none ps end);
+    taken = sym (width_of-none ps end);
     bound = omega arith;
     all = append_assoc ends (end ∷ []) (ends_left l ps (widths_after ws) end (k + 1) (k + 1))
         ∙ ap (λ x. ends ++ x) (sym (ended l ps ws start end k some may less before
@@ -302,7 +303,7 @@ stands l ps whole k end start ends ws t p before piece small few j =
     to_z-of_z w128 (t +ℤ p) (sum-fits t p (end - start) (k + 1 - end) j.bound small (omega (arith, j.order))) in
     record {
       taken = e ∙ ap (λ z. z +ℤ p) j.taken ∙ ap (λ z. width_of ps start end +ℤ z) piece
-          ∙ width-parts ps start end (k + 1) j.order (omega arith);
-      piece = sym (width-none ps (k + 1));
+          ∙ add-width_of ps start end (k + 1) j.order (omega arith);
+      piece = sym (width_of-none ps (k + 1));
       bound = omega (arith, ap nat_abs e, abs-add t p, j.bound, j.order);
     }

@@ -21,7 +21,7 @@ use Rattle.shaping_buffer.specs.State.{State, lookahead_len}
 use Rattle.shaping_buffer.specs.ClusterStep.{any_order, head_of, flagged_if}
 use Rattle.shaping_buffer.specs.Step.{Outcome, limited, settled, put_out, skip_glyph, next_glyph, replace_glyphs}
 use Rattle.shaping_buffer.specs.Step.{Meets, clear_output}
-use Rattle.shaping_buffer.proofs.ReplacementLemmas.{replaced_sides}
+use Rattle.shaping_buffer.proofs.ReplacementLemmas.{replace_glyphs-sides}
 use Rattle.shaping_passes.specs.NormalizationDecomposition.{Font, some_part, decomposition, most_steps, decomposed}
 use Rattle.shaping_passes.specs.NormalizationDecomposition.{first_parts, lacks, both_parts, parts_with}
 use Rattle.shaping_passes.specs.NormalizationDecomposition.{decomposition_with, stopped_at}
@@ -233,9 +233,9 @@ module _ (font : Font) where
 -- ---- the calls
 
 -- one glyph gives way to copies of it
-pub replaced_one : (ids : List ℕ) (s : State) → s.have_output ≡ true → 0 < length s.input
+pub replace_glyphs-one : (ids : List ℕ) (s : State) → s.have_output ≡ true → 0 < length s.input
     → replace_glyphs 1 ids s ≡ put_out (copies (head_of s) ids) s (skip_glyph s)
-replaced_one ids s opened some =
+replace_glyphs-one ids s opened some =
     let leaves = short_leaves (any_order s) 1 s.out s.input (omega arith) (omega arith) in
     let held : length s.out + length ids ≡ length (s.out ++ copies (head_of s) ids) =
     omega (arith, length-append s.out (copies (head_of s) ids), length_copies (head_of s) ids) in
@@ -247,7 +247,7 @@ replaced_one ids s opened some =
     } in
     let G : State → Outcome = λ after. limited (length s.out + length ids) s after in
     let l = merged in
-    replaced_sides 1 ids s opened
+    replace_glyphs-sides 1 ids s opened
     ∙ ap (λ b. G (F b (take (length s.out) l) (get_or (drop (length s.out) l) 0 zero_glyph)
     (drop 1 (drop (length s.out) l)))) (and_right (any_order s) false refl)
     ∙ ap (λ o. G (F false o (get_or (drop (length s.out) l) 0 zero_glyph) (drop 1 (drop (length s.out) l)))) leaves.before
@@ -266,9 +266,9 @@ take_one [] some = absurd (omega arith)
 take_one (g ∷ l) some = refl
 
 -- one glyph is put out as it is
-pub next_one : (s : State) → s.have_output ≡ true → 0 < length s.input
+pub next_glyph-put_out : (s : State) → s.have_output ≡ true → 0 < length s.input
     → next_glyph s ≡ put_out (copies (head_of s) ((head_of s).glyph_id ∷ [])) s (skip_glyph s)
-next_one s opened some =
+next_glyph-put_out s opened some =
     cond-true _ _ _ opened ∙ ap (λ l. put_out l s (skip_glyph s)) (take_one s.input some)
 
 pub left : (s : State) → s.have_output ≡ true → 0 < lookahead_len s → 0 < length s.input

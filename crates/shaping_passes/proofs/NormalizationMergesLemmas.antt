@@ -32,8 +32,8 @@ module _ (out input : Glyphs) where
       ap (take (length out - (at + 1))) (drop-append-le (at + 1) out input (omega arith))
       ∙ take_at (drop (at + 1) out) input (length out - (at + 1)) (length-drop (at + 1) out)
 
-held : (s : State) → 0 < length s.input → length (kept_one s).out ≡ length s.out + 1
-held s some = omega (arith, length-append s.out (take 1 s.input), length-take 1 s.input)
+length-kept_one : (s : State) → 0 < length s.input → length (kept_one s).out ≡ length s.out + 1
+length-kept_one s some = omega (arith, length-append s.out (take 1 s.input), length-take 1 s.input)
 
 both_kept : (s : State) → both (kept_one s) ≡ both s
 both_kept s =
@@ -203,7 +203,7 @@ module _ (pairs : Pairs) (classes : Classes) (alike : ReadsCores classes) (pairs
         ≡ composed_at any pairs classes (starter_behind classes starter n whole) (n + 1) (length s.input - 1) whole
     kept_lists starter =
         ap (λ k. composed_at any pairs classes (behind starter) k (length (kept_one s).input) (both (kept_one s)))
-        (held s some)
+        (length-kept_one s some)
         ∙ ap (λ k. composed_at any pairs classes (behind starter) (n + 1) k (both (kept_one s))) (length-drop 1 s.input)
         ∙ ap (λ l. composed_at any pairs classes (behind starter) (n + 1) (length s.input - 1) l) (both_kept s)
         ∙ ap (λ (g : hb_glyph_info_t). composed_at any pairs classes (cond (eqb (classes g) 0) (Some n) starter)

@@ -34,11 +34,12 @@ length_merged : (start end : ℕ) (s : State) → length (merge_or_mark (any_ord
 length_merged start end s =
     length-merge_or_mark (any_order s) (both s) (both_place s start) (both_place s end) (floor_of s)
 
-pub merge_clusters_out : (start end : ℕ) (s : State) → length (merge_clusters start end s).out ≡ length s.out
-merge_clusters_out start end s = length_out_of _ s (length_merged start end s)
+pub length-merge_clusters_out : (start end : ℕ) (s : State) → length (merge_clusters start end s).out ≡ length s.out
+length-merge_clusters_out start end s = length_out_of _ s (length_merged start end s)
 
-pub merge_clusters_input : (start end : ℕ) (s : State) → length (merge_clusters start end s).input ≡ length s.input
-merge_clusters_input start end s = length_input_of _ s (length_merged start end s)
+pub length-merge_clusters_input : (start end : ℕ) (s : State)
+    → length (merge_clusters start end s).input ≡ length s.input
+length-merge_clusters_input start end s = length_input_of _ s (length_merged start end s)
 
 length_merged_out : (start end : ℕ) (s : State)
     → length (cond (any_order s) (both s) (run_merge (both s) start end 0)) ≡ length (both s)
@@ -46,26 +47,28 @@ length_merged_out start end s =
     cond_both (any_order s) _ _ (λ (l : List hb_glyph_info_t). length l ≡ length (both s)) (λ _. refl)
     (λ _. length-run_merge (both s) start end 0)
 
-pub merge_out_clusters_out : (start end : ℕ) (s : State) → length (merge_out_clusters start end s).out ≡ length s.out
-merge_out_clusters_out start end s = length_out_of _ s (length_merged_out start end s)
+pub length-merge_out_clusters_out : (start end : ℕ) (s : State)
+    → length (merge_out_clusters start end s).out ≡ length s.out
+length-merge_out_clusters_out start end s = length_out_of _ s (length_merged_out start end s)
 
-pub merge_out_clusters_input : (start end : ℕ) (s : State)
+pub length-merge_out_clusters_input : (start end : ℕ) (s : State)
     → length (merge_out_clusters start end s).input ≡ length s.input
-merge_out_clusters_input start end s = length_input_of _ s (length_merged_out start end s)
+length-merge_out_clusters_input start end s = length_input_of _ s (length_merged_out start end s)
 
-pub delete_glyph_out : (s : State) → length (delete_glyph s).out ≡ length s.out
-delete_glyph_out s = (length-deletion (any_order s) s.out (head_of s) (drop 1 s.input)).0
+pub length-delete_glyph_out : (s : State) → length (delete_glyph s).out ≡ length s.out
+length-delete_glyph_out s = (length-deletion (any_order s) s.out (head_of s) (drop 1 s.input)).0
 
-pub delete_glyph_input : (s : State) → length (delete_glyph s).input ≡ length s.input - 1
-delete_glyph_input s = (length-deletion (any_order s) s.out (head_of s) (drop 1 s.input)).1 ∙ length-drop 1 s.input
+pub length-delete_glyph_input : (s : State) → length (delete_glyph s).input ≡ length s.input - 1
+length-delete_glyph_input s =
+    (length-deletion (any_order s) s.out (head_of s) (drop 1 s.input)).1 ∙ length-drop 1 s.input
 
 pub ruleset lengths = (
-  merge_clusters_out,
-  merge_clusters_input,
-  merge_out_clusters_out,
-  merge_out_clusters_input,
-  delete_glyph_out,
-  delete_glyph_input,
+  length-merge_clusters_out,
+  length-merge_clusters_input,
+  length-merge_out_clusters_out,
+  length-merge_out_clusters_input,
+  length-delete_glyph_out,
+  length-delete_glyph_input,
   length_copies,
 )
 
@@ -138,9 +141,15 @@ module _ (s : State) where
       let m = merge_clusters s.idx (s.idx + n) s in
       let xs = copies (head_of m) ids in
       done_moves (length ids) n s (record (skip_glyphs n m) { out = m.out ++ xs })
-      (omega (arith, length-append m.out xs, merge_clusters_out s.idx (s.idx + n) s, length_copies (head_of m) ids))
+      (omega (
+        arith,
+        length-append m.out xs,
+        length-merge_clusters_out s.idx (s.idx + n) s,
+        length_copies
+            (head_of m) ids,
+      ))
       (ap length (cond-true s.have_output _ _ opened) ∙ length-drop n m.input
-      ∙ ap (λ k. k - n) (merge_clusters_input s.idx (s.idx + n) s))
+      ∙ ap (λ k. k - n) (length-merge_clusters_input s.idx (s.idx + n) s))
       refl refl refl refl refl (length (s.out ++ xs))
 
   put_moves : (xs : List hb_glyph_info_t) → length xs ≡ 1 → (put_out xs s s).done ≡ true
@@ -165,14 +174,15 @@ module _ (s : State) where
 
   pub delete_glyph_moves : Moves 0 1 s (delete_glyph s)
   delete_glyph_moves =
-      moves 0 1 s (delete_glyph s) (omega (arith, delete_glyph_out s)) (delete_glyph_input s) refl refl refl refl refl
+      moves 0 1 s (delete_glyph s) (omega (arith, length-delete_glyph_out s))
+      (length-delete_glyph_input s) refl refl refl refl refl
 
   pub merge_clusters_moves : (start end : ℕ) → Moves 0 0 s (merge_clusters start end s)
   merge_clusters_moves start end =
-      moves 0 0 s (merge_clusters start end s) (omega (arith, merge_clusters_out start end s))
-      (omega (arith, merge_clusters_input start end s)) (omega arith) refl refl refl refl
+      moves 0 0 s (merge_clusters start end s) (omega (arith, length-merge_clusters_out start end s))
+      (omega (arith, length-merge_clusters_input start end s)) (omega arith) refl refl refl refl
 
   pub merge_out_clusters_moves : (start end : ℕ) → Moves 0 0 s (merge_out_clusters start end s)
   merge_out_clusters_moves start end =
-      moves 0 0 s (merge_out_clusters start end s) (omega (arith, merge_out_clusters_out start end s))
-      (omega (arith, merge_out_clusters_input start end s)) (omega arith) refl refl refl refl
+      moves 0 0 s (merge_out_clusters start end s) (omega (arith, length-merge_out_clusters_out start end s))
+      (omega (arith, length-merge_out_clusters_input start end s)) (omega arith) refl refl refl refl

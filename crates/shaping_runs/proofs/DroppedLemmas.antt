@@ -22,7 +22,7 @@ use Rattle.glyph_laws.proofs.CoresLemmas.{cores-deletion}
 use Rattle.shaping_buffer.specs.State.{State}
 use Rattle.shaping_buffer.specs.Step.{Outcome, limited, put_out, skip_glyphs, skip_glyph, next_glyphs, glyph_to_copy}
 use Rattle.shaping_buffer.specs.Step.{replace_glyphs, move_to, split_at, with_id}
-use Rattle.shaping_buffer.proofs.ReplacementLemmas.{front_merged, front_replaced, replaced_sides}
+use Rattle.shaping_buffer.proofs.ReplacementLemmas.{front_merged, front_replaced, replace_glyphs-sides}
 use Rattle.shaping_buffer.specs.ClusterLevel.{groups_graphemes}
 use Rattle.shaping_buffer.specs.ClusterStep.{both, with_both, both_place, floor_of, any_order, merge_sides, head_of}
 use Rattle.shaping_buffer.specs.ClusterStep.{merge_out_clusters, plain_scan, flag_all, asks}
@@ -38,7 +38,7 @@ use Rattle.shaping_runs.specs.declared.call.Call.TheVariants.{MergeGraphemeClust
 use Rattle.shaping_runs.specs.Replay.{Turn, turn, after, may_be_made, outcome_of, answer_of, has_glyph}
 use Rattle.shaping_runs.specs.Dropped.{IsShut, dropped, brought, is_done, exchanged, dropped_by, brought_by, picked, IsPart}
 use Rattle.shaping_runs.specs.Dropped.{StayInOrder}
-use Rattle.shaping_buffer.proofs.Steps.{end_kept, glyph_left}
+use Rattle.shaping_buffer.proofs.Steps.{range_end-some, glyph_left}
 use Rattle.shaping_runs.proofs.Steps.{input_order, input_within, sides_order}
 
 abbrev Glyphs : Type 0
@@ -50,10 +50,10 @@ cores_of s = cores (both s)
 -- ---- lists
 
 -- where the first list ends, some of the second give way
-split : (out b input : Glyphs) (d : ℕ)
+cores-split : (out b input : Glyphs) (d : ℕ)
     → cores ((out ++ b) ++ drop d input)
     ≡ (take (length out) (cores (out ++ input)) ++ cores b) ++ drop (length out + d) (cores (out ++ input))
-split out b input d =
+cores-split out b input d =
     let front : take (length out) (cores (out ++ input)) ≡ cores out =
     take-map core (length out) (out ++ input) ∙ ap cores (take-append_seam out input) in
     let back : drop (length out + d) (cores (out ++ input)) ≡ cores (drop d input) =
@@ -63,8 +63,8 @@ split out b input d =
     ∙ ap (λ (x : Glyphs). (x ++ cores b) ++ cores (drop d input)) (sym front)
     ∙ ap (λ (x : Glyphs). (take (length out) (cores (out ++ input)) ++ cores b) ++ x) (sym back)
 
-none_exchanged : (k : ℕ) (l : Glyphs) → (take k l ++ []) ++ drop (k + 0) l ≡ l
-none_exchanged k l =
+append-none_exchanged : (k : ℕ) (l : Glyphs) → (take k l ++ []) ++ drop (k + 0) l ≡ l
+append-none_exchanged k l =
     let e : k + 0 ≡ k = omega arith in
     ap (λ j. (take k l ++ []) ++ drop j l) e ∙ ap (λ (y : Glyphs). y ++ drop k l) (append-nil (take k l))
     ∙ take-append-drop k l
@@ -85,12 +85,12 @@ limited_exact held s new e h = cond_both (leb held s.max_len) _ _ (Exact s e) (�
 abbrev kept : State → Glyphs
 kept s = (take (length s.out) (cores_of s) ++ []) ++ drop (length s.out + 0) (cores_of s)
 
-kept_is : (s : State) → cores_of s ≡ kept s
-kept_is s = sym (none_exchanged (length s.out) (cores_of s))
+cores_of-kept : (s : State) → cores_of s ≡ kept s
+cores_of-kept s = sym (append-none_exchanged (length s.out) (cores_of s))
 
 -- another list in the place of both sides
-with_both_is : (l : Glyphs) (s : State) → cores l ≡ cores_of s → cores_of (with_both l s) ≡ kept s
-with_both_is l s h = ap cores (take-append-drop (length s.out) l) ∙ h ∙ kept_is s
+cores_of-with_both : (l : Glyphs) (s : State) → cores l ≡ cores_of s → cores_of (with_both l s) ≡ kept s
+cores_of-with_both l s h = ap cores (take-append-drop (length s.out) l) ∙ h ∙ cores_of-kept s
 
 next_exact : (n : ℕ) (s : State) → Exact s (kept s) (next_glyphs n s)
 next_exact n s =
@@ -99,16 +99,16 @@ next_exact n s =
     (record (skip_glyphs n s) { out = s.out ++ take n s.input }) (kept s)
     (ap (λ (l : Glyphs). cores ((s.out ++ take n s.input) ++ l)) (cond-true s.have_output (drop n s.input) s.input open_now)
     ∙ ap cores (append_assoc s.out (take n s.input) (drop n s.input)
-    ∙ ap (λ (l : Glyphs). s.out ++ l) (take-append-drop n s.input)) ∙ kept_is s))
+    ∙ ap (λ (l : Glyphs). s.out ++ l) (take-append-drop n s.input)) ∙ cores_of-kept s))
     (λ closed_now. ap (λ (l : Glyphs). cores (s.out ++ l)) (cond-false s.have_output (drop n s.input) s.input closed_now)
-    ∙ kept_is s)
+    ∙ cores_of-kept s)
 
-skip_exact : (opens : Bool) (out input : Glyphs)
+cores-skip : (opens : Bool) (out input : Glyphs)
     → cores (out ++ cond opens (drop 1 input) input)
     ≡ (take (length out) (cores (out ++ input)) ++ []) ++ drop (length out + cond opens 1 0) (cores (out ++ input))
-skip_exact true out input =
-    ap (λ (x : Glyphs). cores (x ++ drop 1 input)) (sym (append-nil out)) ∙ split out [] input 1
-skip_exact false out input = sym (none_exchanged (length out) (cores (out ++ input)))
+cores-skip true out input =
+    ap (λ (x : Glyphs). cores (x ++ drop 1 input)) (sym (append-nil out)) ∙ cores-split out [] input 1
+cores-skip false out input = sym (append-none_exchanged (length out) (cores (out ++ input)))
 
 -- glyphs are put out in place of the one at the cursor
 put_one : (xs : Glyphs) (s : State) → s.have_output ≡ true
@@ -117,13 +117,13 @@ put_one : (xs : Glyphs) (s : State) → s.have_output ≡ true
 put_one xs s opened =
     limited_exact (length (s.out ++ xs)) s (record (skip_glyph s) { out = s.out ++ xs }) _
     (ap (λ (l : Glyphs). cores ((s.out ++ xs) ++ l)) (cond-true s.have_output (drop 1 s.input) s.input opened)
-    ∙ split s.out xs s.input 1)
+    ∙ cores-split s.out xs s.input 1)
 
 -- and behind what was put out
 put_more : (xs : Glyphs) (s : State)
     → Exact s ((take (length s.out) (cores_of s) ++ cores xs) ++ drop (length s.out + 0) (cores_of s)) (put_out xs s s)
 put_more xs s =
-    limited_exact (length (s.out ++ xs)) s (record s { out = s.out ++ xs }) _ (split s.out xs s.input 0)
+    limited_exact (length (s.out ++ xs)) s (record s { out = s.out ++ xs }) _ (cores-split s.out xs s.input 0)
 
 replace_exact : (n : ℕ) (ids : List ℕ) (s : State) → s.have_output ≡ true → 0 < length s.input
     → Exact s
@@ -148,7 +148,7 @@ replace_exact n ids s opened some =
     let back : cores (drop n (drop k l)) ≡ drop (k + n) (cores_of s) =
     ap cores (drop-drop n k l) ∙ sym (drop-map core (k + n) l) ∙ ap (drop (k + n)) same in
     subst (Exact s ((take k (cores_of s) ++ cores (copies (head_of s) ids)) ++ drop (k + n) (cores_of s)))
-    (sym (replaced_sides n ids s opened))
+    (sym (replace_glyphs-sides n ids s opened))
     (limited_exact (k + length ids) s (front_replaced n ids s) _
     (map-append core (take k l ++ copies h ids) (drop n (drop k l))
     ∙ ap (λ (x : Glyphs). x ++ cores (drop n (drop k l))) (map-append core (take k l) (copies h ids))
@@ -160,42 +160,45 @@ move_exact : (place : ℕ) (s : State) → Exact s (kept s) (move_to place s)
 move_exact place s =
     cond_both s.have_output _ _ (Exact s (kept s))
     (λ _. cond_both s.successful _ _ (Exact s (kept s))
-    (λ _. limited_exact _ s (split_at place s) (kept s) (ap cores (take-append-drop place (both s)) ∙ kept_is s)) (λ _. refl))
-    (λ _. kept_is s)
+    (λ _. limited_exact _ s (split_at place s) (kept s) (ap cores (take-append-drop place (both s))
+    ∙ cores_of-kept s)) (λ _. refl))
+    (λ _. cores_of-kept s)
 
-delete_exact : (any_order : Bool) (s : State) → 0 < length s.input
+cores_of-delete_glyph : (any_order : Bool) (s : State) → 0 < length s.input
     → cores_of (delete_glyph s) ≡ (take (length s.out) (cores_of s) ++ []) ++ drop (length s.out + 1) (cores_of s)
-delete_exact any s some =
+cores_of-delete_glyph any s some =
     let d = cores-deletion (any_order s) s.out (head_of s) (drop 1 s.input) in
     map-append core (delete_glyph s).out (delete_glyph s).input
     ∙ ap (λ (x : Glyphs). x ++ cores (delete_glyph s).input) d.0 ∙ ap (λ (x : Glyphs). cores s.out ++ x) d.1
     ∙ ap (λ (x : Glyphs). cores x ++ cores (drop 1 s.input)) (sym (append-nil s.out))
-    ∙ sym (map-append core (s.out ++ []) (drop 1 s.input)) ∙ split s.out [] s.input 1
+    ∙ sym (map-append core (s.out ++ []) (drop 1 s.input)) ∙ cores-split s.out [] s.input 1
 
-merge_exact : (any_order : Bool) (start end : ℕ) (s : State) → start ≤ end
+cores_of-merge_sides : (any_order : Bool) (start end : ℕ) (s : State) → start ≤ end
     → cores_of (merge_sides any_order (both_place s start) (both_place s end) s) ≡ kept s
-merge_exact any_order start end s up =
-    with_both_is _ s (cores-merge_or_mark any_order (both s) (both_place s start) (both_place s end) (floor_of s) (omega arith))
+cores_of-merge_sides any_order start end s up =
+    cores_of-with_both _ s
+    (cores-merge_or_mark any_order (both s) (both_place s start) (both_place s end) (floor_of s) (omega arith))
 
-merge_out_exact : (start end : ℕ) (s : State) → start ≤ end → cores_of (merge_out_clusters start end s) ≡ kept s
-merge_out_exact start end s up =
-    with_both_is (cond (any_order s) (both s) (run_merge (both s) start end 0)) s
+cores_of-merge_out_clusters : (start end : ℕ) (s : State) → start ≤ end
+    → cores_of (merge_out_clusters start end s) ≡ kept s
+cores_of-merge_out_clusters start end s up =
+    cores_of-with_both (cond (any_order s) (both s) (run_merge (both s) start end 0)) s
     (cond_both (any_order s) _ _ (λ (l : Glyphs). cores l ≡ cores_of s) (λ _. refl)
     (λ _. cores-run_merge (both s) start end 0 up))
 
-scan_exact : (any_order : Bool) (bits start end : ℕ) (s : State) → start ≤ end
+cores_of-plain_scan : (any_order : Bool) (bits start end : ℕ) (s : State) → start ≤ end
     → cores_of (plain_scan any_order bits start end s) ≡ kept s
-scan_exact any_order bits start end s up =
+cores_of-plain_scan any_order bits start end s up =
     let p = both_place s start in
     let q = both_place s end in
-    cond_both (ltb (end - start) 2) _ _ (λ (t : State). cores_of t ≡ kept s) (λ _. kept_is s)
-    (λ _. with_both_is (on_part (scan_of any_order bits) (both s) p q) s
+    cond_both (ltb (end - start) 2) _ _ (λ (t : State). cores_of t ≡ kept s) (λ _. cores_of-kept s)
+    (λ _. cores_of-with_both (on_part (scan_of any_order bits) (both s) p q) s
     (subst (λ (xs : Glyphs). cores ((take p (both s) ++ xs) ++ drop q (both s)) ≡ cores_of s)
     (two_part_scan-none any_order bits (part (both s) p q))
     (cores-scanned_part any_order bits 0 (both s) p q (omega arith))))
 
-flag_exact : (bits p q : ℕ) (s : State) → p ≤ q → cores_of (flag_all bits p q s) ≡ kept s
-flag_exact bits p q s up = with_both_is _ s (cores-flagged_part bits (both s) p q up)
+cores_of-flag_all : (bits p q : ℕ) (s : State) → p ≤ q → cores_of (flag_all bits p q s) ≡ kept s
+cores_of-flag_all bits p q s up = cores_of-with_both _ s (cores-flagged_part bits (both s) p q up)
 
 -- what a call in its condition gives
 abbrev given : Call → State → Glyphs
@@ -207,10 +210,10 @@ off_of false e = refl
 
 outcome_exact : (call : Call) (s : State) → may_be_made call s ≡ true → IsShut s → Exact s (given call s) (outcome_of call s)
 outcome_exact ClearOutput s e shut =
-    ap (λ (o : Glyphs). cores (o ++ s.input)) (sym (shut (off_of s.have_output e))) ∙ kept_is s
+    ap (λ (o : Glyphs). cores (o ++ s.input)) (sym (shut (off_of s.have_output e))) ∙ cores_of-kept s
 outcome_exact NextGlyph s e shut = next_exact 1 s
 outcome_exact (NextGlyphs n) s e shut = next_exact n s
-outcome_exact SkipGlyph s e shut = skip_exact s.have_output s.out s.input
+outcome_exact SkipGlyph s e shut = cores-skip s.have_output s.out s.input
 outcome_exact (ReplaceGlyph id) s e shut = put_one (map (with_id id) (take 1 s.input)) s (and_parts s.have_output (has_glyph s) e).0
 outcome_exact (ReplaceGlyphs num_in num_out ids) s e shut =
     let w = and_parts s.have_output _ e in
@@ -223,54 +226,57 @@ outcome_exact (MoveTo place) s e shut = move_exact place s
 outcome_exact Sync s e shut =
     cond_both s.successful _ _ (Exact s (kept s))
     (λ _. limited_exact (length (both s)) s
-    (record s { have_output = false; have_separate_output = false; out = []; input = both s; idx = 0 }) (kept s) (kept_is s))
+    (record s { have_output = false; have_separate_output = false; out = []; input = both s; idx = 0 }) (kept s)
+    (cores_of-kept s))
     (λ _. refl)
 outcome_exact DeleteGlyph s e shut =
     let w = and_parts s.have_output (has_glyph s) e in
-    delete_exact (any_order s) s (glyph_left s.have_output s.idx (length s.input) w.0 w.1)
-outcome_exact (MergeClusters start end) s e shut = merge_exact (any_order s) start end s (input_order start end s e)
+    cores_of-delete_glyph (any_order s) s (glyph_left s.have_output s.idx (length s.input) w.0 w.1)
+outcome_exact (MergeClusters start end) s e shut =
+    cores_of-merge_sides (any_order s) start end s (input_order start end s e)
 outcome_exact (MergeOutClusters start end) s e shut =
     let w = and_parts s.have_output _ e in
-    merge_out_exact start end s (leb-true start end (and_parts (leb start end) _ w.1).0)
+    cores_of-merge_out_clusters start end s (leb-true start end (and_parts (leb start end) _ w.1).0)
 outcome_exact (MergeGraphemeClusters start end) s e shut =
     cond_both (groups_graphemes s.cluster_level) _ _ (λ (t : State). cores_of t ≡ kept s)
-    (λ _. merge_exact false start end s (input_order start end s e))
-    (λ _. scan_exact (any_order s) BREAK_BITS start (range_end (Some end) s) s
+    (λ _. cores_of-merge_sides false start end s (input_order start end s e))
+    (λ _. cores_of-plain_scan (any_order s) BREAK_BITS start (range_end (Some end) s) s
     (input_order start (range_end (Some end) s) s
-    (subst (λ k. is_input_range start k s ≡ true) (sym (end_kept end s (input_within start end s e))) e)))
+    (subst (λ k. is_input_range start k s ≡ true) (sym (range_end-some end s (input_within start end s e))) e)))
 outcome_exact (UnsafeToBreak start end) s e shut =
-    scan_exact (any_order s) BREAK_BITS (range_start start) (range_end end s) s
+    cores_of-plain_scan (any_order s) BREAK_BITS (range_start start) (range_end end s) s
     (input_order (range_start start) (range_end end s) s e)
 outcome_exact (UnsafeToBreakFromOutbuffer start end) s e shut =
     let p = range_start start in
     let q = both_place s (range_end end s) in
-    with_both_is (on_part (two_part_scan (any_order s) BREAK_BITS (length s.out - p)) (both s) p q) s
+    cores_of-with_both (on_part (two_part_scan (any_order s) BREAK_BITS (length s.out - p)) (both s) p q) s
     (cores-scanned_part (any_order s) BREAK_BITS (length s.out - p) (both s) p q
     (sides_order (range_start start) (range_end end s) s e))
 outcome_exact (SafeToInsertTatweel start end) s e shut =
-    scan_exact (any_order s) (tatweel_bits s) (range_start start) (range_end end s) s
+    cores_of-plain_scan (any_order s) (tatweel_bits s) (range_start start) (range_end end s) s
     (input_order (range_start start) (range_end end s) s e)
 outcome_exact (UnsafeToConcat start end) s e shut =
     let up = input_order (range_start start) (range_end end s) s e in
     cond_both (asks PRODUCE_UNSAFE_TO_CONCAT s) _ _ (λ (t : State). cores_of t ≡ kept s)
-    (λ _. flag_exact UNSAFE_TO_CONCAT (both_place s (range_start start)) (both_place s (range_end end s)) s (omega arith))
-    (λ _. kept_is s)
+    (λ _. cores_of-flag_all UNSAFE_TO_CONCAT (both_place s (range_start start)) (both_place s (range_end end s)) s
+    (omega arith))
+    (λ _. cores_of-kept s)
 outcome_exact (UnsafeToConcatFromOutbuffer start end) s e shut =
     cond_both (asks PRODUCE_UNSAFE_TO_CONCAT s) _ _ (λ (t : State). cores_of t ≡ kept s)
-    (λ _. flag_exact UNSAFE_TO_CONCAT (range_start start) (both_place s (range_end end s)) s
-    (sides_order (range_start start) (range_end end s) s e)) (λ _. kept_is s)
+    (λ _. cores_of-flag_all UNSAFE_TO_CONCAT (range_start start) (both_place s (range_end end s)) s
+    (sides_order (range_start start) (range_end end s) s e)) (λ _. cores_of-kept s)
 
-done_answer : (done : Bool) → is_done (answer_of done) ≡ done
-done_answer true = refl
-done_answer false = refl
+is_done-answer_of : (done : Bool) → is_done (answer_of done) ≡ done
+is_done-answer_of true = refl
+is_done-answer_of false = refl
 
 -- in its condition or outside
-pub turn_exact : (call : Call) (s : State) → IsShut s → cores_of (turn call s).state ≡ exchanged call s (cores_of s)
-turn_exact call s shut =
+pub cores_of-turn : (call : Call) (s : State) → IsShut s → cores_of (turn call s).state ≡ exchanged call s (cores_of s)
+cores_of-turn call s shut =
     cond_both (may_be_made call s) _ _
     (λ (t : Turn). cores_of t.state ≡ cond (is_done t.answer) (given call s) (cores_of s))
     (λ e. outcome_exact call s e shut
-    ∙ ap (λ b. cond b (given call s) (cores_of s)) (sym (done_answer (outcome_of call s).done))) (λ _. refl)
+    ∙ ap (λ b. cond b (given call s) (cores_of s)) (sym (is_done-answer_of (outcome_of call s).done))) (λ _. refl)
 
 -- ---- with no output open nothing stands on the out side
 
@@ -307,7 +313,7 @@ module _ (s : State) (shut : IsShut s) where
       put_shut (map (with_id id) (take 1 s.input)) (skip_glyph s) refl (and_parts s.have_output (has_glyph s) e).0
   outcome_shut (ReplaceGlyphs num_in num_out ids) e =
       let w = and_parts s.have_output _ e in
-      subst (λ (o : Outcome). IsShut o.state) (sym (replaced_sides num_in (take num_out ids.now) s w.0))
+      subst (λ (o : Outcome). IsShut o.state) (sym (replace_glyphs-sides num_in (take num_out ids.now) s w.0))
       (limited_shut (length s.out + length (take num_out ids.now)) (front_replaced num_in (take num_out ids.now) s)
       (opened_shut (front_replaced num_in (take num_out ids.now) s) refl w.0))
   outcome_shut (OutputGlyph id) e = put_shut (map (with_id id) (glyph_to_copy s)) s refl e
@@ -510,5 +516,5 @@ calls_in_order (call ∷ calls) s shut =
     (dropped_if done call s) (brought_if done call s) (dropped_by calls (turn call s).state)
     (brought_by calls (turn call s).state)
     (subst (λ (x : Glyphs). StayInOrder (cores_of s) x (dropped_if done call s) (brought_if done call s))
-    (sym (turn_exact call s shut)) (one_in_order done call s))
+    (sym (cores_of-turn call s shut)) (one_in_order done call s))
     (calls_in_order calls (turn call s).state (turn_shut s shut call))

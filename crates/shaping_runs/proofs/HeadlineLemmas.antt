@@ -12,12 +12,12 @@ use Rattle.glyph_lists.specs.Scans.{scan_of, two_part_scan}
 use Rattle.glyph_lists.specs.Deletion.{merge_or_mark, deletion}
 use Rattle.glyph_lists.specs.Replacement.{replacement}
 use Rattle.glyph_lists.specs.declared.glyph_flags.TheConstants.{BREAK_BITS}
-use Rattle.glyph_lists.proofs.PartsLemmas.{length-part, parts_whole}
+use Rattle.glyph_lists.proofs.PartsLemmas.{length-part, append-part}
 use Rattle.glyph_lists.proofs.ClustersLemmas.{IsContiguous-from_monotone}
 use Rattle.glyph_lists.proofs.MergesLemmas.{run_merge_is_cluster_merge, merge_shares, merge_stays}
 use Rattle.glyph_lists.proofs.SidesLemmas.{merge_or_mark_merges}
 use Rattle.glyph_lists.proofs.LengthsLemmas.{length-deletion}
-use Rattle.glyph_laws.proofs.MarksLemmas.{end_mark_is_mark, end_mark_two_is_mark}
+use Rattle.glyph_laws.proofs.MarksLemmas.{end_mark_is_mark, append-mark_part}
 use Rattle.glyph_laws.proofs.ReadingsLemmas.{monotone_reading, reading_part}
 use Rattle.glyph_laws.proofs.NumbersLemmas.{least-deletion}
 use Rattle.glyph_laws.proofs.ReplacementLemmas.{least-replacement}
@@ -27,7 +27,7 @@ use Rattle.shaping_buffer.specs.ClusterLevel.{groups_graphemes}
 use Rattle.shaping_buffer.specs.ClusterStep.{both, both_place, any_order, floor_of, range_start, range_end}
 use Rattle.shaping_buffer.specs.ClusterStep.{is_input_range, merge_sides, unsafe_to_break}
 use Rattle.std.specs.Prelude.{Some}
-use Rattle.shaping_buffer.proofs.ReplacementLemmas.{replaced_sides, replaced_both}
+use Rattle.shaping_buffer.proofs.ReplacementLemmas.{replace_glyphs-sides, replaced_both}
 use Rattle.shaping_runs.specs.declared.call.Call.{Call}
 use Rattle.shaping_runs.specs.declared.call.Call.TheVariants.{ClearOutput, NextGlyph, NextGlyphs, SkipGlyph}
 use Rattle.shaping_runs.specs.declared.call.Call.TheVariants.{ReplaceGlyph, ReplaceGlyphs, OutputGlyph, OutputInfo}
@@ -39,18 +39,19 @@ use Rattle.shaping_runs.specs.declared.call.Call.TheVariants.{MergeGraphemeClust
 use Rattle.shaping_runs.specs.Replay.{Turn, turn, may_be_made, outcome_of, has_glyph}
 use Rattle.shaping_runs.specs.Headline.{HasMonotoneClusters, ReachesBothSides, is_merge, is_break, from_place, to_place}
 use Rattle.shaping_runs.specs.Headline.{range_of}
-use Rattle.shaping_buffer.proofs.Steps.{place_within, front_left, glyph_left, end_kept}
+use Rattle.shaping_buffer.proofs.Steps.{place_within, front_left, glyph_left, range_end-some}
 use Rattle.shaping_runs.proofs.Steps.{input_within, input_order}
 
 -- what a call leaves within its condition
-made : (call : Call) (s : State) → may_be_made call s ≡ true → both (turn call s).state ≡ both (outcome_of call s).state
-made call s e = ap (λ (t : Turn). both t.state) (cond-true (may_be_made call s) _ _ e)
+both-turn : (call : Call) (s : State) → may_be_made call s ≡ true
+    → both (turn call s).state ≡ both (outcome_of call s).state
+both-turn call s e = ap (λ (t : Turn). both t.state) (cond-true (may_be_made call s) _ _ e)
 
 -- ---- merges
 
-floor_none : (s : State) → ReachesBothSides s → floor_of s ≡ 0
-floor_none s (inl opened) = cond-true s.have_output 0 s.idx opened
-floor_none s (inr at_start) = cond_both s.have_output 0 s.idx (λ k. k ≡ 0) (λ _. refl) (λ _. at_start)
+floor_of-zero : (s : State) → ReachesBothSides s → floor_of s ≡ 0
+floor_of-zero s (inl opened) = cond-true s.have_output 0 s.idx opened
+floor_of-zero s (inr at_start) = cond_both s.have_output 0 s.idx (λ k. k ≡ 0) (λ _. refl) (λ _. at_start)
 
 -- a place of the input lies in both sides
 place_in : (s : State) (k : ℕ) → k ≤ len s → both_place s k ≤ length (both s)
@@ -69,7 +70,7 @@ module _ (s : State) (mono : HasMonotoneClusters s) where
       let q = both_place s end in
       take-append-drop (length s.out) (merge_or_mark any_order (both s) p q (floor_of s))
       ∙ merge_or_mark_merges any_order (both s) p q (floor_of s) level
-      ∙ ap (run_merge (both s) p q) (floor_none s reaches)
+      ∙ ap (run_merge (both s) p q) (floor_of-zero s reaches)
       ∙ merged_part p q (place_in s end (input_within start end s e))
 
   merged_by : (call : Call) → is_merge call s ≡ true → may_be_made call s ≡ true → ReachesBothSides s
@@ -101,10 +102,10 @@ module _ (s : State) (mono : HasMonotoneClusters s) where
   merged_by (UnsafeToConcat start end) is e reaches = cc
   merged_by (UnsafeToConcatFromOutbuffer start end) is e reaches = cc
 
-pub merge_coarsens : (call : Call) (s : State) → is_merge call s ≡ true → may_be_made call s ≡ true
+pub both-merge_coarsens : (call : Call) (s : State) → is_merge call s ≡ true → may_be_made call s ≡ true
     → HasMonotoneClusters s → ReachesBothSides s
     → both (turn call s).state ≡ cluster_merge (both s) (range_of call s)
-merge_coarsens call s is e mono reaches = made call s e ∙ merged_by s mono call is e reaches
+both-merge_coarsens call s is e mono reaches = both-turn call s e ∙ merged_by s mono call is e reaches
 
 abbrev SharesAfter : List hb_glyph_info_t → List hb_glyph_info_t → List hb_glyph_info_t → Type 0
 SharesAfter l r new =
@@ -118,7 +119,7 @@ pub merge_shares_by : (call : Call) (s : State) → is_merge call s ≡ true →
     → HasMonotoneClusters s → ReachesBothSides s
     → SharesAfter (both s) (range_of call s) (both (turn call s).state)
 merge_shares_by call s is e mono reaches =
-    subst (SharesAfter (both s) (range_of call s)) (sym (merge_coarsens call s is e mono reaches))
+    subst (SharesAfter (both s) (range_of call s)) (sym (both-merge_coarsens call s is e mono reaches))
     (merge_shares (both s) (range_of call s))
 
 abbrev KeepsAfter : List hb_glyph_info_t → List hb_glyph_info_t → Type 0
@@ -130,7 +131,8 @@ pub merge_keeps_by : (call : Call) (s : State) → is_merge call s ≡ true → 
     → HasMonotoneClusters s → ReachesBothSides s
     → KeepsAfter (both s) (both (turn call s).state)
 merge_keeps_by call s is e mono reaches =
-    subst (KeepsAfter (both s)) (sym (merge_coarsens call s is e mono reaches)) (merge_stays (both s) (range_of call s))
+    subst (KeepsAfter (both s)) (sym (both-merge_coarsens call s is e mono reaches))
+    (merge_stays (both s) (range_of call s))
 
 -- ---- marks
 
@@ -141,11 +143,11 @@ mark_short bits [] h = refl
 mark_short bits (g ∷ []) h = ap (λ x. x ∷ []) (cond-true _ _ _ (eq-eqb g.cluster g.cluster refl))
 mark_short bits (g ∷ k ∷ r) h = absurd (omega arith)
 
-mark_in_short : (bits : ℕ) (l : List hb_glyph_info_t) (p q : ℕ) → p ≤ q → q ≤ p + 1 → q ≤ length l
+on_part-mark_short : (bits : ℕ) (l : List hb_glyph_info_t) (p q : ℕ) → p ≤ q → q ≤ p + 1 → q ≤ length l
     → on_part (mark bits) l p q ≡ l
-mark_in_short bits l p q up short in_l =
+on_part-mark_short bits l p q up short in_l =
     ap (λ xs. take p l ++ xs ++ drop q l) (mark_short bits (part l p q) (omega (arith, length-part l p q in_l)))
-    ∙ parts_whole l p q up
+    ∙ append-part l p q up
 
 module _ (s : State) (mono : HasMonotoneClusters s) where
   part_monotone : (p q : ℕ) → q ≤ length (both s) → IsMonotone (part (both s) p q)
@@ -166,7 +168,7 @@ module _ (s : State) (mono : HasMonotoneClusters s) where
       let r = part (both s) p q in
       let whole : take k r ++ drop k r ≡ r = take-append-drop k r in
       ap (λ xs. take p (both s) ++ xs ++ drop q (both s))
-      (end_mark_two_is_mark bits (take k r) (drop k r) (subst IsMonotone (sym whole) (part_monotone p q in_l))
+      (append-mark_part bits (take k r) (drop k r) (subst IsMonotone (sym whole) (part_monotone p q in_l))
       ∙ ap (mark bits) whole)
 
   end_in : (end : _) → both_place s (range_end end s) ≤ length (both s)
@@ -181,7 +183,7 @@ module _ (s : State) (mono : HasMonotoneClusters s) where
       let q = both_place s b in
       cond_both (ltb (b - a) 2) _ _ (λ (t : State). both t ≡ on_part (mark BREAK_BITS) (both s) p q)
       (λ short. let few = ltb-true (b - a) 2 short in
-      sym (mark_in_short BREAK_BITS (both s) p q (omega arith) (omega arith) (end_in end)))
+      sym (on_part-mark_short BREAK_BITS (both s) p q (omega arith) (omega arith) (end_in end)))
       (λ _. take-append-drop (length s.out) (on_part (scan_of (any_order s) BREAK_BITS) (both s) p q)
       ∙ scanned (any_order s) BREAK_BITS p q mono.level (end_in end))
 
@@ -196,7 +198,7 @@ module _ (s : State) (mono : HasMonotoneClusters s) where
       take-append-drop (length s.out) (on_part (two_part_scan (any_order s) BREAK_BITS k) (both s) p q)
       ∙ two_scanned (any_order s) BREAK_BITS k p q mono.level (end_in end)
   marked_by (MergeGraphemeClusters start end) is e =
-      let kept = end_kept end s (input_within start end s e) in
+      let kept = range_end-some end s (input_within start end s e) in
       ap both (cond-false (groups_graphemes s.cluster_level) _ _ (not-true (groups_graphemes s.cluster_level) is))
       ∙ input_marked start (Some end) (subst (λ k. start ≤ k) (sym kept) (input_order start end s e))
       ∙ ap (λ k. on_part (mark BREAK_BITS) (both s) (both_place s start) (both_place s k)) kept
@@ -218,9 +220,10 @@ module _ (s : State) (mono : HasMonotoneClusters s) where
   marked_by (UnsafeToConcat start end) is e = cc
   marked_by (UnsafeToConcatFromOutbuffer start end) is e = cc
 
-pub break_marks : (call : Call) (s : State) → is_break call s ≡ true → may_be_made call s ≡ true → HasMonotoneClusters s
+pub both-break_marks : (call : Call) (s : State) → is_break call s ≡ true → may_be_made call s ≡ true
+    → HasMonotoneClusters s
     → both (turn call s).state ≡ on_part (mark BREAK_BITS) (both s) (from_place call s) (to_place call s)
-break_marks call s is e mono = made call s e ∙ marked_by s mono call is e
+both-break_marks call s is e mono = both-turn call s e ∙ marked_by s mono call is e
 
 -- ---- the least cluster
 
@@ -239,7 +242,7 @@ pub least_after_deletion : (s : State) → any_order s ≡ false → may_be_made
     → least (clusters (both (turn DeleteGlyph s).state)) ≡ least (clusters (both s))
 least_after_deletion s level e left =
     let w = and_parts s.have_output (has_glyph s) e in
-    let is = made DeleteGlyph s e in
+    let is = both-turn DeleteGlyph s e in
     ap (λ l. least (clusters l)) is
     ∙ deleted_least (any_order s) s.out s.input level (glyph_left s.have_output s.idx (length s.input) w.0 w.1)
     (subst (λ l. 0 < length l) is left)
@@ -263,8 +266,8 @@ least_after_replacement num_in num_out s level some ids e =
     let count : length put ≡ num_out = length-take-le num_out ids.now (leb-true num_out (length ids.now) u.1) in
     let size = length-append s.out s.input in
     let P : List hb_glyph_info_t → Type 0 = λ l. least (clusters l) ≡ least (clusters (both s)) in
-    subst P (sym (made (ReplaceGlyphs num_in num_out ids) s e
-    ∙ ap (λ (o : Outcome). both o.state) (replaced_sides num_in put s w.0)))
+    subst P (sym (both-turn (ReplaceGlyphs num_in num_out ids) s e
+    ∙ ap (λ (o : Outcome). both o.state) (replace_glyphs-sides num_in put s w.0)))
     (cond_both (leb (length s.out + length put) s.max_len) _ _ (λ (o : Outcome). P (both o.state))
     (λ _. subst P (sym (replaced_both num_in put s))
     (replaced_least (any_order s) (both s) (length s.out) (length s.out + num_in) put level (omega arith)

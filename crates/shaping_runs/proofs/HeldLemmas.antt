@@ -10,7 +10,7 @@ use Rattle.shaping_buffer.specs.State.{State, len, lookahead_len}
 use Rattle.shaping_buffer.specs.Step.{Outcome, limited, unlimited, put_out, skip_glyph, skip_glyphs}
 use Rattle.shaping_buffer.specs.Step.{next_glyphs, split_at, move_to, with_id, glyph_to_copy, last_place}
 use Rattle.shaping_buffer.specs.ClusterStep.{both}
-use Rattle.shaping_buffer.proofs.ReplacementLemmas.{replaced_sides, front_replaced}
+use Rattle.shaping_buffer.proofs.ReplacementLemmas.{replace_glyphs-sides, front_replaced}
 use Rattle.shaping_runs.specs.declared.call.Call.{Call}
 use Rattle.shaping_runs.specs.declared.call.Call.TheVariants.{ClearOutput, NextGlyph, NextGlyphs, SkipGlyph}
 use Rattle.shaping_runs.specs.declared.call.Call.TheVariants.{ReplaceGlyph, ReplaceGlyphs, OutputGlyph, OutputInfo}
@@ -68,12 +68,13 @@ module _ (call : Call) (s : State) where
 
 -- ---- lengths
 
-taken : (n : ℕ) (out input : List hb_glyph_info_t) → n ≤ length input → length (out ++ take n input) ≡ length out + n
-taken n out input within = omega (arith, length-append out (take n input), length-take-le n input within)
+length-taken : (n : ℕ) (out input : List hb_glyph_info_t) → n ≤ length input
+    → length (out ++ take n input) ≡ length out + n
+length-taken n out input within = omega (arith, length-append out (take n input), length-take-le n input within)
 
-copied : (out input : List hb_glyph_info_t)
+length-copied : (out input : List hb_glyph_info_t)
     → length (cond (eqb (length input) 0) (drop (length out - 1) out) (take 1 input)) ≡ min 1 (length (out ++ input))
-copied out input =
+length-copied out input =
     cond_both (eqb (length input) 0) _ _ (λ (l : List hb_glyph_info_t). length l ≡ min 1 (length (out ++ input)))
     (λ e. omega (arith, length-drop (length out - 1) out, length-append out input, eqb-true (length input) 0 e))
     (λ e. let off : length input ≡ 0 → ⊥ = eqb-false (length input) 0 e in
@@ -94,7 +95,7 @@ next_exact : (call : Call) (n : ℕ) (s : State) → held_open call s ≡ length
 next_exact call n s is within = elim (cases_Bool s.have_output) [
   | inl opened ↦ subst (λ (o : Outcome). Exact s o (held call s)) (sym (cond-true s.have_output _ _ opened))
       (puts_out call s (take n s.input) (skip_glyphs n s) opened
-      (taken n s.out s.input (front_left s.have_output s.idx (length s.input) n opened within) ∙ sym is))
+      (length-taken n s.out s.input (front_left s.have_output s.idx (length s.input) n opened within) ∙ sym is))
   | inr closed ↦ while_closed call s (next_glyphs n s) (skip_glyphs n s) closed (cond-false s.have_output _ _ closed)
 ]
 
@@ -125,18 +126,18 @@ outcome_exact (ReplaceGlyphs num_in num_out ids) s e free =
     let v = and_parts (has_glyph s) _ w.1 in
     let u = and_parts (leb num_in (lookahead_len s)) _ v.1 in
     while_open (ReplaceGlyphs num_in num_out ids) s _ (length s.out + length (take num_out ids.now))
-    (front_replaced num_in (take num_out ids.now) s) w.0 (replaced_sides num_in (take num_out ids.now) s w.0)
+    (front_replaced num_in (take num_out ids.now) s) w.0 (replace_glyphs-sides num_in (take num_out ids.now) s w.0)
     (omega (arith, length-take-le num_out ids.now (leb-true num_out (length ids.now) u.1)))
 outcome_exact (OutputGlyph id) s e free =
     let g = glyph_to_copy s in
     puts_out (OutputGlyph id) s (map (with_id id) g) s e
     (length-append s.out (map (with_id id) g)
-    ∙ ap (λ k. length s.out + k) (length-map g (with_id id) ∙ copied s.out s.input))
+    ∙ ap (λ k. length s.out + k) (length-map g (with_id id) ∙ length-copied s.out s.input))
 outcome_exact (OutputInfo g) s e free = puts_out (OutputInfo g) s (g ∷ []) s e (length-append s.out (g ∷ []))
 outcome_exact CopyGlyph s e free =
     let w = and_parts s.have_output (has_glyph s) e in
     puts_out CopyGlyph s (take 1 s.input) s w.0
-    (taken 1 s.out s.input (glyph_left s.have_output s.idx (length s.input) w.0 w.1))
+    (length-taken 1 s.out s.input (glyph_left s.have_output s.idx (length s.input) w.0 w.1))
 outcome_exact (MoveTo place) s e free = elim (cases_Bool s.have_output) [
   | inl opened ↦
       let within : place ≤ length s.out + length s.input =
@@ -192,31 +193,32 @@ refused_exactly call s e free =
 
 -- ---- after a refusal
 
-waits : (call : Call) (s : State) → moves_or_syncs call ≡ true → s.have_output ≡ true → s.successful ≡ false
+turn-waits : (call : Call) (s : State) → moves_or_syncs call ≡ true → s.have_output ≡ true → s.successful ≡ false
     → may_be_made call s ≡ true → turn call s ≡ record { answer = Refused; state = s }
-waits (MoveTo place) s is opened h e = move_refused s opened h place (leb-true place (last_place s) e)
-waits Sync s is opened h e = sync_refused s opened h
-waits ClearOutput s is opened h e = cc
-waits NextGlyph s is opened h e = cc
-waits (NextGlyphs n) s is opened h e = cc
-waits SkipGlyph s is opened h e = cc
-waits (ReplaceGlyph id) s is opened h e = cc
-waits (ReplaceGlyphs num_in num_out ids) s is opened h e = cc
-waits (OutputGlyph id) s is opened h e = cc
-waits (OutputInfo g) s is opened h e = cc
-waits CopyGlyph s is opened h e = cc
-waits DeleteGlyph s is opened h e = cc
-waits (MergeClusters start end) s is opened h e = cc
-waits (MergeOutClusters start end) s is opened h e = cc
-waits (MergeGraphemeClusters start end) s is opened h e = cc
-waits (UnsafeToBreak start end) s is opened h e = cc
-waits (UnsafeToBreakFromOutbuffer start end) s is opened h e = cc
-waits (SafeToInsertTatweel start end) s is opened h e = cc
-waits (UnsafeToConcat start end) s is opened h e = cc
-waits (UnsafeToConcatFromOutbuffer start end) s is opened h e = cc
+turn-waits (MoveTo place) s is opened h e = move_refused s opened h place (leb-true place (last_place s) e)
+turn-waits Sync s is opened h e = sync_refused s opened h
+turn-waits ClearOutput s is opened h e = cc
+turn-waits NextGlyph s is opened h e = cc
+turn-waits (NextGlyphs n) s is opened h e = cc
+turn-waits SkipGlyph s is opened h e = cc
+turn-waits (ReplaceGlyph id) s is opened h e = cc
+turn-waits (ReplaceGlyphs num_in num_out ids) s is opened h e = cc
+turn-waits (OutputGlyph id) s is opened h e = cc
+turn-waits (OutputInfo g) s is opened h e = cc
+turn-waits CopyGlyph s is opened h e = cc
+turn-waits DeleteGlyph s is opened h e = cc
+turn-waits (MergeClusters start end) s is opened h e = cc
+turn-waits (MergeOutClusters start end) s is opened h e = cc
+turn-waits (MergeGraphemeClusters start end) s is opened h e = cc
+turn-waits (UnsafeToBreak start end) s is opened h e = cc
+turn-waits (UnsafeToBreakFromOutbuffer start end) s is opened h e = cc
+turn-waits (SafeToInsertTatweel start end) s is opened h e = cc
+turn-waits (UnsafeToConcat start end) s is opened h e = cc
+turn-waits (UnsafeToConcatFromOutbuffer start end) s is opened h e = cc
 
-pub refused_for_good : (calls : List Call) (call : Call) (s : State) → s.successful ≡ false → moves_or_syncs call ≡ true
+pub turn-refused_for_good : (calls : List Call) (call : Call) (s : State) → s.successful ≡ false
+    → moves_or_syncs call ≡ true
     → (after calls s).have_output ≡ true
     → may_be_made call (after calls s) ≡ true → turn call (after calls s)
     ≡ record { answer = Refused; state = after calls s }
-refused_for_good calls call s h is opened e = waits call (after calls s) is opened (refusal_after calls s h) e
+turn-refused_for_good calls call s h is opened e = turn-waits call (after calls s) is opened (refusal_after calls s h) e

@@ -21,46 +21,50 @@ use Rattle.shaping_runs.specs.declared.call.Call.TheVariants.{MergeGraphemeClust
 use Rattle.shaping_runs.specs.declared.call.Answer.TheVariants.{Outside}
 use Rattle.shaping_runs.specs.Replay.{Turn, turn, after, answers_of, answer_of, may_be_made, outcome_of}
 use Rattle.shaping_runs.specs.ThreeLevels.{any_order, old_outcome_of, old_turn, old_after, old_answers_of, is_new, AreOld}
-use Rattle.shaping_runs.proofs.Settings.{same_level}
+use Rattle.shaping_runs.proofs.Settings.{cluster_level-turn}
 
 -- ---- one call
 
-same_rule : (s : State) → s.cluster_level ≢ 3 → allows_any_order s.cluster_level ≡ any_order s
-same_rule s n = ap (λ b. eqb s.cluster_level 2 || b) (ne_eqb s.cluster_level 3 n) ∙ or-false (eqb s.cluster_level 2)
+allows_any_order-same : (s : State) → s.cluster_level ≢ 3 → allows_any_order s.cluster_level ≡ any_order s
+allows_any_order-same s n =
+    ap (λ b. eqb s.cluster_level 2 || b) (ne_eqb s.cluster_level 3 n) ∙ or-false (eqb s.cluster_level 2)
 
-same_outcome : (call : Call) (s : State) → is_new call ≡ false → s.cluster_level ≢ 3
+outcome_of-same : (call : Call) (s : State) → is_new call ≡ false → s.cluster_level ≢ 3
     → outcome_of call s ≡ old_outcome_of call s
-same_outcome (ReplaceGlyphs num_in num_out ids) s old n =
-    ap (λ b. step.replace_input b num_in (take num_out ids.now) s) (same_rule s n)
-same_outcome DeleteGlyph s old n = ap (λ b. step.unlimited (cluster_step.delete_current b s)) (same_rule s n)
-same_outcome (MergeClusters start end) s old n =
-    ap (λ b. step.unlimited (cluster_step.merge_input b start end s)) (same_rule s n)
-same_outcome (MergeOutClusters start end) s old n =
-    ap (λ b. step.unlimited (cluster_step.merge_out b start end s)) (same_rule s n)
-same_outcome (UnsafeToBreak start end) s old n =
-    ap (λ b. step.unlimited (plain_scan b BREAK_BITS (range_start start) (range_end end s) s)) (same_rule s n)
-same_outcome (UnsafeToBreakFromOutbuffer start end) s old n =
+outcome_of-same (ReplaceGlyphs num_in num_out ids) s old n =
+    ap (λ b. step.replace_input b num_in (take num_out ids.now) s) (allows_any_order-same s n)
+outcome_of-same DeleteGlyph s old n =
+    ap (λ b. step.unlimited (cluster_step.delete_current b s)) (allows_any_order-same s n)
+outcome_of-same (MergeClusters start end) s old n =
+    ap (λ b. step.unlimited (cluster_step.merge_input b start end s)) (allows_any_order-same s n)
+outcome_of-same (MergeOutClusters start end) s old n =
+    ap (λ b. step.unlimited (cluster_step.merge_out b start end s)) (allows_any_order-same s n)
+outcome_of-same (UnsafeToBreak start end) s old n =
+    ap (λ b. step.unlimited (plain_scan b BREAK_BITS (range_start start) (range_end end s) s))
+    (allows_any_order-same s n)
+outcome_of-same (UnsafeToBreakFromOutbuffer start end) s old n =
     let to = both_place s (range_end end s) in
-    ap (λ b. step.unlimited (cluster_step.scan_sides b BREAK_BITS (range_start start) to s)) (same_rule s n)
-same_outcome (SafeToInsertTatweel start end) s old n =
-    ap (λ b. step.unlimited (plain_scan b (tatweel_bits s) (range_start start) (range_end end s) s)) (same_rule s n)
-same_outcome (MergeGraphemeClusters start end) s old n = cc
-same_outcome ClearOutput s old n = refl
-same_outcome NextGlyph s old n = refl
-same_outcome (NextGlyphs k) s old n = refl
-same_outcome SkipGlyph s old n = refl
-same_outcome (ReplaceGlyph id) s old n = refl
-same_outcome (OutputGlyph id) s old n = refl
-same_outcome (OutputInfo g) s old n = refl
-same_outcome CopyGlyph s old n = refl
-same_outcome (MoveTo place) s old n = refl
-same_outcome Sync s old n = refl
-same_outcome (UnsafeToConcat start end) s old n = refl
-same_outcome (UnsafeToConcatFromOutbuffer start end) s old n = refl
+    ap (λ b. step.unlimited (cluster_step.scan_sides b BREAK_BITS (range_start start) to s)) (allows_any_order-same s n)
+outcome_of-same (SafeToInsertTatweel start end) s old n =
+    ap (λ b. step.unlimited (plain_scan b (tatweel_bits s) (range_start start) (range_end end s) s))
+    (allows_any_order-same s n)
+outcome_of-same (MergeGraphemeClusters start end) s old n = cc
+outcome_of-same ClearOutput s old n = refl
+outcome_of-same NextGlyph s old n = refl
+outcome_of-same (NextGlyphs k) s old n = refl
+outcome_of-same SkipGlyph s old n = refl
+outcome_of-same (ReplaceGlyph id) s old n = refl
+outcome_of-same (OutputGlyph id) s old n = refl
+outcome_of-same (OutputInfo g) s old n = refl
+outcome_of-same CopyGlyph s old n = refl
+outcome_of-same (MoveTo place) s old n = refl
+outcome_of-same Sync s old n = refl
+outcome_of-same (UnsafeToConcat start end) s old n = refl
+outcome_of-same (UnsafeToConcatFromOutbuffer start end) s old n = refl
 
 pub same_turn : (call : Call) (s : State) → is_new call ≡ false → s.cluster_level ≢ 3 → turn call s ≡ old_turn call s
 same_turn call s old n = ap (λ (o : Outcome). cond (may_be_made call s) (record { answer = answer_of o.done; state = o.state })
-    (record { answer = Outside; state = s })) (same_outcome call s old n)
+    (record { answer = Outside; state = s })) (outcome_of-same call s old n)
 
 -- ---- lists of calls
 
@@ -69,7 +73,7 @@ pub same_runs : (calls : List Call) (s : State) → AreOld calls → s.cluster_l
 same_runs [] s old n = (refl, refl)
 same_runs (call ∷ calls) s old n =
     let one = same_turn call s old.0 n in
-    let rest = same_runs calls (turn call s).state old.1 (λ e. n (sym (same_level call s) ∙ e)) in (
+    let rest = same_runs calls (turn call s).state old.1 (λ e. n (sym (cluster_level-turn call s) ∙ e)) in (
       rest.0 ∙ ap (λ (t : Turn). old_after calls t.state) one,
       ap (λ l. (turn call s).answer ∷ l) rest.1
           ∙ ap (λ (t : Turn). t.answer ∷ old_answers_of calls t.state) one,

@@ -10,7 +10,7 @@ use Rattle.shaping_runs.specs.declared.call.Answer.{Answer}
 use Rattle.shaping_runs.specs.declared.call.Answer.TheVariants.{Done, Outside}
 use Rattle.shaping_runs.specs.Replay.{Turn, turn, after, may_be_made, outcome_of, MayStop, StopsAt}
 use Rattle.shaping_runs.specs.Room.{IsWithin, StaysWithin}
-use Rattle.shaping_runs.proofs.Settings.{same_room}
+use Rattle.shaping_runs.proofs.Settings.{room-turn}
 
 outside_is_not_done : Outside ≡ Done → ⊥
 outside_is_not_done e = cc
@@ -38,7 +38,7 @@ stops_nowhere n [] s room stays at new within is due = absurd (omega (arith, wit
 stops_nowhere n (call ∷ calls) s room stays zero new within is due =
     call_never_stops n call s room (within_after n calls (turn call s).state stays.1) (subst (MayStop call) is due)
 stops_nowhere n (call ∷ calls) s room stays (suc at) new within is due =
-    stops_nowhere n calls (turn call s).state (subst (λ m. n ≤ m) (sym (same_room call s)) room) stays.1 at new
+    stops_nowhere n calls (turn call s).state (subst (λ m. n ≤ m) (sym (room-turn call s)) room) stays.1 at new
     (omega (arith, within)) is due
 
 pub never_stops : (n : ℕ) (calls : List Call) (s : State) → n ≤ s.room → StaysWithin n calls s

@@ -72,12 +72,12 @@ turn_keeps : (call : Call) (s : State) → Keeps s (turn call s).state
 turn_keeps call s =
     cond_both (may_be_made call s) _ _ (λ (t : Turn). Keeps s t.state) (λ _. outcome_keeps call s) (λ _. (refl, refl))
 
-pub same_level : (call : Call) (s : State) → (turn call s).state.cluster_level ≡ s.cluster_level
-same_level call s = (turn_keeps call s).0
+pub cluster_level-turn : (call : Call) (s : State) → (turn call s).state.cluster_level ≡ s.cluster_level
+cluster_level-turn call s = (turn_keeps call s).0
 
-pub same_room : (call : Call) (s : State) → (turn call s).state.room ≡ s.room
-same_room call s = (turn_keeps call s).1
+pub room-turn : (call : Call) (s : State) → (turn call s).state.room ≡ s.room
+room-turn call s = (turn_keeps call s).1
 
 pub room_after : (calls : List Call) (s : State) → (after calls s).room ≡ s.room
 room_after [] s = refl
-room_after (call ∷ calls) s = room_after calls (turn call s).state ∙ same_room call s
+room_after (call ∷ calls) s = room_after calls (turn call s).state ∙ room-turn call s

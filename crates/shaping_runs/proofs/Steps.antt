@@ -17,7 +17,8 @@ use Rattle.rb_glyph.specs.declared.glyph_flag.TheConstants.{UNSAFE_TO_CONCAT, SA
 use Rattle.rb_glyph.specs.declared.flag_sets.TheConstants.BufferFlags.{PRODUCE_UNSAFE_TO_CONCAT}
 use Rattle.rb_glyph.specs.declared.flag_sets.TheConstants.BufferFlags.{PRODUCE_SAFE_TO_INSERT_TATWEEL}
 use Rattle.glyph_laws.proofs.GlyphFlagsLemmas.{two_agrees, three_agrees, four_agrees}
-use Rattle.shaping_buffer.proofs.Steps.{StepsKeep, end_kept, front_left, glyph_left, next_keeps, skip_keeps, rename_keeps}
+use Rattle.shaping_buffer.proofs.Steps.{StepsKeep, range_end-some, front_left, glyph_left, next_keeps, skip_keeps}
+use Rattle.shaping_buffer.proofs.Steps.{rename_keeps}
 use Rattle.shaping_buffer.proofs.Steps.{output_keeps, copy_keeps, sync_keeps, replace_keeps, move_keeps, delete_keeps}
 use Rattle.shaping_buffer.proofs.Steps.{merge_keeps, merge_out_keeps, plain_scan_keeps, scan_sides_keeps}
 use Rattle.shaping_buffer.proofs.Steps.{flag_all_keeps}
@@ -40,11 +41,11 @@ input_order start end s e = leb-true start end (and_parts (leb start end) _ e).0
 pub input_within : (start end : ℕ) (s : State) → is_input_range start end s ≡ true → end ≤ len s
 input_within start end s e = leb-true end (len s) (and_parts (leb end (len s)) _ (and_parts (leb start end) _ e).1).0
 
-floor_zero : (within have_output : Bool) (idx : ℕ) → within ≡ true → (within && (not have_output && ltb 0 idx)) ≡ false
+cond-floor : (within have_output : Bool) (idx : ℕ) → within ≡ true → (within && (not have_output && ltb 0 idx)) ≡ false
     → cond have_output 0 idx ≡ 0
-floor_zero true true idx e h = refl
-floor_zero true false idx e h = omega (arith, ltb-false 0 idx h)
-floor_zero false have_output idx e h = cc
+cond-floor true true idx e h = refl
+cond-floor true false idx e h = omega (arith, ltb-false 0 idx h)
+cond-floor false have_output idx e h = cc
 
 -- the range of a call on both sides, by places in both, while an output is open and while none is
 pub sides_order : (start end : ℕ) (s : State) → is_sides_range start end s ≡ true → start ≤ both_place s end
@@ -71,7 +72,7 @@ module _ (P : List hb_glyph_info_t → Type 0) (Floor : ℕ → Type 0) (steps :
       → ((within && (not s.have_output && ltb 0 s.idx)) ≡ true → Floor (floor_of s)) → Floor (floor_of s)
   floor_held within s e held = elim (cases_Bool (within && (not s.have_output && ltb 0 s.idx))) [
     | inl on ↦ held on
-    | inr off ↦ subst Floor (sym (floor_zero within s.have_output s.idx e off)) steps.keeping.lowest
+    | inr off ↦ subst Floor (sym (cond-floor within s.have_output s.idx e off)) steps.keeping.lowest
   ]
 
   outcome_keeps : (call : Call) (s : State) → may_be_made call s ≡ true → brings_glyph call s ≡ false
@@ -111,7 +112,7 @@ module _ (P : List hb_glyph_info_t → Type 0) (Floor : ℕ → Type 0) (steps :
       (λ on. held (ap (λ b. b && (is_input_range start end s && (not s.have_output && ltb 0 s.idx))) groups ∙ on))) h)
       (λ _. plain_scan_keeps P Floor steps.keeping BREAK_BITS three_agrees s h start (range_end (Some end) s)
       (input_order start (range_end (Some end) s) s
-      (subst (λ k. is_input_range start k s ≡ true) (sym (end_kept end s (input_within start end s e))) e)))
+      (subst (λ k. is_input_range start k s ≡ true) (sym (range_end-some end s (input_within start end s e))) e)))
   outcome_keeps (UnsafeToBreak start end) s e own held h =
       plain_scan_keeps P Floor steps.keeping BREAK_BITS three_agrees s h (range_start start) (range_end end s)
       (input_order (range_start start) (range_end end s) s e)

@@ -16,16 +16,16 @@ before_first-skip p b rest h =
     let e : 1 + position_or_len p rest ≡ suc (position_or_len p rest) = omega arith in rw (h, e) refl
 
 -- the first line, and the lines behind it
-pub first_line : (bytes : List ℕ) → 0 < length bytes
+pub lines_of-first : (bytes : List ℕ) → 0 < length bytes
     → lines_of bytes ≡ before_first is_line_feed bytes ∷ lines_of (after_first is_line_feed bytes)
-first_line [] h = absurd (omega (arith, h))
-first_line (b ∷ []) h = cases (is_line_feed b) refl
+lines_of-first [] h = absurd (omega (arith, h))
+lines_of-first (b ∷ []) h = cases (is_line_feed b) refl
   where
     cases : (v : Bool) → is_line_feed b ≡ v
         → lines_of (b ∷ []) ≡ before_first is_line_feed (b ∷ []) ∷ lines_of (after_first is_line_feed (b ∷ []))
     cases true e = rw e refl
     cases false e = rw e refl
-first_line (b ∷ c ∷ rest) h = cases (is_line_feed b) refl (first_line (c ∷ rest) (omega arith))
+lines_of-first (b ∷ c ∷ rest) h = cases (is_line_feed b) refl (lines_of-first (c ∷ rest) (omega arith))
   where
     cases : (v : Bool) → is_line_feed b ≡ v
         → lines_of (c ∷ rest) ≡ before_first is_line_feed (c ∷ rest) ∷ lines_of (after_first is_line_feed (c ∷ rest))

@@ -201,8 +201,8 @@ unfolding digits
 one_line-extents set = one_line-if (has set GLYPH_EXTENTS) (box_text zero_extents) [] refl refl
 
 -- a font that knows nothing says nothing of any number
-nothing_said : {A : Type 0} (id : ℕ) → said_of {A = A} (λ _. None) id ≡ None
-nothing_said {A = A} id =
+said_of-nothing : {A : Type 0} (id : ℕ) → said_of {A = A} (λ _. None) id ≡ None
+said_of-nothing {A = A} id =
     let none : Option A = None in
     elim (nat_le id 65535) as (λ b. (if b then none else none) ≡ none) [ true ↦ refl | false ↦ refl ]
 
@@ -219,7 +219,7 @@ one_line-glyph set earlier g =
     (one_line-position set (x_advances earlier) (y_advances earlier) g.1) in
     let marked = one_line-append (name ++ cluster ++ position) marks placed (one_line-flags set g.0.mask) in
     let whole = one_line-append (name ++ cluster ++ position ++ marks) box marked (one_line-extents set) in
-    rw (nothing_said {A = List ℕ} g.0.glyph_id, nothing_said {A = GlyphExtents} g.0.glyph_id) whole
+    rw (said_of-nothing {A = List ℕ} g.0.glyph_id, said_of-nothing {A = GlyphExtents} g.0.glyph_id) whole
 
 one_line-glyphs : (set : SerializeFlags) (earlier : List GlyphPosition) (gs : List (hb_glyph_info_t × GlyphPosition))
     → IsOneLine (join_with_byte 124 (glyph_texts nothing_known set earlier gs))

@@ -9,20 +9,20 @@ abbrev pub ids_before : List ℕ → Taken (List ℕ) → Taken (List ℕ)
 ids_before ids None = None
 ids_before ids (Some (more, rest)) = Some (ids ++ more, rest)
 
-before-one : (ids : List ℕ) (id : ℕ) (taken : Taken (List ℕ))
+ids_before-one : (ids : List ℕ) (id : ℕ) (taken : Taken (List ℕ))
     → ids_before ids (id_before (Some id) taken) ≡ ids_before (ids ++ id ∷ []) taken
-before-one ids id None = refl
-before-one ids id (Some (more, rest)) = ap (λ l. Some (l, rest)) (sym (append_assoc ids (id ∷ []) more))
+ids_before-one ids id None = refl
+ids_before-one ids id (Some (more, rest)) = ap (λ l. Some (l, rest)) (sym (append_assoc ids (id ∷ []) more))
 
 -- one id more is taken
-pub ids_in-one_more : (count i : ℕ) (rest : Rest) (ids : List ℕ) (id : ℕ) → i < count → next_u32 rest ≡ Some id
+pub ids_before-one_more : (count i : ℕ) (rest : Rest) (ids : List ℕ) (id : ℕ) → i < count → next_u32 rest ≡ Some id
     → ids_before ids (ids_in (count - i) rest) ≡ ids_before (ids ++ id ∷ [])
     (ids_in (count - (i + 1)) (past_first_word rest))
-ids_in-one_more count i rest ids id h e =
+ids_before-one_more count i rest ids id h e =
     let one : count - i ≡ suc (count - (i + 1)) = omega arith in
     ap (λ n. ids_before ids (ids_in n rest)) one
     ∙ ap (λ o. ids_before ids (id_before o (ids_in (count - (i + 1)) (past_first_word rest)))) e
-    ∙ before-one ids id (ids_in (count - (i + 1)) (past_first_word rest))
+    ∙ ids_before-one ids id (ids_in (count - (i + 1)) (past_first_word rest))
 
 -- one id is missing
 pub ids_in-missing : (count i : ℕ) (rest : Rest) → i < count → next_u32 rest ≡ None → ids_in (count - i) rest ≡ None

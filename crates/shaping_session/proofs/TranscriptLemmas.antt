@@ -13,7 +13,7 @@ use Rattle.shaping_session.specs.Transcript.{WritesBeginning, WritesText, Writes
 use Rattle.shaping_session.specs.declared.run.RunFault.{RunFault}
 use Rattle.shaping_session.specs.declared.run.RunFault.TheVariants.{Read, Write, Memory}
 use Rattle.shaping_session.specs.declared.session.Session.{Session}
-use Rattle.shaping_session.proofs.LineLemmas.{first_line}
+use Rattle.shaping_session.proofs.LineLemmas.{lines_of-first}
 use Rattle.shaping_session.proofs.OneLineLemmas.{one_line-followed}
 
 pub transcript-push : (answers : List (List ℕ)) (answer : List ℕ)
@@ -134,8 +134,8 @@ handed_on a b text more first (Ok x) same w = tt
 handed_on a b text more first (Err fault) same w = (same ∙ w.0, begins_more a b text more w.1)
 
 -- a line is some bytes and a line feed
-a_line : (held bytes line : List ℕ) → bytes ≡ line → (held ++ bytes) ++ 10 ∷ [] ≡ held ++ (line ++ 10 ∷ [])
-a_line held bytes line same =
+append-line : (held bytes line : List ℕ) → bytes ≡ line → (held ++ bytes) ++ 10 ∷ [] ≡ held ++ (line ++ 10 ∷ [])
+append-line held bytes line same =
     append_assoc held bytes (10 ∷ []) ∙ ap (λ l. held ++ (l ++ 10 ∷ [])) same
 
 pub line_cut : {X : Type 0} (a b : Option (List ℕ)) (held bytes line : List ℕ) (first : RunFault)
@@ -143,14 +143,14 @@ pub line_cut : {X : Type 0} (a b : Option (List ℕ)) (held bytes line : List �
     → (first ≡ Write) × WritesBeginning a b (held ++ bytes)
     → IfErr result (λ fault. (fault ≡ Write) × WritesBeginning a b (held ++ (line ++ 10 ∷ [])))
 line_cut a b held bytes line first result same is w =
-    subst (λ t. IfErr result (λ fault. (fault ≡ Write) × WritesBeginning a b t)) (a_line held bytes line same)
+    subst (λ t. IfErr result (λ fault. (fault ≡ Write) × WritesBeginning a b t)) (append-line held bytes line same)
     (handed_on a b (held ++ bytes) (10 ∷ []) first result is w)
 
 pub line_left : {X : Type 0} (a b c : Option (List ℕ)) (held bytes line left last : List ℕ) (result : Result X RunFault)
     → bytes ≡ line → Leaves a b (held ++ bytes) left → OnOk result (Leaves b c (left ++ 10 ∷ []) last)
     → OnOk result (Leaves a c (held ++ (line ++ 10 ∷ [])) last)
 line_left a b c held bytes line left last (Ok x) same p q =
-    subst (λ t. Leaves a c t last) (a_line held bytes line same)
+    subst (λ t. Leaves a c t last) (append-line held bytes line same)
     (leaves_more a b c (held ++ bytes) left (10 ∷ []) last p q)
 line_left a b c held bytes line left last (Err fault) same p q = tt
 
@@ -163,7 +163,7 @@ line_feed_cut a b c held bytes line left (Err fault) same p q = (
   q.0,
   (
     q.1.0,
-    subst (λ t. Leaves a c t q.1.0) (a_line held bytes line same)
+    subst (λ t. Leaves a c t q.1.0) (append-line held bytes line same)
         (leaves_more a b c (held ++ bytes) left (10 ∷ []) q.1.0 p q.1.1),
   ),
 )
@@ -191,11 +191,13 @@ pub record AnswersBefore (input rest : List ℕ) (session : Session) (before aft
   pub written : Leaves before after (transcript answers) held
 
 -- the rest begins with a line
-line_ahead : (input rest line next : List ℕ) (earlier : List (List ℕ)) → lines_of input ≡ earlier ++ lines_of rest
+lines_of-line_ahead : (input rest line next : List ℕ) (earlier : List (List ℕ))
+    → lines_of input ≡ earlier ++ lines_of rest
     → 0 < length rest
     → line ≡ before_first is_line_feed rest → next ≡ after_first is_line_feed rest
     → lines_of input ≡ earlier ++ line ∷ lines_of next
-line_ahead input rest line next earlier cut some l n = rw (l, n) (cut ∙ ap (λ ls. earlier ++ ls) (first_line rest some))
+lines_of-line_ahead input rest line next earlier cut some l n =
+    rw (l, n) (cut ∙ ap (λ ls. earlier ++ ls) (lines_of-first rest some))
 
 -- What is known of the line ahead.
 pub record LineAhead (input rest line next : List ℕ) (session : Session) (a b : Option (List ℕ)) (held : List ℕ)
@@ -220,7 +222,8 @@ pub answers_line : (input rest line next : List ℕ) (session after : Session) (
     → AnswersBefore input next after a c last
 answers_line input rest line next session after a b c held last answer ahead h w = record {
   earlier = ahead.so_far.earlier ++ line ∷ [];
-  lines = line_ahead input rest line next ahead.so_far.earlier ahead.so_far.lines ahead.some ahead.line_is ahead.next_is
+  lines = lines_of-line_ahead input rest line next ahead.so_far.earlier ahead.so_far.lines ahead.some ahead.line_is
+      ahead.next_is
       ∙ sym (append_assoc ahead.so_far.earlier (line ∷ []) (lines_of next));
   answers = ahead.so_far.answers ++ answer ∷ [];
   chain = chain-push fresh session after ahead.so_far.earlier ahead.so_far.answers line answer ahead.so_far.chain h;
@@ -265,7 +268,7 @@ to_unknown input rest line next session a b held ahead none = record {
   earlier = ahead.so_far.earlier;
   unknown = line;
   later = lines_of next;
-  lines = line_ahead input rest line next ahead.so_far.earlier ahead.so_far.lines ahead.some ahead.line_is
+  lines = lines_of-line_ahead input rest line next ahead.so_far.earlier ahead.so_far.lines ahead.some ahead.line_is
       ahead.next_is;
   no_command = none;
   answers = ahead.so_far.answers;

@@ -34,9 +34,9 @@ hexadecimal_digits (c ∷ cs) h = first (is_ascii_hexdigit c) refl (hexadecimal_
     first true e more = (hexadecimal_digit c e, more (search (rules, h, e)))
     first false e more = absurd (search (rules, h, e))
 
-no_plus : (word : List ℕ) → list_all is_ascii_hexdigit word ≡ true → without_leading_plus word ≡ word
-no_plus [] h = refl
-no_plus (c ∷ cs) h = search (rules, h)
+without_leading_plus-none : (word : List ℕ) → list_all is_ascii_hexdigit word ≡ true → without_leading_plus word ≡ word
+without_leading_plus-none [] h = refl
+without_leading_plus-none (c ∷ cs) h = search (rules, h)
 
 -- the same of hexadecimal digits
 pub hexadecimal_from_parse : {E : Type 0} → (word : List ℕ) (r : Result ℕ E) → ParsesUnsigned 32 16 word r
@@ -44,9 +44,9 @@ pub hexadecimal_from_parse : {E : Type 0} → (word : List ℕ) (r : Result ℕ 
     → SomeIff (result_ok r) (IsHexadecimal word × (hexadecimal_value word < 2 ^ 32)) (hexadecimal_value word)
 hexadecimal_from_parse {E} word (Ok n) h p =
     let q = subst (λ t. OkIff {E = E} (Ok n) (IsNumeral 16 t × (digits_value 16 t < 2 ^ 32)) (digits_value 16 t))
-    (no_plus word p) h in
+    (without_leading_plus-none word p) h in
     (((q.0.0.0, p), q.0.1), q.1)
 hexadecimal_from_parse {E} word (Err e) h p =
     let q = subst (λ t. OkIff {E = E} (Err e) (IsNumeral 16 t × (digits_value 16 t < 2 ^ 32)) (digits_value 16 t))
-    (no_plus word p) h in
+    (without_leading_plus-none word p) h in
     λ d. q ((d.0.0, hexadecimal_digits word p), d.1)

@@ -20,7 +20,7 @@ use Rattle.shaping_buffer.specs.declared.cluster_level.BufferClusterLevel.{Buffe
 use Rattle.shaping_buffer.specs.State.{State, empty_state, len, lookahead_len}
 use Rattle.shaping_buffer.specs.Step.{Outcome, clear_output, settled, sync}
 use Rattle.shaping_buffer.specs.ClusterStep.{any_order, both}
-use Rattle.shaping_buffer.proofs.ReplacementLemmas.{front_merged, front_replaced, replaced_done}
+use Rattle.shaping_buffer.proofs.ReplacementLemmas.{front_merged, front_replaced, replace_glyphs-done}
 use Rattle.shaping_runs.specs.declared.call.Call.TheVariants.{ClearOutput, ReplaceGlyphs, Sync}
 use Rattle.shaping_runs.specs.declared.call.Answer.{Answer}
 use Rattle.shaping_runs.specs.declared.call.Answer.TheVariants.{Done, Refused}
@@ -102,9 +102,9 @@ text_ready level text f done = feature_ready 0 f _ (pushed_ready level text done
 abbrev IsOpen : State → Type 0
 IsOpen s = (s.have_output ≡ true) × (s.successful ≡ true) × (length s.out + length s.input ≤ s.max_len)
 
-opened_is : (s : State) → IsReady s
+turn-clear_output : (s : State) → IsReady s
     → turn ClearOutput s ≡ record { answer = Done; state = clear_output s }
-opened_is s ready = cond-true _ _ _ (not_from_false s.have_output ready.closed)
+turn-clear_output s ready = cond-true _ _ _ (not_from_false s.have_output ready.closed)
 
 -- the state after the copies were put out
 replaced_open : (ids : List ℕ) (s : State) → s.have_output ≡ true → s.successful ≡ true → s.out ≡ [] → length ids ≤ 1
@@ -146,7 +146,7 @@ ligated ids s ready =
     (λ may. let parts = and_parts (nat_lt t.idx (len t)) _ may in
     let two : 2 ≤ length s.input = omega (arith, leb-true 2 (lookahead_len t) (and_parts (nat_le 2 (lookahead_len t)) _ parts.1).0) in
     let one : length (take 1 ids.now) ≤ 1 = omega (arith, length-take 1 ids.now) in
-    let is = replaced_done 2 (take 1 ids.now) t refl (omega (arith, one, two, ready.fits)) in
+    let is = replace_glyphs-done 2 (take 1 ids.now) t refl (omega (arith, one, two, ready.fits)) in
     subst (λ (o : Outcome). GoesOn (record { answer = answer_of o.done; state = o.state })) (sym is)
     ((λ e. cc), replaced_open (take 1 ids.now) t refl ready.successful refl one two ready.fits))
     (λ _. ((λ e. cc), (refl, ready.successful, omega (arith, ready.fits))))
@@ -178,7 +178,7 @@ record Goes (ids : Bor (List ℕ)) (s : State) : Type 0 where
 
 goes : (ids : Bor (List ℕ)) (s : State) → IsReady s → Goes ids s
 goes ids s ready =
-    let is = opened_is s ready in
+    let is = turn-clear_output s ready in
     let state = ap (λ (t : Turn). t.state) is in
     let call = ReplaceGlyphs 2 1 ids in
     let made : GoesOn (turn call (turn ClearOutput s).state) =

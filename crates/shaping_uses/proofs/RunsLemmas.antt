@@ -22,8 +22,8 @@ calls_with ids = ClearOutput ∷ ReplaceGlyphs 2 1 ids ∷ Sync ∷ []
 
 -- ---- where they stop
 
-opened_is : (s : State) → s.have_output ≡ false → (turn ClearOutput s).state ≡ clear_output s
-opened_is s closed =
+state-clear_output : (s : State) → s.have_output ≡ false → (turn ClearOutput s).state ≡ clear_output s
+state-clear_output s closed =
     ap (λ (t : Turn). t.state) (cond-true (not s.have_output) _ _ (not_from_false s.have_output closed))
 
 opened_in_place : (s : State) → IsInPlace (clear_output s)
@@ -37,7 +37,7 @@ opened_never_stops calls s closed none zero before new answers stop =
     absurd (false≢true (sym closed ∙ ap (λ (t : State). t.have_output) (sym stop.state) ∙ stop.due.0.0))
 opened_never_stops calls s closed none (suc at) before new answers stop =
     let first = (turn ClearOutput s).state in
-    let here : IsInPlace first = subst IsInPlace (sym (opened_is s closed)) (opened_in_place s) in
+    let here : IsInPlace first = subst IsInPlace (sym (state-clear_output s closed)) (opened_in_place s) in
     never_stops calls first (stays_in_place calls first (none first) here) at [] new
     (answers_of (take at calls) first ++ drop at []) (record {
       within = omega (arith, stop.within);
@@ -48,14 +48,14 @@ opened_never_stops calls s closed none (suc at) before new answers stop =
 
 -- ---- a merge of the first two characters of a text
 
-pub merge_told : (s : State) → s.have_output ≡ false → 2 ≤ length s.input
+pub answers_of-merge : (s : State) → s.have_output ≡ false → 2 ≤ length s.input
     → answers_of (MergeClusters 0 2 ∷ []) s ≡ Done ∷ []
-merge_told s closed two =
+answers_of-merge s closed two =
     ap (λ (t : Turn). t.answer ∷ [])
     (cond-true (is_input_range 0 2 s) _ _ (rw (closed, le-leb 2 (length s.input) two) refl))
 
-pub merge_outside : (s : State) → s.have_output ≡ false → length s.input < 2
+pub answers_of-merge_outside : (s : State) → s.have_output ≡ false → length s.input < 2
     → answers_of (MergeClusters 0 2 ∷ []) s ≡ Outside ∷ []
-merge_outside s closed few =
+answers_of-merge_outside s closed few =
     ap (λ (t : Turn). t.answer ∷ [])
     (cond-false (is_input_range 0 2 s) _ _ (rw (closed, lt-leb 2 (length s.input) few) refl))

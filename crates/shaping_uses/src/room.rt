@@ -31,7 +31,7 @@ pub fn put_marks(buffer: &mut hb_buffer_t, mark: u32) -> Result<bool, AllocError
 
 /// The same where there is room for it: it asks for no memory. Requires that twice as many glyphs fit the room, and
 /// `max_len`.
-#[tactic(auto, using(crate::proofs::MarksLemmas::marks_of_one))]
+#[tactic(auto, using(crate::proofs::MarksLemmas::append_with_marks))]
 pub fn put_marks_within_room(buffer: &mut hb_buffer_t, mark: u32) -> Result<bool, AllocError>
     requires closed { buffer.old.have_output ≡ false }
     requires successful { buffer.old.successful ≡ true }

@@ -13,8 +13,8 @@ use Rattle.syllabic_shapers.specs.KeepsNumbers.{SameClusters}
 -- ---- the same clusters, place by place
 
 -- a list in its three parts
-in_parts : (a k : ℕ) (xs : List hb_glyph_info_t) → put_mid a k xs (mid_of a k xs) ≡ xs
-in_parts a k xs = ap (λ l. take a xs ++ l) (take-append-drop k (drop a xs)) ∙ take-append-drop a xs
+put_mid-mid_of : (a k : ℕ) (xs : List hb_glyph_info_t) → put_mid a k xs (mid_of a k xs) ≡ xs
+put_mid-mid_of a k xs = ap (λ l. take a xs ++ l) (take-append-drop k (drop a xs)) ∙ take-append-drop a xs
 
 clusters-put_mid : (a k : ℕ) (xs ys : List hb_glyph_info_t)
     → clusters (put_mid a k xs ys) ≡ clusters (take a xs) ++ (clusters ys ++ clusters (drop k (drop a xs)))
@@ -26,7 +26,7 @@ pub clusters_part : (a k : ℕ) (xs ys : List hb_glyph_info_t) → clusters ys �
     → clusters (put_mid a k xs ys) ≡ clusters xs
 clusters_part a k xs ys e =
     clusters-put_mid a k xs ys ∙ ap (λ cs. clusters (take a xs) ++ (cs ++ clusters (drop k (drop a xs)))) e
-    ∙ sym (clusters-put_mid a k xs (mid_of a k xs)) ∙ ap clusters (in_parts a k xs)
+    ∙ sym (clusters-put_mid a k xs (mid_of a k xs)) ∙ ap clusters (put_mid-mid_of a k xs)
 
 -- what search closes by
 pub ruleset same = (clusters_part, clusters_written)
@@ -54,7 +54,7 @@ pub same_part : (a k : ℕ) (xs ys : List hb_glyph_info_t) → SameClusters (mid
 same_part a k xs ys h =
     let rest = clusters (drop k (drop a xs)) in
     subst (λ cs. IsPermutation cs (clusters (put_mid a k xs ys)))
-    (sym (clusters-put_mid a k xs (mid_of a k xs)) ∙ ap clusters (in_parts a k xs))
+    (sym (clusters-put_mid a k xs (mid_of a k xs)) ∙ ap clusters (put_mid-mid_of a k xs))
     (subst (IsPermutation (clusters (take a xs) ++ (clusters (mid_of a k xs) ++ rest)))
     (sym (clusters-put_mid a k xs ys))
     (IsPermutation-append_right (clusters (take a xs)) (clusters (mid_of a k xs) ++ rest) (clusters ys ++ rest)

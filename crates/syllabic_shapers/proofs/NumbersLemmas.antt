@@ -77,9 +77,9 @@ numbers_alike s t level same =
     (sym (occurs-same c (both s) (both t) same) ∙ occurs-from_stands c (both s) w))
 
 -- what is written over a whole list
-refilled_same : (xs ws : List hb_glyph_info_t) → length ws ≡ length xs
+take-refilled : (xs ws : List hb_glyph_info_t) → length ws ≡ length xs
     → take (length xs) (ws ++ drop (length ws) xs) ≡ ws
-refilled_same xs ws same =
+take-refilled xs ws same =
     ap (λ (z : List hb_glyph_info_t). take (length xs) (ws ++ z)) (drop_all (length ws) xs (omega arith))
     ∙ ap (take (length xs)) (append-nil ws) ∙ take_all (length xs) ws (omega arith)
 
@@ -90,7 +90,7 @@ numbers_with_input s gs now was same =
     let here : SameClusters s.input gs = subst (λ l. SameClusters l gs) was same in
     let long : length gs ≡ length s.input =
     sym (length-clusters gs) ∙ length_permutation (clusters s.input) (clusters gs) here ∙ length-clusters s.input in
-    let is : (with_input s gs).input ≡ gs = refilled_same s.input gs long in
+    let is : (with_input s gs).input ≡ gs = take-refilled s.input gs long in
     numbers_alike s (with_input s gs) refl
     (subst (λ l. SameClusters (both s) (s.out ++ l)) (sym is)
     (subst (λ cs. IsPermutation cs (clusters (s.out ++ gs))) (sym (map-append (λ g. g.cluster) s.out s.input))
@@ -133,8 +133,8 @@ numbers_answer o s kept (Ok done) t m = subst (KeepsNumbers s) (sym m.1) kept
 numbers_answer o s kept (Err e) t m = subst (KeepsNumbers s) (sym m.2) (numbers_none s)
 
 -- what is read is put out
-level_next : (n : ℕ) (s : State) → (next_glyphs n s).state.cluster_level ≡ s.cluster_level
-level_next n s =
+cluster_level-next_glyphs : (n : ℕ) (s : State) → (next_glyphs n s).state.cluster_level ≡ s.cluster_level
+cluster_level-next_glyphs n s =
     cond_both s.have_output _ _ (λ (o : Outcome). o.state.cluster_level ≡ s.cluster_level)
     (λ _. cond_both (leb (length (s.out ++ take n s.input)) s.max_len) _ _
     (λ (o : Outcome). o.state.cluster_level ≡ s.cluster_level) (λ _. refl) (λ _. refl))
@@ -165,7 +165,7 @@ numbers_put_behind n g d done s t u r opened some here is read good put =
     let stood : Stands g.cluster (both t) =
     subst (Stands g.cluster) (sym same) (stands_right g.cluster s.out s.input (0, some, first)) in
     numbers_then s t u
-    (numbers_alike s t (ap (λ (x : State). x.cluster_level) read.1 ∙ level_next n s)
+    (numbers_alike s t (ap (λ (x : State). x.cluster_level) read.1 ∙ cluster_level-next_glyphs n s)
     (subst (SameClusters (both s)) (sym same) (IsPermutation-refl (clusters (both s)))))
     (numbers_answer (output_info g t) t
     (numbers_limited (length (t.out ++ g ∷ [])) t (record t { out = t.out ++ g ∷ [] }) (numbers_put g t stood)) r u

@@ -9,9 +9,9 @@ use Rattle.std.proofs.lemmas.Bool.{cases_lt, and_parts, and_from}
 use Rattle.std.proofs.lemmas.Bool.Decides.{nat_tests}
 use Rattle.rb_glyph.specs.Rows.{rise}
 
-or_none : {R : Type 0} (o : Option R) → option_or o None ≡ o
-or_none None = refl
-or_none (Some x) = refl
+option_or-none : {R : Type 0} (o : Option R) → option_or o None ≡ o
+option_or-none None = refl
+option_or-none (Some x) = refl
 
 module _ {R : Type 0} (key : R → ℕ) where
   abbrev up : R → R → Bool
@@ -88,7 +88,7 @@ module _ {R : Type 0} (key : R → ℕ) where
                 let other : (key row == c) ≡ false = grind (arith, nat_tests) in
                 let last : at c (row ∷ []) ≡ None = rw other refl in
                 find-append _ rows (row ∷ []) ∙ ap (option_or (at c rows)) last
-                ∙ or_none (at c rows) ∙ are.exact c is less
+                ∙ option_or-none (at c rows) ∙ are.exact c is less
             | inr from ↦
                 let same : c ≡ n = omega arith in
                 let this : (key row == c) ≡ true = grind (arith, nat_tests) in

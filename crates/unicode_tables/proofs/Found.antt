@@ -32,9 +32,9 @@ by_trees = (
   tree_value compositions_stepped.default (tree_of compositions compositions_stepped),
 )
 
-same_tables : by_rows ≡ by_trees
+by_rows-by_trees : by_rows ≡ by_trees
 unfolding by_trees
-same_tables =
+by_rows-by_trees =
     λ i. (
       tree_value-tree_of decomposition decomposition_stepped i,
       tree_value-tree_of compositions compositions_stepped i,
@@ -61,7 +61,7 @@ is_found t c entry = scalar c && same_string (listed (found t c)) (if_canonical 
 each_is_found : (c : ℕ) → is_empty (canonical_mapping c) ≡ false → is_found by_rows c (decomposition c) ≡ true
 unfolding by_trees
 each_is_found c some =
-    ap (λ t. is_found t c (decomposition c)) same_tables
+    ap (λ t. is_found t c (decomposition c)) by_rows-by_trees
     ∙ Stepped-at_points decomposition decomposition_stepped (λ e. is_empty (if_canonical e)) (is_found by_trees) refl
     c some
 
@@ -79,9 +79,9 @@ is_empty-true : (s : List ℕ) → is_empty s ≡ true → s ≡ []
 is_empty-true [] h = refl
 is_empty-true (x ∷ xs) h = cc
 
-found_empty : (c : ℕ) (all : List ℕ) → all ≡ [] → step_of (joins by_rows) (full by_rows) c all ≡ None
+step_of-empty : (c : ℕ) (all : List ℕ) → all ≡ [] → step_of (joins by_rows) (full by_rows) c all ≡ None
 unfolding step_of
-found_empty c all none = rw none refl
+step_of-empty c all none = rw none refl
 
 -- a character with a mapping is a scalar value
 pub scalar_if_mapped : (c : ℕ) → is_empty (canonical_mapping c) ≡ false → scalar c ≡ true
@@ -92,7 +92,7 @@ found_by_rows c =
     elim (cases_Bool (is_empty (canonical_mapping c))) [
       | inl none ↦
           let empty = is_empty-true (canonical_mapping c) none in
-          found_empty c (full by_rows c) (full_empty c empty) ∙ ap parts_of (sym empty)
+          step_of-empty c (full by_rows c) (full_empty c empty) ∙ ap parts_of (sym empty)
       | inr some ↦
           sym (parts_of-listed (found by_rows c))
           ∙ ap parts_of (same_string-true _ _ (and_parts (scalar c) _ (each_is_found c some)).1)

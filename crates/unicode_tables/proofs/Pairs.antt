@@ -90,9 +90,9 @@ is_eq_itself : (x : ℕ × ℕ) → is_eq (pair_cmp x x) ≡ true
 is_eq_itself x = grind (arith, nat_tests)
 
 -- what the map has at a pair after the pair of n was put in
-pub put : (n a b : ℕ) (x : ℕ × ℕ) (old : Option ℕ) → pair_of n ≡ Some x → old ≡ below n (composite a b)
+pub cond-below : (n a b : ℕ) (x : ℕ × ℕ) (old : Option ℕ) → pair_of n ≡ Some x → old ≡ below n (composite a b)
     → cond (is_eq (pair_cmp x (a, b))) (Some n) old ≡ below (n + 1) (composite a b)
-put n a b x old is was =
+cond-below n a b x old is was =
     elim (cases_Bool (is_eq (pair_cmp x (a, b)))) [
       | inl here ↦
           let this = composite_of_pair a b n (is ∙ ap Some (is_eq_pair x (a, b) here)) in
@@ -108,8 +108,8 @@ put n a b x old is was =
     ]
 
 -- nothing is put in where n has no pair
-pub kept : (n a b : ℕ) → pair_of n ≡ None → below (n + 1) (composite a b) ≡ below n (composite a b)
-kept n a b none =
+pub below_next_kept : (n a b : ℕ) → pair_of n ≡ None → below (n + 1) (composite a b) ≡ below n (composite a b)
+below_next_kept n a b none =
     below_kept n (composite a b)
     (λ h. let clash : Some (a, b) ≡ None = sym (pair_of_composite a b n h) ∙ none in cc)
 
@@ -117,8 +117,8 @@ kept n a b none =
 composite_scalar : (a b p : ℕ) → composite a b ≡ Some p → scalar p ≡ true
 composite_scalar a b p h = scalar_if_mapped p (ap is_empty (composite-IsCompositeOf a b p h).mapping)
 
-pub kept_apart : (n a b : ℕ) → (scalar n ≡ true → ⊥) → below (n + 1) (composite a b) ≡ below n (composite a b)
-kept_apart n a b none = below_kept n (composite a b) (λ h. none (composite_scalar a b n h))
+pub below-kept_apart : (n a b : ℕ) → (scalar n ≡ true → ⊥) → below (n + 1) (composite a b) ≡ below n (composite a b)
+below-kept_apart n a b none = below_kept n (composite a b) (λ h. none (composite_scalar a b n h))
 
 scalar_low : (p : ℕ) → scalar p ≡ true → p < 0x11_0000
 scalar_low p h = elim (scalar_cases p h) [ inl low ↦ omega arith | inr high ↦ omega arith ]
@@ -134,22 +134,22 @@ all_below a b = below_all (composite a b) (λ p h. scalar_low p (composite_scala
 
 -- ---- the entries as rows
 
-entry_test : (a b : ℕ) (key : ℕ × ℕ) → is_eq (pair_cmp (a, b) key) ≡ (key.0 == a && key.1 == b)
-entry_test a b key = grind (arith, nat_tests)
+is_eq-pair_cmp : (a b : ℕ) (key : ℕ × ℕ) → is_eq (pair_cmp (a, b) key) ≡ (key.0 == a && key.1 == b)
+is_eq-pair_cmp a b key = grind (arith, nat_tests)
 
-value_if : (t : Bool) (row : (ℕ × ℕ) × ℕ) (rows : List ((ℕ × ℕ) × ℕ)) (a b : ℕ)
+cond-some : (t : Bool) (row : (ℕ × ℕ) × ℕ) (rows : List ((ℕ × ℕ) × ℕ)) (a b : ℕ)
     → cond t (Some row.1) (composition_of a b rows)
     ≡ option_map (λ r. r.1) (cond t (Some row) (find (λ r. r.0.0 == a && r.0.1 == b) rows))
-value_if true row rows a b = refl
-value_if false row rows a b = refl
+cond-some true row rows a b = refl
+cond-some false row rows a b = refl
 
-pub found_in_entries : (a b : ℕ) (rows : List ((ℕ × ℕ) × ℕ))
+pub composition_of-lookup : (a b : ℕ) (rows : List ((ℕ × ℕ) × ℕ))
     → composition_of a b rows ≡ lookup (is_at (pair_cmp (a, b))) rows
-found_in_entries a b [] = refl
-found_in_entries a b (row ∷ rows) =
-    sym (value_if (row.0.0 == a && row.0.1 == b) row rows a b)
-    ∙ ap (λ t. cond t (Some row.1) (composition_of a b rows)) (sym (entry_test a b row.0))
-    ∙ ap (λ o. cond (is_eq (pair_cmp (a, b) row.0)) (Some row.1) o) (found_in_entries a b rows)
+composition_of-lookup a b [] = refl
+composition_of-lookup a b (row ∷ rows) =
+    sym (cond-some (row.0.0 == a && row.0.1 == b) row rows a b)
+    ∙ ap (λ t. cond t (Some row.1) (composition_of a b rows)) (sym (is_eq-pair_cmp a b row.0))
+    ∙ ap (λ o. cond (is_eq (pair_cmp (a, b) row.0)) (Some row.1) o) (composition_of-lookup a b rows)
 
 less_pair : (x y : ℕ × ℕ) → pair_cmp x y ≡ Less → pair_lt x y ≡ true
 less_pair x y h = grind (arith, nat_tests, h)
@@ -172,7 +172,7 @@ first_found (row ∷ rows) some =
         row.0.1,
         (
           row.1,
-          sym (value_if (row.0.0 == row.0.0 && row.0.1 == row.0.1) row rows row.0.0 row.0.1)
+          sym (cond-some (row.0.0 == row.0.0 && row.0.1 == row.0.1) row rows row.0.0 row.0.1)
               ∙ cond-true _ _ _ here,
         ),
       ),

@@ -1,8 +1,10 @@
-use Rattle.font_tables.proofs.ChunkLemmas.{chunk_count, row_16}
+use Rattle.font_tables.proofs.ChunkLemmas.{chunk_count, number_16-row}
 use Rattle.std.proofs.Common.{arith, ◌∙◌, refl}
 use Rattle.font_tables.proofs.coverage.listed_at.Goals as goal
 
 pub returns : goal.returns
 returns c =
     let many = chunk_count 4 2 _ c.args.table.now _ c.tail.ensures c.as_chunks.ensures.front_len in
-    c.u16_at.ensures ∙ row_16 4 2 c.args.row 0 4 c.args.table.now _ _ _ c.tail.ensures c.as_chunks.ensures.front (omega (arith, many)) (omega arith) (omega arith) refl
+    c.u16_at.ensures
+    ∙ number_16-row 4 2 c.args.row 0 4 c.args.table.now _ _ _ c.tail.ensures c.as_chunks.ensures.front
+    (omega (arith, many)) (omega arith) (omega arith) refl

@@ -1,5 +1,5 @@
 use Rattle.std.proofs.Common.{◌≡◌, ◌+◌, ◌-◌, ◌∙◌, sym, length, arith, rules}
-use Rattle.glyph_layout.proofs.MatchLemmas.{hidden_mark}
+use Rattle.glyph_layout.proofs.MatchLemmas.{is_hidden_before-mark}
 use Rattle.glyph_layout.proofs.matching.may_leave_ligature.Goals as goal
 
 pub loop-turn-preserved : goal.loop-turn-preserved
@@ -8,6 +8,6 @@ loop-turn-preserved c =
     let e : n - c.loop-turn.turn ≡ n - (c.loop-turn.turn + 1) + 1 = omega arith in
     let same = sym c.ligature_id.ensures ∙ c.if-ligature_id-id.false ∙ c.ligature_id-id.ensures in (
       search rules,
-      c.loop-turn.invariant.1 ∙ hidden_mark _ _ _ _ _ e same
+      c.loop-turn.invariant.1 ∙ is_hidden_before-mark _ _ _ _ _ e same
           (λ is. c.if-ligature_component-eq0-2.false (c.ligature_component-in-loop-turn.ensures ∙ is)),
     )

@@ -1,5 +1,5 @@
 use Rattle.std.proofs.Common.{rules}
-use Rattle.glyph_lists.proofs.ContextLemmas.{read_back, read_all, none_back}
+use Rattle.glyph_lists.proofs.ContextLemmas.{read_back, read_all, reverse-no_chars}
 use Rattle.glyph_lists.proofs.context.keep_before.Goals as goal
 
 pub loop-c-preserved : goal.loop-c-preserved
@@ -12,4 +12,4 @@ loop-c-preserved c =
     )
 
 pub returns : goal.returns
-returns c = read_all c.loop-c.invariant.2 (λ more. none_back _ (c.in-None.ensures.steps more).0)
+returns c = read_all c.loop-c.invariant.2 (λ more. reverse-no_chars _ (c.in-None.ensures.steps more).0)

@@ -5,7 +5,7 @@ use Rattle.rb_glyph.specs.declared.info.hb_glyph_info_t.{hb_glyph_info_t}
 use Rattle.rb_glyph.specs.declared.position.GlyphPosition.{GlyphPosition}
 use Rattle.glyph_text.specs.Text.{Font, bar_before, glyphs_text, x_advances, y_advances, name_text, cluster_text}
 use Rattle.glyph_text.specs.Text.{position_text, flags_text, extents_text, said_of}
-use Rattle.glyph_text.proofs.TextLemmas.{no_glyph, no_position, text_more, pieces_more, position_same}
+use Rattle.glyph_text.proofs.TextLemmas.{no_glyph, no_position, glyphs_text-more, pieces_more, position_text-same}
 use Rattle.glyph_text.proofs.serialize.write_glyphs.Goals as goal
 
 pub loop-i-preserved : goal.loop-i-preserved
@@ -31,8 +31,9 @@ loop-i-preserved g c =
           ∙ ap (λ t. (glyphs_text font flags (take i (zip infos positions)) ++ bar_before i)
           ++ (name_text flags (said_of font.name info.glyph_id) info.glyph_id ++ cluster_text flags info.cluster ++ t
           ++ flags_text flags info.mask ++ extents_text flags (said_of font.extents info.glyph_id)))
-          (position_same flags place.x place.y (x_advances earlier) (y_advances earlier) position old.x old.y)
-          ∙ sym (text_more font flags infos positions i no_glyph no_position c.loop-i-test.true c.requires.as_many);
+          (position_text-same flags place.x place.y (x_advances earlier) (y_advances earlier) position old.x old.y)
+          ∙ sym (glyphs_text-more font flags infos positions i no_glyph no_position c.loop-i-test.true
+          c.requires.as_many);
       x = λ h. moved.x h ∙ ap (λ x. x +ℤ position.x_advance) (old.x h)
           ∙ sym (fold_more (λ sum p. sum +ℤ p.x_advance) (pos 0) positions i no_position
           (omega (arith, c.requires.as_many)));

@@ -8,8 +8,9 @@ use Rattle.std.specs.List.{list_all}
 use Rattle.rb_glyph.specs.Rows.{rise}
 use Rattle.shaping_buffer.specs.Positions.{zero_position}
 use Rattle.shaping_passes.specs.Lines.{may_end, width_of, line_ends}
-use Rattle.shaping_passes.proofs.LinesLemmas.{lines_may_end, lines_rise, width-more, one_more, none_ends}
-use Rattle.shaping_passes.proofs.LinesLemmas.{none_left, ends_left, Joined, joined_next, joined_on, line_sum, moved, stands}
+use Rattle.shaping_passes.proofs.LinesLemmas.{lines_may_end, lines_rise, width_of-more, one_more, none_ends}
+use Rattle.shaping_passes.proofs.LinesLemmas.{ends_left-none, ends_left, Joined, joined_next, joined_on, line_sum}
+use Rattle.shaping_passes.proofs.LinesLemmas.{moved, stands}
 use Rattle.shaping_passes.proofs.LinesLemmas.{OneMore, sum-fits}
 use Rattle.shaping_passes.proofs.lines.line_ends.Goals as goal
 use Rattle.shaping_passes.proofs.lines.line_ends.Goals.{then-start-end-2+in_ok-push-2, else-start-end-2}
@@ -24,7 +25,7 @@ loop-place-preserved-then-not-may_end c =
     let inv = c.loop-place.invariant in
     let xa = (get_or ps k zero_position).x_advance in
     let f : FitsSigned w32 xa = search rules in
-    let more = width-more ps c.loop-place.end k inv.behind c.loop-place-test.true in
+    let more = width_of-more ps c.loop-place.end k inv.behind c.loop-place-test.true in
     let one = one_more (to_z w128 c.loop-place.piece-bits) c.from-piece.result xa (k - c.loop-place.end)
     (record { sfits = c.from-piece.type_inv }) f c.from-piece.ensures inv.piece_bound (omega arith) in
     record {
@@ -60,7 +61,7 @@ module _ (c : goal.Joined-start-end) where
   piece : p ≡ width_of c.args.positions.now c.loop-place.end (k + 1)
   piece =
       one.is ∙ ap (λ z. z +ℤ (get_or c.args.positions.now k zero_position).x_advance) c.loop-place.invariant.piece
-      ∙ sym (width-more c.args.positions.now c.loop-place.end k c.loop-place.invariant.behind c.loop-place-test.true)
+      ∙ sym (width_of-more c.args.positions.now c.loop-place.end k c.loop-place.invariant.behind c.loop-place-test.true)
 
   small : nat_abs p ≤ (k + 1 - c.loop-place.end) * 2 ^ 31
   small = omega (arith, one.bound, c.loop-place.invariant.behind)
@@ -137,7 +138,7 @@ exact c =
     let ws = c.loop-place.widths.now in
     let last : length l ≡ c.loop-place.place = omega arith in
     let left : ends ++ cond (ltb start end) (end ∷ []) [] ≡ line_ends l ps c.args.widths.now =
-    ap (λ x. ends ++ x) (sym (none_left l ps ws start end)
+    ap (λ x. ends ++ x) (sym (ends_left-none l ps ws start end)
     ∙ ap (λ n. ends_left l ps ws start end n) last) ∙ c.loop-place.invariant.whole in
     elim c.if-start-end-2.branch [
       | then-start-end-2+in_ok-push-2 w ↦ ap (λ v. v.items) w.ends-is ∙ w.in_ok-push-2.ensures.items

@@ -7,7 +7,8 @@ use Rattle.rb_glyph.proofs.RisingRows.{pair_cmp}
 use Rattle.ucd_normal.specs.Composition.{composite}
 use Rattle.unicode_tables.specs.Rows.{pair_of, HasCompositions}
 use Rattle.unicode_tables.proofs.Below.{on_err}
-use Rattle.unicode_tables.proofs.Pairs.{put, kept, kept_apart, below, all_below, found_in_entries, entries_rise, first_found}
+use Rattle.unicode_tables.proofs.Pairs.{cond-below, below_next_kept, below-kept_apart, below, all_below}
+use Rattle.unicode_tables.proofs.Pairs.{composition_of-lookup, entries_rise, first_found}
 use Rattle.unicode_tables.proofs.Pairs.{some_below}
 use Rattle.unicode_tables.proofs.rows.compositions.Goals as goal
 use Rattle.unicode_tables.proofs.rows.compositions.Goals.{in-Some+in-Some-pair_of+in_ok-insert}
@@ -27,13 +28,14 @@ loop-code-preserved c =
           w.in_ok-insert.ensures.updates.0 (a, b) in
           ap (λ m. tree.get pair_cmp m (a, b)) w.pairs-is ∙ now
           ∙ ap (λ v. cond (is_eq (pair_cmp pair (a, b))) (Some v) old) w.in-Some.ensures.value.1
-          ∙ put n a b pair old is (c.loop-code.invariant a b)
+          ∙ cond-below n a b pair old is (c.loop-code.invariant a b)
       | in-Some+in_default-pair_of w ↦
           let none = sym (w.in_default-pair_of.ensures ∙ ap pair_of w.in-Some.ensures.value.1) in
-          λ a b. ap (λ m. tree.get pair_cmp m (a, b)) w.pairs-is ∙ c.loop-code.invariant a b ∙ sym (kept n a b none)
+          λ a b. ap (λ m. tree.get pair_cmp m (a, b)) w.pairs-is ∙ c.loop-code.invariant a b
+          ∙ sym (below_next_kept n a b none)
       | in_default w ↦
           λ a b. ap (λ m. tree.get pair_cmp m (a, b)) w.pairs-is ∙ c.loop-code.invariant a b
-          ∙ sym (kept_apart n a b w.in_default.ensures.value)
+          ∙ sym (below-kept_apart n a b w.in_default.ensures.value)
     ]
 
 pub returns-clause-rises : goal.returns-clause-rises
@@ -43,7 +45,7 @@ returns-clause-rises c =
 pub returns-clause-exact : goal.returns-clause-exact
 returns-clause-exact c =
     let all : c.loop-code.code ≡ 0x11_0000 = omega arith in
-    λ a b. ap (composition_of a b) c.in_ok-rows.ensures.items ∙ found_in_entries a b c.loop-code.pairs.entries
+    λ a b. ap (composition_of a b) c.in_ok-rows.ensures.items ∙ composition_of-lookup a b c.loop-code.pairs.entries
     ∙ c.loop-code.invariant a b ∙ ap (λ n. below n (composite a b)) all ∙ all_below a b
 
 pub returns-in_err-rows-clause-memory : goal.returns-in_err-rows-clause-memory
@@ -55,7 +57,7 @@ returns-in_err-rows-clause-memory c =
         first.1.0,
         some_below c.loop-code.code (composite first.0 first.1.0) first.1.1.0
             (sym (c.loop-code.invariant first.0 first.1.0)
-            ∙ sym (found_in_entries first.0 first.1.0 c.loop-code.pairs.entries) ∙ first.1.1.1),
+            ∙ sym (composition_of-lookup first.0 first.1.0 c.loop-code.pairs.entries) ∙ first.1.1.1),
       ),
     ) in
     on_err c.from_residual-in_err-rows.result HasCompositions row

@@ -4,7 +4,7 @@ use Rattle.std.specs.Float.{float_zero}
 use Rattle.std.specs.Float.Ieee.{eq}
 use Rattle.font_variations.specs.Regions.{factor, has_zero}
 use Rattle.font_variations.proofs.FloatLemmas.{of_bits_zero}
-use Rattle.font_variations.proofs.RegionLemmas.{has_zero_from, region_nothing}
+use Rattle.font_variations.proofs.RegionLemmas.{has_zero_from, region_scalar-nothing}
 use Rattle.font_variations.proofs.regions.RegionList.scalar.Goals as goal
 
 pub returns-then-factor : goal.returns-then-factor
@@ -16,4 +16,4 @@ returns-then-factor c =
     let zero = of_bits_zero 0 refl in
     let nothing : eq (f axis) float_zero ≡ true = rw zero at (rw c.factor-factor.ensures at c.if-factor.true) in
     let stays : has_zero f c.unwrap_or-axes.result ≡ true = has_zero_from f c.unwrap_or-axes.result axis below nothing in
-    rw zero (sym (region_nothing list c.args.region c.args.coordinates.now (grind (arith, common_steps))))
+    rw zero (sym (region_scalar-nothing list c.args.region c.args.coordinates.now (grind (arith, common_steps))))

@@ -3,7 +3,7 @@ use Rattle.std.proofs.lemmas.Grind.{common_steps}
 use Rattle.glyph_lists.specs.ClusterOrder.{is_any}
 use Rattle.glyph_lists.proofs.LengthsLemmas.{length-merge_or_mark}
 use Rattle.glyph_sides.specs.TwoLists.{TwoLists}
-use Rattle.glyph_sides.proofs.MergingLemmas.{closed_merge}
+use Rattle.glyph_sides.proofs.MergingLemmas.{input-closed_merge}
 use Rattle.glyph_sides.proofs.sides.Sides.merge_input.Goals as goal
 
 -- no output is open
@@ -13,7 +13,7 @@ returns-then-not-self-clause-is c =
     let s = a.self.now in
     let closed : s.is_open ≡ false = grind (arith, common_steps) in
     let none : s.out ≡ [] = grind (arith, common_steps) in
-    c.merge_list.ensures ∙ closed_merge (is_any a.order) a.start a.end s closed none
+    c.merge_list.ensures ∙ input-closed_merge (is_any a.order) a.start a.end s closed none
 
 pub returns-then-not-self-clause-input_len : goal.returns-then-not-self-clause-input_len
 returns-then-not-self-clause-input_len c =

@@ -1,8 +1,8 @@
 use Rattle.std.proofs.Common.{◌≡◌, ◌≤◌, ◌∙◌, length, refl, arith}
 use Rattle.std.proofs.lemmas.Grind.{common_steps}
 use Rattle.glyph_sides.specs.IsStored.{placed}
-use Rattle.glyph_sides.proofs.Views.{placed_within, none_placed}
-use Rattle.glyph_sides.proofs.FrontLemmas.{front_written, front_input, length_placed}
+use Rattle.glyph_sides.proofs.Views.{placed_within, sub-none_placed}
+use Rattle.glyph_sides.proofs.FrontLemmas.{front_written, if-with_front, length_placed}
 use Rattle.glyph_sides.proofs.sides.Sides.out_mut.Goals as goal
 
 pub returns : goal.returns
@@ -16,7 +16,8 @@ returns c =
         λ w.
             let written = front_written b.info (placed b) w within in
             let rest =
-            front_input b.is_open b.info (placed b) b.cursor w within near (none_placed b.is_open b.cursor b.gap) in
+            if-with_front b.is_open b.info (placed b) b.cursor w within near
+            (sub-none_placed b.is_open b.cursor b.gap) in
             rw (← c.self.view_is) (rw all (grind (arith, written, rest))),
       ),
       record { writes_back = tt; value = grind (arith, common_steps) },

@@ -1,6 +1,6 @@
 use Rattle.std.proofs.Common.{refl}
 use Rattle.layout_plan.specs.Requests.{requested}
-use Rattle.layout_plan.proofs.OrderLemmas.{asked_there, asked_new}
+use Rattle.layout_plan.proofs.OrderLemmas.{set-asked, asked_new}
 use Rattle.layout_plan.proofs.builder.PlanBuilder.add_feature.Goals as goal
 
 pub returns-in-Ok-clause-asked : goal.returns-in-Ok-clause-asked
@@ -8,7 +8,7 @@ unfolding requested
 returns-in-Ok-clause-asked c = λ some ordered.
     let place = rw c.as_slice.ensures.value at c.in-Ok.ensures.found in
     let same = rw c.len.ensures at c.new-request.ensures in
-    asked_there _ _ _ _ _ _ c.args.tag.0 ordered place c.index_mut-before.ensures.value c.merge.ensures same refl
+    set-asked _ _ _ _ _ _ c.args.tag.0 ordered place c.index_mut-before.ensures.value c.merge.ensures same refl
 
 pub returns-in_ok-insert-in-Err-clause-asked : goal.returns-in_ok-insert-in-Err-clause-asked
 unfolding requested

@@ -2,7 +2,7 @@ use Rattle.std.proofs.Common.{◌≡◌, ◌+◌, ◌≤◌, true, Ok, length, t
 use Rattle.std.proofs.lemmas.Grind.{common_steps}
 use Rattle.std.proofs.lemmas.List.{length-take-le}
 use Rattle.shaping_buffer.proofs.KeepsLemmas.{ordered_replacement, kept_replacement, left_some, left_within}
-use Rattle.shaping_buffer.proofs.ReplacementLemmas.{replaced_done}
+use Rattle.shaping_buffer.proofs.ReplacementLemmas.{replace_glyphs-done}
 use Rattle.shaping_buffer.proofs.buffer.hb_buffer_t.replace_glyphs.Goals as goal
 
 pub returns-then-replace_kept : goal.returns-then-replace_kept
@@ -15,11 +15,11 @@ returns-then-replace_kept c =
     let within = left_within a.num_in s c.requires.opened c.requires.within in
     let size : length ids ≡ a.num_out = length-take-le a.num_out a.glyph_data.now c.requires.ids in
     record {
-      meets = rw (replaced_done a.num_in ids s c.requires.opened fits) (refl, grind (arith, common_steps));
+      meets = rw (replace_glyphs-done a.num_in ids s c.requires.opened fits) (refl, grind (arith, common_steps));
       keeps_order = ordered_replacement s (Ok true) _ a.num_in ids c.requires.opened some within
-          (rw (replaced_done a.num_in ids s c.requires.opened fits) (refl, grind (arith, common_steps)));
+          (rw (replace_glyphs-done a.num_in ids s c.requires.opened fits) (refl, grind (arith, common_steps)));
       keeps = λ with_some. kept_replacement s (Ok true) _ a.num_in ids c.requires.opened some within
-          (rw (replaced_done a.num_in ids s c.requires.opened fits) (refl, grind (arith, common_steps)))
+          (rw (replace_glyphs-done a.num_in ids s c.requires.opened fits) (refl, grind (arith, common_steps)))
           (omega arith);
       in_place = λ together fewer. refl;
     }

@@ -5,7 +5,8 @@ use Rattle.glyph_lists.specs.Groups as groups_of
 use Rattle.shaping_buffer.specs.State.{State}
 use Rattle.shaping_buffer.specs.KeepsClusters.{KeepsClusters}
 use Rattle.shaping_buffer.specs.GroupStep.{KeepsOthers, reverse, reverse_group}
-use Rattle.shaping_buffer.proofs.GroupStepLemmas.{reverse_each, each_done, each_turn, each_then_all}
+use Rattle.shaping_buffer.proofs.GroupStepLemmas.{reverse_each, reverse_each-done, reverse_each-turn}
+use Rattle.shaping_buffer.proofs.GroupStepLemmas.{reverse-reverse_each}
 use Rattle.shaping_buffer.proofs.GroupStepLemmas.{group_keeps, keeps_then as others_then, length_group}
 use Rattle.shaping_buffer.proofs.GroupKeepsLemmas.{keeps_group, shared_each}
 use Rattle.shaping_buffer.proofs.KeepsLemmas.{keeps_then, keeps_then_turns, kept_as}
@@ -42,7 +43,7 @@ loop-start-preserved g c =
       inv.5,
       λ test by.
           ap (reverse_each merges test (inv.0 - 1) end) new
-          ∙ each_turn merges test inv.0 (inv.0 - 1) start end s within fewer
+          ∙ reverse_each-turn merges test inv.0 (inv.0 - 1) start end s within fewer
           (c.group_end-end.ensures.is test by ∙ ap (groups_of.group_end test start) list)
           ∙ inv.6 test by,
       λ e. keeps_then c.args.self.now s c.reverse_group.new.self (inv.7 e)
@@ -55,9 +56,10 @@ pub returns-clause-is : goal.returns-clause-is
 returns-clause-is g c = λ test by.
     let inv = c.loop-start.invariant in
     c.reverse.ensures.is
-    ∙ ap reverse (sym (each_done c.args.merge_clusters test inv.0 c.loop-start.start c.loop-start.self (omega arith))
+    ∙ ap reverse
+    (sym (reverse_each-done c.args.merge_clusters test inv.0 c.loop-start.start c.loop-start.self (omega arith))
     ∙ inv.6 test by)
-    ∙ each_then_all c.args.merge_clusters test c.args.self.now inv.5
+    ∙ reverse-reverse_each c.args.merge_clusters test c.args.self.now inv.5
 
 pub returns-clause-merging_turns : goal.returns-clause-merging_turns
 returns-clause-merging_turns g c = λ e.
@@ -69,7 +71,7 @@ returns-clause-turns g c = λ test by share.
     let inv = c.loop-start.invariant in
     let none : c.args.self.now.out ≡ [] = grind (arith, common_steps) in
     let each : c.loop-start.self ≡ reverse_each c.args.merge_clusters test (length c.args.self.now.input) 0 c.args.self.now =
-    sym (each_done c.args.merge_clusters test inv.0 c.loop-start.start c.loop-start.self (omega arith))
+    sym (reverse_each-done c.args.merge_clusters test inv.0 c.loop-start.start c.loop-start.self (omega arith))
     ∙ inv.6 test by in
     let kept : KeepsClusters c.args.self.now c.loop-start.self = elim (cases_Bool c.args.merge_clusters) [
       | inl merges ↦ inv.7 merges

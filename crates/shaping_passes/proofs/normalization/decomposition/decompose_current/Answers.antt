@@ -5,8 +5,9 @@ use Rattle.glyph_lists.specs.Replacement.{copies}
 use Rattle.shaping_buffer.specs.ClusterStep.{head_of}
 use Rattle.shaping_buffer.specs.Step.{Outcome, Meets, put_out, skip_glyph, replace_glyphs}
 use Rattle.shaping_passes.specs.NormalizationDecomposition.{decomposition_with, parts_with, most_steps}
-use Rattle.shaping_passes.proofs.NormalizationDecompositionLemmas.{stays_whole, keeps_whole, gives_way, next_one}
-use Rattle.shaping_passes.proofs.NormalizationDecompositionLemmas.{replaced_one, left, head_is}
+use Rattle.shaping_passes.proofs.NormalizationDecompositionLemmas.{stays_whole, keeps_whole, gives_way}
+use Rattle.shaping_passes.proofs.NormalizationDecompositionLemmas.{next_glyph-put_out}
+use Rattle.shaping_passes.proofs.NormalizationDecompositionLemmas.{replace_glyphs-one, left, head_is}
 use Rattle.shaping_passes.proofs.normalization.decomposition.decompose_current.Goals as goal
 
 pub returns-then-stays : goal.returns-then-stays
@@ -19,7 +20,7 @@ returns-then-stays g c =
     ap (λ g. font.fewest && font.has g.glyph_id) (sym head) ∙ sym c.stays.ensures ∙ c.if-stays.true in
     let P : Outcome → Type 0 = λ o. Meets o s c.next_glyph.result c.next_glyph.new.self in
     subst P
-    (next_one s c.requires.opened (left s c.requires.opened c.requires.some)
+    (next_glyph-put_out s c.requires.opened (left s c.requires.opened c.requires.some)
     ∙ ap (λ ids. put_out (copies (head_of s) ids) s (skip_glyph s)) (sym (stays_whole font id stays)))
     c.next_glyph.ensures.meets
 
@@ -42,7 +43,7 @@ returns-then-add_font_parts g c =
     let P : Outcome → Type 0 = λ o. Meets o s c.replace_glyphs.result c.replace_glyphs.new.self in
     subst P
     (ap (λ l. replace_glyphs 1 l s) ids
-    ∙ replaced_one (decomposition_with font id) s c.requires.opened (left s c.requires.opened c.requires.some))
+    ∙ replace_glyphs-one (decomposition_with font id) s c.requires.opened (left s c.requires.opened c.requires.some))
     c.replace_glyphs.ensures.meets
 
 pub returns-else-add_font_parts : goal.returns-else-add_font_parts
@@ -59,6 +60,6 @@ returns-else-add_font_parts g c =
     let P : Outcome → Type 0 = λ o. Meets o s c.next_glyph-else-add_font_parts.result
     c.next_glyph-else-add_font_parts.new.self in
     subst P
-    (next_one s c.requires.opened (left s c.requires.opened c.requires.some)
+    (next_glyph-put_out s c.requires.opened (left s c.requires.opened c.requires.some)
     ∙ ap (λ ids. put_out (copies (head_of s) ids) s (skip_glyph s)) (sym (keeps_whole font id goes none)))
     c.next_glyph-else-add_font_parts.ensures.meets
