@@ -10,6 +10,7 @@ use crate::glyph_rows::GlyphRows;
 use font_tables::bytes::u16_at;
 use font_tables::rows::rows_within;
 use glyph_layout::Digest;
+use glyph_layout::summary::Summary;
 
 /// The glyph that stands for one that was deleted, and the end of rows.
 pub const DELETED_GLYPH: u16 = 0xFFFF;

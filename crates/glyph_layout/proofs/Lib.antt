@@ -8,6 +8,7 @@
 
 pub mod ContextLemmas
 pub mod DigestLemmas
+pub mod FirstGlyphsLemmas
 pub mod MatchLemmas
 pub mod SecondsLemmas
 pub mod WalkLemmas

@@ -1,10 +1,8 @@
 -- Sets of glyphs in three words, which may say of more glyphs that they are there.
-use Rattle.std.specs.Prelude.{ℕ, ◌≡◌, ◌/◌, ◌%◌, ◌==◌, ◌&&◌, Bool, not, true, false, List, All}
+use Rattle.std.specs.Prelude.{ℕ, ◌≡◌, ◌/◌, ◌%◌, ◌==◌, ◌&&◌, Bool, true, List, All}
 use Rattle.std.specs.Int.{bit_at}
 use Rattle.rb_glyph.specs.declared.info.hb_glyph_info_t.{hb_glyph_info_t}
-use Rattle.glyph_layout.specs.Walk.{passes_over, share}
 use Rattle.glyph_layout.specs.declared.digest.Digest.{Digest}
-use Rattle.glyph_layout.specs.declared.lookup_list.Lookup.{Lookup}
 
 -- whether a word has the bit of a row; 64 rows are told apart
 abbrev pub has_row : ℕ → ℕ → Bool
@@ -25,13 +23,3 @@ HasMore d more = HasAll (λ g. may_have d g ≡ true) more
 -- a digest may have each glyph of a text
 abbrev pub HasGlyphs : Digest → List hb_glyph_info_t → Type 0
 HasGlyphs d glyphs = All (λ glyph. may_have d glyph.glyph_id ≡ true) glyphs
-
--- whether a lookup may do something at a glyph: its digest may have it, the glyph has one of the feature's bits, and the lookup
--- does not pass over it
-abbrev pub is_for : Lookup → ℕ → hb_glyph_info_t → Bool
-is_for lookup mask g = may_have lookup.digest g.glyph_id && share g.mask mask && not (passes_over lookup.filter g)
-
--- a lookup is for no glyph that a digest may have
-abbrev pub IsForNone : Lookup → Digest → Type 0
-IsForNone lookup d =
-    (g : hb_glyph_info_t) → may_have d g.glyph_id ≡ true → (mask : ℕ) → is_for lookup mask g ≡ false

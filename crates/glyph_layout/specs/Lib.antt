@@ -1,8 +1,10 @@
 pub mod Budget
 pub mod Context
 pub mod Digest
+pub mod FirstGlyphs
 pub mod GlyphTable
 pub mod LigatureParts
+pub mod Lookup
 pub mod Match
 pub mod Rule
 pub mod Seconds

@@ -3,18 +3,13 @@
 //! A digest may have glyphs that were never added, and has each glyph that was. So a lookup whose digest does not have a
 //! glyph does nothing to it, and its coverage need not be asked (HarfBuzz, `hb_set_digest_t`).
 
-ghost use Rattle.std.specs.Prelude.{ℕ, ◌≡◌, ◌<◌, ◌≤◌, IsTrue, Some, is_some, true, unwrap_or};
+ghost use Rattle.std.specs.Prelude.{ℕ, ◌≡◌, ◌<◌, ◌≤◌, IsTrue, is_some, true};
 ghost use Rattle.std.specs.Int.{bit_at};
-ghost use Rattle.font_tables.specs.Bytes.{number_16};
-ghost use Rattle.font_tables.specs.Coverage.{listed_index, ranged_index};
-ghost use Rattle.font_tables.specs.GlyphRanges.{range_first, range_last};
-ghost use Rattle.font_tables.specs.Rows.{rows_within};
 ghost use Rattle.glyph_layout.specs.Digest.{HasAll, HasGlyphs, HasMore, has_row, may_have};
 ghost use Rattle.glyph_layout.specs.Walk.{covered_index};
 
-use font_tables::bytes::u16_at;
+use crate::summary::{Summary, summary_of};
 use font_tables::coverage::Coverage;
-use font_tables::rows::rows_within;
 use rb_glyph::hb_glyph_info_t;
 
 /// How many rows a word tells apart. A row's bit is that of its number, counted round.
@@ -72,17 +67,6 @@ impl Digest {
         self.blocks = with_row(self.blocks, glyph / 512);
     }
 
-    /// Adds the glyphs from one to another, the last one too.
-    #[tactic(auto, unfolding(crate::specs::Digest::may_have))]
-    pub fn add_range(&mut self, first: u32, last: u32)
-        ensures added { (glyph : ℕ) → first ≤ glyph → glyph ≤ last → may_have self.new glyph ≡ true }
-        ensures kept { HasMore self.old self.new }
-    {
-        self.singles = with_rows(self.singles, first, last);
-        self.sixteens = with_rows(self.sixteens, first / 16, last / 16);
-        self.blocks = with_rows(self.blocks, first / 512, last / 512);
-    }
-
     /// Adds the glyphs of another set.
     #[tactic(auto, unfolding(crate::specs::Digest::may_have))]
     pub fn add_all(&mut self, other: &Digest)
@@ -98,14 +82,7 @@ impl Digest {
     pub fn of_coverage(coverage: &Coverage) -> Self
         ensures { HasAll (λ glyph. is_some (covered_index coverage.now.table.now glyph) ≡ true) result }
     {
-        let format = format_of(coverage.table);
-        if format == 1 {
-            of_list(coverage.table)
-        } else if format == 2 {
-            of_ranges(coverage.table)
-        } else {
-            Digest::new()
-        }
+        summary_of(coverage)
     }
 
     /// The digest of the glyphs of a text.
@@ -120,8 +97,23 @@ impl Digest {
     }
 }
 
+impl Summary for Digest {
+    ghost has = { may_have };
+
+    fn none() -> Self {
+        Digest::new()
+    }
+
+    #[tactic(auto, unfolding(crate::specs::Digest::may_have))]
+    fn add_range(&mut self, first: u32, last: u32) {
+        self.singles = with_rows(self.singles, first, last);
+        self.sixteens = with_rows(self.sixteens, first / 16, last / 16);
+        self.blocks = with_rows(self.blocks, first / 512, last / 512);
+    }
+}
+
 /// Whether a word has the bit of a row.
-fn has_row(word: u64, row: u32) -> bool
+pub(crate) fn has_row(word: u64, row: u32) -> bool
     ensures { result ≡ has_row word row }
 {
     (word >> (row % ROWS)) & 1 == 1
@@ -135,7 +127,7 @@ fn share_row(word: u64, other: u64) -> bool
 }
 
 /// A word with the bits of another one.
-fn with_all(word: u64, other: u64) -> u64
+pub(crate) fn with_all(word: u64, other: u64) -> u64
     ensures added { (row : ℕ) → has_row other row ≡ true → has_row result row ≡ true }
     ensures kept { (row : ℕ) → has_row word row ≡ true → has_row result row ≡ true }
 {
@@ -143,7 +135,7 @@ fn with_all(word: u64, other: u64) -> u64
 }
 
 /// A word with the bit of a row.
-fn with_row(word: u64, row: u32) -> u64
+pub(crate) fn with_row(word: u64, row: u32) -> u64
     ensures added { has_row result row ≡ true }
     ensures kept { (other : ℕ) → has_row word other ≡ true → has_row result other ≡ true }
 {
@@ -151,7 +143,7 @@ fn with_row(word: u64, row: u32) -> u64
 }
 
 /// A word with the bits of the rows from one to another, the last one too.
-fn with_rows(word: u64, first: u32, last: u32) -> u64
+pub(crate) fn with_rows(word: u64, first: u32, last: u32) -> u64
     ensures added { (row : ℕ) → first ≤ row → row ≤ last → has_row result row ≡ true }
     ensures kept { (other : ℕ) → has_row word other ≡ true → has_row result other ≡ true }
 {
@@ -174,57 +166,4 @@ fn rows_between(first: u32, last: u32) -> u64
     let from = u64::MAX << first;
     let to = u64::MAX >> (ROWS - 1 - last);
     if first <= last { from & to } else { from | to }
-}
-
-/// The format of a table.
-fn format_of(table: &[u8]) -> u16
-    ensures { result ≡ unwrap_or (number_16 table.now 0) 0 }
-{
-    u16_at(table, 0).unwrap_or(0)
-}
-
-/// How many rows of this size the table has.
-fn row_count(table: &[u8], size: usize) -> usize
-    requires { 0 < size }
-    ensures is { result ≡ rows_within table.now 4 size (unwrap_or (number_16 table.now 2) 0) }
-    ensures few { result < 65536 }
-{
-    let declared = u16_at(table, 2).unwrap_or(0);
-    rows_within(table, 4, size, usize::from(declared))
-}
-
-/// The digest of the glyphs of a coverage that lists them.
-fn of_list(table: &[u8]) -> Digest
-    ensures { HasAll (λ glyph. is_some (listed_index table.now glyph) ≡ true) result }
-{
-    let mut digest = Digest::new();
-    for row in 0..row_count(table, 2) {
-        if let Some(glyph) = u16_at(table, 4 + 2 * row) {
-            digest.add(u32::from(glyph));
-        }
-    }
-    digest
-}
-
-/// The digest of the glyphs of a coverage of ranges.
-fn of_ranges(table: &[u8]) -> Digest
-    ensures { HasAll (λ glyph. is_some (ranged_index table.now glyph) ≡ true) result }
-{
-    let mut digest = Digest::new();
-    for row in 0..row_count(table, 6) {
-        add_row(&mut digest, table, row);
-    }
-    digest
-}
-
-/// Adds the glyphs of a range of a coverage.
-fn add_row(digest: &mut Digest, table: &[u8], row: usize)
-    requires { row < 65536 }
-    ensures added { (first last : ℕ) → range_first table.now row ≡ Some first → range_last table.now row ≡ Some last
-        → (glyph : ℕ) → first ≤ glyph → glyph ≤ last → may_have digest.new glyph ≡ true }
-    ensures kept { HasMore digest.old digest.new }
-{
-    if let (Some(first), Some(last)) = (u16_at(table, 4 + 6 * row), u16_at(table, 6 + 6 * row)) {
-        digest.add_range(u32::from(first), u32::from(last));
-    }
 }

@@ -1,18 +1,22 @@
 //! The lookups of `GSUB` or `GPOS` (OpenType specification, "OpenType Layout Common Table Formats", "Lookup List table").
 
 ghost use Rattle.std.specs.Prelude.{ℕ, ◌≡◌, ◌<◌, ◌≤◌, true, false, All, IsFalse, Some, length, slice_get, slice_range, option_copied};
-ghost use Rattle.glyph_layout.specs.Digest.{HasMore, IsForNone, is_for};
+ghost use Rattle.glyph_layout.specs.Digest.{HasMore};
+ghost use Rattle.glyph_layout.specs.FirstGlyphs.{HasMoreFirst};
+ghost use Rattle.glyph_layout.specs.Lookup.{IsForNone, is_for};
 ghost use Rattle.glyph_layout.specs.declared.lookup_list.Lookup.{Lookup};
 ghost use Rattle.glyph_layout.specs.Seconds.{AreSeconds};
 ghost use Rattle.glyph_layout.specs.Walk.{glyph_at};
 
 use crate::digest::Digest;
 use crate::filter::Filter;
+use crate::first_glyphs::FirstGlyphs;
 use crate::search::MAX_CONTEXT_LENGTH;
 use crate::seconds::seconds_of;
 use crate::subtable::{
     Form, NextAsked, Subtable, behind_list, positioning_form, substitution_form, table_or_empty,
 };
+use crate::summary::{Summary, summary_of};
 use font_tables::bytes::{table_at_16, table_at_32, u16_at};
 use font_tables::class_definition::ClassDefinition;
 use font_tables::coverage::Coverage;
@@ -45,6 +49,8 @@ pub struct Lookup<'a> {
     pub filter: Filter<'a>,
     /// The digest of the glyphs that its subtables are for.
     pub digest: Digest,
+    /// Those of the first 256 glyphs that its subtables are for.
+    pub firsts: FirstGlyphs,
     /// The first of its subtables in `LookupList::subtables`.
     pub first: usize,
     /// Where its subtables end there.
@@ -60,6 +66,7 @@ impl<'a> Lookup<'a> {
         self.digest.may_have(glyph.glyph_id)
             && glyph.mask & mask != 0
             && !self.filter.passes_over(glyph)
+            && self.firsts.may_have(glyph.glyph_id)
     }
 
     /// The first place from this one on at which the lookup may do something, or the number of glyphs.
@@ -219,11 +226,13 @@ impl<'a> LookupList<'a> {
                 self.read_subtable(kind, subtable)?;
             }
         }
-        let digest = digest_of(self.subtables_from(first));
+        let subtables = self.subtables_from(first);
+        let (digest, firsts) = (digest_of(subtables), firsts_of(subtables));
         self.lookups.push(Lookup {
             kind,
             filter: Filter { flags, marks },
             digest,
+            firsts,
             first,
             last: self.subtables.len(),
         })?;
@@ -255,6 +264,7 @@ impl<'a> LookupList<'a> {
             table,
             coverage,
             digest: Digest::of_coverage(&coverage),
+            firsts: summary_of(&coverage),
             bases: self.coverage_if(form == Form::Marks, table, 4),
             classes: self.input_classes(form, table),
             classes_behind: self.classes_if(form == Form::ChainedClasses, table, 4),
@@ -441,6 +451,17 @@ fn digest_of(subtables: &[Subtable]) -> Digest
         digest.add_all(&subtable.digest);
     }
     digest
+}
+
+/// Those of the first 256 glyphs that any of these subtables is for.
+fn firsts_of(subtables: &[Subtable]) -> FirstGlyphs
+    ensures { All (λ subtable. HasMoreFirst subtable.firsts result) subtables.now }
+{
+    let mut firsts = FirstGlyphs::none();
+    for subtable in subtables {
+        firsts.add_all(&subtable.firsts);
+    }
+    firsts
 }
 
 /// The kind and the subtable behind an extension.

@@ -84,7 +84,7 @@ pub fn edit_at<'a>(
     let subtables = list.subtables_of(lookup);
     search.budget.pay_for(subtables.len() / PASSED_A_STEP);
     for subtable in subtables {
-        if subtable.digest.may_have(glyph) {
+        if subtable.may_be_for(glyph) {
             if !search.budget.pay(SUBTABLE_STEPS) {
                 return None;
             }

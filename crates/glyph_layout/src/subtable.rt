@@ -1,11 +1,13 @@
 //! The subtables of lookups, with what several kinds have in common parsed once.
 
-ghost use Rattle.std.specs.Prelude.{◌≡◌, is_some, true};
+ghost use Rattle.std.specs.Prelude.{ℕ, ◌≡◌, IsTrue, is_some, true};
 ghost use Rattle.glyph_layout.specs.Digest.{HasAll};
+ghost use Rattle.glyph_layout.specs.FirstGlyphs.{may_have_first};
 ghost use Rattle.glyph_layout.specs.Seconds.{AreSeconds};
 ghost use Rattle.glyph_layout.specs.Walk.{covered_index};
 
 use crate::digest::Digest;
+use crate::first_glyphs::FirstGlyphs;
 use font_tables::bytes::{table_at_16, u16_at};
 use font_tables::class_definition::ClassDefinition;
 use font_tables::coverage::Coverage;
@@ -23,6 +25,8 @@ pub struct Subtable<'a> {
     pub coverage: Coverage<'a>,
     /// The digest of these glyphs.
     pub digest: Digest,
+    /// Those of them that are among the first 256.
+    pub firsts: FirstGlyphs,
     /// The bases, ligatures or marks that marks are attached to (kinds 4, 5 and 6 of `GPOS`).
     pub bases: Coverage<'a>,
     /// The classes of glyphs, those of the input in a chained context, and of the first glyph in a pair.
@@ -39,7 +43,17 @@ pub struct Subtable<'a> {
     /// The digest of the second glyphs of all ligatures of a subtable of ligatures; `None` where one has a single component.
     pub seconds: Option<Digest>,
     ghost digests: { HasAll (λ glyph. is_some (covered_index coverage.table.now glyph) ≡ true) digest },
+    ghost firsts_are: { (glyph : ℕ) → is_some (covered_index coverage.table.now glyph) ≡ true → may_have_first firsts glyph ≡ true },
     ghost ligatures: { AreSeconds table.now seconds },
+}
+
+impl Subtable<'_> {
+    /// Whether the subtable may be for a glyph. Where its coverage has the glyph, it always may.
+    pub fn may_be_for(&self, glyph: u32) -> bool
+        ensures { is_some (covered_index self.now.coverage.table.now glyph) ≡ true → IsTrue result }
+    {
+        self.digest.may_have(glyph) && self.firsts.may_have(glyph)
+    }
 }
 
 /// What a context by coverages asks of the glyph behind the one at the cursor.

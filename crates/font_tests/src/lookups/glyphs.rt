@@ -3,10 +3,12 @@
 use crate::lookups::bytes_of;
 use font_tables::coverage::Coverage;
 use glyph_layout::filter::covered_index;
+use glyph_layout::first_glyphs::FirstGlyphs;
 use glyph_layout::glyph_table::Glyphs;
 use glyph_layout::ligature_parts::{
     component_count, ligature_component, ligature_id, ligature_properties, mark_properties,
 };
+use glyph_layout::summary::{Summary, summary_of};
 use glyph_layout::{Budget, Digest, Filter, Reach};
 use rb_glyph::hb_glyph_info_t;
 use std::alloc::AllocError;
@@ -50,6 +52,48 @@ fn digests_are_of_coverages_and_texts(rt: HostRuntime) -> Result<(), AllocError>
     assert!(rt; (range.may_have(4), range.may_have(7), range.may_have(9)) == (false, true, true));
     assert!(rt; covered_index(&Coverage::new(&listed), 9) == Some(1));
     assert!(rt; covered_index(&Coverage::new(&listed), 65536 + 9) == None);
+    Ok(())
+}
+
+/// Of the first 256 glyphs those that were added are there, and no other; a glyph behind them may always be.
+#[test]
+fn first_glyphs_are_told_apart(rt: HostRuntime) {
+    let mut firsts = FirstGlyphs::none();
+    assert!(rt; !firsts.may_have(0) && !firsts.may_have(255) && firsts.may_have(256));
+    firsts.add_range(60, 70);
+    firsts.add_range(250, 300);
+    for (glyph, is_there) in [
+        (59, false),
+        (60, true),
+        (63, true),
+        (64, true),
+        (70, true),
+        (71, false),
+        (249, false),
+        (250, true),
+        (255, true),
+        (256, true),
+        (301, true),
+    ] {
+        assert!(rt; firsts.may_have(glyph) == is_there, "the glyph {glyph}");
+    }
+    let mut others = FirstGlyphs::none();
+    others.add_range(128, 128);
+    others.add_all(&firsts);
+    assert!(rt; others.may_have(128) && others.may_have(60) && others.may_have(255));
+    assert!(rt; !others.may_have(127) && !others.may_have(129) && !others.may_have(192));
+}
+
+#[test]
+fn first_glyphs_are_of_coverages(rt: HostRuntime) -> Result<(), AllocError> {
+    let listed = bytes_of(rt.alloc(), &[1, 2, 5, 9])?;
+    let ranged = bytes_of(rt.alloc(), &[2, 1, 5, 9, 0])?;
+    let list: FirstGlyphs = summary_of(&Coverage::new(&listed));
+    assert!(rt; (list.may_have(5), list.may_have(7), list.may_have(9)) == (true, false, true));
+    let range: FirstGlyphs = summary_of(&Coverage::new(&ranged));
+    assert!(rt; (range.may_have(4), range.may_have(7), range.may_have(10)) == (false, true, false));
+    let none: FirstGlyphs = summary_of(&Coverage::new(&[]));
+    assert!(rt; !none.may_have(5));
     Ok(())
 }
 

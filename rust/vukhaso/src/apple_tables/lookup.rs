@@ -7,6 +7,7 @@ use crate::apple_tables::glyph_rows::GlyphRows;
 use crate::font_tables::bytes::u16_at;
 use crate::font_tables::rows::rows_within;
 use crate::glyph_layout::Digest;
+use crate::glyph_layout::summary::Summary;
 
 /// The glyph that stands for one that was deleted, and the end of rows.
 pub const DELETED_GLYPH: u16 = 0xFFFF;

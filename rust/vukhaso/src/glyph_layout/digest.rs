@@ -5,10 +5,9 @@
 //! A digest may have glyphs that were never added, and has each glyph that was. So a lookup whose digest does not have a
 //! glyph does nothing to it, and its coverage need not be asked (HarfBuzz, `hb_set_digest_t`).
 
-use crate::font_tables::bytes::u16_at;
 use crate::font_tables::coverage::Coverage;
-use crate::font_tables::rows::rows_within;
 use crate::glyph::hb_glyph_info_t;
+use crate::glyph_layout::summary::{Summary, summary_of};
 
 /// How many rows a word tells apart. A row's bit is that of its number, counted round.
 const ROWS: u32 = 64;
@@ -82,21 +81,6 @@ impl Digest {
         self.blocks = with_row(self.blocks, glyph / 512);
     }
 
-    /// Adds the glyphs from one to another, the last one too.
-    ///
-    /// # Proved
-    ///
-    /// ```text
-    /// ensures added { (glyph : ℕ) → first ≤ glyph → glyph ≤ last → may_have self.new glyph ≡ true }
-    /// ensures kept { HasMore self.old self.new }
-    /// ```
-    #[inline]
-    pub fn add_range(&mut self, first: u32, last: u32) {
-        self.singles = with_rows(self.singles, first, last);
-        self.sixteens = with_rows(self.sixteens, first / 16, last / 16);
-        self.blocks = with_rows(self.blocks, first / 512, last / 512);
-    }
-
     /// Adds the glyphs of another set.
     ///
     /// # Proved
@@ -121,14 +105,7 @@ impl Digest {
     /// ```
     #[inline]
     pub fn of_coverage(coverage: &Coverage) -> Self {
-        let format = format_of(coverage.table);
-        if format == 1 {
-            of_list(coverage.table)
-        } else if format == 2 {
-            of_ranges(coverage.table)
-        } else {
-            Digest::new()
-        }
+        summary_of(coverage)
     }
 
     /// The digest of the glyphs of a text.
@@ -148,8 +125,26 @@ impl Digest {
     }
 }
 
+///
+/// # Proved
+///
+/// ```text
+/// ghost has = { may_have }
+/// ```
+impl Summary for Digest {
+    fn none() -> Self {
+        Digest::new()
+    }
+
+    fn add_range(&mut self, first: u32, last: u32) {
+        self.singles = with_rows(self.singles, first, last);
+        self.sixteens = with_rows(self.sixteens, first / 16, last / 16);
+        self.blocks = with_rows(self.blocks, first / 512, last / 512);
+    }
+}
+
 /// Whether a word has the bit of a row.
-fn has_row(word: u64, row: u32) -> bool {
+pub(crate) fn has_row(word: u64, row: u32) -> bool {
     (word >> (row % ROWS)) & 1 == 1
 }
 
@@ -159,17 +154,17 @@ fn share_row(word: u64, other: u64) -> bool {
 }
 
 /// A word with the bits of another one.
-fn with_all(word: u64, other: u64) -> u64 {
+pub(crate) fn with_all(word: u64, other: u64) -> u64 {
     word | other
 }
 
 /// A word with the bit of a row.
-fn with_row(word: u64, row: u32) -> u64 {
+pub(crate) fn with_row(word: u64, row: u32) -> u64 {
     word | 1 << (row % ROWS)
 }
 
 /// A word with the bits of the rows from one to another, the last one too.
-fn with_rows(word: u64, first: u32, last: u32) -> u64 {
+pub(crate) fn with_rows(word: u64, first: u32, last: u32) -> u64 {
     if last.saturating_sub(first) >= ROWS - 1 {
         u64::MAX
     } else {
@@ -190,52 +185,4 @@ fn rows_between(first: u32, last: u32) -> u64 {
     let from = u64::MAX << first;
     let to = u64::MAX >> (ROWS - 1 - last);
     if first <= last { from & to } else { from | to }
-}
-
-/// The format of a table.
-fn format_of(table: &[u8]) -> u16 {
-    u16_at(table, 0).unwrap_or(0)
-}
-
-/// How many rows of this size the table has.
-///
-/// # Requires
-///
-/// - `0 < size`
-fn row_count(table: &[u8], size: usize) -> usize {
-    debug_assert!(0 < size);
-    let declared = u16_at(table, 2).unwrap_or(0);
-    rows_within(table, 4, size, usize::from(declared))
-}
-
-/// The digest of the glyphs of a coverage that lists them.
-fn of_list(table: &[u8]) -> Digest {
-    let mut digest = Digest::new();
-    for row in 0..row_count(table, 2) {
-        if let Some(glyph) = u16_at(table, 4 + 2 * row) {
-            digest.add(u32::from(glyph));
-        }
-    }
-    digest
-}
-
-/// The digest of the glyphs of a coverage of ranges.
-fn of_ranges(table: &[u8]) -> Digest {
-    let mut digest = Digest::new();
-    for row in 0..row_count(table, 6) {
-        add_row(&mut digest, table, row);
-    }
-    digest
-}
-
-/// Adds the glyphs of a range of a coverage.
-///
-/// # Requires
-///
-/// - `row < 65536`
-fn add_row(digest: &mut Digest, table: &[u8], row: usize) {
-    debug_assert!(row < 65536);
-    if let (Some(first), Some(last)) = (u16_at(table, 4 + 6 * row), u16_at(table, 6 + 6 * row)) {
-        digest.add_range(u32::from(first), u32::from(last));
-    }
 }

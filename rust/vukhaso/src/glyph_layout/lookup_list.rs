@@ -10,11 +10,13 @@ use crate::font_tables::rows::{Keys16, rises, rows_within};
 use crate::glyph::hb_glyph_info_t;
 use crate::glyph_layout::digest::Digest;
 use crate::glyph_layout::filter::Filter;
+use crate::glyph_layout::first_glyphs::FirstGlyphs;
 use crate::glyph_layout::search::MAX_CONTEXT_LENGTH;
 use crate::glyph_layout::seconds::seconds_of;
 use crate::glyph_layout::subtable::{
     Form, NextAsked, Subtable, behind_list, positioning_form, substitution_form, table_or_empty,
 };
+use crate::glyph_layout::summary::{Summary, summary_of};
 use crate::memory::{AllocError, Vec};
 
 /// The kind of an extension in `GSUB`.
@@ -41,6 +43,8 @@ pub struct Lookup<'a> {
     pub filter: Filter<'a>,
     /// The digest of the glyphs that its subtables are for.
     pub digest: Digest,
+    /// Those of the first 256 glyphs that its subtables are for.
+    pub firsts: FirstGlyphs,
     /// The first of its subtables in `LookupList::subtables`.
     pub first: usize,
     /// Where its subtables end there.
@@ -61,6 +65,7 @@ impl<'a> Lookup<'a> {
         self.digest.may_have(glyph.glyph_id)
             && glyph.mask & mask != 0
             && !self.filter.passes_over(glyph)
+            && self.firsts.may_have(glyph.glyph_id)
     }
 
     /// The first place from this one on at which the lookup may do something, or the number of glyphs.
@@ -256,11 +261,13 @@ impl<'a> LookupList<'a> {
                 self.read_subtable(kind, subtable)?;
             }
         }
-        let digest = digest_of(self.subtables_from(first));
+        let subtables = self.subtables_from(first);
+        let (digest, firsts) = (digest_of(subtables), firsts_of(subtables));
         self.lookups.push(Lookup {
             kind,
             filter: Filter { flags, marks },
             digest,
+            firsts,
             first,
             last: self.subtables.len(),
         })?;
@@ -292,6 +299,7 @@ impl<'a> LookupList<'a> {
             table,
             coverage,
             digest: Digest::of_coverage(&coverage),
+            firsts: summary_of(&coverage),
             bases: self.coverage_if(form == Form::Marks, table, 4),
             classes: self.input_classes(form, table),
             classes_behind: self.classes_if(form == Form::ChainedClasses, table, 4),
@@ -477,6 +485,15 @@ fn digest_of(subtables: &[Subtable]) -> Digest {
         digest.add_all(&subtable.digest);
     }
     digest
+}
+
+/// Those of the first 256 glyphs that any of these subtables is for.
+fn firsts_of(subtables: &[Subtable]) -> FirstGlyphs {
+    let mut firsts = FirstGlyphs::none();
+    for subtable in subtables {
+        firsts.add_all(&subtable.firsts);
+    }
+    firsts
 }
 
 /// The kind and the subtable behind an extension.

@@ -6,6 +6,7 @@ use crate::font_tables::bytes::{table_at_16, u16_at};
 use crate::font_tables::class_definition::ClassDefinition;
 use crate::font_tables::coverage::Coverage;
 use crate::glyph_layout::digest::Digest;
+use crate::glyph_layout::first_glyphs::FirstGlyphs;
 
 /// A subtable of a lookup.
 ///
@@ -13,6 +14,7 @@ use crate::glyph_layout::digest::Digest;
 ///
 /// ```text
 /// ghost digests: { HasAll (λ glyph. is_some (covered_index coverage.table.now glyph) ≡ true) digest }
+/// ghost firsts_are: { (glyph : ℕ) → is_some (covered_index coverage.table.now glyph) ≡ true → may_have_first firsts glyph ≡ true }
 /// ghost ligatures: { AreSeconds table.now seconds }
 /// ```
 #[derive(Clone, Copy, Debug)]
@@ -27,6 +29,8 @@ pub struct Subtable<'a> {
     pub coverage: Coverage<'a>,
     /// The digest of these glyphs.
     pub digest: Digest,
+    /// Those of them that are among the first 256.
+    pub firsts: FirstGlyphs,
     /// The bases, ligatures or marks that marks are attached to (kinds 4, 5 and 6 of `GPOS`).
     pub bases: Coverage<'a>,
     /// The classes of glyphs, those of the input in a chained context, and of the first glyph in a pair.
@@ -42,6 +46,20 @@ pub struct Subtable<'a> {
     pub first_coverage: usize,
     /// The digest of the second glyphs of all ligatures of a subtable of ligatures; `None` where one has a single component.
     pub seconds: Option<Digest>,
+}
+
+impl Subtable<'_> {
+    /// Whether the subtable may be for a glyph. Where its coverage has the glyph, it always may.
+    ///
+    /// # Proved
+    ///
+    /// ```text
+    /// ensures { is_some (covered_index self.now.coverage.table.now glyph) ≡ true → IsTrue result }
+    /// ```
+    #[inline]
+    pub fn may_be_for(&self, glyph: u32) -> bool {
+        self.digest.may_have(glyph) && self.firsts.may_have(glyph)
+    }
 }
 
 /// What a context by coverages asks of the glyph behind the one at the cursor.

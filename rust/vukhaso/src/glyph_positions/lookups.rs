@@ -134,7 +134,7 @@ fn place_by_lookup<'a>(
     let subtables = task.setting.list.subtables_of(task.lookup);
     search.budget.pay_for(subtables.len() / PASSED_A_STEP);
     for subtable in subtables {
-        if subtable.digest.may_have(glyph)
+        if subtable.may_be_for(glyph)
             && search.budget.pay(SUBTABLE_STEPS)
             && let Some(index) = index_in(subtable, glyph)
         {

@@ -1,5 +1,5 @@
 use Rattle.std.proofs.Common.{ℕ, ◌≡◌, ◌<◌, ◌≤◌, false}
-use Rattle.glyph_layout.specs.Digest.{is_for}
+use Rattle.glyph_layout.specs.Lookup.{is_for}
 use Rattle.glyph_layout.specs.Walk.{glyph_at}
 use Rattle.glyph_layout.proofs.lookup_list.Lookup.first_place.Given as goal
 

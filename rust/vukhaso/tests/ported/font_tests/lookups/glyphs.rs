@@ -6,10 +6,12 @@ use crate::font_tests::lookups::bytes_of;
 use vukhaso::font_tables::coverage::Coverage;
 use vukhaso::glyph::hb_glyph_info_t;
 use vukhaso::glyph_layout::filter::covered_index;
+use vukhaso::glyph_layout::first_glyphs::FirstGlyphs;
 use vukhaso::glyph_layout::glyph_table::Glyphs;
 use vukhaso::glyph_layout::ligature_parts::{
     component_count, ligature_component, ligature_id, ligature_properties, mark_properties,
 };
+use vukhaso::glyph_layout::summary::{Summary, summary_of};
 use vukhaso::glyph_layout::{Budget, Digest, Filter, Reach};
 use vukhaso::memory::AllocError;
 
@@ -52,6 +54,49 @@ fn digests_are_of_coverages_and_texts() -> Result<(), AllocError> {
     assert!((range.may_have(4), range.may_have(7), range.may_have(9)) == (false, true, true));
     assert!(covered_index(&Coverage::new(&listed), 9) == Some(1));
     assert!(covered_index(&Coverage::new(&listed), 65536 + 9) == None);
+    Ok(())
+}
+
+/// Of the first 256 glyphs those that were added are there, and no other; a glyph behind them may
+/// always be.
+#[test]
+fn first_glyphs_are_told_apart() {
+    let mut firsts = FirstGlyphs::none();
+    assert!(!firsts.may_have(0) && !firsts.may_have(255) && firsts.may_have(256));
+    firsts.add_range(60, 70);
+    firsts.add_range(250, 300);
+    for (glyph, is_there) in [
+        (59, false),
+        (60, true),
+        (63, true),
+        (64, true),
+        (70, true),
+        (71, false),
+        (249, false),
+        (250, true),
+        (255, true),
+        (256, true),
+        (301, true),
+    ] {
+        assert!(firsts.may_have(glyph) == is_there, "the glyph {glyph}");
+    }
+    let mut others = FirstGlyphs::none();
+    others.add_range(128, 128);
+    others.add_all(&firsts);
+    assert!(others.may_have(128) && others.may_have(60) && others.may_have(255));
+    assert!(!others.may_have(127) && !others.may_have(129) && !others.may_have(192));
+}
+
+#[test]
+fn first_glyphs_are_of_coverages() -> Result<(), AllocError> {
+    let listed = bytes_of(&[1, 2, 5, 9])?;
+    let ranged = bytes_of(&[2, 1, 5, 9, 0])?;
+    let list: FirstGlyphs = summary_of(&Coverage::new(&listed));
+    assert!((list.may_have(5), list.may_have(7), list.may_have(9)) == (true, false, true));
+    let range: FirstGlyphs = summary_of(&Coverage::new(&ranged));
+    assert!((range.may_have(4), range.may_have(7), range.may_have(10)) == (false, true, false));
+    let none: FirstGlyphs = summary_of(&Coverage::new(&[]));
+    assert!(!none.may_have(5));
     Ok(())
 }
 

@@ -1,0 +1,16 @@
+use Rattle.std.proofs.Common.{arith}
+use Rattle.glyph_layout.proofs.FirstGlyphsLemmas.{may_have_first-kept, may_have_first-words}
+use Rattle.glyph_layout.proofs.first_glyphs.FirstGlyphsSummary.add_range.Goals as goal
+
+pub returns-clause-added : goal.returns-clause-added
+returns-clause-added c = λ g least most.
+    may_have_first-words _ _ _ _ g
+    (λ at. c.with_rows_from.ensures.added g (omega arith) (omega (arith, at)) least most)
+    (λ at. c.with_rows_from-2.ensures.added g (omega (arith, at)) (omega (arith, at)) least most)
+    (λ at. c.with_rows_from-3.ensures.added g (omega (arith, at)) (omega (arith, at)) least most)
+    (λ at. c.with_rows_from-4.ensures.added g (omega (arith, at)) (omega (arith, at)) least most)
+
+pub returns-clause-kept : goal.returns-clause-kept
+returns-clause-kept c = λ g.
+    may_have_first-kept c.args.self.now _ _ _ _ g c.with_rows_from.ensures.kept c.with_rows_from-2.ensures.kept
+    c.with_rows_from-3.ensures.kept c.with_rows_from-4.ensures.kept

@@ -1,0 +1,73 @@
+//! The first 256 glyphs of a font, which a digest has few rows for: in most fonts the letters of Latin are there.
+
+ghost use Rattle.std.specs.Prelude.{ℕ, ◌≡◌, ◌<◌, ◌≤◌, ◌+◌, true};
+ghost use Rattle.glyph_layout.specs.Digest.{has_row};
+ghost use Rattle.glyph_layout.specs.FirstGlyphs.{HasMoreFirst, may_have_first};
+
+use crate::digest::{has_row, with_all, with_rows};
+use crate::summary::Summary;
+
+/// How many glyphs are told apart.
+const COUNT: u32 = 256;
+
+/// Which of the first 256 glyphs are in a set. Any other glyph may be.
+#[derive(Clone, Copy, PartialEq, Eq, Debug)]
+pub struct FirstGlyphs {
+    /// A bit for each glyph, those of 64 glyphs in a word.
+    pub words: [u64; 4],
+}
+
+impl FirstGlyphs {
+    /// Whether a glyph may be in the set: one of the first 256, whether it is.
+    #[tactic(auto, unfolding(crate::specs::FirstGlyphs::may_have_first))]
+    pub fn may_have(&self, glyph: u32) -> bool
+        ensures { result ≡ may_have_first self.now glyph }
+    {
+        glyph >= COUNT || has_row(self.words[glyph as usize / 64], glyph)
+    }
+
+    /// Adds the glyphs of another set.
+    pub fn add_all(&mut self, other: &FirstGlyphs)
+        ensures added { HasMoreFirst other.now self.new }
+        ensures kept { HasMoreFirst self.old self.new }
+    {
+        let (words, others) = (&self.words, &other.words);
+        self.words = [
+            with_all(words[0], others[0]),
+            with_all(words[1], others[1]),
+            with_all(words[2], others[2]),
+            with_all(words[3], others[3]),
+        ];
+    }
+}
+
+impl Summary for FirstGlyphs {
+    ghost has = { may_have_first };
+
+    fn none() -> Self {
+        FirstGlyphs { words: [0; 4] }
+    }
+
+    fn add_range(&mut self, first: u32, last: u32) {
+        self.words = [
+            with_rows_from(self.words[0], 0, first, last),
+            with_rows_from(self.words[1], 64, first, last),
+            with_rows_from(self.words[2], 128, first, last),
+            with_rows_from(self.words[3], 192, first, last),
+        ];
+    }
+}
+
+/// A word with the bits of the rows from one to another, the last one too, where the word has the 64 rows from this one on.
+fn with_rows_from(word: u64, start: u32, first: u32, last: u32) -> u64
+    requires { start ≤ 192 }
+    ensures added { (row : ℕ) → start ≤ row → row < start + 64 → first ≤ row → row ≤ last → has_row result row ≡ true }
+    ensures kept { (row : ℕ) → has_row word row ≡ true → has_row result row ≡ true }
+{
+    let (low, high) = (first.max(start), last.min(start + 63));
+    if low <= high {
+        with_rows(word, low, high)
+    } else {
+        word
+    }
+}

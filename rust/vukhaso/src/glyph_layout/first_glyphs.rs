@@ -1,0 +1,86 @@
+// Written by tools/plain_rust from crates/glyph_layout. Do not edit.
+
+//! The first 256 glyphs of a font, which a digest has few rows for: in most fonts the letters of Latin are there.
+
+use crate::glyph_layout::digest::{has_row, with_all, with_rows};
+use crate::glyph_layout::summary::Summary;
+
+/// How many glyphs are told apart.
+const COUNT: u32 = 256;
+
+/// Which of the first 256 glyphs are in a set. Any other glyph may be.
+#[derive(Clone, Copy, PartialEq, Eq, Debug)]
+pub struct FirstGlyphs {
+    /// A bit for each glyph, those of 64 glyphs in a word.
+    pub words: [u64; 4],
+}
+
+impl FirstGlyphs {
+    /// Whether a glyph may be in the set: one of the first 256, whether it is.
+    ///
+    /// # Proved
+    ///
+    /// ```text
+    /// ensures { result ≡ may_have_first self.now glyph }
+    /// ```
+    #[inline]
+    pub fn may_have(&self, glyph: u32) -> bool {
+        glyph >= COUNT || has_row(self.words[glyph as usize / 64], glyph)
+    }
+
+    /// Adds the glyphs of another set.
+    ///
+    /// # Proved
+    ///
+    /// ```text
+    /// ensures added { HasMoreFirst other.now self.new }
+    /// ensures kept { HasMoreFirst self.old self.new }
+    /// ```
+    #[inline]
+    pub fn add_all(&mut self, other: &FirstGlyphs) {
+        let (words, others) = (&self.words, &other.words);
+        self.words = [
+            with_all(words[0], others[0]),
+            with_all(words[1], others[1]),
+            with_all(words[2], others[2]),
+            with_all(words[3], others[3]),
+        ];
+    }
+}
+
+///
+/// # Proved
+///
+/// ```text
+/// ghost has = { may_have_first }
+/// ```
+impl Summary for FirstGlyphs {
+    fn none() -> Self {
+        FirstGlyphs { words: [0; 4] }
+    }
+
+    fn add_range(&mut self, first: u32, last: u32) {
+        self.words = [
+            with_rows_from(self.words[0], 0, first, last),
+            with_rows_from(self.words[1], 64, first, last),
+            with_rows_from(self.words[2], 128, first, last),
+            with_rows_from(self.words[3], 192, first, last),
+        ];
+    }
+}
+
+/// A word with the bits of the rows from one to another, the last one too, where the word has the 64
+/// rows from this one on.
+///
+/// # Requires
+///
+/// - `start ≤ 192`
+fn with_rows_from(word: u64, start: u32, first: u32, last: u32) -> u64 {
+    debug_assert!(start <= 192);
+    let (low, high) = (first.max(start), last.min(start + 63));
+    if low <= high {
+        with_rows(word, low, high)
+    } else {
+        word
+    }
+}
