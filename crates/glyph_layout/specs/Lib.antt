@@ -1,6 +1,7 @@
 pub mod Budget
 pub mod Context
 pub mod Digest
+pub mod FirstEdit
 pub mod GlyphTable
 pub mod LigatureParts
 pub mod Match
@@ -8,4 +9,5 @@ pub mod Rule
 pub mod Seconds
 pub mod Sets
 pub mod Substitution
+pub mod Subtables
 pub mod Walk

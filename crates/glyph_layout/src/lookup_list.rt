@@ -1,9 +1,10 @@
 //! The lookups of `GSUB` or `GPOS` (OpenType specification, "OpenType Layout Common Table Formats", "Lookup List table").
 
-ghost use Rattle.std.specs.Prelude.{ℕ, ◌≡◌, ◌<◌, ◌≤◌, true, false, All, IsFalse, Some, length, slice_get, slice_range, option_copied};
+ghost use Rattle.std.specs.Prelude.{ℕ, ◌≡◌, ◌<◌, ◌≤◌, true, false, All, IsFalse, Some, length, slice_get, option_copied};
 ghost use Rattle.glyph_layout.specs.Digest.{HasMore, IsForNone, is_for};
 ghost use Rattle.glyph_layout.specs.declared.lookup_list.Lookup.{Lookup};
 ghost use Rattle.glyph_layout.specs.Seconds.{AreSeconds};
+ghost use Rattle.glyph_layout.specs.Subtables.{subtables_of};
 ghost use Rattle.glyph_layout.specs.Walk.{glyph_at};
 
 use crate::digest::Digest;
@@ -150,8 +151,7 @@ impl<'a> LookupList<'a> {
 
     /// The subtables of a lookup, one after the other.
     pub fn subtables_of(&self, lookup: &Lookup) -> &[Subtable<'a>]
-        ensures { lookup.now.first ≤ lookup.now.last → lookup.now.last ≤ length self.now.subtables.items
-            → result.now ≡ slice_range self.now.subtables.items lookup.now.first lookup.now.last }
+        ensures { result.now ≡ subtables_of self.now.subtables.items lookup.now }
     {
         if lookup.first <= lookup.last && lookup.last <= self.subtables.len() {
             &self.subtables[lookup.first..lookup.last]
