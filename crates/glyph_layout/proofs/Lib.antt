@@ -7,9 +7,11 @@
 -- behind a glyph let most ligatures and contexts be passed over (`SecondsLemmas`, `ContextLemmas`). A subtable that is not for the glyph
 -- at the cursor has no edit there, so the first edit is that of the subtables that are tried (`EditLemmas`).
 
+pub mod AroundLemmas
 pub mod ContextLemmas
 pub mod DigestLemmas
 pub mod EditLemmas
 pub mod MatchLemmas
+pub mod PatternLemmas
 pub mod SecondsLemmas
 pub mod WalkLemmas

@@ -5,6 +5,7 @@ pub mod FirstEdit
 pub mod GlyphTable
 pub mod LigatureParts
 pub mod Match
+pub mod Pattern
 pub mod Rule
 pub mod Seconds
 pub mod Sets

@@ -1,6 +1,6 @@
 //! The lookups of `GSUB` or `GPOS` (OpenType specification, "OpenType Layout Common Table Formats", "Lookup List table").
 
-ghost use Rattle.std.specs.Prelude.{ℕ, ◌≡◌, ◌<◌, ◌≤◌, true, false, All, IsFalse, Some, length, slice_get, option_copied};
+ghost use Rattle.std.specs.Prelude.{ℕ, ◌≡◌, ◌<◌, ◌≤◌, true, false, All, IsFalse, Some, ◌+◌, drop, length, slice_get, option_copied};
 ghost use Rattle.glyph_layout.specs.Digest.{HasMore, IsForNone, is_for};
 ghost use Rattle.glyph_layout.specs.declared.lookup_list.Lookup.{Lookup};
 ghost use Rattle.glyph_layout.specs.Seconds.{AreSeconds};
@@ -180,7 +180,9 @@ impl<'a> LookupList<'a> {
     }
 
     /// The coverages of a subtable from the one of this number on.
-    pub fn coverages_from(&self, subtable: &Subtable, number: usize) -> &[Coverage<'a>] {
+    pub fn coverages_from(&self, subtable: &Subtable, number: usize) -> &[Coverage<'a>]
+        ensures { result.now ≡ drop (subtable.now.first_coverage + number) self.now.coverages.items }
+    {
         let first = subtable.first_coverage.saturating_add(number);
         if first <= self.coverages.len() {
             &self.coverages[first..]

@@ -81,7 +81,8 @@ pub fn edit_at<'a>(
     requires { 0 < length sides.now.input.now }
     ensures spent { IsNotMore search.old.budget search.new.budget }
     ensures first { 0 < search.new.budget.steps
-        → IsFirstEdit options.now sides.now is_nested (subtables_of list.now.subtables.items lookup.now) result }
+        → IsFirstEdit list.now.coverages.items options.now sides.now is_nested
+        (subtables_of list.now.subtables.items lookup.now) result }
 {
     let glyph = sides.input[0].glyph_id;
     let subtables = list.subtables_of(lookup);
@@ -119,7 +120,8 @@ fn edit_of<'a>(
     ensures ligature { subtable.now.kind ≡ 4 → 0 < search.new.budget.steps
         → ligated result ≡ ligature_edit subtable.now sides.now }
     ensures other { is_of_use subtable.now.kind is_nested ≡ false → result ≡ None }
-    ensures is { 0 < search.new.budget.steps → IsEditOf options.now sides.now is_nested subtable.now result }
+    ensures is { 0 < search.new.budget.steps
+        → IsEditOf list.now.coverages.items options.now sides.now is_nested subtable.now result }
 {
     let glyph = &sides.input[0];
     let index = covered_index(&subtable.coverage, glyph.glyph_id)?;
