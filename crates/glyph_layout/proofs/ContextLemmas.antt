@@ -20,7 +20,7 @@ use Rattle.glyph_layout.specs.declared.wanted.Wanted.TheVariants.{Covered}
 use Rattle.glyph_layout.proofs.WalkLemmas.{first_kept-here}
 
 -- a glyph that a digest does not have is not in the set
-not_covered : (d : Digest) (c : Coverage) (g : ℕ) → HasAll (λ g. is_some (covered_index c.table.now g) ≡ true) d
+pub not_covered : (d : Digest) (c : Coverage) (g : ℕ) → HasAll (λ g. is_some (covered_index c.table.now g) ≡ true) d
     → may_have d g ≡ false → is_some (covered_index c.table.now g) ≡ false
 not_covered d c g all none =
     elim (cases_Bool (is_some (covered_index c.table.now g))) [

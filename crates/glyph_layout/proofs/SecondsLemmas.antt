@@ -93,10 +93,10 @@ first_of-missed s set d next (suc k) has is none within =
     (first_of-later s set k so_far (ligature_at-missed s set d next k _ refl (has k (omega (arith, within))) is none))
 
 -- whoever asks for a glyph behind the last one does not find it
-pub place_of-next_end : (w : Walk) (gs : List hb_glyph_info_t) (i asked : ℕ) → i + 1 ≡ length gs
+pub place_of-past_end : (w : Walk) (gs : List hb_glyph_info_t) (i asked : ℕ) → i + 1 ≡ length gs
     → place_of (next_found w (Glyph asked) gs i) ≡ None
 unfolding next_found
-place_of-next_end w gs i asked end = place_of-end _ _ _ (grind (arith, end))
+place_of-past_end w gs i asked end = place_of-end _ _ _ (grind (arith, end))
 
 -- a set that is there, or not
 pub each_set : (table : List ℕ) (d e : Digest) (n index : ℕ) → ((k : ℕ) → k < n → HasSecondOfEach (set_at table k) d)

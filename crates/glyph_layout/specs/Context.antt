@@ -1,11 +1,18 @@
--- What a rule that fits at the cursor takes of the glyphs around it.
-use Rattle.std.specs.Prelude.{ℕ, ◌<◌, ◌≤◌, ◌≡◌, None, if◌then◌else◌}
+-- What a rule that fits at the cursor takes of the glyphs around it, and which rules a context has.
+use Rattle.std.specs.Prelude.{ℕ, ◌+◌, ◌*◌, ◌<◌, ◌≤◌, ◌≡◌, Bool, false, IsTrue, List, drop, Option, None, Some, if◌then◌else◌, nat_lt, option_and_then, unwrap_or}
+use Rattle.font_tables.specs.Bytes.{number_16, table_at_16}
+use Rattle.font_tables.specs.declared.coverage.Coverage.{Coverage}
 use Rattle.glyph_layout.specs.Match.{place_of}
+use Rattle.glyph_layout.specs.Pattern.{IsFitInSet, IsFitOf, Pattern, covered_pattern, rule_pattern}
 use Rattle.glyph_layout.specs.Rule.{input_walk}
-use Rattle.glyph_layout.specs.Walk.{next_found}
+use Rattle.glyph_layout.specs.Walk.{class_in, glyph_at, next_found}
 use Rattle.glyph_layout.specs.declared.context.Fit.{Fit}
+use Rattle.glyph_layout.specs.declared.rule.Meaning.{Meaning}
+use Rattle.glyph_layout.specs.declared.rule.Meaning.TheVariants.{Glyphs, Classes}
+use Rattle.glyph_layout.specs.declared.rule.Meanings.{Meanings}
 use Rattle.glyph_layout.specs.declared.search.Sides.{Sides}
 use Rattle.glyph_layout.specs.declared.subtable.NextAsked.{NextAsked}
+use Rattle.glyph_layout.specs.declared.subtable.Subtable.{Subtable}
 use Rattle.glyph_layout.specs.declared.walk.Walk.{Walk}
 use Rattle.glyph_layout.specs.declared.wanted.Wanted.TheVariants.{Covered}
 
@@ -23,3 +30,42 @@ next_walk next sides =
 abbrev pub IsMissed : NextAsked → Sides → Type 0
 IsMissed next sides =
     place_of (next_found (next_walk next sides) (Covered next.coverage) sides.input.now 0) ≡ None
+
+-- the set of this number of a list of sets, their count standing at a place
+abbrev pub numbered_set : List ℕ → ℕ → ℕ → Option (List ℕ)
+numbered_set table at number =
+    if nat_lt number (unwrap_or (number_16 table at) 0) then table_at_16 table (at + (2 + 2 * number)) else None
+
+-- the same meaning in all three parts of a rule
+abbrev pub same_meaning : Meaning → Meanings
+same_meaning meaning = record { behind = meaning; input = meaning; ahead = meaning }
+
+-- the classes of the three parts of a rule
+abbrev pub class_meanings : Subtable → Meanings
+class_meanings subtable = record {
+  behind = Classes subtable.classes_behind;
+  input = Classes subtable.classes;
+  ahead = Classes subtable.classes_ahead;
+}
+
+-- the rule of a context by coverages, of which its own begin at a place in a list
+abbrev pub covered_rule : List Coverage → Subtable → Bool → Option Pattern
+covered_rule coverages subtable is_chained =
+    covered_pattern is_chained (drop subtable.first_coverage coverages) subtable.table.now
+
+-- a rule, if there is one, fits at the cursor
+abbrev pub IsFitBy : Sides → Option Pattern → Fit → Type 0
+IsFitBy sides None fit = IsTrue false
+IsFitBy sides (Some p) fit = IsFitOf sides p fit
+
+-- a rule of a context fits at the cursor: one of the set of the coverage index (format 1), or of the class of the glyph there (format
+-- 2), or the only rule, by coverages (format 3)
+pub record IsContextFit (coverages : List Coverage) (subtable : Subtable) (index : Option ℕ) (is_chained : Bool) (sides : Sides) (fit : Fit) : Type 0 where
+  pub glyphs : subtable.format ≡ 1
+      → IsFitInSet sides (rule_pattern is_chained (same_meaning Glyphs)) (option_and_then (numbered_set subtable.table.now 4) index) fit
+  pub classes : subtable.format ≡ 2
+      → IsFitInSet sides (rule_pattern is_chained (class_meanings subtable))
+      (numbered_set subtable.table.now (if is_chained then 10 else 6)
+      (class_in subtable.classes.table.now (glyph_at sides.input.now 0).glyph_id)) fit
+  pub covered : subtable.format ≡ 3 → IsFitBy sides (covered_rule coverages subtable is_chained) fit
+  pub formats : (0 < subtable.format) × (subtable.format < 4)

@@ -1,13 +1,16 @@
 pub mod Budget
 pub mod Context
 pub mod Digest
+pub mod FirstEdit
 pub mod FirstGlyphs
 pub mod GlyphTable
 pub mod LigatureParts
 pub mod Lookup
 pub mod Match
+pub mod Pattern
 pub mod Rule
 pub mod Seconds
 pub mod Sets
 pub mod Substitution
+pub mod Subtables
 pub mod Walk

@@ -5,8 +5,8 @@ use Rattle.std.specs.Option.{option_or}
 use Rattle.font_tables.specs.Bytes.{number_16, table_at_16}
 use Rattle.rb_glyph.specs.declared.info.hb_glyph_info_t.{hb_glyph_info_t}
 use Rattle.glyph_layout.specs.LigatureParts.{ligature_id, ligature_component, may_join}
-use Rattle.glyph_layout.specs.Rule.{input_walk, wanted_by}
-use Rattle.glyph_layout.specs.Walk.{glyph_at, next_found, passes_over}
+use Rattle.glyph_layout.specs.Rule.{context_walk, input_walk, wanted_by}
+use Rattle.glyph_layout.specs.Walk.{glyph_at, next_found, passes_over, previous_found}
 use Rattle.glyph_layout.specs.declared.filter.Filter.{Filter}
 use Rattle.glyph_layout.specs.declared.rule.Meaning.TheVariants as rule
 use Rattle.glyph_layout.specs.declared.rule_set.Next.{Next}
@@ -29,6 +29,28 @@ place_of End = None
 abbrev pub next_place : Walk → Option Wanted → List hb_glyph_info_t → ℕ → Option ℕ
 next_place walk None glyphs place = None
 next_place walk (Some wanted) glyphs place = place_of (next_found walk wanted glyphs place)
+
+-- the place of the last glyph that counts before a place, where it is what is asked for
+abbrev pub previous_place : Walk → Option Wanted → List hb_glyph_info_t → ℕ → Option ℕ
+previous_place walk None glyphs place = None
+previous_place walk (Some wanted) glyphs place = place_of (previous_found walk wanted glyphs place)
+
+-- where so many steps lead from a place, each of them to the glyph that is asked for by its number
+unfoldable pub steps_from : (Option Wanted → ℕ → Option ℕ) → (ℕ → Option Wanted) → ℕ → ℕ → Option ℕ
+steps_from step asked place zero = Some place
+steps_from step asked place (suc k) = option_and_then (step (asked k)) (steps_from step asked place k)
+
+-- where so many glyphs end that stand behind an input, which ends at a place: each is the next that counts, and is what is asked for
+abbrev pub ahead_end : Sides → (ℕ → Option Wanted) → ℕ → ℕ → Option ℕ
+ahead_end sides asked end count =
+    option_map (λ place. place + 1)
+    (steps_from (λ wanted place. next_place (context_walk sides (end == 1)) wanted sides.input.now place) asked (end - 1) count)
+
+-- where so many glyphs begin that stand before the cursor, the nearest first: each is the last that counts, and is what is asked for
+abbrev pub behind_start : Sides → (ℕ → Option Wanted) → ℕ → Option ℕ
+behind_start sides asked count =
+    steps_from (λ wanted place. previous_place (context_walk sides sides.is_level) wanted sides.out.now place) asked
+    (length sides.out.now) count
 
 -- whether the last glyph before a place that is no mark of the ligature of this number is that ligature, and is passed over
 unfoldable pub is_hidden_before : Filter → ℕ → List hb_glyph_info_t → ℕ → Bool

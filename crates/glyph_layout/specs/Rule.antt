@@ -1,5 +1,5 @@
 -- What rules ask of glyphs that follow one another, and where these stand.
-use Rattle.std.specs.Prelude.{◌≡◌, ℕ, ◌+◌, ◌*◌, ◌<◌, List, Option, Some, option_map, slice_get, slice_index}
+use Rattle.std.specs.Prelude.{◌≡◌, Bool, if◌then◌else◌, ℕ, ◌+◌, ◌*◌, ◌<◌, List, Option, Some, option_map, slice_get, slice_index}
 use Rattle.rb_glyph.specs.declared.info.hb_glyph_info_t.{hb_glyph_info_t}
 use Rattle.font_tables.specs.Bytes.{number_16}
 use Rattle.glyph_layout.specs.Walk.{next_found}
@@ -31,3 +31,7 @@ ArePlaces walk asked glyphs count places =
 -- the walk over the glyphs of a match
 abbrev pub input_walk : Sides → Walk
 input_walk sides = record sides.walk { syllable = sides.syllable }
+
+-- the walk over the glyphs around a match, within the syllable or not
+abbrev pub context_walk : Sides → Bool → Walk
+context_walk sides is_within = record sides.context { syllable = if is_within then sides.syllable else 0 }

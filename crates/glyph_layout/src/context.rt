@@ -1,9 +1,10 @@
 //! Contexts: rules of glyphs at the cursor, before them and behind them, as the kinds 5 and 6 of `GSUB` have them, and the
 //! kinds 7 and 8 of `GPOS` (OpenType specification, "OpenType Layout Common Table Formats", "Sequence Context").
 
-ghost use Rattle.std.specs.Prelude.{◌≡◌, ◌<◌, ◌≤◌, length, IfSome, IsTrue};
+ghost use Rattle.std.specs.Prelude.{◌≡◌, ◌<◌, ◌≤◌, length, IfSome, IsTrue, Some, option_copied};
 ghost use Rattle.glyph_layout.specs.Budget.{IsNotMore};
-ghost use Rattle.glyph_layout.specs.Context.{IsFitWithin, IsMissed, next_walk};
+ghost use Rattle.glyph_layout.specs.Context.{IsContextFit, IsFitBy, IsFitWithin, IsMissed, class_meanings, covered_rule, next_walk};
+ghost use Rattle.glyph_layout.specs.Context.{numbered_set, same_meaning};
 ghost use Rattle.glyph_layout.specs.Walk.{skip_of};
 ghost use Rattle.glyph_layout.specs.declared.walk.Skip.TheVariants.{No};
 
@@ -67,6 +68,8 @@ pub fn fitting_rule<'a>(
     requires { 0 < length sides.now.input.now }
     ensures spent { IsNotMore search.old.budget search.new.budget }
     ensures fits { IfSome result (IsFitWithin (length sides.now.out.now) (length sides.now.input.now)) }
+    ensures rule { IfSome result
+        (IsContextFit list.now.coverages.items subtable.now (Some index) is_chained sides.now) }
 {
     let table = subtable.table;
     match subtable.format {
@@ -101,6 +104,7 @@ fn covered_fit<'a>(
     requires { 0 < length sides.now.input.now }
     ensures spent { IsNotMore search.old.budget search.new.budget }
     ensures fits { IfSome result (IsFitWithin (length sides.now.out.now) (length sides.now.input.now)) }
+    ensures rule { IfSome result (IsFitBy sides.now (covered_rule list.now.coverages.items subtable.now is_chained)) }
 {
     if let Some(next) = &subtable.next
         && let Some(to) = missed_next(next, sides)
@@ -152,7 +156,10 @@ fn missed_next(next: &NextAsked, sides: &Sides) -> Option<usize>
 }
 
 /// The set of this number of a list of sets, their count standing at a place.
-pub(crate) fn set_at(table: &[u8], at: usize, number: u32) -> Option<&[u8]> {
+pub(crate) fn set_at(table: &[u8], at: usize, number: u32) -> Option<&[u8]>
+    requires { at < 65536 }
+    ensures { option_copied result ≡ numbered_set table.now at number }
+{
     if number < u32::from(u16_at(table, at)?) {
         table_at_16(table, at.saturating_add(2 + 2 * number as usize))
     } else {
@@ -161,7 +168,9 @@ pub(crate) fn set_at(table: &[u8], at: usize, number: u32) -> Option<&[u8]> {
 }
 
 /// The same meaning in all three parts.
-pub(crate) fn same_meaning<'a>(meaning: Meaning<'a>) -> Meanings<'a> {
+pub(crate) fn same_meaning<'a>(meaning: Meaning<'a>) -> Meanings<'a>
+    ensures { result ≡ same_meaning meaning.entry }
+{
     Meanings {
         behind: meaning,
         input: meaning,
@@ -170,7 +179,9 @@ pub(crate) fn same_meaning<'a>(meaning: Meaning<'a>) -> Meanings<'a> {
 }
 
 /// The classes of the three parts.
-pub(crate) fn class_meanings<'a>(subtable: &Subtable<'a>) -> Meanings<'a> {
+pub(crate) fn class_meanings<'a>(subtable: &Subtable<'a>) -> Meanings<'a>
+    ensures { result ≡ class_meanings subtable.now }
+{
     Meanings {
         behind: Meaning::Classes(subtable.classes_behind),
         input: Meaning::Classes(subtable.classes),

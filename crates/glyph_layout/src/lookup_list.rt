@@ -1,11 +1,12 @@
 //! The lookups of `GSUB` or `GPOS` (OpenType specification, "OpenType Layout Common Table Formats", "Lookup List table").
 
-ghost use Rattle.std.specs.Prelude.{ℕ, ◌≡◌, ◌<◌, ◌≤◌, true, false, All, IsFalse, Some, length, slice_get, slice_range, option_copied};
+ghost use Rattle.std.specs.Prelude.{ℕ, ◌≡◌, ◌<◌, ◌≤◌, true, false, All, IsFalse, Some, ◌+◌, drop, length, slice_get, option_copied};
 ghost use Rattle.glyph_layout.specs.Digest.{HasMore};
 ghost use Rattle.glyph_layout.specs.FirstGlyphs.{HasMoreFirst};
 ghost use Rattle.glyph_layout.specs.Lookup.{IsForNone, is_for};
 ghost use Rattle.glyph_layout.specs.declared.lookup_list.Lookup.{Lookup};
 ghost use Rattle.glyph_layout.specs.Seconds.{AreSeconds};
+ghost use Rattle.glyph_layout.specs.Subtables.{subtables_of};
 ghost use Rattle.glyph_layout.specs.Walk.{glyph_at};
 
 use crate::digest::Digest;
@@ -157,8 +158,7 @@ impl<'a> LookupList<'a> {
 
     /// The subtables of a lookup, one after the other.
     pub fn subtables_of(&self, lookup: &Lookup) -> &[Subtable<'a>]
-        ensures { lookup.now.first ≤ lookup.now.last → lookup.now.last ≤ length self.now.subtables.items
-            → result.now ≡ slice_range self.now.subtables.items lookup.now.first lookup.now.last }
+        ensures { result.now ≡ subtables_of self.now.subtables.items lookup.now }
     {
         if lookup.first <= lookup.last && lookup.last <= self.subtables.len() {
             &self.subtables[lookup.first..lookup.last]
@@ -187,7 +187,9 @@ impl<'a> LookupList<'a> {
     }
 
     /// The coverages of a subtable from the one of this number on.
-    pub fn coverages_from(&self, subtable: &Subtable, number: usize) -> &[Coverage<'a>] {
+    pub fn coverages_from(&self, subtable: &Subtable, number: usize) -> &[Coverage<'a>]
+        ensures { result.now ≡ drop (subtable.now.first_coverage + number) self.now.coverages.items }
+    {
         let first = subtable.first_coverage.saturating_add(number);
         if first <= self.coverages.len() {
             &self.coverages[first..]

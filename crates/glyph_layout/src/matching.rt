@@ -9,7 +9,7 @@ ghost use Rattle.glyph_layout.specs.declared.walk.Found.TheVariants.{At};
 ghost use Rattle.glyph_layout.specs.declared.wanted.Wanted.{Wanted};
 ghost use Rattle.glyph_layout.specs.Budget.{IsNotMore};
 ghost use Rattle.glyph_layout.specs.LigatureParts.{may_join};
-ghost use Rattle.glyph_layout.specs.Match.{joins, next_place, may_leave, match_end};
+ghost use Rattle.glyph_layout.specs.Match.{ahead_end, behind_start, joins, match_end, may_leave, next_place, previous_place};
 
 use crate::budget::Budget;
 use crate::ligature_parts::{ligature_component, ligature_id};
@@ -75,6 +75,10 @@ fn step_behind(
     ensures is { IfOk result (λ before. (wanted : Wanted) → part_wanted part.now index ≡ Some wanted
         → previous_found walk.now wanted glyphs.now place ≡ At before) }
     ensures seen { IfErr result (λ from. from ≤ place) }
+    ensures found { IfOk result (λ before.
+        previous_place walk.now (part_wanted part.now index) glyphs.now place ≡ Some before) }
+    ensures missed { 0 < budget.new.steps → IfErr result (λ from.
+        previous_place walk.now (part_wanted part.now index) glyphs.now place ≡ None) }
 {
     let Some(wanted) = part.wanted(index) else {
         return Err(place);
@@ -207,6 +211,9 @@ pub(crate) fn match_ahead(
     ensures seen { IfErr result (λ to. to ≤ length sides.now.input.now) }
     ensures same_places { search.new.places ≡ search.old.places }
     ensures same_reach { search.new.reach ≡ search.old.reach }
+    ensures fits { IfOk result (λ to. ahead_end sides.now (part_wanted part.now) end part.now.count ≡ Some to) }
+    ensures misses { 0 < search.new.budget.steps → IfErr result (λ to.
+        ahead_end sides.now (part_wanted part.now) end part.now.count ≡ None) }
 {
     let walk = sides.context_walk(end == 1);
     let mut place = end - 1;
@@ -226,6 +233,9 @@ pub(crate) fn match_behind(sides: &Sides, part: &Part, search: &mut Search) -> R
     ensures seen { IfErr result (λ from. from ≤ length sides.now.out.now) }
     ensures same_places { search.new.places ≡ search.old.places }
     ensures same_reach { search.new.reach ≡ search.old.reach }
+    ensures fits { IfOk result (λ from. behind_start sides.now (part_wanted part.now) part.now.count ≡ Some from) }
+    ensures misses { 0 < search.new.budget.steps → IfErr result (λ from.
+        behind_start sides.now (part_wanted part.now) part.now.count ≡ None) }
 {
     let walk = sides.context_walk(sides.is_level);
     let mut place = sides.out.len();

@@ -1,6 +1,7 @@
 //! The rules of contexts: what they ask of the glyphs at the cursor, before them and behind them.
 
-ghost use Rattle.std.specs.Prelude.{◌≡◌};
+ghost use Rattle.std.specs.Prelude.{◌≡◌, drop, option_map};
+ghost use Rattle.glyph_layout.specs.Pattern.{chained_covered_pattern, chained_pattern, covered_by, covered_pattern, nothing, pattern_of, plain_pattern, rule_pattern};
 ghost use Rattle.glyph_layout.specs.Rule.{part_wanted};
 
 use crate::wanted::Wanted;
@@ -73,7 +74,10 @@ pub(crate) struct Rule<'a> {
 }
 
 /// Glyphs of which nothing is asked: there are none.
-fn no_part<'a>() -> Part<'a> {
+fn no_part<'a>() -> Part<'a>
+    ensures none { result.count ≡ 0 }
+    ensures asks { part_wanted result ≡ nothing }
+{
     Part {
         meaning: Meaning::Glyphs,
         numbers: &[],
@@ -86,7 +90,9 @@ pub(crate) fn rule_in<'a>(
     table: &'a [u8],
     meanings: &Meanings<'a>,
     is_chained: bool,
-) -> Option<Rule<'a>> {
+) -> Option<Rule<'a>>
+    ensures { option_map pattern_of result ≡ rule_pattern is_chained meanings.now table.now }
+{
     if is_chained {
         chained_rule(table, meanings)
     } else {
@@ -95,7 +101,9 @@ pub(crate) fn rule_in<'a>(
 }
 
 /// A rule without context.
-fn plain_rule<'a>(table: &'a [u8], meaning: Meaning<'a>) -> Option<Rule<'a>> {
+fn plain_rule<'a>(table: &'a [u8], meaning: Meaning<'a>) -> Option<Rule<'a>>
+    ensures { option_map pattern_of result ≡ plain_pattern meaning.entry table.now }
+{
     let count = u16_at(table, 0)?.saturating_sub(1);
     Some(Rule {
         behind: no_part(),
@@ -112,7 +120,9 @@ fn plain_rule<'a>(table: &'a [u8], meaning: Meaning<'a>) -> Option<Rule<'a>> {
 }
 
 /// A rule with glyphs before and behind its input.
-fn chained_rule<'a>(table: &'a [u8], meanings: &Meanings<'a>) -> Option<Rule<'a>> {
+fn chained_rule<'a>(table: &'a [u8], meanings: &Meanings<'a>) -> Option<Rule<'a>>
+    ensures { option_map pattern_of result ≡ chained_pattern meanings.now table.now }
+{
     let behind = u16_at(table, 0)?;
     let input_at = 2 + 2 * usize::from(behind);
     let input = u16_at(table, input_at)?.saturating_sub(1);
@@ -142,7 +152,10 @@ fn chained_rule<'a>(table: &'a [u8], meanings: &Meanings<'a>) -> Option<Rule<'a>
 }
 
 /// So many coverages of a list from a place on, or as many as there are from there on.
-fn coverages_at<'a>(coverages: &'a [Coverage<'a>], at: usize, count: u16) -> Part<'a> {
+fn coverages_at<'a>(coverages: &'a [Coverage<'a>], at: usize, count: u16) -> Part<'a>
+    ensures count { result.count ≡ count }
+    ensures asks { part_wanted result ≡ covered_by (drop at coverages.now) }
+{
     Part {
         meaning: Meaning::Coverages(if at < coverages.len() {
             &coverages[at..]
@@ -159,7 +172,9 @@ pub(crate) fn coverage_rule<'a>(
     table: &'a [u8],
     coverages: &'a [Coverage<'a>],
     is_chained: bool,
-) -> Option<Rule<'a>> {
+) -> Option<Rule<'a>>
+    ensures { option_map pattern_of result ≡ covered_pattern is_chained coverages.now table.now }
+{
     if is_chained {
         return chained_coverage_rule(table, coverages);
     }
@@ -175,7 +190,9 @@ pub(crate) fn coverage_rule<'a>(
 }
 
 /// The rule of a chained context by coverages.
-fn chained_coverage_rule<'a>(table: &'a [u8], coverages: &'a [Coverage<'a>]) -> Option<Rule<'a>> {
+fn chained_coverage_rule<'a>(table: &'a [u8], coverages: &'a [Coverage<'a>]) -> Option<Rule<'a>>
+    ensures { option_map pattern_of result ≡ chained_covered_pattern coverages.now table.now }
+{
     let behind = u16_at(table, 2)?;
     let input_at = 4 + 2 * usize::from(behind);
     let input = u16_at(table, input_at)?;

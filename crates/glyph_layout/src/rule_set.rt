@@ -1,9 +1,10 @@
 //! The rules of a set, of which the first that fits is taken.
 
-ghost use Rattle.std.specs.Prelude.{◌≡◌, ◌<◌, ◌≤◌, length, IfSome};
+ghost use Rattle.std.specs.Prelude.{◌≡◌, ◌<◌, ◌≤◌, length, IfSome, Some, is_some};
 ghost use Rattle.glyph_layout.specs.Budget.{IsNotMore};
 ghost use Rattle.glyph_layout.specs.Context.{IsFitWithin};
 ghost use Rattle.glyph_layout.specs.Match.{IsNext};
+ghost use Rattle.glyph_layout.specs.Pattern.{IsFitInSet, IsFitOf, pattern_fits, pattern_of, rule_pattern};
 ghost use Rattle.glyph_layout.specs.Rule.{ArePlaces, input_walk, part_wanted};
 
 use crate::context::Fit;
@@ -16,6 +17,7 @@ use font_tables::bytes::{table_at_16, u16_at};
 use rb_glyph::hb_glyph_info_t;
 
 /// The rule, if it fits at the cursor.
+#[tactic(auto, using(crate::proofs::PatternLemmas::fitting))]
 pub(crate) fn fit<'a>(rule: &Rule<'a>, sides: &Sides, search: &mut Search) -> Option<Fit<'a>>
     requires { 0 < length sides.now.input.now }
     ensures spent { IsNotMore search.old.budget search.new.budget }
@@ -23,6 +25,8 @@ pub(crate) fn fit<'a>(rule: &Rule<'a>, sides: &Sides, search: &mut Search) -> Op
     ensures places { IfSome result (λ found. ArePlaces (input_walk sides.now) (part_wanted rule.now.input)
         sides.now.input.now rule.now.input.count search.new.places.items) }
     ensures records { IfSome result (λ found. found.records.now ≡ rule.now.records.now) }
+    ensures is { IfSome result (IsFitOf sides.now (pattern_of rule.now)) }
+    ensures exact { 0 < search.new.budget.steps → is_some result ≡ pattern_fits sides.now (pattern_of rule.now) }
 {
     let end = match match_input(sides, &rule.input, search) {
         Ok(end) => end,
@@ -69,6 +73,7 @@ pub(crate) fn first_fit<'a>(
     requires { 0 < length sides.now.input.now }
     ensures spent { IsNotMore search.old.budget search.new.budget }
     ensures fits { IfSome result (IsFitWithin (length sides.now.out.now) (length sides.now.input.now)) }
+    ensures rule { IfSome result (IsFitInSet sides.now (rule_pattern is_chained meanings.now) (Some set.now)) }
 {
     let count = usize::from(u16_at(set, 0)?);
     let ahead = if count > 4 {

@@ -1,6 +1,7 @@
 //! What a search for a match is given, and what it leaves behind.
 
-ghost use Rattle.std.specs.Prelude.{◌≡◌, ◌≤◌, if◌then◌else◌, min, max};
+ghost use Rattle.std.specs.Prelude.{◌≡◌, ◌≤◌, min, max};
+ghost use Rattle.glyph_layout.specs.Rule.{context_walk, input_walk};
 
 use crate::budget::Budget;
 use crate::walk::Walk;
@@ -33,7 +34,7 @@ pub struct Sides<'a> {
 impl<'a> Sides<'a> {
     /// The walk over the glyphs of a match.
     pub fn input_walk(&self) -> Walk<'a>
-        ensures { result ≡ record self.now.walk { syllable = self.now.syllable } }
+        ensures { result ≡ input_walk self.now }
     {
         Walk {
             syllable: self.syllable,
@@ -43,7 +44,7 @@ impl<'a> Sides<'a> {
 
     /// The walk over the glyphs around a match, within the syllable or not.
     pub fn context_walk(&self, is_within: bool) -> Walk<'a>
-        ensures { result ≡ record self.now.context { syllable = if is_within then self.now.syllable else 0 } }
+        ensures { result ≡ context_walk self.now is_within }
     {
         let syllable = if is_within { self.syllable } else { 0 };
         Walk {

@@ -1,14 +1,15 @@
 //! What a lookup of `GSUB` does at the cursor (OpenType specification, "GSUB - Glyph Substitution Table").
 
 ghost use Rattle.std.specs.Prelude.{ℕ, ◌≡◌, ◌<◌, ◌≤◌, length, IfSome, IsTrue, Some, None, is_some, true, false};
-ghost use Rattle.std.specs.Prelude.{option_map, option_and_then};
+ghost use Rattle.std.specs.Prelude.{option_map};
 ghost use Rattle.glyph_layout.specs.Budget.{IsNotMore};
+ghost use Rattle.glyph_layout.specs.FirstEdit.{IsEditOf, IsFirstEdit, alternate_edit, cursor_index, is_of_use, ligature_edit, single_edit};
 ghost use Rattle.glyph_layout.specs.Match.{AsksForOther, IsNext, first_ligature, ligated, ligature_at, ligature_of};
 ghost use Rattle.glyph_layout.specs.Rule.{input_walk};
 ghost use Rattle.glyph_layout.specs.Sets.{set_at};
 ghost use Rattle.glyph_layout.specs.Substitution.{IsSequence, alternate_of, feature_value, single};
-ghost use Rattle.glyph_layout.specs.Substitution.{IsMultiple, IsLigature, replaced_by, cursor_glyph};
-ghost use Rattle.glyph_layout.specs.Walk.{covered_index};
+ghost use Rattle.glyph_layout.specs.Substitution.{IsMultiple, IsLigature};
+ghost use Rattle.glyph_layout.specs.Subtables.{subtables_of};
 ghost use Rattle.glyph_layout.specs.declared.substitution.Edit.TheVariants.{Replace};
 
 use crate::budget::{PASSED_A_STEP, SUBTABLE_STEPS};
@@ -79,6 +80,9 @@ pub fn edit_at<'a>(
 ) -> Option<Edit<'a>>
     requires { 0 < length sides.now.input.now }
     ensures spent { IsNotMore search.old.budget search.new.budget }
+    ensures first { 0 < search.new.budget.steps
+        → IsFirstEdit list.now.coverages.items options.now sides.now is_nested
+        (subtables_of list.now.subtables.items lookup.now) result }
 {
     let glyph = sides.input[0].glyph_id;
     let subtables = list.subtables_of(lookup);
@@ -108,18 +112,16 @@ fn edit_of<'a>(
 ) -> Option<Edit<'a>>
     requires { 0 < length sides.now.input.now }
     ensures spent { IsNotMore search.old.budget search.new.budget }
-    ensures single { subtable.now.kind ≡ 1 → result ≡ replaced_by
-        (single subtable.now.format subtable.now.table.now (cursor_glyph sides.now).glyph_id)
-        (covered_index subtable.now.coverage.table.now (cursor_glyph sides.now).glyph_id) }
-    ensures multiple { subtable.now.kind ≡ 2 → IsMultiple subtable.now.table.now
-        (covered_index subtable.now.coverage.table.now (cursor_glyph sides.now).glyph_id) result }
-    ensures alternate { subtable.now.kind ≡ 3 → options.now.random ≡ false → result ≡ replaced_by
-        (λ index. alternate_of (set_at subtable.now.table.now index)
-        (feature_value options.now.mask (cursor_glyph sides.now).mask))
-        (covered_index subtable.now.coverage.table.now (cursor_glyph sides.now).glyph_id) }
-    ensures ligature { subtable.now.kind ≡ 4 → 0 < search.new.budget.steps → ligated result ≡ option_and_then
-        (λ index. first_ligature sides.now (set_at subtable.now.table.now index))
-        (covered_index subtable.now.coverage.table.now (cursor_glyph sides.now).glyph_id) }
+    ensures single { subtable.now.kind ≡ 1 → result ≡ single_edit subtable.now sides.now }
+    ensures multiple { subtable.now.kind ≡ 2
+        → IsMultiple subtable.now.table.now (cursor_index subtable.now sides.now) result }
+    ensures alternate { subtable.now.kind ≡ 3 → options.now.random ≡ false
+        → result ≡ alternate_edit options.now subtable.now sides.now }
+    ensures ligature { subtable.now.kind ≡ 4 → 0 < search.new.budget.steps
+        → ligated result ≡ ligature_edit subtable.now sides.now }
+    ensures other { is_of_use subtable.now.kind is_nested ≡ false → result ≡ None }
+    ensures is { 0 < search.new.budget.steps
+        → IsEditOf list.now.coverages.items options.now sides.now is_nested subtable.now result }
 {
     let glyph = &sides.input[0];
     let index = covered_index(&subtable.coverage, glyph.glyph_id)?;

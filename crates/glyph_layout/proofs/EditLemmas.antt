@@ -1,0 +1,57 @@
+-- The first subtable that has an edit.
+use Rattle.std.proofs.Common.{◌≡◌, ℕ, ◌+◌, ◌<◌, Bool, true, false, List, ◌∷◌, drop, length, get_or, Option, Some, None, refl, subst, sym, ap, ◌∙◌, inl, inr, is_some}
+use Rattle.std.proofs.lemmas.List.{drop_more}
+use Rattle.font_tables.specs.declared.coverage.Coverage.{Coverage}
+use Rattle.glyph_layout.specs.Digest.{may_have}
+use Rattle.glyph_layout.specs.FirstEdit.{IsEditOf, IsFirstEdit, cursor_index}
+use Rattle.glyph_layout.specs.Substitution.{cursor_glyph}
+use Rattle.glyph_layout.specs.declared.search.Sides.{Sides}
+use Rattle.glyph_layout.specs.declared.substitution.Edit.{Edit}
+use Rattle.glyph_layout.specs.declared.subtable.Subtable.{Subtable}
+use Rattle.glyph_layout.specs.declared.walk.LookupOptions.{LookupOptions}
+use Rattle.glyph_layout.proofs.ContextLemmas.{not_covered}
+
+none_is : (o : Option ℕ) → is_some o ≡ false → o ≡ None
+none_is None none = refl
+none_is (Some n) none = cc
+
+-- a subtable that is not for the glyph does nothing
+uncovered : (cs : List Coverage) (o : LookupOptions) (s : Sides) (n : Bool) (t : Subtable) → cursor_index t s ≡ None → IsEditOf cs o s n t None
+uncovered cs o s n t none = record {
+  singles = λ is. rw none refl;
+  multiples = λ is. rw none refl;
+  alternates = λ is chosen. rw none refl;
+  ligatures = λ is. rw none refl;
+  contexts = λ is. tt;
+  chained_contexts = λ is. tt;
+  others = λ is. refl;
+}
+
+-- nor does one whose digest does not have it
+pub uncovered_by_digest : (cs : List Coverage) (o : LookupOptions) (s : Sides) (n : Bool) (t : Subtable)
+    → may_have t.digest (cursor_glyph s).glyph_id ≡ false → IsEditOf cs o s n t None
+uncovered_by_digest cs o s n t none =
+    uncovered cs o s n t (none_is _ (not_covered t.digest t.coverage (cursor_glyph s).glyph_id t.digests none))
+
+more : (ts : List Subtable) (i : ℕ) (t : Subtable) → i < length ts → t ≡ get_or ts i t → drop i ts ≡ t ∷ drop (i + 1) ts
+more ts i t within is = drop_more ts i t within ∙ ap (λ x. x ∷ drop (i + 1) ts) (sym is)
+
+-- the edit of a subtable that has one
+pub first_here : (cs : List Coverage) (o : LookupOptions) (s : Sides) (n : Bool) (ts : List Subtable) (i : ℕ) (t : Subtable) (edit : Option Edit)
+    → i < length ts → t ≡ get_or ts i t → is_some edit ≡ true → IsEditOf cs o s n t edit
+    → IsFirstEdit cs o s n (drop i ts) edit
+first_here cs o s n ts i t edit within is some has =
+    subst (λ l. IsFirstEdit cs o s n l edit) (sym (more ts i t within is)) (inl (some, has))
+
+-- that of the subtables behind one that has none
+pub first_later : (cs : List Coverage) (o : LookupOptions) (s : Sides) (n : Bool) (ts : List Subtable) (i : ℕ) (t : Subtable) (edit : Option Edit)
+    → i < length ts → t ≡ get_or ts i t → IsEditOf cs o s n t None
+    → IsFirstEdit cs o s n (drop (i + 1) ts) edit → IsFirstEdit cs o s n (drop i ts) edit
+first_later cs o s n ts i t edit within is none rest =
+    subst (λ l. IsFirstEdit cs o s n l edit) (sym (more ts i t within is)) (inr (none, rest))
+
+-- no edit
+pub no_edit : (cs : List Coverage) (o : LookupOptions) (s : Sides) (n : Bool) (t : Subtable) (edit : Option Edit) → IsEditOf cs o s n t edit
+    → is_some edit ≡ false → IsEditOf cs o s n t None
+no_edit cs o s n t None has none = has
+no_edit cs o s n t (Some e) has none = cc

@@ -1,0 +1,37 @@
+use Rattle.std.proofs.Common.{◌<◌, ◌∙◌, arith, rules, subst, sym}
+use Rattle.glyph_layout.specs.declared.search.Search.{Search}
+use Rattle.glyph_layout.proofs.EditLemmas.{first_here, first_later, no_edit, uncovered_by_digest}
+use Rattle.glyph_layout.proofs.substitution.edit_at.Goals as goal
+use Rattle.glyph_layout.proofs.substitution.edit_at.Goals.{then-may_have+else-not-pay+else-is_some, else-may_have}
+
+pub loop-subtable-preserved : goal.loop-subtable-preserved
+loop-subtable-preserved c =
+    let next = first_later c.args.list.now.coverages.items c.args.options.now c.args.sides.now c.args.is_nested c.subtables_of-subtables.result.now
+    c.loop-subtable.subtable-index c.subtable-item.result in
+    elim c.if-may_have.branch [
+      | then-may_have+else-not-pay+else-is_some w ↦ record {
+        spent = search rules;
+        first = λ some edit rest.
+            let left = subst (λ (x : Search). 0 < x.budget.steps) w.search-is some in
+            let missed = sym w.is_some.ensures ∙ w.if-is_some.false in
+            let none = no_edit _ _ _ _ _ _ (w.edit_of-edit.ensures.is left) missed in
+            c.loop-subtable.invariant.first (omega (arith, left)) edit
+            (next edit c.loop-subtable-test.true c.subtable-item.is none rest);
+      }
+      | else-may_have w ↦ record {
+        spent = search rules;
+        first = λ some edit rest.
+            let left = subst (λ (x : Search). 0 < x.budget.steps) w.search-is some in
+            let other = sym c.may_have.ensures ∙ w.if-may_have.false in
+            let none = uncovered_by_digest c.args.list.now.coverages.items c.args.options.now c.args.sides.now c.args.is_nested c.subtable-item.result other in
+            c.loop-subtable.invariant.first left edit
+            (next edit c.loop-subtable-test.true c.subtable-item.is none rest);
+      }
+    ]
+
+pub returns-then-is_some-clause-first : goal.returns-then-is_some-clause-first
+returns-then-is_some-clause-first c some =
+    let has = sym c.is_some.ensures ∙ c.if-is_some.true in
+    let first = c.loop-subtable.invariant.first (omega (arith, some)) c.edit_of-edit.result
+    (first_here _ _ _ _ _ _ c.subtable-item.result _ c.loop-subtable-test.true c.subtable-item.is has (c.edit_of-edit.ensures.is some)) in
+    rw c.subtables_of-subtables.ensures at first
