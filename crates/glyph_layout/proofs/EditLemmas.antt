@@ -2,18 +2,17 @@
 use Rattle.std.proofs.Common.{◌≡◌, ℕ, ◌+◌, ◌<◌, Bool, true, false, List, ◌∷◌, drop, length, get_or, Option, Some, None, refl, subst, sym, ap, ◌∙◌, inl, inr, is_some}
 use Rattle.std.proofs.lemmas.List.{drop_more}
 use Rattle.font_tables.specs.declared.coverage.Coverage.{Coverage}
-use Rattle.glyph_layout.specs.Digest.{may_have}
 use Rattle.glyph_layout.specs.FirstEdit.{IsEditOf, IsFirstEdit, cursor_index}
 use Rattle.glyph_layout.specs.Substitution.{cursor_glyph}
+use Rattle.glyph_layout.specs.Walk.{covered_index}
 use Rattle.glyph_layout.specs.declared.search.Sides.{Sides}
 use Rattle.glyph_layout.specs.declared.substitution.Edit.{Edit}
 use Rattle.glyph_layout.specs.declared.subtable.Subtable.{Subtable}
 use Rattle.glyph_layout.specs.declared.walk.LookupOptions.{LookupOptions}
-use Rattle.glyph_layout.proofs.ContextLemmas.{not_covered}
 
-none_is : (o : Option ℕ) → is_some o ≡ false → o ≡ None
+none_is : (o : Option ℕ) → (is_some o ≡ true → ⊥) → o ≡ None
 none_is None none = refl
-none_is (Some n) none = cc
+none_is (Some n) none = absurd (none refl)
 
 -- a subtable that is not for the glyph does nothing
 uncovered : (cs : List Coverage) (o : LookupOptions) (s : Sides) (n : Bool) (t : Subtable) → cursor_index t s ≡ None → IsEditOf cs o s n t None
@@ -27,11 +26,10 @@ uncovered cs o s n t none = record {
   others = λ is. refl;
 }
 
--- nor does one whose digest does not have it
-pub uncovered_by_digest : (cs : List Coverage) (o : LookupOptions) (s : Sides) (n : Bool) (t : Subtable)
-    → may_have t.digest (cursor_glyph s).glyph_id ≡ false → IsEditOf cs o s n t None
-uncovered_by_digest cs o s n t none =
-    uncovered cs o s n t (none_is _ (not_covered t.digest t.coverage (cursor_glyph s).glyph_id t.digests none))
+-- nor does one that cannot be for it
+pub uncovered_by : (cs : List Coverage) (o : LookupOptions) (s : Sides) (n : Bool) (t : Subtable)
+    → (is_some (covered_index t.coverage.table.now (cursor_glyph s).glyph_id) ≡ true → ⊥) → IsEditOf cs o s n t None
+uncovered_by cs o s n t none = uncovered cs o s n t (none_is _ none)
 
 more : (ts : List Subtable) (i : ℕ) (t : Subtable) → i < length ts → t ≡ get_or ts i t → drop i ts ≡ t ∷ drop (i + 1) ts
 more ts i t within is = drop_more ts i t within ∙ ap (λ x. x ∷ drop (i + 1) ts) (sym is)

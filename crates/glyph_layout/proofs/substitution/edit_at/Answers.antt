@@ -1,15 +1,15 @@
 use Rattle.std.proofs.Common.{◌<◌, ◌∙◌, arith, rules, subst, sym}
 use Rattle.glyph_layout.specs.declared.search.Search.{Search}
-use Rattle.glyph_layout.proofs.EditLemmas.{first_here, first_later, no_edit, uncovered_by_digest}
+use Rattle.glyph_layout.proofs.EditLemmas.{first_here, first_later, no_edit, uncovered_by}
 use Rattle.glyph_layout.proofs.substitution.edit_at.Goals as goal
-use Rattle.glyph_layout.proofs.substitution.edit_at.Goals.{then-may_have+else-not-pay+else-is_some, else-may_have}
+use Rattle.glyph_layout.proofs.substitution.edit_at.Goals.{then-may_be_for+else-not-pay+else-is_some, else-may_be_for}
 
 pub loop-subtable-preserved : goal.loop-subtable-preserved
 loop-subtable-preserved c =
     let next = first_later c.args.list.now.coverages.items c.args.options.now c.args.sides.now c.args.is_nested c.subtables_of-subtables.result.now
     c.loop-subtable.subtable-index c.subtable-item.result in
-    elim c.if-may_have.branch [
-      | then-may_have+else-not-pay+else-is_some w ↦ record {
+    elim c.if-may_be_for.branch [
+      | then-may_be_for+else-not-pay+else-is_some w ↦ record {
         spent = search rules;
         first = λ some edit rest.
             let left = subst (λ (x : Search). 0 < x.budget.steps) w.search-is some in
@@ -18,12 +18,12 @@ loop-subtable-preserved c =
             c.loop-subtable.invariant.first (omega (arith, left)) edit
             (next edit c.loop-subtable-test.true c.subtable-item.is none rest);
       }
-      | else-may_have w ↦ record {
+      | else-may_be_for w ↦ record {
         spent = search rules;
         first = λ some edit rest.
             let left = subst (λ (x : Search). 0 < x.budget.steps) w.search-is some in
-            let other = sym c.may_have.ensures ∙ w.if-may_have.false in
-            let none = uncovered_by_digest c.args.list.now.coverages.items c.args.options.now c.args.sides.now c.args.is_nested c.subtable-item.result other in
+            let none = uncovered_by c.args.list.now.coverages.items c.args.options.now c.args.sides.now c.args.is_nested c.subtable-item.result
+            (λ has. let may = c.may_be_for.ensures has in let not = w.if-may_be_for.false in cc) in
             c.loop-subtable.invariant.first left edit
             (next edit c.loop-subtable-test.true c.subtable-item.is none rest);
       }
