@@ -1,13 +1,13 @@
 -- The lines of a text, from a place on.
 use Rattle.std.proofs.Common.{◌≡◌, ℕ, zero, suc, ◌+◌, ◌-◌, ◌*◌, ◌<◌, ◌≤◌, Bool, true, false, List, [], ◌∷◌, ◌++◌, ◌&&◌}
 use Rattle.std.proofs.Common.{length, take, drop, get_or, cond, ltb, refl, sym, ap, ◌∙◌, subst, arith}
-use Rattle.std.proofs.lemmas.Bool.{cond_both, cond-true, cond-false}
+use Rattle.std.proofs.lemmas.Bool.{cond_both, cond-true, cond-false, lt-ltb, le-ltb}
 use Rattle.std.proofs.lemmas.Bool.Decides.{nat_tests}
 use Rattle.std.proofs.Common.{w32, to_z, of_z, ◌^◌}
 use Rattle.std.specs.Int.{w128}
 use Rattle.std.specs.Prelude.{ℤ, pos, negsuc, ◌+ℤ◌, nat_abs, FitsSigned, if◌then◌else◌}
 use Rattle.std.proofs.lemmas.Int.{ints, to_z-of_z}
-use Rattle.std.proofs.lemmas.List.{drop_more, drop-drop, append_assoc}
+use Rattle.std.proofs.lemmas.List.{drop_more, drop-drop, append_assoc, append-nil}
 use Rattle.std.proofs.Math.Seq.{take-add}
 use Rattle.std.specs.List.{list_all}
 use Rattle.rb_glyph.specs.Rows.{rise}
@@ -233,77 +233,138 @@ one_more old x xa n fx fa e bound few =
     ap (λ z. to_z w128 (of_z w128 (old +ℤ z))) same ∙ to_z-of_z w128 (old +ℤ xa) fits in
     record { is = all; bound = omega (arith, ap nat_abs all, abs-add old xa) }
 
+-- The walk has come to place k: a line from `start` has come to `end`, and a piece stands behind it, each so wide. These
+-- ends and those of the lines that are left are all.
+pub record Walked (l : List hb_glyph_info_t) (ps : List GlyphPosition) (all : List ℕ) (k start end : ℕ) (ends : List ℕ)
+    (ws : List ℤ) (t p : ℤ) : Type 0 where
+  pub order : start ≤ end
+  pub behind : end ≤ k
+  pub taken : t ≡ width_of ps start end
+  pub piece : p ≡ width_of ps end k
+  pub taken_bound : nat_abs t ≤ (end - start) * 2 ^ 31
+  pub piece_bound : nat_abs p ≤ (k - end) * 2 ^ 31
+  pub whole : ends ++ ends_left l ps ws start end k ≡ all
+
 -- a line of this start has come to `end`, and goes on behind the glyph at place k
-pub record Joined (l : List hb_glyph_info_t) (ps : List GlyphPosition) (whole : List ℕ) (k end start : ℕ)
+pub record Joined (l : List hb_glyph_info_t) (ps : List GlyphPosition) (all : List ℕ) (k end start : ℕ)
     (ends : List ℕ) (ws : List ℤ) (t : ℤ) : Type 0 where
   pub order : start ≤ end
   pub taken : t ≡ width_of ps start end
   pub bound : nat_abs t ≤ (end - start) * 2 ^ 31
-  pub all : ends ++ ends_left l ps ws start (k + 1) (k + 1) ≡ whole
+  pub whole : ends ++ ends_left l ps ws start (k + 1) (k + 1) ≡ all
 
-module _ (l : List hb_glyph_info_t) (ps : List GlyphPosition) (whole : List ℕ) (k end start : ℕ) (ends : List ℕ)
-    (ws : List ℤ) (t p sum : ℤ) (some : k < length l) (may : may_end l (k + 1) ≡ true) (order : start ≤ end)
-    (before : end ≤ k) (is : t ≡ width_of ps start end) (piece : p ≡ width_of ps end (k + 1))
-    (bound : nat_abs t ≤ (end - start) * 2 ^ 31) (all : ends ++ ends_left l ps ws start end k ≡ whole) where
-  line_is : sum ≡ t +ℤ p → sum ≡ width_of ps start (k + 1)
-  line_is e =
-      e ∙ ap (λ z. z +ℤ p) is ∙ ap (λ z. width_of ps start end +ℤ z) piece
-      ∙ add-width_of ps start end (k + 1) order (omega arith)
+-- there is a glyph at place k, and so large is its advance as it is read
+pub record IsNext (l : List hb_glyph_info_t) (ps : List GlyphPosition) (k : ℕ) (x : ℤ) : Type 0 where
+  pub some : k < length l
+  pub long : length l ≡ length ps
+  pub few : k < 2 ^ 64
+  pub fits : FitsSigned w128 x
+  pub advance_fits : FitsSigned w32 (get_or ps k zero_position).x_advance
+  pub is : x ≡ to_z w32 (of_z w32 (get_or ps k zero_position).x_advance)
 
-  pub joined_on : (start < end → (sum ≡ t +ℤ p) × (is_within sum ws ≡ true)) → Joined l ps whole k end start ends ws t
-  joined_on fits = record {
-    order = order;
-    taken = is;
-    bound = bound;
-    all = ap (λ x. ends ++ x) (sym (goes_on l ps ws start end k some may (omega arith)
-        (λ less. ap (λ z. is_within z ws) (sym (line_is (fits less).0)) ∙ (fits less).1)))
-        ∙ all;
+module _ {l : List hb_glyph_info_t} {ps : List GlyphPosition} {all : List ℕ} {k start end : ℕ} {ends : List ℕ}
+    {ws : List ℤ} {t p x : ℤ} (w : Walked l ps all k start end ends ws t p) (g : IsNext l ps k x) where
+  abbrev more : ℤ
+  more = to_z w128 (of_z w128 (p +ℤ to_z w128 (of_z w128 x)))
+
+  one : OneMore p (get_or ps k zero_position).x_advance more (k - end)
+  one =
+      one_more p x (get_or ps k zero_position).x_advance (k - end) g.fits g.advance_fits g.is w.piece_bound
+      (omega (arith, g.few))
+
+  piece_more : more ≡ width_of ps end (k + 1)
+  piece_more =
+      one.is ∙ ap (λ z. z +ℤ (get_or ps k zero_position).x_advance) w.piece
+      ∙ sym (width_of-more ps end k w.behind (omega (arith, g.some, g.long)))
+
+  small : nat_abs more ≤ (k + 1 - end) * 2 ^ 31
+  small = omega (arith, one.bound, w.behind)
+
+  -- no line may end behind the glyph
+  pub walked_past : may_end l (k + 1) ≡ false → Walked l ps all (k + 1) start end ends ws t more
+  walked_past none = record {
+    order = w.order;
+    behind = omega (arith, w.behind);
+    taken = w.taken;
+    piece = piece_more;
+    taken_bound = w.taken_bound;
+    piece_bound = small;
+    whole = ap (λ x. ends ++ x) (sym (none_ends l ps ws start end k g.some none)) ∙ w.whole;
   }
 
-  pub joined_next : start < end → sum ≡ t +ℤ p → is_within sum ws ≡ false
-      → Joined l ps whole k end end (ends ++ end ∷ []) (widths_after ws) (pos 0)
-  joined_next less e wide = record {
+  line_is : to_z w128 (of_z w128 (t +ℤ more)) ≡ width_of ps start (k + 1)
+  line_is =
+      to_z-of_z w128 (t +ℤ more)
+      (sum-fits t more (end - start) (k + 1 - end) w.taken_bound small (omega (arith, w.order, w.behind, g.few)))
+      ∙ ap (λ z. z +ℤ more) w.taken ∙ ap (λ z. width_of ps start end +ℤ z) piece_more
+      ∙ add-width_of ps start end (k + 1) w.order (omega (arith, w.behind))
+
+  -- the line goes on
+  pub joined_on : may_end l (k + 1) ≡ true
+      → (start < end → is_within (to_z w128 (of_z w128 (t +ℤ more))) ws ≡ true) → Joined l ps all k end start ends ws t
+  joined_on may fits = record {
+    order = w.order;
+    taken = w.taken;
+    bound = w.taken_bound;
+    whole = ap (λ x. ends ++ x) (sym (goes_on l ps ws start end k g.some may (omega (arith, w.order, w.behind))
+        (λ less. ap (λ z. is_within z ws) (sym line_is) ∙ fits less)))
+        ∙ w.whole;
+  }
+
+  -- the line ends, and the next one begins
+  pub joined_next : may_end l (k + 1) ≡ true → start < end → is_within (to_z w128 (of_z w128 (t +ℤ more))) ws ≡ false
+      → Joined l ps all k end end (ends ++ end ∷ []) (widths_after ws) (pos 0)
+  joined_next may less wide = record {
     order = omega arith;
     taken = sym (width_of-none ps end);
     bound = omega arith;
-    all = append_assoc ends (end ∷ []) (ends_left l ps (widths_after ws) end (k + 1) (k + 1))
-        ∙ ap (λ x. ends ++ x) (sym (ended l ps ws start end k some may less before
-        (ap (λ z. is_within z ws) (sym (line_is e)) ∙ wide)))
-        ∙ all;
+    whole = append_assoc ends (end ∷ []) (ends_left l ps (widths_after ws) end (k + 1) (k + 1))
+        ∙ ap (λ x. ends ++ x) (sym (ended l ps ws start end k g.some may less w.behind
+        (ap (λ z. is_within z ws) (sym line_is) ∙ wide)))
+        ∙ w.whole;
   }
 
-  -- the sum of both parts
-  pub line_sum : end - start + (k + 1 - end) < 2 ^ 66 → nat_abs p ≤ (k + 1 - end) * 2 ^ 31
-      → to_z w128 (of_z w128 (t +ℤ p)) ≡ t +ℤ p
-  line_sum few small = to_z-of_z w128 (t +ℤ p) (sum-fits t p (end - start) (k + 1 - end) bound small few)
+  -- the line takes the piece
+  module _ {start2 : ℕ} {ends2 : List ℕ} {ws2 : List ℤ} {t2 : ℤ} (j : Joined l ps all k end start2 ends2 ws2 t2) where
+    pub taken-fits : FitsSigned w128 (t2 +ℤ more)
+    taken-fits =
+        sum-fits t2 more (end - start2) (k + 1 - end) j.bound small (omega (arith, j.order, w.behind, g.few))
+
+    pub walked_joined : Walked l ps all (k + 1) start2 (k + 1) ends2 ws2 (to_z w128 (of_z w128 (t2 +ℤ more))) (pos 0)
+    walked_joined =
+        let e = to_z-of_z w128 (t2 +ℤ more) taken-fits in
+        record {
+          order = omega (arith, j.order, w.behind);
+          behind = omega arith;
+          taken = e ∙ ap (λ z. z +ℤ more) j.taken ∙ ap (λ z. width_of ps start2 end +ℤ z) piece_more
+              ∙ add-width_of ps start2 end (k + 1) j.order (omega (arith, w.behind));
+          piece = sym (width_of-none ps (k + 1));
+          taken_bound = omega (arith, ap nat_abs e, abs-add t2 more, j.bound, j.order, small, w.behind);
+          piece_bound = omega arith;
+          whole = j.whole;
+        }
 
 -- the same, by other names
-pub moved : (l : List hb_glyph_info_t) (ps : List GlyphPosition) (whole : List ℕ) (k end start start2 : ℕ)
-    (ends ends2 : List ℕ) (ws ws2 : List ℤ) (t t2 : ℤ) → start2 ≡ start → ends2 ≡ ends → ws2 ≡ ws → t2 ≡ t
-    → Joined l ps whole k end start ends ws t → Joined l ps whole k end start2 ends2 ws2 t2
-moved l ps whole k end start start2 ends ends2 ws ws2 t t2 e1 e2 e3 e4 j =
-    subst (λ x. Joined l ps whole k end x ends2 ws2 t2) (sym e1)
-    (subst (λ x. Joined l ps whole k end start x ws2 t2) (sym e2)
-    (subst (λ x. Joined l ps whole k end start ends x t2) (sym e3)
-    (subst (λ x. Joined l ps whole k end start ends ws x) (sym e4) j)))
+pub joined_alike : {l : List hb_glyph_info_t} {ps : List GlyphPosition} {all : List ℕ} {k end start start2 : ℕ}
+    {ends ends2 : List ℕ} {ws ws2 : List ℤ} {t t2 : ℤ} → start2 ≡ start → ends2 ≡ ends → ws2 ≡ ws → t2 ≡ t
+    → Joined l ps all k end start ends ws t → Joined l ps all k end start2 ends2 ws2 t2
+joined_alike {l = l} {ps = ps} {all = all} {k = k} {end = end} {start = start} {ends = ends} {ends2 = ends2} {ws = ws}
+    {ws2 = ws2} {t2 = t2} e1 e2 e3 e4 j =
+    subst (λ x. Joined l ps all k end x ends2 ws2 t2) (sym e1)
+    (subst (λ x. Joined l ps all k end start x ws2 t2) (sym e2)
+    (subst (λ x. Joined l ps all k end start ends x t2) (sym e3)
+    (subst (λ x. Joined l ps all k end start ends ws x) (sym e4) j)))
 
--- what a turn of the walk keeps
-pub record Stands (l : List hb_glyph_info_t) (ps : List GlyphPosition) (whole : List ℕ) (k start : ℕ) (ends : List ℕ)
-    (ws : List ℤ) (t : ℤ) : Type 0 where
-  pub taken : t ≡ width_of ps start (k + 1)
-  pub piece : pos 0 ≡ width_of ps (k + 1) (k + 1)
-  pub bound : nat_abs t ≤ (k + 1 - start) * 2 ^ 31
+-- no glyph is left
+module _ {l : List hb_glyph_info_t} {ps : List GlyphPosition} {all : List ℕ} {k start end : ℕ} {ends : List ℕ}
+    {ws : List ℤ} {t p : ℤ} (w : Walked l ps all k start end ends ws t p) (past : length l ≡ k) where
+  left : ends ++ cond (ltb start end) (end ∷ []) [] ≡ all
+  left =
+      ap (λ x. ends ++ x) (sym (ends_left-none l ps ws start end) ∙ ap (ends_left l ps ws start end) past) ∙ w.whole
 
-pub stands : (l : List hb_glyph_info_t) (ps : List GlyphPosition) (whole : List ℕ) (k end start : ℕ) (ends : List ℕ)
-    (ws : List ℤ) (t p : ℤ) → end ≤ k → p ≡ width_of ps end (k + 1) → nat_abs p ≤ (k + 1 - end) * 2 ^ 31
-    → k < 2 ^ 64 → Joined l ps whole k end start ends ws t
-    → Stands l ps whole k start ends ws (to_z w128 (of_z w128 (t +ℤ p)))
-stands l ps whole k end start ends ws t p before piece small few j =
-    let e : to_z w128 (of_z w128 (t +ℤ p)) ≡ t +ℤ p =
-    to_z-of_z w128 (t +ℤ p) (sum-fits t p (end - start) (k + 1 - end) j.bound small (omega (arith, j.order))) in
-    record {
-      taken = e ∙ ap (λ z. z +ℤ p) j.taken ∙ ap (λ z. width_of ps start end +ℤ z) piece
-          ∙ add-width_of ps start end (k + 1) j.order (omega arith);
-      piece = sym (width_of-none ps (k + 1));
-      bound = omega (arith, ap nat_abs e, abs-add t p, j.bound, j.order);
-    }
+  pub last_line : start < end → ends ++ end ∷ [] ≡ all
+  last_line less = ap (λ x. ends ++ x) (sym (cond-true _ (end ∷ []) [] (lt-ltb start end less))) ∙ left
+
+  pub no_line : end ≤ start → ends ≡ all
+  no_line none =
+      sym (append-nil ends) ∙ ap (λ x. ends ++ x) (sym (cond-false _ (end ∷ []) [] (le-ltb start end none))) ∙ left

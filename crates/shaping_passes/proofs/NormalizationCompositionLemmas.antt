@@ -24,7 +24,7 @@ use Rattle.shaping_passes.specs.NormalizationComposition.{is_blocked, pair_of, c
 use Rattle.shaping_passes.specs.NormalizationComposition.{kept_one, IsPlace, composed_at, composed_glyphs}
 use Rattle.shaping_passes.specs.NormalizationComposition.{Pairs, PairsReadCores}
 use Rattle.shaping_passes.proofs.NormalizationPairLemmas.{Glyphs, take_first, never_wants}
-use Rattle.shaping_passes.proofs.NormalizationMergesLemmas.{on_none}
+use Rattle.shaping_passes.proofs.NormalizationMergesLemmas.{on_none, carried}
 
 -- ---- what the text becomes
 
@@ -111,7 +111,7 @@ module _ (pairs : Pairs) (classes : Classes) (alike : ReadsCores classes) (pairs
       cut : take at out ++ starter ∷ between ≡ out
       cut = ap (λ l. take at out ++ l) (sym (drop_more out at zero_glyph place)) ∙ take-append-drop at out
 
-      pub paired : (id : ℕ) → pair_of pairs classes starter between h ≡ Some id
+      paired : (id : ℕ) → pair_of pairs classes starter between h ≡ Some id
           → so_far pairs classes (Some at) (set out at (with_id id starter)) rest ≡ so_far pairs classes (Some at) out input
       unfolding so_far
       paired id e =
@@ -172,13 +172,13 @@ module _ (pairs : Pairs) (classes : Classes) (alike : ReadsCores classes) (pairs
     class_head : classes (get_or I 0 zero_glyph) ≡ classes (head_of s)
     class_head = ap classes (get_or-map core s.input 0 zero_glyph zero_glyph some) ∙ alike (head_of s)
 
-    pub head_core : get_or I 0 zero_glyph ≡ core (head_of s)
+    head_core : get_or I 0 zero_glyph ≡ core (head_of s)
     head_core = get_or-map core s.input 0 zero_glyph zero_glyph some
 
     out_length : length s.out ≡ length O
     out_length = sym (length-map s.out core)
 
-    pub kept_first : so_far pairs classes (cond (eqb (classes (head_of s)) 0) (Some (length s.out)) None)
+    kept_first : so_far pairs classes (cond (eqb (classes (head_of s)) 0) (Some (length s.out)) None)
         (cores (kept_one s).out) (cores (kept_one s).input) ≡ so_far pairs classes None O I
     kept_first = elim (cases_eq (classes (head_of s)) 0) [
       | inl e ↦ ap (λ o. so_far pairs classes o (cores (kept_one s).out) (cores (kept_one s).input))
@@ -191,7 +191,7 @@ module _ (pairs : Pairs) (classes : Classes) (alike : ReadsCores classes) (pairs
           ∙ kept_lists None ∙ mark_first O I some_core (λ e. ne (sym class_head ∙ e))
     ]
 
-    pub kept_behind : (at : ℕ) → at < length s.out
+    kept_behind : (at : ℕ) → at < length s.out
         → pair_of pairs classes (get_or O at zero_glyph) (drop (at + 1) O) (core (head_of s)) ≡ None
         → so_far pairs classes (cond (eqb (classes (head_of s)) 0) (Some (length s.out)) (Some at))
         (cores (kept_one s).out) (cores (kept_one s).input) ≡ so_far pairs classes (Some at) O I
@@ -208,6 +208,36 @@ module _ (pairs : Pairs) (classes : Classes) (alike : ReadsCores classes) (pairs
               (cond-false _ _ _ (ne_eqb _ 0 ne))
               ∙ kept_lists (Some at) ∙ mark_kept O I some_core at at_core none_core (λ e. ne (sym class_head ∙ e))
         ]
+
+    -- a character is kept behind no starter, or behind one
+    pub same_first : (starter next : Option ℕ) (t : State) → starter ≡ None
+        → next ≡ cond (eqb (classes (head_of s)) 0) (Some (length s.out)) None → t ≡ kept_one s
+        → so_far pairs classes next (cores t.out) (cores t.input) ≡ so_far pairs classes starter O I
+    same_first starter next t is behind kept = carried (λ (o : Option ℕ) (u : State). so_far pairs classes o (cores u.out) (cores u.input))
+        is behind kept kept_first
+
+    module _ (starter : Option ℕ) (at : ℕ) (is : starter ≡ Some at) (place : IsPlace starter s) where
+      at_place : at < length s.out
+      at_place = subst (λ (o : Option ℕ). IsPlace o s) is place
+
+      pub same_kept : None ≡ pair_of pairs classes (get_or O at zero_glyph) (drop (at + 1) O) (core (head_of s))
+          → (next : Option ℕ) (t : State)
+          → next ≡ cond (eqb (classes (head_of s)) 0) (Some (length s.out)) (Some at) → t ≡ kept_one s
+          → so_far pairs classes next (cores t.out) (cores t.input) ≡ so_far pairs classes starter O I
+      same_kept none next t behind kept = carried (λ (o : Option ℕ) (u : State). so_far pairs classes o (cores u.out) (cores u.input))
+          is behind kept (kept_behind at at_place (sym none))
+
+      -- a pair is composed
+      pub same_paired : (id : ℕ)
+          → Some id ≡ pair_of pairs classes (get_or O at zero_glyph) (drop (at + 1) O) (core (head_of s)) → (t : State)
+          → cores t.out ≡ set O at (with_id id (get_or O at zero_glyph)) → cores t.input ≡ drop 1 I
+          → so_far pairs classes (Some at) (cores t.out) (cores t.input) ≡ so_far pairs classes starter O I
+      same_paired id made t out input =
+          ap (λ (l : Glyphs). so_far pairs classes (Some at) l (cores t.input)) out
+          ∙ ap (λ (l : Glyphs). so_far pairs classes (Some at) (set O at (with_id id (get_or O at zero_glyph))) l) input
+          ∙ paired O I some_core at (omega (arith, at_place, length-map s.out core)) id
+          (ap (pair_of pairs classes (get_or O at zero_glyph) (drop (at + 1) O)) head_core ∙ sym made)
+          ∙ ap (λ (o : Option ℕ). so_far pairs classes o O I) (sym is)
 
   -- ---- what is blocked
 

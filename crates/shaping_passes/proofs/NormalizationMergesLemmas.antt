@@ -1,7 +1,7 @@
 -- Each turn of the composition keeps what the whole list becomes, with its clusters.
 use Rattle.std.proofs.Common.{◌≡◌, ℕ, zero, suc, ◌+◌, ◌-◌, ◌<◌, Bool, [], ◌∷◌, ◌++◌, length, get_or, take, drop}
 use Rattle.std.proofs.Common.{refl, sym, ap, ◌∙◌, subst, cond, eqb, leb, ltb, ◌&&◌, Option, Some, None, arith, length-append, length-drop}
-use Rattle.std.proofs.Common.{length-take, append_assoc}
+use Rattle.std.proofs.Common.{length-take, length-set, append_assoc, set}
 use Rattle.std.proofs.lemmas.Bool.{cond_both}
 use Rattle.std.proofs.lemmas.List.{length-map, get_or-map, get_or_append_left, drop-map, drop-append-le, take_at}
 use Rattle.std.proofs.lemmas.List.{get_or-append-add, take-append-drop}
@@ -10,10 +10,11 @@ use Rattle.glyph_lists.specs.Clusters.{zero_glyph, IsMonotone}
 use Rattle.glyph_lists.specs.Parts.{part}
 use Rattle.shaping_buffer.specs.State.{State}
 use Rattle.shaping_buffer.specs.ClusterStep.{both, head_of}
+use Rattle.shaping_buffer.specs.Step.{with_id}
 use Rattle.glyph_laws.specs.Cores.{core, cores}
 use Rattle.shaping_passes.specs.NormalizationOrder.{Classes, ReadsCores}
 use Rattle.shaping_passes.specs.NormalizationComposition.{is_blocked, pair_of, kept_one, pair_composed, starter_behind}
-use Rattle.shaping_passes.specs.NormalizationComposition.{composed_at, composed_glyphs, Pairs, PairsReadCores}
+use Rattle.shaping_passes.specs.NormalizationComposition.{composed_at, composed_glyphs, Pairs, PairsReadCores, IsPlace}
 use Rattle.shaping_passes.proofs.NormalizationPairLemmas.{Glyphs, order_composed, length_composed}
 
 -- ---- two sides as one list
@@ -38,6 +39,12 @@ length-kept_one s some = omega (arith, length-append s.out (take 1 s.input), len
 both_kept : (s : State) → both (kept_one s) ≡ both s
 both_kept s =
     append_assoc s.out (take 1 s.input) (drop 1 s.input) ∙ ap (λ (l : Glyphs). s.out ++ l) (take-append-drop 1 s.input)
+
+-- what reads a buffer and its last starter reads the same before and after one more character is kept
+pub carried : {A : Type 0} (f : Option ℕ → State → A) {s t : State} {starter before next behind : Option ℕ} → starter ≡ before
+    → next ≡ behind → t ≡ kept_one s → f behind (kept_one s) ≡ f before s → f next t ≡ f starter s
+carried f {s = s} {t = t} {behind = behind} is after kept same =
+    ap (λ o. f o t) after ∙ ap (f behind) kept ∙ same ∙ ap (λ o. f o s) (sym is)
 
 module _ (pairs : Pairs) (classes : Classes) (alike : ReadsCores classes) (pairs_alike : PairsReadCores pairs) where
   -- ---- clusters and masks do not matter to a pair
@@ -182,24 +189,13 @@ module _ (pairs : Pairs) (classes : Classes) (alike : ReadsCores classes) (pairs
         (at_head s.out s.input)
         ∙ sym (pair_cores s.out at (head_of s) place)
 
-    -- a pair is composed
-    pub glyphs_paired : (at : ℕ) → at < n → (id : ℕ) (t : State)
-        → pair_of pairs classes (get_or (cores s.out) at zero_glyph) (drop (at + 1) (cores s.out)) (core (head_of s)) ≡ Some id
-        → length t.out ≡ n → length t.input ≡ length s.input - 1 → both t ≡ pair_composed any at n id whole
-        → composed_at any pairs classes (Some at) (length t.out) (length t.input) (both t)
-        ≡ composed_at any pairs classes (Some at) n (length s.input) whole
-    glyphs_paired at place id t e out_long in_long is =
-        ap (λ k. composed_at any pairs classes (Some at) k (length t.input) (both t)) out_long
-        ∙ ap (λ k. composed_at any pairs classes (Some at) n k (both t)) in_long
-        ∙ ap (λ l. composed_at any pairs classes (Some at) n (length s.input - 1) l) is
-        ∙ sym (on_pair any at n (length s.input - 1) whole id (pair_both at place ∙ e))
-        ∙ ap (λ k. composed_at any pairs classes (Some at) n k whole) (sym one_more)
+    abbrev at_now : Option ℕ → State → Glyphs
+    at_now starter t = composed_at any pairs classes starter (length t.out) (length t.input) (both t)
 
     abbrev behind : Option ℕ → Option ℕ
     behind starter = cond (eqb (classes (head_of s)) 0) (Some n) starter
 
-    kept_lists : (starter : Option ℕ)
-        → composed_at any pairs classes (behind starter) (length (kept_one s).out) (length (kept_one s).input) (both (kept_one s))
+    kept_lists : (starter : Option ℕ) → at_now (behind starter) (kept_one s)
         ≡ composed_at any pairs classes (starter_behind classes starter n whole) (n + 1) (length s.input - 1) whole
     kept_lists starter =
         ap (λ k. composed_at any pairs classes (behind starter) k (length (kept_one s).input) (both (kept_one s)))
@@ -211,17 +207,50 @@ module _ (pairs : Pairs) (classes : Classes) (alike : ReadsCores classes) (pairs
         (sym (at_head s.out s.input))
 
     -- a character is kept, and there is no starter
-    pub glyphs_first : composed_at any pairs classes (behind None) (length (kept_one s).out) (length (kept_one s).input)
-        (both (kept_one s)) ≡ composed_at any pairs classes None n (length s.input) whole
-    glyphs_first =
-        kept_lists None ∙ sym (on_first any n (length s.input - 1) whole)
-        ∙ ap (λ k. composed_at any pairs classes None n k whole) (sym one_more)
+    pub glyphs_first : (starter next : Option ℕ) (t : State) → starter ≡ None → next ≡ behind None → t ≡ kept_one s
+        → at_now next t ≡ at_now starter s
+    glyphs_first starter next t is after kept =
+        carried at_now is after kept
+        (kept_lists None ∙ sym (on_first any n (length s.input - 1) whole)
+        ∙ ap (λ k. composed_at any pairs classes None n k whole) (sym one_more))
 
-    -- a character is kept behind a starter
-    pub glyphs_kept : (at : ℕ) → at < n
-        → pair_of pairs classes (get_or (cores s.out) at zero_glyph) (drop (at + 1) (cores s.out)) (core (head_of s)) ≡ None
-        → composed_at any pairs classes (behind (Some at)) (length (kept_one s).out) (length (kept_one s).input)
-        (both (kept_one s)) ≡ composed_at any pairs classes (Some at) n (length s.input) whole
-    glyphs_kept at place e =
-        kept_lists (Some at) ∙ sym (on_kept any at n (length s.input - 1) whole (pair_both at place ∙ e))
-        ∙ ap (λ k. composed_at any pairs classes (Some at) n k whole) (sym one_more)
+    module _ (starter : Option ℕ) (at : ℕ) (is : starter ≡ Some at) (place : IsPlace starter s) where
+      at_place : at < n
+      at_place = subst (λ (o : Option ℕ). IsPlace o s) is place
+
+      -- a character is kept behind a starter
+      pub glyphs_kept : None ≡ pair_of pairs classes (get_or (cores s.out) at zero_glyph) (drop (at + 1) (cores s.out)) (core (head_of s))
+          → (next : Option ℕ) (t : State) → next ≡ behind (Some at) → t ≡ kept_one s → at_now next t ≡ at_now starter s
+      glyphs_kept none next t after kept =
+          carried at_now is after kept
+          (kept_lists (Some at)
+          ∙ sym (on_kept any at n (length s.input - 1) whole (pair_both at at_place ∙ sym none))
+          ∙ ap (λ k. composed_at any pairs classes (Some at) n k whole) (sym one_more))
+
+      -- a pair is composed
+      pub glyphs_paired : (id : ℕ)
+          → Some id ≡ pair_of pairs classes (get_or (cores s.out) at zero_glyph) (drop (at + 1) (cores s.out)) (core (head_of s))
+          → (t : State) → cores t.out ≡ set (cores s.out) at (with_id id (get_or (cores s.out) at zero_glyph))
+          → cores t.input ≡ drop 1 (cores s.input) → both t ≡ pair_composed any at n id whole
+          → at_now (Some at) t ≡ at_now starter s
+      glyphs_paired id made t out input glyphs =
+          let out_long : length t.out ≡ n = omega (
+            arith,
+            ap length out,
+            length-map t.out core,
+            length-map s.out core,
+            length-set (cores s.out) at (with_id id (get_or (cores s.out) at zero_glyph)),
+          ) in
+          let in_long : length t.input ≡ length s.input - 1 = omega (
+            arith,
+            ap length input,
+            length-map t.input core,
+            length-map s.input core,
+            length-drop 1 (cores s.input),
+          ) in
+          ap (λ k. composed_at any pairs classes (Some at) k (length t.input) (both t)) out_long
+          ∙ ap (λ k. composed_at any pairs classes (Some at) n k (both t)) in_long
+          ∙ ap (λ l. composed_at any pairs classes (Some at) n (length s.input - 1) l) glyphs
+          ∙ sym (on_pair any at n (length s.input - 1) whole id (pair_both at at_place ∙ sym made))
+          ∙ ap (λ k. composed_at any pairs classes (Some at) n k whole) (sym one_more)
+          ∙ ap (λ (o : Option ℕ). at_now o s) (sym is)

@@ -33,6 +33,44 @@ pub head_now : (s : State) (g : hb_glyph_info_t) → s.have_output ≡ true → 
 head_now s g opened some at =
     at ∙ ap (λ k. get_or s.input k g) (cond-true _ _ _ opened) ∙ get_or_default s.input 0 g zero_glyph some
 
+-- ---- another id
+
+-- another id changes nothing that an order reads
+reading_renamed : (l r : Glyphs) (at id : ℕ) → at < length l
+    → Reading (l ++ r) (set l at (with_id id (get_or l at zero_glyph)) ++ r)
+reading_renamed l r at id in_l =
+    let g = with_id id (get_or l at zero_glyph) in
+    let new = set (l ++ r) at g in
+    let whole = length-append l r in
+    let here : get_or (l ++ r) at zero_glyph ≡ get_or l at zero_glyph = get_or_append_left l r zero_glyph at in_l in
+    let same : (f : hb_glyph_info_t → ℕ) → f g ≡ f (get_or l at zero_glyph) → (j : ℕ)
+    → f (get_or new j zero_glyph) ≡ f (get_or (l ++ r) j zero_glyph) = λ f keeps j. elim (cases_eq j at) [
+      | inl e ↦ ap (λ k. f (get_or new k zero_glyph)) e
+          ∙ ap f (get_or-set_same (l ++ r) at g zero_glyph (omega arith)) ∙ keeps ∙ ap f (sym here)
+          ∙ ap (λ k. f (get_or (l ++ r) k zero_glyph)) (sym e)
+      | inr ne ↦ ap f (get_or-set_other (l ++ r) at j g zero_glyph ne)
+    ] in
+    subst (Reading (l ++ r)) (set-append_left l r at g in_l)
+    (reading_alike (l ++ r) new (length-set (l ++ r) at g) (λ j _. same (λ x. x.cluster) refl j)
+    (λ j _. same (λ x. x.var2) refl j))
+
+coarse_renamed : (l r : Glyphs) (at id : ℕ) → at < length l → IsCoarse (l ++ r)
+    → IsCoarse (set l at (with_id id (get_or l at zero_glyph)) ++ r)
+coarse_renamed l r at id in_l co = coarse_reading (l ++ r) _ (reading_renamed l r at id in_l) co
+
+cores-renamed : (l : Glyphs) (at id : ℕ) → at < length l
+    → cores (set l at (with_id id (get_or l at zero_glyph)))
+    ≡ set (cores l) at (with_id id (get_or (cores l) at zero_glyph))
+cores-renamed l at id in_l =
+    map-set core l at (with_id id (get_or l at zero_glyph))
+    ∙ ap (λ g. set (cores l) at (with_id id g)) (sym (get_or-map core l at zero_glyph zero_glyph in_l))
+
+-- all but the two sides and the cursor
+framed : (s t : State) (out input : Glyphs) → t ≡ record s { out = out; input = input; idx = s.idx + 1 }
+    → t ≡ record s { out = t.out; input = t.input; idx = s.idx + 1 }
+framed s t out input e =
+    e ∙ sym (ap (λ (x : State). record s { out = x.out; input = x.input; idx = s.idx + 1 }) e)
+
 -- ---- calls in place
 
 pub take_first : (l : Glyphs) → 0 < length l → take 1 l ≡ get_or l 0 zero_glyph ∷ []
@@ -132,77 +170,37 @@ module _ (s : State) (ready : IsReady s) (some : 0 < length s.input) where
         ∙ cond-true _ _ _ (le-leb (length back.input) s.max_len held)
         ∙ ap (λ (t : State). record { done = true; state = t }) back_is
 
-    pub moved_back : (r : Result Bool AllocError) (new : State) → Meets (move_to n two) two r new
+    moved_back : (r : Result Bool AllocError) (new : State) → Meets (move_to n two) two r new
         → new ≡ record s { out = take n merged; input = drop n merged }
     moved_back (Ok done) new meets = meets.1 ∙ ap (λ (o : Outcome). o.state) moved_is
     moved_back (Err e) new meets =
         absurd (never_wants s.have_separate_output _ ready.in_place
         (ap (λ (o : Outcome). o.state.have_separate_output) moved_is ∙ ready.in_place) meets.0.1)
 
-    pub left_back : (new : State) → new ≡ record s { out = take n merged; input = drop n merged }
-        → 0 < lookahead_len new
-    left_back new is =
-        let e : lookahead_len new ≡ s.idx + length (drop n merged) - s.idx =
-        ap lookahead_len is ∙ ap (λ k. k - s.idx) (cond-true _ _ _ ready.opened) in
-        omega (arith, e, length-drop n merged, length-merged)
-
-    pub skipped : (new : State) → new ≡ record s { out = take n merged; input = drop n merged }
-        → skip_glyph new ≡ after_pair
-    skipped new is =
-        ap skip_glyph is
-        ∙ ap (λ b. record s {
+    skipped : skip_glyph (record s { out = take n merged; input = drop n merged }) ≡ after_pair
+    skipped =
+        ap (λ b. record s {
           out = take n merged;
           input = cond b (drop 1 (drop n merged)) (drop n merged);
           idx = s.idx + 1;
         }) ready.opened
         ∙ ap (λ l. record s { out = take n merged; input = l; idx = s.idx + 1 }) (drop-drop 1 n merged)
 
-    -- the calls, one by one
-    pub two_is : (end : ℕ) (one t : State) → one ≡ kept_one s → end ≡ length one.out → t ≡ merge_out_clusters at end one
-        → t ≡ two
-    two_is end one t e1 e2 e3 =
-        let far : end ≡ n + 1 = e2 ∙ ap (λ (x : State). length x.out) e1 ∙ held-kept in
-        e3 ∙ ap (λ k. merge_out_clusters at k one) far ∙ ap (merge_out_clusters at (n + 1)) e1
+    length-left : length (take n merged) ≡ n
+    length-left = length-take-le n merged (omega (arith, length-merged))
 
-    pub end_is : (end : ℕ) (one : State) → one ≡ kept_one s → end ≡ length one.out → end ≡ n + 1
-    end_is end one e1 e2 = e2 ∙ ap (λ (x : State). length x.out) e1 ∙ held-kept
-
-    pub three_is : (end : ℕ) (one t u : State) (r : Result Bool AllocError) → one ≡ kept_one s → end ≡ length one.out
-        → t ≡ merge_out_clusters at end one → Meets (move_to (end - 1) t) t r u
-        → u ≡ record s { out = take n merged; input = drop n merged }
-    three_is end one t u r e1 e2 e3 meets =
-        let far = end_is end one e1 e2 in
-        let last : end - 1 ≡ n = omega (arith, far) in
-        let P : State → Type 0 = λ x. Meets (move_to (end - 1) x) x r u in
-        let Q : ℕ → Type 0 = λ k. Meets (move_to k two) two r u in
-        moved_back r u (subst Q last (subst P (two_is end one t e1 e2 e3) meets))
-
-    pub four_is : (end : ℕ) (one t u v : State) (r : Result Bool AllocError) → one ≡ kept_one s → end ≡ length one.out
-        → t ≡ merge_out_clusters at end one → Meets (move_to (end - 1) t) t r u → v ≡ skip_glyph u → v ≡ after_pair
-    four_is end one t u v r e1 e2 e3 meets e4 = e4 ∙ skipped u (three_is end one t u r e1 e2 e3 meets)
-
-    -- what the calls require
-    pub goes_back : (t : State) → t ≡ two → n ≤ last_place t
-    goes_back t is =
-        let e : last_place t ≡ length two.out + length two.input = ap last_place is ∙ cond-true _ _ _ ready.opened in
-        omega (arith, out_long, e)
-
-    pub out_left : (t : State) → t ≡ after_pair → length t.out ≡ n
-    out_left t is =
-        ap (λ (x : State). length x.out) is ∙ length-take-le n merged (omega (arith, length-merged))
-
-    pub out_cores : cores (take n merged) ≡ cores s.out
-    out_cores =
+    cores-left : cores (take n merged) ≡ cores s.out
+    cores-left =
         sym (take-map core n merged) ∙ ap (take n) cores-merged
         ∙ take_at (cores s.out) (cores s.input) n (length-map s.out core)
 
-    pub input_cores : cores (drop (n + 1) merged) ≡ drop 1 (cores s.input)
-    input_cores =
+    cores-rest : cores (drop (n + 1) merged) ≡ drop 1 (cores s.input)
+    cores-rest =
         sym (drop-map core (n + 1) merged) ∙ sym (drop-drop 1 n (cores merged))
         ∙ ap (λ l. drop 1 (drop n l)) cores-merged
         ∙ ap (drop 1) (drop_at (cores s.out) (cores s.input) n (length-map s.out core))
 
-    pub coarse_pair : any_order s ≡ false → IsCoarse (both s) → IsCoarse (take n merged ++ drop (n + 1) merged)
+    coarse_pair : any_order s ≡ false → IsCoarse (both s) → IsCoarse (take n merged ++ drop (n + 1) merged)
     coarse_pair level co =
         let whole : merged ≡ take n merged ++ get_or merged n zero_glyph ∷ drop (n + 1) merged =
         sym (take-append-drop n merged)
@@ -210,35 +208,68 @@ module _ (s : State) (ready : IsReady s) (some : 0 < length s.input) where
         coarse_reading _ _ (reading_dropped (take n merged) (get_or merged n zero_glyph) (drop (n + 1) merged))
         (subst IsCoarse whole (coarse-merged level co))
 
-    -- both sides with the new id of the starter
-    pub both_pair : (id : ℕ) → set (take n merged) at (with_id id (get_or (take n merged) at zero_glyph)) ++ drop (n + 1) merged
-        ≡ pair_composed (any_order s) at n id (both s)
-    both_pair id =
-        ap (λ g. set (take n merged) at (with_id id g) ++ drop (n + 1) merged) (get_or-take n merged at zero_glyph place)
-        ∙ ap (λ l. pair_composed (any_order s) at n id l) both_kept
+    -- what the pair leaves
+    pub record IsPair (id : ℕ) (new : State) : Type 0 where
+      pub out : cores new.out ≡ set (cores s.out) at (with_id id (get_or (cores s.out) at zero_glyph))
+      pub input : cores new.input ≡ drop 1 (cores s.input)
+      pub glyphs : both new ≡ pair_composed (any_order s) at n id (both s)
+      pub merges : any_order s ≡ false → IsCoarse (both s) → IsCoarse (both new)
+      pub others : new ≡ record s { out = new.out; input = new.input; idx = s.idx + 1 }
 
--- another id changes nothing that an order reads
-reading_renamed : (l r : Glyphs) (at id : ℕ) → at < length l
-    → Reading (l ++ r) (set l at (with_id id (get_or l at zero_glyph)) ++ r)
-reading_renamed l r at id in_l =
-    let g = with_id id (get_or l at zero_glyph) in
-    let new = set (l ++ r) at g in
-    let whole = length-append l r in
-    let here : get_or (l ++ r) at zero_glyph ≡ get_or l at zero_glyph = get_or_append_left l r zero_glyph at in_l in
-    let same : (f : hb_glyph_info_t → ℕ) → f g ≡ f (get_or l at zero_glyph) → (j : ℕ)
-    → f (get_or new j zero_glyph) ≡ f (get_or (l ++ r) j zero_glyph) = λ f keeps j. elim (cases_eq j at) [
-      | inl e ↦ ap (λ k. f (get_or new k zero_glyph)) e
-          ∙ ap f (get_or-set_same (l ++ r) at g zero_glyph (omega arith)) ∙ keeps ∙ ap f (sym here)
-          ∙ ap (λ k. f (get_or (l ++ r) k zero_glyph)) (sym e)
-      | inr ne ↦ ap f (get_or-set_other (l ++ r) at j g zero_glyph ne)
-    ] in
-    subst (Reading (l ++ r)) (set-append_left l r at g in_l)
-    (reading_alike (l ++ r) new (length-set (l ++ r) at g) (λ j _. same (λ x. x.cluster) refl j)
-    (λ j _. same (λ x. x.var2) refl j))
+    -- the calls, one by one, and what the next one requires
+    module _ (one t : State) (end : ℕ) (kept : one ≡ kept_one s) (ends : end ≡ length one.out)
+        (merges : t ≡ merge_out_clusters at end one) where
+      end_is : end ≡ n + 1
+      end_is = ends ∙ ap (λ (x : State). length x.out) kept ∙ held-kept
 
-pub coarse_renamed : (l r : Glyphs) (at id : ℕ) → at < length l → IsCoarse (l ++ r)
-    → IsCoarse (set l at (with_id id (get_or l at zero_glyph)) ++ r)
-coarse_renamed l r at id in_l co = coarse_reading (l ++ r) _ (reading_renamed l r at id in_l) co
+      two_is : t ≡ two
+      two_is = merges ∙ ap (λ k. merge_out_clusters at k one) end_is ∙ ap (merge_out_clusters at (n + 1)) kept
+
+      pub goes_back : end - 1 ≤ last_place t
+      goes_back =
+          let e : last_place t ≡ length two.out + length two.input = ap last_place two_is ∙ cond-true _ _ _ ready.opened in
+          omega (arith, end_is, out_long, e)
+
+      module _ (u : State) (r : Result Bool AllocError) (meets : Meets (move_to (end - 1) t) t r u) where
+        pub three_is : u ≡ record s { out = take n merged; input = drop n merged }
+        three_is =
+            let last : end - 1 ≡ n = omega (arith, end_is) in
+            let P : State → Type 0 = λ x. Meets (move_to (end - 1) x) x r u in
+            let Q : ℕ → Type 0 = λ k. Meets (move_to k two) two r u in
+            moved_back r u (subst Q last (subst P two_is meets))
+
+        pub left_back : 0 < lookahead_len u
+        left_back =
+            let e : lookahead_len u ≡ s.idx + length (drop n merged) - s.idx =
+            ap lookahead_len three_is ∙ ap (λ k. k - s.idx) (cond-true _ _ _ ready.opened) in
+            omega (arith, e, length-drop n merged, length-merged)
+
+        module _ (v : State) (skips : v ≡ skip_glyph u) where
+          four_is : v ≡ after_pair
+          four_is = skips ∙ ap skip_glyph three_is ∙ skipped
+
+          pub out_left : at < length v.out
+          out_left = omega (arith, ap (λ (x : State). length x.out) four_is, length-left)
+
+          pub pair_is : (id : ℕ) (new : State)
+              → new ≡ record v { out = set v.out at (with_id id (get_or v.out at zero_glyph)) } → IsPair id new
+          pair_is id new renames =
+              let m = merged in
+              let is : new
+              ≡ record after_pair { out = set (take n m) at (with_id id (get_or (take n m) at zero_glyph)) } =
+              renames ∙ ap (λ (x : State). record x { out = set x.out at (with_id id (get_or x.out at zero_glyph)) }) four_is in
+              let in_l : at < length (take n m) = omega (arith, length-left) in
+              record {
+                out = ap (λ (x : State). cores x.out) is ∙ cores-renamed (take n m) at id in_l
+                    ∙ ap (λ (l : Glyphs). set l at (with_id id (get_or l at zero_glyph))) cores-left;
+                input = ap (λ (x : State). cores x.input) is ∙ cores-rest;
+                glyphs = ap both is
+                    ∙ ap (λ g. set (take n m) at (with_id id g) ++ drop (n + 1) m) (get_or-take n m at zero_glyph place)
+                    ∙ ap (λ l. pair_composed (any_order s) at n id l) both_kept;
+                merges = λ level co. subst IsCoarse (sym (ap both is))
+                    (coarse_renamed (take n m) (drop (n + 1) m) at id in_l (coarse_pair level co));
+                others = framed s new _ _ is;
+              }
 
 -- a pair that is composed keeps the order of clusters
 pub order_composed : (any : Bool) (at n id : ℕ) (l : Glyphs) → at < n → n < length l → IsMonotone l
@@ -274,16 +305,3 @@ length_composed any at n id l place in_l =
       length-drop (n + 1) m,
       size,
     )
-
-pub renamed_cores : (l : Glyphs) (at id : ℕ) → at < length l
-    → cores (set l at (with_id id (get_or l at zero_glyph)))
-    ≡ set (cores l) at (with_id id (get_or (cores l) at zero_glyph))
-renamed_cores l at id in_l =
-    map-set core l at (with_id id (get_or l at zero_glyph))
-    ∙ ap (λ g. set (cores l) at (with_id id g)) (sym (get_or-map core l at zero_glyph zero_glyph in_l))
-
--- all but the two sides and the cursor
-pub framed : (s t : State) (out input : Glyphs) → t ≡ record s { out = out; input = input; idx = s.idx + 1 }
-    → t ≡ record s { out = t.out; input = t.input; idx = s.idx + 1 }
-framed s t out input e =
-    e ∙ sym (ap (λ (x : State). record s { out = x.out; input = x.input; idx = s.idx + 1 }) e)

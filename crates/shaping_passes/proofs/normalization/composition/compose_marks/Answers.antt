@@ -1,3 +1,5 @@
+-- Each turn keeps what the text is to become, with its clusters (`Turns`). When all is read, the output is closed over what was
+-- put out, and with nothing left that is the composed text. Its clusters are in order, as each pair leaves them so.
 use Rattle.std.proofs.Common.{◌≡◌, ◌+◌, ◌-◌, length, sym, ap, ◌∙◌, subst, arith, rules}
 use Rattle.glyph_lists.specs.Clusters.{IsMonotone}
 use Rattle.shaping_buffer.specs.ClusterStep.{any_order}

@@ -1,3 +1,5 @@
+-- The character stays whole, or is taken into parts, or no parts of it are found: a case of its decomposition each. What is
+-- put out, by `next_glyph` or by a replacement of one glyph, is copies of the character with these numbers.
 use Rattle.std.proofs.Common.{◌≡◌, [], length, take, sym, ap, ◌∙◌, arith, subst}
 use Rattle.std.proofs.lemmas.List.{take_all}
 use Rattle.std.specs.Prelude.{is_some, unwrap_or, ◌&&◌, true, false}
