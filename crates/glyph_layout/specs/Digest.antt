@@ -10,7 +10,7 @@ has_row word row = bit_at word (row % 64) == 1
 
 -- whether a digest may have a glyph: it has the glyph's row in each of three ways to part the glyphs into rows
 unfoldable pub may_have : Digest → ℕ → Bool
-may_have d g = has_row d.sixteens (g / 16) && has_row d.singles g && has_row d.blocks (g / 512)
+may_have d g = has_row d.sixteens (g / 16) && has_row d.singles g && has_row d.blocks (g / 128)
 
 -- a digest may have each glyph of a set
 abbrev pub HasAll : (ℕ → Type 0) → Digest → Type 0

@@ -56,6 +56,7 @@ impl Budget {
     pub fn nest(&mut self) -> bool
         ensures spent { IsNotMore self.old self.new }
         ensures paid { IsTrue result → self.new.nested + 1 ≡ self.old.nested }
+        ensures none { IsFalse result → self.old.nested ≡ 0 }
     {
         if self.nested == 0 {
             return false;
@@ -66,7 +67,8 @@ impl Budget {
 
     /// Whether no more steps may be made.
     pub fn is_spent(&self) -> bool
-        ensures { IsTrue result → self.now.steps ≡ 0 }
+        ensures spent { IsTrue result → self.now.steps ≡ 0 }
+        ensures left { IsFalse result → 0 < self.now.steps }
     {
         self.steps == 0
     }
