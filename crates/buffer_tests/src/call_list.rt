@@ -182,8 +182,8 @@ fn assert_places(rt: &impl Abort, buffer: &hb_buffer_t, want: &[(usize, u32)]) {
     let storage = buffer.storage();
     assert!(rt; storage.len() == 5);
     for (place, id) in want {
-        assert!(rt; *place < storage.len());
-        assert!(rt; storage[*place].glyph_id == *id);
+        assert!(rt; *place < storage.len(), "{id} at {place}");
+        assert!(rt; storage[*place].glyph_id == *id, "{id} at {place}");
     }
 }
 
@@ -238,7 +238,7 @@ fn an_output_is_separate_once_it_is_the_longer(rt: HostRuntime) -> Result<(), Fa
         for (call, separate) in *calls {
             make_one(&rt, &mut buffer, *call, *separate);
         }
-        assert!(rt; buffer.len() == *len);
+        assert!(rt; buffer.len() == *len, "the run of {len}");
     }
     Ok(())
 }

@@ -6,7 +6,10 @@ use std::test::Fail;
 /// Asserts that these are glyphs of the letters from a to j, over and over.
 fn assert_letters(rt: &impl Abort, glyphs: &[hb_glyph_info_t], first: u32) {
     for (i, glyph) in (0u32..99).zip(glyphs) {
-        assert!(rt; glyph.glyph_id == 97 + first.wrapping_add(i) % 10);
+        assert!(rt;
+            glyph.glyph_id == 97 + first.wrapping_add(i) % 10,
+            "from {first}"
+        );
     }
 }
 

@@ -47,7 +47,7 @@ fn answer(rt: &impl Abort, buffer: &mut hb_buffer_t, call: Call<'_>) -> Answer {
 /// Makes a call so many times.
 fn make(rt: &impl Abort, buffer: &mut hb_buffer_t, times: usize, call: Call<'_>) {
     for _ in 0..times {
-        assert!(rt; answer(rt, buffer, call) == Answer::Done);
+        assert!(rt; answer(rt, buffer, call) == Answer::Done, "{call:?}");
     }
 }
 

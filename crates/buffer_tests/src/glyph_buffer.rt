@@ -66,7 +66,7 @@ fn equal_texts_are_of_equal_glyphs(rt: HostRuntime) -> Result<(), Fail> {
     for one in &texts {
         for other in &texts {
             let alike = are_written_alike(&rt, rt.alloc(), one, other)?;
-            assert!(rt; alike == (one == other));
+            assert!(rt; alike == (one == other), "{one} and {other}");
         }
     }
     Ok(())

@@ -323,15 +323,15 @@ fn levels_have_names_and_numbers(rt: HostRuntime) {
         (BufferClusterLevel::Graphemes, 3),
     ];
     for (level, number) in rows {
-        assert!(rt; level.number() == number);
-        assert!(rt; BufferClusterLevel::of_number(number) == level);
+        assert!(rt; level.number() == number, "{number}");
+        assert!(rt; BufferClusterLevel::of_number(number) == level, "{number}");
         let mut text = UnicodeBuffer::new(rt.alloc());
         text.set_cluster_level(level);
-        assert!(rt; text.cluster_level() == level);
-        assert!(rt; text.into_buffer().cluster_level == number);
+        assert!(rt; text.cluster_level() == level, "{number}");
+        assert!(rt; text.into_buffer().cluster_level == number, "{number}");
     }
     for number in [4, 4_294_967_295] {
         let level = BufferClusterLevel::of_number(number);
-        assert!(rt; level == BufferClusterLevel::MonotoneGraphemes);
+        assert!(rt; level == BufferClusterLevel::MonotoneGraphemes, "{number}");
     }
 }

@@ -10,8 +10,8 @@ use std::process::Abort;
 pub(crate) fn assert_glyphs(rt: &impl Abort, glyphs: &[hb_glyph_info_t], want: &[(u32, u32)]) {
     assert!(rt; glyphs.len() == want.len());
     for (glyph, (cluster, mask)) in glyphs.iter().zip(want) {
-        assert!(rt; glyph.cluster == *cluster);
-        assert!(rt; glyph.mask == *mask);
+        assert!(rt; glyph.cluster == *cluster, "{want:?}");
+        assert!(rt; glyph.mask == *mask, "{want:?}");
     }
 }
 
@@ -28,7 +28,7 @@ pub(crate) fn buffer_of(rt: &impl Abort, alloc: Global, text: &str) -> hb_buffer
 pub(crate) fn assert_ids(rt: &impl Abort, glyphs: &[hb_glyph_info_t], want: &[u32]) {
     assert!(rt; glyphs.len() == want.len());
     for (glyph, id) in glyphs.iter().zip(want.iter()) {
-        assert!(rt; glyph.glyph_id == *id);
+        assert!(rt; glyph.glyph_id == *id, "{want:?}");
     }
 }
 

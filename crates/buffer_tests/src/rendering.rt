@@ -15,7 +15,7 @@ fn kern(value: u32, start: u32, end: u32) -> Feature {
 fn assert_masks(rt: &impl Abort, glyphs: &GlyphBuffer, want: &[u32]) {
     assert!(rt; glyphs.len() == want.len());
     for (glyph, want) in glyphs.glyph_infos().iter().zip(want) {
-        assert!(rt; glyph.mask == *want);
+        assert!(rt; glyph.mask == *want, "{want}");
     }
     assert!(rt; glyphs.glyph_positions().len() == want.len());
     for position in glyphs.glyph_positions() {
@@ -43,7 +43,7 @@ fn features_set_the_bits_of_their_places(rt: HostRuntime) -> Result<(), Fail> {
             Ok(glyphs) => assert_masks(&rt, &glyphs, masks),
             Err(_) => panic!(rt; "not rendered"),
         }
-        assert!(rt; answers == [Answer::Done; 3]);
+        assert!(rt; answers == [Answer::Done; 3], "{masks:?}");
     }
     Ok(())
 }
@@ -83,7 +83,7 @@ fn assert_rendered(
         Ok(glyphs) => {
             assert!(rt; glyphs.len() == want.len());
             for (glyph, want) in glyphs.glyph_infos().iter().zip(want) {
-                assert!(rt; (glyph.cluster, glyph.mask & 7) == *want);
+                assert!(rt; (glyph.cluster, glyph.mask & 7) == *want, "{want:?}");
             }
         }
         Err(_) => panic!(rt; "not rendered"),
@@ -109,7 +109,7 @@ fn a_text_is_rendered_at_its_level(rt: HostRuntime) {
         let calls = [Call::MergeGraphemeClusters(0, 2)];
         let rendered = render_at(rt.alloc(), *level, "abc", &[], &calls, &mut answers);
         assert_rendered(&rt, rendered, graphemes);
-        assert!(rt; answers == [Answer::Done]);
+        assert!(rt; answers == [Answer::Done], "{level:?}");
     }
     let mut answers = [Answer::Outside];
     let calls = [Call::MergeGraphemeClusters(0, 2)];
@@ -135,11 +135,11 @@ fn faults_come_at_each_level(rt: HostRuntime) {
         let calls = [Call::ClearOutput];
         let rendered = render_at(rt.alloc(), level, "ab", &[], &calls, &mut answers);
         assert_fault(&rt, rendered, RenderFault::OutputLeftOpen);
-        assert!(rt; answers == [Answer::Done]);
+        assert!(rt; answers == [Answer::Done], "{level:?}");
         let mut answers = [Answer::Outside];
         let many = [kern(1, 0, 1); 25];
         let rendered = render_at(rt.alloc(), level, "ab", &many, &calls, &mut answers);
         assert_fault(&rt, rendered, RenderFault::TooManyFeatures);
-        assert!(rt; answers == [Answer::Outside]);
+        assert!(rt; answers == [Answer::Outside], "{level:?}");
     }
 }

@@ -9,8 +9,8 @@ fn assert_text(rt: &impl Abort, text: UnicodeBuffer, want: &[(u32, u32)]) {
     let buffer = text.into_buffer();
     assert!(rt; buffer.info().len() == want.len());
     for (glyph, pair) in buffer.info().iter().zip(want.iter()) {
-        assert!(rt; (glyph.glyph_id, glyph.cluster) == *pair);
-        assert!(rt; glyph.mask == 0);
+        assert!(rt; (glyph.glyph_id, glyph.cluster) == *pair, "{want:?}");
+        assert!(rt; glyph.mask == 0, "{want:?}");
     }
 }
 

@@ -20,7 +20,7 @@ use std::test::Fail;
 fn assert_masks(rt: &impl Abort, glyphs: &[hb_glyph_info_t], want: &[u32]) {
     assert!(rt; glyphs.len() == want.len());
     for (glyph, mask) in glyphs.iter().zip(want) {
-        assert!(rt; glyph.mask == *mask);
+        assert!(rt; glyph.mask == *mask, "{want:?}");
     }
 }
 
@@ -176,7 +176,7 @@ fn assert_reversed(rt: &impl Abort, alloc: Global, merge: bool, clusters: &[u32]
 fn assert_clusters(rt: &impl Abort, glyphs: &[hb_glyph_info_t], want: &[u32]) {
     assert!(rt; glyphs.len() == want.len());
     for (glyph, cluster) in glyphs.iter().zip(want) {
-        assert!(rt; glyph.cluster == *cluster);
+        assert!(rt; glyph.cluster == *cluster, "{want:?}");
     }
 }
 
@@ -184,7 +184,7 @@ fn assert_advances(rt: &impl Abort, buffer: &hb_buffer_t, want: &[i32]) {
     assert!(rt; buffer.have_positions());
     assert!(rt; buffer.pos().len() == want.len());
     for (position, advance) in buffer.pos().iter().zip(want) {
-        assert!(rt; position.x_advance == *advance);
+        assert!(rt; position.x_advance == *advance, "{want:?}");
     }
 }
 

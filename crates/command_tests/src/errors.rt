@@ -1,10 +1,7 @@
 //! Command lines that are not answered.
 
-use shape_command::ending::conclude;
 use shape_command::font_file::FontFile;
 use shape_command::run::answer_command;
-use std::io::{self, ErrorKind};
-use std::process::ExitCode;
 use std::test::Fail;
 
 #[test]
@@ -18,12 +15,4 @@ fn a_file_that_is_not_there_is_named(rt: HostRuntime) -> Result<(), Fail> {
     assert!(rt; message.as_str().starts_with("/nonexistent/font.ttf: "));
     assert!(rt; output.is_empty());
     Ok(())
-}
-
-#[test]
-fn the_status_tells_failures(rt: HostRuntime) {
-    assert!(rt; conclude(&rt, Ok(true)) == ExitCode::from(0));
-    assert!(rt; conclude(&rt, Ok(false)) == ExitCode::from(1));
-    let failed = Err(io::Error::from(ErrorKind::OutOfMemory));
-    assert!(rt; conclude(&rt, failed) == ExitCode::from(1));
 }

@@ -20,10 +20,16 @@ fn lines_are_taken(rt: HostRuntime) -> Result<(), Fail> {
         let mut reader: &[u8] = text;
         let mut line = Vec::new(rt.alloc());
         for wanted in *lines {
-            assert!(rt; next_line(&mut reader, &mut line).is_ok_and(|found| found));
-            assert!(rt; line.as_slice() == *wanted);
+            assert!(rt;
+                next_line(&mut reader, &mut line).is_ok_and(|found| found),
+                "{text:?}"
+            );
+            assert!(rt; line.as_slice() == *wanted, "{text:?}");
         }
-        assert!(rt; next_line(&mut reader, &mut line).is_ok_and(|found| !found));
+        assert!(rt;
+            next_line(&mut reader, &mut line).is_ok_and(|found| !found),
+            "{text:?}"
+        );
     }
     Ok(())
 }
@@ -38,8 +44,8 @@ fn answers_are_written(rt: HostRuntime) -> Result<(), Fail> {
     ];
     for (answer, wanted) in rows {
         let mut written = Vec::new(rt.alloc());
-        assert!(rt; write_answer(&mut written, answer).is_ok());
-        assert!(rt; written.as_slice() == wanted);
+        assert!(rt; write_answer(&mut written, answer).is_ok(), "{wanted:?}");
+        assert!(rt; written.as_slice() == wanted, "{wanted:?}");
     }
     Ok(())
 }

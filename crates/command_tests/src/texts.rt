@@ -97,7 +97,7 @@ fn bytes_that_are_no_text_are_replaced(rt: HostRuntime) -> Result<(), Fail> {
 }
 
 /// A list of variations, and the tag and the value of each, as HarfBuzz's `hb_variation_from_string` reads them.
-static VARIATIONS: [(&str, &[(&[u8; 4], f32)]); 8] = [
+static VARIATIONS: [(&str, &[(&[u8; 4], f32)]); 9] = [
     ("", &[]),
     ("wght=500", &[(b"wght", 500.0)]),
     (
@@ -107,6 +107,7 @@ static VARIATIONS: [(&str, &[(&[u8; 4], f32)]); 8] = [
     ("wght500", &[]),
     ("x=+.5", &[(b"x   ", 0.5)]),
     ("wght=,=3,weight=4,wght=1x", &[]),
+    ("wghts=4", &[]),
     ("wght=inf,wght=nan", &[]),
     ("a_1=2,,a-1,a-1=2", &[(b"a_1 ", 2.0), (b"a   ", -1.0)]),
 ];

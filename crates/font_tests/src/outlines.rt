@@ -48,11 +48,20 @@ fn the_header_of_an_outline_names_its_box(rt: HostRuntime) {
             glyph_count: 5,
         };
         let outlines = Outlines::new(glyf, &[]);
-        for (glyph, &(bearing, found)) in (0..5).zip(&BOXES) {
-            let glyph = GlyphId(glyph);
-            assert!(rt; box_of(glyf.glyph_extents(glyph, bearing)) == found);
-            assert!(rt; box_of(outlines.glyph_extents(glyph, bearing)) == found);
-            assert!(rt; outlines.glyph_name(glyph) == None);
+        for (number, &(bearing, found)) in (0..5).zip(&BOXES) {
+            let glyph = GlyphId(number);
+            assert!(rt;
+                box_of(glyf.glyph_extents(glyph, bearing)) == found,
+                "{number}, long {has_long_offsets}"
+            );
+            assert!(rt;
+                box_of(outlines.glyph_extents(glyph, bearing)) == found,
+                "{number}, long {has_long_offsets}"
+            );
+            assert!(rt;
+                outlines.glyph_name(glyph) == None,
+                "{number}, long {has_long_offsets}"
+            );
         }
     }
     assert!(rt; outline(&GLYF, &LOCA, false, GlyphId(3)) == Some([0, 1].as_slice()));
@@ -131,8 +140,14 @@ fn a_charstring_is_run_for_its_box(rt: HostRuntime) {
     let outlines = Outlines::new(glyf, &DRAWN);
     for (glyph, &(name, found)) in (0..10).zip(&DRAWINGS) {
         let glyph = GlyphId(glyph);
-        assert!(rt; outlines.glyph_name(glyph) == Some(name.as_bytes()));
-        assert!(rt; box_of(outlines.glyph_extents(glyph, Some(15))) == found);
+        assert!(rt;
+            outlines.glyph_name(glyph) == Some(name.as_bytes()),
+            "{name}"
+        );
+        assert!(rt;
+            box_of(outlines.glyph_extents(glyph, Some(15))) == found,
+            "{name}"
+        );
     }
 }
 
@@ -153,7 +168,7 @@ fn a_predefined_charset_names_glyphs(rt: HostRuntime) {
     for &(number, glyph, name) in &PREDEFINED {
         let charset = predefined_charset(number).unwrap_or(&[]);
         let string = string_number(charset, GlyphId(glyph));
-        assert!(rt; string_of(&[], string) == Some(name.as_bytes()));
+        assert!(rt; string_of(&[], string) == Some(name.as_bytes()), "{name}");
     }
     assert!(rt; predefined_charset(3) == None);
 }

@@ -23,9 +23,9 @@ fn from_number<C: GeneralCategoryExt>(number: u32) -> C
 #[test]
 fn a_category_has_its_number_and_its_kind(rt: HostRuntime) {
     for (category, number, is_mark, is_letter) in CATEGORIES.iter() {
-        assert!(rt; category.to_rb() == *number);
-        assert!(rt; category.is_mark() == *is_mark);
-        assert!(rt; category.is_letter() == *is_letter);
+        assert!(rt; category.to_rb() == *number, "{number}");
+        assert!(rt; category.is_mark() == *is_mark, "{number}");
+        assert!(rt; category.is_letter() == *is_letter, "{number}");
     }
     assert!(rt; from_number::<Category>(29) == Category::SpaceSeparator);
 }

@@ -33,15 +33,27 @@ static FORMS: [(char, bool, bool, bool, Option<char>); 10] = [
 #[test]
 fn a_character_has_its_properties(rt: HostRuntime) {
     for (character, script, category, space) in KINDS.iter() {
-        assert!(rt; character.script().tag() == Tag::from_bytes(script));
-        assert!(rt; character.general_category() == *category);
-        assert!(rt; character.space_fallback() == *space);
+        assert!(rt;
+            character.script().tag() == Tag::from_bytes(script),
+            "{character:?}"
+        );
+        assert!(rt; character.general_category() == *category, "{character:?}");
+        assert!(rt; character.space_fallback() == *space, "{character:?}");
     }
     for &(character, is_invisible, is_selector, is_pictograph, form) in &FORMS {
-        assert!(rt; character.is_default_ignorable() == is_invisible);
-        assert!(rt; character.is_variation_selector() == is_selector);
-        assert!(rt; character.is_emoji_extended_pictographic() == is_pictograph);
-        assert!(rt; character.vertical() == form);
+        assert!(rt;
+            character.is_default_ignorable() == is_invisible,
+            "{character:?}"
+        );
+        assert!(rt;
+            character.is_variation_selector() == is_selector,
+            "{character:?}"
+        );
+        assert!(rt;
+            character.is_emoji_extended_pictographic() == is_pictograph,
+            "{character:?}"
+        );
+        assert!(rt; character.vertical() == form, "{character:?}");
     }
 }
 
@@ -60,8 +72,14 @@ fn tables_are_asked(rt: HostRuntime) -> Result<(), Fail> {
     for &(character, class, changed) in &CLASSES {
         let rows = [(character, class)];
         let classes = CombiningClasses::new(&rows).ok_or("one row")?;
-        assert!(rt; character.modified_combining_class(&classes) == changed);
-        assert!(rt; 'a'.modified_combining_class(&classes) == 0);
+        assert!(rt;
+            character.modified_combining_class(&classes) == changed,
+            "{character:?}"
+        );
+        assert!(rt;
+            'a'.modified_combining_class(&classes) == 0,
+            "{character:?}"
+        );
     }
     let rows = [('(', ')'), (')', '('), ('\u{ab}', '\u{bb}')];
     let mirrors = Mirrors::new(&rows).ok_or("three rows")?;

@@ -17,8 +17,8 @@ fn clusters_are_numbered_by_their_places(rt: HostRuntime) -> Result<(), Fail> {
     let mut info = [glyph(10, 9), glyph(20, 9), glyph(30, 4)];
     reset_clusters(&mut info);
     for (i, g) in info.iter().enumerate() {
-        assert!(rt; g.cluster as usize == i);
-        assert!(rt; (g.mask, g.var1, g.var2) == (3, 5, 7));
+        assert!(rt; g.cluster as usize == i, "{i}");
+        assert!(rt; (g.mask, g.var1, g.var2) == (3, 5, 7), "{i}");
     }
     assert!(rt; (info[0].glyph_id, info[1].glyph_id, info[2].glyph_id) == (10, 20, 30));
     Ok(())

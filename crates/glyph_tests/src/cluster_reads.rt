@@ -9,8 +9,8 @@ fn each_cluster_that_is_read_is_counted(rt: HostRuntime) {
     assert!(rt; reads.len() == 5);
     assert!(rt; reads.reads() == 0);
     for (i, cluster) in [(1, 3), (0, 4), (4, 5), (2, 3), (4, 5)] {
-        assert!(rt; i < reads.len() && reads.reads() < 5);
-        assert!(rt; reads.cluster(i) == cluster);
+        assert!(rt; i < reads.len() && reads.reads() < 5, "{i}");
+        assert!(rt; reads.cluster(i) == cluster, "{i}");
     }
     assert!(rt; reads.reads() == 5);
 }

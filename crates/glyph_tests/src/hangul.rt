@@ -11,8 +11,8 @@ static SYLLABLES: [(char, char, char); 4] = [
 #[test]
 fn a_syllable_is_made_of_its_parts(rt: HostRuntime) {
     for &(a, b, syllable) in &SYLLABLES {
-        assert!(rt; compose_hangul(a, b) == Some(syllable));
-        assert!(rt; decompose_hangul(syllable) == Some((a, b)));
+        assert!(rt; compose_hangul(a, b) == Some(syllable), "{syllable}");
+        assert!(rt; decompose_hangul(syllable) == Some((a, b)), "{syllable}");
     }
     assert!(rt; compose_hangul('\u{AC00}', '\u{11A7}').is_none());
     assert!(rt; decompose_hangul('\u{D7A4}').is_none());

@@ -23,8 +23,8 @@ pub(crate) fn glyphs<const N: usize>(clusters: [u32; N]) -> [hb_glyph_info_t; N]
 pub(crate) fn assert_glyphs(rt: &impl Abort, glyphs: &[hb_glyph_info_t], want: &[(u32, u32)]) {
     assert!(rt; glyphs.len() == want.len());
     for (glyph, (cluster, mask)) in glyphs.iter().zip(want) {
-        assert!(rt; glyph.cluster == *cluster);
-        assert!(rt; glyph.mask == *mask);
+        assert!(rt; glyph.cluster == *cluster, "{want:?}");
+        assert!(rt; glyph.mask == *mask, "{want:?}");
     }
 }
 
@@ -32,8 +32,8 @@ pub(crate) fn assert_glyphs(rt: &impl Abort, glyphs: &[hb_glyph_info_t], want: &
 pub(crate) fn assert_clusters(rt: &impl Abort, glyphs: &[hb_glyph_info_t], want: &[u32]) {
     assert!(rt; glyphs.len() == want.len());
     for (glyph, cluster) in glyphs.iter().zip(want) {
-        assert!(rt; glyph.cluster == *cluster);
-        assert!(rt; glyph.mask == 0);
+        assert!(rt; glyph.cluster == *cluster, "{want:?}");
+        assert!(rt; glyph.mask == 0, "{want:?}");
     }
 }
 
@@ -41,6 +41,6 @@ pub(crate) fn assert_clusters(rt: &impl Abort, glyphs: &[hb_glyph_info_t], want:
 pub(crate) fn assert_masks(rt: &impl Abort, glyphs: &[hb_glyph_info_t], want: &[u32]) {
     assert!(rt; glyphs.len() == want.len());
     for (glyph, mask) in glyphs.iter().zip(want) {
-        assert!(rt; glyph.mask == *mask);
+        assert!(rt; glyph.mask == *mask, "{want:?}");
     }
 }

@@ -13,9 +13,15 @@ fn a_range_is_widened_through_the_runs_at_its_ends(rt: HostRuntime) {
     ];
     for (cut, clusters, start, end, floor, want) in rows {
         let list = glyphs(clusters);
-        assert!(rt; cut <= 4 && start + 2 <= end && end <= 4);
+        assert!(rt;
+            cut <= 4 && start + 2 <= end && end <= 4,
+            "{clusters:?} from {start} to {end}, {floor}"
+        );
         let mut reads = ClusterReads::new(&list[..cut], &list[cut..]);
-        assert!(rt; merge_range(&mut reads, start, end, floor) == want);
+        assert!(rt;
+            merge_range(&mut reads, start, end, floor) == want,
+            "{clusters:?} from {start} to {end}, {floor}"
+        );
     }
 }
 
@@ -32,8 +38,14 @@ fn of_two_glyphs_the_higher_one_changes(rt: HostRuntime) {
     ];
     for (cut, clusters, start, floor, want) in rows {
         let list = glyphs(clusters);
-        assert!(rt; cut <= 4 && start <= 2);
+        assert!(rt;
+            cut <= 4 && start <= 2,
+            "{clusters:?} from {start}, {floor}"
+        );
         let mut reads = ClusterReads::new(&list[..cut], &list[cut..]);
-        assert!(rt; pair_change(&mut reads, start, start + 2, floor) == want);
+        assert!(rt;
+            pair_change(&mut reads, start, start + 2, floor) == want,
+            "{clusters:?} from {start}, {floor}"
+        );
     }
 }

@@ -15,7 +15,10 @@ fn a_head_is_kept_where_no_glyph_that_stays_changes(rt: HostRuntime) {
         ([0, 1, 2], 3, false),
     ];
     for (input, count, kept) in rows {
-        assert!(rt; keeps_head(&glyphs(input), count, Monotone) == kept);
+        assert!(rt;
+            keeps_head(&glyphs(input), count, Monotone) == kept,
+            "{count} of {input:?}"
+        );
     }
     assert!(rt; keeps_head(&glyphs([0, 1]), 2, Monotone));
     assert!(rt; !keeps_head(&glyphs([0, 1]), 2, Any));
@@ -36,7 +39,10 @@ fn a_head_is_lowered_where_its_run_begins_there(rt: HostRuntime) {
     ];
     for (out, input, count, cluster) in rows {
         let head = lowered_head(&glyphs(out), &glyphs(input), count, Monotone);
-        assert!(rt; head.map(|head| head.cluster) == cluster);
+        assert!(rt;
+            head.map(|head| head.cluster) == cluster,
+            "{count} of {input:?} behind {out:?}"
+        );
     }
 }
 

@@ -23,8 +23,8 @@ fn positions_are_put_into_reverse_order(rt: HostRuntime) {
     });
     reverse(&mut positions);
     for (position, want) in positions.iter().zip([30, 20, 10]) {
-        assert!(rt; position.x_advance == want);
-        assert!(rt; position.x_offset == want);
-        assert!(rt; position.var == 7);
+        assert!(rt; position.x_advance == want, "{want}");
+        assert!(rt; position.x_offset == want, "{want}");
+        assert!(rt; position.var == 7, "{want}");
     }
 }

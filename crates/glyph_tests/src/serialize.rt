@@ -145,7 +145,7 @@ fn each_set_of_flags_tells_its_pieces(rt: HostRuntime) -> Result<(), Fail> {
     for (bits, want) in (0u8..64).zip(TEXTS.lines()) {
         let flags = SerializeFlags::from_bits_retain(bits);
         let text = glyphs_text(rt.alloc(), &Five, flags, &infos, &positions)?;
-        assert!(rt; text.as_str() == want);
+        assert!(rt; text.as_str() == want, "{bits}");
     }
     Ok(())
 }

@@ -30,10 +30,25 @@ fn a_table_may_have_no_rows(rt: HostRuntime) {
 #[test]
 fn keys_of_a_table_are_not_repeated_and_never_fall(rt: HostRuntime) {
     for (first, second) in [('b', 'b'), ('b', 'a')] {
-        assert!(rt; CombiningClasses::new(&[(first, 1), (second, 2)]).is_none());
-        assert!(rt; Mirrors::new(&[(first, 'x'), (second, 'y')]).is_none());
-        assert!(rt; Compositions::new(&[((first, 'c'), 'x'), ((second, 'c'), 'y')]).is_none());
-        assert!(rt; Compositions::new(&[(('c', first), 'x'), (('c', second), 'y')]).is_none());
-        assert!(rt; Decompositions::new(&[(first, 'x', None), (second, 'y', None)]).is_none());
+        assert!(rt;
+            CombiningClasses::new(&[(first, 1), (second, 2)]).is_none(),
+            "{first}, {second}"
+        );
+        assert!(rt;
+            Mirrors::new(&[(first, 'x'), (second, 'y')]).is_none(),
+            "{first}, {second}"
+        );
+        assert!(rt;
+            Compositions::new(&[((first, 'c'), 'x'), ((second, 'c'), 'y')]).is_none(),
+            "{first}, {second}"
+        );
+        assert!(rt;
+            Compositions::new(&[(('c', first), 'x'), (('c', second), 'y')]).is_none(),
+            "{first}, {second}"
+        );
+        assert!(rt;
+            Decompositions::new(&[(first, 'x', None), (second, 'y', None)]).is_none(),
+            "{first}, {second}"
+        );
     }
 }

@@ -32,8 +32,8 @@ fn a_character_is_given_its_properties(rt: HostRuntime) -> Result<(), Fail> {
         };
         let mut scratch_flags = 0x0100_0000;
         info.init_unicode_props(&mut scratch_flags, &classes);
-        assert!(rt; info.var2 == 0x5678_0000 | props as u32);
-        assert!(rt; scratch_flags == 0x0100_0000 | scratch);
+        assert!(rt; info.var2 == 0x5678_0000 | props as u32, "{c:?}");
+        assert!(rt; scratch_flags == 0x0100_0000 | scratch, "{c:?}");
     }
     Ok(())
 }

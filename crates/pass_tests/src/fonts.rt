@@ -132,7 +132,11 @@ fn characters_are_taken_apart_as_the_font_has_them(rt: HostRuntime) -> Result<()
             takes_fewest: case.takes_fewest,
         };
         let mut buffer = buffer_of(&rt, rt.alloc(), case.text);
-        assert!(rt; decompose_all(&mut buffer, &font) == Ok(true));
+        assert!(rt;
+            decompose_all(&mut buffer, &font) == Ok(true),
+            "{}",
+            case.want
+        );
         assert!(rt;
             buffer.info().len() == case.want.chars().count(),
             "{}",

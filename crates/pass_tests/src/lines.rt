@@ -121,7 +121,11 @@ static BY_FLAGS: [Case; 5] = [
 #[test]
 fn lines_end_by_their_widths(rt: HostRuntime) -> Result<(), Fail> {
     for case in &BY_WIDTH {
-        assert!(rt; ends_of(&rt, rt.alloc(), case)?.as_slice() == case.ends);
+        assert!(rt;
+            ends_of(&rt, rt.alloc(), case)?.as_slice() == case.ends,
+            "{:?}",
+            case.ends
+        );
     }
     Ok(())
 }
@@ -129,7 +133,11 @@ fn lines_end_by_their_widths(rt: HostRuntime) -> Result<(), Fail> {
 #[test]
 fn lines_end_where_the_text_may_be_cut(rt: HostRuntime) -> Result<(), Fail> {
     for case in &BY_FLAGS {
-        assert!(rt; ends_of(&rt, rt.alloc(), case)?.as_slice() == case.ends);
+        assert!(rt;
+            ends_of(&rt, rt.alloc(), case)?.as_slice() == case.ends,
+            "{:?}",
+            case.ends
+        );
     }
     Ok(())
 }

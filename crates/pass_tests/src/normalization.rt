@@ -69,7 +69,7 @@ fn buffer_of(rt: &impl Abort, alloc: Global, text: &str) -> hb_buffer_t
 fn assert_characters(rt: &impl Abort, buffer: &hb_buffer_t, want: &str) {
     assert!(rt; buffer.info().len() == want.chars().count());
     for (glyph, c) in buffer.info().iter().zip(want.chars()) {
-        assert!(rt; glyph.glyph_id == c as u32);
+        assert!(rt; glyph.glyph_id == c as u32, "{want}");
     }
 }
 

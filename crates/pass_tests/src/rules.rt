@@ -87,7 +87,7 @@ fn a_table_is_a_font_that_has_every_glyph(rt: HostRuntime) -> Result<(), Fail> {
     let table = Decompositions::new(&DECOMPOSITIONS).ok_or("rows that rise")?;
     for (character, parts) in &PARTS {
         assert!(rt; parts_by(&table, *character) == *parts, "at {character}");
-        assert!(rt; table.has_glyph(*character));
+        assert!(rt; table.has_glyph(*character), "at {character}");
     }
     assert!(rt; !table.takes_fewest());
     Ok(())

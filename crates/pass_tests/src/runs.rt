@@ -116,7 +116,7 @@ fn runs_end_at_starters(rt: HostRuntime) -> Result<(), Fail> {
     let classes = CombiningClasses::new(&CLASSES).ok_or("rows that rise")?;
     let buffer = buffer_of(&rt, rt.alloc(), TWO_RUNS);
     for (start, end) in &ENDS {
-        assert!(rt; *start <= buffer.info().len());
+        assert!(rt; *start <= buffer.info().len(), "from {start}");
         assert!(rt;
             run_end(buffer.info(), &classes, *start) == *end,
             "from {start}"

@@ -28,9 +28,9 @@ fn ignorables_are_hidden(rt: HostRuntime) {
         buffer.flags = *flags;
         buffer.invisible = *invisible;
         hide_default_ignorables(&mut buffer);
-        assert!(rt; buffer.info().len() == ids.len());
+        assert!(rt; buffer.info().len() == ids.len(), "{ids:?}");
         for (glyph, id) in buffer.info().iter().zip(*ids) {
-            assert!(rt; glyph.glyph_id == *id);
+            assert!(rt; glyph.glyph_id == *id, "{ids:?}");
         }
     }
 }

@@ -30,7 +30,7 @@ fn assert_forms(rt: &impl Abort, buffer: hb_buffer_t, want: &[u32]) {
     plan_of(ScriptShaper::Arabic).setup_masks(&mut buffer);
     assert!(rt; buffer.info().len() == want.len());
     for (info, mask) in buffer.info().iter().zip(want) {
-        assert!(rt; info.mask & 0x7F0 == *mask);
+        assert!(rt; info.mask & 0x7F0 == *mask, "{want:?}");
     }
 }
 

@@ -112,7 +112,7 @@ pub(crate) fn plan_of(shaper: ScriptShaper) -> ScriptPlan {
 pub(crate) fn assert_characters(rt: &impl Abort, buffer: &hb_buffer_t, want: &[(u32, u32)]) {
     assert!(rt; buffer.info().len() == want.len());
     for (info, (character, cluster)) in buffer.info().iter().zip(want) {
-        assert!(rt; info.glyph_id == *character);
-        assert!(rt; info.cluster == *cluster);
+        assert!(rt; info.glyph_id == *character, "{want:?}");
+        assert!(rt; info.cluster == *cluster, "{want:?}");
     }
 }

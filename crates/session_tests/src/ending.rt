@@ -56,9 +56,9 @@ fn the_status_is_that_of_the_run_which_says_nothing(rt: HostRuntime) -> Result<(
         let mut written = Vec::new(rt.alloc());
         let error = Listener::new(rt.alloc(), false);
         let end = run_to_end(rt.alloc(), &mut reader, &mut written, &error);
-        assert!(rt; end == ExitCode::from(status));
-        assert!(rt; written.as_slice() == answers);
-        assert!(rt; error.heard.into_inner().is_empty());
+        assert!(rt; end == ExitCode::from(status), "{status}");
+        assert!(rt; written.as_slice() == answers, "{status}");
+        assert!(rt; error.heard.into_inner().is_empty(), "{status}");
     }
     Ok(())
 }
@@ -72,8 +72,8 @@ fn a_fault_is_told_and_ends_with_3(rt: HostRuntime) -> Result<(), Fail> {
     ];
     for (fault, line) in rows {
         let error = Listener::new(rt.alloc(), false);
-        assert!(rt; conclude(&error, Err(fault)) == ExitCode::from(3));
-        assert!(rt; error.heard.into_inner().as_str() == line);
+        assert!(rt; conclude(&error, Err(fault)) == ExitCode::from(3), "{line}");
+        assert!(rt; error.heard.into_inner().as_str() == line, "{line}");
     }
     let mut reader = SlowReader::new(b"push a\n");
     reader.fails_at = 1;

@@ -159,9 +159,12 @@ fn no_more_than_65536_reads_are_made(rt: HostRuntime) -> Result<(), Fail> {
         reader.is_endless = true;
         reader.interrupted = 0..interrupted_to;
         let outcome = run_on(rt.alloc(), &mut reader, &mut written);
-        assert!(rt; outcome == Err(RunFault::Read));
-        assert!(rt; written.len() == 0);
-        assert!(rt; (reader.reads, reader.largest) == (65536, 65536));
+        assert!(rt; outcome == Err(RunFault::Read), "{interrupted_to}");
+        assert!(rt; written.len() == 0, "{interrupted_to}");
+        assert!(rt;
+            (reader.reads, reader.largest) == (65536, 65536),
+            "{interrupted_to}"
+        );
     }
     let mut lines = vec![in rt.alloc(); b'a'; 65535]?;
     lines.as_mut_slice()[..5].copy_from_slice(b"push ");
@@ -206,7 +209,10 @@ fn a_write_may_be_interrupted_and_the_flush_may_fail(rt: HostRuntime) {
         let mut writer = SlowWriter::new(rt.alloc(), write);
         writer.failure = Some(ErrorKind::Interrupted);
         let mut lines = LINES;
-        assert!(rt; run_on(rt.alloc(), &mut lines, &mut writer) == Ok(0));
+        assert!(rt;
+            run_on(rt.alloc(), &mut lines, &mut writer) == Ok(0),
+            "at {write}"
+        );
         assert!(rt; writer.written.as_slice() == ANSWERS, "at {write}");
         assert!(rt; writer.flushes == 1, "at {write}");
     }
@@ -232,7 +238,10 @@ fn what_is_held_is_flushed_before_any_outcome_but_a_failed_write(
         let mut writer = SlowWriter::new(rt.alloc(), usize::MAX);
         let mut held = Vec::new(rt.alloc());
         held.extend_from_slice(b"true\n")?;
-        assert!(rt; finish(&mut writer, &mut held, outcome) == outcome);
+        assert!(rt;
+            finish(&mut writer, &mut held, outcome) == outcome,
+            "at {outcome:?}"
+        );
         assert!(rt; writer.flushes == flushes, "at {outcome:?}");
         assert!(rt; writer.written.len() == 5 * flushes, "at {outcome:?}");
     }

@@ -24,8 +24,8 @@ pub fn run_to_end<F: Files + AllocGlobal + Env + Input + Print + Eprint>(rt: &F)
 }
 
 /// Says on standard error why a run ended early, and gives the status to end with: 0 where every line was shaped, and
-/// else 1. It is public for its test alone.
-pub fn conclude<E: Eprint>(error_output: &E, outcome: io::Result<bool>) -> ExitCode
+/// else 1.
+fn conclude<E: Eprint>(error_output: &E, outcome: io::Result<bool>) -> ExitCode
     ensures is { exit_status result ≡ status_after outcome }
     ensures least { exit_status result ≤ 1 }
 {

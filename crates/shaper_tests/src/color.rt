@@ -96,7 +96,7 @@ fn bitmaps_and_colours_have_bounds(rt: HostRuntime) -> Result<(), Fail> {
         for (glyph, found) in (0..3).zip(bounds) {
             assert_eq!(rt; bounds_of(&face, glyph)?, found, "{glyph}");
         }
-        assert!(rt; face.glyph_extents(GlyphId(3))?.is_none());
+        assert!(rt; face.glyph_extents(GlyphId(3))?.is_none(), "at {size}");
     }
     Ok(())
 }

@@ -96,10 +96,10 @@ fn texts_are_read_by_the_grammar(rt: HostRuntime) {
             start,
             end,
         };
-        assert!(rt; text.parse::<Feature>() == Ok(feature));
+        assert!(rt; text.parse::<Feature>() == Ok(feature), "{text}");
     }
     for text in &REFUSED {
-        assert!(rt; text.parse::<Feature>() == Err("invalid feature"));
+        assert!(rt; text.parse::<Feature>() == Err("invalid feature"), "{text}");
     }
     feature_texts_read_one_way();
 }
@@ -127,8 +127,17 @@ static BOUNDS: [(Bound<usize>, Bound<usize>, u32, u32); 5] = [
 fn a_new_feature_has_its_bounds(rt: HostRuntime) {
     for &(from, to, start, end) in &BOUNDS {
         let feature = Feature::new(Tag(9), 7, from, to);
-        assert!(rt; (feature.tag, feature.value) == (Tag(9), 7));
-        assert!(rt; (feature.start, feature.end) == (start, end));
-        assert!(rt; feature.is_global() == (start == 0 && end == u32::MAX));
+        assert!(rt;
+            (feature.tag, feature.value) == (Tag(9), 7),
+            "{start} to {end}"
+        );
+        assert!(rt;
+            (feature.start, feature.end) == (start, end),
+            "{start} to {end}"
+        );
+        assert!(rt;
+            feature.is_global() == (start == 0 && end == u32::MAX),
+            "{start} to {end}"
+        );
     }
 }

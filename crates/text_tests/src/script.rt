@@ -201,8 +201,11 @@ const FROM_T_TO_Z: [(Script, &str); 27] = [
 
 fn have_codes(rt: &impl Abort, named: &[(Script, &str)]) {
     for (script, code) in named {
-        assert!(rt; script.tag() == Tag::from_bytes_lossy(code.as_bytes()));
-        assert!(rt; code.parse::<Script>() == Ok(*script));
+        assert!(rt;
+            script.tag() == Tag::from_bytes_lossy(code.as_bytes()),
+            "{code}"
+        );
+        assert!(rt; code.parse::<Script>() == Ok(*script), "{code}");
     }
 }
 
@@ -276,7 +279,7 @@ static COLUMNS: [(u32, u32); 6] = [
 #[test]
 fn texts_name_scripts_in_any_case_and_by_other_names(rt: HostRuntime) {
     for (text, code) in &OTHER_NAMES {
-        assert!(rt; text.parse::<Script>() == code.parse::<Script>());
+        assert!(rt; text.parse::<Script>() == code.parse::<Script>(), "{text}");
     }
     let named = ["", "hANT", "1234"].map(|text| text.parse::<Script>());
     assert!(rt; named == [Err("invalid script"), Ok(HAN), Ok(UNKNOWN)]);
@@ -287,6 +290,6 @@ fn texts_name_scripts_in_any_case_and_by_other_names(rt: HostRuntime) {
 fn tags_in_the_columns_of_the_letters_name_scripts_of_their_own(rt: HostRuntime) {
     for &(number, script) in &COLUMNS {
         let named = Script::from_iso15924_tag(Tag(number)).map(|found| found.tag());
-        assert!(rt; named == Some(Tag(script)));
+        assert!(rt; named == Some(Tag(script)), "{number}");
     }
 }

@@ -183,7 +183,7 @@ impl ComplexLanguages for OneTwoThree {
 fn are(rt: &impl Abort, tags: &ThreeTags, text: &str) {
     assert!(rt; tags.len() * 4 == text.len());
     for (tag, bytes) in tags.iter().zip(text.as_bytes().chunks(4)) {
-        assert!(rt; *tag == Tag::from_bytes_lossy(bytes));
+        assert!(rt; *tag == Tag::from_bytes_lossy(bytes), "{text}");
     }
 }
 

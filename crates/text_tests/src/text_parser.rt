@@ -38,7 +38,10 @@ static NUMBERS: [(&str, Option<i32>, Option<u8>); 11] = [
 fn numbers(rt: HostRuntime) {
     for &(text, number, next) in &NUMBERS {
         let mut p = TextParser::new(text);
-        assert!(rt; (p.consume_i32(), p.curr_byte()) == (number, next));
+        assert!(rt;
+            (p.consume_i32(), p.curr_byte()) == (number, next),
+            "{text}"
+        );
     }
 }
 
@@ -55,6 +58,9 @@ static TOGGLES: [(&str, Option<bool>, Option<u8>); 5] = [
 fn on_and_off(rt: HostRuntime) {
     for &(text, toggle, next) in &TOGGLES {
         let mut p = TextParser::new(text);
-        assert!(rt; (p.consume_bool(), p.curr_byte()) == (toggle, next));
+        assert!(rt;
+            (p.consume_bool(), p.curr_byte()) == (toggle, next),
+            "{text}"
+        );
     }
 }

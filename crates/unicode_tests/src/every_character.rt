@@ -36,7 +36,10 @@ fn decomposes_fully(rt: HostRuntime) -> Result<(), Fail> {
         if let Some(c) = char::from_u32(code) {
             let mut parts = decomposed(rt.alloc(), &table, c)?;
             parts.reverse();
-            assert!(rt; parts.as_slice() == kit_decomposition(c, Form::Nfd, &mut room));
+            assert!(rt;
+                parts.as_slice() == kit_decomposition(c, Form::Nfd, &mut room),
+                "{code}"
+            );
         }
     }
     Ok(())
@@ -51,7 +54,7 @@ fn composes_again(rt: HostRuntime) -> Result<(), Fail> {
     for code in 0..0x11_0000 {
         if let Some(c) = char::from_u32(code) {
             if let Some((a, b)) = decompose(&table, c) {
-                assert!(rt; compose(&composites, a, b) == kit_compose(a, b));
+                assert!(rt; compose(&composites, a, b) == kit_compose(a, b), "{code}");
             }
         }
     }

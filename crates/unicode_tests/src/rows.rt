@@ -38,7 +38,7 @@ fn mappings(rt: HostRuntime) -> Result<(), Fail> {
     let rows = decompositions(rt.alloc())?;
     let table = Decompositions::new(&rows).ok_or("rows that rise")?;
     for &(c, first, second) in &MAPPINGS {
-        assert!(rt; decompose(&table, c) == Some((first, second)));
+        assert!(rt; decompose(&table, c) == Some((first, second)), "{c:?}");
     }
     assert!(rt; decompose(&table, 'e') == None);
     Ok(())
@@ -49,7 +49,7 @@ fn pairs(rt: HostRuntime) -> Result<(), Fail> {
     let rows = compositions(rt.alloc())?;
     let table = Compositions::new(&rows).ok_or("rows that rise")?;
     for &(a, b, composite) in &PAIRS {
-        assert!(rt; compose(&table, a, b) == composite);
+        assert!(rt; compose(&table, a, b) == composite, "{a:?}, {b:?}");
     }
     Ok(())
 }
@@ -70,13 +70,22 @@ fn classes(rt: HostRuntime) -> Result<(), Fail> {
 fn tables_of_all_rows(rt: HostRuntime) -> Result<(), Fail> {
     let rows = UnicodeRows::new(rt.alloc())?;
     for &(c, first, second) in &MAPPINGS {
-        assert!(rt; decompose(&rows.decompositions(), c) == Some((first, second)));
+        assert!(rt;
+            decompose(&rows.decompositions(), c) == Some((first, second)),
+            "{c:?}"
+        );
     }
     for &(a, b, composite) in &PAIRS {
-        assert!(rt; compose(&rows.compositions(), a, b) == composite);
+        assert!(rt;
+            compose(&rows.compositions(), a, b) == composite,
+            "{a:?}, {b:?}"
+        );
     }
     for (c, class) in [('a', 0), ('\u{94d}', 9), ('\u{301}', 230)] {
-        assert!(rt; c.modified_combining_class(&rows.classes()) == class);
+        assert!(rt;
+            c.modified_combining_class(&rows.classes()) == class,
+            "{c:?}"
+        );
     }
     Ok(())
 }

@@ -54,7 +54,7 @@ fn values_are_normalized(rt: HostRuntime) {
     assert!(rt; axis.default == 400.0);
     assert!(rt; axis.maximum == 900.0);
     for &(value, normalized) in &NORMALIZED {
-        assert!(rt; axis.normalized(value) == normalized);
+        assert!(rt; axis.normalized(value) == normalized, "to {normalized}");
     }
 }
 
@@ -112,9 +112,9 @@ fn segment_maps_move_coordinates_evenly(rt: HostRuntime) {
     for &(from, to) in &MOVED {
         let mut coordinates = [from, from];
         maps.map_segments(&mut coordinates);
-        assert!(rt; coordinates[0] == to);
-        assert!(rt; coordinates[1] == from);
-        assert!(rt; maps.mapped_by_all(0, &[from]) == from);
+        assert!(rt; coordinates[0] == to, "from {from}");
+        assert!(rt; coordinates[1] == from, "from {from}");
+        assert!(rt; maps.mapped_by_all(0, &[from]) == from, "from {from}");
     }
 }
 

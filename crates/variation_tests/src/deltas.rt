@@ -56,7 +56,10 @@ static SCALARS: [((i16, i16, i16, i32), f32); 9] = [
 #[test]
 fn regions_hold_evenly_between_their_ends(rt: HostRuntime) {
     for &((start, peak, end, at), scalar) in &SCALARS {
-        assert!(rt; axis_scalar(start, peak, end, at) == scalar);
+        assert!(rt;
+            axis_scalar(start, peak, end, at) == scalar,
+            "{start}, {peak}, {end} at {at}"
+        );
     }
     assert!(rt; is_at_peak(0, 5));
     assert!(rt; is_at_peak(5, 5));

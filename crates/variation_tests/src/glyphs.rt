@@ -46,10 +46,10 @@ fn the_advance_moves(rt: HostRuntime) {
         let Some(phantoms) = varied_phantoms(&sources(&GVAR), GlyphId(0), &[at]) else {
             panic!(rt; "the font has the glyph")
         };
-        assert!(rt; phantoms.left == Point { x: 0.0, y: 0.0 });
-        assert!(rt; phantoms.right == Point { x: right, y: 0.0 });
-        assert!(rt; phantoms.top == Point { x: 0.0, y: 100.0 });
-        assert!(rt; phantoms.bottom == Point { x: 0.0, y: -900.0 });
+        assert!(rt; phantoms.left == Point { x: 0.0, y: 0.0 }, "at {at}");
+        assert!(rt; phantoms.right == Point { x: right, y: 0.0 }, "at {at}");
+        assert!(rt; phantoms.top == Point { x: 0.0, y: 100.0 }, "at {at}");
+        assert!(rt; phantoms.bottom == Point { x: 0.0, y: -900.0 }, "at {at}");
     }
     assert!(rt; varied_phantoms(&sources(&GVAR), GlyphId(1), &[0]) == None);
     let still = varied_phantoms(&sources(&[]), GlyphId(0), &[16384]);

@@ -43,9 +43,13 @@ fn digests_are_of_coverages_and_texts(rt: HostRuntime) -> Result<(), AllocError>
     let listed = bytes_of(rt.alloc(), &[1, 2, 5, 9])?;
     let ranged = bytes_of(rt.alloc(), &[2, 1, 5, 9, 0])?;
     let text = Digest::of_glyphs(&[glyph_of(5, 0, 0), glyph_of(9, 0, 0)]);
-    for digest in [Digest::of_coverage(&Coverage::new(&listed)), text] {
+    for (list, digest) in [
+        ("coverage", Digest::of_coverage(&Coverage::new(&listed))),
+        ("text", text),
+    ] {
         assert!(rt;
-            (digest.may_have(5), digest.may_have(7), digest.may_have(9)) == (true, false, true)
+            (digest.may_have(5), digest.may_have(7), digest.may_have(9)) == (true, false, true),
+            "of a {list}"
         );
     }
     let range = Digest::of_coverage(&Coverage::new(&ranged));

@@ -17,7 +17,7 @@ static TABLES: [(&[u8; 4], &[u8]); 3] = [(b"abcd", &[1, 2, 3]), (b"efgh", &[4, 5
 fn a_table_has_the_bytes_that_its_record_says(rt: HostRuntime) -> Result<(), Fail> {
     let tables = Tables::new(FONT, 7).ok_or("a font")?;
     for &(tag, bytes) in &TABLES {
-        assert!(rt; tables.table(Tag::from_bytes(tag)) == bytes);
+        assert!(rt; tables.table(Tag::from_bytes(tag)) == bytes, "{bytes:?}");
     }
     Ok(())
 }
@@ -51,6 +51,6 @@ static HEADS: [(&[u8], u32); 6] = [
 #[test]
 fn a_file_has_fonts(rt: HostRuntime) {
     for &(file, count) in &HEADS {
-        assert!(rt; face_count(file) == count);
+        assert!(rt; face_count(file) == count, "{file:?}");
     }
 }

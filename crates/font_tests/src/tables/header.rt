@@ -23,7 +23,7 @@ fn an_em_has_units(rt: HostRuntime) {
         let mut head = HEAD;
         head[18] = high;
         head[19] = low;
-        assert!(rt; units_per_em(&head) == units);
+        assert!(rt; units_per_em(&head) == units, "{high}, {low}");
     }
 }
 
@@ -45,7 +45,7 @@ static PROFILES: [(&[u8], u16); 3] = [
 #[test]
 fn maxp_counts_the_glyphs(rt: HostRuntime) {
     for &(maxp, count) in &PROFILES {
-        assert!(rt; glyph_count(maxp) == count);
+        assert!(rt; glyph_count(maxp) == count, "{maxp:?}");
     }
 }
 

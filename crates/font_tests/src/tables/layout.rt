@@ -37,7 +37,10 @@ static COVERED: [(&[u8], u16, Option<u32>); 14] = [
 #[test]
 fn a_covered_glyph_has_an_index(rt: HostRuntime) {
     for &(table, glyph, index) in &COVERED {
-        assert!(rt; Coverage::new(table).index(GlyphId(glyph)) == index);
+        assert!(rt;
+            Coverage::new(table).index(GlyphId(glyph)) == index,
+            "{glyph} in {table:?}"
+        );
     }
 }
 
@@ -65,7 +68,10 @@ static CLASSIFIED: [(&[u8], u16, u16); 9] = [
 #[test]
 fn a_glyph_has_a_class(rt: HostRuntime) {
     for &(table, glyph, class) in &CLASSIFIED {
-        assert!(rt; ClassDefinition::new(table).class(GlyphId(glyph)) == class);
+        assert!(rt;
+            ClassDefinition::new(table).class(GlyphId(glyph)) == class,
+            "{glyph} in {table:?}"
+        );
     }
 }
 
@@ -96,7 +102,7 @@ fn gdef_has_classes(rt: HostRuntime) {
             gdef.mark_attachment_class(glyph),
             gdef.glyph_props(glyph),
         ];
-        assert!(rt; classes == expected);
+        assert!(rt; classes == expected, "{number}");
     }
     assert!(rt; gdef.has_glyph_classes() && !Gdef::new(&[]).has_glyph_classes());
 }
@@ -118,6 +124,9 @@ static SIZES: [([usize; 3], bool); 3] = [
 #[test]
 fn a_wrong_gdef_is_ignored(rt: HostRuntime) {
     for &([gdef, gsub, gpos], ignored) in &SIZES {
-        assert!(rt; is_ignored(gdef, gsub, gpos) == ignored);
+        assert!(rt;
+            is_ignored(gdef, gsub, gpos) == ignored,
+            "{gdef}, {gsub}, {gpos}"
+        );
     }
 }

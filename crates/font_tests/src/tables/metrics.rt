@@ -23,9 +23,15 @@ fn the_last_advance_goes_on(rt: HostRuntime) {
     for &(size, number, advance, bearing) in &ADVANCES {
         let metrics = Metrics::new(part(&HMTX, 0, size), 2, 4, 512);
         let glyph = GlyphId(number);
-        assert!(rt; metrics.advance(glyph) == advance);
-        assert!(rt; metrics.side_bearing(glyph) == bearing);
-        assert!(rt; metrics.has_advance(glyph) == bearing.is_some());
+        assert!(rt; metrics.advance(glyph) == advance, "{number} in {size}");
+        assert!(rt;
+            metrics.side_bearing(glyph) == bearing,
+            "{number} in {size}"
+        );
+        assert!(rt;
+            metrics.has_advance(glyph) == bearing.is_some(),
+            "{number} in {size}"
+        );
     }
 }
 
@@ -44,6 +50,6 @@ static ORIGINS: [(usize, u16, Option<i16>); 4] = [
 fn glyphs_have_vertical_origins(rt: HostRuntime) {
     for &(size, glyph, y) in &ORIGINS {
         let origins = VerticalOrigins::new(part(&VORG, 0, size));
-        assert!(rt; origins.y_origin(GlyphId(glyph)) == y);
+        assert!(rt; origins.y_origin(GlyphId(glyph)) == y, "{glyph} in {size}");
     }
 }

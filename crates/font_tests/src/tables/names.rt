@@ -30,7 +30,7 @@ static NAMES: [(&[u8], u16, Option<&[u8]>); 13] = [
 fn post_names_glyphs(rt: HostRuntime) -> Result<(), Fail> {
     for &(post, glyph, name) in &NAMES {
         let names = PostNames::new(rt.alloc(), post)?;
-        assert!(rt; names.name(GlyphId(glyph)) == name);
+        assert!(rt; names.name(GlyphId(glyph)) == name, "{glyph} in {post:?}");
     }
     Ok(())
 }

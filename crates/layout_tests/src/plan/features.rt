@@ -99,7 +99,10 @@ fn stages_part_lookups(rt: HostRuntime) -> Result<(), Fail> {
     assert_eq!(rt; (second.end, second.pause), (2, Pause::Nothing));
     for (tag, index) in [(b"frac", 2), (b"liga", 1)] {
         let lookups = plan.stage_lookups(Tag::from_bytes(tag));
-        assert!(rt; lookups.len() == 1 && lookups.iter().all(|lookup| lookup.index == index));
+        assert!(rt;
+            lookups.len() == 1 && lookups.iter().all(|lookup| lookup.index == index),
+            "{index}"
+        );
     }
     assert!(rt; plan.stage_lookups(Tag::from_bytes(b"smcp")).is_empty());
     Ok(())

@@ -183,8 +183,8 @@ fn assert_places(buffer: &hb_buffer_t, want: &[(usize, u32)]) {
     let storage = buffer.storage();
     assert!(storage.len() == 5);
     for (place, id) in want {
-        assert!(*place < storage.len());
-        assert!(storage[*place].glyph_id == *id);
+        assert!(*place < storage.len(), "{id} at {place}");
+        assert!(storage[*place].glyph_id == *id, "{id} at {place}");
     }
 }
 
@@ -239,7 +239,7 @@ fn an_output_is_separate_once_it_is_the_longer() -> Result<(), Fail> {
         for (call, separate) in *calls {
             make_one(&mut buffer, *call, *separate);
         }
-        assert!(buffer.len() == *len);
+        assert!(buffer.len() == *len, "the run of {len}");
     }
     Ok(())
 }

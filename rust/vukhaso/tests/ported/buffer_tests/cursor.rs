@@ -7,7 +7,10 @@ use vukhaso::buffer::{hb_buffer_t, hb_glyph_info_t};
 /// Asserts that these are glyphs of the letters from a to j, over and over.
 fn assert_letters(glyphs: &[hb_glyph_info_t], first: u32) {
     for (i, glyph) in (0u32..99).zip(glyphs) {
-        assert!(glyph.glyph_id == 97 + first.wrapping_add(i) % 10);
+        assert!(
+            glyph.glyph_id == 97 + first.wrapping_add(i) % 10,
+            "from {first}"
+        );
     }
 }
 

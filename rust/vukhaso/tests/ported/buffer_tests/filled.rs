@@ -47,7 +47,7 @@ fn answer(buffer: &mut hb_buffer_t, call: Call<'_>) -> Answer {
 /// Makes a call so many times.
 fn make(buffer: &mut hb_buffer_t, times: usize, call: Call<'_>) {
     for _ in 0..times {
-        assert!(answer(buffer, call) == Answer::Done);
+        assert!(answer(buffer, call) == Answer::Done, "{call:?}");
     }
 }
 

@@ -62,7 +62,7 @@ fn equal_texts_are_of_equal_glyphs() -> Result<(), Fail> {
     for one in &texts {
         for other in &texts {
             let alike = are_written_alike(one, other)?;
-            assert!(alike == (one == other));
+            assert!(alike == (one == other), "{one} and {other}");
         }
     }
     Ok(())

@@ -9,8 +9,8 @@ use vukhaso::memory::{AllocError, String};
 pub(crate) fn assert_glyphs(glyphs: &[hb_glyph_info_t], want: &[(u32, u32)]) {
     assert!(glyphs.len() == want.len());
     for (glyph, (cluster, mask)) in glyphs.iter().zip(want) {
-        assert!(glyph.cluster == *cluster);
-        assert!(glyph.mask == *mask);
+        assert!(glyph.cluster == *cluster, "{want:?}");
+        assert!(glyph.mask == *mask, "{want:?}");
     }
 }
 
@@ -25,7 +25,7 @@ pub(crate) fn buffer_of(text: &str) -> hb_buffer_t {
 pub(crate) fn assert_ids(glyphs: &[hb_glyph_info_t], want: &[u32]) {
     assert!(glyphs.len() == want.len());
     for (glyph, id) in glyphs.iter().zip(want.iter()) {
-        assert!(glyph.glyph_id == *id);
+        assert!(glyph.glyph_id == *id, "{want:?}");
     }
 }
 

@@ -16,7 +16,7 @@ fn kern(value: u32, start: u32, end: u32) -> Feature {
 fn assert_masks(glyphs: &GlyphBuffer, want: &[u32]) {
     assert!(glyphs.len() == want.len());
     for (glyph, want) in glyphs.glyph_infos().iter().zip(want) {
-        assert!(glyph.mask == *want);
+        assert!(glyph.mask == *want, "{want}");
     }
     assert!(glyphs.glyph_positions().len() == want.len());
     for position in glyphs.glyph_positions() {
@@ -44,7 +44,7 @@ fn features_set_the_bits_of_their_places() -> Result<(), Fail> {
             Ok(glyphs) => assert_masks(&glyphs, masks),
             Err(_) => panic!("not rendered"),
         }
-        assert!(answers == [Answer::Done; 3]);
+        assert!(answers == [Answer::Done; 3], "{masks:?}");
     }
     Ok(())
 }
@@ -80,7 +80,7 @@ fn assert_rendered(rendered: Result<GlyphBuffer, RenderFault>, want: &[(u32, u32
         Ok(glyphs) => {
             assert!(glyphs.len() == want.len());
             for (glyph, want) in glyphs.glyph_infos().iter().zip(want) {
-                assert!((glyph.cluster, glyph.mask & 7) == *want);
+                assert!((glyph.cluster, glyph.mask & 7) == *want, "{want:?}");
             }
         }
         Err(_) => panic!("not rendered"),
@@ -106,7 +106,7 @@ fn a_text_is_rendered_at_its_level() {
         let calls = [Call::MergeGraphemeClusters(0, 2)];
         let rendered = render_at(*level, "abc", &[], &calls, &mut answers);
         assert_rendered(rendered, graphemes);
-        assert!(answers == [Answer::Done]);
+        assert!(answers == [Answer::Done], "{level:?}");
     }
     let mut answers = [Answer::Outside];
     let calls = [Call::MergeGraphemeClusters(0, 2)];
@@ -128,11 +128,11 @@ fn faults_come_at_each_level() {
         let calls = [Call::ClearOutput];
         let rendered = render_at(level, "ab", &[], &calls, &mut answers);
         assert_fault(rendered, RenderFault::OutputLeftOpen);
-        assert!(answers == [Answer::Done]);
+        assert!(answers == [Answer::Done], "{level:?}");
         let mut answers = [Answer::Outside];
         let many = [kern(1, 0, 1); 25];
         let rendered = render_at(level, "ab", &many, &calls, &mut answers);
         assert_fault(rendered, RenderFault::TooManyFeatures);
-        assert!(answers == [Answer::Outside]);
+        assert!(answers == [Answer::Outside], "{level:?}");
     }
 }

@@ -11,8 +11,8 @@ fn assert_text(text: UnicodeBuffer, want: &[(u32, u32)]) {
     let buffer = text.into_buffer();
     assert!(buffer.info().len() == want.len());
     for (glyph, pair) in buffer.info().iter().zip(want.iter()) {
-        assert!((glyph.glyph_id, glyph.cluster) == *pair);
-        assert!(glyph.mask == 0);
+        assert!((glyph.glyph_id, glyph.cluster) == *pair, "{want:?}");
+        assert!(glyph.mask == 0, "{want:?}");
     }
 }
 

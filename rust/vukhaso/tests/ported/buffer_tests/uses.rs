@@ -22,7 +22,7 @@ use vukhaso::runs::Answer;
 fn assert_masks(glyphs: &[hb_glyph_info_t], want: &[u32]) {
     assert!(glyphs.len() == want.len());
     for (glyph, mask) in glyphs.iter().zip(want) {
-        assert!(glyph.mask == *mask);
+        assert!(glyph.mask == *mask, "{want:?}");
     }
 }
 
@@ -172,7 +172,7 @@ fn assert_reversed(merge: bool, clusters: &[u32]) {
 fn assert_clusters(glyphs: &[hb_glyph_info_t], want: &[u32]) {
     assert!(glyphs.len() == want.len());
     for (glyph, cluster) in glyphs.iter().zip(want) {
-        assert!(glyph.cluster == *cluster);
+        assert!(glyph.cluster == *cluster, "{want:?}");
     }
 }
 
@@ -180,7 +180,7 @@ fn assert_advances(buffer: &hb_buffer_t, want: &[i32]) {
     assert!(buffer.have_positions());
     assert!(buffer.pos().len() == want.len());
     for (position, advance) in buffer.pos().iter().zip(want) {
-        assert!(position.x_advance == *advance);
+        assert!(position.x_advance == *advance, "{want:?}");
     }
 }
 

@@ -50,11 +50,20 @@ fn the_header_of_an_outline_names_its_box() {
             glyph_count: 5,
         };
         let outlines = Outlines::new(glyf, &[]);
-        for (glyph, &(bearing, found)) in (0..5).zip(&BOXES) {
-            let glyph = GlyphId(glyph);
-            assert!(box_of(glyf.glyph_extents(glyph, bearing)) == found);
-            assert!(box_of(outlines.glyph_extents(glyph, bearing)) == found);
-            assert!(outlines.glyph_name(glyph) == None);
+        for (number, &(bearing, found)) in (0..5).zip(&BOXES) {
+            let glyph = GlyphId(number);
+            assert!(
+                box_of(glyf.glyph_extents(glyph, bearing)) == found,
+                "{number}, long {has_long_offsets}"
+            );
+            assert!(
+                box_of(outlines.glyph_extents(glyph, bearing)) == found,
+                "{number}, long {has_long_offsets}"
+            );
+            assert!(
+                outlines.glyph_name(glyph) == None,
+                "{number}, long {has_long_offsets}"
+            );
         }
     }
     assert!(outline(&GLYF, &LOCA, false, GlyphId(3)) == Some([0, 1].as_slice()));
@@ -133,8 +142,14 @@ fn a_charstring_is_run_for_its_box() {
     let outlines = Outlines::new(glyf, &DRAWN);
     for (glyph, &(name, found)) in (0..10).zip(&DRAWINGS) {
         let glyph = GlyphId(glyph);
-        assert!(outlines.glyph_name(glyph) == Some(name.as_bytes()));
-        assert!(box_of(outlines.glyph_extents(glyph, Some(15))) == found);
+        assert!(
+            outlines.glyph_name(glyph) == Some(name.as_bytes()),
+            "{name}"
+        );
+        assert!(
+            box_of(outlines.glyph_extents(glyph, Some(15))) == found,
+            "{name}"
+        );
     }
 }
 
@@ -155,7 +170,7 @@ fn a_predefined_charset_names_glyphs() {
     for &(number, glyph, name) in &PREDEFINED {
         let charset = predefined_charset(number).unwrap_or(&[]);
         let string = string_number(charset, GlyphId(glyph));
-        assert!(string_of(&[], string) == Some(name.as_bytes()));
+        assert!(string_of(&[], string) == Some(name.as_bytes()), "{name}");
     }
     assert!(predefined_charset(3) == None);
 }

@@ -25,9 +25,9 @@ fn from_number<C: GeneralCategoryExt>(number: u32) -> C {
 #[test]
 fn a_category_has_its_number_and_its_kind() {
     for (category, number, is_mark, is_letter) in CATEGORIES.iter() {
-        assert!(category.to_rb() == *number);
-        assert!(category.is_mark() == *is_mark);
-        assert!(category.is_letter() == *is_letter);
+        assert!(category.to_rb() == *number, "{number}");
+        assert!(category.is_mark() == *is_mark, "{number}");
+        assert!(category.is_letter() == *is_letter, "{number}");
     }
     assert!(from_number::<Category>(29) == Category::SpaceSeparator);
 }

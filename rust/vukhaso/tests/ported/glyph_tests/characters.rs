@@ -37,15 +37,27 @@ static FORMS: [(char, bool, bool, bool, Option<char>); 10] = [
 #[test]
 fn a_character_has_its_properties() {
     for (character, script, category, space) in KINDS.iter() {
-        assert!(character.script().tag() == Tag::from_bytes(script));
-        assert!(character.general_category() == *category);
-        assert!(character.space_fallback() == *space);
+        assert!(
+            character.script().tag() == Tag::from_bytes(script),
+            "{character:?}"
+        );
+        assert!(character.general_category() == *category, "{character:?}");
+        assert!(character.space_fallback() == *space, "{character:?}");
     }
     for &(character, is_invisible, is_selector, is_pictograph, form) in &FORMS {
-        assert!(character.is_default_ignorable() == is_invisible);
-        assert!(character.is_variation_selector() == is_selector);
-        assert!(character.is_emoji_extended_pictographic() == is_pictograph);
-        assert!(character.vertical() == form);
+        assert!(
+            character.is_default_ignorable() == is_invisible,
+            "{character:?}"
+        );
+        assert!(
+            character.is_variation_selector() == is_selector,
+            "{character:?}"
+        );
+        assert!(
+            character.is_emoji_extended_pictographic() == is_pictograph,
+            "{character:?}"
+        );
+        assert!(character.vertical() == form, "{character:?}");
     }
 }
 
@@ -64,8 +76,11 @@ fn tables_are_asked() -> Result<(), Fail> {
     for &(character, class, changed) in &CLASSES {
         let rows = [(character, class)];
         let classes = CombiningClasses::new(&rows).ok_or("one row")?;
-        assert!(character.modified_combining_class(&classes) == changed);
-        assert!('a'.modified_combining_class(&classes) == 0);
+        assert!(
+            character.modified_combining_class(&classes) == changed,
+            "{character:?}"
+        );
+        assert!('a'.modified_combining_class(&classes) == 0, "{character:?}");
     }
     let rows = [('(', ')'), (')', '('), ('\u{ab}', '\u{bb}')];
     let mirrors = Mirrors::new(&rows).ok_or("three rows")?;

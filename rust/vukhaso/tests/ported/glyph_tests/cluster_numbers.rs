@@ -19,8 +19,8 @@ fn clusters_are_numbered_by_their_places() -> Result<(), Fail> {
     let mut info = [glyph(10, 9), glyph(20, 9), glyph(30, 4)];
     reset_clusters(&mut info);
     for (i, g) in info.iter().enumerate() {
-        assert!(g.cluster as usize == i);
-        assert!((g.mask, g.var1, g.var2) == (3, 5, 7));
+        assert!(g.cluster as usize == i, "{i}");
+        assert!((g.mask, g.var1, g.var2) == (3, 5, 7), "{i}");
     }
     assert!((info[0].glyph_id, info[1].glyph_id, info[2].glyph_id) == (10, 20, 30));
     Ok(())

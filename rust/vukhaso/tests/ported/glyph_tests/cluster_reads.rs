@@ -11,8 +11,8 @@ fn each_cluster_that_is_read_is_counted() {
     assert!(reads.len() == 5);
     assert!(reads.reads() == 0);
     for (i, cluster) in [(1, 3), (0, 4), (4, 5), (2, 3), (4, 5)] {
-        assert!(i < reads.len() && reads.reads() < 5);
-        assert!(reads.cluster(i) == cluster);
+        assert!(i < reads.len() && reads.reads() < 5, "{i}");
+        assert!(reads.cluster(i) == cluster, "{i}");
     }
     assert!(reads.reads() == 5);
 }

@@ -13,8 +13,8 @@ static SYLLABLES: [(char, char, char); 4] = [
 #[test]
 fn a_syllable_is_made_of_its_parts() {
     for &(a, b, syllable) in &SYLLABLES {
-        assert!(compose_hangul(a, b) == Some(syllable));
-        assert!(decompose_hangul(syllable) == Some((a, b)));
+        assert!(compose_hangul(a, b) == Some(syllable), "{syllable}");
+        assert!(decompose_hangul(syllable) == Some((a, b)), "{syllable}");
     }
     assert!(compose_hangul('\u{AC00}', '\u{11A7}').is_none());
     assert!(decompose_hangul('\u{D7A4}').is_none());

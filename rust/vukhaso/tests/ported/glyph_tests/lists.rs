@@ -24,8 +24,8 @@ pub(crate) fn glyphs<const N: usize>(clusters: [u32; N]) -> [hb_glyph_info_t; N]
 pub(crate) fn assert_glyphs(glyphs: &[hb_glyph_info_t], want: &[(u32, u32)]) {
     assert!(glyphs.len() == want.len());
     for (glyph, (cluster, mask)) in glyphs.iter().zip(want) {
-        assert!(glyph.cluster == *cluster);
-        assert!(glyph.mask == *mask);
+        assert!(glyph.cluster == *cluster, "{want:?}");
+        assert!(glyph.mask == *mask, "{want:?}");
     }
 }
 
@@ -33,8 +33,8 @@ pub(crate) fn assert_glyphs(glyphs: &[hb_glyph_info_t], want: &[(u32, u32)]) {
 pub(crate) fn assert_clusters(glyphs: &[hb_glyph_info_t], want: &[u32]) {
     assert!(glyphs.len() == want.len());
     for (glyph, cluster) in glyphs.iter().zip(want) {
-        assert!(glyph.cluster == *cluster);
-        assert!(glyph.mask == 0);
+        assert!(glyph.cluster == *cluster, "{want:?}");
+        assert!(glyph.mask == 0, "{want:?}");
     }
 }
 
@@ -42,6 +42,6 @@ pub(crate) fn assert_clusters(glyphs: &[hb_glyph_info_t], want: &[u32]) {
 pub(crate) fn assert_masks(glyphs: &[hb_glyph_info_t], want: &[u32]) {
     assert!(glyphs.len() == want.len());
     for (glyph, mask) in glyphs.iter().zip(want) {
-        assert!(glyph.mask == *mask);
+        assert!(glyph.mask == *mask, "{want:?}");
     }
 }

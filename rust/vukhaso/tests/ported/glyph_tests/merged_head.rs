@@ -18,7 +18,10 @@ fn a_head_is_kept_where_no_glyph_that_stays_changes() {
         ([0, 1, 2], 3, false),
     ];
     for (input, count, kept) in rows {
-        assert!(keeps_head(&glyphs(input), count, Monotone) == kept);
+        assert!(
+            keeps_head(&glyphs(input), count, Monotone) == kept,
+            "{count} of {input:?}"
+        );
     }
     assert!(keeps_head(&glyphs([0, 1]), 2, Monotone));
     assert!(!keeps_head(&glyphs([0, 1]), 2, Any));
@@ -39,7 +42,10 @@ fn a_head_is_lowered_where_its_run_begins_there() {
     ];
     for (out, input, count, cluster) in rows {
         let head = lowered_head(&glyphs(out), &glyphs(input), count, Monotone);
-        assert!(head.map(|head| head.cluster) == cluster);
+        assert!(
+            head.map(|head| head.cluster) == cluster,
+            "{count} of {input:?} behind {out:?}"
+        );
     }
 }
 

@@ -25,8 +25,8 @@ fn positions_are_put_into_reverse_order() {
     });
     reverse(&mut positions);
     for (position, want) in positions.iter().zip([30, 20, 10]) {
-        assert!(position.x_advance == want);
-        assert!(position.x_offset == want);
-        assert!(position.var == 7);
+        assert!(position.x_advance == want, "{want}");
+        assert!(position.x_offset == want, "{want}");
+        assert!(position.var == 7, "{want}");
     }
 }

@@ -141,7 +141,7 @@ fn each_set_of_flags_tells_its_pieces() -> Result<(), Fail> {
     for (bits, want) in (0u8..64).zip(TEXTS.lines()) {
         let flags = SerializeFlags::from_bits_retain(bits);
         let text = glyphs_text(&Five, flags, &infos, &positions)?;
-        assert!(text.as_str() == want);
+        assert!(text.as_str() == want, "{bits}");
     }
     Ok(())
 }

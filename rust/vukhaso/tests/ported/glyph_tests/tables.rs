@@ -32,10 +32,25 @@ fn a_table_may_have_no_rows() {
 #[test]
 fn keys_of_a_table_are_not_repeated_and_never_fall() {
     for (first, second) in [('b', 'b'), ('b', 'a')] {
-        assert!(CombiningClasses::new(&[(first, 1), (second, 2)]).is_none());
-        assert!(Mirrors::new(&[(first, 'x'), (second, 'y')]).is_none());
-        assert!(Compositions::new(&[((first, 'c'), 'x'), ((second, 'c'), 'y')]).is_none());
-        assert!(Compositions::new(&[(('c', first), 'x'), (('c', second), 'y')]).is_none());
-        assert!(Decompositions::new(&[(first, 'x', None), (second, 'y', None)]).is_none());
+        assert!(
+            CombiningClasses::new(&[(first, 1), (second, 2)]).is_none(),
+            "{first}, {second}"
+        );
+        assert!(
+            Mirrors::new(&[(first, 'x'), (second, 'y')]).is_none(),
+            "{first}, {second}"
+        );
+        assert!(
+            Compositions::new(&[((first, 'c'), 'x'), ((second, 'c'), 'y')]).is_none(),
+            "{first}, {second}"
+        );
+        assert!(
+            Compositions::new(&[(('c', first), 'x'), (('c', second), 'y')]).is_none(),
+            "{first}, {second}"
+        );
+        assert!(
+            Decompositions::new(&[(first, 'x', None), (second, 'y', None)]).is_none(),
+            "{first}, {second}"
+        );
     }
 }

@@ -34,8 +34,8 @@ fn a_character_is_given_its_properties() -> Result<(), Fail> {
         };
         let mut scratch_flags = 0x0100_0000;
         info.init_unicode_props(&mut scratch_flags, &classes);
-        assert!(info.var2 == 0x5678_0000 | props as u32);
-        assert!(scratch_flags == 0x0100_0000 | scratch);
+        assert!(info.var2 == 0x5678_0000 | props as u32, "{c:?}");
+        assert!(scratch_flags == 0x0100_0000 | scratch, "{c:?}");
     }
     Ok(())
 }

@@ -126,7 +126,11 @@ fn characters_are_taken_apart_as_the_font_has_them() -> Result<(), Fail> {
             takes_fewest: case.takes_fewest,
         };
         let mut buffer = buffer_of(case.text);
-        assert!(decompose_all(&mut buffer, &font) == Ok(true));
+        assert!(
+            decompose_all(&mut buffer, &font) == Ok(true),
+            "{}",
+            case.want
+        );
         assert!(
             buffer.info().len() == case.want.chars().count(),
             "{}",

@@ -121,7 +121,7 @@ static BY_FLAGS: [Case; 5] = [
 #[test]
 fn lines_end_by_their_widths() -> Result<(), Fail> {
     for case in &BY_WIDTH {
-        assert!(ends_of(case)?.as_slice() == case.ends);
+        assert!(ends_of(case)?.as_slice() == case.ends, "{:?}", case.ends);
     }
     Ok(())
 }
@@ -129,7 +129,7 @@ fn lines_end_by_their_widths() -> Result<(), Fail> {
 #[test]
 fn lines_end_where_the_text_may_be_cut() -> Result<(), Fail> {
     for case in &BY_FLAGS {
-        assert!(ends_of(case)?.as_slice() == case.ends);
+        assert!(ends_of(case)?.as_slice() == case.ends, "{:?}", case.ends);
     }
     Ok(())
 }

@@ -65,7 +65,7 @@ fn buffer_of(text: &str) -> hb_buffer_t {
 fn assert_characters(buffer: &hb_buffer_t, want: &str) {
     assert!(buffer.info().len() == want.chars().count());
     for (glyph, c) in buffer.info().iter().zip(want.chars()) {
-        assert!(glyph.glyph_id == c as u32);
+        assert!(glyph.glyph_id == c as u32, "{want}");
     }
 }
 

@@ -88,7 +88,7 @@ fn a_table_is_a_font_that_has_every_glyph() -> Result<(), Fail> {
     let table = Decompositions::new(&DECOMPOSITIONS).ok_or("rows that rise")?;
     for (character, parts) in &PARTS {
         assert!(parts_by(&table, *character) == *parts, "at {character}");
-        assert!(table.has_glyph(*character));
+        assert!(table.has_glyph(*character), "at {character}");
     }
     assert!(!table.takes_fewest());
     Ok(())

@@ -106,7 +106,7 @@ fn runs_end_at_starters() -> Result<(), Fail> {
     let classes = CombiningClasses::new(&CLASSES).ok_or("rows that rise")?;
     let buffer = buffer_of(TWO_RUNS);
     for (start, end) in &ENDS {
-        assert!(*start <= buffer.info().len());
+        assert!(*start <= buffer.info().len(), "from {start}");
         assert!(
             run_end(buffer.info(), &classes, *start) == *end,
             "from {start}"

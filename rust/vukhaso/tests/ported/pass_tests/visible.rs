@@ -26,9 +26,9 @@ fn ignorables_are_hidden() {
         buffer.flags = *flags;
         buffer.invisible = *invisible;
         hide_default_ignorables(&mut buffer);
-        assert!(buffer.info().len() == ids.len());
+        assert!(buffer.info().len() == ids.len(), "{ids:?}");
         for (glyph, id) in buffer.info().iter().zip(*ids) {
-            assert!(glyph.glyph_id == *id);
+            assert!(glyph.glyph_id == *id, "{ids:?}");
         }
     }
 }

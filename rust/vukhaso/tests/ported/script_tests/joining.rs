@@ -31,7 +31,7 @@ fn assert_forms(buffer: hb_buffer_t, want: &[u32]) {
     plan_of(ScriptShaper::Arabic).setup_masks(&mut buffer);
     assert!(buffer.info().len() == want.len());
     for (info, mask) in buffer.info().iter().zip(want) {
-        assert!(info.mask & 0x7F0 == *mask);
+        assert!(info.mask & 0x7F0 == *mask, "{want:?}");
     }
 }
 

@@ -102,7 +102,7 @@ pub(crate) fn plan_of(shaper: ScriptShaper) -> ScriptPlan {
 pub(crate) fn assert_characters(buffer: &hb_buffer_t, want: &[(u32, u32)]) {
     assert!(buffer.info().len() == want.len());
     for (info, (character, cluster)) in buffer.info().iter().zip(want) {
-        assert!(info.glyph_id == *character);
-        assert!(info.cluster == *cluster);
+        assert!(info.glyph_id == *character, "{want:?}");
+        assert!(info.cluster == *cluster, "{want:?}");
     }
 }

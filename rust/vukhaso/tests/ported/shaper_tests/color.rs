@@ -98,7 +98,7 @@ fn bitmaps_and_colours_have_bounds() -> Result<(), Fail> {
         for (glyph, found) in (0..3).zip(bounds) {
             assert_eq!(bounds_of(&face, glyph)?, found, "{glyph}");
         }
-        assert!(face.glyph_extents(GlyphId(3))?.is_none());
+        assert!(face.glyph_extents(GlyphId(3))?.is_none(), "at {size}");
     }
     Ok(())
 }

@@ -97,10 +97,10 @@ fn texts_are_read_by_the_grammar() {
             start,
             end,
         };
-        assert!(text.parse::<Feature>() == Ok(feature));
+        assert!(text.parse::<Feature>() == Ok(feature), "{text}");
     }
     for text in &REFUSED {
-        assert!(text.parse::<Feature>() == Err("invalid feature"));
+        assert!(text.parse::<Feature>() == Err("invalid feature"), "{text}");
     }
 }
 
@@ -127,8 +127,17 @@ static BOUNDS: [(Bound<usize>, Bound<usize>, u32, u32); 5] = [
 fn a_new_feature_has_its_bounds() {
     for &(from, to, start, end) in &BOUNDS {
         let feature = Feature::new(Tag(9), 7, from, to);
-        assert!((feature.tag, feature.value) == (Tag(9), 7));
-        assert!((feature.start, feature.end) == (start, end));
-        assert!(feature.is_global() == (start == 0 && end == u32::MAX));
+        assert!(
+            (feature.tag, feature.value) == (Tag(9), 7),
+            "{start} to {end}"
+        );
+        assert!(
+            (feature.start, feature.end) == (start, end),
+            "{start} to {end}"
+        );
+        assert!(
+            feature.is_global() == (start == 0 && end == u32::MAX),
+            "{start} to {end}"
+        );
     }
 }

@@ -202,8 +202,11 @@ const FROM_T_TO_Z: [(Script, &str); 27] = [
 
 fn have_codes(named: &[(Script, &str)]) {
     for (script, code) in named {
-        assert!(script.tag() == Tag::from_bytes_lossy(code.as_bytes()));
-        assert!(code.parse::<Script>() == Ok(*script));
+        assert!(
+            script.tag() == Tag::from_bytes_lossy(code.as_bytes()),
+            "{code}"
+        );
+        assert!(code.parse::<Script>() == Ok(*script), "{code}");
     }
 }
 
@@ -277,7 +280,7 @@ static COLUMNS: [(u32, u32); 6] = [
 #[test]
 fn texts_name_scripts_in_any_case_and_by_other_names() {
     for (text, code) in &OTHER_NAMES {
-        assert!(text.parse::<Script>() == code.parse::<Script>());
+        assert!(text.parse::<Script>() == code.parse::<Script>(), "{text}");
     }
     let named = ["", "hANT", "1234"].map(|text| text.parse::<Script>());
     assert!(named == [Err("invalid script"), Ok(HAN), Ok(UNKNOWN)]);
@@ -288,6 +291,6 @@ fn texts_name_scripts_in_any_case_and_by_other_names() {
 fn tags_in_the_columns_of_the_letters_name_scripts_of_their_own() {
     for &(number, script) in &COLUMNS {
         let named = Script::from_iso15924_tag(Tag(number)).map(|found| found.tag());
-        assert!(named == Some(Tag(script)));
+        assert!(named == Some(Tag(script)), "{number}");
     }
 }

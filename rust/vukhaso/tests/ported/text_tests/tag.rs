@@ -18,8 +18,11 @@ fn tags_are_four_bytes() {
     for &(text, number, capital) in &TAGS {
         let tag = Tag::from_bytes_lossy(text.as_bytes());
         let again = Tag::from_bytes(&tag.to_bytes());
-        assert!([tag.0, again.as_u32(), tag.to_uppercase().0] == [number, number, capital]);
-        assert!(tag.is_null() == text.is_empty());
+        assert!(
+            [tag.0, again.as_u32(), tag.to_uppercase().0] == [number, number, capital],
+            "{text}"
+        );
+        assert!(tag.is_null() == text.is_empty(), "{text}");
     }
     let named = [Tag::default_language().0, Tag::default_script().0];
     assert!(named == [0x64666c74, 0x44464c54]);

@@ -187,7 +187,7 @@ impl ComplexLanguages for OneTwoThree {
 fn are(tags: &ThreeTags, text: &str) {
     assert!(tags.len() * 4 == text.len());
     for (tag, bytes) in tags.iter().zip(text.as_bytes().chunks(4)) {
-        assert!(*tag == Tag::from_bytes_lossy(bytes));
+        assert!(*tag == Tag::from_bytes_lossy(bytes), "{text}");
     }
 }
 

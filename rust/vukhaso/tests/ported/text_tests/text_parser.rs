@@ -40,7 +40,7 @@ static NUMBERS: [(&str, Option<i32>, Option<u8>); 11] = [
 fn numbers() {
     for &(text, number, next) in &NUMBERS {
         let mut p = TextParser::new(text);
-        assert!((p.consume_i32(), p.curr_byte()) == (number, next));
+        assert!((p.consume_i32(), p.curr_byte()) == (number, next), "{text}");
     }
 }
 
@@ -57,6 +57,9 @@ static TOGGLES: [(&str, Option<bool>, Option<u8>); 5] = [
 fn on_and_off() {
     for &(text, toggle, next) in &TOGGLES {
         let mut p = TextParser::new(text);
-        assert!((p.consume_bool(), p.curr_byte()) == (toggle, next));
+        assert!(
+            (p.consume_bool(), p.curr_byte()) == (toggle, next),
+            "{text}"
+        );
     }
 }

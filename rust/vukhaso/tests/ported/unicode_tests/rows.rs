@@ -40,7 +40,7 @@ fn mappings() -> Result<(), Fail> {
     let rows = decompositions()?;
     let table = Decompositions::new(&rows).ok_or("rows that rise")?;
     for &(c, first, second) in &MAPPINGS {
-        assert!(decompose(&table, c) == Some((first, second)));
+        assert!(decompose(&table, c) == Some((first, second)), "{c:?}");
     }
     assert!(decompose(&table, 'e') == None);
     Ok(())
@@ -51,7 +51,7 @@ fn pairs() -> Result<(), Fail> {
     let rows = compositions()?;
     let table = Compositions::new(&rows).ok_or("rows that rise")?;
     for &(a, b, composite) in &PAIRS {
-        assert!(compose(&table, a, b) == composite);
+        assert!(compose(&table, a, b) == composite, "{a:?}, {b:?}");
     }
     Ok(())
 }
@@ -72,13 +72,22 @@ fn classes() -> Result<(), Fail> {
 fn tables_of_all_rows() -> Result<(), Fail> {
     let rows = UnicodeRows::new()?;
     for &(c, first, second) in &MAPPINGS {
-        assert!(decompose(&rows.decompositions(), c) == Some((first, second)));
+        assert!(
+            decompose(&rows.decompositions(), c) == Some((first, second)),
+            "{c:?}"
+        );
     }
     for &(a, b, composite) in &PAIRS {
-        assert!(compose(&rows.compositions(), a, b) == composite);
+        assert!(
+            compose(&rows.compositions(), a, b) == composite,
+            "{a:?}, {b:?}"
+        );
     }
     for (c, class) in [('a', 0), ('\u{94d}', 9), ('\u{301}', 230)] {
-        assert!(c.modified_combining_class(&rows.classes()) == class);
+        assert!(
+            c.modified_combining_class(&rows.classes()) == class,
+            "{c:?}"
+        );
     }
     Ok(())
 }

@@ -19,7 +19,7 @@ static TABLES: [(&[u8; 4], &[u8]); 3] = [(b"abcd", &[1, 2, 3]), (b"efgh", &[4, 5
 fn a_table_has_the_bytes_that_its_record_says() -> Result<(), Fail> {
     let tables = Tables::new(FONT, 7).ok_or("a font")?;
     for &(tag, bytes) in &TABLES {
-        assert!(tables.table(Tag::from_bytes(tag)) == bytes);
+        assert!(tables.table(Tag::from_bytes(tag)) == bytes, "{bytes:?}");
     }
     Ok(())
 }
@@ -53,6 +53,6 @@ static HEADS: [(&[u8], u32); 6] = [
 #[test]
 fn a_file_has_fonts() {
     for &(file, count) in &HEADS {
-        assert!(face_count(file) == count);
+        assert!(face_count(file) == count, "{file:?}");
     }
 }

@@ -25,7 +25,7 @@ fn an_em_has_units() {
         let mut head = HEAD;
         head[18] = high;
         head[19] = low;
-        assert!(units_per_em(&head) == units);
+        assert!(units_per_em(&head) == units, "{high}, {low}");
     }
 }
 
@@ -47,7 +47,7 @@ static PROFILES: [(&[u8], u16); 3] = [
 #[test]
 fn maxp_counts_the_glyphs() {
     for &(maxp, count) in &PROFILES {
-        assert!(glyph_count(maxp) == count);
+        assert!(glyph_count(maxp) == count, "{maxp:?}");
     }
 }
 

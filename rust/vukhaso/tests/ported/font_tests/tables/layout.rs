@@ -39,7 +39,10 @@ static COVERED: [(&[u8], u16, Option<u32>); 14] = [
 #[test]
 fn a_covered_glyph_has_an_index() {
     for &(table, glyph, index) in &COVERED {
-        assert!(Coverage::new(table).index(GlyphId(glyph)) == index);
+        assert!(
+            Coverage::new(table).index(GlyphId(glyph)) == index,
+            "{glyph} in {table:?}"
+        );
     }
 }
 
@@ -67,7 +70,10 @@ static CLASSIFIED: [(&[u8], u16, u16); 9] = [
 #[test]
 fn a_glyph_has_a_class() {
     for &(table, glyph, class) in &CLASSIFIED {
-        assert!(ClassDefinition::new(table).class(GlyphId(glyph)) == class);
+        assert!(
+            ClassDefinition::new(table).class(GlyphId(glyph)) == class,
+            "{glyph} in {table:?}"
+        );
     }
 }
 
@@ -98,7 +104,7 @@ fn gdef_has_classes() {
             gdef.mark_attachment_class(glyph),
             gdef.glyph_props(glyph),
         ];
-        assert!(classes == expected);
+        assert!(classes == expected, "{number}");
     }
     assert!(gdef.has_glyph_classes() && !Gdef::new(&[]).has_glyph_classes());
 }
@@ -120,6 +126,9 @@ static SIZES: [([usize; 3], bool); 3] = [
 #[test]
 fn a_wrong_gdef_is_ignored() {
     for &([gdef, gsub, gpos], ignored) in &SIZES {
-        assert!(is_ignored(gdef, gsub, gpos) == ignored);
+        assert!(
+            is_ignored(gdef, gsub, gpos) == ignored,
+            "{gdef}, {gsub}, {gpos}"
+        );
     }
 }

@@ -25,9 +25,12 @@ fn the_last_advance_goes_on() {
     for &(size, number, advance, bearing) in &ADVANCES {
         let metrics = Metrics::new(part(&HMTX, 0, size), 2, 4, 512);
         let glyph = GlyphId(number);
-        assert!(metrics.advance(glyph) == advance);
-        assert!(metrics.side_bearing(glyph) == bearing);
-        assert!(metrics.has_advance(glyph) == bearing.is_some());
+        assert!(metrics.advance(glyph) == advance, "{number} in {size}");
+        assert!(metrics.side_bearing(glyph) == bearing, "{number} in {size}");
+        assert!(
+            metrics.has_advance(glyph) == bearing.is_some(),
+            "{number} in {size}"
+        );
     }
 }
 
@@ -46,6 +49,6 @@ static ORIGINS: [(usize, u16, Option<i16>); 4] = [
 fn glyphs_have_vertical_origins() {
     for &(size, glyph, y) in &ORIGINS {
         let origins = VerticalOrigins::new(part(&VORG, 0, size));
-        assert!(origins.y_origin(GlyphId(glyph)) == y);
+        assert!(origins.y_origin(GlyphId(glyph)) == y, "{glyph} in {size}");
     }
 }

@@ -33,7 +33,7 @@ static NAMES: [(&[u8], u16, Option<&[u8]>); 13] = [
 fn post_names_glyphs() -> Result<(), Fail> {
     for &(post, glyph, name) in &NAMES {
         let names = PostNames::new(post)?;
-        assert!(names.name(GlyphId(glyph)) == name);
+        assert!(names.name(GlyphId(glyph)) == name, "{glyph} in {post:?}");
     }
     Ok(())
 }

@@ -55,9 +55,9 @@ fn the_first_row_reaches_a_key() {
     let (are_rising, do_rise) = (rises(&rows, 4), rises(&numbers, 4));
     assert!(are_rising && do_rise && numbers.last(3) == Some(9) && numbers.last(4).is_none());
     for &(key, row) in &REACHED {
-        assert!(first_row(&rows, 4, key, are_rising) == row);
-        assert!(first_row(&rows, 4, key, false) == row);
-        assert!(first_row(&numbers, 4, key, do_rise) == row);
+        assert!(first_row(&rows, 4, key, are_rising) == row, "{key}");
+        assert!(first_row(&rows, 4, key, false) == row, "{key}");
+        assert!(first_row(&numbers, 4, key, do_rise) == row, "{key}");
     }
     assert!(rows_within(&TABLE, 2, 4, 9) == 1);
 }

@@ -109,7 +109,10 @@ fn stages_part_lookups() -> Result<(), Fail> {
     assert_eq!((second.end, second.pause), (2, Pause::Nothing));
     for (tag, index) in [(b"frac", 2), (b"liga", 1)] {
         let lookups = plan.stage_lookups(Tag::from_bytes(tag));
-        assert!(lookups.len() == 1 && lookups.iter().all(|lookup| lookup.index == index));
+        assert!(
+            lookups.len() == 1 && lookups.iter().all(|lookup| lookup.index == index),
+            "{index}"
+        );
     }
     assert!(plan.stage_lookups(Tag::from_bytes(b"smcp")).is_empty());
     Ok(())
