@@ -2,9 +2,11 @@ pub mod Budget
 pub mod Context
 pub mod Digest
 pub mod FirstEdit
+pub mod Forms
 pub mod GlyphTable
 pub mod LigatureParts
 pub mod Match
+pub mod NextAsked
 pub mod Pattern
 pub mod Rule
 pub mod Seconds
