@@ -31,22 +31,22 @@ pub uncovered_by : (cs : List Coverage) (o : LookupOptions) (s : Sides) (n : Boo
     → (is_some (covered_index t.coverage.table.now (cursor_glyph s).glyph_id) ≡ true → ⊥) → IsEditOf cs o s n t None
 uncovered_by cs o s n t none = uncovered cs o s n t (none_is _ none)
 
-more : (ts : List Subtable) (i : ℕ) (t : Subtable) → i < length ts → t ≡ get_or ts i t → drop i ts ≡ t ∷ drop (i + 1) ts
-more ts i t within is = drop_more ts i t within ∙ ap (λ x. x ∷ drop (i + 1) ts) (sym is)
+drop-more : (ts : List Subtable) (i : ℕ) (t : Subtable) → i < length ts → t ≡ get_or ts i t → drop i ts ≡ t ∷ drop (i + 1) ts
+drop-more ts i t within is = drop_more ts i t within ∙ ap (λ x. x ∷ drop (i + 1) ts) (sym is)
 
 -- the edit of a subtable that has one
 pub first_here : (cs : List Coverage) (o : LookupOptions) (s : Sides) (n : Bool) (ts : List Subtable) (i : ℕ) (t : Subtable) (edit : Option Edit)
     → i < length ts → t ≡ get_or ts i t → is_some edit ≡ true → IsEditOf cs o s n t edit
     → IsFirstEdit cs o s n (drop i ts) edit
 first_here cs o s n ts i t edit within is some has =
-    subst (λ l. IsFirstEdit cs o s n l edit) (sym (more ts i t within is)) (inl (some, has))
+    subst (λ l. IsFirstEdit cs o s n l edit) (sym (drop-more ts i t within is)) (inl (some, has))
 
 -- that of the subtables behind one that has none
 pub first_later : (cs : List Coverage) (o : LookupOptions) (s : Sides) (n : Bool) (ts : List Subtable) (i : ℕ) (t : Subtable) (edit : Option Edit)
     → i < length ts → t ≡ get_or ts i t → IsEditOf cs o s n t None
     → IsFirstEdit cs o s n (drop (i + 1) ts) edit → IsFirstEdit cs o s n (drop i ts) edit
 first_later cs o s n ts i t edit within is none rest =
-    subst (λ l. IsFirstEdit cs o s n l edit) (sym (more ts i t within is)) (inr (none, rest))
+    subst (λ l. IsFirstEdit cs o s n l edit) (sym (drop-more ts i t within is)) (inr (none, rest))
 
 -- no edit
 pub no_edit : (cs : List Coverage) (o : LookupOptions) (s : Sides) (n : Bool) (t : Subtable) (edit : Option Edit) → IsEditOf cs o s n t edit

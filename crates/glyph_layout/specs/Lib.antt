@@ -3,10 +3,12 @@ pub mod Context
 pub mod Digest
 pub mod FirstEdit
 pub mod FirstGlyphs
+pub mod Forms
 pub mod GlyphTable
 pub mod LigatureParts
 pub mod Lookup
 pub mod Match
+pub mod NextAsked
 pub mod Pattern
 pub mod Rule
 pub mod Seconds

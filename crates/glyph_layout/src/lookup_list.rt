@@ -1,10 +1,12 @@
 //! The lookups of `GSUB` or `GPOS` (OpenType specification, "OpenType Layout Common Table Formats", "Lookup List table").
 
-ghost use Rattle.std.specs.Prelude.{ℕ, ◌≡◌, ◌<◌, ◌≤◌, true, false, All, IsFalse, Some, ◌+◌, drop, length, slice_get, option_copied};
+ghost use Rattle.std.specs.Prelude.{ℕ, ◌≡◌, ◌<◌, ◌≤◌, true, false, All, IfSome, IsFalse, IsTrue, Some, is_some, ◌+◌, drop, length, slice_get, option_copied};
 ghost use Rattle.glyph_layout.specs.Digest.{HasMore};
 ghost use Rattle.glyph_layout.specs.FirstGlyphs.{HasMoreFirst};
 ghost use Rattle.glyph_layout.specs.Lookup.{IsForNone, is_for};
 ghost use Rattle.glyph_layout.specs.declared.lookup_list.Lookup.{Lookup};
+ghost use Rattle.glyph_layout.specs.Forms.{is_chained_form, is_chained_kind, is_covered_form};
+ghost use Rattle.glyph_layout.specs.NextAsked.{IsNextAt, IsNextOf, ahead_number, behind_number, input_number};
 ghost use Rattle.glyph_layout.specs.Seconds.{AreSeconds};
 ghost use Rattle.glyph_layout.specs.Subtables.{subtables_of};
 ghost use Rattle.glyph_layout.specs.Walk.{glyph_at};
@@ -108,6 +110,7 @@ pub struct LookupList<'a> {
     room: usize,
     /// How many ligatures may still be read for their second glyphs.
     second_room: usize,
+    ghost nexts: { All (IsNextOf coverages.items) subtables.items },
 }
 
 impl<'a> LookupList<'a> {
@@ -178,7 +181,8 @@ impl<'a> LookupList<'a> {
 
     /// The second glyphs of the ligatures of a subtable, if it has ligatures, each with a second glyph.
     fn seconds(&mut self, kind: u16, table: &[u8]) -> Option<Digest>
-        ensures { AreSeconds table.now result }
+        ensures seconds { AreSeconds table.now result }
+        ensures same { self.new.coverages.items ≡ self.old.coverages.items }
     {
         if self.is_positioning() || kind != LIGATURES {
             return None;
@@ -252,11 +256,7 @@ impl<'a> LookupList<'a> {
             return Ok(());
         }
         let format = u16_at(table, 0).unwrap_or(0);
-        let form = if self.is_positioning() {
-            positioning_form(kind, format)
-        } else {
-            substitution_form(kind, format)
-        };
+        let form = self.form_of(kind, format);
         let first_coverage = self.coverages.len();
         self.read_coverages(form, table)?;
         let coverage = self.first_of(form, table, first_coverage);
@@ -275,8 +275,26 @@ impl<'a> LookupList<'a> {
             first_coverage,
             seconds: self.seconds(kind, table),
         };
+        self.add_subtable(subtable)
+    }
+
+    /// Adds a subtable.
+    fn add_subtable(&mut self, subtable: Subtable<'a>) -> Result<(), AllocError>
+        requires { IsNextOf self.old.coverages.items subtable }
+    {
         self.subtables.push(subtable)?;
         Ok(())
+    }
+
+    /// The form of a subtable.
+    fn form_of(&self, kind: u16, format: u16) -> Form
+        ensures { is_covered_form result ≡ true → is_chained_kind kind ≡ is_chained_form result }
+    {
+        if self.is_positioning() {
+            positioning_form(kind, format)
+        } else {
+            substitution_form(kind, format)
+        }
     }
 
     /// Reads the coverages of a context by coverages, or around a reverse substitution.
@@ -337,22 +355,12 @@ impl<'a> LookupList<'a> {
 
     /// What a context by coverages asks of the glyph behind the one at the cursor: the second coverage of the input, or where the
     /// input has one, the first behind it.
-    fn next_asked(&self, form: Form, table: &'a [u8], first: usize) -> Option<NextAsked<'a>> {
-        let (behind, input, ahead) = match form {
-            Form::Coverages => (0, u16_at(table, 2)?, 0),
-            Form::ChainedCoverages => {
-                let behind = u16_at(table, 2)?;
-                let input_at = 4 + 2 * usize::from(behind);
-                let input = u16_at(table, input_at)?;
-                (
-                    behind,
-                    input,
-                    u16_at(table, input_at + 2 + 2 * usize::from(input))?,
-                )
-            }
-            _ => return None,
-        };
-        if usize::from(input) > MAX_CONTEXT_LENGTH || input < 2 && ahead == 0 {
+    fn next_asked(&self, form: Form, table: &'a [u8], first: usize) -> Option<NextAsked<'a>>
+        ensures covered { is_some result ≡ true → is_covered_form form ≡ true }
+        ensures is { IfSome result (IsNextAt self.now.coverages.items first (is_chained_form form) table.now) }
+    {
+        let (behind, input, ahead) = coverage_numbers(form, table)?;
+        if usize::from(input) > MAX_CONTEXT_LENGTH || !has_next(input, ahead) {
             return None;
         }
         let number = usize::from(behind) + usize::from(input.min(1));
@@ -442,6 +450,33 @@ fn is_quick(table: &[u8], lists_glyphs: bool) -> bool {
     };
     let count = rows_within(table, 4, size, declared);
     count <= FEW_ROWS || rises(&Keys16 { table, start, size }, count)
+}
+
+/// How many coverages a context by coverages has before the cursor, for its input and behind it.
+fn coverage_numbers(form: Form, table: &[u8]) -> Option<(u16, u16, u16)>
+    ensures covered { is_some result ≡ true → is_covered_form form ≡ true }
+    ensures behind { IfSome result (λ numbers. numbers.0 ≡ behind_number (is_chained_form form) table.now) }
+    ensures input { IfSome result (λ numbers. numbers.1 ≡ input_number (is_chained_form form) table.now) }
+    ensures ahead { IfSome result (λ numbers. numbers.2 ≡ ahead_number (is_chained_form form) table.now) }
+{
+    match form {
+        Form::Coverages => Some((0, u16_at(table, 2)?, 0)),
+        Form::ChainedCoverages => {
+            let behind = u16_at(table, 2)?;
+            let input_at = 4 + 2 * usize::from(behind);
+            let input = u16_at(table, input_at)?;
+            let ahead = u16_at(table, input_at + 2 + 2 * usize::from(input))?;
+            Some((behind, input, ahead))
+        }
+        _ => None,
+    }
+}
+
+/// Whether a context with so many glyphs in its input and behind it asks for one behind the cursor.
+fn has_next(input: u16, ahead: u16) -> bool
+    ensures { IsTrue result → input < 2 → 0 < ahead }
+{
+    input > 1 || ahead > 0
 }
 
 /// The digest of the glyphs that any of these subtables is for.

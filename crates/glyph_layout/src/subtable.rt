@@ -3,6 +3,7 @@
 ghost use Rattle.std.specs.Prelude.{ℕ, ◌≡◌, IsTrue, is_some, true};
 ghost use Rattle.glyph_layout.specs.Digest.{HasAll};
 ghost use Rattle.glyph_layout.specs.FirstGlyphs.{may_have_first};
+ghost use Rattle.glyph_layout.specs.Forms.{is_chained_form, is_chained_kind, is_covered_form};
 ghost use Rattle.glyph_layout.specs.Seconds.{AreSeconds};
 ghost use Rattle.glyph_layout.specs.Walk.{covered_index};
 
@@ -70,7 +71,10 @@ pub struct NextAsked<'a> {
 
 impl<'a> NextAsked<'a> {
     /// Asks for a glyph of a coverage.
-    pub fn new(coverage: Coverage<'a>, is_input: bool) -> Self {
+    pub fn new(coverage: Coverage<'a>, is_input: bool) -> Self
+        ensures asks { result.coverage ≡ coverage.entry }
+        ensures input { result.is_input ≡ is_input }
+    {
         NextAsked {
             coverage,
             digest: Digest::of_coverage(&coverage),
@@ -103,7 +107,9 @@ pub enum Form {
 }
 
 /// The form of a subtable of `GSUB`.
-pub fn substitution_form(kind: u16, format: u16) -> Form {
+pub fn substitution_form(kind: u16, format: u16) -> Form
+    ensures { is_covered_form result ≡ true → is_chained_kind kind ≡ is_chained_form result }
+{
     match kind {
         5 => context_form(format, false),
         6 => context_form(format, true),
@@ -113,7 +119,9 @@ pub fn substitution_form(kind: u16, format: u16) -> Form {
 }
 
 /// The form of a subtable of `GPOS`.
-pub fn positioning_form(kind: u16, format: u16) -> Form {
+pub fn positioning_form(kind: u16, format: u16) -> Form
+    ensures { is_covered_form result ≡ true → is_chained_kind kind ≡ is_chained_form result }
+{
     match kind {
         2 if format == 2 => Form::PairClasses,
         4 | 5 | 6 => Form::Marks,
@@ -124,7 +132,9 @@ pub fn positioning_form(kind: u16, format: u16) -> Form {
 }
 
 /// The form of a context.
-fn context_form(format: u16, is_chained: bool) -> Form {
+fn context_form(format: u16, is_chained: bool) -> Form
+    ensures { is_covered_form result ≡ true → is_chained_form result ≡ is_chained }
+{
     match format {
         2 if is_chained => Form::ChainedClasses,
         2 => Form::Classes,
