@@ -17,14 +17,14 @@ use crate::first_glyphs::FirstGlyphs;
 use crate::search::MAX_CONTEXT_LENGTH;
 use crate::seconds::seconds_of;
 use crate::subtable::{
-    Form, NextAsked, Subtable, behind_list, positioning_form, substitution_form, table_or_empty,
+    Form, NextAsked, Subtable, behind_extension, behind_list, is_quick, positioning_form,
+    substitution_form, table_or_empty,
 };
 use crate::summary::{Summary, summary_of};
-use font_tables::bytes::{table_at_16, table_at_32, u16_at};
+use font_tables::bytes::{table_at_16, u16_at};
 use font_tables::class_definition::ClassDefinition;
 use font_tables::coverage::Coverage;
 use font_tables::gdef::Gdef;
-use font_tables::rows::{Keys16, rises, rows_within};
 use rb_glyph::hb_glyph_info_t;
 use std::alloc::{AllocError, Global};
 
@@ -36,9 +36,6 @@ pub const POSITIONING_EXTENSION: u16 = 9;
 
 /// The kind of ligatures in `GSUB`.
 const LIGATURES: u16 = 4;
-
-/// So many rows are soon looked through.
-const FEW_ROWS: usize = 64;
 
 /// The bit of a lookup's flag that says that a set of marks follows the subtables.
 const USE_MARK_FILTERING_SET: u16 = 0x0010;
@@ -439,19 +436,6 @@ impl<'a> LookupList<'a> {
     }
 }
 
-/// Whether a glyph is found soon in a table of glyphs or ranges: there are few rows, or they rise, as they have to. A list of
-/// classes has a row for each glyph.
-fn is_quick(table: &[u8], lists_glyphs: bool) -> bool {
-    let declared = usize::from(u16_at(table, 2).unwrap_or(0));
-    let (start, size) = match u16_at(table, 0) {
-        Some(1) if lists_glyphs => (4, 2),
-        Some(2) => (6, 6),
-        _ => return true,
-    };
-    let count = rows_within(table, 4, size, declared);
-    count <= FEW_ROWS || rises(&Keys16 { table, start, size }, count)
-}
-
 /// How many coverages a context by coverages has before the cursor, for its input and behind it.
 fn coverage_numbers(form: Form, table: &[u8]) -> Option<(u16, u16, u16)>
     ensures covered { is_some result ≡ true → is_covered_form form ≡ true }
@@ -499,15 +483,4 @@ fn firsts_of(subtables: &[Subtable]) -> FirstGlyphs
         firsts.add_all(&subtable.firsts);
     }
     firsts
-}
-
-/// The kind and the subtable behind an extension.
-fn behind_extension(table: &[u8]) -> (u16, &[u8]) {
-    match u16_at(table, 0) {
-        Some(1) => (
-            u16_at(table, 2).unwrap_or(0),
-            table_at_32(table, 4).unwrap_or(&[]),
-        ),
-        _ => (0, &[]),
-    }
 }

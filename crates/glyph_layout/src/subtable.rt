@@ -9,9 +9,13 @@ ghost use Rattle.glyph_layout.specs.Walk.{covered_index};
 
 use crate::digest::Digest;
 use crate::first_glyphs::FirstGlyphs;
-use font_tables::bytes::{table_at_16, u16_at};
+use font_tables::bytes::{table_at_16, table_at_32, u16_at};
 use font_tables::class_definition::ClassDefinition;
 use font_tables::coverage::Coverage;
+use font_tables::rows::{Keys16, rises, rows_within};
+
+/// So many rows are soon looked through.
+const FEW_ROWS: usize = 64;
 
 /// A subtable of a lookup.
 #[derive(Clone, Copy, Debug)]
@@ -153,4 +157,28 @@ pub fn behind_list(table: &[u8], at: usize) -> usize {
 /// The table that the offset at a place leads to, or an empty one.
 pub fn table_or_empty(table: &[u8], at: usize) -> &[u8] {
     table_at_16(table, at).unwrap_or(&[])
+}
+
+/// Whether a glyph is found soon in a table of glyphs or ranges: there are few rows, or they rise, as they have to. A list of
+/// classes has a row for each glyph.
+pub(crate) fn is_quick(table: &[u8], lists_glyphs: bool) -> bool {
+    let declared = usize::from(u16_at(table, 2).unwrap_or(0));
+    let (start, size) = match u16_at(table, 0) {
+        Some(1) if lists_glyphs => (4, 2),
+        Some(2) => (6, 6),
+        _ => return true,
+    };
+    let count = rows_within(table, 4, size, declared);
+    count <= FEW_ROWS || rises(&Keys16 { table, start, size }, count)
+}
+
+/// The kind and the subtable behind an extension.
+pub(crate) fn behind_extension(table: &[u8]) -> (u16, &[u8]) {
+    match u16_at(table, 0) {
+        Some(1) => (
+            u16_at(table, 2).unwrap_or(0),
+            table_at_32(table, 4).unwrap_or(&[]),
+        ),
+        _ => (0, &[]),
+    }
 }
