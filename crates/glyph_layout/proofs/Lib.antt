@@ -12,6 +12,7 @@ pub mod ContextLemmas
 pub mod DigestLemmas
 pub mod EditLemmas
 pub mod MatchLemmas
+pub mod MissedLemmas
 pub mod NextLemmas
 pub mod PatternLemmas
 pub mod SecondsLemmas
