@@ -1,6 +1,11 @@
 -- The first subtable that has an edit.
 use Rattle.std.proofs.Common.{◌≡◌, ℕ, ◌+◌, ◌<◌, Bool, true, false, List, ◌∷◌, drop, length, get_or, Option, Some, None, refl, subst, sym, ap, ◌∙◌, inl, inr, is_some}
 use Rattle.std.proofs.lemmas.List.{drop_more}
+use Rattle.std.proofs.lemmas.List.Elements.{All-drop, All-get_or, All-nil, All-take}
+use Rattle.std.specs.Prelude.{All, [], ◌-◌, ◌&&◌, if◌then◌else◌, nat_le, take}
+use Rattle.glyph_layout.specs.NextAsked.{IsNextOf}
+use Rattle.glyph_layout.specs.Subtables.{subtables_of}
+use Rattle.glyph_layout.specs.declared.lookup_list.Lookup.{Lookup}
 use Rattle.font_tables.specs.declared.coverage.Coverage.{Coverage}
 use Rattle.glyph_layout.specs.FirstEdit.{IsEditOf, IsFirstEdit, cursor_index}
 use Rattle.glyph_layout.specs.Substitution.{cursor_glyph}
@@ -21,8 +26,8 @@ uncovered cs o s n t none = record {
   multiples = λ is. rw none refl;
   alternates = λ is chosen. rw none refl;
   ligatures = λ is. rw none refl;
-  contexts = λ is. tt;
-  chained_contexts = λ is. tt;
+  contexts = λ is. record { rule = tt; covered = λ by. rw none refl };
+  chained_contexts = λ is. record { rule = tt; covered = λ by. rw none refl };
   others = λ is. refl;
 }
 
@@ -53,3 +58,19 @@ pub no_edit : (cs : List Coverage) (o : LookupOptions) (s : Sides) (n : Bool) (t
     → is_some edit ≡ false → IsEditOf cs o s n t None
 no_edit cs o s n t None has none = has
 no_edit cs o s n t (Some e) has none = cc
+
+each_if : (cs : List Coverage) (b : Bool) (ts : List Subtable) → All (IsNextOf cs) ts
+    → All (IsNextOf cs) (if b then ts else [])
+each_if cs true ts are = are
+each_if cs false ts are = All-nil (IsNextOf cs)
+
+-- what a subtable of a lookup asks for behind the cursor
+pub next_of_each : (cs : List Coverage) (ts read : List Subtable) (lookup : Lookup) (i : ℕ) (t : Subtable)
+    → read ≡ subtables_of ts lookup → All (IsNextOf cs) ts → i < length read → t ≡ get_or read i t → IsNextOf cs t
+next_of_each cs ts read lookup i t same are within is =
+    let those = take (lookup.last - lookup.first) (drop lookup.first ts) in
+    let all : All (IsNextOf cs) (subtables_of ts lookup) =
+    each_if cs (nat_le lookup.first lookup.last && nat_le lookup.last (length ts)) those
+    (All-take (IsNextOf cs) (lookup.last - lookup.first) (drop lookup.first ts) (All-drop (IsNextOf cs) lookup.first ts are)) in
+    let here = subst (λ l. All (IsNextOf cs) l) (sym same) all in
+    subst (λ x. IsNextOf cs x) (sym is) (All-get_or (IsNextOf cs) read i t within here)

@@ -13,6 +13,7 @@ pub mod DigestLemmas
 pub mod EditLemmas
 pub mod FirstGlyphsLemmas
 pub mod MatchLemmas
+pub mod MissedLemmas
 pub mod NextLemmas
 pub mod PatternLemmas
 pub mod SecondsLemmas

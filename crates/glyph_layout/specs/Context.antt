@@ -3,7 +3,7 @@ use Rattle.std.specs.Prelude.{ℕ, ◌+◌, ◌*◌, ◌<◌, ◌≤◌, ◌≡�
 use Rattle.font_tables.specs.Bytes.{number_16, table_at_16}
 use Rattle.font_tables.specs.declared.coverage.Coverage.{Coverage}
 use Rattle.glyph_layout.specs.Match.{place_of}
-use Rattle.glyph_layout.specs.Pattern.{IsFitInSet, IsFitOf, Pattern, covered_pattern, rule_pattern}
+use Rattle.glyph_layout.specs.Pattern.{IsFitInSet, IsFitOf, Pattern, covered_pattern, pattern_fits, rule_pattern}
 use Rattle.glyph_layout.specs.Rule.{input_walk}
 use Rattle.glyph_layout.specs.Walk.{class_in, glyph_at, next_found}
 use Rattle.glyph_layout.specs.declared.context.Fit.{Fit}
@@ -57,6 +57,11 @@ covered_rule coverages subtable is_chained =
 abbrev pub IsFitBy : Sides → Option Pattern → Fit → Type 0
 IsFitBy sides None fit = IsTrue false
 IsFitBy sides (Some p) fit = IsFitOf sides p fit
+
+-- whether a rule, if there is one, fits
+abbrev pub covered_fits : Sides → Option Pattern → Bool
+covered_fits sides None = false
+covered_fits sides (Some p) = pattern_fits sides p
 
 -- a rule of a context fits at the cursor: one of the set of the coverage index (format 1), or of the class of the glyph there (format
 -- 2), or the only rule, by coverages (format 3)

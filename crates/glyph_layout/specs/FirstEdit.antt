@@ -1,7 +1,7 @@
 -- What a lookup of `GSUB` does at the cursor: the edit of the first of its subtables that has one.
 use Rattle.std.specs.Prelude.{◌≡◌, ◌⊎◌, ◌==◌, ◌&&◌, ◌||◌, ℕ, Bool, true, false, not, List, [], ◌∷◌, Option, None, Some, IsTrue, ⊤, is_some, nat_lt, option_and_then}
 use Rattle.font_tables.specs.declared.coverage.Coverage.{Coverage}
-use Rattle.glyph_layout.specs.Context.{IsContextFit}
+use Rattle.glyph_layout.specs.Context.{IsContextFit, covered_fits, covered_rule}
 use Rattle.glyph_layout.specs.Match.{first_ligature, ligated}
 use Rattle.glyph_layout.specs.Sets.{set_at}
 use Rattle.glyph_layout.specs.Substitution.{IsMultiple, alternate_of, cursor_glyph, feature_value, replaced_by, single}
@@ -39,15 +39,21 @@ abbrev pub is_of_use : ℕ → Bool → Bool
 is_of_use kind is_nested = (nat_lt 0 kind && nat_lt kind 7) || ((kind == 8) && not is_nested)
 
 -- a rule of a context fits at the cursor, and its lookups are applied; or nothing is said
-abbrev pub IsContextEdit : List Coverage → Subtable → Bool → Sides → Option Edit → Type 0
-IsContextEdit coverages subtable is_chained sides None = ⊤
-IsContextEdit coverages subtable is_chained sides (Some (Apply fit)) =
+abbrev pub IsRuleEdit : List Coverage → Subtable → Bool → Sides → Option Edit → Type 0
+IsRuleEdit coverages subtable is_chained sides None = ⊤
+IsRuleEdit coverages subtable is_chained sides (Some (Apply fit)) =
     IsContextFit coverages subtable (cursor_index subtable sides) is_chained sides fit
-IsContextEdit coverages subtable is_chained sides (Some (Replace glyph)) = IsTrue false
-IsContextEdit coverages subtable is_chained sides (Some (Choose glyphs)) = IsTrue false
-IsContextEdit coverages subtable is_chained sides (Some (Multiply glyphs)) = IsTrue false
-IsContextEdit coverages subtable is_chained sides (Some (Ligate ligation)) = IsTrue false
-IsContextEdit coverages subtable is_chained sides (Some (ReplaceInPlace change)) = IsTrue false
+IsRuleEdit coverages subtable is_chained sides (Some (Replace glyph)) = IsTrue false
+IsRuleEdit coverages subtable is_chained sides (Some (Choose glyphs)) = IsTrue false
+IsRuleEdit coverages subtable is_chained sides (Some (Multiply glyphs)) = IsTrue false
+IsRuleEdit coverages subtable is_chained sides (Some (Ligate ligation)) = IsTrue false
+IsRuleEdit coverages subtable is_chained sides (Some (ReplaceInPlace change)) = IsTrue false
+
+-- what a context does: it applies the lookups of a rule that fits, and one by coverages does so just where its only rule fits
+pub record IsContextEdit (coverages : List Coverage) (subtable : Subtable) (is_chained : Bool) (sides : Sides) (edit : Option Edit) : Type 0 where
+  pub rule : IsRuleEdit coverages subtable is_chained sides edit
+  pub covered : subtable.format ≡ 3
+      → is_some edit ≡ (is_some (cursor_index subtable sides) && covered_fits sides (covered_rule coverages subtable is_chained))
 
 -- what a subtable does at the cursor, by its kind: a single, multiple, alternate or ligature substitution, or the lookups of the rule of
 -- a context that fits

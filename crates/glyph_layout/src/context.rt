@@ -1,10 +1,12 @@
 //! Contexts: rules of glyphs at the cursor, before them and behind them, as the kinds 5 and 6 of `GSUB` have them, and the
 //! kinds 7 and 8 of `GPOS` (OpenType specification, "OpenType Layout Common Table Formats", "Sequence Context").
 
-ghost use Rattle.std.specs.Prelude.{◌≡◌, ◌<◌, ◌≤◌, length, IfSome, IsTrue, Some, option_copied};
+ghost use Rattle.std.specs.Prelude.{◌≡◌, ◌<◌, ◌≤◌, length, IfSome, IsTrue, Some, is_some, option_copied};
 ghost use Rattle.glyph_layout.specs.Budget.{IsNotMore};
 ghost use Rattle.glyph_layout.specs.Context.{IsContextFit, IsFitBy, IsFitWithin, IsMissed, class_meanings, covered_rule, next_walk};
-ghost use Rattle.glyph_layout.specs.Context.{numbered_set, same_meaning};
+ghost use Rattle.glyph_layout.specs.Context.{covered_fits, numbered_set, same_meaning};
+ghost use Rattle.glyph_layout.specs.Forms.{is_chained_kind};
+ghost use Rattle.glyph_layout.specs.NextAsked.{IsNextOf};
 ghost use Rattle.glyph_layout.specs.Walk.{skip_of};
 ghost use Rattle.glyph_layout.specs.declared.walk.Skip.TheVariants.{No};
 
@@ -70,6 +72,9 @@ pub fn fitting_rule<'a>(
     ensures fits { IfSome result (IsFitWithin (length sides.now.out.now) (length sides.now.input.now)) }
     ensures rule { IfSome result
         (IsContextFit list.now.coverages.items subtable.now (Some index) is_chained sides.now) }
+    ensures exact { subtable.now.format ≡ 3 → is_chained ≡ is_chained_kind subtable.now.kind
+        → IsNextOf list.now.coverages.items subtable.now → 0 < search.new.budget.steps
+        → is_some result ≡ covered_fits sides.now (covered_rule list.now.coverages.items subtable.now is_chained) }
 {
     let table = subtable.table;
     match subtable.format {
@@ -105,6 +110,9 @@ fn covered_fit<'a>(
     ensures spent { IsNotMore search.old.budget search.new.budget }
     ensures fits { IfSome result (IsFitWithin (length sides.now.out.now) (length sides.now.input.now)) }
     ensures rule { IfSome result (IsFitBy sides.now (covered_rule list.now.coverages.items subtable.now is_chained)) }
+    ensures exact { is_chained ≡ is_chained_kind subtable.now.kind → IsNextOf list.now.coverages.items subtable.now
+        → 0 < search.new.budget.steps
+        → is_some result ≡ covered_fits sides.now (covered_rule list.now.coverages.items subtable.now is_chained) }
 {
     if let Some(next) = &subtable.next
         && let Some(to) = missed_next(next, sides)

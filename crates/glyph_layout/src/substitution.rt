@@ -5,6 +5,7 @@ ghost use Rattle.std.specs.Prelude.{option_map};
 ghost use Rattle.glyph_layout.specs.Budget.{IsNotMore};
 ghost use Rattle.glyph_layout.specs.FirstEdit.{IsEditOf, IsFirstEdit, alternate_edit, cursor_index, is_of_use, ligature_edit, single_edit};
 ghost use Rattle.glyph_layout.specs.Match.{AsksForOther, IsNext, first_ligature, ligated, ligature_at, ligature_of};
+ghost use Rattle.glyph_layout.specs.NextAsked.{IsNextOf};
 ghost use Rattle.glyph_layout.specs.Rule.{input_walk};
 ghost use Rattle.glyph_layout.specs.Sets.{set_at};
 ghost use Rattle.glyph_layout.specs.Substitution.{IsSequence, alternate_of, feature_value, single};
@@ -110,7 +111,8 @@ fn edit_of<'a>(
     sides: &Sides,
     search: &mut Search,
 ) -> Option<Edit<'a>>
-    requires { 0 < length sides.now.input.now }
+    requires some { 0 < length sides.now.input.now }
+    requires next { IsNextOf list.now.coverages.items subtable.now }
     ensures spent { IsNotMore search.old.budget search.new.budget }
     ensures single { subtable.now.kind ≡ 1 → result ≡ single_edit subtable.now sides.now }
     ensures multiple { subtable.now.kind ≡ 2

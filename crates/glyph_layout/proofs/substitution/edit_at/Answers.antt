@@ -1,6 +1,6 @@
 use Rattle.std.proofs.Common.{◌<◌, ◌∙◌, arith, rules, subst, sym}
 use Rattle.glyph_layout.specs.declared.search.Search.{Search}
-use Rattle.glyph_layout.proofs.EditLemmas.{first_here, first_later, no_edit, uncovered_by}
+use Rattle.glyph_layout.proofs.EditLemmas.{first_here, first_later, next_of_each, no_edit, uncovered_by}
 use Rattle.glyph_layout.proofs.substitution.edit_at.Goals as goal
 use Rattle.glyph_layout.proofs.substitution.edit_at.Goals.{then-may_be_for+else-not-pay+else-is_some, else-may_be_for}
 
@@ -35,3 +35,9 @@ returns-then-is_some-clause-first c some =
     let first = c.loop-subtable.invariant.first (omega (arith, some)) c.edit_of-edit.result
     (first_here _ _ _ _ _ _ c.subtable-item.result _ c.loop-subtable-test.true c.subtable-item.is has (c.edit_of-edit.ensures.is some)) in
     rw c.subtables_of-subtables.ensures at first
+
+pub edit_of-edit-requires-clause-next : goal.edit_of-edit-requires-clause-next
+edit_of-edit-requires-clause-next c =
+    next_of_each c.args.list.now.coverages.items c.args.list.now.subtables.items c.subtables_of-subtables.result.now
+    c.args.lookup.now c.loop-subtable.subtable-index c.subtable-item.result c.subtables_of-subtables.ensures
+    c.args.list.now.nexts c.loop-subtable-test.true c.subtable-item.is
