@@ -73,6 +73,7 @@ impl Budget {
     /// ```text
     /// ensures spent { IsNotMore self.old self.new }
     /// ensures paid { IsTrue result → self.new.nested + 1 ≡ self.old.nested }
+    /// ensures none { IsFalse result → self.old.nested ≡ 0 }
     /// ```
     #[inline]
     pub fn nest(&mut self) -> bool {
@@ -88,7 +89,8 @@ impl Budget {
     /// # Proved
     ///
     /// ```text
-    /// ensures { IsTrue result → self.now.steps ≡ 0 }
+    /// ensures spent { IsTrue result → self.now.steps ≡ 0 }
+    /// ensures left { IsFalse result → 0 < self.now.steps }
     /// ```
     #[inline]
     pub fn is_spent(&self) -> bool {

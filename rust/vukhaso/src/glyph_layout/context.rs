@@ -67,6 +67,11 @@ impl<'a> Fit<'a> {
 /// ```text
 /// ensures spent { IsNotMore search.old.budget search.new.budget }
 /// ensures fits { IfSome result (IsFitWithin (length sides.now.out.now) (length sides.now.input.now)) }
+/// ensures rule { IfSome result
+///     (IsContextFit list.now.coverages.items subtable.now (Some index) is_chained sides.now) }
+/// ensures exact { subtable.now.format ≡ 3 → is_chained ≡ is_chained_kind subtable.now.kind
+///     → IsNextOf list.now.coverages.items subtable.now → 0 < search.new.budget.steps
+///     → is_some result ≡ covered_fits sides.now (covered_rule list.now.coverages.items subtable.now is_chained) }
 /// ```
 #[inline]
 pub fn fitting_rule<'a>(
@@ -161,7 +166,12 @@ fn missed_next(next: &NextAsked, sides: &Sides) -> Option<usize> {
 }
 
 /// The set of this number of a list of sets, their count standing at a place.
+///
+/// # Requires
+///
+/// - `at < 65536`
 pub(crate) fn set_at(table: &[u8], at: usize, number: u32) -> Option<&[u8]> {
+    debug_assert!(at < 65536);
     if number < u32::from(u16_at(table, at)?) {
         table_at_16(table, at.saturating_add(2 + 2 * number as usize))
     } else {

@@ -19,7 +19,7 @@ pub struct Digest {
     pub singles: u64,
     /// The rows of 16 glyphs.
     pub sixteens: u64,
-    /// The rows of 512 glyphs.
+    /// The rows of 128 glyphs.
     pub blocks: u64,
 }
 
@@ -49,7 +49,7 @@ impl Digest {
     pub fn may_have(&self, glyph: u32) -> bool {
         has_row(self.sixteens, glyph / 16)
             && has_row(self.singles, glyph)
-            && has_row(self.blocks, glyph / 512)
+            && has_row(self.blocks, glyph / 128)
     }
 
     /// Whether a glyph may be in both sets. Where one is, it always may.
@@ -78,7 +78,7 @@ impl Digest {
     pub fn add(&mut self, glyph: u32) {
         self.singles = with_row(self.singles, glyph);
         self.sixteens = with_row(self.sixteens, glyph / 16);
-        self.blocks = with_row(self.blocks, glyph / 512);
+        self.blocks = with_row(self.blocks, glyph / 128);
     }
 
     /// Adds the glyphs of another set.
@@ -139,7 +139,7 @@ impl Summary for Digest {
     fn add_range(&mut self, first: u32, last: u32) {
         self.singles = with_rows(self.singles, first, last);
         self.sixteens = with_rows(self.sixteens, first / 16, last / 16);
-        self.blocks = with_rows(self.blocks, first / 512, last / 512);
+        self.blocks = with_rows(self.blocks, first / 128, last / 128);
     }
 }
 

@@ -2,11 +2,10 @@
 
 //! The lookups of `GSUB` or `GPOS` (OpenType specification, "OpenType Layout Common Table Formats", "Lookup List table").
 
-use crate::font_tables::bytes::{table_at_16, table_at_32, u16_at};
+use crate::font_tables::bytes::{table_at_16, u16_at};
 use crate::font_tables::class_definition::ClassDefinition;
 use crate::font_tables::coverage::Coverage;
 use crate::font_tables::gdef::Gdef;
-use crate::font_tables::rows::{Keys16, rises, rows_within};
 use crate::glyph::hb_glyph_info_t;
 use crate::glyph_layout::digest::Digest;
 use crate::glyph_layout::filter::Filter;
@@ -14,7 +13,8 @@ use crate::glyph_layout::first_glyphs::FirstGlyphs;
 use crate::glyph_layout::search::MAX_CONTEXT_LENGTH;
 use crate::glyph_layout::seconds::seconds_of;
 use crate::glyph_layout::subtable::{
-    Form, NextAsked, Subtable, behind_list, positioning_form, substitution_form, table_or_empty,
+    Form, NextAsked, Subtable, behind_extension, behind_list, is_quick, positioning_form,
+    substitution_form, table_or_empty,
 };
 use crate::glyph_layout::summary::{Summary, summary_of};
 use crate::memory::{AllocError, Vec};
@@ -27,9 +27,6 @@ pub const POSITIONING_EXTENSION: u16 = 9;
 
 /// The kind of ligatures in `GSUB`.
 const LIGATURES: u16 = 4;
-
-/// So many rows are soon looked through.
-const FEW_ROWS: usize = 64;
 
 /// The bit of a lookup's flag that says that a set of marks follows the subtables.
 const USE_MARK_FILTERING_SET: u16 = 0x0010;
@@ -99,6 +96,12 @@ impl<'a> Lookup<'a> {
 /// Reading is limited to 64 times the length of the table, as HarfBuzz limits it: what lookups share is read for each of
 /// them, and a font whose lookups share too much has no subtables from there on. A coverage or a table of classes with many
 /// rows that do not rise names no glyph, since it would have to be looked through for each.
+///
+/// # Proved
+///
+/// ```text
+/// ghost nexts: { All (IsNextOf coverages.items) subtables.items }
+/// ```
 #[derive(Debug)]
 pub struct LookupList<'a> {
     /// The bytes of the table.
@@ -187,8 +190,7 @@ impl<'a> LookupList<'a> {
     /// # Proved
     ///
     /// ```text
-    /// ensures { lookup.now.first ≤ lookup.now.last → lookup.now.last ≤ length self.now.subtables.items
-    ///     → result.now ≡ slice_range self.now.subtables.items lookup.now.first lookup.now.last }
+    /// ensures { result.now ≡ subtables_of self.now.subtables.items lookup.now }
     /// ```
     #[inline]
     pub fn subtables_of(&self, lookup: &Lookup) -> &[Subtable<'a>] {
@@ -220,7 +222,9 @@ impl<'a> LookupList<'a> {
     ///
     /// # Proved
     ///
-    /// That it returns.
+    /// ```text
+    /// ensures { result.now ≡ drop (subtable.now.first_coverage + number) self.now.coverages.items }
+    /// ```
     #[inline]
     pub fn coverages_from(&self, subtable: &Subtable, number: usize) -> &[Coverage<'a>] {
         let first = subtable.first_coverage.saturating_add(number);
@@ -285,11 +289,7 @@ impl<'a> LookupList<'a> {
             return Ok(());
         }
         let format = u16_at(table, 0).unwrap_or(0);
-        let form = if self.is_positioning() {
-            positioning_form(kind, format)
-        } else {
-            substitution_form(kind, format)
-        };
+        let form = self.form_of(kind, format);
         let first_coverage = self.coverages.len();
         self.read_coverages(form, table)?;
         let coverage = self.first_of(form, table, first_coverage);
@@ -308,8 +308,26 @@ impl<'a> LookupList<'a> {
             first_coverage,
             seconds: self.seconds(kind, table),
         };
+        self.add_subtable(subtable)
+    }
+
+    /// Adds a subtable.
+    ///
+    /// # Requires
+    ///
+    /// - `IsNextOf self.old.coverages.items subtable`
+    fn add_subtable(&mut self, subtable: Subtable<'a>) -> Result<(), AllocError> {
         self.subtables.push(subtable)?;
         Ok(())
+    }
+
+    /// The form of a subtable.
+    fn form_of(&self, kind: u16, format: u16) -> Form {
+        if self.is_positioning() {
+            positioning_form(kind, format)
+        } else {
+            substitution_form(kind, format)
+        }
     }
 
     /// Reads the coverages of a context by coverages, or around a reverse substitution.
@@ -371,21 +389,8 @@ impl<'a> LookupList<'a> {
     /// What a context by coverages asks of the glyph behind the one at the cursor: the second coverage of
     /// the input, or where the input has one, the first behind it.
     fn next_asked(&self, form: Form, table: &'a [u8], first: usize) -> Option<NextAsked<'a>> {
-        let (behind, input, ahead) = match form {
-            Form::Coverages => (0, u16_at(table, 2)?, 0),
-            Form::ChainedCoverages => {
-                let behind = u16_at(table, 2)?;
-                let input_at = 4 + 2 * usize::from(behind);
-                let input = u16_at(table, input_at)?;
-                (
-                    behind,
-                    input,
-                    u16_at(table, input_at + 2 + 2 * usize::from(input))?,
-                )
-            }
-            _ => return None,
-        };
-        if usize::from(input) > MAX_CONTEXT_LENGTH || input < 2 && ahead == 0 {
+        let (behind, input, ahead) = coverage_numbers(form, table)?;
+        if usize::from(input) > MAX_CONTEXT_LENGTH || !has_next(input, ahead) {
             return None;
         }
         let number = usize::from(behind) + usize::from(input.min(1));
@@ -465,17 +470,24 @@ impl<'a> LookupList<'a> {
     }
 }
 
-/// Whether a glyph is found soon in a table of glyphs or ranges: there are few rows, or they rise, as
-/// they have to. A list of classes has a row for each glyph.
-fn is_quick(table: &[u8], lists_glyphs: bool) -> bool {
-    let declared = usize::from(u16_at(table, 2).unwrap_or(0));
-    let (start, size) = match u16_at(table, 0) {
-        Some(1) if lists_glyphs => (4, 2),
-        Some(2) => (6, 6),
-        _ => return true,
-    };
-    let count = rows_within(table, 4, size, declared);
-    count <= FEW_ROWS || rises(&Keys16 { table, start, size }, count)
+/// How many coverages a context by coverages has before the cursor, for its input and behind it.
+fn coverage_numbers(form: Form, table: &[u8]) -> Option<(u16, u16, u16)> {
+    match form {
+        Form::Coverages => Some((0, u16_at(table, 2)?, 0)),
+        Form::ChainedCoverages => {
+            let behind = u16_at(table, 2)?;
+            let input_at = 4 + 2 * usize::from(behind);
+            let input = u16_at(table, input_at)?;
+            let ahead = u16_at(table, input_at + 2 + 2 * usize::from(input))?;
+            Some((behind, input, ahead))
+        }
+        _ => None,
+    }
+}
+
+/// Whether a context with so many glyphs in its input and behind it asks for one behind the cursor.
+fn has_next(input: u16, ahead: u16) -> bool {
+    input > 1 || ahead > 0
 }
 
 /// The digest of the glyphs that any of these subtables is for.
@@ -494,15 +506,4 @@ fn firsts_of(subtables: &[Subtable]) -> FirstGlyphs {
         firsts.add_all(&subtable.firsts);
     }
     firsts
-}
-
-/// The kind and the subtable behind an extension.
-fn behind_extension(table: &[u8]) -> (u16, &[u8]) {
-    match u16_at(table, 0) {
-        Some(1) => (
-            u16_at(table, 2).unwrap_or(0),
-            table_at_32(table, 4).unwrap_or(&[]),
-        ),
-        _ => (0, &[]),
-    }
 }

@@ -36,7 +36,7 @@ impl<'a> Sides<'a> {
     /// # Proved
     ///
     /// ```text
-    /// ensures { result ≡ record self.now.walk { syllable = self.now.syllable } }
+    /// ensures { result ≡ input_walk self.now }
     /// ```
     #[inline]
     pub fn input_walk(&self) -> Walk<'a> {
@@ -51,7 +51,7 @@ impl<'a> Sides<'a> {
     /// # Proved
     ///
     /// ```text
-    /// ensures { result ≡ record self.now.context { syllable = if is_within then self.now.syllable else 0 } }
+    /// ensures { result ≡ context_walk self.now is_within }
     /// ```
     #[inline]
     pub fn context_walk(&self, is_within: bool) -> Walk<'a> {

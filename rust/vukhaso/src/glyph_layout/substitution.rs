@@ -69,6 +69,9 @@ pub struct Ligation {
 ///
 /// ```text
 /// ensures spent { IsNotMore search.old.budget search.new.budget }
+/// ensures first { 0 < search.new.budget.steps
+///     → IsFirstEdit list.now.coverages.items options.now sides.now is_nested
+///     (subtables_of list.now.subtables.items lookup.now) result }
 /// ```
 #[inline]
 pub fn edit_at<'a>(
@@ -100,7 +103,8 @@ pub fn edit_at<'a>(
 ///
 /// # Requires
 ///
-/// - `0 < length sides.now.input.now`
+/// - `some: 0 < length sides.now.input.now`
+/// - `next: IsNextOf list.now.coverages.items subtable.now`
 fn edit_of<'a>(
     list: &'a LookupList<'a>,
     subtable: &Subtable<'a>,

@@ -2,11 +2,15 @@
 
 //! The subtables of lookups, with what several kinds have in common parsed once.
 
-use crate::font_tables::bytes::{table_at_16, u16_at};
+use crate::font_tables::bytes::{table_at_16, table_at_32, u16_at};
 use crate::font_tables::class_definition::ClassDefinition;
 use crate::font_tables::coverage::Coverage;
+use crate::font_tables::rows::{Keys16, rises, rows_within};
 use crate::glyph_layout::digest::Digest;
 use crate::glyph_layout::first_glyphs::FirstGlyphs;
+
+/// So many rows are soon looked through.
+const FEW_ROWS: usize = 64;
 
 /// A subtable of a lookup.
 ///
@@ -84,7 +88,10 @@ impl<'a> NextAsked<'a> {
     ///
     /// # Proved
     ///
-    /// That it returns.
+    /// ```text
+    /// ensures asks { result.coverage ≡ coverage.entry }
+    /// ensures input { result.is_input ≡ is_input }
+    /// ```
     #[inline]
     pub fn new(coverage: Coverage<'a>, is_input: bool) -> Self {
         NextAsked {
@@ -122,7 +129,9 @@ pub enum Form {
 ///
 /// # Proved
 ///
-/// That it returns.
+/// ```text
+/// ensures { is_covered_form result ≡ true → is_chained_kind kind ≡ is_chained_form result }
+/// ```
 #[inline]
 pub fn substitution_form(kind: u16, format: u16) -> Form {
     match kind {
@@ -137,7 +146,9 @@ pub fn substitution_form(kind: u16, format: u16) -> Form {
 ///
 /// # Proved
 ///
-/// That it returns.
+/// ```text
+/// ensures { is_covered_form result ≡ true → is_chained_kind kind ≡ is_chained_form result }
+/// ```
 #[inline]
 pub fn positioning_form(kind: u16, format: u16) -> Form {
     match kind {
@@ -179,4 +190,28 @@ pub fn behind_list(table: &[u8], at: usize) -> usize {
 #[inline]
 pub fn table_or_empty(table: &[u8], at: usize) -> &[u8] {
     table_at_16(table, at).unwrap_or(&[])
+}
+
+/// Whether a glyph is found soon in a table of glyphs or ranges: there are few rows, or they rise, as
+/// they have to. A list of classes has a row for each glyph.
+pub(crate) fn is_quick(table: &[u8], lists_glyphs: bool) -> bool {
+    let declared = usize::from(u16_at(table, 2).unwrap_or(0));
+    let (start, size) = match u16_at(table, 0) {
+        Some(1) if lists_glyphs => (4, 2),
+        Some(2) => (6, 6),
+        _ => return true,
+    };
+    let count = rows_within(table, 4, size, declared);
+    count <= FEW_ROWS || rises(&Keys16 { table, start, size }, count)
+}
+
+/// The kind and the subtable behind an extension.
+pub(crate) fn behind_extension(table: &[u8]) -> (u16, &[u8]) {
+    match u16_at(table, 0) {
+        Some(1) => (
+            u16_at(table, 2).unwrap_or(0),
+            table_at_32(table, 4).unwrap_or(&[]),
+        ),
+        _ => (0, &[]),
+    }
 }
