@@ -1,6 +1,5 @@
 use crate::streams::SlowReader;
-use shaping_session::ending::{conclude, run_to_end};
-use shaping_session::run::RunFault;
+use shaping_session::ending::run_to_end;
 use std::alloc::Global;
 use std::cell::Cell;
 use std::fmt::Display;
@@ -64,17 +63,7 @@ fn the_status_is_that_of_the_run_which_says_nothing(rt: HostRuntime) -> Result<(
 }
 
 #[test]
-fn a_fault_is_told_and_ends_with_3(rt: HostRuntime) -> Result<(), Fail> {
-    let rows = [
-        (RunFault::Read, "read failed\n"),
-        (RunFault::Write, "write failed\n"),
-        (RunFault::Memory, "out of memory\n"),
-    ];
-    for (fault, line) in rows {
-        let error = Listener::new(rt.alloc(), false);
-        assert!(rt; conclude(&error, Err(fault)) == ExitCode::from(3), "{line}");
-        assert!(rt; error.heard.into_inner().as_str() == line, "{line}");
-    }
+fn a_read_that_fails_is_told_and_ends_with_3(rt: HostRuntime) -> Result<(), Fail> {
     let mut reader = SlowReader::new(b"push a\n");
     reader.fails_at = 1;
     let mut written = Vec::new(rt.alloc());
@@ -83,11 +72,19 @@ fn a_fault_is_told_and_ends_with_3(rt: HostRuntime) -> Result<(), Fail> {
     assert!(rt; end == ExitCode::from(3));
     assert!(rt; error.heard.into_inner().as_str() == "read failed\n");
     assert!(rt; written.len() == 0);
-    // Also where standard error fails.
-    let error = Listener::new(rt.alloc(), true);
-    let mut lines: &[u8] = b"push a\n";
-    let mut no_room: &mut [u8] = &mut [];
-    let end = run_to_end(rt.alloc(), &mut lines, &mut no_room, &error);
-    assert!(rt; end == ExitCode::from(3));
+    Ok(())
+}
+
+/// Also where standard error fails.
+#[test]
+fn a_write_that_fails_is_told_and_ends_with_3(rt: HostRuntime) -> Result<(), Fail> {
+    for (is_deaf, line) in [(false, "write failed\n"), (true, "")] {
+        let error = Listener::new(rt.alloc(), is_deaf);
+        let mut lines: &[u8] = b"push a\n";
+        let mut no_room: &mut [u8] = &mut [];
+        let end = run_to_end(rt.alloc(), &mut lines, &mut no_room, &error);
+        assert!(rt; end == ExitCode::from(3), "{is_deaf}");
+        assert!(rt; error.heard.into_inner().as_str() == line, "{is_deaf}");
+    }
     Ok(())
 }

@@ -28,8 +28,7 @@ pub fn run_to_end<R: Read, W: Write, E: Eprint>(
 }
 
 /// Reports a fault on standard error, and gives the status to end with: that of the run, or 3 after a fault.
-/// It is public for its test alone, which hands it each fault.
-pub fn conclude<E: Eprint>(error: &E, outcome: Result<u8, RunFault>) -> ExitCode
+fn conclude<E: Eprint>(error: &E, outcome: Result<u8, RunFault>) -> ExitCode
     ensures { exit_status result ≡ status_after outcome }
 {
     match outcome {
