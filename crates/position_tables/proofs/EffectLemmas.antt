@@ -37,9 +37,9 @@ device_delta-none : (table : List ℕ) (offset ppem : ℕ) (size : ℤ) → ppem
 device_delta-none table offset ppem size none = rw (none, or-true (nat_eq offset 0)) refl
 
 -- no correction where there is no device table, or it is not asked
-x_correction-none : (base : List ℕ) (instance : Instance) (device : ℕ)
+x_correction-unmoved : (base : List ℕ) (instance : Instance) (device : ℕ)
     → (not (nat_eq device 0) && has_corrections instance instance.scale.x_ppem) ≡ false → x_correction base device instance ≡ pos 0
-x_correction-none base instance device none =
+x_correction-unmoved base instance device none =
     elim (not_both (nat_eq device 0) (has_corrections instance instance.scale.x_ppem) none) [
       | inl absent ↦ rw (eqb-true device 0 absent) (x_correction-none base instance)
       | inr unasked ↦
@@ -49,9 +49,9 @@ x_correction-none base instance device none =
           (no_pixel instance.scale.x_ppem parts.0)
     ]
 
-y_correction-none : (base : List ℕ) (instance : Instance) (device : ℕ)
+y_correction-unmoved : (base : List ℕ) (instance : Instance) (device : ℕ)
     → (not (nat_eq device 0) && has_corrections instance instance.scale.y_ppem) ≡ false → y_correction base device instance ≡ pos 0
-y_correction-none base instance device none =
+y_correction-unmoved base instance device none =
     elim (not_both (nat_eq device 0) (has_corrections instance instance.scale.y_ppem) none) [
       | inl absent ↦ rw (eqb-true device 0 absent) (y_correction-none base instance)
       | inr unasked ↦
@@ -80,7 +80,7 @@ moved_x-kept base instance value device n fits none =
     rw (
       is_zero value parts.0,
       em_scale-zero instance.scale.x instance.scale.units_per_em,
-      x_correction-none base
+      x_correction-unmoved base
           instance device parts.1,
     )
     (plus_nothing n fits)
@@ -93,7 +93,7 @@ moved_y-kept base instance value device n fits none =
     rw (
       is_zero value parts.0,
       em_scale-zero instance.scale.y instance.scale.units_per_em,
-      y_correction-none base
+      y_correction-unmoved base
           instance device parts.1,
     )
     (plus_nothing n fits)
@@ -106,7 +106,7 @@ moved_back-kept base instance value device n fits none =
     rw (
       is_zero value parts.0,
       em_scale-zero instance.scale.y instance.scale.units_per_em,
-      y_correction-none base
+      y_correction-unmoved base
           instance device parts.1,
     )
     (minus_nothing n fits)
