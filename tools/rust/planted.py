@@ -30,9 +30,11 @@ PLANTS = (
 
 
 def is_noticed(room, file, old, new):
-    """Whether the tests notice a wrong body, and what they printed."""
-    copy = room / "copy"
+    """Whether the tests notice a wrong body, and what they printed. The copy stands beside the fonts, as the package does."""
+    copy = room / "rust/vukhaso"
     shutil.rmtree(copy, ignore_errors=True)
+    if not (fonts := room / "fonts").exists():
+        fonts.symlink_to(PACKAGE.parent.parent / "fonts")
     shutil.copytree(PACKAGE, copy, ignore=shutil.ignore_patterns("target"))
     text = (copy / file).read_text()
     if text.count(old) != 1:
