@@ -1,23 +1,30 @@
 -- Where the glyph that a context asks for does not stand behind the cursor.
-use Rattle.std.proofs.Common.{◌≡◌, ℕ, ◌+◌, ◌<◌, Bool, true, false, List, length, None, refl, arith, subst, sym, inl, inr}
-use Rattle.std.proofs.Common.{if◌then◌else◌, is_some}
-use Rattle.std.proofs.lemmas.Bool.{cases_Bool}
+use Rattle.std.proofs.Common.{◌≡◌, ◌≢◌, ℕ, ◌<◌, Bool, true, false, if◌then◌else◌, List, length, Option, Some, None, refl, arith, inl, inr}
+use Rattle.std.specs.Prelude.{IfSome}
 use Rattle.std.proofs.lemmas.Grind.{common_steps}
+use Rattle.std.proofs.Common.{is_some}
+use Rattle.std.proofs.lemmas.Bool.{cases_Bool}
 use Rattle.font_tables.specs.declared.coverage.Coverage.{Coverage}
 use Rattle.rb_glyph.specs.declared.info.hb_glyph_info_t.{hb_glyph_info_t}
-use Rattle.glyph_layout.specs.Context.{next_walk}
+use Rattle.glyph_layout.specs.Context.{class_meanings, context_rule, covered_rule, next_walk, numbered_set, same_meaning}
 use Rattle.glyph_layout.specs.Digest.{HasAll, may_have}
 use Rattle.glyph_layout.specs.Match.{place_of}
-use Rattle.glyph_layout.specs.Walk.{covered_index, glyph_at, first_kept, may_ignore, next_found, passes, skip_of, matches}
+use Rattle.glyph_layout.specs.Walk.{class_in, covered_index, glyph_at, may_ignore, next_found, skip_of}
+use Rattle.glyph_layout.specs.Pattern.{IsFitBy, Pattern, fitting, rule_fits}
+use Rattle.glyph_layout.specs.Rule.{context_walk}
+use Rattle.glyph_layout.specs.RuleSet.{rule_of_set}
+use Rattle.glyph_layout.specs.declared.context.Fit.{Fit}
 use Rattle.glyph_layout.specs.declared.digest.Digest.{Digest}
+use Rattle.glyph_layout.specs.declared.rule.Meaning.TheVariants.{Glyphs}
 use Rattle.glyph_layout.specs.declared.search.Sides.{Sides}
 use Rattle.glyph_layout.specs.declared.subtable.NextAsked.{NextAsked}
+use Rattle.glyph_layout.specs.declared.subtable.Subtable.{Subtable}
 use Rattle.glyph_layout.specs.declared.walk.Walk.{Walk}
-use Rattle.glyph_layout.specs.declared.walk.Found.TheVariants.{At, Other, End}
 use Rattle.glyph_layout.specs.declared.walk.Skip.TheVariants.{No}
 use Rattle.glyph_layout.specs.declared.wanted.Wanted.{Wanted}
 use Rattle.glyph_layout.specs.declared.wanted.Wanted.TheVariants.{Covered}
-use Rattle.glyph_layout.proofs.WalkLemmas.{first_kept-here}
+use Rattle.glyph_layout.proofs.RuleSetLemmas.{fitting-here}
+use Rattle.glyph_layout.proofs.NeighbourLemmas.{counts-no, matches-other, place_of-beside, place_of-last}
 
 -- a glyph that a digest does not have is not in the set
 pub not_covered : (d : Digest) (c : Coverage) (g : ℕ) → HasAll (λ g. is_some (covered_index c.table.now g) ≡ true) d
@@ -28,34 +35,13 @@ not_covered d c g all none =
       | inr missing ↦ missing
     ]
 
--- a walk stays at a glyph that counts
-counts_here : (w : Walk) (x : Wanted) (g : hb_glyph_info_t) → skip_of w g ≡ No → passes w x g ≡ false
-unfolding passes
-counts_here w x g counts = grind (arith, common_steps)
-
--- and does not find another glyph there
-other_misses : (w : Walk) (c : Coverage) (g : hb_glyph_info_t) → is_some (covered_index c.table.now g.glyph_id) ≡ false
-    → matches w (Covered c) g ≡ false
-unfolding matches
-other_misses w c g other = grind (arith, common_steps)
-
-place_of-not_at : (b m : Bool) (n : ℕ) → m ≡ false → place_of (if b then (if m then At n else Other n) else End) ≡ None
-place_of-not_at true m n misses = rw misses refl
-place_of-not_at false m n misses = refl
-
-pub place_of-end : (b m : Bool) (n : ℕ) → b ≡ false → place_of (if b then (if m then At n else Other n) else End) ≡ None
-place_of-end b m n e = rw e refl
-
 -- the glyph behind the cursor counts, and a digest does not have it
 pub place_of-missed_other : (w : Walk) (d : Digest) (c : Coverage) (gs : List hb_glyph_info_t) → 1 < length gs
     → HasAll (λ g. is_some (covered_index c.table.now g) ≡ true) d → may_have d (glyph_at gs 1).glyph_id ≡ false
     → skip_of w (glyph_at gs 1) ≡ No → place_of (next_found w (Covered c) gs 0) ≡ None
-unfolding next_found
-place_of-missed_other w d c gs more all none counts =
-    let here : first_kept (passes w (Covered c)) gs (0 + 1) ≡ 1 =
-    first_kept-here (passes w (Covered c)) gs 1 more (counts_here w (Covered c) (glyph_at gs 1) counts) in
-    let misses = other_misses w c (glyph_at gs 1) (not_covered d c (glyph_at gs 1).glyph_id all none) in
-    place_of-not_at _ _ _ (subst (λ n. matches w (Covered c) (glyph_at gs n) ≡ false) (sym here) misses)
+place_of-missed_other w d c gs more all none stays =
+    place_of-beside w (Covered c) gs 0 more (counts-no w _ stays)
+    (matches-other w (Covered c) _ refl (not_covered d c (glyph_at gs 1).glyph_id all none))
 
 -- a glyph that counts does so in each syllable
 pub skip_of_input : (next : NextAsked) (s : Sides) (g : hb_glyph_info_t) → next.is_input ≡ true → skip_of s.walk g ≡ No
@@ -63,17 +49,60 @@ pub skip_of_input : (next : NextAsked) (s : Sides) (g : hb_glyph_info_t) → nex
 unfolding may_ignore
 skip_of_input next s g is counts = rw is counts
 
-pub skip_of_context : (next : NextAsked) (s : Sides) (g : hb_glyph_info_t) → next.is_input ≡ false
-    → skip_of s.context g ≡ No → skip_of (next_walk next s) g ≡ No
+pub skip_of_around : (s : Sides) (g : hb_glyph_info_t) → skip_of s.context g ≡ No → skip_of (context_walk s true) g ≡ No
 unfolding may_ignore
-skip_of_context next s g is counts = rw is counts
+skip_of_around s g counts = counts
 
-pub ruleset counting = (skip_of_input, skip_of_context)
+pub skip_of_ahead : (next : NextAsked) (s : Sides) (g : hb_glyph_info_t) → next.is_input ≡ false
+    → skip_of (context_walk s true) g ≡ No → skip_of (next_walk next s) g ≡ No
+skip_of_ahead next s g is counts = rw is counts
+
+pub ruleset counting = (skip_of_input, skip_of_ahead)
 
 -- no glyph stands behind the cursor
 pub place_of-missed_end : (w : Walk) (x : Wanted) (gs : List hb_glyph_info_t) → length gs ≡ 1
     → place_of (next_found w x gs 0) ≡ None
-unfolding next_found
-place_of-missed_end w x gs one = place_of-end _ _ _ (grind (arith, one))
+place_of-missed_end w x gs one = place_of-last w x gs 0 (omega (arith, one))
 
 pub ruleset missed = (place_of-missed_other, place_of-missed_end)
+
+-- the rules of a context, by its format
+pub context_rule-glyphs : (cs : List Coverage) (t : Subtable) (i : ℕ) (chained : Bool) (s : Sides) → t.format ≡ 1
+    → context_rule cs t i chained s ≡ rule_of_set s chained (same_meaning Glyphs) (numbered_set t.table.now 4 i)
+unfolding context_rule
+context_rule-glyphs cs t i chained s is = rw is refl
+
+pub context_rule-classes : (cs : List Coverage) (t : Subtable) (i : ℕ) (chained : Bool) (s : Sides) → t.format ≡ 2
+    → context_rule cs t i chained s ≡ rule_of_set s chained (class_meanings t)
+    (numbered_set t.table.now (if chained then 10 else 6) (class_in t.classes.table.now (glyph_at s.input.now 0).glyph_id))
+unfolding context_rule
+context_rule-classes cs t i chained s is = rw is refl
+
+pub context_rule-covered : (cs : List Coverage) (t : Subtable) (i : ℕ) (chained : Bool) (s : Sides) → t.format ≡ 3
+    → context_rule cs t i chained s ≡ fitting s (covered_rule cs t chained)
+unfolding context_rule
+context_rule-covered cs t i chained s is = rw is refl
+
+pub context_rule-none : (cs : List Coverage) (t : Subtable) (i : ℕ) (chained : Bool) (s : Sides) → t.format ≢ 1
+    → t.format ≢ 2 → t.format ≢ 3 → context_rule cs t i chained s ≡ None
+unfolding context_rule
+context_rule-none cs t i chained s one two three = grind (arith, common_steps)
+
+-- a rule that fits is one that fits
+fitting_by : (s : Sides) (o : Option Pattern) (fit : Fit) → IsFitBy s o fit → IsFitBy s (fitting s o) fit
+fitting_by s None fit is = cc
+fitting_by s (Some p) fit is = fitting-here s p fit is
+
+pub fits_by : (s : Sides) (o : Option Pattern) (fit : Option Fit) → IfSome fit (IsFitBy s o) → IfSome fit (IsFitBy s (fitting s o))
+fits_by s o None is = tt
+fits_by s o (Some fit) is = fitting_by s o fit is
+
+pub is_some-fitting : (s : Sides) (o : Option Pattern) → is_some (fitting s o) ≡ rule_fits s o
+is_some-fitting s None = refl
+is_some-fitting s (Some p) =
+    elim (cases_Bool (rule_fits s (Some p))) [
+      | inl fits ↦ rw fits refl
+      | inr misses ↦ rw misses refl
+    ]
+
+pub ruleset formats = (context_rule-glyphs, context_rule-classes, context_rule-none)

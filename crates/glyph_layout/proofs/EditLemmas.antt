@@ -26,8 +26,8 @@ uncovered cs o s n t none = record {
   multiples = λ is. rw none refl;
   alternates = λ is chosen. rw none refl;
   ligatures = λ is. rw none refl;
-  contexts = λ is. record { rule = tt; covered = λ by. rw none refl };
-  chained_contexts = λ is. record { rule = tt; covered = λ by. rw none refl };
+  contexts = λ is. rw none refl;
+  chained_contexts = λ is. rw none refl;
   others = λ is. refl;
 }
 

@@ -8,13 +8,16 @@
 -- at the cursor has no edit there, so the first edit is that of the subtables that are tried (`EditLemmas`).
 
 pub mod AroundLemmas
+pub mod BehindLemmas
 pub mod ContextLemmas
 pub mod DigestLemmas
 pub mod EditLemmas
 pub mod FirstGlyphsLemmas
 pub mod MatchLemmas
 pub mod MissedLemmas
+pub mod NeighbourLemmas
 pub mod NextLemmas
 pub mod PatternLemmas
+pub mod RuleSetLemmas
 pub mod SecondsLemmas
 pub mod WalkLemmas

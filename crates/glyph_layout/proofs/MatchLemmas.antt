@@ -1,24 +1,21 @@
 -- Steps of matches, and of the search for the first ligature.
-use Rattle.std.proofs.Common.{◌≡◌, ◌≢◌, ℕ, zero, suc, ◌+◌, ◌*◌, ◌<◌, ◌==◌, Bool, true, false, List, length, [], ◌∷◌, drop, Option, Some, None, refl, arith, subst, ◌-◌, nat_lt, sym, ◌∙◌, ap, inl, inr}
+use Rattle.std.proofs.Common.{◌≡◌, ◌≢◌, ℕ, zero, suc, ◌+◌, ◌*◌, ◌<◌, ◌==◌, Bool, true, false, List, drop, Option, Some, None, refl, arith, ◌-◌, nat_lt, sym, ◌∙◌, ap, inl, inr}
 use Rattle.std.proofs.Common.{if◌then◌else◌, option_map, option_and_then, unwrap_or, is_some}
-use Rattle.std.proofs.lemmas.Bool.{cases_lt, cases_Bool}
+use Rattle.std.proofs.lemmas.Bool.{cases_lt}
 use Rattle.std.proofs.lemmas.Grind.{common_steps}
 use Rattle.font_tables.specs.Bytes.{number_16, table_at_16}
 use Rattle.rb_glyph.specs.declared.info.hb_glyph_info_t.{hb_glyph_info_t}
 use Rattle.glyph_layout.specs.LigatureParts.{ligature_id, ligature_component}
-use Rattle.glyph_layout.specs.Match.{is_hidden_before, joins, last_place, next_place, first_of, ligature_at, ligature_of, match_end, components_end, AsksForOther, IsNext, place_of}
+use Rattle.glyph_layout.specs.Match.{is_hidden_before, joins, last_place, next_place, first_of, ligature_at, ligature_of, match_end, components_end, AsksForOther, IsNext}
 use Rattle.glyph_layout.specs.Rule.{input_walk, wanted_by}
 use Rattle.glyph_layout.specs.declared.rule.Meaning.TheVariants as rule
-use Rattle.glyph_layout.specs.declared.rule_set.Next.{Next}
-use Rattle.glyph_layout.specs.Walk.{glyph_at, passes_over, passed_over, first_kept, next_found, passes, skip_of, fits, matches}
+use Rattle.glyph_layout.specs.declared.neighbours.Next.{Next}
+use Rattle.glyph_layout.specs.Walk.{glyph_at, passes_over}
 use Rattle.glyph_layout.specs.declared.filter.Filter.{Filter}
 use Rattle.glyph_layout.specs.declared.search.Sides.{Sides}
 use Rattle.glyph_layout.specs.declared.walk.Walk.{Walk}
-use Rattle.glyph_layout.specs.declared.walk.Found.TheVariants.{At, Other, End}
-use Rattle.glyph_layout.specs.declared.walk.Skip.TheVariants.{No}
 use Rattle.glyph_layout.specs.declared.wanted.Wanted.{Wanted}
-use Rattle.glyph_layout.specs.declared.wanted.Wanted.TheVariants.{Any, Glyph}
-use Rattle.glyph_layout.proofs.WalkLemmas.{first_kept-here}
+use Rattle.glyph_layout.specs.declared.wanted.Wanted.TheVariants.{Glyph}
 
 equal_true : (a b : ℕ) → a ≡ b → (a == b) ≡ true
 equal_true a b same = grind (arith, common_steps)
@@ -145,82 +142,6 @@ first_is s set n k None so_far less is some = cc
 first_is s set n k (Some found) so_far less is some = sym (first_of-here s set n k found so_far less (sym is))
 
 pub ruleset first_steps = (first_of-nowhere, first_of-later)
-
--- where one walk passes over all that another does, and stays where that one stays, they stay at the same place
-passed_over-same : (p q : hb_glyph_info_t → Bool) (gs : List hb_glyph_info_t)
-    → ((g : hb_glyph_info_t) → p g ≡ true → q g ≡ true)
-    → q (glyph_at gs (passed_over p gs)) ≡ false → passed_over q gs ≡ passed_over p gs
-passed_over-same p q [] more stays = refl
-passed_over-same p q (g ∷ gs) more stays =
-    elim (cases_Bool (p g)) [
-      | inl passes ↦
-          let too = more g passes in
-          let rest : q (glyph_at gs (passed_over p gs)) ≡ false = rw passes at stays in
-          rw (passes, too, passed_over-same p q gs more rest) refl
-      | inr keeps ↦
-          let here : q g ≡ false = rw keeps at stays in
-          rw (keeps, here) refl
-    ]
-
-first_kept-same : (p q : hb_glyph_info_t → Bool) (gs : List hb_glyph_info_t) (i : ℕ)
-    → ((g : hb_glyph_info_t) → p g ≡ true → q g ≡ true)
-    → q (glyph_at gs (first_kept p gs i)) ≡ false → first_kept q gs i ≡ first_kept p gs i
-first_kept-same p q gs zero more stays =
-    let e : 0 + passed_over p gs ≡ passed_over p gs = omega arith in
-    ap (λ n. 0 + n) (passed_over-same p q gs more (subst (λ n. q (glyph_at gs n) ≡ false) e stays))
-first_kept-same p q [] (suc i) more stays = refl
-first_kept-same p q (g ∷ gs) (suc i) more stays =
-    let e : suc i + passed_over p (drop i gs) ≡ suc (i + passed_over p (drop i gs)) = omega arith in
-    let rest = first_kept-same p q gs i more (subst (λ n. q (glyph_at (g ∷ gs) n) ≡ false) e stays) in
-    omega (arith, rest)
-
--- a walk that asks for one glyph passes over all that one passes over that asks for none
-any_passes : (w : Walk) (asked : ℕ) (g : hb_glyph_info_t) → passes w Any g ≡ true → passes w (Glyph asked) g ≡ true
-unfolding passes
-any_passes w asked g passes = grind (arith, common_steps)
-
--- it stays at a glyph that counts
-counts_here : (w : Walk) (asked : ℕ) (g : hb_glyph_info_t) → skip_of w g ≡ No → passes w (Glyph asked) g ≡ false
-unfolding passes
-counts_here w asked g counts = grind (arith, common_steps)
-
--- and does not find another glyph there
-other_misses : (w : Walk) (asked : ℕ) (g : hb_glyph_info_t) → asked ≢ g.glyph_id → matches w (Glyph asked) g ≡ false
-unfolding matches
-other_misses w asked g other = grind (arith, common_steps)
-
-at_is : (b m : Bool) (n p : ℕ) → (if b then (if m then At n else Other n) else End) ≡ At p → n ≡ p
-at_is true true n p e = cc
-at_is true false n p e = cc
-at_is false m n p e = cc
-
-place_of-not_at : (b m : Bool) (n : ℕ) → m ≡ false → place_of (if b then (if m then At n else Other n) else End) ≡ None
-place_of-not_at true m n misses = rw misses refl
-place_of-not_at false m n misses = refl
-
--- a glyph that counts and is another than one asks for
-pub place_of_kept_other : (w : Walk) (gs : List hb_glyph_info_t) (i p asked : ℕ) → next_found w Any gs i ≡ At p
-    → skip_of w (glyph_at gs p) ≡ No → asked ≢ (glyph_at gs p).glyph_id
-    → place_of (next_found w (Glyph asked) gs i) ≡ None
-unfolding next_found
-place_of_kept_other w gs i p asked found counts other =
-    let here : first_kept (passes w Any) gs (i + 1) ≡ p = at_is _ _ _ _ found in
-    let stays = subst (λ n. passes w (Glyph asked) (glyph_at gs n) ≡ false) (sym here) (counts_here w asked _ counts) in
-    let same = first_kept-same (passes w Any) (passes w (Glyph asked)) gs (i + 1) (any_passes w asked) stays in
-    let there : p ≡ first_kept (passes w (Glyph asked)) gs (i + 1) = sym (same ∙ here) in
-    let misses = subst (λ n. matches w (Glyph asked) (glyph_at gs n) ≡ false) there (other_misses w asked _ other) in
-    place_of-not_at _ _ _ misses
-
--- a glyph right behind a place that counts and is another than one asks for
-pub place_of_beside_other : (w : Walk) (gs : List hb_glyph_info_t) (i asked : ℕ) → i + 1 < length gs
-    → skip_of w (glyph_at gs (i + 1)) ≡ No → asked ≢ (glyph_at gs (i + 1)).glyph_id
-    → place_of (next_found w (Glyph asked) gs i) ≡ None
-unfolding next_found
-place_of_beside_other w gs i asked more counts other =
-    let here : first_kept (passes w (Glyph asked)) gs (i + 1) ≡ i + 1 =
-    first_kept-here (passes w (Glyph asked)) gs (i + 1) more (counts_here w asked _ counts) in
-    let misses = other_misses w asked (glyph_at gs (i + 1)) other in
-    place_of-not_at _ _ _ (subst (λ n. matches w (Glyph asked) (glyph_at gs n) ≡ false) (sym here) misses)
 
 never_if : (b : Bool) (x : Option ℕ) → x ≡ None → (if b then x else None) ≡ None
 never_if true x never = never

@@ -1,44 +1,29 @@
 -- A context by coverages does not fit where the glyph that it asks for behind the cursor does not stand there.
-use Rattle.std.proofs.Common.{◌≡◌, ◌==◌, ℕ, zero, suc, ◌+◌, ◌*◌, ◌<◌, Bool, true, false, List, [], ◌∷◌, drop, Option, Some, None, refl, arith, ap, subst, sym, ◌∙◌, inl, inr, option_map, slice_get, unwrap_or}
+use Rattle.std.proofs.Common.{◌≡◌, ℕ, zero, suc, ◌+◌, ◌*◌, ◌<◌, Bool, true, false, List, [], ◌∷◌, drop, Option, Some, None, refl, arith, ap, subst, sym, ◌∙◌, inl, inr, option_map, slice_get, unwrap_or}
 use Rattle.std.proofs.lemmas.Bool.{cases_Bool}
 use Rattle.font_tables.specs.Bytes.{number_16}
 use Rattle.font_tables.specs.declared.coverage.Coverage.{Coverage}
-use Rattle.glyph_layout.specs.Context.{IsMissed, covered_fits}
-use Rattle.glyph_layout.specs.Match.{ahead_end, match_end, next_place}
+use Rattle.glyph_layout.specs.Context.{IsMissed}
 use Rattle.glyph_layout.specs.NextAsked.{IsNextAt, ahead_number, behind_number, input_number}
-use Rattle.glyph_layout.specs.Pattern.{Pattern, chained_covered_of, chained_covered_pattern, covered_by, covered_pattern, pattern_fits, plain_covered_of, plain_covered_pattern}
-use Rattle.glyph_layout.specs.Rule.{context_walk, input_walk}
+use Rattle.glyph_layout.specs.Pattern.{Pattern, chained_covered_of, chained_covered_pattern, covered_by, covered_pattern, pattern_fits, plain_covered_of, plain_covered_pattern, rule_fits}
 use Rattle.glyph_layout.specs.declared.search.Sides.{Sides}
 use Rattle.glyph_layout.specs.declared.subtable.NextAsked.{NextAsked}
-use Rattle.glyph_layout.specs.declared.wanted.Wanted.{Wanted}
 use Rattle.glyph_layout.specs.declared.wanted.Wanted.TheVariants.{Covered}
-use Rattle.glyph_layout.proofs.AroundLemmas.{option_map-none, steps_from-none, steps_from-missing}
-use Rattle.glyph_layout.proofs.MatchLemmas.{last_place-missing, last_place_none, match_end-never}
-use Rattle.glyph_layout.proofs.PatternLemmas.{pattern_fits-ahead, pattern_fits-input}
+use Rattle.glyph_layout.proofs.PatternLemmas.{pattern_fits-no_ahead, pattern_fits-no_next}
 
 -- the second glyph of the input
 missed_input : (s : Sides) (p : Pattern) (next : NextAsked) → next.is_input ≡ true → 0 < p.input_count
     → p.input 0 ≡ Some (Covered next.coverage) → IsMissed next s → pattern_fits s p ≡ false
 missed_input s p next input some asks missed =
     let there = rw input at missed in
-    let missing : next_place (input_walk s) (p.input 0) s.input.now 0 ≡ None = rw asks there in
-    pattern_fits-input s p
-    (match_end-never s p.input p.input_count
-    (last_place-missing s p.input p.input_count 0 0 (last_place_none s p.input) some missing))
-
-match_end-one : (s : Sides) (asked : ℕ → Option Wanted) (n : ℕ) → n ≡ 0 → match_end s asked n ≡ Some 1
-match_end-one s asked n one = rw one (rw (last_place_none s asked) refl)
+    pattern_fits-no_next s p some (rw asks there)
 
 -- the first glyph behind an input of one
 missed_ahead : (s : Sides) (p : Pattern) (next : NextAsked) → next.is_input ≡ false → p.input_count ≡ 0 → 0 < p.ahead_count
     → p.ahead 0 ≡ Some (Covered next.coverage) → IsMissed next s → pattern_fits s p ≡ false
 missed_ahead s p next behind one some asks missed =
-    let step = λ (wanted : Option Wanted) (place : ℕ). next_place (context_walk s (1 == 1)) wanted s.input.now place in
     let there = rw behind at missed in
-    let missing : step (p.ahead 0) 0 ≡ None = rw asks there in
-    let none : ahead_end s p.ahead 1 p.ahead_count ≡ None =
-    option_map-none _ (steps_from-missing step p.ahead 0 p.ahead_count 0 0 (steps_from-none step p.ahead 0) some missing) in
-    pattern_fits-ahead s p 1 (match_end-one s p.input p.input_count one) none
+    pattern_fits-no_ahead s p one some (rw asks there)
 
 slice_get-head : (cs : List Coverage) (n : ℕ) → slice_get (drop n cs) 0 ≡ slice_get cs n
 slice_get-head [] zero = refl
@@ -61,7 +46,7 @@ covered_by-dropped cs first n c is = ap (option_map Covered) (slice_get-dropped 
 -- a context that is not chained
 plain_missed : (s : Sides) (cs : List Coverage) (first : ℕ) (table : List ℕ) (next : NextAsked) (o r : Option ℕ)
     → number_16 table 2 ≡ o → number_16 table 4 ≡ r → IsNextAt cs first false table next → IsMissed next s
-    → covered_fits s (plain_covered_pattern (drop first cs) table) ≡ false
+    → rule_fits s (plain_covered_pattern (drop first cs) table) ≡ false
 plain_missed s cs first table next None r e f is missed = rw e refl
 plain_missed s cs first table next (Some n) None e f is missed = rw e (rw f refl)
 plain_missed s cs first table next (Some n) (Some r) e f is missed =
@@ -100,7 +85,7 @@ chained_missed_by : (s : Sides) (cs : List Coverage) (first : ℕ) (table : List
     → number_16 table (4 + 2 * unwrap_or b 0 + 2 + 2 * unwrap_or i 0) ≡ a
     → number_16 table (4 + 2 * unwrap_or b 0 + 2 + 2 * unwrap_or i 0 + 2 + 2 * unwrap_or a 0) ≡ r
     → IsNextAt cs first true table next → IsMissed next s
-    → covered_fits s (chained_covered_pattern (drop first cs) table) ≡ false
+    → rule_fits s (chained_covered_pattern (drop first cs) table) ≡ false
 chained_missed_by s cs first table next None i a r e f g h is missed = rw e refl
 chained_missed_by s cs first table next (Some b) None a r e f g h is missed = rw e (rw f refl)
 chained_missed_by s cs first table next (Some b) (Some i) None r e f g h is missed = rw e (rw f (rw g refl))
@@ -112,9 +97,9 @@ chained_missed_by s cs first table next (Some b) (Some i) (Some a) (Some r) e f 
     rw e (rw f (rw g (rw h (chained_missed s cs first table next b i a r bn im an is missed))))
 
 -- the rule does not fit
-pub covered_fits-missed : (s : Sides) (cs : List Coverage) (first : ℕ) (chained : Bool) (table : List ℕ) (next : NextAsked)
+pub rule_fits-missed : (s : Sides) (cs : List Coverage) (first : ℕ) (chained : Bool) (table : List ℕ) (next : NextAsked)
     → IsNextAt cs first chained table next → IsMissed next s
-    → covered_fits s (covered_pattern chained (drop first cs) table) ≡ false
-covered_fits-missed s cs first true table next is missed =
+    → rule_fits s (covered_pattern chained (drop first cs) table) ≡ false
+rule_fits-missed s cs first true table next is missed =
     chained_missed_by s cs first table next _ _ _ _ refl refl refl refl is missed
-covered_fits-missed s cs first false table next is missed = plain_missed s cs first table next _ _ refl refl is missed
+rule_fits-missed s cs first false table next is missed = plain_missed s cs first table next _ _ refl refl is missed

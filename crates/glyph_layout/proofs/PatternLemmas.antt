@@ -1,9 +1,12 @@
 -- Whether a rule fits, by its parts.
-use Rattle.std.proofs.Common.{◌≡◌, ℕ, ◌&&◌, Bool, true, false, List, Option, Some, None, refl, option_and_then}
-use Rattle.glyph_layout.specs.Match.{ahead_end, behind_start, match_end}
-use Rattle.glyph_layout.specs.Pattern.{IsFitOf, Pattern, pattern_fits}
-use Rattle.glyph_layout.specs.declared.context.Fit.{Fit}
+use Rattle.std.proofs.Common.{◌≡◌, ◌==◌, ℕ, ◌<◌, ◌&&◌, Bool, true, false, Option, Some, None, refl}
+use Rattle.glyph_layout.specs.Match.{ahead_end, behind_start, match_end, next_place}
+use Rattle.glyph_layout.specs.Pattern.{Pattern, pattern_fits}
+use Rattle.glyph_layout.specs.Rule.{context_walk, input_walk}
 use Rattle.glyph_layout.specs.declared.search.Sides.{Sides}
+use Rattle.glyph_layout.specs.declared.wanted.Wanted.{Wanted}
+use Rattle.glyph_layout.proofs.AroundLemmas.{option_map-none, steps_from-none, steps_from-missing}
+use Rattle.glyph_layout.proofs.MatchLemmas.{last_place-missing, last_place_none, match_end-never}
 
 -- the input does not stand there
 pub pattern_fits-input : (s : Sides) (p : Pattern) → match_end s p.input p.input_count ≡ None → pattern_fits s p ≡ false
@@ -35,18 +38,22 @@ pattern_fits-here s p end to from input ahead behind = rw input (rw ahead (rw be
 
 pub ruleset fitting = (pattern_fits-input, pattern_fits-behind)
 
--- a rule fits the same however far others looked
-pub fit_beyond : (s : Sides) (p : Pattern) (fit : Fit) (beyond : ℕ) → IsFitOf s p fit
-    → IsFitOf s p (record fit { beyond = beyond })
-fit_beyond s p fit beyond is = record {
-  input = is.input;
-  ahead = is.ahead;
-  behind = is.behind;
-  record_count = is.record_count;
-  records = is.records;
-}
+-- the next glyph of the input is not there
+pub pattern_fits-no_next : (s : Sides) (p : Pattern) → 0 < p.input_count
+    → next_place (input_walk s) (p.input 0) s.input.now 0 ≡ None → pattern_fits s p ≡ false
+pattern_fits-no_next s p some missing =
+    pattern_fits-input s p
+    (match_end-never s p.input p.input_count
+    (last_place-missing s p.input p.input_count 0 0 (last_place_none s p.input) some missing))
 
--- the rule of a table that is there
-pub option_and_then-here : (rule : List ℕ → Option Pattern) (table : Option (List ℕ)) (t : List ℕ) (p : Pattern)
-    → table ≡ Some t → rule t ≡ Some p → option_and_then rule table ≡ Some p
-option_and_then-here rule table t p there is = rw there is
+match_end-one : (s : Sides) (asked : ℕ → Option Wanted) (n : ℕ) → n ≡ 0 → match_end s asked n ≡ Some 1
+match_end-one s asked n one = rw one (rw (last_place_none s asked) refl)
+
+-- nor is the first one behind an input of one
+pub pattern_fits-no_ahead : (s : Sides) (p : Pattern) → p.input_count ≡ 0 → 0 < p.ahead_count
+    → next_place (context_walk s true) (p.ahead 0) s.input.now 0 ≡ None → pattern_fits s p ≡ false
+pattern_fits-no_ahead s p one some missing =
+    let step = λ (wanted : Option Wanted) (place : ℕ). next_place (context_walk s (1 == 1)) wanted s.input.now place in
+    let none : ahead_end s p.ahead 1 p.ahead_count ≡ None =
+    option_map-none _ (steps_from-missing step p.ahead 0 p.ahead_count 0 0 (steps_from-none step p.ahead 0) some missing) in
+    pattern_fits-ahead s p 1 (match_end-one s p.input p.input_count one) none

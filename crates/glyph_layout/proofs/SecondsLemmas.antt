@@ -12,12 +12,12 @@ use Rattle.glyph_layout.specs.Seconds.{HasSecond, HasSecondAt, HasSecondOfEach}
 use Rattle.glyph_layout.specs.Sets.{set_at}
 use Rattle.glyph_layout.specs.Walk.{next_found}
 use Rattle.glyph_layout.specs.declared.digest.Digest.{Digest}
-use Rattle.glyph_layout.specs.declared.rule_set.Next.{Next}
+use Rattle.glyph_layout.specs.declared.neighbours.Next.{Next}
 use Rattle.glyph_layout.specs.declared.search.Sides.{Sides}
 use Rattle.glyph_layout.specs.declared.walk.Walk.{Walk}
 use Rattle.glyph_layout.specs.declared.wanted.Wanted.TheVariants.{Glyph}
-use Rattle.glyph_layout.proofs.ContextLemmas.{place_of-end}
 use Rattle.glyph_layout.proofs.MatchLemmas.{first_of-nowhere, first_of-later, ligature_at-none, ligature_at-other}
+use Rattle.glyph_layout.proofs.NeighbourLemmas.{place_of-last}
 
 not_before : (d e : Digest) (g : ℕ) → HasMore d e → may_have e g ≡ false → may_have d g ≡ false
 not_before d e g more none =
@@ -95,8 +95,7 @@ first_of-missed s set d next (suc k) has is none within =
 -- whoever asks for a glyph behind the last one does not find it
 pub place_of-past_end : (w : Walk) (gs : List hb_glyph_info_t) (i asked : ℕ) → i + 1 ≡ length gs
     → place_of (next_found w (Glyph asked) gs i) ≡ None
-unfolding next_found
-place_of-past_end w gs i asked end = place_of-end _ _ _ (grind (arith, end))
+place_of-past_end w gs i asked end = place_of-last w (Glyph asked) gs i end
 
 -- a set that is there, or not
 pub each_set : (table : List ℕ) (d e : Digest) (n index : ℕ) → ((k : ℕ) → k < n → HasSecondOfEach (set_at table k) d)

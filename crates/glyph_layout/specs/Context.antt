@@ -1,10 +1,11 @@
 -- What a rule that fits at the cursor takes of the glyphs around it, and which rules a context has.
-use Rattle.std.specs.Prelude.{ℕ, ◌+◌, ◌*◌, ◌<◌, ◌≤◌, ◌≡◌, Bool, false, IsTrue, List, drop, Option, None, Some, if◌then◌else◌, nat_lt, option_and_then, unwrap_or}
+use Rattle.std.specs.Prelude.{ℕ, ◌+◌, ◌*◌, ◌==◌, ◌<◌, ◌≤◌, ◌≡◌, Bool, List, drop, Option, None, if◌then◌else◌, nat_lt, unwrap_or}
 use Rattle.font_tables.specs.Bytes.{number_16, table_at_16}
 use Rattle.font_tables.specs.declared.coverage.Coverage.{Coverage}
 use Rattle.glyph_layout.specs.Match.{place_of}
-use Rattle.glyph_layout.specs.Pattern.{IsFitInSet, IsFitOf, Pattern, covered_pattern, pattern_fits, rule_pattern}
+use Rattle.glyph_layout.specs.Pattern.{Pattern, covered_pattern, fitting}
 use Rattle.glyph_layout.specs.Rule.{input_walk}
+use Rattle.glyph_layout.specs.RuleSet.{rule_of_set}
 use Rattle.glyph_layout.specs.Walk.{class_in, glyph_at, next_found}
 use Rattle.glyph_layout.specs.declared.context.Fit.{Fit}
 use Rattle.glyph_layout.specs.declared.rule.Meaning.{Meaning}
@@ -53,24 +54,14 @@ abbrev pub covered_rule : List Coverage → Subtable → Bool → Option Pattern
 covered_rule coverages subtable is_chained =
     covered_pattern is_chained (drop subtable.first_coverage coverages) subtable.table.now
 
--- a rule, if there is one, fits at the cursor
-abbrev pub IsFitBy : Sides → Option Pattern → Fit → Type 0
-IsFitBy sides None fit = IsTrue false
-IsFitBy sides (Some p) fit = IsFitOf sides p fit
-
--- whether a rule, if there is one, fits
-abbrev pub covered_fits : Sides → Option Pattern → Bool
-covered_fits sides None = false
-covered_fits sides (Some p) = pattern_fits sides p
-
--- a rule of a context fits at the cursor: one of the set of the coverage index (format 1), or of the class of the glyph there (format
--- 2), or the only rule, by coverages (format 3)
-pub record IsContextFit (coverages : List Coverage) (subtable : Subtable) (index : Option ℕ) (is_chained : Bool) (sides : Sides) (fit : Fit) : Type 0 where
-  pub glyphs : subtable.format ≡ 1
-      → IsFitInSet sides (rule_pattern is_chained (same_meaning Glyphs)) (option_and_then (numbered_set subtable.table.now 4) index) fit
-  pub classes : subtable.format ≡ 2
-      → IsFitInSet sides (rule_pattern is_chained (class_meanings subtable))
-      (numbered_set subtable.table.now (if is_chained then 10 else 6)
-      (class_in subtable.classes.table.now (glyph_at sides.input.now 0).glyph_id)) fit
-  pub covered : subtable.format ≡ 3 → IsFitBy sides (covered_rule coverages subtable is_chained) fit
-  pub formats : (0 < subtable.format) × (subtable.format < 4)
+-- the rule of a context that is taken at the cursor: the first of the set of the coverage index (format 1), or of the class of the glyph
+-- there (format 2), or the only rule, by coverages (format 3), if it fits
+unfoldable pub context_rule : List Coverage → Subtable → ℕ → Bool → Sides → Option Pattern
+context_rule coverages subtable index is_chained sides =
+    if subtable.format == 1
+    then rule_of_set sides is_chained (same_meaning Glyphs) (numbered_set subtable.table.now 4 index)
+    else if subtable.format == 2
+    then rule_of_set sides is_chained (class_meanings subtable)
+    (numbered_set subtable.table.now (if is_chained then 10 else 6)
+    (class_in subtable.classes.table.now (glyph_at sides.input.now 0).glyph_id))
+    else if subtable.format == 3 then fitting sides (covered_rule coverages subtable is_chained) else None

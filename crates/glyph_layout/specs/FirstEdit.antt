@@ -1,8 +1,9 @@
 -- What a lookup of `GSUB` does at the cursor: the edit of the first of its subtables that has one.
-use Rattle.std.specs.Prelude.{◌≡◌, ◌⊎◌, ◌==◌, ◌&&◌, ◌||◌, ℕ, Bool, true, false, not, List, [], ◌∷◌, Option, None, Some, IsTrue, ⊤, is_some, nat_lt, option_and_then}
+use Rattle.std.specs.Prelude.{◌≡◌, ◌⊎◌, ◌==◌, ◌&&◌, ◌||◌, ℕ, Bool, true, false, not, List, [], ◌∷◌, Option, None, Some, IsTrue, is_some, nat_lt, option_and_then}
 use Rattle.font_tables.specs.declared.coverage.Coverage.{Coverage}
-use Rattle.glyph_layout.specs.Context.{IsContextFit, covered_fits, covered_rule}
+use Rattle.glyph_layout.specs.Context.{context_rule}
 use Rattle.glyph_layout.specs.Match.{first_ligature, ligated}
+use Rattle.glyph_layout.specs.Pattern.{IsFitBy, Pattern}
 use Rattle.glyph_layout.specs.Sets.{set_at}
 use Rattle.glyph_layout.specs.Substitution.{IsMultiple, alternate_of, cursor_glyph, feature_value, replaced_by, single}
 use Rattle.glyph_layout.specs.Walk.{covered_index}
@@ -38,32 +39,30 @@ ligature_edit subtable sides =
 abbrev pub is_of_use : ℕ → Bool → Bool
 is_of_use kind is_nested = (nat_lt 0 kind && nat_lt kind 7) || ((kind == 8) && not is_nested)
 
--- a rule of a context fits at the cursor, and its lookups are applied; or nothing is said
-abbrev pub IsRuleEdit : List Coverage → Subtable → Bool → Sides → Option Edit → Type 0
-IsRuleEdit coverages subtable is_chained sides None = ⊤
-IsRuleEdit coverages subtable is_chained sides (Some (Apply fit)) =
-    IsContextFit coverages subtable (cursor_index subtable sides) is_chained sides fit
-IsRuleEdit coverages subtable is_chained sides (Some (Replace glyph)) = IsTrue false
-IsRuleEdit coverages subtable is_chained sides (Some (Choose glyphs)) = IsTrue false
-IsRuleEdit coverages subtable is_chained sides (Some (Multiply glyphs)) = IsTrue false
-IsRuleEdit coverages subtable is_chained sides (Some (Ligate ligation)) = IsTrue false
-IsRuleEdit coverages subtable is_chained sides (Some (ReplaceInPlace change)) = IsTrue false
+-- the rule of a context that is taken at the cursor
+abbrev pub context_edit : List Coverage → Subtable → Bool → Sides → Option Pattern
+context_edit coverages subtable is_chained sides =
+    option_and_then (λ index. context_rule coverages subtable index is_chained sides) (cursor_index subtable sides)
 
--- what a context does: it applies the lookups of a rule that fits, and one by coverages does so just where its only rule fits
-pub record IsContextEdit (coverages : List Coverage) (subtable : Subtable) (is_chained : Bool) (sides : Sides) (edit : Option Edit) : Type 0 where
-  pub rule : IsRuleEdit coverages subtable is_chained sides edit
-  pub covered : subtable.format ≡ 3
-      → is_some edit ≡ (is_some (cursor_index subtable sides) && covered_fits sides (covered_rule coverages subtable is_chained))
+-- the lookups of a rule, if there is one, are applied where it fits
+abbrev pub IsRuleEdit : Sides → Option Pattern → Option Edit → Type 0
+IsRuleEdit sides rule None = rule ≡ None
+IsRuleEdit sides rule (Some (Apply fit)) = IsFitBy sides rule fit
+IsRuleEdit sides rule (Some (Replace glyph)) = IsTrue false
+IsRuleEdit sides rule (Some (Choose glyphs)) = IsTrue false
+IsRuleEdit sides rule (Some (Multiply glyphs)) = IsTrue false
+IsRuleEdit sides rule (Some (Ligate ligation)) = IsTrue false
+IsRuleEdit sides rule (Some (ReplaceInPlace change)) = IsTrue false
 
 -- what a subtable does at the cursor, by its kind: a single, multiple, alternate or ligature substitution, or the lookups of the rule of
--- a context that fits
+-- a context
 pub record IsEditOf (coverages : List Coverage) (options : LookupOptions) (sides : Sides) (is_nested : Bool) (subtable : Subtable) (edit : Option Edit) : Type 0 where
   pub singles : subtable.kind ≡ 1 → edit ≡ single_edit subtable sides
   pub multiples : subtable.kind ≡ 2 → IsMultiple subtable.table.now (cursor_index subtable sides) edit
   pub alternates : subtable.kind ≡ 3 → options.random ≡ false → edit ≡ alternate_edit options subtable sides
   pub ligatures : subtable.kind ≡ 4 → ligated edit ≡ ligature_edit subtable sides
-  pub contexts : subtable.kind ≡ 5 → IsContextEdit coverages subtable false sides edit
-  pub chained_contexts : subtable.kind ≡ 6 → IsContextEdit coverages subtable true sides edit
+  pub contexts : subtable.kind ≡ 5 → IsRuleEdit sides (context_edit coverages subtable false sides) edit
+  pub chained_contexts : subtable.kind ≡ 6 → IsRuleEdit sides (context_edit coverages subtable true sides) edit
   pub others : is_of_use subtable.kind is_nested ≡ false → edit ≡ None
 
 -- the edit of the first of these subtables that has one, or none

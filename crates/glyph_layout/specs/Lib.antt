@@ -1,3 +1,4 @@
+pub mod Behind
 pub mod Budget
 pub mod Context
 pub mod Digest
@@ -8,9 +9,11 @@ pub mod GlyphTable
 pub mod LigatureParts
 pub mod Lookup
 pub mod Match
+pub mod Neighbours
 pub mod NextAsked
 pub mod Pattern
 pub mod Rule
+pub mod RuleSet
 pub mod Seconds
 pub mod Sets
 pub mod Substitution

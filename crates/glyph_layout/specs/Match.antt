@@ -9,7 +9,7 @@ use Rattle.glyph_layout.specs.Rule.{context_walk, input_walk, wanted_by}
 use Rattle.glyph_layout.specs.Walk.{glyph_at, next_found, passes_over, previous_found}
 use Rattle.glyph_layout.specs.declared.filter.Filter.{Filter}
 use Rattle.glyph_layout.specs.declared.rule.Meaning.TheVariants as rule
-use Rattle.glyph_layout.specs.declared.rule_set.Next.{Next}
+use Rattle.glyph_layout.specs.declared.neighbours.Next.{Next}
 use Rattle.glyph_layout.specs.declared.search.Sides.{Sides}
 use Rattle.glyph_layout.specs.declared.substitution.Edit.{Edit}
 use Rattle.glyph_layout.specs.declared.substitution.Edit.TheVariants.{Replace, Choose, Multiply, Ligate, Apply, ReplaceInPlace}

@@ -1,6 +1,6 @@
 -- What the rules of contexts ask of the glyphs around the cursor, by the bytes of their tables, and where these stand.
-use Rattle.std.specs.Prelude.{ℕ, ◌≡◌, ◌+◌, ◌-◌, ◌*◌, ◌<◌, ◌&&◌, Bool, List, [], drop, Option, Some, is_some, unwrap_or, option_map, option_and_then, slice_get, if◌then◌else◌}
-use Rattle.font_tables.specs.Bytes.{number_16, table_at_16}
+use Rattle.std.specs.Prelude.{ℕ, ◌≡◌, ◌+◌, ◌-◌, ◌*◌, ◌&&◌, Bool, false, IsTrue, List, [], drop, Option, None, Some, is_some, option_map, option_and_then, slice_get, if◌then◌else◌}
+use Rattle.font_tables.specs.Bytes.{number_16}
 use Rattle.font_tables.specs.declared.coverage.Coverage.{Coverage}
 use Rattle.glyph_layout.specs.Match.{ahead_end, behind_start, match_end}
 use Rattle.glyph_layout.specs.Rule.{part_wanted, wanted_by}
@@ -158,12 +158,16 @@ pub record IsFitOf (sides : Sides) (p : Pattern) (fit : Fit) : Type 0 where
   pub record_count : fit.record_count ≡ p.record_count
   pub records : fit.records.now ≡ p.records
 
--- a rule of a set, if there is one, fits at the cursor
-pub record IsFitInSet (sides : Sides) (rule : List ℕ → Option Pattern) (set : Option (List ℕ)) (fit : Fit) : Type 0 where
-  pub table : List ℕ
-  pub is_set : set ≡ Some table
-  pub number : ℕ
-  pub is_in : number < unwrap_or (number_16 table 0) 0
-  pub pattern : Pattern
-  pub is_rule : option_and_then rule (table_at_16 table (2 + 2 * number)) ≡ Some pattern
-  pub fits : IsFitOf sides pattern fit
+-- a rule, if there is one, fits at the cursor
+abbrev pub IsFitBy : Sides → Option Pattern → Fit → Type 0
+IsFitBy sides None fit = IsTrue false
+IsFitBy sides (Some p) fit = IsFitOf sides p fit
+
+-- whether a rule, if there is one, fits
+abbrev pub rule_fits : Sides → Option Pattern → Bool
+rule_fits sides None = false
+rule_fits sides (Some p) = pattern_fits sides p
+
+-- a rule, if there is one and it fits
+abbrev pub fitting : Sides → Option Pattern → Option Pattern
+fitting sides rule = if rule_fits sides rule then rule else None

@@ -3,16 +3,17 @@
 
 ghost use Rattle.std.specs.Prelude.{◌≡◌, ◌<◌, ◌≤◌, length, IfSome, IsTrue, Some, is_some, option_copied};
 ghost use Rattle.glyph_layout.specs.Budget.{IsNotMore};
-ghost use Rattle.glyph_layout.specs.Context.{IsContextFit, IsFitBy, IsFitWithin, IsMissed, class_meanings, covered_rule, next_walk};
-ghost use Rattle.glyph_layout.specs.Context.{covered_fits, numbered_set, same_meaning};
+ghost use Rattle.glyph_layout.specs.Context.{IsFitWithin, IsMissed, class_meanings, context_rule, covered_rule, next_walk};
+ghost use Rattle.glyph_layout.specs.Context.{numbered_set, same_meaning};
 ghost use Rattle.glyph_layout.specs.Forms.{is_chained_kind};
 ghost use Rattle.glyph_layout.specs.NextAsked.{IsNextOf};
+ghost use Rattle.glyph_layout.specs.Pattern.{IsFitBy, rule_fits};
 ghost use Rattle.glyph_layout.specs.Walk.{skip_of};
 ghost use Rattle.glyph_layout.specs.declared.walk.Skip.TheVariants.{No};
 
 use crate::lookup_list::LookupList;
 use crate::rule::{Meaning, Meanings, coverage_rule};
-use crate::rule_set::{first_fit, fit};
+use crate::rule_set::{RuleSet, counts_around, first_fit, fit};
 use crate::search::{Search, Sides};
 use crate::subtable::{NextAsked, Subtable};
 use crate::walk::Skip;
@@ -57,8 +58,9 @@ impl<'a> Fit<'a> {
     }
 }
 
-/// The rule of a subtable that fits at the cursor. The subtable is one of the list, and a context, chained or not; its coverage has the
-/// glyph at the cursor, at this index.
+/// The rule of a subtable that is taken at the cursor: the first of its set that fits. The subtable is one of the list, and a context,
+/// chained or not; its coverage has the glyph at the cursor, at this index.
+#[tactic(auto, using(crate::proofs::ContextLemmas::formats))]
 pub fn fitting_rule<'a>(
     list: &'a LookupList<'a>,
     subtable: &Subtable<'a>,
@@ -71,19 +73,22 @@ pub fn fitting_rule<'a>(
     ensures spent { IsNotMore search.old.budget search.new.budget }
     ensures fits { IfSome result (IsFitWithin (length sides.now.out.now) (length sides.now.input.now)) }
     ensures rule { IfSome result
-        (IsContextFit list.now.coverages.items subtable.now (Some index) is_chained sides.now) }
-    ensures exact { subtable.now.format ≡ 3 → is_chained ≡ is_chained_kind subtable.now.kind
+        (IsFitBy sides.now (context_rule list.now.coverages.items subtable.now index is_chained sides.now)) }
+    ensures exact { is_chained ≡ is_chained_kind subtable.now.kind
         → IsNextOf list.now.coverages.items subtable.now → 0 < search.new.budget.steps
-        → is_some result ≡ covered_fits sides.now (covered_rule list.now.coverages.items subtable.now is_chained) }
+        → is_some result ≡ is_some (context_rule list.now.coverages.items subtable.now index is_chained sides.now) }
 {
     let table = subtable.table;
     match subtable.format {
         1 => {
             let set = set_at(table, 4, index)?;
+            let meanings = same_meaning(Meaning::Glyphs);
             first_fit(
-                set,
-                &same_meaning(Meaning::Glyphs),
-                is_chained,
+                &RuleSet {
+                    table: set,
+                    meanings,
+                    is_chained,
+                },
                 sides,
                 search,
             )
@@ -91,7 +96,16 @@ pub fn fitting_rule<'a>(
         2 => {
             let class = class_of(&subtable.classes, sides.input[0].glyph_id);
             let set = set_at(table, if is_chained { 10 } else { 6 }, u32::from(class))?;
-            first_fit(set, &class_meanings(subtable), is_chained, sides, search)
+            let meanings = class_meanings(subtable);
+            first_fit(
+                &RuleSet {
+                    table: set,
+                    meanings,
+                    is_chained,
+                },
+                sides,
+                search,
+            )
         }
         3 => covered_fit(list, subtable, is_chained, sides, search),
         _ => None,
@@ -112,7 +126,7 @@ fn covered_fit<'a>(
     ensures rule { IfSome result (IsFitBy sides.now (covered_rule list.now.coverages.items subtable.now is_chained)) }
     ensures exact { is_chained ≡ is_chained_kind subtable.now.kind → IsNextOf list.now.coverages.items subtable.now
         → 0 < search.new.budget.steps
-        → is_some result ≡ covered_fits sides.now (covered_rule list.now.coverages.items subtable.now is_chained) }
+        → is_some result ≡ rule_fits sides.now (covered_rule list.now.coverages.items subtable.now is_chained) }
 {
     if let Some(next) = &subtable.next
         && let Some(to) = missed_next(next, sides)
@@ -139,7 +153,7 @@ fn counts_next(next: &NextAsked, sides: &Sides, glyph: &hb_glyph_info_t) -> bool
     if next.is_input {
         sides.walk.skip(glyph) == Skip::No
     } else {
-        sides.context.skip(glyph) == Skip::No
+        counts_around(sides, glyph)
     }
 }
 

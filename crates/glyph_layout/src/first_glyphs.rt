@@ -1,4 +1,4 @@
-//! The first 256 glyphs of a font, which a digest has few rows for: in most fonts the letters of Latin are there.
+//! The first 256 glyphs of a font, told apart, which a digest does not do.
 
 ghost use Rattle.std.specs.Prelude.{ℕ, ◌≡◌, ◌<◌, ◌≤◌, ◌+◌, true};
 ghost use Rattle.glyph_layout.specs.Digest.{has_row};

@@ -1,18 +1,24 @@
 //! The rules of a set, of which the first that fits is taken.
 
-ghost use Rattle.std.specs.Prelude.{◌≡◌, ◌<◌, ◌≤◌, length, IfSome, Some, is_some};
+ghost use Rattle.std.specs.Prelude.{◌≡◌, ◌<◌, ◌≤◌, ◌||◌, not, Bool, true, false, length, IfSome, IsTrue, Some, is_some};
+ghost use Rattle.glyph_layout.specs.Behind.{IsBehindOf, IsSeenBehind, first_ahead};
 ghost use Rattle.glyph_layout.specs.Budget.{IsNotMore};
 ghost use Rattle.glyph_layout.specs.Context.{IsFitWithin};
-ghost use Rattle.glyph_layout.specs.Match.{IsNext};
-ghost use Rattle.glyph_layout.specs.Pattern.{IsFitInSet, IsFitOf, pattern_fits, pattern_of, rule_pattern};
-ghost use Rattle.glyph_layout.specs.Rule.{ArePlaces, input_walk, part_wanted};
+ghost use Rattle.glyph_layout.specs.Neighbours.{may_fit};
+ghost use Rattle.glyph_layout.specs.Pattern.{IsFitBy, IsFitOf, Pattern, pattern_fits, pattern_of, rule_fits, rule_pattern};
+ghost use Rattle.glyph_layout.specs.Rule.{ArePlaces, context_walk, input_walk, part_wanted};
+ghost use Rattle.glyph_layout.specs.RuleSet.{fits_next, looks_first, rule_at, rule_count, rule_of_set};
+ghost use Rattle.glyph_layout.specs.Walk.{skip_of};
+ghost use Rattle.glyph_layout.specs.declared.rule.Meanings.{Meanings};
+ghost use Rattle.glyph_layout.specs.declared.walk.Skip.TheVariants.{No};
 
 use crate::context::Fit;
 use crate::matching::{match_ahead, match_behind, match_input};
-use crate::rule::{Meaning, Meanings, Part, Rule, rule_in};
+use crate::neighbours::{Beyond, Neighbours, may_fit, seen_ahead};
+use crate::rule::{Meaning, Meanings, Rule, rule_in};
 use crate::search::{Search, Sides};
-use crate::walk::{Found, Skip, Walk};
-use crate::wanted::{Wanted, class_of};
+use crate::walk::Skip;
+use crate::wanted::class_of;
 use font_tables::bytes::{table_at_16, u16_at};
 use rb_glyph::hb_glyph_info_t;
 
@@ -62,37 +68,52 @@ pub(crate) fn fit<'a>(rule: &Rule<'a>, sides: &Sides, search: &mut Search) -> Op
     }
 }
 
+/// A set of rules.
+#[derive(Clone, Copy, Debug)]
+pub(crate) struct RuleSet<'a> {
+    /// Its table.
+    pub(crate) table: &'a [u8],
+    /// What the numbers of its rules mean.
+    pub(crate) meanings: Meanings<'a>,
+    /// Whether its rules have parts before and behind the input.
+    pub(crate) is_chained: bool,
+}
+
+/// What stands behind the cursor, looked at once for all rules of a set.
+#[derive(Clone, Copy, Debug)]
+struct Seen {
+    /// The next two glyphs of the input, for a set of more than four rules.
+    ahead: Neighbours,
+    /// The glyph behind the cursor, for a set of few chained rules.
+    behind: Option<Behind>,
+}
+
 /// The first rule of a set that fits.
+#[tactic(auto, using(crate::proofs::RuleSetLemmas::first_steps))]
 pub(crate) fn first_fit<'a>(
-    set: &'a [u8],
-    meanings: &Meanings<'a>,
-    is_chained: bool,
+    rules: &RuleSet<'a>,
     sides: &Sides,
     search: &mut Search,
 ) -> Option<Fit<'a>>
     requires { 0 < length sides.now.input.now }
     ensures spent { IsNotMore search.old.budget search.new.budget }
     ensures fits { IfSome result (IsFitWithin (length sides.now.out.now) (length sides.now.input.now)) }
-    ensures rule { IfSome result (IsFitInSet sides.now (rule_pattern is_chained meanings.now) (Some set.now)) }
+    ensures rule { IfSome result
+        (IsFitBy sides.now (rule_of_set sides.now rules.now.is_chained rules.now.meanings (Some rules.now.table.now))) }
+    ensures exact { 0 < search.new.budget.steps → is_some result
+        ≡ is_some (rule_of_set sides.now rules.now.is_chained rules.now.meanings (Some rules.now.table.now)) }
 {
-    let count = usize::from(u16_at(set, 0)?);
-    let ahead = if count > 4 {
-        next_two(sides, is_chained)
-    } else {
-        Neighbours::Unknown
+    let count = usize::from(u16_at(rules.table, 0)?);
+    let seen = Seen {
+        ahead: seen_ahead(count, rules.is_chained, sides),
+        behind: seen_by_few(count, rules, sides),
     };
-    let behind = seen_by_few(count, meanings, is_chained, sides);
-    let mut beyond = Beyond::new(&ahead, is_chained);
+    let mut beyond = Beyond::new(&seen.ahead, rules.is_chained);
     for index in 0..count {
         if !search.budget.pay(1) {
             return None;
         }
-        if let Some(table) = table_at_16(set, 2 + 2 * index)
-            && !is_missed(table, &behind, sides, search)
-            && let Some(rule) = rule_in(table, meanings, is_chained)
-            && may_fit(&rule, &ahead, &mut beyond)
-            && let Some(found) = fit(&rule, sides, search)
-        {
+        if let Some(found) = fit_at(rules, index, &seen, &mut beyond, sides, search) {
             return Some(Fit {
                 beyond: beyond.to,
                 ..found
@@ -103,29 +124,65 @@ pub(crate) fn first_fit<'a>(
     None
 }
 
+/// The rule of this number in a set, if it fits. One that asks for other glyphs behind the cursor is not tried.
+#[tactic(auto, using(crate::proofs::RuleSetLemmas::at_steps))]
+fn fit_at<'a>(
+    rules: &RuleSet<'a>,
+    index: usize,
+    seen: &Seen,
+    beyond: &mut Beyond,
+    sides: &Sides,
+    search: &mut Search,
+) -> Option<Fit<'a>>
+    requires some { 0 < length sides.now.input.now }
+    requires few { index < 65536 }
+    requires ahead { (p : Pattern) → may_fit seen.now.ahead p
+        ≡ (not (looks_first sides.now rules.now.is_chained (rule_count rules.now.table.now)) || fits_next sides.now p) }
+    requires behind { IfSome seen.now.behind (IsBehindOf sides.now rules.now.is_chained rules.now.meanings) }
+    ensures spent { IsNotMore search.old.budget search.new.budget }
+    ensures fits { IfSome result (IsFitWithin (length sides.now.out.now) (length sides.now.input.now)) }
+    ensures rule { IfSome result
+        (IsFitBy sides.now (rule_at sides.now rules.now.is_chained rules.now.meanings rules.now.table.now index)) }
+    ensures exact { 0 < search.new.budget.steps → is_some result
+        ≡ is_some (rule_at sides.now rules.now.is_chained rules.now.meanings rules.now.table.now index) }
+{
+    let table = table_at_16(rules.table, 2 + 2 * index)?;
+    if is_missed(table, &seen.behind, sides, search) {
+        return None;
+    }
+    let rule = rule_in(table, &rules.meanings, rules.is_chained)?;
+    if !may_fit(&rule, &seen.ahead, beyond) {
+        return None;
+    }
+    fit(&rule, sides, search)
+}
+
 /// What stands behind the glyph at the cursor, in the numbers of rules that ask for it behind their input.
 #[derive(Clone, Copy, Debug)]
 struct Behind {
     /// The number that a rule has to ask for; none where no rule fits.
-    number: Option<u16>,
+    number: Option<u32>,
     /// How far glyphs were looked at.
     end: usize,
 }
 
 /// What stands behind the glyph at the cursor, for a set of few chained rules.
-fn seen_by_few(count: usize, meanings: &Meanings, is_chained: bool, sides: &Sides) -> Option<Behind>
+fn seen_by_few(count: usize, rules: &RuleSet, sides: &Sides) -> Option<Behind>
     requires { 0 < length sides.now.input.now }
+    ensures { IfSome result (IsBehindOf sides.now rules.now.is_chained rules.now.meanings) }
 {
-    if count <= 4 && is_chained {
-        seen_behind(&meanings.ahead, sides)
+    if count <= 4 && rules.is_chained {
+        seen_behind(&rules.meanings.ahead, sides)
     } else {
         None
     }
 }
 
 /// What stands behind the glyph at the cursor, where it counts whatever is asked for, or where there is nothing.
+#[tactic(auto, using(crate::proofs::BehindLemmas::seen))]
 fn seen_behind(ahead: &Meaning, sides: &Sides) -> Option<Behind>
     requires { 0 < length sides.now.input.now }
+    ensures { IfSome result (IsSeenBehind sides.now ahead.now) }
 {
     if sides.input.len() == 1 {
         return Some(Behind {
@@ -134,12 +191,12 @@ fn seen_behind(ahead: &Meaning, sides: &Sides) -> Option<Behind>
         });
     }
     let glyph = &sides.input[1];
-    if sides.context.skip(glyph) != Skip::No {
+    if !counts_around(sides, glyph) {
         return None;
     }
     let number = match *ahead {
-        Meaning::Glyphs => u16::try_from(glyph.glyph_id).ok(),
-        Meaning::Classes(classes) => Some(class_of(&classes, glyph.glyph_id)),
+        Meaning::Glyphs => Some(glyph.glyph_id),
+        Meaning::Classes(classes) => Some(u32::from(class_of(&classes, glyph.glyph_id))),
         Meaning::Coverages(_) => return None,
     };
     Some(Behind {
@@ -152,15 +209,27 @@ fn seen_behind(ahead: &Meaning, sides: &Sides) -> Option<Behind>
     })
 }
 
+/// Whether a glyph counts for the walk over the glyphs around a match, whatever is asked for.
+#[tactic(auto, using(crate::proofs::ContextLemmas::skip_of_around))]
+pub(crate) fn counts_around(sides: &Sides, glyph: &hb_glyph_info_t) -> bool
+    ensures { IsTrue result → skip_of (context_walk sides.now true) glyph.now ≡ No }
+{
+    sides.context.skip(glyph) == Skip::No
+}
+
 /// Whether a chained rule asks for something else behind its only glyph than what stands there.
 fn is_missed(table: &[u8], behind: &Option<Behind>, sides: &Sides, search: &mut Search) -> bool
-    ensures { IsNotMore search.old.budget search.new.budget }
+    ensures spent { IsNotMore search.old.budget search.new.budget }
+    ensures missed { IsTrue result → (chained : Bool) → (meanings : Meanings) → IfSome behind.now (IsBehindOf sides.now chained meanings)
+        → rule_fits sides.now (rule_pattern chained meanings table.now) ≡ false }
 {
     let Some(behind) = *behind else {
         return false;
     };
-    let asked = first_ahead(table);
-    if asked.is_none() || asked == behind.number {
+    let Some(asked) = first_ahead(table) else {
+        return false;
+    };
+    if behind.number == Some(u32::from(asked)) {
         return false;
     }
     search.budget.pay(1);
@@ -169,172 +238,12 @@ fn is_missed(table: &[u8], behind: &Option<Behind>, sides: &Sides, search: &mut 
 }
 
 /// The first number behind the input of a chained rule whose input is a single glyph, if it has one there.
-fn first_ahead(table: &[u8]) -> Option<u16> {
+fn first_ahead(table: &[u8]) -> Option<u16>
+    ensures { result ≡ first_ahead table.now }
+{
     let input_at = 2 + 2 * usize::from(u16_at(table, 0)?);
     if u16_at(table, input_at)? > 1 || u16_at(table, input_at + 2)? == 0 {
         return None;
     }
     u16_at(table, input_at + 4)
-}
-
-/// A glyph behind the cursor.
-#[derive(Clone, Copy, Debug)]
-pub(crate) struct Next {
-    /// The glyph.
-    pub(crate) glyph: u32,
-    /// The place behind it.
-    pub(crate) end: usize,
-}
-
-impl Next {
-    /// Whether a glyph stands there.
-    pub(crate) fn is_there(&self) -> bool {
-        self.glyph != NO_GLYPH
-    }
-}
-
-/// The glyphs behind the cursor, looked at once for many rules.
-#[derive(Clone, Copy, Debug)]
-enum Neighbours {
-    /// They were not looked at.
-    Unknown,
-    /// There is none.
-    None,
-    /// The next glyph, and the one behind it, if it counts.
-    Some(Next, Option<Next>),
-}
-
-/// How far the glyphs were looked at for rules that were not tried.
-#[derive(Clone, Copy, Debug)]
-struct Beyond {
-    to: usize,
-}
-
-impl Beyond {
-    /// Before the first rule. HarfBuzz has seen the next glyph by then, where the rules have no context.
-    fn new(ahead: &Neighbours, is_chained: bool) -> Self {
-        match *ahead {
-            Neighbours::Some(next, _) if !is_chained => Beyond { to: next.end },
-            _ => Beyond { to: 0 },
-        }
-    }
-}
-
-/// The glyphs behind the cursor, where each of them counts.
-fn next_two(sides: &Sides, is_chained: bool) -> Neighbours
-    requires { 0 < length sides.now.input.now }
-{
-    if is_chained && !(sides.context.ignores_zwnj && sides.walk.ignores_zwj) {
-        return Neighbours::Unknown;
-    }
-    let walk = sides.input_walk();
-    let Found::At(first) = walk.next(&Wanted::Any, sides.input, 0) else {
-        return Neighbours::None;
-    };
-    if walk.skip(&sides.input[first]) != Skip::No {
-        return Neighbours::Unknown;
-    }
-    let next = Next {
-        glyph: sides.input[first].glyph_id,
-        end: first + 1,
-    };
-    Neighbours::Some(next, next_kept(&walk, sides.input, first))
-}
-
-/// The next glyph behind a place, if it counts whatever is asked for.
-#[tactic(auto, using(crate::proofs::MatchLemmas::place_of_kept_other))]
-pub(crate) fn next_kept(walk: &Walk, glyphs: &[hb_glyph_info_t], place: usize) -> Option<Next>
-    requires { place < length glyphs.now }
-    ensures { IfSome result (IsNext walk.now glyphs.now place) }
-{
-    if let Some(next) = next_beside(walk, glyphs, place) {
-        return Some(next);
-    }
-    let Found::At(next) = walk.next(&Wanted::Any, glyphs, place) else {
-        return None;
-    };
-    if walk.skip(&glyphs[next]) != Skip::No {
-        return None;
-    }
-    Some(Next {
-        glyph: glyphs[next].glyph_id,
-        end: next + 1,
-    })
-}
-
-/// The glyph right behind a place, if it counts whatever is asked for.
-#[tactic(auto, using(crate::proofs::MatchLemmas::place_of_beside_other))]
-fn next_beside(walk: &Walk, glyphs: &[hb_glyph_info_t], place: usize) -> Option<Next>
-    requires { place < length glyphs.now }
-    ensures { IfSome result (IsNext walk.now glyphs.now place) }
-{
-    if place + 1 >= glyphs.len() {
-        return None;
-    }
-    let beside = &glyphs[place + 1];
-    if walk.skip(beside) != Skip::No || !walk.is_within(beside) {
-        return None;
-    }
-    Some(Next {
-        glyph: beside.glyph_id,
-        end: place + 2,
-    })
-}
-
-/// No glyph of a font has this number.
-const NO_GLYPH: u32 = u32::MAX;
-
-/// The next glyph behind a place, if it counts whatever is asked for; behind the last place a glyph that nobody asks for.
-pub(crate) fn next_seen(walk: &Walk, glyphs: &[hb_glyph_info_t], place: usize) -> Option<Next>
-    requires { place < length glyphs.now }
-    ensures { IfSome result (IsNext walk.now glyphs.now place) }
-{
-    if place + 1 == glyphs.len() {
-        return Some(Next {
-            glyph: NO_GLYPH,
-            end: glyphs.len(),
-        });
-    }
-    next_kept(walk, glyphs, place)
-}
-
-/// Whether a rule may fit, by the next two glyphs.
-fn may_fit(rule: &Rule, ahead: &Neighbours, beyond: &mut Beyond) -> bool {
-    match *ahead {
-        Neighbours::Unknown => true,
-        Neighbours::None => rule.input.count == 0 && rule.ahead.count == 0,
-        Neighbours::Some(first, second) => {
-            if !fits_at(rule, 0, first.glyph) {
-                if beyond.to == 0 {
-                    beyond.to = first.end;
-                }
-                return false;
-            }
-            let Some(second) = second else {
-                return true;
-            };
-            if fits_at(rule, 1, second.glyph) {
-                return true;
-            }
-            beyond.to = second.end;
-            false
-        }
-    }
-}
-
-/// Whether a glyph is what a rule asks for at this number behind the cursor, if it asks for anything there.
-fn fits_at(rule: &Rule, number: u16, glyph: u32) -> bool {
-    if number < rule.input.count {
-        return asks_for(&rule.input, number, glyph);
-    }
-    let number = number - rule.input.count;
-    number >= rule.ahead.count || asks_for(&rule.ahead, number, glyph)
-}
-
-/// Whether a glyph is what a part asks for.
-fn asks_for(part: &Part, number: u16, glyph: u32) -> bool {
-    match part.wanted(number) {
-        Some(wanted) => wanted.fits(glyph),
-        None => false,
-    }
 }

@@ -1,5 +1,9 @@
+use Rattle.std.proofs.Common.{◌≡◌, ◌<◌, None}
 use Rattle.glyph_layout.specs.Budget.{IsNotMore}
+use Rattle.glyph_layout.specs.RuleSet.{first_rule}
 use Rattle.glyph_layout.proofs.rule_set.first_fit.Given as goal
 
 abbrev pub invariant-loop-index : goal.invariant-loop-index
-invariant-loop-index l = IsNotMore l.fn.search.budget l.search.budget
+invariant-loop-index l =
+    IsNotMore l.fn.search.budget l.search.budget
+    × (0 < l.search.budget.steps → first_rule l.sides l.rules.is_chained l.rules.meanings l.rules.table.now l.index ≡ None)

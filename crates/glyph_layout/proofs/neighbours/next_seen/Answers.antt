@@ -1,7 +1,7 @@
 use Rattle.std.proofs.Common.{◌≡◌, ◌+◌, length, arith}
 use Rattle.std.proofs.lemmas.Grind.{common_steps}
 use Rattle.glyph_layout.proofs.SecondsLemmas.{place_of-past_end}
-use Rattle.glyph_layout.proofs.rule_set.next_seen.Goals as goal
+use Rattle.glyph_layout.proofs.neighbours.next_seen.Goals as goal
 
 pub returns-then-place-glyphs : goal.returns-then-place-glyphs
 returns-then-place-glyphs c = λ asked other.

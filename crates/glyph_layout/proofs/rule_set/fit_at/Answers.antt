@@ -1,0 +1,23 @@
+use Rattle.std.proofs.Common.{◌∙◌, ap, is_some, option_map, sym}
+use Rattle.std.specs.Prelude.{option_copied}
+use Rattle.glyph_layout.specs.Pattern.{pattern_of}
+use Rattle.glyph_layout.proofs.RuleSetLemmas.{rule_at-passed, rules_fit}
+use Rattle.glyph_layout.proofs.rule_set.fit_at.Goals as goal
+
+pub returns-then-not-may_fit-clause-exact : goal.returns-then-not-may_fit-clause-exact
+returns-then-not-may_fit-clause-exact c some =
+    let p = pattern_of c.in_ok-rule.rule in
+    let table = sym c.table_at_16.ensures ∙ ap option_copied c.in_ok-table.was in
+    let rule = sym c.rule_in.ensures ∙ ap (option_map pattern_of) c.in_ok-rule.was in
+    let other = sym (c.requires.ahead p) ∙ (sym c.may_fit.ensures ∙ c.if-not-may_fit.true) in
+    sym (ap is_some (rule_at-passed c.args.sides.now c.args.rules.now.is_chained c.args.rules.now.meanings
+    c.args.rules.now.table.now _ c.args.index p table rule other))
+
+pub returns-clause-rule : goal.returns-clause-rule
+returns-clause-rule c =
+    let p = pattern_of c.in_ok-rule.rule in
+    let table = sym c.table_at_16.ensures ∙ ap option_copied c.in_ok-table.was in
+    let rule = sym c.rule_in.ensures ∙ ap (option_map pattern_of) c.in_ok-rule.was in
+    let next = sym (c.requires.ahead p) ∙ (sym c.may_fit.ensures ∙ c.if-not-may_fit.false) in
+    rules_fit c.args.sides.now c.args.rules.now.is_chained c.args.rules.now.meanings
+    c.args.rules.now.table.now _ c.args.index p c.fit.result table rule next c.fit.ensures.is
