@@ -16,6 +16,7 @@ pub mod glyph_table;
 pub mod ligature_parts;
 pub mod lookup_list;
 mod matching;
+mod neighbours;
 mod rule;
 mod rule_set;
 pub mod search;

@@ -7,7 +7,7 @@ use crate::font_tables::bytes::{table_at_16, u16_at};
 use crate::glyph::hb_glyph_info_t;
 use crate::glyph_layout::lookup_list::LookupList;
 use crate::glyph_layout::rule::{Meaning, Meanings, coverage_rule};
-use crate::glyph_layout::rule_set::{first_fit, fit};
+use crate::glyph_layout::rule_set::{RuleSet, counts_around, first_fit, fit};
 use crate::glyph_layout::search::{Search, Sides};
 use crate::glyph_layout::subtable::{NextAsked, Subtable};
 use crate::glyph_layout::walk::Skip;
@@ -55,8 +55,9 @@ impl<'a> Fit<'a> {
     }
 }
 
-/// The rule of a subtable that fits at the cursor. The subtable is one of the list, and a context,
-/// chained or not; its coverage has the glyph at the cursor, at this index.
+/// The rule of a subtable that is taken at the cursor: the first of its set that fits. The subtable is
+/// one of the list, and a context, chained or not; its coverage has the glyph at the cursor, at this
+/// index.
 ///
 /// # Requires
 ///
@@ -68,12 +69,11 @@ impl<'a> Fit<'a> {
 /// ensures spent { IsNotMore search.old.budget search.new.budget }
 /// ensures fits { IfSome result (IsFitWithin (length sides.now.out.now) (length sides.now.input.now)) }
 /// ensures rule { IfSome result
-///     (IsContextFit list.now.coverages.items subtable.now (Some index) is_chained sides.now) }
-/// ensures exact { subtable.now.format ≡ 3 → is_chained ≡ is_chained_kind subtable.now.kind
+///     (IsFitBy sides.now (context_rule list.now.coverages.items subtable.now index is_chained sides.now)) }
+/// ensures exact { is_chained ≡ is_chained_kind subtable.now.kind
 ///     → IsNextOf list.now.coverages.items subtable.now → 0 < search.new.budget.steps
-///     → is_some result ≡ covered_fits sides.now (covered_rule list.now.coverages.items subtable.now is_chained) }
+///     → is_some result ≡ is_some (context_rule list.now.coverages.items subtable.now index is_chained sides.now) }
 /// ```
-#[inline]
 pub fn fitting_rule<'a>(
     list: &'a LookupList<'a>,
     subtable: &Subtable<'a>,
@@ -86,10 +86,13 @@ pub fn fitting_rule<'a>(
     match subtable.format {
         1 => {
             let set = set_at(table, 4, index)?;
+            let meanings = same_meaning(Meaning::Glyphs);
             first_fit(
-                set,
-                &same_meaning(Meaning::Glyphs),
-                is_chained,
+                &RuleSet {
+                    table: set,
+                    meanings,
+                    is_chained,
+                },
                 sides,
                 search,
             )
@@ -97,7 +100,16 @@ pub fn fitting_rule<'a>(
         2 => {
             let class = class_of(&subtable.classes, sides.input[0].glyph_id);
             let set = set_at(table, if is_chained { 10 } else { 6 }, u32::from(class))?;
-            first_fit(set, &class_meanings(subtable), is_chained, sides, search)
+            let meanings = class_meanings(subtable);
+            first_fit(
+                &RuleSet {
+                    table: set,
+                    meanings,
+                    is_chained,
+                },
+                sides,
+                search,
+            )
         }
         3 => covered_fit(list, subtable, is_chained, sides, search),
         _ => None,
@@ -140,7 +152,7 @@ fn counts_next(next: &NextAsked, sides: &Sides, glyph: &hb_glyph_info_t) -> bool
     if next.is_input {
         sides.walk.skip(glyph) == Skip::No
     } else {
-        sides.context.skip(glyph) == Skip::No
+        counts_around(sides, glyph)
     }
 }
 

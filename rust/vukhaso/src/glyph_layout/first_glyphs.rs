@@ -1,6 +1,6 @@
 // Written by tools/plain_rust from crates/glyph_layout. Do not edit.
 
-//! The first 256 glyphs of a font, which a digest has few rows for: in most fonts the letters of Latin are there.
+//! The first 256 glyphs of a font, told apart, which a digest does not do.
 
 use crate::glyph_layout::digest::{has_row, with_all, with_rows};
 use crate::glyph_layout::summary::Summary;

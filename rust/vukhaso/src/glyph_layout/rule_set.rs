@@ -6,10 +6,11 @@ use crate::font_tables::bytes::{table_at_16, u16_at};
 use crate::glyph::hb_glyph_info_t;
 use crate::glyph_layout::context::Fit;
 use crate::glyph_layout::matching::{match_ahead, match_behind, match_input};
-use crate::glyph_layout::rule::{Meaning, Meanings, Part, Rule, rule_in};
+use crate::glyph_layout::neighbours::{Beyond, Neighbours, may_fit, seen_ahead};
+use crate::glyph_layout::rule::{Meaning, Meanings, Rule, rule_in};
 use crate::glyph_layout::search::{Search, Sides};
-use crate::glyph_layout::walk::{Found, Skip, Walk};
-use crate::glyph_layout::wanted::{Wanted, class_of};
+use crate::glyph_layout::walk::Skip;
+use crate::glyph_layout::wanted::class_of;
 
 /// The rule, if it fits at the cursor.
 ///
@@ -49,36 +50,47 @@ pub(crate) fn fit<'a>(rule: &Rule<'a>, sides: &Sides, search: &mut Search) -> Op
     }
 }
 
+/// A set of rules.
+#[derive(Clone, Copy, Debug)]
+pub(crate) struct RuleSet<'a> {
+    /// Its table.
+    pub(crate) table: &'a [u8],
+    /// What the numbers of its rules mean.
+    pub(crate) meanings: Meanings<'a>,
+    /// Whether its rules have parts before and behind the input.
+    pub(crate) is_chained: bool,
+}
+
+/// What stands behind the cursor, looked at once for all rules of a set.
+#[derive(Clone, Copy, Debug)]
+struct Seen {
+    /// The next two glyphs of the input, for a set of more than four rules.
+    ahead: Neighbours,
+    /// The glyph behind the cursor, for a set of few chained rules.
+    behind: Option<Behind>,
+}
+
 /// The first rule of a set that fits.
 ///
 /// # Requires
 ///
 /// - `0 < length sides.now.input.now`
 pub(crate) fn first_fit<'a>(
-    set: &'a [u8],
-    meanings: &Meanings<'a>,
-    is_chained: bool,
+    rules: &RuleSet<'a>,
     sides: &Sides,
     search: &mut Search,
 ) -> Option<Fit<'a>> {
-    let count = usize::from(u16_at(set, 0)?);
-    let ahead = if count > 4 {
-        next_two(sides, is_chained)
-    } else {
-        Neighbours::Unknown
+    let count = usize::from(u16_at(rules.table, 0)?);
+    let seen = Seen {
+        ahead: seen_ahead(count, rules.is_chained, sides),
+        behind: seen_by_few(count, rules, sides),
     };
-    let behind = seen_by_few(count, meanings, is_chained, sides);
-    let mut beyond = Beyond::new(&ahead, is_chained);
+    let mut beyond = Beyond::new(&seen.ahead, rules.is_chained);
     for index in 0..count {
         if !search.budget.pay(1) {
             return None;
         }
-        if let Some(table) = table_at_16(set, 2 + 2 * index)
-            && !is_missed(table, &behind, sides, search)
-            && let Some(rule) = rule_in(table, meanings, is_chained)
-            && may_fit(&rule, &ahead, &mut beyond)
-            && let Some(found) = fit(&rule, sides, search)
-        {
+        if let Some(found) = fit_at(rules, index, &seen, &mut beyond, sides, search) {
             return Some(Fit {
                 beyond: beyond.to,
                 ..found
@@ -89,11 +101,40 @@ pub(crate) fn first_fit<'a>(
     None
 }
 
+/// The rule of this number in a set, if it fits. One that asks for other glyphs behind the cursor is
+/// not tried.
+///
+/// # Requires
+///
+/// - `some: 0 < length sides.now.input.now`
+/// - `few: index < 65536`
+/// - `ahead: (p : Pattern) → may_fit seen.now.ahead p ≡ (not (looks_first sides.now rules.now.is_chained (rule_count rules.now.table.now)) || fits_next sides.now p)`
+/// - `behind: IfSome seen.now.behind (IsBehindOf sides.now rules.now.is_chained rules.now.meanings)`
+fn fit_at<'a>(
+    rules: &RuleSet<'a>,
+    index: usize,
+    seen: &Seen,
+    beyond: &mut Beyond,
+    sides: &Sides,
+    search: &mut Search,
+) -> Option<Fit<'a>> {
+    debug_assert!(index < 65536);
+    let table = table_at_16(rules.table, 2 + 2 * index)?;
+    if is_missed(table, &seen.behind, sides, search) {
+        return None;
+    }
+    let rule = rule_in(table, &rules.meanings, rules.is_chained)?;
+    if !may_fit(&rule, &seen.ahead, beyond) {
+        return None;
+    }
+    fit(&rule, sides, search)
+}
+
 /// What stands behind the glyph at the cursor, in the numbers of rules that ask for it behind their input.
 #[derive(Clone, Copy, Debug)]
 struct Behind {
     /// The number that a rule has to ask for; none where no rule fits.
-    number: Option<u16>,
+    number: Option<u32>,
     /// How far glyphs were looked at.
     end: usize,
 }
@@ -103,14 +144,9 @@ struct Behind {
 /// # Requires
 ///
 /// - `0 < length sides.now.input.now`
-fn seen_by_few(
-    count: usize,
-    meanings: &Meanings,
-    is_chained: bool,
-    sides: &Sides,
-) -> Option<Behind> {
-    if count <= 4 && is_chained {
-        seen_behind(&meanings.ahead, sides)
+fn seen_by_few(count: usize, rules: &RuleSet, sides: &Sides) -> Option<Behind> {
+    if count <= 4 && rules.is_chained {
+        seen_behind(&rules.meanings.ahead, sides)
     } else {
         None
     }
@@ -130,12 +166,12 @@ fn seen_behind(ahead: &Meaning, sides: &Sides) -> Option<Behind> {
         });
     }
     let glyph = &sides.input[1];
-    if sides.context.skip(glyph) != Skip::No {
+    if !counts_around(sides, glyph) {
         return None;
     }
     let number = match *ahead {
-        Meaning::Glyphs => u16::try_from(glyph.glyph_id).ok(),
-        Meaning::Classes(classes) => Some(class_of(&classes, glyph.glyph_id)),
+        Meaning::Glyphs => Some(glyph.glyph_id),
+        Meaning::Classes(classes) => Some(u32::from(class_of(&classes, glyph.glyph_id))),
         Meaning::Coverages(_) => return None,
     };
     Some(Behind {
@@ -148,13 +184,20 @@ fn seen_behind(ahead: &Meaning, sides: &Sides) -> Option<Behind> {
     })
 }
 
+/// Whether a glyph counts for the walk over the glyphs around a match, whatever is asked for.
+pub(crate) fn counts_around(sides: &Sides, glyph: &hb_glyph_info_t) -> bool {
+    sides.context.skip(glyph) == Skip::No
+}
+
 /// Whether a chained rule asks for something else behind its only glyph than what stands there.
 fn is_missed(table: &[u8], behind: &Option<Behind>, sides: &Sides, search: &mut Search) -> bool {
     let Some(behind) = *behind else {
         return false;
     };
-    let asked = first_ahead(table);
-    if asked.is_none() || asked == behind.number {
+    let Some(asked) = first_ahead(table) else {
+        return false;
+    };
+    if behind.number == Some(u32::from(asked)) {
         return false;
     }
     search.budget.pay(1);
@@ -170,174 +213,4 @@ fn first_ahead(table: &[u8]) -> Option<u16> {
         return None;
     }
     u16_at(table, input_at + 4)
-}
-
-/// A glyph behind the cursor.
-#[derive(Clone, Copy, Debug)]
-pub(crate) struct Next {
-    /// The glyph.
-    pub(crate) glyph: u32,
-    /// The place behind it.
-    pub(crate) end: usize,
-}
-
-impl Next {
-    /// Whether a glyph stands there.
-    pub(crate) fn is_there(&self) -> bool {
-        self.glyph != NO_GLYPH
-    }
-}
-
-/// The glyphs behind the cursor, looked at once for many rules.
-#[derive(Clone, Copy, Debug)]
-enum Neighbours {
-    /// They were not looked at.
-    Unknown,
-    /// There is none.
-    None,
-    /// The next glyph, and the one behind it, if it counts.
-    Some(Next, Option<Next>),
-}
-
-/// How far the glyphs were looked at for rules that were not tried.
-#[derive(Clone, Copy, Debug)]
-struct Beyond {
-    to: usize,
-}
-
-impl Beyond {
-    /// Before the first rule. HarfBuzz has seen the next glyph by then, where the rules have no context.
-    fn new(ahead: &Neighbours, is_chained: bool) -> Self {
-        match *ahead {
-            Neighbours::Some(next, _) if !is_chained => Beyond { to: next.end },
-            _ => Beyond { to: 0 },
-        }
-    }
-}
-
-/// The glyphs behind the cursor, where each of them counts.
-///
-/// # Requires
-///
-/// - `0 < length sides.now.input.now`
-fn next_two(sides: &Sides, is_chained: bool) -> Neighbours {
-    if is_chained && !(sides.context.ignores_zwnj && sides.walk.ignores_zwj) {
-        return Neighbours::Unknown;
-    }
-    let walk = sides.input_walk();
-    let Found::At(first) = walk.next(&Wanted::Any, sides.input, 0) else {
-        return Neighbours::None;
-    };
-    if walk.skip(&sides.input[first]) != Skip::No {
-        return Neighbours::Unknown;
-    }
-    let next = Next {
-        glyph: sides.input[first].glyph_id,
-        end: first + 1,
-    };
-    Neighbours::Some(next, next_kept(&walk, sides.input, first))
-}
-
-/// The next glyph behind a place, if it counts whatever is asked for.
-///
-/// # Requires
-///
-/// - `place < length glyphs.now`
-pub(crate) fn next_kept(walk: &Walk, glyphs: &[hb_glyph_info_t], place: usize) -> Option<Next> {
-    debug_assert!(place < glyphs.len());
-    if let Some(next) = next_beside(walk, glyphs, place) {
-        return Some(next);
-    }
-    let Found::At(next) = walk.next(&Wanted::Any, glyphs, place) else {
-        return None;
-    };
-    if walk.skip(&glyphs[next]) != Skip::No {
-        return None;
-    }
-    Some(Next {
-        glyph: glyphs[next].glyph_id,
-        end: next + 1,
-    })
-}
-
-/// The glyph right behind a place, if it counts whatever is asked for.
-///
-/// # Requires
-///
-/// - `place < length glyphs.now`
-fn next_beside(walk: &Walk, glyphs: &[hb_glyph_info_t], place: usize) -> Option<Next> {
-    debug_assert!(place < glyphs.len());
-    if place + 1 >= glyphs.len() {
-        return None;
-    }
-    let beside = &glyphs[place + 1];
-    if walk.skip(beside) != Skip::No || !walk.is_within(beside) {
-        return None;
-    }
-    Some(Next {
-        glyph: beside.glyph_id,
-        end: place + 2,
-    })
-}
-
-/// No glyph of a font has this number.
-const NO_GLYPH: u32 = u32::MAX;
-
-/// The next glyph behind a place, if it counts whatever is asked for; behind the last place a glyph
-/// that nobody asks for.
-///
-/// # Requires
-///
-/// - `place < length glyphs.now`
-pub(crate) fn next_seen(walk: &Walk, glyphs: &[hb_glyph_info_t], place: usize) -> Option<Next> {
-    debug_assert!(place < glyphs.len());
-    if place + 1 == glyphs.len() {
-        return Some(Next {
-            glyph: NO_GLYPH,
-            end: glyphs.len(),
-        });
-    }
-    next_kept(walk, glyphs, place)
-}
-
-/// Whether a rule may fit, by the next two glyphs.
-fn may_fit(rule: &Rule, ahead: &Neighbours, beyond: &mut Beyond) -> bool {
-    match *ahead {
-        Neighbours::Unknown => true,
-        Neighbours::None => rule.input.count == 0 && rule.ahead.count == 0,
-        Neighbours::Some(first, second) => {
-            if !fits_at(rule, 0, first.glyph) {
-                if beyond.to == 0 {
-                    beyond.to = first.end;
-                }
-                return false;
-            }
-            let Some(second) = second else {
-                return true;
-            };
-            if fits_at(rule, 1, second.glyph) {
-                return true;
-            }
-            beyond.to = second.end;
-            false
-        }
-    }
-}
-
-/// Whether a glyph is what a rule asks for at this number behind the cursor, if it asks for anything
-/// there.
-fn fits_at(rule: &Rule, number: u16, glyph: u32) -> bool {
-    if number < rule.input.count {
-        return asks_for(&rule.input, number, glyph);
-    }
-    let number = number - rule.input.count;
-    number >= rule.ahead.count || asks_for(&rule.ahead, number, glyph)
-}
-
-/// Whether a glyph is what a part asks for.
-fn asks_for(part: &Part, number: u16, glyph: u32) -> bool {
-    match part.wanted(number) {
-        Some(wanted) => wanted.fits(glyph),
-        None => false,
-    }
 }

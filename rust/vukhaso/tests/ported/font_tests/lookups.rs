@@ -3,9 +3,15 @@
 //! Lookups over plain lists of glyphs, after the OpenType specification, "OpenType Layout Common Table Formats" and "GSUB - Glyph
 //! Substitution Table".
 
+mod contexts;
 mod edits;
 mod glyphs;
 
+use vukhaso::font_tables::bytes::tail;
+use vukhaso::font_tables::gdef::Gdef;
+use vukhaso::glyph::hb_glyph_info_t;
+use vukhaso::glyph_layout::lookup_list::SUBSTITUTION_EXTENSION;
+use vukhaso::glyph_layout::{LookupList, LookupOptions};
 use vukhaso::memory::{AllocError, Vec};
 
 /// A table in numbers of 16 bits.
@@ -16,4 +22,41 @@ pub(crate) fn bytes_of(words: &[u16]) -> Result<Vec<u8>, AllocError> {
         bytes.push((*word % 256) as u8)?;
     }
     Ok(bytes)
+}
+
+/// The bits of the only feature.
+pub(crate) const OPTIONS: LookupOptions = LookupOptions {
+    mask: 8,
+    auto_zwnj: true,
+    auto_zwj: true,
+    per_syllable: false,
+    random: false,
+};
+
+/// A zero width joiner in a list of glyphs.
+pub(crate) const JOINER: u32 = 3;
+
+/// A zero width non-joiner.
+pub(crate) const NON_JOINER: u32 = 4;
+
+/// Glyphs of the feature; the joiner and the non-joiner are invisible format characters.
+pub(crate) fn fill(glyphs: &mut [hb_glyph_info_t], ids: &[u32]) {
+    for (glyph, id) in glyphs.iter_mut().zip(ids) {
+        *glyph = hb_glyph_info_t {
+            glyph_id: *id,
+            mask: 8,
+            var2: match *id {
+                JOINER => 0x0121,
+                NON_JOINER => 0x0221,
+                _ => 0,
+            },
+            ..hb_glyph_info_t::default()
+        };
+    }
+}
+
+/// The lookups of a table, with no classes of glyphs.
+pub(crate) fn list_of<'a>(table: &'a [u8]) -> Result<LookupList<'a>, AllocError> {
+    let gdef = Gdef::new(tail(table, table.len()));
+    LookupList::new(table, SUBSTITUTION_EXTENSION, &gdef)
 }

@@ -2,16 +2,11 @@
 
 //! What a lookup of ligatures does, and for which glyphs it has a rule.
 
-use crate::font_tests::lookups::bytes_of;
-use vukhaso::font_tables::bytes::tail;
-use vukhaso::font_tables::gdef::Gdef;
+use crate::font_tests::lookups::{JOINER, OPTIONS, bytes_of, fill, list_of};
 use vukhaso::glyph::hb_glyph_info_t;
-use vukhaso::glyph_layout::lookup_list::SUBSTITUTION_EXTENSION;
 use vukhaso::glyph_layout::substitution::{Edit, edit_at};
 use vukhaso::glyph_layout::subtable::{Form, positioning_form, substitution_form};
-use vukhaso::glyph_layout::{
-    Budget, Digest, LookupList, LookupOptions, Search, Sides, Walk, would_substitute,
-};
+use vukhaso::glyph_layout::{Budget, Digest, LookupList, Search, Sides, Walk, would_substitute};
 use vukhaso::memory::AllocError;
 
 /// A table `GSUB` with one lookup: 10, 11 and 12 become the ligature 20, and 10 and 13 the ligature 21.
@@ -23,36 +18,6 @@ const LIGATURES: &[u16] = &[
 const WITH_SINGLE: &[u16] = &[
     1, 0, 0, 0, 10, 1, 4, 4, 0, 1, 8, 1, 8, 1, 14, 1, 1, 10, 2, 6, 14, 20, 3, 11, 12, 21, 1, 0,
 ];
-
-/// The bits of the only feature.
-const OPTIONS: LookupOptions = LookupOptions {
-    mask: 8,
-    auto_zwnj: true,
-    auto_zwj: true,
-    per_syllable: false,
-    random: false,
-};
-
-/// A zero width joiner in a list of glyphs.
-const JOINER: u32 = 3;
-
-/// Glyphs of the feature; the joiner is an invisible format character.
-fn fill(glyphs: &mut [hb_glyph_info_t], ids: &[u32]) {
-    for (glyph, id) in glyphs.iter_mut().zip(ids) {
-        *glyph = hb_glyph_info_t {
-            glyph_id: *id,
-            mask: 8,
-            var2: if *id == JOINER { 0x0121 } else { 0 },
-            ..hb_glyph_info_t::default()
-        };
-    }
-}
-
-/// The lookups of a table, with no classes of glyphs.
-fn list_of<'a>(table: &'a [u8]) -> Result<LookupList<'a>, AllocError> {
-    let gdef = Gdef::new(tail(table, table.len()));
-    LookupList::new(table, SUBSTITUTION_EXTENSION, &gdef)
-}
 
 /// The glyph that the first lookup puts at the cursor, and how many glyphs of the input it takes.
 fn ligature_at(list: &LookupList, ids: &[u32]) -> Option<(u16, usize)> {
