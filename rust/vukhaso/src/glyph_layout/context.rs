@@ -74,6 +74,7 @@ impl<'a> Fit<'a> {
 ///     → IsNextOf list.now.coverages.items subtable.now → 0 < search.new.budget.steps
 ///     → is_some result ≡ is_some (context_rule list.now.coverages.items subtable.now index is_chained sides.now) }
 /// ```
+#[inline]
 pub fn fitting_rule<'a>(
     list: &'a LookupList<'a>,
     subtable: &Subtable<'a>,
@@ -83,37 +84,22 @@ pub fn fitting_rule<'a>(
     search: &mut Search,
 ) -> Option<Fit<'a>> {
     let table = subtable.table;
-    match subtable.format {
-        1 => {
-            let set = set_at(table, 4, index)?;
-            let meanings = same_meaning(Meaning::Glyphs);
-            first_fit(
-                &RuleSet {
-                    table: set,
-                    meanings,
-                    is_chained,
-                },
-                sides,
-                search,
-            )
-        }
+    let (set, meanings) = match subtable.format {
+        1 => (set_at(table, 4, index)?, same_meaning(Meaning::Glyphs)),
         2 => {
             let class = class_of(&subtable.classes, sides.input[0].glyph_id);
             let set = set_at(table, if is_chained { 10 } else { 6 }, u32::from(class))?;
-            let meanings = class_meanings(subtable);
-            first_fit(
-                &RuleSet {
-                    table: set,
-                    meanings,
-                    is_chained,
-                },
-                sides,
-                search,
-            )
+            (set, class_meanings(subtable))
         }
-        3 => covered_fit(list, subtable, is_chained, sides, search),
-        _ => None,
-    }
+        3 => return covered_fit(list, subtable, is_chained, sides, search),
+        _ => return None,
+    };
+    let rules = RuleSet {
+        table: set,
+        meanings,
+        is_chained,
+    };
+    first_fit(&rules, sides, search)
 }
 
 /// The rule of a context by coverages, if it fits at the cursor. Mostly the next glyph shows at once
