@@ -1,5 +1,5 @@
 -- What a rule that fits at the cursor takes of the glyphs around it, and which rules a context has.
-use Rattle.std.specs.Prelude.{ℕ, ◌+◌, ◌*◌, ◌==◌, ◌<◌, ◌≤◌, ◌≡◌, Bool, List, drop, Option, None, if◌then◌else◌, nat_lt, unwrap_or}
+use Rattle.std.specs.Prelude.{ℕ, ◌+◌, ◌*◌, ◌==◌, ◌<◌, ◌≤◌, ◌≡◌, Bool, List, drop, Option, None, if◌then◌else◌, nat_lt, option_and_then, option_map, unwrap_or}
 use Rattle.font_tables.specs.Bytes.{number_16, table_at_16}
 use Rattle.font_tables.specs.declared.coverage.Coverage.{Coverage}
 use Rattle.glyph_layout.specs.Match.{place_of}
@@ -8,6 +8,7 @@ use Rattle.glyph_layout.specs.Rule.{input_walk}
 use Rattle.glyph_layout.specs.RuleSet.{rule_of_set}
 use Rattle.glyph_layout.specs.Walk.{class_in, glyph_at, next_found}
 use Rattle.glyph_layout.specs.declared.context.Fit.{Fit}
+use Rattle.glyph_layout.specs.declared.context.Record.{Record}
 use Rattle.glyph_layout.specs.declared.rule.Meaning.{Meaning}
 use Rattle.glyph_layout.specs.declared.rule.Meaning.TheVariants.{Glyphs, Classes}
 use Rattle.glyph_layout.specs.declared.rule.Meanings.{Meanings}
@@ -21,6 +22,12 @@ use Rattle.glyph_layout.specs.declared.wanted.Wanted.TheVariants.{Covered}
 abbrev pub IsFitWithin : ℕ → ℕ → Fit → Type 0
 IsFitWithin out input fit =
     (0 < fit.end) × (fit.end ≤ fit.to) × (fit.to ≤ input) × (fit.from ≤ out)
+
+-- the record of a number: where its lookup is applied, among the glyphs of the input, and which it is
+abbrev pub record_at : List ℕ → ℕ → Option Record
+record_at records index =
+    option_and_then (λ sequence. option_map (λ lookup. record { sequence = sequence; lookup = lookup })
+    (number_16 records (index * 4 + 2))) (number_16 records (index * 4))
 
 -- the walk by which a context by coverages looks for the glyph behind the one at the cursor
 abbrev pub next_walk : NextAsked → Sides → Walk

@@ -1,7 +1,31 @@
--- Which subtables are contexts by coverages, chained or not.
-use Rattle.std.specs.Prelude.{ℕ, ◌==◌, ◌||◌, Bool, false, true}
+-- The forms of subtables, and which are contexts by coverages, chained or not.
+use Rattle.std.specs.Prelude.{ℕ, ◌==◌, ◌&&◌, ◌||◌, Bool, false, true, if◌then◌else◌}
 use Rattle.glyph_layout.specs.declared.subtable.Form.{Form}
 use Rattle.glyph_layout.specs.declared.subtable.Form.TheVariants.{Plain, Glyphs, Classes, ChainedClasses, Coverages, ChainedCoverages, Reverse, PairClasses, Marks}
+
+-- the form of a context of this format
+abbrev pub context_form : ℕ → Bool → Form
+context_form format is_chained =
+    if format == 2 then if is_chained then ChainedClasses else Classes
+    else if format == 3 then if is_chained then ChainedCoverages else Coverages
+    else Glyphs
+
+-- the form of a subtable of `GSUB`, where contexts have the kinds 5 and 6, and reverse substitutions 8
+unfoldable pub substitution_form : ℕ → ℕ → Form
+substitution_form kind format =
+    if kind == 5 then context_form format false
+    else if kind == 6 then context_form format true
+    else if kind == 8 then Reverse
+    else Plain
+
+-- the form of a subtable of `GPOS`, where contexts have the kinds 7 and 8, pairs 2, and marks 4 to 6
+unfoldable pub positioning_form : ℕ → ℕ → Form
+positioning_form kind format =
+    if (kind == 2) && (format == 2) then PairClasses
+    else if (kind == 4) || (kind == 5) || (kind == 6) then Marks
+    else if kind == 7 then context_form format false
+    else if kind == 8 then context_form format true
+    else Plain
 
 -- whether contexts of this kind are chained: those of kind 6 of `GSUB` and 8 of `GPOS` are, those of the kinds 5 and 7 are not
 abbrev pub is_chained_kind : ℕ → Bool

@@ -1,10 +1,11 @@
 -- Which glyphs a lookup is for, and where its walk over glyphs ends.
-use Rattle.std.specs.Prelude.{ℕ, ◌+◌, ◌-◌, ◌==◌, ◌&&◌, ◌||◌, [], ◌∷◌, Bool, true, false, not, List, Option, None, zero, suc, length, drop, slice_index_or, is_some, nat_lt, if◌then◌else◌, bit_and, ⊤, ◌<◌}
+use Rattle.std.specs.Prelude.{ℕ, ◌+◌, ◌-◌, ◌^◌, ◌==◌, ◌&&◌, ◌||◌, [], ◌∷◌, Bool, true, false, not, List, Option, None, zero, suc, length, drop, slice_index_or, is_some, nat_lt, if◌then◌else◌, bit_and, ⊤, ◌<◌}
 use Rattle.rb_glyph.specs.declared.info.hb_glyph_info_t.{hb_glyph_info_t}
 use Rattle.rb_glyph.specs.Fields.{field}
 use Rattle.font_tables.specs.Coverage.{coverage_index}
 use Rattle.font_tables.specs.ClassDefinition.{class_of}
 use Rattle.glyph_layout.specs.declared.filter.Filter.{Filter}
+use Rattle.glyph_layout.specs.declared.walk.LookupOptions.{LookupOptions}
 use Rattle.glyph_layout.specs.declared.walk.Walk.{Walk}
 use Rattle.glyph_layout.specs.declared.walk.Found.{Found}
 use Rattle.glyph_layout.specs.declared.walk.Found.TheVariants.{At, Other, End}
@@ -120,6 +121,29 @@ unfoldable pub previous_found : Walk → Wanted → List hb_glyph_info_t → ℕ
 previous_found w wanted gs i =
     let end = kept_before (passes w wanted) gs i in
     if end == 0 then End else found_at w wanted gs (end - 1)
+
+-- the walk over the glyphs that a lookup changes or positions: those with a bit of the feature; joiners may be passed over where the
+-- feature says so, non-joiners and what is hidden where glyphs are positioned
+abbrev pub over_input : Filter → LookupOptions → Bool → Walk
+over_input filter options is_positioning = record {
+  filter = filter;
+  mask = options.mask;
+  ignores_zwnj = is_positioning;
+  ignores_zwj = options.auto_zwj;
+  ignores_hidden = is_positioning;
+  syllable = 0;
+}
+
+-- the walk over the glyphs around them, whatever their features: joiners may be passed over, and non-joiners where the feature says so
+abbrev pub over_context : Filter → LookupOptions → Bool → Walk
+over_context filter options is_positioning = record {
+  filter = filter;
+  mask = 2 ^ 32 - 1;
+  ignores_zwnj = is_positioning || options.auto_zwnj;
+  ignores_zwj = true;
+  ignores_hidden = is_positioning;
+  syllable = 0;
+}
 
 -- what a walk does at a glyph, before it asks what is wanted
 abbrev pub skip_of : Walk → hb_glyph_info_t → Skip

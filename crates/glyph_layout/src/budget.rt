@@ -1,7 +1,7 @@
 //! How much work a text may still cost while it is shaped, so that no font makes it endless.
 
 ghost use Rattle.std.specs.Prelude.{◌≤◌, ◌<◌, ◌+◌, ◌≡◌, IsTrue, IsFalse};
-ghost use Rattle.glyph_layout.specs.Budget.{IsNotMore};
+ghost use Rattle.glyph_layout.specs.Budget.{IsNotMore, steps_for};
 
 /// How many steps a subtable costs that is tried.
 pub const SUBTABLE_STEPS: u32 = 4;
@@ -19,9 +19,11 @@ pub struct Budget {
 }
 
 impl Budget {
-    /// The budget of a text with so many glyphs, in which lookups may apply so many others.
+    /// The budget of a text with so many glyphs, in which lookups may apply so many others: as many steps as HarfBuzz allows operations
+    /// (`HB_BUFFER_MAX_OPS_MIN` and `HB_BUFFER_MAX_OPS_FACTOR`), for at most 65,536 glyphs.
     pub fn new(nested: u32, glyphs: usize) -> Self
-        ensures { result.nested ≡ nested }
+        ensures nested { result.nested ≡ nested }
+        ensures steps { result.steps ≡ steps_for glyphs }
     {
         let glyphs = glyphs.min(65536) as u32;
         Budget {
@@ -33,6 +35,7 @@ impl Budget {
     /// Pays for steps. Where fewer are left, all of them are spent, and the answer is false.
     pub fn pay(&mut self, steps: u32) -> bool
         ensures spent { IsNotMore self.old self.new }
+        ensures same { self.new.nested ≡ self.old.nested }
         ensures paid { IsTrue result → self.new.steps + steps ≡ self.old.steps }
         ensures empty { IsFalse result → self.new.steps ≡ 0 }
     {
@@ -47,6 +50,7 @@ impl Budget {
     /// Pays for going over so many glyphs.
     pub fn pay_for(&mut self, glyphs: usize) -> bool
         ensures spent { IsNotMore self.old self.new }
+        ensures same { self.new.nested ≡ self.old.nested }
         ensures empty { IsFalse result → self.new.steps ≡ 0 }
     {
         self.pay(glyphs.min(0x3FFF_FFFF) as u32)
@@ -55,6 +59,7 @@ impl Budget {
     /// Pays for a lookup that another one applies. Where none may be applied any more, the answer is false.
     pub fn nest(&mut self) -> bool
         ensures spent { IsNotMore self.old self.new }
+        ensures same { self.new.steps ≡ self.old.steps }
         ensures paid { IsTrue result → self.new.nested + 1 ≡ self.old.nested }
         ensures none { IsFalse result → self.old.nested ≡ 0 }
     {

@@ -3,7 +3,7 @@
 
 ghost use Rattle.std.specs.Prelude.{◌≡◌, ◌<◌, ◌≤◌, length, IfSome, IsTrue, Some, is_some, option_copied};
 ghost use Rattle.glyph_layout.specs.Budget.{IsNotMore};
-ghost use Rattle.glyph_layout.specs.Context.{IsFitWithin, IsMissed, class_meanings, context_rule, covered_rule, next_walk};
+ghost use Rattle.glyph_layout.specs.Context.{IsFitWithin, IsMissed, class_meanings, context_rule, covered_rule, next_walk, record_at};
 ghost use Rattle.glyph_layout.specs.Context.{numbered_set, same_meaning};
 ghost use Rattle.glyph_layout.specs.Forms.{is_chained_kind};
 ghost use Rattle.glyph_layout.specs.NextAsked.{IsNextOf};
@@ -48,8 +48,10 @@ pub struct Record {
 }
 
 impl<'a> Fit<'a> {
-    /// The record of this number.
-    pub fn record(&self, index: usize) -> Option<Record> {
+    /// The record of this number; `None` where the table is cut short before it.
+    pub fn record(&self, index: usize) -> Option<Record>
+        ensures { index < 65536 → result ≡ record_at self.now.records.now index }
+    {
         let at = index.saturating_mul(4);
         Some(Record {
             sequence: usize::from(u16_at(self.records, at)?),

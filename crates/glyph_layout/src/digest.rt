@@ -28,7 +28,9 @@ pub struct Digest {
 
 impl Digest {
     /// The digest of no glyph.
-    pub fn new() -> Self {
+    pub fn new() -> Self
+        ensures { result ≡ record { singles = 0; sixteens = 0; blocks = 0 } }
+    {
         Digest {
             singles: 0,
             sixteens: 0,

@@ -1,9 +1,10 @@
 //! The subtables of lookups, with what several kinds have in common parsed once.
 
-ghost use Rattle.std.specs.Prelude.{ℕ, ◌≡◌, IsTrue, is_some, true};
+ghost use Rattle.std.specs.Prelude.{ℕ, ◌≡◌, ◌+◌, ◌-◌, ◌*◌, ◌^◌, [], min, unwrap_or, IsTrue, is_some, true};
+ghost use Rattle.font_tables.specs.Bytes.{number_16, table_at_16};
 ghost use Rattle.glyph_layout.specs.Digest.{HasAll};
 ghost use Rattle.glyph_layout.specs.FirstGlyphs.{may_have_first};
-ghost use Rattle.glyph_layout.specs.Forms.{is_chained_form, is_chained_kind, is_covered_form};
+ghost use Rattle.glyph_layout.specs.Forms.{context_form, is_chained_form, is_chained_kind, is_covered_form, positioning_form, substitution_form};
 ghost use Rattle.glyph_layout.specs.Seconds.{AreSeconds};
 ghost use Rattle.glyph_layout.specs.Walk.{covered_index};
 
@@ -111,8 +112,10 @@ pub enum Form {
 }
 
 /// The form of a subtable of `GSUB`.
+#[tactic(auto, unfolding(crate::specs::Forms::substitution_form))]
 pub fn substitution_form(kind: u16, format: u16) -> Form
-    ensures { is_covered_form result ≡ true → is_chained_kind kind ≡ is_chained_form result }
+    ensures is { result ≡ substitution_form kind format }
+    ensures chained { is_covered_form result ≡ true → is_chained_kind kind ≡ is_chained_form result }
 {
     match kind {
         5 => context_form(format, false),
@@ -123,8 +126,10 @@ pub fn substitution_form(kind: u16, format: u16) -> Form
 }
 
 /// The form of a subtable of `GPOS`.
+#[tactic(auto, unfolding(crate::specs::Forms::positioning_form))]
 pub fn positioning_form(kind: u16, format: u16) -> Form
-    ensures { is_covered_form result ≡ true → is_chained_kind kind ≡ is_chained_form result }
+    ensures is { result ≡ positioning_form kind format }
+    ensures chained { is_covered_form result ≡ true → is_chained_kind kind ≡ is_chained_form result }
 {
     match kind {
         2 if format == 2 => Form::PairClasses,
@@ -137,7 +142,8 @@ pub fn positioning_form(kind: u16, format: u16) -> Form
 
 /// The form of a context.
 fn context_form(format: u16, is_chained: bool) -> Form
-    ensures { is_covered_form result ≡ true → is_chained_form result ≡ is_chained }
+    ensures is { result ≡ context_form format is_chained }
+    ensures chained { is_covered_form result ≡ true → is_chained_form result ≡ is_chained }
 {
     match format {
         2 if is_chained => Form::ChainedClasses,
@@ -149,13 +155,17 @@ fn context_form(format: u16, is_chained: bool) -> Form
 }
 
 /// Where the list of offsets of coverages at a place ends, the number of them standing there.
-pub fn behind_list(table: &[u8], at: usize) -> usize {
+pub fn behind_list(table: &[u8], at: usize) -> usize
+    ensures { result ≡ min (at + (2 + 2 * unwrap_or (number_16 table.now at) 0)) (2 ^ 64 - 1) }
+{
     let count = usize::from(u16_at(table, at).unwrap_or(0));
     at.saturating_add(2 + 2 * count)
 }
 
 /// The table that the offset at a place leads to, or an empty one.
-pub fn table_or_empty(table: &[u8], at: usize) -> &[u8] {
+pub fn table_or_empty(table: &[u8], at: usize) -> &[u8]
+    ensures { result.now ≡ unwrap_or (table_at_16 table.now at) [] }
+{
     table_at_16(table, at).unwrap_or(&[])
 }
 

@@ -2,6 +2,7 @@
 //! `skipping_iterator_t` decides it.
 
 ghost use Rattle.std.specs.Prelude.{◌≡◌, ◌<◌, ◌≤◌, length};
+ghost use Rattle.glyph_layout.specs.Walk.{over_context, over_input};
 ghost use Rattle.glyph_layout.specs.Walk.{is_format_with, may_ignore, skip_of, is_within, passes, matches, found_at};
 ghost use Rattle.glyph_layout.specs.Walk.{next_found, previous_found, first_kept, kept_before, IsBehind, IsBefore};
 
@@ -86,7 +87,9 @@ pub struct Walk<'a> {
 
 impl<'a> Walk<'a> {
     /// The walk over the glyphs that a lookup changes or positions.
-    pub fn over_input(filter: Filter<'a>, options: &LookupOptions, is_positioning: bool) -> Self {
+    pub fn over_input(filter: Filter<'a>, options: &LookupOptions, is_positioning: bool) -> Self
+        ensures { result ≡ over_input filter.entry options.now is_positioning }
+    {
         Walk {
             filter,
             mask: options.mask,
@@ -98,7 +101,9 @@ impl<'a> Walk<'a> {
     }
 
     /// The walk over the glyphs around them.
-    pub fn over_context(filter: Filter<'a>, options: &LookupOptions, is_positioning: bool) -> Self {
+    pub fn over_context(filter: Filter<'a>, options: &LookupOptions, is_positioning: bool) -> Self
+        ensures { result ≡ over_context filter.entry options.now is_positioning }
+    {
         Walk {
             filter,
             mask: u32::MAX,

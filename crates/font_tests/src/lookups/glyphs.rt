@@ -8,8 +8,9 @@ use glyph_layout::glyph_table::Glyphs;
 use glyph_layout::ligature_parts::{
     component_count, ligature_component, ligature_id, ligature_properties, mark_properties,
 };
+use glyph_layout::subtable::{behind_list, table_or_empty};
 use glyph_layout::summary::{Summary, summary_of};
-use glyph_layout::{Budget, Digest, Filter, Reach};
+use glyph_layout::{Budget, Digest, Filter, LookupOptions, Reach, Walk};
 use rb_glyph::hb_glyph_info_t;
 use std::alloc::AllocError;
 
@@ -184,12 +185,46 @@ fn tables_list_glyphs(rt: HostRuntime) -> Result<(), AllocError> {
 fn budgets_are_spent(rt: HostRuntime) {
     let mut budget = Budget::new(1, 10);
     let steps = budget.steps;
+    assert!(rt; steps == 26624);
     assert!(rt; budget.pay(24) && budget.pay_for(10));
     assert!(rt; budget.steps.saturating_add(34) == steps);
     assert!(rt; (budget.nest(), budget.nest()) == (true, false));
     assert!(rt; !budget.is_spent());
     assert!(rt; !budget.pay(u32::MAX));
     assert!(rt; budget.is_spent());
+}
+
+/// What a walk passes over, by the options of its feature.
+#[test]
+fn walks_go_by_their_options(rt: HostRuntime) {
+    let filter = Filter {
+        flags: 0,
+        marks: Coverage::new(&[]),
+    };
+    let options = LookupOptions {
+        mask: 8,
+        auto_zwnj: true,
+        auto_zwj: false,
+        per_syllable: false,
+        random: false,
+    };
+    let input = Walk::over_input(filter, &options, false);
+    assert!(rt; (input.mask, input.syllable) == (8, 0));
+    assert!(rt; !input.ignores_zwnj && !input.ignores_zwj && !input.ignores_hidden);
+    let context = Walk::over_context(filter, &options, false);
+    assert!(rt; (context.mask, context.syllable) == (u32::MAX, 0));
+    assert!(rt; context.ignores_zwnj && context.ignores_zwj && !context.ignores_hidden);
+    let positioning = Walk::over_input(filter, &options, true);
+    assert!(rt; positioning.ignores_zwnj && !positioning.ignores_zwj);
+    assert!(rt; positioning.ignores_hidden);
+}
+
+#[test]
+fn tables_are_reached_by_offsets(rt: HostRuntime) -> Result<(), AllocError> {
+    let table = bytes_of(rt.alloc(), &[0, 4, 2])?;
+    assert!(rt; table_or_empty(&table, 2).len() == 2 && table_or_empty(&table, 0).is_empty());
+    assert!(rt; behind_list(&table, 4) == 10 && behind_list(&table, 6) == 8);
+    Ok(())
 }
 
 #[test]

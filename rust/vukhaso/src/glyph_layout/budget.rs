@@ -18,12 +18,15 @@ pub struct Budget {
 }
 
 impl Budget {
-    /// The budget of a text with so many glyphs, in which lookups may apply so many others.
+    /// The budget of a text with so many glyphs, in which lookups may apply so many others: as many steps
+    /// as HarfBuzz allows operations (`HB_BUFFER_MAX_OPS_MIN` and `HB_BUFFER_MAX_OPS_FACTOR`), for at most
+    /// 65,536 glyphs.
     ///
     /// # Proved
     ///
     /// ```text
-    /// ensures { result.nested ≡ nested }
+    /// ensures nested { result.nested ≡ nested }
+    /// ensures steps { result.steps ≡ steps_for glyphs }
     /// ```
     #[inline]
     pub fn new(nested: u32, glyphs: usize) -> Self {
@@ -40,6 +43,7 @@ impl Budget {
     ///
     /// ```text
     /// ensures spent { IsNotMore self.old self.new }
+    /// ensures same { self.new.nested ≡ self.old.nested }
     /// ensures paid { IsTrue result → self.new.steps + steps ≡ self.old.steps }
     /// ensures empty { IsFalse result → self.new.steps ≡ 0 }
     /// ```
@@ -59,6 +63,7 @@ impl Budget {
     ///
     /// ```text
     /// ensures spent { IsNotMore self.old self.new }
+    /// ensures same { self.new.nested ≡ self.old.nested }
     /// ensures empty { IsFalse result → self.new.steps ≡ 0 }
     /// ```
     #[inline]
@@ -72,6 +77,7 @@ impl Budget {
     ///
     /// ```text
     /// ensures spent { IsNotMore self.old self.new }
+    /// ensures same { self.new.steps ≡ self.old.steps }
     /// ensures paid { IsTrue result → self.new.nested + 1 ≡ self.old.nested }
     /// ensures none { IsFalse result → self.old.nested ≡ 0 }
     /// ```

@@ -40,11 +40,13 @@ pub struct Record {
 }
 
 impl<'a> Fit<'a> {
-    /// The record of this number.
+    /// The record of this number; `None` where the table is cut short before it.
     ///
     /// # Proved
     ///
-    /// That it returns.
+    /// ```text
+    /// ensures { index < 65536 → result ≡ record_at self.now.records.now index }
+    /// ```
     #[inline]
     pub fn record(&self, index: usize) -> Option<Record> {
         let at = index.saturating_mul(4);

@@ -28,7 +28,9 @@ impl Digest {
     ///
     /// # Proved
     ///
-    /// That it returns.
+    /// ```text
+    /// ensures { result ≡ record { singles = 0; sixteens = 0; blocks = 0 } }
+    /// ```
     #[inline]
     pub fn new() -> Self {
         Digest {

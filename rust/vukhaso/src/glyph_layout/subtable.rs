@@ -130,7 +130,8 @@ pub enum Form {
 /// # Proved
 ///
 /// ```text
-/// ensures { is_covered_form result ≡ true → is_chained_kind kind ≡ is_chained_form result }
+/// ensures is { result ≡ substitution_form kind format }
+/// ensures chained { is_covered_form result ≡ true → is_chained_kind kind ≡ is_chained_form result }
 /// ```
 #[inline]
 pub fn substitution_form(kind: u16, format: u16) -> Form {
@@ -147,7 +148,8 @@ pub fn substitution_form(kind: u16, format: u16) -> Form {
 /// # Proved
 ///
 /// ```text
-/// ensures { is_covered_form result ≡ true → is_chained_kind kind ≡ is_chained_form result }
+/// ensures is { result ≡ positioning_form kind format }
+/// ensures chained { is_covered_form result ≡ true → is_chained_kind kind ≡ is_chained_form result }
 /// ```
 #[inline]
 pub fn positioning_form(kind: u16, format: u16) -> Form {
@@ -175,7 +177,9 @@ fn context_form(format: u16, is_chained: bool) -> Form {
 ///
 /// # Proved
 ///
-/// That it returns.
+/// ```text
+/// ensures { result ≡ min (at + (2 + 2 * unwrap_or (number_16 table.now at) 0)) (2 ^ 64 - 1) }
+/// ```
 #[inline]
 pub fn behind_list(table: &[u8], at: usize) -> usize {
     let count = usize::from(u16_at(table, at).unwrap_or(0));
@@ -186,7 +190,9 @@ pub fn behind_list(table: &[u8], at: usize) -> usize {
 ///
 /// # Proved
 ///
-/// That it returns.
+/// ```text
+/// ensures { result.now ≡ unwrap_or (table_at_16 table.now at) [] }
+/// ```
 #[inline]
 pub fn table_or_empty(table: &[u8], at: usize) -> &[u8] {
     table_at_16(table, at).unwrap_or(&[])

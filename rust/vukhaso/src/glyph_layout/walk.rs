@@ -87,7 +87,9 @@ impl<'a> Walk<'a> {
     ///
     /// # Proved
     ///
-    /// That it returns.
+    /// ```text
+    /// ensures { result ≡ over_input filter.entry options.now is_positioning }
+    /// ```
     #[inline]
     pub fn over_input(filter: Filter<'a>, options: &LookupOptions, is_positioning: bool) -> Self {
         Walk {
@@ -104,7 +106,9 @@ impl<'a> Walk<'a> {
     ///
     /// # Proved
     ///
-    /// That it returns.
+    /// ```text
+    /// ensures { result ≡ over_context filter.entry options.now is_positioning }
+    /// ```
     #[inline]
     pub fn over_context(filter: Filter<'a>, options: &LookupOptions, is_positioning: bool) -> Self {
         Walk {

@@ -11,8 +11,9 @@ use vukhaso::glyph_layout::glyph_table::Glyphs;
 use vukhaso::glyph_layout::ligature_parts::{
     component_count, ligature_component, ligature_id, ligature_properties, mark_properties,
 };
+use vukhaso::glyph_layout::subtable::{behind_list, table_or_empty};
 use vukhaso::glyph_layout::summary::{Summary, summary_of};
-use vukhaso::glyph_layout::{Budget, Digest, Filter, Reach};
+use vukhaso::glyph_layout::{Budget, Digest, Filter, LookupOptions, Reach, Walk};
 use vukhaso::memory::AllocError;
 
 /// A glyph with these glyph properties and ligature properties.
@@ -187,12 +188,46 @@ fn tables_list_glyphs() -> Result<(), AllocError> {
 fn budgets_are_spent() {
     let mut budget = Budget::new(1, 10);
     let steps = budget.steps;
+    assert!(steps == 26624);
     assert!(budget.pay(24) && budget.pay_for(10));
     assert!(budget.steps.saturating_add(34) == steps);
     assert!((budget.nest(), budget.nest()) == (true, false));
     assert!(!budget.is_spent());
     assert!(!budget.pay(u32::MAX));
     assert!(budget.is_spent());
+}
+
+/// What a walk passes over, by the options of its feature.
+#[test]
+fn walks_go_by_their_options() {
+    let filter = Filter {
+        flags: 0,
+        marks: Coverage::new(&[]),
+    };
+    let options = LookupOptions {
+        mask: 8,
+        auto_zwnj: true,
+        auto_zwj: false,
+        per_syllable: false,
+        random: false,
+    };
+    let input = Walk::over_input(filter, &options, false);
+    assert!((input.mask, input.syllable) == (8, 0));
+    assert!(!input.ignores_zwnj && !input.ignores_zwj && !input.ignores_hidden);
+    let context = Walk::over_context(filter, &options, false);
+    assert!((context.mask, context.syllable) == (u32::MAX, 0));
+    assert!(context.ignores_zwnj && context.ignores_zwj && !context.ignores_hidden);
+    let positioning = Walk::over_input(filter, &options, true);
+    assert!(positioning.ignores_zwnj && !positioning.ignores_zwj);
+    assert!(positioning.ignores_hidden);
+}
+
+#[test]
+fn tables_are_reached_by_offsets() -> Result<(), AllocError> {
+    let table = bytes_of(&[0, 4, 2])?;
+    assert!(table_or_empty(&table, 2).len() == 2 && table_or_empty(&table, 0).is_empty());
+    assert!(behind_list(&table, 4) == 10 && behind_list(&table, 6) == 8);
+    Ok(())
 }
 
 #[test]
