@@ -129,14 +129,14 @@ class Bodies(Edited):
                 self.cut(first, last)
 
     def passed(self):
-        """What is passed on and is not there in plain Rust: `alloc`, `rt.alloc()`, `rt` and `&rt`."""
+        """What is passed on and is not there in plain Rust: `alloc`, also as a field, `rt.alloc()`, `rt` and `&rt`."""
         found = []
         places = self.bare()
         for i, at in enumerate(places):
             texts = [self.texts[p] for p in places[i : i + 5]]
             if texts[:5] == ["rt", ".", "alloc", "(", ")"]:
                 found.append((at, places[i + 4] + 1))
-            elif texts[:3] == ["self", ".", "alloc"] and texts[3] in (",", ")"):
+            elif self.source.words[at].kind == "name" and texts[1:3] == [".", "alloc"] and texts[3] in (",", ")"):
                 found.append((at, places[i + 2] + 1))
             elif texts[0] == "alloc" and (i == 0 or self.texts[places[i - 1]] != "."):
                 found.append((at, at + 1))

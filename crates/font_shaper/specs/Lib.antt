@@ -1,12 +1,9 @@
-pub mod Face
-pub mod FaceVariations
-pub mod FaceNames
-pub mod Measures
 pub mod Plans
-pub mod FallbackMarks
-pub mod Graphemes
 pub mod ShapedClusters
-pub mod Tables
 pub mod ClusterOrder
-pub mod Marks
-pub mod FontRules
+-- what is said of a font
+pub use Rattle.font_face.specs.Face
+pub use Rattle.font_face.specs.FaceNames
+pub use Rattle.font_face.specs.FaceVariations
+pub use Rattle.font_face.specs.Measures
+pub use Rattle.font_face.specs.Tables

@@ -3,7 +3,7 @@ use Rattle.std.specs.Prelude.{ℕ, ℤ, List, Option}
 use Rattle.rb_common.specs.declared.direction.Direction.{Direction}
 use Rattle.rb_text.specs.declared.feature.Feature.{Feature}
 use Rattle.shaping_buffer.specs.State.{State}
-use Rattle.font_shaper.specs.declared.face.Face.{Face}
+use Rattle.font_face.specs.declared.face.Face.{Face}
 
 -- Texts of this direction, script and language, with these features, at these normalized coordinates of a variable font.
 pub record PlannedTexts : Type 0 where

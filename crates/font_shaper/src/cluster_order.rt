@@ -6,7 +6,7 @@ ghost use Rattle.shaping_buffer.specs.ClusterStep.{any_order, both};
 ghost use Rattle.syllabic_shapers.specs.KeepsNumbers.{KeepsNumbers};
 ghost use Rattle.font_shaper.specs.ClusterOrder.{least_from, rising, Takes, IsCourseOf};
 
-use crate::cluster_level::allows_any_order;
+use font_normalization::allows_any_order;
 use glyph_lists::clusters::set_cluster;
 use shaping_buffer::{hb_buffer_t, hb_glyph_info_t};
 

@@ -3,9 +3,9 @@
 ghost use Rattle.std.specs.Prelude.{◌≡◌, true, false, IfOk};
 ghost use Rattle.font_shaper.specs.ClusterOrder.{KeepsStage};
 
-use crate::face::Face;
 use crate::lookups::budget_of;
 use crate::planning::TextPlan;
+use font_face::Face;
 use glyph_layout::{Budget, would_substitute};
 use layout_plan::LayoutPlan;
 use rb_common::Tag;
@@ -62,27 +62,25 @@ fn tag_of(feature: FormFeature) -> Tag {
     }
 }
 
-impl Face<'_> {
-    /// Works on the syllables of a text at a pause. `Ok(false)` where a call was refused for length.
-    pub(crate) fn work_on_syllables(
-        &self,
-        buffer: &mut hb_buffer_t,
-        plan: &TextPlan,
-        pause: SyllablePause,
-    ) -> Result<bool, AllocError>
-        requires { buffer.old.have_output ≡ false }
-        ensures closed { IfOk result (λ done. done ≡ true → buffer.new.have_output ≡ false) }
-        ensures keeps { KeepsStage plan.now.syllables buffer.old buffer.new }
-    {
-        if !plan.orders_syllables() {
-            return Ok(true);
-        }
-        let mut forms = Forms {
-            face: self,
-            layout: &plan.shape.layout,
-            wants_no_context: plan.syllables.wants_no_context(),
-            budget: budget_of(buffer),
-        };
-        plan.syllables.pause(self.alloc, buffer, &mut forms, pause)
+/// Works on the syllables of a text at a pause. `Ok(false)` where a call was refused for length.
+pub(crate) fn work_on_syllables(
+    buffer: &mut hb_buffer_t,
+    face: &Face,
+    plan: &TextPlan,
+    pause: SyllablePause,
+) -> Result<bool, AllocError>
+    requires { buffer.old.have_output ≡ false }
+    ensures closed { IfOk result (λ done. done ≡ true → buffer.new.have_output ≡ false) }
+    ensures keeps { KeepsStage plan.now.syllables buffer.old buffer.new }
+{
+    if !plan.orders_syllables() {
+        return Ok(true);
     }
+    let mut forms = Forms {
+        face,
+        layout: &plan.shape.layout,
+        wants_no_context: plan.syllables.wants_no_context(),
+        budget: budget_of(buffer),
+    };
+    plan.syllables.pause(face.alloc, buffer, &mut forms, pause)
 }

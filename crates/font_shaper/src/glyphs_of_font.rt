@@ -4,21 +4,28 @@ ghost use Rattle.std.specs.Prelude.{◌≡◌, is_some, true, false, IfOk, IsSom
 ghost use Rattle.character_maps.specs.Codes.{glyph_index};
 ghost use Rattle.shaping_buffer.specs.KeepsClusters.{KeepsClusters};
 
-use crate::face::Face;
+use font_face::Face;
 use rb_common::GlyphId;
 use script_shapers::{FontGlyphs, ScriptPlan};
 use shaping_buffer::hb_buffer_t;
 use std::alloc::AllocError;
 
-impl FontGlyphs for Face<'_> {
-    ghost has = { λ face character. is_some (glyph_index face.characters.subtable.now face.characters.encoding character) };
+/// A font, as the shapers of scripts ask it.
+#[derive(Clone, Copy, Debug)]
+pub(crate) struct FaceGlyphs<'a> {
+    /// The font.
+    pub face: &'a Face<'a>,
+}
+
+impl FontGlyphs for FaceGlyphs<'_> {
+    ghost has = { λ font character. is_some (glyph_index font.face.now.characters.subtable.now font.face.now.characters.encoding character) };
 
     fn has_glyph(&self, character: u32) -> bool {
-        self.glyph_index(character).is_some()
+        self.face.glyph_index(character).is_some()
     }
 
     fn glyph_of(&self, character: u32) -> Option<u16> {
-        match self.glyph_index(character) {
+        match self.face.glyph_index(character) {
             Some(glyph) => Some(glyph.0),
             None => None,
         }
@@ -26,24 +33,22 @@ impl FontGlyphs for Face<'_> {
 
     fn horizontal_advance(&self, glyph: u32) -> i32 {
         let glyph = GlyphId(u16::try_from(glyph).unwrap_or(0));
-        self.glyph_hor_advance(glyph)
+        self.face.glyph_hor_advance(glyph)
     }
 }
 
-impl Face<'_> {
-    /// Stretches the marks of a text that is shaped, as the shaper of its script says. `Ok(false)` where a call was refused for length.
-    #[tactic(auto, using(shaping_buffer::proofs::ClosedKeepsLemmas::kept))]
-    pub(crate) fn stretch_marks(
-        &self,
-        buffer: &mut hb_buffer_t,
-        script: &ScriptPlan,
-    ) -> Result<bool, AllocError>
-        requires closed { buffer.old.have_output ≡ false }
-        requires placed { IsSome buffer.old.positions }
-        ensures closed { IfOk result (λ done. done ≡ true → buffer.new.have_output ≡ false) }
-        ensures placed { IfOk result (λ done. done ≡ true → IsSome buffer.new.positions) }
-        ensures keeps { KeepsClusters buffer.old buffer.new }
-    {
-        script.postprocess_glyphs(self.alloc, buffer, self)
-    }
+/// Stretches the marks of a text that is shaped, as the shaper of its script says. `Ok(false)` where a call was refused for length.
+#[tactic(auto, using(shaping_buffer::proofs::ClosedKeepsLemmas::kept))]
+pub(crate) fn stretch_marks(
+    buffer: &mut hb_buffer_t,
+    face: &Face,
+    script: &ScriptPlan,
+) -> Result<bool, AllocError>
+    requires closed { buffer.old.have_output ≡ false }
+    requires placed { IsSome buffer.old.positions }
+    ensures closed { IfOk result (λ done. done ≡ true → buffer.new.have_output ≡ false) }
+    ensures placed { IfOk result (λ done. done ≡ true → IsSome buffer.new.positions) }
+    ensures keeps { KeepsClusters buffer.old buffer.new }
+{
+    script.postprocess_glyphs(face.alloc, buffer, &FaceGlyphs { face })
 }

@@ -9,13 +9,13 @@ ghost use Rattle.std.specs.Option.{option_copied};
 ghost use Rattle.font_shaper.specs.Plans.{planned};
 ghost use Rattle.font_shaper.specs.ShapedClusters.{ShapedClusters};
 
-use crate::face::Face;
-use crate::planning::{SegmentProperties, TextPlan};
+use crate::planning::{SegmentProperties, TextPlan, plan_for};
 use crate::shaping::{ShapeError, shape_by_plan};
 use crate::watch::{Unwatched, Watch};
+use font_face::Face;
 use rb_common::{Script, script};
 use shaping_buffer::{Direction, Feature, GlyphBuffer, Language, UnicodeBuffer, hb_buffer_t};
-use std::alloc::AllocError;
+use std::alloc::{AllocError, Global};
 use std::marker::Model;
 
 /// How texts of a script, a language and a direction are shaped by a font, with some features, and at the variations that were
@@ -68,12 +68,12 @@ impl ShapePlan {
             language,
         };
         Ok(ShapePlan {
-            plan: face.plan_for(&segment, user_features)?,
+            plan: plan_for(face, &segment, user_features)?,
             direction,
             script,
-            language: face.text_of_language(language)?,
-            features: face.copy_of_features(user_features)?,
-            coordinates: face.copy_of_coordinates()?,
+            language: text_of_language(face.alloc, language)?,
+            features: copy_of_features(face.alloc, user_features)?,
+            coordinates: copy_of_coordinates(face)?,
         })
     }
 
@@ -134,36 +134,37 @@ impl ShapePlan {
     }
 }
 
-impl Face<'_> {
-    /// The text of a language, which is kept with a plan.
-    fn text_of_language(&self, language: Option<&Language>) -> Result<Option<String>, AllocError>
-        ensures { IfOk result (λ text. option_map string_bytes text ≡ option_copied language.entry) }
-    {
-        let Some(language) = language else {
-            return Ok(None);
-        };
-        let mut text = String::new(self.alloc);
-        text.push_str(language.as_str())?;
-        Ok(Some(text))
-    }
+/// The text of a language, which is kept with a plan.
+fn text_of_language(
+    alloc: Global,
+    language: Option<&Language>,
+) -> Result<Option<String>, AllocError>
+    ensures { IfOk result (λ text. option_map string_bytes text ≡ option_copied language.entry) }
+{
+    let Some(language) = language else {
+        return Ok(None);
+    };
+    let mut text = String::new(alloc);
+    text.push_str(language.as_str())?;
+    Ok(Some(text))
+}
 
-    /// A copy of features, which is kept with a plan.
-    fn copy_of_features(&self, features: &[Feature]) -> Result<Vec<Feature>, AllocError>
-        ensures { IfOk result (λ copy. copy.items ≡ features.now) }
-    {
-        let mut copy = Vec::new(self.alloc);
-        copy.extend_from_slice(features)?;
-        Ok(copy)
-    }
+/// A copy of features, which is kept with a plan.
+fn copy_of_features(alloc: Global, features: &[Feature]) -> Result<Vec<Feature>, AllocError>
+    ensures { IfOk result (λ copy. copy.items ≡ features.now) }
+{
+    let mut copy = Vec::new(alloc);
+    copy.extend_from_slice(features)?;
+    Ok(copy)
+}
 
-    /// A copy of the coordinates that are chosen, which is kept with a plan.
-    fn copy_of_coordinates(&self) -> Result<Vec<i32>, AllocError>
-        ensures { IfOk result (λ copy. copy.items ≡ self.now.variations.coordinates.items) }
-    {
-        let mut copy = Vec::new(self.alloc);
-        copy.extend_from_slice(self.coordinates())?;
-        Ok(copy)
-    }
+/// A copy of the coordinates that are chosen, which is kept with a plan.
+fn copy_of_coordinates(face: &Face) -> Result<Vec<i32>, AllocError>
+    ensures { IfOk result (λ copy. copy.items ≡ face.now.variations.coordinates.items) }
+{
+    let mut copy = Vec::new(face.alloc);
+    copy.extend_from_slice(face.coordinates())?;
+    Ok(copy)
 }
 
 /// Whether a text that is kept is that of a language.

@@ -3,11 +3,13 @@
 ghost use Rattle.std.specs.Prelude.{◌≡◌, false, IsSome};
 ghost use Rattle.shaping_buffer.specs.KeepsClusters.{KeepsClusters};
 
-use crate::face::Face;
 use crate::watch::{Step, Watch};
+use font_face::Face;
+use font_variations::Deltas;
 use glyph_layout::{Budget, Digest, LookupOptions, Search};
 use glyph_positions::{Setting, position_start};
 use layout_plan::{LayoutPlan, PlannedLookup, ShapePlan};
+use position_tables::instance::Instance;
 use position_tables::kern_table::KernTable;
 use shaping_buffer::hb_buffer_t;
 use std::alloc::AllocError;
@@ -27,6 +29,17 @@ pub(crate) fn options_of(planned: &PlannedLookup) -> LookupOptions {
 pub(crate) fn budget_of(buffer: &hb_buffer_t) -> Budget {
     let most = u32::try_from(buffer.max_ops).unwrap_or(0);
     Budget::new(most, buffer.len())
+}
+
+/// The size and the variations at which a font is used, as its lookups ask for them.
+fn instance_of<'a>(face: &'a Face) -> Instance<'a> {
+    Instance {
+        scale: face.scale,
+        deltas: Deltas {
+            store: face.variations.store,
+            coordinates: face.coordinates(),
+        },
+    }
 }
 
 /// Positions the glyphs by the lookups of `GPOS`, and by the table `kern` where `GPOS` does not kern.
@@ -105,7 +118,7 @@ fn apply_positions<W: Watch>(
 {
     let setting = Setting {
         list: &face.lookups.positions,
-        instance: face.instance(),
+        instance: instance_of(face),
     };
     let mut search = Search::new(budget_of(buffer));
     let glyphs = Digest::of_glyphs(buffer.info());

@@ -3,9 +3,10 @@
 ghost use Rattle.std.specs.Prelude.{◌≡◌};
 ghost use Rattle.font_shaper.specs.ClusterOrder.{orders_syllables};
 
-use crate::face::Face;
+use crate::glyphs_of_font::FaceGlyphs;
 use apple_substitution::{ChainFlags, selected_features};
 use apple_tables::FeatureNames;
+use font_face::Face;
 use font_variations::substitutions_of;
 use language_tags::LanguageTags;
 use layout_plan::{
@@ -64,117 +65,115 @@ pub(crate) struct SegmentProperties<'a> {
     pub language: Option<&'a Language>,
 }
 
-impl Face<'_> {
-    /// The plan for the text of a buffer.
-    pub(crate) fn plan(
-        &self,
-        buffer: &hb_buffer_t,
-        features: &[Feature],
-    ) -> Result<TextPlan, AllocError> {
-        let segment = SegmentProperties {
-            direction: buffer.direction,
-            script: buffer.script,
-            language: buffer.language.as_ref(),
-        };
-        self.plan_for(&segment, features)
-    }
+/// The plan for the text of a buffer.
+pub(crate) fn plan_of_text(
+    face: &Face,
+    buffer: &hb_buffer_t,
+    features: &[Feature],
+) -> Result<TextPlan, AllocError> {
+    let segment = SegmentProperties {
+        direction: buffer.direction,
+        script: buffer.script,
+        language: buffer.language.as_ref(),
+    };
+    plan_for(face, &segment, features)
+}
 
-    /// The plan for texts with these properties. The tags of a language are those that it names itself, or those of OpenType's registry.
-    pub(crate) fn plan_for(
-        &self,
-        segment: &SegmentProperties,
-        features: &[Feature],
-    ) -> Result<TextPlan, AllocError> {
-        let Some(table) = LanguageTable::new(&[]) else {
-            return Err(AllocError);
-        };
-        let found = LanguageTags::of(segment.language);
-        let (scripts, languages) = tags_from_script_and_language(
-            segment.script,
-            segment.language,
-            &table,
-            &found,
-        );
-        let text = TextProperties {
-            direction: segment.direction,
-            scripts: scripts.as_slice(),
-            languages: languages.as_slice(),
-        };
-        self.plan_of(segment, &text, features)
-    }
+/// The plan for texts with these properties. The tags of a language are those that it names itself, or those of OpenType's registry.
+pub(crate) fn plan_for(
+    face: &Face,
+    segment: &SegmentProperties,
+    features: &[Feature],
+) -> Result<TextPlan, AllocError> {
+    let Some(table) = LanguageTable::new(&[]) else {
+        return Err(AllocError);
+    };
+    let found = LanguageTags::of(segment.language);
+    let (scripts, languages) = tags_from_script_and_language(
+        segment.script,
+        segment.language,
+        &table,
+        &found,
+    );
+    let text = TextProperties {
+        direction: segment.direction,
+        scripts: scripts.as_slice(),
+        languages: languages.as_slice(),
+    };
+    plan_of(face, segment, &text, features)
+}
 
-    /// The plan for a text with these properties.
-    fn plan_of(
-        &self,
-        segment: &SegmentProperties,
-        text: &TextProperties,
-        features: &[Feature],
-    ) -> Result<TextPlan, AllocError> {
-        let font = FontLayout {
-            gsub: self.layout.gsub,
-            gpos: self.layout.gpos,
-            kern: kern_layout(self),
-            gsub_substitutions: substitutions_of(self.layout.gsub, self.coordinates()),
-            gpos_substitutions: substitutions_of(self.layout.gpos, self.coordinates()),
-        };
-        let substitutes = self.substitutes_by_morx(segment.direction);
-        let mut builder = ShapePlan::begin(self.alloc, &font, text)?;
-        let chosen = add_features(&mut builder, segment, features, substitutes)?;
-        let mut shape = ShapePlan::complete(
-            self.alloc,
-            builder,
-            &font,
-            segment.direction,
-            chosen.rules,
-        )?;
-        if substitutes {
-            shape.adjust_mark_positioning_when_zeroing = false;
-        }
-        let chain_flags = if substitutes {
-            Some(self.chain_flags(features)?)
-        } else {
-            None
-        };
-        let trak_mask = shape.layout.mask(Tag::from_bytes(b"trak"));
-        let syllables = syllable_plan(chosen.shaper, segment.script, &shape.layout);
-        let script = script_plan(
-            chosen.shaper,
-            segment.script,
-            &shape.layout,
-            chosen.finds_script,
-        );
-        let fallback = self.fallback_of(&script)?;
-        Ok(TextPlan {
-            shape,
-            script,
-            syllables,
-            chain_flags,
-            trak_mask,
-            fallback,
-        })
+/// The plan for a text with these properties.
+fn plan_of(
+    face: &Face,
+    segment: &SegmentProperties,
+    text: &TextProperties,
+    features: &[Feature],
+) -> Result<TextPlan, AllocError> {
+    let font = FontLayout {
+        gsub: face.layout.gsub,
+        gpos: face.layout.gpos,
+        kern: kern_layout(face),
+        gsub_substitutions: substitutions_of(face.layout.gsub, face.coordinates()),
+        gpos_substitutions: substitutions_of(face.layout.gpos, face.coordinates()),
+    };
+    let substitutes = substitutes_by_morx(face, segment.direction);
+    let mut builder = ShapePlan::begin(face.alloc, &font, text)?;
+    let chosen = add_features(&mut builder, segment, features, substitutes)?;
+    let mut shape = ShapePlan::complete(
+        face.alloc,
+        builder,
+        &font,
+        segment.direction,
+        chosen.rules,
+    )?;
+    if substitutes {
+        shape.adjust_mark_positioning_when_zeroing = false;
     }
+    let chain_flags = if substitutes {
+        Some(chain_flags_of(face, features)?)
+    } else {
+        None
+    };
+    let trak_mask = shape.layout.mask(Tag::from_bytes(b"trak"));
+    let syllables = syllable_plan(chosen.shaper, segment.script, &shape.layout);
+    let script = script_plan(
+        chosen.shaper,
+        segment.script,
+        &shape.layout,
+        chosen.finds_script,
+    );
+    let fallback = fallback_of(face, &script)?;
+    Ok(TextPlan {
+        shape,
+        script,
+        syllables,
+        chain_flags,
+        trak_mask,
+        fallback,
+    })
+}
 
-    /// Whether Apple's table `morx` substitutes glyphs in place of the lookups of `GSUB`: in horizontal lines, and where the font has no
-    /// lookups of `GSUB`.
-    fn substitutes_by_morx(&self, direction: Direction) -> bool {
-        self.lookups.metamorphosis.is_there()
-            && (direction.is_horizontal() || self.layout.gsub.is_empty())
-    }
+/// Whether Apple's table `morx` substitutes glyphs in place of the lookups of `GSUB`: in horizontal lines, and where the font has no
+/// lookups of `GSUB`.
+fn substitutes_by_morx(face: &Face, direction: Direction) -> bool {
+    face.lookups.metamorphosis.is_there()
+        && (direction.is_horizontal() || face.layout.gsub.is_empty())
+}
 
-    /// The flags of the chains of `morx`, where these features are asked for.
-    fn chain_flags(&self, features: &[Feature]) -> Result<ChainFlags, AllocError> {
-        let names = FeatureNames::new(self.layout.feat);
-        let selected = selected_features(self.alloc, &names, features)?;
-        ChainFlags::new(self.alloc, &self.lookups.metamorphosis, selected.as_slice())
-    }
+/// The flags of the chains of `morx`, where these features are asked for.
+fn chain_flags_of(face: &Face, features: &[Feature]) -> Result<ChainFlags, AllocError> {
+    let names = FeatureNames::new(face.layout.feat);
+    let selected = selected_features(face.alloc, &names, features)?;
+    ChainFlags::new(face.alloc, &face.lookups.metamorphosis, selected.as_slice())
+}
 
-    /// The lookups that join Arabic letters, where the shaper of the script makes them.
-    fn fallback_of(&self, script: &ScriptPlan) -> Result<Option<FallbackLookups>, AllocError> {
-        if !script.does_fallback {
-            return Ok(None);
-        }
-        Ok(Some(FallbackLookups::new(self.alloc, self, script)?))
+/// The lookups that join Arabic letters, where the shaper of the script makes them.
+fn fallback_of(face: &Face, script: &ScriptPlan) -> Result<Option<FallbackLookups>, AllocError> {
+    if !script.does_fallback {
+        return Ok(None);
     }
+    Ok(Some(FallbackLookups::new(face.alloc, &FaceGlyphs { face }, script)?))
 }
 
 /// The shaper of a script.

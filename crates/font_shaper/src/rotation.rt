@@ -4,8 +4,9 @@ ghost use Rattle.std.specs.Prelude.{◌≡◌, false};
 ghost use Rattle.shaping_buffer.specs.Clusters.{clusters};
 ghost use Rattle.shaping_buffer.specs.KeepsClusters.{KeepsClusters};
 
-use crate::face::Face;
-use crate::glyph_info::{is_decimal_number, is_letter, is_unicode_mark, is_unicode_space};
+use crate::glyph_info::{is_decimal_number, is_letter};
+use font_face::Face;
+use font_normalization::glyph_info::{is_unicode_mark, is_unicode_space};
 use layout_plan::ShapePlan;
 use shaping_buffer::{CharExt, Direction, Mirrors, hb_buffer_t, hb_glyph_info_t};
 use unicode_tables::mirrors;

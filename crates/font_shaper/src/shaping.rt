@@ -9,25 +9,25 @@ ghost use Rattle.shaping_buffer.specs.State.{HasPositions};
 ghost use Rattle.font_shaper.specs.ShapedClusters.{ShapedClusters, KeepsOrTurns};
 ghost use Rattle.shaping_buffer.specs.KeepsClusters.{KeepsClusters};
 
-use crate::ending::{hide_ignorables, propagate_flags, show_variation_selectors};
-use crate::face::Face;
-use crate::fallback_marks::{position_marks, recategorize_marks};
+use crate::glyphs_of_font::{FaceGlyphs, stretch_marks};
 use crate::lookups::position_by_lookups;
 use crate::masks::set_masks;
-use crate::normalization::normalize;
-use crate::planning::TextPlan;
-use crate::positions::{
-    position_glyphs, zero_mark_widths, zero_width_default_ignorables, zero_width_deleted_glyphs,
-};
+use crate::planning::{TextPlan, plan_of_text};
 use crate::rotation::rotate_characters;
 use crate::substitution::substitute;
 use crate::text::{
     ensure_native_direction, form_clusters, insert_dotted_circle, set_direction, set_properties,
 };
-use crate::tracking::track;
-use crate::verification::VerifyError;
+use crate::verification::{VerifyError, shape_verified};
 use crate::watch::{Step, Unwatched, Watch};
 use apple_substitution::remove_deleted_glyphs;
+use font_face::Face;
+use font_normalization::normalize;
+use font_positions::{
+    hide_ignorables, position_glyphs, position_marks, propagate_flags, recategorize_marks,
+    show_variation_selectors, track, zero_mark_widths, zero_width_default_ignorables,
+    zero_width_deleted_glyphs,
+};
 use glyph_positions::position_finish_offsets;
 use glyph_substitution::substitute_start;
 use layout_plan::ShapePlan;
@@ -100,7 +100,7 @@ pub fn shape_watched<W: Watch>(
     let mut text = text;
     text.guess_segment_properties();
     let buffer = text.into_buffer();
-    let plan = face.plan(&buffer, features)?;
+    let plan = plan_of_text(face, &buffer, features)?;
     shape_by_plan(face, &plan, features, buffer, watch)
 }
 
@@ -119,7 +119,7 @@ pub(crate) fn shape_by_plan<W: Watch>(
     ensures clusters { IfOk result (ShapedClusters buffer) }
 {
     if buffer.flags.contains(BufferFlags::VERIFY) {
-        face.shape_verified(plan, features, buffer)
+        shape_verified(face, plan, features, buffer)
     } else {
         shape_planned(face, plan, features, buffer, watch)
     }
@@ -310,7 +310,7 @@ fn finish_glyphs(buffer: &mut hb_buffer_t, face: &Face, plan: &TextPlan) -> Resu
     remove_deleted(buffer, plan);
     show_variation_selectors(buffer);
     hide_ignorables(buffer, face);
-    if !face.stretch_marks(buffer, &plan.script)? {
+    if !stretch_marks(buffer, face, &plan.script)? {
         return Ok(false);
     }
     propagate_flags(buffer);
@@ -362,7 +362,7 @@ fn prepare_characters(
     ensures closed { IfOk result (λ done. done ≡ true → buffer.new.have_output ≡ false) }
     ensures keeps { KeepsClusters buffer.old buffer.new }
 {
-    if !plan.script.preprocess_text(buffer, face)? {
+    if !plan.script.preprocess_text(buffer, &FaceGlyphs { face })? {
         return Ok(false);
     }
     rotate_characters(buffer, face, &plan.shape, direction);

@@ -5,11 +5,13 @@ ghost use Rattle.shaping_buffer.specs.Clusters.{clusters};
 ghost use Rattle.shaping_buffer.specs.KeepsClusters.{KeepsClusters, TurnsClusters};
 ghost use Rattle.font_shaper.specs.ShapedClusters.{KeepsOrTurns};
 
-use crate::cluster_level::allows_any_order;
-use crate::face::Face;
 use crate::glyph_info::{
-    general_category, is_continuation, is_decimal_number, is_letter, is_regional_indicator,
-    is_same_grapheme, is_unicode_mark, is_zwj, set_continuation, set_unicode_props,
+    is_decimal_number, is_letter, is_regional_indicator, is_same_grapheme, is_zwj, set_continuation,
+};
+use font_face::Face;
+use font_normalization::allows_any_order;
+use font_normalization::glyph_info::{
+    general_category, is_continuation, is_unicode_mark, set_unicode_props,
 };
 use shaping_buffer::rb_glyph::hb_gc::RB_UNICODE_GENERAL_CATEGORY_MODIFIER_SYMBOL;
 use shaping_buffer::{

@@ -6,11 +6,11 @@ ghost use Rattle.shaping_buffer.specs.State.{HasPositions};
 ghost use Rattle.font_shaper.specs.ShapedClusters.{ShapedClusters};
 
 use crate::comparison::is_elsewhere;
-use crate::face::Face;
 use crate::original::Original;
 use crate::planning::TextPlan;
 use crate::shaping::{ShapeError, shape_planned};
 use crate::watch::Unwatched;
+use font_face::Face;
 use shaping_buffer::{
     BufferFlags, Feature, Flags, GlyphBuffer, GlyphPosition, glyph_flag, hb_buffer_t,
     hb_glyph_info_t,
@@ -104,30 +104,28 @@ impl Shaping<'_> {
     }
 }
 
-impl Face<'_> {
-    /// Shapes the text of a buffer by a plan, and tests its glyphs.
-    pub(crate) fn shape_verified(
-        &self,
-        plan: &TextPlan,
-        features: &[Feature],
-        buffer: hb_buffer_t,
-    ) -> Result<GlyphBuffer, ShapeError>
-        requires { buffer.have_output ≡ false }
-        ensures placed { IfOk result HasPositions }
-        ensures within { IfOk result (λ glyphs. length glyphs.input ≤ (enter buffer).max_len) }
-        ensures direction { IfOk result (λ glyphs. glyphs.direction ≡ buffer.direction) }
-        ensures clusters { IfOk result (ShapedClusters buffer) }
-    {
-        let text = Original::of(self.alloc, &buffer)?;
-        let glyphs = shape_planned(self, plan, features, buffer, &mut Unwatched)?;
-        let shaping = Shaping {
-            face: self,
-            plan,
-            features,
-        };
-        verify(self.alloc, shaping, &text, &glyphs)?;
-        Ok(glyphs)
-    }
+/// Shapes the text of a buffer by a plan, and tests its glyphs.
+pub(crate) fn shape_verified(
+    face: &Face,
+    plan: &TextPlan,
+    features: &[Feature],
+    buffer: hb_buffer_t,
+) -> Result<GlyphBuffer, ShapeError>
+    requires { buffer.have_output ≡ false }
+    ensures placed { IfOk result HasPositions }
+    ensures within { IfOk result (λ glyphs. length glyphs.input ≤ (enter buffer).max_len) }
+    ensures direction { IfOk result (λ glyphs. glyphs.direction ≡ buffer.direction) }
+    ensures clusters { IfOk result (ShapedClusters buffer) }
+{
+    let text = Original::of(face.alloc, &buffer)?;
+    let glyphs = shape_planned(face, plan, features, buffer, &mut Unwatched)?;
+    let shaping = Shaping {
+        face,
+        plan,
+        features,
+    };
+    verify(face.alloc, shaping, &text, &glyphs)?;
+    Ok(glyphs)
 }
 
 /// Tests glyphs by their text. Where clusters may stand in any order there is no test.

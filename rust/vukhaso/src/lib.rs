@@ -31,6 +31,12 @@ pub mod color_glyphs;
 #[allow(clippy::style, clippy::complexity)]
 pub mod common;
 #[allow(clippy::style, clippy::complexity)]
+pub mod font_face;
+#[allow(clippy::style, clippy::complexity)]
+pub mod font_normalization;
+#[allow(clippy::style, clippy::complexity)]
+pub mod font_positions;
+#[allow(clippy::style, clippy::complexity)]
 pub mod font_shaper;
 #[allow(clippy::style, clippy::complexity)]
 pub mod font_tables;

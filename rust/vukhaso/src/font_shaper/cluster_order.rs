@@ -3,7 +3,7 @@
 //! The order of clusters, where the glyphs of syllables are put in another order in between.
 
 use crate::buffer::{hb_buffer_t, hb_glyph_info_t};
-use crate::font_shaper::cluster_level::allows_any_order;
+use crate::font_normalization::allows_any_order;
 use crate::glyph_lists::clusters::set_cluster;
 
 /// How the clusters of a text run.

@@ -4,7 +4,7 @@
 
 use crate::buffer::hb_buffer_t;
 use crate::common::Tag;
-use crate::font_shaper::face::Face;
+use crate::font_face::Face;
 use crate::font_shaper::lookups::budget_of;
 use crate::font_shaper::planning::TextPlan;
 use crate::glyph_layout::{Budget, would_substitute};
@@ -61,32 +61,30 @@ fn tag_of(feature: FormFeature) -> Tag {
     }
 }
 
-impl Face<'_> {
-    /// Works on the syllables of a text at a pause.
-    ///
-    /// # Requires
-    ///
-    /// - `buffer.old.have_output ≡ false`
-    ///
-    /// # Errors
-    ///
-    /// `Ok(false)` where a call was refused for length.
-    pub(crate) fn work_on_syllables(
-        &self,
-        buffer: &mut hb_buffer_t,
-        plan: &TextPlan,
-        pause: SyllablePause,
-    ) -> Result<bool, AllocError> {
-        debug_assert!(!buffer.have_output());
-        if !plan.orders_syllables() {
-            return Ok(true);
-        }
-        let mut forms = Forms {
-            face: self,
-            layout: &plan.shape.layout,
-            wants_no_context: plan.syllables.wants_no_context(),
-            budget: budget_of(buffer),
-        };
-        plan.syllables.pause(buffer, &mut forms, pause)
+/// Works on the syllables of a text at a pause.
+///
+/// # Requires
+///
+/// - `buffer.old.have_output ≡ false`
+///
+/// # Errors
+///
+/// `Ok(false)` where a call was refused for length.
+pub(crate) fn work_on_syllables(
+    buffer: &mut hb_buffer_t,
+    face: &Face,
+    plan: &TextPlan,
+    pause: SyllablePause,
+) -> Result<bool, AllocError> {
+    debug_assert!(!buffer.have_output());
+    if !plan.orders_syllables() {
+        return Ok(true);
     }
+    let mut forms = Forms {
+        face,
+        layout: &plan.shape.layout,
+        wants_no_context: plan.syllables.wants_no_context(),
+        budget: budget_of(buffer),
+    };
+    plan.syllables.pause(buffer, &mut forms, pause)
 }

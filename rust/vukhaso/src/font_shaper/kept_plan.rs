@@ -4,8 +4,8 @@
 
 use crate::buffer::{Direction, Feature, GlyphBuffer, Language, UnicodeBuffer, hb_buffer_t};
 use crate::common::{Script, script};
-use crate::font_shaper::face::Face;
-use crate::font_shaper::planning::{SegmentProperties, TextPlan};
+use crate::font_face::Face;
+use crate::font_shaper::planning::{SegmentProperties, TextPlan, plan_for};
 use crate::font_shaper::shaping::{ShapeError, shape_by_plan};
 use crate::font_shaper::watch::{Unwatched, Watch};
 use crate::memory::{AllocError, String, Vec};
@@ -67,12 +67,12 @@ impl ShapePlan {
             language,
         };
         Ok(ShapePlan {
-            plan: face.plan_for(&segment, user_features)?,
+            plan: plan_for(face, &segment, user_features)?,
             direction,
             script,
-            language: face.text_of_language(language)?,
-            features: face.copy_of_features(user_features)?,
-            coordinates: face.copy_of_coordinates()?,
+            language: text_of_language(language)?,
+            features: copy_of_features(user_features)?,
+            coordinates: copy_of_coordinates(face)?,
         })
     }
 
@@ -139,30 +139,28 @@ impl ShapePlan {
     }
 }
 
-impl Face<'_> {
-    /// The text of a language, which is kept with a plan.
-    fn text_of_language(&self, language: Option<&Language>) -> Result<Option<String>, AllocError> {
-        let Some(language) = language else {
-            return Ok(None);
-        };
-        let mut text = String::new();
-        text.push_str(language.as_str())?;
-        Ok(Some(text))
-    }
+/// The text of a language, which is kept with a plan.
+fn text_of_language(language: Option<&Language>) -> Result<Option<String>, AllocError> {
+    let Some(language) = language else {
+        return Ok(None);
+    };
+    let mut text = String::new();
+    text.push_str(language.as_str())?;
+    Ok(Some(text))
+}
 
-    /// A copy of features, which is kept with a plan.
-    fn copy_of_features(&self, features: &[Feature]) -> Result<Vec<Feature>, AllocError> {
-        let mut copy = Vec::new();
-        copy.extend_from_slice(features)?;
-        Ok(copy)
-    }
+/// A copy of features, which is kept with a plan.
+fn copy_of_features(features: &[Feature]) -> Result<Vec<Feature>, AllocError> {
+    let mut copy = Vec::new();
+    copy.extend_from_slice(features)?;
+    Ok(copy)
+}
 
-    /// A copy of the coordinates that are chosen, which is kept with a plan.
-    fn copy_of_coordinates(&self) -> Result<Vec<i32>, AllocError> {
-        let mut copy = Vec::new();
-        copy.extend_from_slice(self.coordinates())?;
-        Ok(copy)
-    }
+/// A copy of the coordinates that are chosen, which is kept with a plan.
+fn copy_of_coordinates(face: &Face) -> Result<Vec<i32>, AllocError> {
+    let mut copy = Vec::new();
+    copy.extend_from_slice(face.coordinates())?;
+    Ok(copy)
 }
 
 /// Whether a text that is kept is that of a language.

@@ -3,12 +3,14 @@
 //! The lookups that position glyphs, applied to a text in the order of its plan.
 
 use crate::buffer::hb_buffer_t;
-use crate::font_shaper::face::Face;
+use crate::font_face::Face;
 use crate::font_shaper::watch::{Step, Watch};
+use crate::font_variations::Deltas;
 use crate::glyph_layout::{Budget, Digest, LookupOptions, Search};
 use crate::glyph_positions::{Setting, position_start};
 use crate::layout_plan::{LayoutPlan, PlannedLookup, ShapePlan};
 use crate::memory::AllocError;
+use crate::position_tables::instance::Instance;
 use crate::position_tables::kern_table::KernTable;
 
 /// How a lookup of the plan is applied.
@@ -26,6 +28,17 @@ pub(crate) fn options_of(planned: &PlannedLookup) -> LookupOptions {
 pub(crate) fn budget_of(buffer: &hb_buffer_t) -> Budget {
     let most = u32::try_from(buffer.max_ops).unwrap_or(0);
     Budget::new(most, buffer.len())
+}
+
+/// The size and the variations at which a font is used, as its lookups ask for them.
+fn instance_of<'a>(face: &'a Face) -> Instance<'a> {
+    Instance {
+        scale: face.scale,
+        deltas: Deltas {
+            store: face.variations.store,
+            coordinates: face.coordinates(),
+        },
+    }
 }
 
 /// Positions the glyphs by the lookups of `GPOS`, and by the table `kern` where `GPOS` does not kern.
@@ -104,7 +117,7 @@ fn apply_positions<W: Watch>(
     debug_assert!(buffer.have_positions());
     let setting = Setting {
         list: &face.lookups.positions,
-        instance: face.instance(),
+        instance: instance_of(face),
     };
     let mut search = Search::new(budget_of(buffer));
     let glyphs = Digest::of_glyphs(buffer.info());

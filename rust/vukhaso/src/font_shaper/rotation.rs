@@ -3,10 +3,9 @@
 //! Characters that have another form in text which runs from right to left or in vertical lines.
 
 use crate::buffer::{CharExt, Direction, Mirrors, hb_buffer_t, hb_glyph_info_t};
-use crate::font_shaper::face::Face;
-use crate::font_shaper::glyph_info::{
-    is_decimal_number, is_letter, is_unicode_mark, is_unicode_space,
-};
+use crate::font_face::Face;
+use crate::font_normalization::glyph_info::{is_unicode_mark, is_unicode_space};
+use crate::font_shaper::glyph_info::{is_decimal_number, is_letter};
 use crate::layout_plan::ShapePlan;
 use crate::unicode_tables::mirrors;
 

@@ -7,23 +7,23 @@ use crate::buffer::{
     BufferFlags, Direction, Feature, Flags, GlyphBuffer, UnicodeBuffer, hb_buffer_t,
     hb_glyph_info_t,
 };
-use crate::font_shaper::ending::{hide_ignorables, propagate_flags, show_variation_selectors};
-use crate::font_shaper::face::Face;
-use crate::font_shaper::fallback_marks::{position_marks, recategorize_marks};
+use crate::font_face::Face;
+use crate::font_normalization::normalize;
+use crate::font_positions::{
+    hide_ignorables, position_glyphs, position_marks, propagate_flags, recategorize_marks,
+    show_variation_selectors, track, zero_mark_widths, zero_width_default_ignorables,
+    zero_width_deleted_glyphs,
+};
+use crate::font_shaper::glyphs_of_font::{FaceGlyphs, stretch_marks};
 use crate::font_shaper::lookups::position_by_lookups;
 use crate::font_shaper::masks::set_masks;
-use crate::font_shaper::normalization::normalize;
-use crate::font_shaper::planning::TextPlan;
-use crate::font_shaper::positions::{
-    position_glyphs, zero_mark_widths, zero_width_default_ignorables, zero_width_deleted_glyphs,
-};
+use crate::font_shaper::planning::{TextPlan, plan_of_text};
 use crate::font_shaper::rotation::rotate_characters;
 use crate::font_shaper::substitution::substitute;
 use crate::font_shaper::text::{
     ensure_native_direction, form_clusters, insert_dotted_circle, set_direction, set_properties,
 };
-use crate::font_shaper::tracking::track;
-use crate::font_shaper::verification::VerifyError;
+use crate::font_shaper::verification::{VerifyError, shape_verified};
 use crate::font_shaper::watch::{Step, Unwatched, Watch};
 use crate::glyph_positions::position_finish_offsets;
 use crate::glyph_substitution::substitute_start;
@@ -119,7 +119,7 @@ pub fn shape_watched<W: Watch>(
     let mut text = text;
     text.guess_segment_properties();
     let buffer = text.into_buffer();
-    let plan = face.plan(&buffer, features)?;
+    let plan = plan_of_text(face, &buffer, features)?;
     shape_by_plan(face, &plan, features, buffer, watch)
 }
 
@@ -137,7 +137,7 @@ pub(crate) fn shape_by_plan<W: Watch>(
 ) -> Result<GlyphBuffer, ShapeError> {
     debug_assert!(!buffer.have_output());
     if buffer.flags.contains(BufferFlags::VERIFY) {
-        face.shape_verified(plan, features, buffer)
+        shape_verified(face, plan, features, buffer)
     } else {
         shape_planned(face, plan, features, buffer, watch)
     }
@@ -339,7 +339,7 @@ fn finish_glyphs(
     remove_deleted(buffer, plan);
     show_variation_selectors(buffer);
     hide_ignorables(buffer, face);
-    if !face.stretch_marks(buffer, &plan.script)? {
+    if !stretch_marks(buffer, face, &plan.script)? {
         return Ok(false);
     }
     propagate_flags(buffer);
@@ -401,7 +401,7 @@ fn prepare_characters(
     direction: Direction,
 ) -> Result<bool, AllocError> {
     debug_assert!(!buffer.have_output());
-    if !plan.script.preprocess_text(buffer, face)? {
+    if !plan.script.preprocess_text(buffer, &FaceGlyphs { face })? {
         return Ok(false);
     }
     rotate_characters(buffer, face, &plan.shape, direction);

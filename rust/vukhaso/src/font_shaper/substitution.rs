@@ -4,8 +4,9 @@
 
 use crate::apple_substitution::{ChainFlags, Substitution, remove_deleted_glyphs};
 use crate::buffer::hb_buffer_t;
+use crate::font_face::Face;
 use crate::font_shaper::cluster_order::ClusterCourse;
-use crate::font_shaper::face::Face;
+use crate::font_shaper::forms_of_font::work_on_syllables;
 use crate::font_shaper::lookups::{budget_of, options_of};
 use crate::font_shaper::planning::TextPlan;
 use crate::font_shaper::watch::{Step, Watch};
@@ -231,75 +232,73 @@ fn pause(
             plan.script.record_stch(buffer);
             Ok(true)
         }
-        Pause::ArabicFallback => face.join_by_fallback(buffer, plan, progress),
-        Pause::SetUpSyllables => face.work_on_syllables(buffer, plan, SyllablePause::SetUp),
+        Pause::ArabicFallback => join_by_fallback(buffer, face, plan, progress),
+        Pause::SetUpSyllables => work_on_syllables(buffer, face, plan, SyllablePause::SetUp),
         Pause::InitialReordering => {
-            face.work_on_syllables(buffer, plan, SyllablePause::InitialReordering)
+            work_on_syllables(buffer, face, plan, SyllablePause::InitialReordering)
         }
         Pause::FinalReordering => {
-            face.work_on_syllables(buffer, plan, SyllablePause::FinalReordering)
+            work_on_syllables(buffer, face, plan, SyllablePause::FinalReordering)
         }
         Pause::ClearSubstitutionFlags => {
-            face.work_on_syllables(buffer, plan, SyllablePause::ForgetSubstitutions)
+            work_on_syllables(buffer, face, plan, SyllablePause::ForgetSubstitutions)
         }
-        Pause::RecordRphf => face.work_on_syllables(buffer, plan, SyllablePause::RecordRphf),
-        Pause::RecordPref => face.work_on_syllables(buffer, plan, SyllablePause::RecordPref),
+        Pause::RecordRphf => work_on_syllables(buffer, face, plan, SyllablePause::RecordRphf),
+        Pause::RecordPref => work_on_syllables(buffer, face, plan, SyllablePause::RecordPref),
         _ => Ok(true),
     }
 }
 
-impl Face<'_> {
-    /// Joins Arabic letters of a font that has their forms as characters, and no features for them.
-    ///
-    /// # Requires
-    ///
-    /// - `buffer.old.have_output ≡ false`
-    ///
-    /// # Errors
-    ///
-    /// `Ok(false)` where a call was refused for length.
-    fn join_by_fallback(
-        &self,
-        buffer: &mut hb_buffer_t,
-        plan: &TextPlan,
-        progress: &mut Progress,
-    ) -> Result<bool, AllocError> {
-        debug_assert!(!buffer.have_output());
-        match &plan.fallback {
-            Some(fallback) => self.apply_fallback(buffer, fallback, progress),
-            None => Ok(true),
-        }
+/// Joins Arabic letters of a font that has their forms as characters, and no features for them.
+///
+/// # Requires
+///
+/// - `buffer.old.have_output ≡ false`
+///
+/// # Errors
+///
+/// `Ok(false)` where a call was refused for length.
+fn join_by_fallback(
+    buffer: &mut hb_buffer_t,
+    face: &Face,
+    plan: &TextPlan,
+    progress: &mut Progress,
+) -> Result<bool, AllocError> {
+    debug_assert!(!buffer.have_output());
+    match &plan.fallback {
+        Some(fallback) => apply_fallback(buffer, face, fallback, progress),
+        None => Ok(true),
     }
+}
 
-    /// Applies the lookups of a fallback.
-    ///
-    /// # Requires
-    ///
-    /// - `buffer.old.have_output ≡ false`
-    ///
-    /// # Errors
-    ///
-    /// `Ok(false)` where a call was refused for length.
-    fn apply_fallback(
-        &self,
-        buffer: &mut hb_buffer_t,
-        fallback: &FallbackLookups,
-        progress: &mut Progress,
-    ) -> Result<bool, AllocError> {
-        debug_assert!(!buffer.have_output());
-        let list = LookupList::new(
-            fallback.table.as_slice(),
-            SUBSTITUTION_EXTENSION,
-            &self.definitions,
-        )?;
-        apply_each(
-            buffer,
-            &list,
-            &self.definitions,
-            fallback.masks.as_slice(),
-            progress,
-        )
-    }
+/// Applies the lookups of a fallback.
+///
+/// # Requires
+///
+/// - `buffer.old.have_output ≡ false`
+///
+/// # Errors
+///
+/// `Ok(false)` where a call was refused for length.
+fn apply_fallback(
+    buffer: &mut hb_buffer_t,
+    face: &Face,
+    fallback: &FallbackLookups,
+    progress: &mut Progress,
+) -> Result<bool, AllocError> {
+    debug_assert!(!buffer.have_output());
+    let list = LookupList::new(
+        fallback.table.as_slice(),
+        SUBSTITUTION_EXTENSION,
+        &face.definitions,
+    )?;
+    apply_each(
+        buffer,
+        &list,
+        &face.definitions,
+        fallback.masks.as_slice(),
+        progress,
+    )
 }
 
 /// Applies each lookup of a list to the glyphs that have its mask.

@@ -6,11 +6,13 @@ use crate::buffer::{
     BufferFlags, CharExt, Direction, Flags, HB_BUFFER_CLUSTER_LEVEL_MONOTONE_GRAPHEMES,
     HB_BUFFER_SCRATCH_FLAG_HAS_NON_ASCII, hb_buffer_t, hb_glyph_info_t,
 };
-use crate::font_shaper::cluster_level::allows_any_order;
-use crate::font_shaper::face::Face;
+use crate::font_face::Face;
+use crate::font_normalization::allows_any_order;
+use crate::font_normalization::glyph_info::{
+    general_category, is_continuation, is_unicode_mark, set_unicode_props,
+};
 use crate::font_shaper::glyph_info::{
-    general_category, is_continuation, is_decimal_number, is_letter, is_regional_indicator,
-    is_same_grapheme, is_unicode_mark, is_zwj, set_continuation, set_unicode_props,
+    is_decimal_number, is_letter, is_regional_indicator, is_same_grapheme, is_zwj, set_continuation,
 };
 use crate::glyph::hb_gc::RB_UNICODE_GENERAL_CATEGORY_MODIFIER_SYMBOL;
 use crate::memory::AllocError;

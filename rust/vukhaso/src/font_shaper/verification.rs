@@ -6,8 +6,8 @@ use crate::buffer::{
     BufferFlags, Feature, Flags, GlyphBuffer, GlyphPosition, glyph_flag, hb_buffer_t,
     hb_glyph_info_t,
 };
+use crate::font_face::Face;
 use crate::font_shaper::comparison::is_elsewhere;
-use crate::font_shaper::face::Face;
 use crate::font_shaper::original::Original;
 use crate::font_shaper::planning::TextPlan;
 use crate::font_shaper::shaping::{ShapeError, shape_planned};
@@ -119,29 +119,27 @@ impl Shaping<'_> {
     }
 }
 
-impl Face<'_> {
-    /// Shapes the text of a buffer by a plan, and tests its glyphs.
-    ///
-    /// # Requires
-    ///
-    /// - `buffer.have_output ≡ false`
-    pub(crate) fn shape_verified(
-        &self,
-        plan: &TextPlan,
-        features: &[Feature],
-        buffer: hb_buffer_t,
-    ) -> Result<GlyphBuffer, ShapeError> {
-        debug_assert!(!buffer.have_output());
-        let text = Original::of(&buffer)?;
-        let glyphs = shape_planned(self, plan, features, buffer, &mut Unwatched)?;
-        let shaping = Shaping {
-            face: self,
-            plan,
-            features,
-        };
-        verify(shaping, &text, &glyphs)?;
-        Ok(glyphs)
-    }
+/// Shapes the text of a buffer by a plan, and tests its glyphs.
+///
+/// # Requires
+///
+/// - `buffer.have_output ≡ false`
+pub(crate) fn shape_verified(
+    face: &Face,
+    plan: &TextPlan,
+    features: &[Feature],
+    buffer: hb_buffer_t,
+) -> Result<GlyphBuffer, ShapeError> {
+    debug_assert!(!buffer.have_output());
+    let text = Original::of(&buffer)?;
+    let glyphs = shape_planned(face, plan, features, buffer, &mut Unwatched)?;
+    let shaping = Shaping {
+        face,
+        plan,
+        features,
+    };
+    verify(shaping, &text, &glyphs)?;
+    Ok(glyphs)
 }
 
 /// Tests glyphs by their text. Where clusters may stand in any order there is no test.

@@ -1,7 +1,7 @@
 // Written by tools/plain_rust from crates/shaper_tests. Do not edit.
 
-//! Tests of `font_shaper` over small fonts, as in the `tests/` folder of a Rust crate. What is expected comes from
-//! HarfBuzz's `hb-shape` over the same fonts.
+//! Tests of `font_shaper` and of the crates that it was parted from, over small fonts, as in the `tests/` folder of a Rust crate. What is
+//! expected comes from HarfBuzz's `hb-shape` over the same fonts.
 
 #[cfg(test)]
 mod apple;
@@ -14,7 +14,11 @@ mod face;
 #[cfg(test)]
 mod marks;
 #[cfg(test)]
+mod normalization;
+#[cfg(test)]
 mod plans;
+#[cfg(test)]
+mod positions;
 #[cfg(test)]
 mod shaping;
 #[cfg(test)]

@@ -1,0 +1,17 @@
+//! A font, as far as shaping asks it: its tables, the measures and names of its glyphs, and its variations.
+#![tactic(auto)]
+
+mod bounds;
+mod color;
+mod face;
+mod layout;
+mod measures;
+mod names;
+mod variations;
+
+pub use color::ColorTables;
+pub use face::{Face, Lookups};
+pub use font_variations::{Axis, Variation};
+pub use layout::Layout;
+pub use names::FaceNames;
+pub use variations::FaceVariations;

@@ -1,0 +1,3 @@
+-- Why characters are taken apart and composed as a script and a font say (`PartsLemmas`).
+
+pub mod PartsLemmas

@@ -1,0 +1,5 @@
+pub mod Graphemes
+pub mod Marks
+pub mod Spaces
+pub mod Selectors
+pub mod FontRules

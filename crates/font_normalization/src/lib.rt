@@ -1,0 +1,9 @@
+//! Normalization with a font, and the properties of characters that it reads and leaves for the steps behind it.
+#![tactic(auto)]
+
+mod cluster_level;
+pub mod glyph_info;
+mod normalization;
+
+pub use cluster_level::allows_any_order;
+pub use normalization::normalize;

@@ -1,0 +1,123 @@
+//! The third round of normalization: marks are composed with the character before them, where the font has the composed
+//! character.
+
+ghost use Rattle.std.specs.Prelude.{◌≡◌, ◌<◌, true, false, length, IfOk};
+ghost use Rattle.shaping_buffer.specs.Clusters.{clusters};
+ghost use Rattle.shaping_buffer.specs.KeepsClusters.{KeepsClusters};
+ghost use Rattle.shaping_passes.specs.NormalizationComposition.{IsReady, IsPlace};
+
+use super::pairs::Composing;
+use super::reordering::KeptClasses;
+use crate::glyph_info::set_unicode_props;
+use font_face::Face;
+use script_shapers::ScriptPlan;
+use shaping_buffer::{hb_buffer_t, hb_glyph_info_t};
+use shaping_passes::normalization::next_turn;
+use std::alloc::AllocError;
+
+/// Composes marks with the last starter before them, unless a mark between blocks them. The first character of the text is a
+/// starter, whatever it is.
+#[tactic(auto, using(shaping_buffer::proofs::ClosedKeepsLemmas::kept))]
+pub(crate) fn recompose_all(
+    buffer: &mut hb_buffer_t,
+    face: &Face,
+    script: &ScriptPlan,
+) -> Result<bool, AllocError>
+    requires { buffer.old.have_output ≡ false }
+    ensures closed { IfOk result (λ done. done ≡ true → buffer.new.have_output ≡ false) }
+    ensures keeps { KeepsClusters buffer.old buffer.new }
+{
+    if !buffer.successful() {
+        return Ok(false);
+    }
+    let composing = Composing::new(face, script);
+    // Read for what its contract says: the list is no longer than `max_len`.
+    let _ = buffer.len();
+    buffer.clear_output();
+    let mut starter = None;
+    while buffer.lookahead_len() > 0 {
+        starter = recompose_next(buffer, &composing, starter);
+    }
+    buffer.sync()
+}
+
+/// Reads a character, and composes it with the last starter, which stands at this place of the out side, or puts it out.
+/// Gives the place of the last starter.
+#[tactic(auto, using(shaping_buffer::proofs::ClosedKeepsLemmas::kept))]
+fn recompose_next(
+    buffer: &mut hb_buffer_t,
+    composing: &Composing,
+    starter: Option<usize>,
+) -> Option<usize>
+    requires ready { IsReady buffer.old }
+    requires some { 0 < length buffer.old.input }
+    requires place { IsPlace starter buffer.old }
+    ensures ready { IsReady buffer.new }
+    ensures place { IsPlace result buffer.new }
+    ensures shorter { length buffer.new.input < length buffer.old.input }
+    ensures keeps { KeepsClusters buffer.old buffer.new }
+{
+    let starter = starter_or_first(buffer, starter);
+    let count = buffer.out_len();
+    let next = next_turn(buffer, composing, &KeptClasses, starter);
+    if buffer.out_len() == count {
+        set_composed(buffer, composing.face, next);
+    }
+    next
+}
+
+/// The last starter, or the first character where there is none yet.
+fn starter_or_first(buffer: &hb_buffer_t, starter: Option<usize>) -> Option<usize>
+    requires { IsPlace starter buffer.now }
+    ensures { IsPlace result buffer.now }
+{
+    match starter {
+        None if buffer.out_len() > 0 => Some(0),
+        starter => starter,
+    }
+}
+
+/// Finds the glyph and the properties of the last starter.
+#[tactic(auto, using(shaping_buffer::proofs::ClosedKeepsLemmas::kept))]
+fn set_composed(buffer: &mut hb_buffer_t, face: &Face, starter: Option<usize>)
+    requires { IsReady buffer.old }
+    ensures ready { IsReady buffer.new }
+    ensures out { length buffer.new.out ≡ length buffer.old.out }
+    ensures input { buffer.new.input ≡ buffer.old.input }
+    ensures keeps { KeepsClusters buffer.old buffer.new }
+{
+    let scratch_flags = set_in_out(buffer, face, starter);
+    buffer.scratch_flags = scratch_flags;
+}
+
+/// Finds those of the last starter, which stands at this place of the out side; the scratch flags that then hold.
+fn set_in_out(buffer: &mut hb_buffer_t, face: &Face, starter: Option<usize>) -> u32
+    ensures others { buffer.new ≡ record buffer.old { out = buffer.new.out } }
+    ensures out { length buffer.new.out ≡ length buffer.old.out }
+    ensures keeps { KeepsClusters buffer.old buffer.new }
+{
+    let mut scratch_flags = buffer.scratch_flags;
+    set_at(buffer.out_info_mut(), face, starter, &mut scratch_flags);
+    scratch_flags
+}
+
+/// Finds those of the character at a place, if there is one.
+#[tactic(auto, using(shaping_buffer::proofs::ClosedKeepsLemmas::clusters_written))]
+fn set_at(infos: &mut [hb_glyph_info_t], face: &Face, place: Option<usize>, scratch_flags: &mut u32)
+    ensures { clusters infos.new ≡ clusters infos.old }
+{
+    if let Some(place) = place
+        && place < infos.len()
+    {
+        set_character(&mut infos[place], face, scratch_flags);
+    }
+}
+
+/// Finds the glyph and the properties of a character.
+fn set_character(info: &mut hb_glyph_info_t, face: &Face, scratch_flags: &mut u32)
+    ensures { info.new.cluster ≡ info.old.cluster }
+{
+    let glyph = face.glyph_index(info.glyph_id);
+    info.set_glyph_index(glyph.map_or(0, |glyph| u32::from(glyph.0)));
+    set_unicode_props(info, scratch_flags);
+}

@@ -1,0 +1,135 @@
+//! A base and its marks, with a variation selector among them.
+
+ghost use Rattle.std.specs.Prelude.{◌≡◌, ◌+◌, ◌<◌, ◌≤◌, true, false, length, IfOk};
+ghost use Rattle.shaping_buffer.specs.KeepsClusters.{KeepsClusters};
+
+use super::decomposition::{is_variation_selector, set_current_glyph};
+use crate::glyph_info::{clear_default_ignorable, set_variation_selector};
+use font_face::Face;
+use shaping_buffer::{
+    HB_BUFFER_SCRATCH_FLAG_HAS_VARIATION_SELECTOR_FALLBACK, hb_buffer_t, hb_glyph_info_t,
+};
+use std::alloc::AllocError;
+
+/// Reads so many characters. A character and a variation selector behind it become one where the font has a glyph for
+/// the two; nothing is taken apart.
+#[tactic(auto, using(shaping_buffer::proofs::ClosedKeepsLemmas::kept))]
+pub(crate) fn read_variations(
+    buffer: &mut hb_buffer_t,
+    face: &Face,
+    count: usize,
+) -> Result<bool, AllocError>
+    requires { buffer.old.have_output ≡ true }
+    ensures opened { IfOk result (λ _. buffer.new.have_output ≡ true) }
+    ensures keeps { KeepsClusters buffer.old buffer.new }
+{
+    let end = buffer.idx().saturating_add(count);
+    for _turn in 0..count {
+        if buffer.idx() >= end || buffer.lookahead_len() == 0 {
+            break;
+        }
+        if !read_next(buffer, face, end)? {
+            return Ok(false);
+        }
+    }
+    Ok(true)
+}
+
+/// Reads a character, and the variation selectors behind it that stand before a place of the input.
+#[tactic(auto, using(shaping_buffer::proofs::ClosedKeepsLemmas::kept))]
+fn read_next(buffer: &mut hb_buffer_t, face: &Face, end: usize) -> Result<bool, AllocError>
+    requires opened { buffer.old.have_output ≡ true }
+    requires glyph { 0 < length buffer.old.input }
+    ensures opened { IfOk result (λ _. buffer.new.have_output ≡ true) }
+    ensures keeps { KeepsClusters buffer.old buffer.new }
+{
+    if buffer.idx().saturating_add(1) >= end
+        || buffer.lookahead_len() == 1
+        || !is_variation_selector(buffer.cur(1).glyph_id)
+    {
+        return buffer.next_glyph();
+    }
+    if !read_variation(buffer, face)? {
+        return Ok(false);
+    }
+    keep_selectors(buffer, end)
+}
+
+/// Reads a character and the variation selector behind it.
+#[tactic(auto, using(shaping_buffer::proofs::ClosedKeepsLemmas::kept))]
+fn read_variation(buffer: &mut hb_buffer_t, face: &Face) -> Result<bool, AllocError>
+    requires opened { buffer.old.have_output ≡ true }
+    requires glyphs { 1 < length buffer.old.input }
+    ensures opened { IfOk result (λ _. buffer.new.have_output ≡ true) }
+    ensures keeps { KeepsClusters buffer.old buffer.new }
+{
+    let character = buffer.cur(0).glyph_id;
+    let selector = buffer.cur(1).glyph_id;
+    match face.glyph_variation_index(character, selector) {
+        Some(glyph) => {
+            set_current_glyph(buffer, u32::from(glyph.0));
+            buffer.replace_glyphs(2, 1, &[character])
+        }
+        None => keep_both(buffer),
+    }
+}
+
+/// Reads a character and a variation selector that the font does not know.
+#[tactic(auto, using(shaping_buffer::proofs::ClosedKeepsLemmas::kept))]
+fn keep_both(buffer: &mut hb_buffer_t) -> Result<bool, AllocError>
+    requires opened { buffer.old.have_output ≡ true }
+    requires glyphs { 1 < length buffer.old.input }
+    ensures opened { IfOk result (λ _. buffer.new.have_output ≡ true) }
+    ensures keeps { KeepsClusters buffer.old buffer.new }
+{
+    if !buffer.next_glyph()? || buffer.lookahead_len() == 0 {
+        return Ok(false);
+    }
+    buffer.scratch_flags = buffer.scratch_flags
+        | HB_BUFFER_SCRATCH_FLAG_HAS_VARIATION_SELECTOR_FALLBACK;
+    let is_shown = buffer.not_found_variation_selector.is_some();
+    note_selector(buffer, is_shown);
+    buffer.next_glyph()
+}
+
+/// Says that the current character is a variation selector that the font does not know, and whether it is shown.
+fn note_selector(buffer: &mut hb_buffer_t, is_shown: bool)
+    requires opened { buffer.old.have_output ≡ true }
+    requires glyph { 0 < length buffer.old.input }
+    ensures opened { buffer.new.have_output ≡ true }
+    ensures input { length buffer.new.input ≡ length buffer.old.input }
+    ensures keeps { KeepsClusters buffer.old buffer.new }
+{
+    note(buffer.cur_mut(0), is_shown);
+}
+
+/// Says that a character is a variation selector that the font does not know, and whether it is shown.
+fn note(info: &mut hb_glyph_info_t, is_shown: bool)
+    ensures { info.new.cluster ≡ info.old.cluster }
+{
+    set_variation_selector(info);
+    if is_shown {
+        clear_default_ignorable(info);
+    }
+}
+
+/// Reads the variation selectors that are left before a place of the input.
+#[tactic(auto, using(shaping_buffer::proofs::ClosedKeepsLemmas::kept))]
+fn keep_selectors(buffer: &mut hb_buffer_t, end: usize) -> Result<bool, AllocError>
+    requires { buffer.old.have_output ≡ true }
+    ensures opened { IfOk result (λ _. buffer.new.have_output ≡ true) }
+    ensures keeps { KeepsClusters buffer.old buffer.new }
+{
+    for _turn in buffer.idx()..end {
+        if buffer.idx() >= end
+            || buffer.lookahead_len() == 0
+            || !is_variation_selector(buffer.cur(0).glyph_id)
+        {
+            break;
+        }
+        if !buffer.next_glyph()? {
+            return Ok(false);
+        }
+    }
+    Ok(true)
+}

@@ -1,0 +1,3 @@
+-- Why glyphs that are hidden keep the clusters (`ClusterLemmas`).
+
+pub mod ClusterLemmas

@@ -1,0 +1,56 @@
+// Written by tools/plain_rust from crates/font_face. Do not edit.
+
+//! Bounds of bitmaps, and of glyphs that are drawn in colours.
+
+use crate::color_glyphs::strikes::wanted_size;
+use crate::color_glyphs::{CbdtTables, ColrTable, PixelBox, SbixTable};
+use crate::common::{GlyphId, Tag};
+use crate::font_face::measures::scaled_bounds;
+use crate::font_tables::directory::Tables;
+use crate::font_tables::scale::Scale;
+use crate::glyph::GlyphExtents;
+
+/// The tables of a font with bitmaps, and with glyphs that are drawn in colours.
+#[derive(Clone, Copy, Debug)]
+pub struct ColorTables<'a> {
+    /// Bitmaps of the table `sbix`.
+    pub sbix: SbixTable<'a>,
+    /// Bitmaps of the tables `CBLC` and `CBDT`.
+    pub cbdt: CbdtTables<'a>,
+    /// Boxes that glyphs are clipped to, of the table `COLR`.
+    pub colr: ColrTable<'a>,
+}
+
+impl<'a> ColorTables<'a> {
+    /// Those of a font with so many glyphs, where an em has so many pixels across and upwards.
+    pub(crate) fn new(tables: &Tables<'a>, glyph_count: u16, x_ppem: u16, y_ppem: u16) -> Self {
+        let wanted = wanted_size(x_ppem, y_ppem);
+        let cblc = tables.table(Tag::from_bytes(b"CBLC"));
+        let cbdt = tables.table(Tag::from_bytes(b"CBDT"));
+        ColorTables {
+            sbix: SbixTable::new(tables.table(Tag::from_bytes(b"sbix")), glyph_count, wanted),
+            cbdt: CbdtTables::new(cblc, cbdt, wanted),
+            colr: ColrTable::new(tables.table(Tag::from_bytes(b"COLR"))),
+        }
+    }
+
+    /// The bounds of a glyph at a size and at a place in the variations; `None` where these tables have
+    /// none of it. Of a bitmap of `CBDT` the pixels are brought to the size before they become font units,
+    /// as HarfBuzz does.
+    pub(crate) fn bounds(
+        &self,
+        glyph: GlyphId,
+        coordinates: &[i32],
+        scale: &Scale,
+    ) -> Option<GlyphExtents> {
+        if let Some(found) = self.sbix.glyph_box(glyph) {
+            return Some(scaled_bounds(found.in_units(scale.units_per_em), scale));
+        }
+        if let Some(found) = self.cbdt.glyph_box(glyph) {
+            let extents = scaled_bounds(found.extents, scale);
+            return Some(PixelBox { extents, ..found }.in_units(scale.units_per_em));
+        }
+        let clip = self.colr.clip_box(glyph, coordinates)?;
+        Some(scaled_bounds(clip, scale))
+    }
+}

@@ -1,0 +1,89 @@
+// Written by tools/plain_rust from crates/font_normalization. Do not edit.
+
+//! What a mark and the character before it compose to, by the rules of a script and the glyphs of a font.
+
+use crate::buffer::hb_glyph_info_t;
+use crate::font_face::Face;
+use crate::font_normalization::glyph_info::is_unicode_mark;
+use crate::passes::normalization::CharacterPairs;
+use crate::script_shapers::{ScriptPlan, ScriptShaper};
+
+/// How marks are composed.
+#[derive(Clone, Copy, Debug)]
+pub(crate) struct Composing<'a> {
+    /// The font.
+    pub face: &'a Face<'a>,
+    /// The shaper of the text, which says what characters compose to.
+    pub shaper: ScriptShaper,
+    /// Whether the font places marks by its lookups.
+    pub has_gpos_mark: bool,
+}
+
+impl<'a> Composing<'a> {
+    /// How they are composed in a script, with this font.
+    ///
+    /// # Proved
+    ///
+    /// That it returns.
+    #[inline]
+    pub fn new(face: &'a Face<'a>, script: &ScriptPlan) -> Self {
+        Composing {
+            face,
+            shaper: script.shaper,
+            has_gpos_mark: script.has_gpos_mark,
+        }
+    }
+}
+
+///
+/// # Proved
+///
+/// ```text
+/// ghost pairs = { λ composing. pairs_of composing.face.now composing.shaper composing.has_gpos_mark }
+/// ghost alike = { λ composing starter g. refl }
+/// ```
+impl CharacterPairs for Composing<'_> {
+    fn composed_of(&self, starter: &hb_glyph_info_t, info: &hb_glyph_info_t) -> Option<u32> {
+        pair_of(self, starter, info)
+    }
+}
+
+/// What a starter and a mark compose to, if the font has it.
+fn pair_of(
+    composing: &Composing,
+    starter: &hb_glyph_info_t,
+    info: &hb_glyph_info_t,
+) -> Option<u32> {
+    if !is_unicode_mark(info) {
+        return None;
+    }
+    match char::from_u32(starter.glyph_id) {
+        Some(a) => match char::from_u32(info.glyph_id) {
+            Some(b) => composite_of(composing, a, b),
+            None => None,
+        },
+        None => None,
+    }
+}
+
+/// What two characters compose to, if the font has it.
+fn composite_of(composing: &Composing, a: char, b: char) -> Option<u32> {
+    match compose(composing, a, b) {
+        Some(composed) => if_there(composing.face, composed as u32),
+        None => None,
+    }
+}
+
+/// The character, if the font has it.
+fn if_there(face: &Face, character: u32) -> Option<u32> {
+    if face.glyph_index(character).is_some() {
+        Some(character)
+    } else {
+        None
+    }
+}
+
+/// What two characters compose to, whatever the font has.
+fn compose(composing: &Composing, a: char, b: char) -> Option<char> {
+    composing.shaper.compose(a, b, composing.has_gpos_mark)
+}

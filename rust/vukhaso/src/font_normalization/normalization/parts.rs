@@ -1,0 +1,60 @@
+// Written by tools/plain_rust from crates/font_normalization. Do not edit.
+
+//! What a character is taken apart into, by the rules of a script and the glyphs of a font.
+
+use crate::font_face::Face;
+use crate::passes::normalization::FontCharacters;
+use crate::script_shapers::ScriptShaper;
+
+/// How characters are taken apart.
+#[derive(Clone, Copy, Debug)]
+pub(crate) struct Taking<'a> {
+    /// The font.
+    pub face: &'a Face<'a>,
+    /// The shaper of the text, which says what a character decomposes to.
+    pub shaper: ScriptShaper,
+    /// Whether they are taken apart as little as the font needs, and not as far as it can.
+    pub shortest: bool,
+}
+
+///
+/// # Proved
+///
+/// ```text
+/// ghost font = { λ taking. font_of taking.face.now taking.shaper taking.shortest }
+/// ```
+impl FontCharacters for Taking<'_> {
+    fn has_glyph(&self, character: u32) -> bool {
+        self.face.glyph_index(character).is_some()
+    }
+
+    fn parts_of(&self, character: u32) -> Option<(u32, u32)> {
+        parts_of(self.shaper, character)
+    }
+
+    fn takes_fewest(&self) -> bool {
+        self.shortest
+    }
+}
+
+/// The two parts of a code point, the second U+0000 where there is none.
+fn parts_of(shaper: ScriptShaper, character: u32) -> Option<(u32, u32)> {
+    match char::from_u32(character) {
+        Some(character) => parts_of_char(shaper, character),
+        None => None,
+    }
+}
+
+/// Those of a character.
+fn parts_of_char(shaper: ScriptShaper, character: char) -> Option<(u32, u32)> {
+    with_zero(shaper.decompose(character))
+}
+
+/// Two parts, with U+0000 where there is no second.
+fn with_zero(parts: Option<(char, Option<char>)>) -> Option<(u32, u32)> {
+    match parts {
+        Some((first, Some(second))) => Some((first as u32, second as u32)),
+        Some((first, None)) => Some((first as u32, 0)),
+        None => None,
+    }
+}

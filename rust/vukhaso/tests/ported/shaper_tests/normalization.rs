@@ -1,0 +1,130 @@
+// Written by tools/plain_rust from crates/shaper_tests. Do not edit.
+
+//! Characters that are normalized with a font, and what is kept of each.
+
+use crate::Fail;
+use crate::shaper_tests::upright::UPRIGHT;
+use vukhaso::buffer::{BufferClusterLevel, UnicodeBuffer, hb_buffer_t, hb_glyph_info_t};
+use vukhaso::common::GlyphId;
+use vukhaso::font_normalization::glyph_info::{
+    clear_variation_selector, general_category, is_continuation, is_nonspacing_mark,
+    is_unicode_mark, is_unicode_space, is_variation_selector, modified_combining_class,
+    set_modified_combining_class, set_unicode_props, space_fallback,
+};
+use vukhaso::font_normalization::{allows_any_order, normalize};
+use vukhaso::font_shaper::Face;
+use vukhaso::script_shapers::{ScriptPlan, ScriptShaper};
+
+/// The characters of a text with their properties, in a buffer whose invisible glyph is 1.
+fn buffer_of(text: &str) -> hb_buffer_t {
+    let mut characters = UnicodeBuffer::new();
+    assert!(characters.push_str(text) == Ok(true));
+    let mut buffer = characters.into_buffer();
+    buffer.scratch_flags = set_properties(buffer.info_slice_mut());
+    buffer.invisible = Some(GlyphId(1));
+    buffer
+}
+
+/// Sets the properties of characters; the scratch flags of their text.
+fn set_properties(infos: &mut [hb_glyph_info_t]) -> u32 {
+    let mut scratch_flags = 0;
+    for info in infos.iter_mut() {
+        set_unicode_props(info, &mut scratch_flags);
+    }
+    scratch_flags
+}
+
+/// A plan in which the font does all.
+fn plan() -> ScriptPlan {
+    ScriptPlan {
+        shaper: ScriptShaper::Default,
+        is_mongolian: false,
+        has_private_use: false,
+        has_stch: false,
+        does_fallback: false,
+        has_gpos_mark: false,
+        rlig_mask: 0,
+        masks: [0; 8],
+    }
+}
+
+/// Texts, and the characters and glyphs that are made of them: marks stand in the order of their classes, a space that the font lacks
+/// has the invisible glyph, and what the font has neither whole nor in parts stays.
+static NORMALIZED: [(&str, &[(u32, u32)]); 3] = [
+    (
+        "a\u{301}\u{323}b",
+        &[(0x61, 3), (0x323, 0), (0x301, 0), (0x62, 4)],
+    ),
+    ("c\u{2003}", &[(0x63, 5), (0x2003, 1)]),
+    ("\u{e1}\u{2011}", &[(0xE1, 0), (0x2011, 0)]),
+];
+
+/// Glyphs are found, and marks are put in order.
+#[test]
+fn characters_are_normalized() -> Result<(), Fail> {
+    let face = Face::parse(UPRIGHT, 0)?.ok_or("no font")?;
+    for (text, wanted) in NORMALIZED {
+        let mut buffer = buffer_of(text);
+        assert!(normalize(&mut buffer, &face, &plan())?, "{text}");
+        assert_eq!(buffer.info().len(), wanted.len(), "{text}");
+        for (info, (character, glyph)) in buffer.info().iter().zip(wanted) {
+            assert_eq!(
+                (info.glyph_id, info.glyph_index()),
+                (*character, *glyph),
+                "{text}"
+            );
+        }
+    }
+    Ok(())
+}
+
+/// A mark, a space, and a variation selector that the font does not know.
+#[test]
+fn properties_are_kept() -> Result<(), Fail> {
+    let face = Face::parse(UPRIGHT, 0)?.ok_or("no font")?;
+    let mut buffer = buffer_of("a\u{301}\u{2003}b\u{fe01}");
+    assert!(normalize(&mut buffer, &face, &plan())?);
+    let [letter, mark, space, _, selector] = buffer.info_slice_mut() else {
+        return Err("other glyphs".into());
+    };
+    assert_eq!((general_category(letter), general_category(mark)), (5, 12));
+    assert!(is_unicode_mark(mark) && is_nonspacing_mark(mark) && is_continuation(mark));
+    assert!(!is_unicode_mark(letter) && !is_nonspacing_mark(letter) && !is_continuation(letter));
+    assert_eq!(
+        (
+            modified_combining_class(letter),
+            modified_combining_class(mark)
+        ),
+        (0, 230)
+    );
+    set_modified_combining_class(letter, 220);
+    set_modified_combining_class(mark, 220);
+    assert_eq!(
+        (
+            modified_combining_class(letter),
+            modified_combining_class(mark)
+        ),
+        (0, 220)
+    );
+    assert!(is_unicode_space(space) && !is_unicode_space(letter));
+    assert_eq!((space_fallback(space), space_fallback(letter)), (1, 0));
+    assert!(is_variation_selector(selector) && !is_variation_selector(mark));
+    clear_variation_selector(selector);
+    assert!(is_nonspacing_mark(selector) && !is_variation_selector(selector));
+    Ok(())
+}
+
+/// The levels at which clusters stay in order.
+#[test]
+fn clusters_may_stand_in_any_order() -> Result<(), Fail> {
+    for (level, wanted) in [
+        (BufferClusterLevel::MonotoneGraphemes, false),
+        (BufferClusterLevel::MonotoneCharacters, false),
+        (BufferClusterLevel::Characters, true),
+    ] {
+        let mut text = UnicodeBuffer::new();
+        text.set_cluster_level(level);
+        assert_eq!(allows_any_order(&text.into_buffer()), wanted, "{wanted}");
+    }
+    Ok(())
+}
