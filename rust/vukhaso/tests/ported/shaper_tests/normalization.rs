@@ -78,15 +78,8 @@ fn characters_are_normalized() -> Result<(), Fail> {
     Ok(())
 }
 
-/// A mark, a space, and a variation selector that the font does not know.
-#[test]
-fn properties_are_kept() -> Result<(), Fail> {
-    let face = Face::parse(UPRIGHT, 0)?.ok_or("no font")?;
-    let mut buffer = buffer_of("a\u{301}\u{2003}b\u{fe01}");
-    assert!(normalize(&mut buffer, &face, &plan())?);
-    let [letter, mark, space, _, selector] = buffer.info_slice_mut() else {
-        return Err("other glyphs".into());
-    };
+/// Asserts what is kept of a letter, a mark and a space.
+fn assert_kept(letter: &hb_glyph_info_t, mark: &hb_glyph_info_t, space: &hb_glyph_info_t) {
     assert_eq!((general_category(letter), general_category(mark)), (5, 12));
     assert!(is_unicode_mark(mark) && is_nonspacing_mark(mark) && is_continuation(mark));
     assert!(!is_unicode_mark(letter) && !is_nonspacing_mark(letter) && !is_continuation(letter));
@@ -97,6 +90,12 @@ fn properties_are_kept() -> Result<(), Fail> {
         ),
         (0, 230)
     );
+    assert!(is_unicode_space(space) && !is_unicode_space(letter));
+    assert_eq!((space_fallback(space), space_fallback(letter)), (1, 0));
+}
+
+/// Sets the combining class of a letter and of a mark: a letter has none.
+fn assert_classes_are_set(letter: &mut hb_glyph_info_t, mark: &mut hb_glyph_info_t) {
     set_modified_combining_class(letter, 220);
     set_modified_combining_class(mark, 220);
     assert_eq!(
@@ -106,11 +105,32 @@ fn properties_are_kept() -> Result<(), Fail> {
         ),
         (0, 220)
     );
-    assert!(is_unicode_space(space) && !is_unicode_space(letter));
-    assert_eq!((space_fallback(space), space_fallback(letter)), (1, 0));
-    assert!(is_variation_selector(selector) && !is_variation_selector(mark));
+}
+
+/// A variation selector becomes a mark.
+fn assert_selector_is_cleared(selector: &mut hb_glyph_info_t) {
+    assert!(is_variation_selector(selector));
     clear_variation_selector(selector);
     assert!(is_nonspacing_mark(selector) && !is_variation_selector(selector));
+}
+
+/// Asserts what is kept of the five characters of a text, and what may be set.
+fn assert_properties(infos: &mut [hb_glyph_info_t]) {
+    assert_eq!(infos.len(), 5);
+    if let [letter, mark, space, _, selector] = infos {
+        assert_kept(letter, mark, space);
+        assert_classes_are_set(letter, mark);
+        assert_selector_is_cleared(selector);
+    }
+}
+
+/// A mark, a space, and a variation selector that the font does not know.
+#[test]
+fn properties_are_kept() -> Result<(), Fail> {
+    let face = Face::parse(UPRIGHT, 0)?.ok_or("no font")?;
+    let mut buffer = buffer_of("a\u{301}\u{2003}b\u{fe01}");
+    assert!(normalize(&mut buffer, &face, &plan())?);
+    assert_properties(buffer.info_slice_mut());
     Ok(())
 }
 
