@@ -19,8 +19,9 @@ pub struct Budget {
 }
 
 impl Budget {
-    /// The budget of a text with so many glyphs, in which lookups may apply so many others: as many steps as HarfBuzz allows operations
-    /// (`HB_BUFFER_MAX_OPS_MIN` and `HB_BUFFER_MAX_OPS_FACTOR`), for at most 65,536 glyphs.
+    /// The budget of a text with so many glyphs, in which lookups may apply so many others: 1,024 steps for each of at most 65,536 glyphs,
+    /// and 16,384 more. The first and the last are HarfBuzz's numbers for its operations (`HB_BUFFER_MAX_OPS_FACTOR` and
+    /// `HB_BUFFER_MAX_OPS_MIN`), of which it allows the greater.
     pub fn new(nested: u32, glyphs: usize) -> Self
         ensures nested { result.nested ≡ nested }
         ensures steps { result.steps ≡ steps_for glyphs }
