@@ -46,6 +46,16 @@ fn glyphs_have_infos_and_positions(rt: HostRuntime) -> Result<(), Fail> {
     Ok(())
 }
 
+#[test]
+fn a_failure_to_shape_is_told(rt: HostRuntime) -> Result<(), Fail> {
+    let mut buffer = buffer_of(&rt, rt.alloc(), "ab");
+    buffer.clear_positions();
+    buffer.shaping_failed = true;
+    assert!(rt; GlyphBuffer::from_buffer(buffer).shaping_failed());
+    assert!(rt; !glyphs(&rt, rt.alloc(), "ab").shaping_failed());
+    Ok(())
+}
+
 /// The text of glyphs by their numbers and with their flags.
 fn numbered(alloc: Global, shaped: &GlyphBuffer) -> Result<String, Fail> {
     let flags = SerializeFlags::NO_GLYPH_NAMES.union(SerializeFlags::GLYPH_FLAGS);

@@ -68,6 +68,14 @@ impl GlyphBuffer {
         self.buffer.pos()
     }
 
+    /// Whether shaping was given up before its end, for a limit on work or on length: then the glyphs are those that it had come to.
+    /// HarfBuzz has the flag inside its buffer, as `shaping_failed`.
+    pub fn shaping_failed(&self) -> bool
+        ensures { result ≡ self.now.shaping_failed }
+    {
+        self.buffer.shaping_failed
+    }
+
     /// An empty text, as rustybuzz makes it. The buffer's `max_len`, `max_ops`, `flags`, `invisible` and
     /// `shaping_failed` stay, and all else is as in a new text.
     pub fn clear(self) -> UnicodeBuffer

@@ -42,6 +42,16 @@ fn glyphs_have_infos_and_positions() -> Result<(), Fail> {
     Ok(())
 }
 
+#[test]
+fn a_failure_to_shape_is_told() -> Result<(), Fail> {
+    let mut buffer = buffer_of("ab");
+    buffer.clear_positions();
+    buffer.shaping_failed = true;
+    assert!(GlyphBuffer::from_buffer(buffer).shaping_failed());
+    assert!(!glyphs("ab").shaping_failed());
+    Ok(())
+}
+
 /// The text of glyphs by their numbers and with their flags.
 fn numbered(shaped: &GlyphBuffer) -> Result<String, Fail> {
     let flags = SerializeFlags::NO_GLYPH_NAMES.union(SerializeFlags::GLYPH_FLAGS);
