@@ -1,0 +1,215 @@
+"""Plants many wrong bodies of a crate at once, so that one check tells of all of them.
+
+A batch has wrong bodies of functions of which none calls another, by itself or through others, so what is refused of a
+function is refused for its own body. Calls are read from the text: by a name and where it stands, of all functions that it may
+be, and an operator or a loop as a call of each that a type of the crate has for one. So some count as calls that are
+none, and none is missed.
+"""
+
+import re
+import time
+from collections import defaultdict
+from dataclasses import dataclass, field
+
+from rattle_source import every
+from scratch import Scratch, side_by_side
+from wrong_bodies import changed_functions, functions_of, is_named, is_of_a_goal, left_open, readers_of, speaks_of, texts_with
+
+# A name of a function, with what stands before it: a dot, or a path.
+CALL = re.compile(r"(?:(?P<dot>\.\s*)|(?:(?P<path>\w+|>)\s*::\s*))?(?P<name>[^\W\d]\w*)(?P<call>\s*(?:\(|::\s*<))?")
+
+# What a text calls without its name.
+UNNAMED = set("""next into_iter eq ne cmp partial_cmp lt le gt ge drop deref deref_mut index index_mut from fmt add sub mul div rem neg not
+bitand bitor bitxor shl shr add_assign sub_assign mul_assign div_assign rem_assign bitand_assign bitor_assign bitxor_assign""".split())
+UNNAMED_TOO = {"parse": "from_str", "unwrap_or_default": "default", "to_string": "fmt", "into": "from", "try_into": "try_from", "collect": "from_iter"}
+
+
+class Calls:
+    """The functions of a crate, each by its file and its first line, and those that each may reach."""
+
+    def __init__(self, crate):
+        self.its, self.by_name, traits = {}, defaultdict(list), set()
+        for it in functions_of(crate, with_defaults=True):
+            self.its[it.key] = it
+            self.by_name[it.name].append(it)
+        for reader in readers_of(crate):
+            traits |= {item.name for item in every(reader.items) if item.kind == "trait"}
+        self.owners = {it.owner for it in self.its.values() if it.owner} - traits
+        unnamed = {key for key, it in self.its.items() if it.trait and it.name in UNNAMED}
+        direct = {key: unnamed | set(self.named_in(it)) for key, it in self.its.items()}
+        self.reached = {key: self.all_from(key, direct) for key in direct}
+
+    def named_in(self, function):
+        text = re.sub(r"//[^\n]*", "", "\n".join(function.whole))
+        for found in CALL.finditer(text):
+            for name in (found["name"], UNNAMED_TOO.get(found["name"])):
+                for it in self.by_name.get(name, []):
+                    if self.may_be(it, found, function):
+                        yield it.key
+
+    def may_be(self, it, found, caller):
+        """Whether the name that was found in a caller's text may be this function's."""
+        path = found["path"]
+        if found["dot"]:
+            return it.owner is not None and found["call"] is not None
+        if path in self.owners or path == "Self":
+            return it.owner == (caller.owner if path == "Self" else path)
+        if path is not None and path[0].islower():
+            return it.owner is None
+        # What stands alone is a free function, or one that is passed on; what stands behind another path may be any method.
+        return (it.owner is None) == (path is None)
+
+    def all_from(self, key, direct):
+        seen, todo = set(), [*direct[key]]
+        while todo:
+            other = todo.pop()
+            if other not in seen:
+                seen.add(other)
+                todo += direct[other]
+        return seen
+
+    def tie(self, one, other):
+        """Whether one of these functions is the other, or may call it by itself or through others."""
+        return one == other or one in self.reached[other] or other in self.reached[one]
+
+
+@dataclass
+class Batch:
+    """Wrong bodies that are planted at once, with the texts that they make, by their files."""
+
+    edits: list = field(default_factory=list)
+    texts: dict = field(default_factory=dict)
+
+
+def apart(edits, calls):
+    """Of each edit those that cannot be planted with it: one of a function that calls the other's, or whose text is in the way.
+    One that changes no function, as a table, cannot be planted with any."""
+    changed = [[it.key for it in changed_functions(edit)] for edit in edits]
+    found = [set() for _ in edits]
+    for at, one in enumerate(edits):
+        alone = texts_with(one, "new", {})
+        for other in range(at):
+            ties = any(calls.tie(it, that) for it in changed[at] for that in changed[other])
+            if ties or not changed[at] or not changed[other] or texts_with(edits[other], "new", alone) is None:
+                found[at].add(other)
+                found[other].add(at)
+    return found
+
+
+def batches_of(crate, edits):
+    """The edits of a crate in few batches: next comes the one that has been kept out of most batches, into the first that takes it."""
+    kept_out = apart(edits, Calls(crate))
+    batches, placed, left = [], {}, {*range(len(edits))}
+    while left:
+        at = max(left, key=lambda it: (len({placed[other] for other in kept_out[it] if other in placed}), len(kept_out[it]), -it))
+        left.remove(at)
+        taken = {placed[other] for other in kept_out[at] if other in placed}
+        for number, batch in enumerate(batches):
+            texts = texts_with(edits[at], "new", batch.texts)
+            if number not in taken and texts is not None:
+                break
+        else:
+            number, batch, texts = len(batches), Batch(), texts_with(edits[at], "new", {})
+            batches.append(batch)
+        placed[at] = number
+        batch.edits.append(edits[at])
+        batch.texts = texts
+    return batches
+
+
+# The tries.
+
+
+def refused_in(edit, lines):
+    """The function of the edit that this check leaves open at a goal of its own, or None. Where the edit changes no function,
+    any function."""
+    left = left_open(lines)
+    for it in changed_functions(edit):
+        name = it.printed(edit.crate)
+        if any(is_named(path, name) for path in left):
+            if any(is_of_a_goal(line) and speaks_of(line, it, edit.crate) for line in lines):
+                return name
+    return None
+
+
+def verdict_alone(edit, lines):
+    """What a check says of the only edit that was planted: whether it is refused, and the words for it."""
+    left, goals = left_open(lines), [line for line in lines if is_of_a_goal(line)]
+    own = [it.printed(edit.crate) for it in changed_functions(edit)]
+    found = next((path for path in left if not own or any(is_named(path, name) for name in own)), None)
+    if found and goals:
+        return True, f"refused in {found}, alone"
+    if left and goals:
+        return False, f"NOT REFUSED in its own function, and only in {', '.join(left[:3])}"
+    if any(line.startswith("logic=proved") for line in lines):
+        return False, "NOT REFUSED: the crate is proved with it, so it means the same, or the contract says too little"
+    said = next((line for line in lines if re.match(r"rattle: |.*: error", line)), lines[-1] if lines else "nothing")
+    return False, f"NOT TRIED: {said[:200]}"
+
+
+def tried(scratch, edits, texts):
+    """The lines of a check of a crate with these texts."""
+    crate = edits[0].crate
+    own = {path.relative_to(crate): text for path, text in texts.items()}
+    return scratch.tried(crate.name, own, ["--jobs", "1"])[1]
+
+
+class Tries:
+    """The tries of edits: those of a batch at once, and alone those of which that says nothing."""
+
+    def __init__(self, scratch):
+        self.scratch, self.begun, self.told, self.failed = scratch, time.monotonic(), 0, 0
+
+    def try_batch(self, batch):
+        """The edits of a batch, each with whether it is refused, or None where that is not known, and the words for it."""
+        lines = tried(self.scratch, batch.edits, batch.texts)
+        found = {}
+        for edit in batch.edits:
+            name = refused_in(edit, lines)
+            found[edit.label] = edit, *((True, f"refused in {name}") if name else (None, ""))
+        if len(batch.edits) == 1:
+            edit = batch.edits[0]
+            found = {edit.label: (edit, *verdict_alone(edit, lines))}
+        return [*found.values()]
+
+    def try_alone(self, edit):
+        return [(edit, *verdict_alone(edit, tried(self.scratch, [edit], texts_with(edit, "new", {}))))]
+
+    def run(self, edits):
+        tasks, open_edits = [], []
+        crates = sorted({edit.crate for edit in edits})
+        for crate in crates:
+            needs = self.scratch.needs(crate.name)
+            batches = batches_of(crate, [edit for edit in edits if edit.crate == crate])
+            tasks += [(needs, lambda batch=batch: self.try_batch(batch)) for batch in batches]
+        print(f"{len(edits)} wrong bodies of {len(crates)} crates, in {len(tasks)} batches", flush=True)
+        self.tell(tasks, open_edits)
+        if open_edits:
+            print(f"alone: {len(open_edits)} of which their batch does not tell", flush=True)
+            alone = [(self.scratch.needs(edit.crate.name), lambda edit=edit: self.try_alone(edit)) for edit in open_edits]
+            self.tell(alone, [])
+
+    def tell(self, tasks, open_edits):
+        """Runs the tasks, the largest first, and prints what each edit came to as they end."""
+        for number, found in enumerate(side_by_side(sorted(tasks, key=lambda it: -it[0])), 1):
+            print(f"[{time.monotonic() - self.begun:.0f} s, {number} of {len(tasks)}]", flush=True)
+            for edit, is_refused, said in found:
+                if is_refused is None:
+                    open_edits.append(edit)
+                    continue
+                self.told += 1
+                self.failed += not is_refused
+                print(f"{edit.label}: {said}", flush=True)
+
+
+def try_all(edits):
+    """Plants all these edits, and prints how many are refused. Returns how many are not."""
+    with Scratch({edit.crate.name for edit in edits}) as scratch:
+        open_crates, said = scratch.prove()
+        if open_crates:
+            print(said[-3000:], f"not proved as they stand: {' '.join(open_crates)}", f"0 passed, {len(edits)} failed", sep="\n")
+            return len(edits)
+        tries = Tries(scratch)
+        tries.run(edits)
+    print(f"{tries.told - tries.failed} passed, {tries.failed} failed, in {time.monotonic() - tries.begun:.0f} seconds")
+    return tries.failed

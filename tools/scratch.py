@@ -1,0 +1,175 @@
+"""Copies of crates in which other texts are tried, so that the files of the checkout stay as they are.
+
+`Scratch` is a copy of some crates and of those that they stand on, with what `rt check` kept of them. `rt all check` proves
+it as it stands, in seconds where all is kept. Each text is then tried in a copy of that copy, so tries may run side by side.
+"""
+
+import fcntl
+import hashlib
+import itertools
+import os
+import re
+import shutil
+import signal
+import subprocess
+import tempfile
+from concurrent.futures import FIRST_COMPLETED, ThreadPoolExecutor, wait
+from pathlib import Path
+
+ROOT = Path(__file__).resolve().parent.parent
+PARTS = ("src", "specs", "proofs", "c")
+
+# The share of the free memory that tries may take.
+MEMORY = 0.85
+
+
+def libraries():
+    """The crates of crates.txt, each with its line and those that it names."""
+    found = {}
+    for line in (ROOT / "crates.txt").read_text().splitlines():
+        name, colon, named = line.partition("#")[0].partition(":")
+        if colon:
+            found[name.split()[0]] = line, named.split()
+    return found
+
+
+def with_below(names, found):
+    """These crates and all that they stand on."""
+    todo, seen = [*names], set()
+    while todo:
+        name = todo.pop()
+        if name in found and name not in seen:
+            seen.add(name)
+            todo += found[name][1]
+    return seen
+
+
+def link(one, other):
+    try:
+        os.link(one, other)
+    except OSError:
+        shutil.copy2(one, other)
+
+
+def link_if_replaced(one, other):
+    """A check replaces what it proved, and writes into other files of its kept work."""
+    (link if one.endswith(".oantt") else shutil.copy2)(one, other)
+
+
+def copy_if_there(folder, to, copy):
+    if folder.is_dir():
+        shutil.copytree(folder, to, symlinks=True, copy_function=copy)
+
+
+def count_of_lines(crate, ending):
+    return sum(path.read_bytes().count(b"\n") for part in PARTS[:3] for path in (crate / part).rglob(f"*{ending}"))
+
+
+def free_memory():
+    found = re.search(r"MemAvailable:\s+(\d+)", Path("/proc/meminfo").read_text())
+    return 1024 * int(found[1])
+
+
+class Scratch:
+    """A copy of crates, made anew below one place of this checkout, which one run at a time has to itself."""
+
+    def __init__(self, names):
+        place = hashlib.sha256(str(ROOT).encode()).hexdigest()[:12]
+        self.room = Path(tempfile.gettempdir(), f"vukhaso-tries-{place}")
+        self.crates = libraries()
+        self.names = sorted(with_below(names, self.crates))
+        self.numbers = itertools.count(1)
+
+    def __enter__(self):
+        self.held = open(f"{self.room}.lock", "w")
+        try:
+            fcntl.flock(self.held, fcntl.LOCK_EX | fcntl.LOCK_NB)
+        except BlockingIOError:
+            print("waiting for another run of tools/edits in this checkout to end", flush=True)
+            fcntl.flock(self.held, fcntl.LOCK_EX)
+        shutil.rmtree(self.room, ignore_errors=True)
+        self.base = self.begin("base", self.names)
+        for name in self.names:
+            own, to = ROOT / "crates" / name, self.base / "crates" / name
+            for part in PARTS:
+                copy_if_there(own / part, to / part, shutil.copyfile)
+            copy_if_there(own / "out/rlib", to / "out/rlib", link)
+            copy_if_there(own / "out/incremental", to / "out/incremental", link_if_replaced)
+        return self
+
+    def __exit__(self, *_):
+        shutil.rmtree(self.room, ignore_errors=True)
+        self.held.close()
+
+    def begin(self, label, names):
+        """A folder that is the top of a repository of these crates."""
+        top = self.room / label
+        (top / "crates").mkdir(parents=True)
+        (top / ".git").mkdir()
+        (top / "crates.txt").write_text("".join(f"{self.crates[name][0]}\n" for name in sorted(names)))
+        shutil.copyfile(ROOT / "HANDLES", top / "HANDLES")
+        return top
+
+    def prove(self):
+        """Proves the copy as it stands. Returns the crates that are not proved, and what was said."""
+        ran = run(["rt", "all", "check", "--jobs", str(processors())], self.base)
+        return re.findall(r"^(\w+): (?:failed|not run)", ran.stdout, re.M) or ["?"] * (ran.returncode != 0), ran.stdout
+
+    def needs(self, name):
+        """The memory in bytes that a try in this crate is likely to take: what `rt ci` reckons with, over kept work."""
+        crate = self.base / "crates" / name
+        below = with_below([name], self.crates) - {name}
+        of_libraries = sum(count_of_lines(self.base / "crates" / it, ".rt") for it in below)
+        lines, answers = count_of_lines(crate, ".rt"), count_of_lines(crate, ".antt")
+        return 0.7 * (1e9 + 1e6 * lines + 2e5 * answers + 8e4 * of_libraries)
+
+    def tried(self, name, texts, words):
+        """Whether `rt check` proves this crate with these texts in it, by their paths in the crate, and the lines that it prints."""
+        names = with_below([name], self.crates)
+        top = self.begin(f"{name}-{next(self.numbers)}", names)
+        try:
+            for it in names:
+                own, to = self.base / "crates" / it, top / "crates" / it
+                for part in PARTS:
+                    copy_if_there(own / part, to / part, link)
+                copy_if_there(own / "out/rlib", to / "out/rlib", link)
+            crate = top / "crates" / name
+            copy_if_there(self.base / "crates" / name / "out/incremental", crate / "out/incremental", link_if_replaced)
+            for path, text in texts.items():
+                (crate / path).unlink()
+                (crate / path).write_text(text)
+            ran = run(["rt", "check", *words], crate)
+            if ran.returncode == -signal.SIGKILL:
+                ran = run(["rt", "check", *words, "--jobs", "1"], crate)
+            return ran.returncode == 0, ran.stdout.splitlines()
+        finally:
+            shutil.rmtree(top, ignore_errors=True)
+
+
+def run(words, folder):
+    how = {"stdin": subprocess.DEVNULL, "stdout": subprocess.PIPE, "stderr": subprocess.STDOUT, "text": True, "errors": "replace"}
+    return subprocess.run(words, cwd=folder, **how)
+
+
+def processors():
+    return len(os.sched_getaffinity(0))
+
+
+def side_by_side(tasks):
+    """Runs calls, each beside as many others as there are processors and memory for, and gives what each returned as it ends.
+    A task is the memory in bytes that it takes, and a call. The first ones begin first."""
+    left, running, memory = [*tasks], {}, MEMORY * free_memory()
+    with ThreadPoolExecutor(processors()) as pool:
+        try:
+            while left or running:
+                for task in [*left]:
+                    taken = sum(running.values())
+                    if not running or len(running) < processors() and taken + task[0] <= memory:
+                        left.remove(task)
+                        running[pool.submit(task[1])] = task[0]
+                for done in wait(running, return_when=FIRST_COMPLETED).done:
+                    del running[done]
+                    yield done.result()
+        finally:
+            for it in running:
+                it.cancel()
