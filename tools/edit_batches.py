@@ -121,8 +121,7 @@ def batches_of(crate, edits):
 
 
 def refused_in(edit, lines):
-    """The function of the edit that this check leaves open at a goal of its own, or None. Where the edit changes no function,
-    any function."""
+    """The function of the edit that this check leaves open at a goal of its own, or None."""
     left = left_open(lines)
     for it in changed_functions(edit):
         name = it.printed(edit.crate)
@@ -147,11 +146,12 @@ def verdict_alone(edit, lines):
     return False, f"NOT TRIED: {said[:200]}"
 
 
-def tried(scratch, edits, texts):
-    """The lines of a check of a crate with these texts."""
+def tried(scratch, edits, texts, functions=()):
+    """The lines of a check of a crate with these texts, of these functions alone where some are named."""
     crate = edits[0].crate
     own = {path.relative_to(crate): text for path, text in texts.items()}
-    return scratch.tried(crate.name, own, ["--jobs", "1"])[1]
+    only = [word for it in functions for word in ("--only", it.printed(crate))]
+    return scratch.tried(crate.name, own, ["--jobs", "1", *only])[1]
 
 
 class Tries:
@@ -161,16 +161,14 @@ class Tries:
         self.scratch, self.begun, self.told, self.failed = scratch, time.monotonic(), 0, 0
 
     def try_batch(self, batch):
-        """The edits of a batch, each with whether it is refused, or None where that is not known, and the words for it."""
-        lines = tried(self.scratch, batch.edits, batch.texts)
-        found = {}
-        for edit in batch.edits:
-            name = refused_in(edit, lines)
-            found[edit.label] = edit, *((True, f"refused in {name}") if name else (None, ""))
-        if len(batch.edits) == 1:
-            edit = batch.edits[0]
-            found = {edit.label: (edit, *verdict_alone(edit, lines))}
-        return [*found.values()]
+        """The edits of a batch, each with whether it is refused, or None where that is not known, and the words for it. What
+        calls the functions that are changed is not checked."""
+        functions = [it for edit in batch.edits for it in changed_functions(edit)]
+        if not functions:
+            return self.try_alone(batch.edits[0])
+        lines = tried(self.scratch, batch.edits, batch.texts, functions)
+        names = [(edit, refused_in(edit, lines)) for edit in batch.edits]
+        return [(edit, True, f"refused in {name}") if name else (edit, None, "") for edit, name in names]
 
     def try_alone(self, edit):
         return [(edit, *verdict_alone(edit, tried(self.scratch, [edit], texts_with(edit, "new", {}))))]
@@ -205,6 +203,7 @@ class Tries:
 def try_all(edits):
     """Plants all these edits, and prints how many are refused. Returns how many are not."""
     with Scratch({edit.crate.name for edit in edits}) as scratch:
+        print("the crates as they stand", flush=True)
         open_crates, said = scratch.prove()
         if open_crates:
             print(said[-3000:], f"not proved as they stand: {' '.join(open_crates)}", f"0 passed, {len(edits)} failed", sep="\n")
