@@ -7,6 +7,7 @@ TWINS = {
     "to_ascii_lowercase": ("try_to_ascii_lowercase", "TryText"),
     "repeat": ("try_repeat", "TryText"),
     "collect": ("try_into_vec", "TryIterator"),
+    "to_string": ("try_to_string", "TryDisplay"),
 }
 
 # Macros whose first argument is what they print or end by.
@@ -103,6 +104,13 @@ class Bodies(Edited):
                     self.put(place, text)
             else:
                 self.source.refuse(at, f"`{name}!` with an allocator is not known")
+        elif name == "eprintln" and self.paths.host and self.texts[self.source.after(inner)] == ";":
+            # The runtime prints it.
+            self.put(at, f"{self.texts[inner]}.eprint_line")
+            self.cut(mark, mark + 1)
+            self.cut(inner, self.source.after(inner) + 1)
+            self.put(opening, "(format_args!(")
+            self.put(end, "))")
         elif self.texts[inner] in ("rt", "error") and self.texts[self.source.after(inner)] == ";":
             if name not in WITH_RUNTIME:
                 return None
@@ -113,6 +121,7 @@ class Bodies(Edited):
 
     def erase_arguments(self):
         """Takes `alloc` and `rt` out of the lists of arguments."""
+        self.erase_names_of_alloc()
         for first, last in self.passed():
             before = self.before(first)
             behind = self.behind(last)
@@ -128,6 +137,13 @@ class Bodies(Edited):
             else:
                 self.cut(first, last)
 
+    def erase_names_of_alloc(self):
+        """The statement `let alloc = rt.alloc();`."""
+        places = self.bare()
+        for i, at in enumerate(places):
+            if [self.texts[p] for p in places[i : i + 9]] == ["let", "alloc", "=", "rt", ".", "alloc", "(", ")", ";"]:
+                self.cut_line(at, places[i + 8] + 1)
+
     def passed(self):
         """What is passed on and is not there in plain Rust: `alloc`, also as a field, `rt.alloc()`, `rt` and `&rt`."""
         found = []
@@ -140,6 +156,8 @@ class Bodies(Edited):
                 found.append((at, places[i + 2] + 1))
             elif texts[0] == "alloc" and (i == 0 or self.texts[places[i - 1]] != "."):
                 found.append((at, at + 1))
+            elif self.paths.host:
+                continue  # the runtime is passed there
             elif texts[:2] == ["&", "rt"] and self.paths.has_std:
                 found.append((at, places[i + 1] + 1))
             elif texts[0] == "rt" and self.paths.has_std and texts[1] in (",", ")"):

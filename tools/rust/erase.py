@@ -7,7 +7,7 @@ import re
 
 import contracts
 from bodies import FOR_PROOFS, Bodies
-from paths import GONE, grouped, use_leaves
+from paths import GONE, KNOWN_OF_HOST, grouped, use_leaves
 
 # Methods of std that core does not have, and the trait of the package that has them.
 BEYOND_CORE = {"round": "Round", "floor": "Round", "ceil": "Round"}
@@ -76,7 +76,9 @@ class Erased(Bodies):
         if is_law(self.source, item) or item.kind in ("mod", "fn") and parent is None and item.name in self.dropped:
             return self.cut_item(item)
         if item.kind == "impl" and "AllocFailed" in item.trait:
-            return self.cut_item(item)  # growth answers `AllocError` alone
+            if any(other.trait == "From<AllocError>" and other.name == item.name for other in self.reader.items):
+                return self.cut_item(item)  # growth answers `AllocError` alone
+            self.take_alloc_error(item)
         for attribute in item.attributes:
             self.erase_attribute(item, attribute)
         if item.kind == "use":
@@ -99,6 +101,18 @@ class Erased(Bodies):
                 self.cut_item(inner)
             else:
                 self.erase_item(inner, item)
+
+    def take_alloc_error(self, item):
+        """Makes the conversion of what was not pushed one of the error alone."""
+        head = self.bare(item.start, item.last)
+        generics = self.source.after(item.start)
+        self.cut(generics, self.source.closing_angle(generics) + 1)
+        for at in head:
+            if self.texts[at] == "AllocFailed":
+                self.put(at, "AllocError")
+                opening = self.source.after(at)
+                self.cut(opening, self.source.closing_angle(opening) + 1)
+                self.of_memory.add("AllocError")
 
     def erase_attribute(self, item, attribute):
         if attribute.name == "inline" and self.source.text(attribute.first, attribute.last) == "#[inline]":
@@ -186,7 +200,7 @@ class Erased(Bodies):
         first, last = item.parameters
         for start, end in self.source.split(first, last):
             kind = self.source.text(start, end).partition(":")[2].strip()
-            if kind in NOT_PASSED:
+            if kind == "Global" or kind in NOT_PASSED and not self.paths.host:
                 following = self.source.at(end)
                 self.cut(start, end + 1 if following == "," else end)
         self.close_list(first, last)
@@ -269,7 +283,12 @@ class Erased(Bodies):
 
     def imports(self):
         """What the file names of the package's own modules, by the modules."""
-        return {self.paths.memory: self.names_of_memory()}
+        found = {self.paths.memory: self.names_of_memory()}
+        if self.paths.host:
+            places = self.bare()
+            bounds = {self.texts[at] for i, at in enumerate(places) if i and self.texts[places[i - 1]] in (":", "+")}
+            found[self.paths.host] = sorted(KNOWN_OF_HOST & bounds)
+        return found
 
     def traits_of_numbers(self):
         if self.paths.has_std:

@@ -61,6 +61,7 @@ def test_rust(tally, room):
     else:
         what = "cargo test, with no program beside the proved one, which `rt ci` links"
     tally.run(what, ["cargo", "test", "--offline", "--quiet"], environment=beside)
+    tally.run("cargo check with no std", ["cargo", "check", "--offline", "--quiet", "--lib", "--no-default-features", "--features", "alloc"])
     tally.run("cargo doc with no warning", ["cargo", "doc", "--offline", "--quiet"], environment={"RUSTDOCFLAGS": "-D warnings"})
     if is_here("cargo", "clippy", "--version"):
         words = ["cargo", "clippy", "--offline", "--quiet", "--all-targets", "--features", "capi", "--", "-D", "warnings"]
@@ -89,6 +90,20 @@ def test_c(tally, room):
         tally.run("it runs", [room / "shared"])
 
 
+def test_program(tally, room):
+    """The program of the package: it installs with no network, and answers the stored run of the proved program."""
+    words = ["cargo", "install", "--offline", "--quiet", "--path", ".", "--root", str(room / "installed"), "--no-track"]
+    if tally.run("cargo install makes vukhaso_shape", words).returncode:
+        return
+    stored, program = ROOT / "crates/vukhaso_shape", room / "installed/bin/vukhaso_shape"
+    with (stored / "stdin").open() as lines:
+        ran = subprocess.run(
+            [program, *(stored / "args").read_text().split()], cwd=stored / "data", stdin=lines, capture_output=True, text=True)
+    told = (stored / "stdout").read_text()
+    fault = "" if (ran.stdout, ran.stderr, ran.returncode) == (told, "", 0) else f"status {ran.returncode}\n{ran.stderr}{ran.stdout}"
+    tally.note("its stored run, which is the proved program's", fault)
+
+
 def test_readme(tally, room):
     """The lines of README in a new package, which print what it says, and again in the package's own README."""
     text = (ROOT / "README.md").read_text()
@@ -113,5 +128,6 @@ def test_readme(tally, room):
 def test_all(tally):
     with tempfile.TemporaryDirectory(prefix="plain-rust-") as folder:
         test_rust(tally, Path(folder))
+        test_program(tally, Path(folder))
         test_readme(tally, Path(folder))
         test_c(tally, Path(folder))

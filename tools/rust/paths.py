@@ -10,6 +10,11 @@ GONE = {
 }
 
 
+# Modules of std in whose place those of the runtime stand, and names of it that need no import in Rattle.
+OF_HOST = {"env", "fs", "io", "rt"}
+KNOWN_OF_HOST = {"AllocGlobal", "Input", "Print", "Eprint"}
+
+
 # Conversions that Rust writes by `as`, and Rattle's std by a name.
 CONVERSIONS = ("nearest_", "saturating_")
 
@@ -17,8 +22,9 @@ CONVERSIONS = ("nearest_", "saturating_")
 class Paths:
     """Where each crate stands, as `crate::glyph` for `rb_glyph`, and the crate that is read."""
 
-    def __init__(self, modules, own, memory, has_std, fail=None):
+    def __init__(self, modules, own, memory, has_std, fail=None, host=None):
         self.modules, self.own, self.memory, self.has_std, self.fail = modules, own, memory, has_std, fail
+        self.host = host  # where the runtime of a program is, if it is passed on
 
     def start(self, names):
         """The path that stands for the first names of a path, and the names that are left. None where it is not known."""
@@ -40,6 +46,8 @@ class Paths:
             return self.memory.replace("memory", "numbers"), names[1:]
         if names[:2] == ["test", "Fail"] and self.fail:
             return self.fail, []
+        if self.host and (names[0] in OF_HOST or names == ["convert", "AsStr"]):
+            return self.host, names[1:] if names[0] in ("rt", "convert") else names
         if self.has_std:
             return "std", names
         return ("core", names) if names[0] in CORE else None

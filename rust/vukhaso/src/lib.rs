@@ -7,6 +7,8 @@
 #![allow(non_camel_case_types)] // the names are those of HarfBuzz and rustybuzz
 
 extern crate alloc;
+#[cfg(any(test, feature = "std"))]
+extern crate std;
 
 pub mod arrayvec;
 pub mod bitflags;
@@ -28,6 +30,8 @@ pub mod buffer;
 pub mod character_maps;
 #[allow(clippy::style, clippy::complexity)]
 pub mod color_glyphs;
+#[cfg(feature = "std")]
+mod command;
 #[allow(clippy::style, clippy::complexity)]
 pub mod common;
 #[allow(clippy::style, clippy::complexity)]
@@ -83,6 +87,14 @@ pub mod syllabic_shapers;
 pub mod text;
 #[allow(clippy::style, clippy::complexity)]
 pub mod unicode_tables;
+
+#[cfg(feature = "std")]
+mod clap;
+#[cfg(feature = "std")]
+mod host;
+#[cfg(feature = "std")]
+#[doc(hidden)]
+pub mod program;
 
 #[cfg(feature = "capi")]
 #[allow(unsafe_code)]

@@ -8,7 +8,7 @@ mod string;
 mod vec;
 
 pub use map::BTreeMap;
-pub use string::{String, TryText};
+pub use string::{String, TryDisplay, TryText};
 pub use vec::{TryIterator, Vec};
 
 /// There is no memory for what was asked.

@@ -12,7 +12,7 @@ use crate::font_variations::rounding::{float, rounded};
 use crate::glyph::GlyphExtents;
 use crate::glyph_variations::{Phantoms, VariedOutline, varied_outline, varied_phantoms};
 use crate::memory::AllocError;
-#[cfg(not(any(test, feature = "capi")))]
+#[cfg(not(any(test, feature = "std")))]
 use crate::numbers::Round;
 use crate::numbers::{nearest_i64_to_f32, saturating_f32_to_i32};
 

@@ -2,7 +2,7 @@
 
 //! Floats of whole numbers, and whole numbers of floats.
 
-#[cfg(not(any(test, feature = "capi")))]
+#[cfg(not(any(test, feature = "std")))]
 use crate::numbers::Round;
 use crate::numbers::{nearest_i64_to_f32, saturating_f32_to_i32};
 

@@ -7,7 +7,7 @@ use crate::font_variations::VariationStore;
 use crate::glyph_outlines::charstring::{DEEPEST_CALL, MOST_STEPS, State, UNIT};
 use crate::glyph_outlines::index_2::subroutine_2;
 use crate::glyph_outlines::path::Path;
-#[cfg(not(any(test, feature = "capi")))]
+#[cfg(not(any(test, feature = "std")))]
 use crate::numbers::Round;
 use crate::numbers::{nearest_i64_to_f64, saturating_f64_to_i32};
 

@@ -21,6 +21,14 @@ impl String {
         Ok(text)
     }
 
+    /// A copy of a text.
+    #[allow(clippy::should_implement_trait)] // the name that Rattle's has
+    pub fn from_str(text: &str) -> Result<Self, AllocError> {
+        let mut copy = String::new();
+        copy.push_str(text)?;
+        Ok(copy)
+    }
+
     /// Makes room for so many bytes more.
     #[inline]
     pub fn reserve(&mut self, additional: usize) -> Result<(), AllocError> {
@@ -112,6 +120,12 @@ impl fmt::Display for String {
     }
 }
 
+impl From<alloc::string::String> for String {
+    fn from(text: alloc::string::String) -> Self {
+        String(text)
+    }
+}
+
 impl From<String> for alloc::string::String {
     fn from(text: String) -> Self {
         text.0
@@ -153,5 +167,17 @@ impl TryText for str {
             text.0.push_str(self);
         }
         Ok(text)
+    }
+}
+
+/// What is written as a text, where memory may run out.
+pub trait TryDisplay {
+    /// The text.
+    fn try_to_string(&self) -> Result<String, AllocError>;
+}
+
+impl<T: fmt::Display> TryDisplay for T {
+    fn try_to_string(&self) -> Result<String, AllocError> {
+        String::format(format_args!("{self}"))
     }
 }

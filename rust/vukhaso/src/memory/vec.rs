@@ -124,6 +124,13 @@ impl<T> Vec<T> {
 }
 
 impl<T: Copy> Vec<T> {
+    /// Copies of these elements.
+    pub fn from_slice(elements: &[T]) -> Result<Self, AllocError> {
+        let mut vec = Vec::new();
+        vec.extend_from_slice(elements)?;
+        Ok(vec)
+    }
+
     /// So many copies of an element.
     pub fn from_elem(element: T, len: usize) -> Result<Self, AllocError> {
         let mut vec = Vec::new();
@@ -185,6 +192,12 @@ impl<'a, T> IntoIterator for &'a Vec<T> {
 
     fn into_iter(self) -> Self::IntoIter {
         self.0.iter()
+    }
+}
+
+impl<T> From<alloc::vec::Vec<T>> for Vec<T> {
+    fn from(vec: alloc::vec::Vec<T>) -> Self {
+        Vec(vec)
     }
 }
 

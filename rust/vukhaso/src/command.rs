@@ -1,0 +1,21 @@
+// Written by tools/plain_rust from crates/shape_command. Do not edit.
+
+//! The program `vukhaso_shape`, used as HarfBuzz's `hb-shape` is: options, lines of a text, and what is printed.
+
+mod arguments;
+pub mod batch;
+mod batch_answers;
+pub mod code_points;
+mod drawing;
+pub mod ending;
+pub mod features;
+pub mod font_file;
+pub mod lines;
+mod loaded_font;
+pub mod options;
+mod picture;
+pub mod run;
+pub mod shaper;
+mod sizes;
+pub mod text;
+pub mod variations;

@@ -1,0 +1,176 @@
+// Written by tools/plain_rust from crates/shape_command. Do not edit.
+
+//! The answers to the lines of a batch. A font is kept for all lines in a row that name it.
+
+use crate::command::batch::words_of_line;
+use crate::command::ending::NAME;
+use crate::command::font_file::FontFile;
+use crate::command::lines::{LinesError, next_line};
+use crate::command::loaded_font::LoadedFont;
+use crate::command::options::FontChoice;
+use crate::command::run::{CommandError, answer_options, options_of, read_font_file};
+use crate::host::io::{self, BufRead, ErrorKind, Write};
+use crate::host::{AllocGlobal, Files};
+use crate::memory::{TryDisplay, Vec};
+
+/// How the lines of one font were answered.
+struct Run {
+    /// Whether a line of another font was read.
+    has_line: bool,
+    /// Whether each line was shaped.
+    all_shaped: bool,
+}
+
+/// Answers each line of a batch, and says whether each was shaped.
+pub(crate) fn answer_batch<F: Files + AllocGlobal, R: BufRead, W: Write>(
+    rt: &F,
+    input: &mut R,
+    output: &mut W,
+) -> io::Result<bool> {
+    let mut file = FontFile::new();
+    let mut line = Vec::new();
+    let mut all_shaped = true;
+    let mut has_line = has_next(input, &mut line)?;
+    for _ in 0..u64::MAX {
+        if !has_line {
+            break;
+        }
+        let run = answer_run(rt, &mut file, &mut line, input, output)?;
+        all_shaped &= run.all_shaped;
+        has_line = run.has_line;
+    }
+    Ok(all_shaped)
+}
+
+/// Reads the next line, if there is one.
+fn has_next<R: BufRead>(input: &mut R, line: &mut Vec<u8>) -> io::Result<bool> {
+    match next_line(input, line) {
+        Ok(found) => Ok(found),
+        Err(LinesError::Read(error) | LinesError::Write(error)) => Err(error),
+        Err(LinesError::Memory) => Err(io::Error::from(ErrorKind::OutOfMemory)),
+    }
+}
+
+/// Answers the line that was read, and those behind it that name the same font.
+fn answer_run<F: Files + AllocGlobal, R: BufRead, W: Write>(
+    rt: &F,
+    file: &mut FontFile,
+    line: &mut Vec<u8>,
+    input: &mut R,
+    output: &mut W,
+) -> io::Result<Run> {
+    if let Some(choice) = read_named_font(rt, line.as_slice(), file, output)? {
+        match LoadedFont::new(file, choice)? {
+            Some(mut font) => return answer_with(rt, &mut font, line, input, output),
+            None => writeln!(output, "error: {}: Failed loading font face", file.path())?,
+        }
+    }
+    output.flush()?;
+    Ok(Run {
+        has_line: has_next(input, line)?,
+        all_shaped: false,
+    })
+}
+
+/// Reads the file of the font that a line names, unless it was read last, and says which font it is.
+/// `None` where there is no such file, which is said.
+fn read_named_font<F: Files + AllocGlobal, W: Write>(
+    rt: &F,
+    line: &[u8],
+    file: &mut FontFile,
+    output: &mut W,
+) -> io::Result<Option<FontChoice>> {
+    let Ok(line) = std::str::from_utf8(line) else {
+        writeln!(output, "error: not UTF-8")?;
+        return Ok(None);
+    };
+    let words = words_of_line(NAME, line)?;
+    let chosen = match options_of(words.as_slice()) {
+        Ok(options) => match read_font_file(rt, &options, file) {
+            Ok(()) => Ok(options.font),
+            Err(error) => Err(error),
+        },
+        Err(error) => Err(error),
+    };
+    match chosen {
+        Ok(choice) => Ok(Some(choice)),
+        Err(error) => {
+            say(output, error)?;
+            Ok(None)
+        }
+    }
+}
+
+/// Answers the line that was read with its font, and those behind it that name the same one.
+fn answer_with<F: Files + AllocGlobal, R: BufRead, W: Write>(
+    rt: &F,
+    font: &mut LoadedFont<'_>,
+    line: &mut Vec<u8>,
+    input: &mut R,
+    output: &mut W,
+) -> io::Result<Run> {
+    let mut all_shaped = true;
+    for _ in 0..u64::MAX {
+        match answer_line(rt, line.as_slice(), font, input, output)? {
+            Some(is_shaped) => all_shaped &= is_shaped,
+            None => {
+                return Ok(Run {
+                    has_line: true,
+                    all_shaped,
+                });
+            }
+        }
+        output.flush()?;
+        if !has_next(input, line)? {
+            break;
+        }
+    }
+    Ok(Run {
+        has_line: false,
+        all_shaped,
+    })
+}
+
+/// Answers a line, and says whether it was shaped; `None` where it names another font, and was not
+/// answered.
+fn answer_line<F: Files + AllocGlobal, R: BufRead, W: Write>(
+    rt: &F,
+    line: &[u8],
+    font: &mut LoadedFont<'_>,
+    input: &mut R,
+    output: &mut W,
+) -> io::Result<Option<bool>> {
+    let Ok(line) = std::str::from_utf8(line) else {
+        writeln!(output, "error: not UTF-8")?;
+        return Ok(Some(false));
+    };
+    let words = words_of_line(NAME, line)?;
+    let answered = match options_of(words.as_slice()) {
+        Ok(options) => {
+            if !font.is_named_by(&options) {
+                return Ok(None);
+            }
+            answer_options(rt, &options, font, input, output)
+        }
+        Err(error) => Err(error),
+    };
+    match answered {
+        Ok(all_shaped) => Ok(Some(all_shaped)),
+        Err(error) => {
+            say(output, error)?;
+            Ok(Some(false))
+        }
+    }
+}
+
+/// Says in place of an answer why there is none. An answer that was not written is an error of the
+/// whole batch.
+fn say<W: Write>(output: &mut W, error: CommandError<'_>) -> io::Result<()> {
+    if let CommandError::Output(error) = error {
+        return Err(error);
+    }
+    let message = error.try_to_string()?;
+    let first = message.as_str().lines().next().unwrap_or("");
+    let reason = first.strip_prefix("error: ").unwrap_or(first);
+    writeln!(output, "error: {reason}")
+}

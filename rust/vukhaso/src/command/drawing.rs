@@ -1,0 +1,78 @@
+// Written by tools/plain_rust from crates/shape_command. Do not edit.
+
+//! A text whose shaping is drawn step by step.
+
+use crate::command::loaded_font::LoadedFont;
+use crate::command::options::{LineOptions, Options, OptionsError, TextSource};
+use crate::command::picture::Picture;
+use crate::command::run::CommandError;
+use crate::command::text::{empty_text, fill};
+use crate::font_shaper::{Face, FaceNames, ShapeError, shape_watched};
+use crate::host::io::Write;
+use crate::memory::AllocError;
+
+/// Draws the steps of shaping a text with a font, as a picture in SVG, and says whether the text was
+/// shaped.
+pub(crate) fn draw_text<'a, W: Write>(
+    options: &Options<'a>,
+    font: &mut LoadedFont<'_>,
+    output: &mut W,
+) -> Result<bool, CommandError<'a>> {
+    let text = given_text(&options.text)?;
+    let names = font.take_names()?;
+    let drawn = draw(&font.face, &names, &options.line, text, output);
+    font.names = Some(names);
+    drawn
+}
+
+/// Draws the steps of shaping a text.
+fn draw<'a, W: Write>(
+    face: &Face<'_>,
+    names: &FaceNames<'_>,
+    options: &LineOptions<'_>,
+    text: &str,
+    output: &mut W,
+) -> Result<bool, CommandError<'a>> {
+    let mut picture = Picture::new();
+    let is_shaped = shape_text(face, options, text, &mut picture)?;
+    let svg = picture.draw(names)?;
+    write_picture(output, svg.as_str())?;
+    Ok(is_shaped)
+}
+
+/// The text that is given, and not in a file.
+fn given_text<'a, 't>(text: &'t TextSource<'a>) -> Result<&'t str, CommandError<'a>> {
+    match text {
+        TextSource::Given(text) => Ok(text),
+        TextSource::CodePoints(text) => Ok(text.as_str()),
+        TextSource::File(_) | TextSource::Input => {
+            Err(CommandError::Options(OptionsError::DrawnFile))
+        }
+    }
+}
+
+/// Writes a picture.
+fn write_picture<'a, W: Write>(output: &mut W, picture: &str) -> Result<(), CommandError<'a>> {
+    match output.write_all(picture.as_bytes()) {
+        Ok(()) => Ok(()),
+        Err(error) => Err(CommandError::Output(error)),
+    }
+}
+
+/// Shapes a text, and tells the picture of each step. The answer is whether it was shaped.
+fn shape_text(
+    face: &Face<'_>,
+    options: &LineOptions<'_>,
+    text: &str,
+    picture: &mut Picture,
+) -> Result<bool, AllocError> {
+    let mut characters = empty_text(options);
+    if !fill(options, text, &mut characters)? {
+        return Ok(false);
+    }
+    match shape_watched(face, options.features.as_slice(), characters, picture) {
+        Ok(_glyphs) => Ok(true),
+        Err(ShapeError::Memory) => Err(AllocError),
+        Err(_) => Ok(false),
+    }
+}

@@ -1,0 +1,71 @@
+// Written by tools/plain_rust from crates/shape_command. Do not edit.
+
+//! How the program ends.
+
+use crate::command::batch_answers::answer_batch;
+use crate::command::font_file::FontFile;
+use crate::command::run::{CommandError, answer_command};
+use crate::host::io::{self, BufReader, BufWriter, Write};
+use crate::host::{AllocGlobal, Eprint, Input, Print, env};
+use crate::host::{Env, Files};
+use crate::memory::{String, TryIterator, Vec};
+use std::process::ExitCode;
+
+/// The name of the program where it is not told.
+pub(crate) const NAME: &str = "vukhaso_shape";
+
+/// All that the program does. It gives the status to end with: 0, or 1 where something failed, which is
+/// said on standard error.
+///
+/// # Proved
+///
+/// ```text
+/// ensures { exit_status result ≤ 1 }
+/// ```
+#[inline]
+pub fn run_to_end<F: Files + AllocGlobal + Env + Input + Print + Eprint>(rt: &F) -> ExitCode {
+    conclude(rt, run(rt))
+}
+
+/// Says on standard error why a run ended early, and gives the status to end with: 0 where every line
+/// was shaped, and else 1.
+fn conclude<E: Eprint>(error_output: &E, outcome: io::Result<bool>) -> ExitCode {
+    match outcome {
+        Ok(true) => ExitCode::from(0),
+        Ok(false) => ExitCode::from(1),
+        Err(error) => {
+            // If standard error fails too, there is no place left to report it.
+            let _ = error_output.eprint_line(format_args!("{NAME}: {error}"));
+            ExitCode::from(1)
+        }
+    }
+}
+
+/// Answers the command line of the program, or the batch on standard input.
+fn run<F: Files + AllocGlobal + Env + Input + Print + Eprint>(rt: &F) -> io::Result<bool> {
+    let words: Vec<String> = env::args(rt)?.try_into_vec()?;
+    let mut input = BufReader::new(rt.reader())?;
+    let mut output = BufWriter::new(io::writer(rt))?;
+    if let [_, word] = words.as_slice() {
+        if word.as_str() == "--batch" {
+            return answer_batch(rt, &mut input, &mut output);
+        }
+    }
+    let mut file = FontFile::new();
+    let answered = answer_command(rt, words.as_slice(), &mut file, &mut input, &mut output);
+    output.flush()?;
+    match answered {
+        Ok(all_shaped) => Ok(all_shaped),
+        Err(CommandError::Words(error)) => say(rt, &error),
+        Err(error) => {
+            rt.eprint_line(format_args!("{NAME}: {error}"))?;
+            Ok(false)
+        }
+    }
+}
+
+/// Says what is wrong with the words, or the help that they ask for.
+fn say<F: Print + Eprint>(rt: &F, error: &crate::clap::Error) -> io::Result<bool> {
+    error.print(rt)?;
+    Ok(!error.use_stderr())
+}

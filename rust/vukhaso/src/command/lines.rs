@@ -1,0 +1,181 @@
+// Written by tools/plain_rust from crates/shape_command. Do not edit.
+
+//! The lines of a text, and their answers.
+
+use crate::command::shaper::{Answer, LineNames, LineShaper, LineState};
+use crate::font_shaper::VerifyError;
+use crate::host::io::{self, BufRead, ErrorKind, Read, Write};
+use crate::memory::{AllocError, Vec};
+
+/// Why not each line of a text was answered.
+#[derive(Debug)]
+pub enum LinesError {
+    /// The text was not read to its end.
+    Read(io::Error),
+    /// An answer was not written.
+    Write(io::Error),
+    /// There is no memory.
+    Memory,
+}
+
+impl From<AllocError> for LinesError {
+    fn from(_error: AllocError) -> LinesError {
+        LinesError::Memory
+    }
+}
+
+/// The error of a read.
+fn read_error(error: io::Error) -> LinesError {
+    match error.kind() {
+        ErrorKind::OutOfMemory => LinesError::Memory,
+        _ => LinesError::Read(error),
+    }
+}
+
+/// Answers each line of a text with a line, and says whether all of them were shaped. A line feed ends
+/// a line, and the last line may lack it. One line is held at a time.
+///
+/// # Errors
+///
+/// `Err`: the clauses below say when.
+///
+/// # Proved
+///
+/// ```text
+/// ensures { OnOk result (AnswersAll (IsAnswer shaper.now.output)
+///     (R.remaining reader.old) (R.remaining reader.new)
+///     (W.contents writer.old) (W.contents writer.new)) }
+/// ```
+#[inline]
+pub fn answer_lines<N: LineNames, R: BufRead, W: Write>(
+    shaper: &LineShaper<'_>,
+    state: &mut LineState<N>,
+    reader: &mut R,
+    writer: &mut W,
+) -> Result<bool, LinesError> {
+    let mut all_shaped = true;
+    let mut line = Vec::new();
+    for _ in 0..u64::MAX {
+        let found = next_line(reader, &mut line)?;
+        if !found {
+            return Ok(all_shaped);
+        }
+        let answer = shaper.answer(state, line.as_slice())?;
+        all_shaped &= answer.is_shaped();
+        write_answer(writer, &answer)?;
+    }
+    Err(LinesError::Read(io::Error::from(ErrorKind::Other)))
+}
+
+/// Answers a text as one line, unless it is empty, and says whether it was shaped.
+///
+/// # Errors
+///
+/// `Err`: the clauses below say when.
+///
+/// # Proved
+///
+/// ```text
+/// ensures { OnOk result (AnswersParagraph (IsAnswer shaper.now.output)
+///     (R.remaining reader.old) (R.remaining reader.new)
+///     (W.contents writer.old) (W.contents writer.new)) }
+/// ```
+#[inline]
+pub fn answer_paragraph<N: LineNames, R: Read, W: Write>(
+    shaper: &LineShaper<'_>,
+    state: &mut LineState<N>,
+    reader: &mut R,
+    writer: &mut W,
+) -> Result<bool, LinesError> {
+    let mut text = Vec::new();
+    let read = match reader.read_to_end(&mut text) {
+        Ok(read) => read,
+        Err(error) => return Err(read_error(error)),
+    };
+    if read == 0 {
+        return Ok(true);
+    }
+    let answer = shaper.answer(state, text.as_slice())?;
+    write_answer(writer, &answer)?;
+    Ok(answer.is_shaped())
+}
+
+/// Reads a line in place of the one that is held, without the line feed that ends it. It says whether
+/// there was one.
+///
+/// # Errors
+///
+/// `Err`: the clauses below say when.
+///
+/// # Proved
+///
+/// ```text
+/// ensures { IfOk result (λ found. TakesLine found (R.remaining reader.old) (R.remaining reader.new)
+///     line.new.items) }
+/// ```
+#[inline]
+pub fn next_line<R: BufRead>(reader: &mut R, line: &mut Vec<u8>) -> Result<bool, LinesError> {
+    line.clear();
+    let read = match reader.read_until(b'\n', line) {
+        Ok(read) => read,
+        Err(error) => return Err(read_error(error)),
+    };
+    drop_line_feed(line);
+    Ok(read > 0)
+}
+
+/// Drops the line feed at the end, if one stands there.
+fn drop_line_feed(line: &mut Vec<u8>) {
+    if ends_line(line.as_slice()) {
+        line.truncate(line.len() - 1);
+    }
+}
+
+/// Whether a line feed stands at the end.
+fn ends_line(line: &[u8]) -> bool {
+    !line.is_empty() && line[line.len() - 1] == b'\n'
+}
+
+/// Writes an answer: the glyphs in brackets, and a line feed.
+///
+/// # Errors
+///
+/// `Err`: the clauses below say when.
+///
+/// # Proved
+///
+/// ```text
+/// ensures { OnOk result (Appends (W.contents writer.old) (W.contents writer.new)
+///     (answer_text answer.now ++ 10 ∷ [])) }
+/// ```
+#[inline]
+pub fn write_answer<W: Write>(writer: &mut W, answer: &Answer) -> Result<(), LinesError> {
+    match answer {
+        Answer::Empty => put(writer, b"\n"),
+        Answer::Failed => put(writer, b"error: Shaping failed.\n"),
+        Answer::Unverified(error) => put(writer, unverified_line(*error)),
+        Answer::Glyphs(text) => {
+            put(writer, b"[")?;
+            put(writer, text.as_bytes())?;
+            put(writer, b"]\n")
+        }
+    }
+}
+
+/// What is printed of a line whose glyphs are not what they say of themselves.
+fn unverified_line(error: VerifyError) -> &'static [u8] {
+    match error {
+        VerifyError::NotMonotone => b"error: buffer verify error: clusters are not monotone.\n",
+        VerifyError::UnsafeToBreak => b"error: buffer verify error: unsafe-to-break test failed.\n",
+        VerifyError::UnsafeToConcat => {
+            b"error: buffer verify error: unsafe-to-concat test failed.\n"
+        }
+    }
+}
+
+fn put<W: Write>(writer: &mut W, bytes: &[u8]) -> Result<(), LinesError> {
+    match writer.write_all(bytes) {
+        Ok(()) => Ok(()),
+        Err(error) => Err(LinesError::Write(error)),
+    }
+}

@@ -1,0 +1,102 @@
+// Written by tools/plain_rust from crates/shape_command. Do not edit.
+
+//! A font of a file, which is kept for all command lines in a row that name it.
+
+use crate::command::font_file::FontFile;
+use crate::command::options::{FontChoice, Options};
+use crate::command::shaper::KeptLine;
+use crate::font_shaper::{Face, FaceNames, Variation};
+use crate::memory::{AllocError, Vec};
+use std::mem;
+
+/// A font at a size, with the names of its glyphs once they were asked for.
+pub(crate) struct LoadedFont<'f> {
+    file: &'f FontFile,
+    choice: FontChoice,
+    /// The variations that are chosen.
+    variations: Vec<Variation>,
+    /// The font.
+    pub face: Face<'f>,
+    /// The names of its glyphs, where they were asked for.
+    pub names: Option<FaceNames<'f>>,
+    /// What is kept of the last line that was answered.
+    pub kept: KeptLine,
+}
+
+impl<'f> LoadedFont<'f> {
+    /// A font of the file that was read last; `None` where the file has no such font.
+    ///
+    /// # Errors
+    ///
+    /// `Err(AllocError)` where memory runs out.
+    pub(crate) fn new(file: &'f FontFile, choice: FontChoice) -> Result<Option<Self>, AllocError> {
+        let Some(mut face) = Face::parse(file.data(), choice.index)? else {
+            return Ok(None);
+        };
+        set_size(&mut face, choice.size);
+        set_pixels(&mut face, choice.pixels);
+        set_points(&mut face, choice.points);
+        face.set_named_instance(choice.named_instance)?;
+        Ok(Some(LoadedFont {
+            file,
+            choice,
+            variations: Vec::new(),
+            face,
+            names: None,
+            kept: KeptLine::new(),
+        }))
+    }
+
+    /// Whether it is the font that options name, at their size.
+    pub(crate) fn is_named_by(&self, options: &Options<'_>) -> bool {
+        self.file.is_of(options.font_file) && self.choice == options.font
+    }
+
+    /// Chooses variations of the font, unless they are those that are chosen. Then the names are to be
+    /// found anew, with the extents of glyphs.
+    pub(crate) fn vary(&mut self, variations: &[Variation]) -> Result<(), AllocError> {
+        if self.variations.as_slice() == variations {
+            return Ok(());
+        }
+        let chosen = Vec::from_slice(variations)?;
+        self.face.set_variations(variations)?;
+        self.variations = chosen;
+        self.names = None;
+        Ok(())
+    }
+
+    /// The names of the glyphs, which are found where they are asked for the first time. The caller puts
+    /// them back.
+    pub(crate) fn take_names(&mut self) -> Result<FaceNames<'f>, AllocError> {
+        match self.names.take() {
+            Some(names) => Ok(names),
+            None => FaceNames::new(&self.face),
+        }
+    }
+
+    /// What is kept of the last line. The caller puts it back.
+    pub(crate) fn take_kept(&mut self) -> KeptLine {
+        mem::replace(&mut self.kept, KeptLine::new())
+    }
+}
+
+/// Says how long an em is, where that is said.
+fn set_size(face: &mut Face<'_>, size: Option<(i32, i32)>) {
+    if let Some((x, y)) = size {
+        face.set_scale(x, y);
+    }
+}
+
+/// Says how many points an em has, where that is said.
+fn set_points(face: &mut Face<'_>, points: Option<f32>) {
+    if let Some(points) = points {
+        face.set_points_per_em(points);
+    }
+}
+
+/// Says how many pixels an em has, where that is said.
+fn set_pixels(face: &mut Face<'_>, pixels: Option<(u16, u16)>) {
+    if let Some((x, y)) = pixels {
+        face.set_pixels_per_em(x, y);
+    }
+}

@@ -1,0 +1,256 @@
+// Written by tools/plain_rust from crates/shape_command. Do not edit.
+
+//! What the program does.
+
+use crate::buffer::{Flags, NoGlyphNames, SerializeFlags};
+use crate::command::arguments::matches_of;
+use crate::command::drawing::draw_text;
+use crate::command::font_file::FontFile;
+use crate::command::lines::{LinesError, answer_lines, answer_paragraph};
+use crate::command::loaded_font::LoadedFont;
+use crate::command::options::{Options, OptionsError, TextSource};
+use crate::command::shaper::{LineNames, LineShaper, LineState};
+use crate::host::Files;
+use crate::host::fs;
+use crate::host::io::{self, BufRead, BufReader, Write};
+use crate::host::{AllocGlobal, AsStr};
+use crate::memory::AllocError;
+
+/// Why a command line was not answered to its end.
+#[derive(Debug)]
+pub enum CommandError<'a> {
+    /// The words are no command line.
+    Words(crate::clap::Error),
+    /// The words ask for nothing that can be done.
+    Options(OptionsError<'a>),
+    /// The file of the font was not read.
+    Font {
+        /// The file.
+        file: &'a str,
+        /// Why it was not read.
+        error: io::Error,
+    },
+    /// The file has no font of this number.
+    Face(&'a str),
+    /// The text was not read.
+    Text {
+        /// The file.
+        file: &'a str,
+        /// Why it was not read.
+        error: io::Error,
+    },
+    /// The answers were not written.
+    Output(io::Error),
+    /// There is no memory.
+    Memory,
+}
+
+impl<'a> core::fmt::Display for CommandError<'a> {
+    fn fmt(&self, f: &mut core::fmt::Formatter<'_>) -> core::fmt::Result {
+        match self {
+            Self::Words(n0) => write!(f, "{n0}"),
+            Self::Options(n0) => write!(f, "{n0}"),
+            Self::Font { file, error, .. } => write!(f, "{file}: {error}"),
+            Self::Face(n0) => write!(f, "{n0}: Failed loading font face"),
+            Self::Text { file, error, .. } => write!(f, "Failed reading text: {file}: {error}"),
+            Self::Output(n0) => write!(f, "Failed writing glyphs: {n0}"),
+            Self::Memory => write!(f, "out of memory"),
+        }
+    }
+}
+
+impl<'a> core::error::Error for CommandError<'a> {}
+
+impl From<AllocError> for CommandError<'_> {
+    fn from(_error: AllocError) -> Self {
+        CommandError::Memory
+    }
+}
+
+///
+/// # Proved
+///
+/// ```text
+/// ghost from_gives = { λ _ e. concerns_words e ≡ true }
+/// ```
+impl<'a> From<OptionsError<'a>> for CommandError<'a> {
+    fn from(error: OptionsError<'a>) -> Self {
+        match error {
+            OptionsError::Memory => CommandError::Memory,
+            error => CommandError::Options(error),
+        }
+    }
+}
+
+impl<'a> CommandError<'a> {
+    /// The error of lines that are in this file.
+    fn of_lines(file: &'a str, error: LinesError) -> Self {
+        match error {
+            LinesError::Read(error) => CommandError::Text { file, error },
+            LinesError::Write(error) => CommandError::Output(error),
+            LinesError::Memory => CommandError::Memory,
+        }
+    }
+}
+
+/// Answers a command line, whose first word is the name of the program, and says whether each line was
+/// shaped. The font's file is read unless it was read last, and held for the next command line.
+///
+/// # Errors
+///
+/// `Err`: the clauses below say when.
+///
+/// # Proved
+///
+/// ```text
+/// ensures { OnOk result (IsSome file.new.path) }
+/// ```
+#[inline]
+pub fn answer_command<'a, F: Files + AllocGlobal, S: AsStr, R: BufRead, W: Write>(
+    rt: &F,
+    words: &'a [S],
+    file: &mut FontFile,
+    input: &mut R,
+    output: &mut W,
+) -> Result<bool, CommandError<'a>> {
+    let options = options_of(words)?;
+    read_font_file(rt, &options, file)?;
+    match LoadedFont::new(file, options.font)? {
+        Some(mut font) => answer_options(rt, &options, &mut font, input, output),
+        None => Err(CommandError::Face(options.font_file)),
+    }
+}
+
+/// What a command line asks for; its first word is the name of the program. An error is one of the
+/// words, or says that there is no memory: no file is read.
+///
+/// # Errors
+///
+/// `Err`: the clauses below say when.
+///
+/// # Proved
+///
+/// ```text
+/// ensures { IfErr result (λ e. concerns_words e ≡ true) }
+/// ```
+#[inline]
+pub fn options_of<'a, S: AsStr>(words: &'a [S]) -> Result<Options<'a>, CommandError<'a>> {
+    match matches_of(words) {
+        Ok(matches) => Ok(Options::from_matches(&matches)?),
+        Err(error) => Err(CommandError::Words(error)),
+    }
+}
+
+/// Reads the file of the font, unless it was read last.
+pub(crate) fn read_font_file<'a, F: Files + AllocGlobal>(
+    rt: &F,
+    options: &Options<'a>,
+    file: &mut FontFile,
+) -> Result<(), CommandError<'a>> {
+    let path = options.font_file;
+    match file.read(rt, path) {
+        Ok(()) => Ok(()),
+        Err(error) => Err(CommandError::Font { file: path, error }),
+    }
+}
+
+/// Answers what a command line asks for, with its font. The font's names are found only where they are
+/// asked for.
+pub(crate) fn answer_options<'a, F: Files + AllocGlobal, R: BufRead, W: Write>(
+    rt: &F,
+    options: &Options<'a>,
+    font: &mut LoadedFont<'_>,
+    input: &mut R,
+    output: &mut W,
+) -> Result<bool, CommandError<'a>> {
+    font.vary(options.variations.as_slice())?;
+    if options.svg {
+        return draw_text(options, font, output);
+    }
+    if asks_font(options.output) {
+        let names = font.take_names()?;
+        let mut state = LineState {
+            names,
+            kept: font.take_kept(),
+        };
+        let shaper = shaper_of(font, options);
+        let answered = answer_text(rt, &shaper, &mut state, &options.text, input, output);
+        font.kept = state.kept;
+        font.names = Some(state.names);
+        answered
+    } else {
+        let mut state = LineState {
+            names: NoGlyphNames,
+            kept: font.take_kept(),
+        };
+        let shaper = shaper_of(font, options);
+        let answered = answer_text(rt, &shaper, &mut state, &options.text, input, output);
+        font.kept = state.kept;
+        answered
+    }
+}
+
+/// How lines are shaped with a font and printed.
+fn shaper_of<'a>(font: &'a LoadedFont<'_>, options: &'a Options<'_>) -> LineShaper<'a> {
+    LineShaper {
+        face: &font.face,
+        options: &options.line,
+        output: options.output,
+        single_par: options.single_par,
+    }
+}
+
+/// Whether names or extents of glyphs are printed.
+fn asks_font(flags: SerializeFlags) -> bool {
+    !flags.contains(SerializeFlags::NO_GLYPH_NAMES) || flags.contains(SerializeFlags::GLYPH_EXTENTS)
+}
+
+/// Answers a text.
+fn answer_text<'a, F: Files + AllocGlobal, N: LineNames, R: BufRead, W: Write>(
+    rt: &F,
+    shaper: &LineShaper<'_>,
+    state: &mut LineState<N>,
+    text: &TextSource<'a>,
+    input: &mut R,
+    output: &mut W,
+) -> Result<bool, CommandError<'a>> {
+    match text {
+        TextSource::Given(text) => {
+            let mut bytes = text.as_bytes();
+            answer_all(shaper, state, "TEXT", &mut bytes, output)
+        }
+        TextSource::CodePoints(text) => {
+            let mut bytes = text.as_bytes();
+            answer_all(shaper, state, "TEXT", &mut bytes, output)
+        }
+        TextSource::Input => answer_all(shaper, state, "-", input, output),
+        TextSource::File(file) => match open(rt, file) {
+            Ok(mut reader) => answer_all(shaper, state, *file, &mut reader, output),
+            Err(error) => Err(CommandError::Text { file: *file, error }),
+        },
+    }
+}
+
+/// A file that is read piece by piece.
+fn open<F: Files + AllocGlobal>(rt: &F, file: &str) -> io::Result<BufReader<F::File>> {
+    BufReader::new(fs::open(rt, file)?)
+}
+
+/// Answers a text line by line, or as one line.
+fn answer_all<'a, N: LineNames, R: BufRead, W: Write>(
+    shaper: &LineShaper<'_>,
+    state: &mut LineState<N>,
+    file: &'a str,
+    reader: &mut R,
+    writer: &mut W,
+) -> Result<bool, CommandError<'a>> {
+    let answered = if shaper.single_par {
+        answer_paragraph(shaper, state, reader, writer)
+    } else {
+        answer_lines(shaper, state, reader, writer)
+    };
+    match answered {
+        Ok(all_shaped) => Ok(all_shaped),
+        Err(error) => Err(CommandError::of_lines(file, error)),
+    }
+}

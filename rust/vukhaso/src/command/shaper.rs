@@ -1,0 +1,232 @@
+// Written by tools/plain_rust from crates/shape_command. Do not edit.
+
+//! What a line is answered with.
+
+use crate::buffer::{
+    Flags, GlyphBuffer, GlyphNames, NoGlyphNames, SerializeFlags, UnicodeBuffer, hb_glyph_info_t,
+};
+use crate::command::options::LineOptions;
+use crate::command::text::{emptied, empty_text, fill, lossy_text};
+use crate::font_shaper::{
+    Face, FaceNames, KeptPlan, ShapeError, VerifyError, shape_with_kept_plan,
+};
+use crate::memory::{AllocError, String};
+
+/// Names and extents of glyphs, where the extents are found before they are asked for.
+pub trait LineNames: GlyphNames {
+    /// Finds the extents of glyphs.
+    ///
+    /// # Errors
+    ///
+    /// `Err(AllocError)` where memory ran out.
+    ///
+    /// # Proved
+    ///
+    /// That it returns.
+    fn find(&mut self, infos: &[hb_glyph_info_t]) -> Result<(), AllocError>;
+}
+
+impl LineNames for NoGlyphNames {
+    fn find(&mut self, _infos: &[hb_glyph_info_t]) -> Result<(), AllocError> {
+        Ok(())
+    }
+}
+
+impl LineNames for FaceNames<'_> {
+    fn find(&mut self, infos: &[hb_glyph_info_t]) -> Result<(), AllocError> {
+        self.find_extents(infos)
+    }
+}
+
+/// What a line is answered with.
+#[derive(Debug)]
+pub enum Answer {
+    /// It has no glyph.
+    Empty,
+    /// It has glyphs, and this is their text.
+    Glyphs(String),
+    /// It is too long to be shaped.
+    Failed,
+    /// A test of its glyphs failed.
+    Unverified(VerifyError),
+}
+
+impl Answer {
+    /// Whether the line was shaped.
+    ///
+    /// # Proved
+    ///
+    /// ```text
+    /// ensures { result ≡ is_shaped self.now }
+    /// ```
+    #[inline]
+    pub fn is_shaped(&self) -> bool {
+        matches!(self, Answer::Empty | Answer::Glyphs(_))
+    }
+}
+
+/// What is kept of a line for the next one of the same font.
+pub struct KeptLine {
+    /// The plan of its text.
+    pub plan: KeptPlan,
+    /// Its buffer, emptied.
+    pub text: Option<UnicodeBuffer>,
+}
+
+impl KeptLine {
+    /// Nothing is kept.
+    ///
+    /// # Proved
+    ///
+    /// ```text
+    /// ensures plan { result.plan ≡ None }
+    /// ensures text { result.text ≡ None }
+    /// ```
+    #[inline]
+    pub fn new() -> Self {
+        KeptLine {
+            plan: KeptPlan::new(),
+            text: None,
+        }
+    }
+
+    /// An empty text for the next line, in the buffer that is kept, if one is. In it characters that are
+    /// invisible by default are to have the glyph of the options.
+    ///
+    /// # Proved
+    ///
+    /// ```text
+    /// ensures invisible { result.invisible ≡ options.now.invisible_glyph }
+    /// ensures plan { self.new.plan ≡ self.old.plan }
+    /// ```
+    #[inline]
+    pub fn take_text(&mut self, options: &LineOptions<'_>) -> UnicodeBuffer {
+        match self.text.take() {
+            Some(text) => emptied(text, options),
+            None => empty_text(options),
+        }
+    }
+}
+
+/// What lines are answered by that changes from line to line.
+pub struct LineState<N> {
+    /// Names and extents of glyphs.
+    pub names: N,
+    /// What is kept of the line before.
+    pub kept: KeptLine,
+}
+
+/// A font, and how lines are shaped with it and printed.
+#[derive(Clone, Copy)]
+pub struct LineShaper<'a> {
+    /// The font.
+    pub face: &'a Face<'a>,
+    /// How each line is shaped.
+    pub options: &'a LineOptions<'a>,
+    /// What is printed of glyphs.
+    pub output: SerializeFlags,
+    /// Whether the text is a single line.
+    pub single_par: bool,
+}
+
+impl LineShaper<'_> {
+    /// The answer to a line.
+    ///
+    /// # Errors
+    ///
+    /// `Err(AllocError)` where memory ran out.
+    ///
+    /// # Proved
+    ///
+    /// ```text
+    /// ensures { IfOk result (λ answer. IsAnswer self.now.output (answer_text answer)) }
+    /// ```
+    #[inline]
+    pub fn answer<N: LineNames>(
+        &self,
+
+        state: &mut LineState<N>,
+        line: &[u8],
+    ) -> Result<Answer, AllocError> {
+        match std::str::from_utf8(line) {
+            Ok(line) => self.answer_to_text(state, line),
+            Err(_) => {
+                let line = lossy_text(line)?;
+                self.answer_to_text(state, line.as_str())
+            }
+        }
+    }
+
+    /// The answer to a line that is UTF-8.
+    fn answer_to_text<N: LineNames>(
+        &self,
+
+        state: &mut LineState<N>,
+        line: &str,
+    ) -> Result<Answer, AllocError> {
+        let mut text = state.kept.take_text(self.options);
+        if !fill(self.options, line, &mut text)? {
+            return Ok(Answer::Failed);
+        }
+        let features = self.options.features.as_slice();
+        match shape_with_kept_plan(self.face, features, &mut state.kept.plan, text) {
+            Ok(glyphs) => self.print_and_keep(state, glyphs),
+            Err(ShapeError::TooLong) => Ok(Answer::Failed),
+            Err(ShapeError::OtherPlan) => Ok(Answer::Failed),
+            Err(ShapeError::Unverified(error)) => Ok(Answer::Unverified(error)),
+            Err(ShapeError::Memory) => Err(AllocError),
+        }
+    }
+
+    /// What is printed of glyphs, whose buffer is kept for the next line.
+    fn print_and_keep<N: LineNames>(
+        &self,
+
+        state: &mut LineState<N>,
+        glyphs: GlyphBuffer,
+    ) -> Result<Answer, AllocError> {
+        let answer = self.print(&mut state.names, &glyphs)?;
+        state.kept.text = Some(glyphs.clear());
+        Ok(answer)
+    }
+
+    /// What is printed of glyphs: their text. It is public for its clause, which says more than that of
+    /// `answer`.
+    ///
+    /// # Errors
+    ///
+    /// `Err(AllocError)` where memory ran out.
+    ///
+    /// # Proved
+    ///
+    /// ```text
+    /// ensures { IfOk result (λ answer. answer_text answer ≡ glyphs_line
+    ///     (record { name = N.name_of names.new; extents = N.extents_of names.new }) self.now.output glyphs.now) }
+    /// ```
+    #[inline]
+    pub fn print<N: LineNames>(
+        &self,
+
+        names: &mut N,
+        glyphs: &GlyphBuffer,
+    ) -> Result<Answer, AllocError> {
+        if glyphs.is_empty() {
+            return Ok(Answer::Empty);
+        }
+        self.find_extents(names, glyphs.glyph_infos())?;
+        let text = glyphs.serialize(names, self.output)?;
+        Ok(Answer::Glyphs(text))
+    }
+
+    /// Finds the extents of glyphs, where they are printed.
+    fn find_extents<N: LineNames>(
+        &self,
+        names: &mut N,
+        infos: &[hb_glyph_info_t],
+    ) -> Result<(), AllocError> {
+        if self.output.contains(SerializeFlags::GLYPH_EXTENTS) {
+            names.find(infos)?;
+        }
+        Ok(())
+    }
+}

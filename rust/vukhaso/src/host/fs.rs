@@ -1,0 +1,17 @@
+//! Files.
+
+use super::Files;
+use super::io::Read;
+use crate::memory::Vec;
+
+/// A file that is read piece by piece.
+pub(crate) fn open<F: Files>(rt: &F, path: &str) -> std::io::Result<F::File> {
+    rt.open(path)
+}
+
+/// The bytes of a file.
+pub(crate) fn read<F: Files>(rt: &F, path: &str) -> std::io::Result<Vec<u8>> {
+    let mut bytes = Vec::new();
+    let _len = rt.open(path)?.read_to_end(&mut bytes)?;
+    Ok(bytes)
+}
