@@ -16,7 +16,7 @@ from pathlib import Path
 ROOT = Path(__file__).resolve().parent.parent
 PROVED = ROOT / "crates/vukhaso_shape/out/vukhaso_shape"
 PACKAGE = ROOT / "rust/vukhaso"
-OF_PACKAGE = "vukhaso"
+OF_PACKAGE = "vukhaso_shape"
 
 # What HarfBuzz's runner adds to each of HarfBuzz's lines whose answer it knows. Rows of our own say themselves what is tested:
 # `--verify` of HarfBuzz 10.2 tests nothing, and that of ours finds fonts whose flags HarfBuzz gets wrong.

@@ -52,8 +52,8 @@ pub fn add(alloc: Global, list: &mut Vec<u32>, n: usize) -> Result<String, Alloc
 '''
 
 
-def erased(text, outside=False):
-    paths = Paths({"sample": "crate::sample"}, "sample", "crate::memory", outside, "crate::Fail")
+def erased(text, outside=False, host=None):
+    paths = Paths({"sample": "crate::sample"}, "sample", "crate::memory", outside or bool(host), "crate::Fail", host)
     laws = type("Laws", (), {"names": set(), "modules": {}})
     return erase.Erased("sample.rt", text, paths, {"add"}).erased(set(), laws)
 
@@ -74,7 +74,7 @@ def left_standing(files):
 
 def clauses_of(word):
     """The clauses of the library's functions as they stand in the source, without those of laws."""
-    for crate in plain_rust.LIBRARY:
+    for crate in [*plain_rust.LIBRARY, *plain_rust.PROGRAMS]:
         for path in sorted((ROOT / "crates" / crate / "src").rglob("*.rt")):
             text = re.sub(r"(?m)^ *//[^\n]*\n", "", path.read_text())
             text = re.sub(r"(?ms)^pub fn \w+\(\)\n(?: +[^\n]*\n)+\{\}\n", "", text)
@@ -88,8 +88,9 @@ def clauses_of(word):
 
 def library():
     """The modules of the library as they are written."""
-    laws = plain_rust.Laws([*plain_rust.LIBRARY, *plain_rust.WITHOUT_CODE])
-    return dict(plain_rust.library_files(plain_rust.takers_of(plain_rust.LIBRARY), laws))
+    crates = [*plain_rust.LIBRARY, *plain_rust.PROGRAMS]
+    laws = plain_rust.Laws([*crates, *plain_rust.WITHOUT_CODE])
+    return dict(plain_rust.library_files(plain_rust.takers_of(crates), laws))
 
 
 def documented(files):
@@ -177,6 +178,15 @@ class Erasure(unittest.TestCase):
             '    #[error("{0} of {1}")]\n    B(u8, u8),\n}\n')
         self.assertIn('Self::A { at, .. } => write!(f, "at {at}"),', text)
         self.assertIn('Self::B(n0, n1) => write!(f, "{n0} of {n1}"),', text)
+
+
+    def test_a_runtime_is_passed_on_to_its_stand_in(self):
+        text = erased(
+            "use std::io::{self, Write};\nuse std::rt::Files;\n\npub fn f<F: Files + AllocGlobal>(rt: &F) -> io::Result<u32> {\n"
+            '    let alloc = rt.alloc();\n    eprintln!(rt; "{}", 1)?;\n    add(rt.alloc(), rt)\n}\n', host="crate::host")
+        for line in ("use crate::host::io::{self, Write};", "use crate::host::Files;", "pub fn f<F: Files + AllocGlobal>(rt: &F) "):
+            self.assertIn(line, text)
+        self.assertIn('{\n    rt.eprint_line(format_args!("{}", 1))?;\n    add(rt)\n}', text.replace("( ", "("))
 
 
 class Tests(unittest.TestCase):

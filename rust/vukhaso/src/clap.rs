@@ -107,10 +107,7 @@ impl<'a> Arg<'a> {
     }
 
     fn takes_value(&self) -> bool {
-        matches!(
-            self.action,
-            None | Some(ArgAction::Set | ArgAction::Append)
-        )
+        matches!(self.action, None | Some(ArgAction::Set | ArgAction::Append))
     }
 }
 

@@ -31,6 +31,7 @@ pub mod character_maps;
 #[allow(clippy::style, clippy::complexity)]
 pub mod color_glyphs;
 #[cfg(feature = "std")]
+#[allow(clippy::style, clippy::complexity)]
 mod command;
 #[allow(clippy::style, clippy::complexity)]
 pub mod common;

@@ -19,7 +19,7 @@ pub(super) fn usage(command: &Command<'_>, name: &str) -> Result<String, AllocEr
 pub(super) fn help(command: &Command<'_>, name: &str) -> Result<String, AllocError> {
     let usage = usage(command, name)?;
     let mut text = String::new();
-    write!(text, "{}\n\nUsage: {usage}\n", command.about)?;
+    writeln!(text, "{}\n\nUsage: {usage}", command.about)?;
     for (title, is_positional) in [("Arguments", true), ("Options", false)] {
         let shown = || {
             command
@@ -29,13 +29,13 @@ pub(super) fn help(command: &Command<'_>, name: &str) -> Result<String, AllocErr
         };
         let longest = shown().map(|arg| head_of(arg).len()).max().unwrap_or(0) + 2;
         let is_wide = longest > 40 && shown().any(|arg| longest + 2 + arg.help.len() > WIDTH);
-        write!(text, "\n{title}:\n")?;
+        writeln!(text, "\n{title}:")?;
         for arg in shown() {
             write_arg(&mut text, arg, longest, is_wide)?;
         }
     }
     if let Some(after) = command.after {
-        write!(text, "\n{after}\n")?;
+        writeln!(text, "\n{after}")?;
     }
     Ok(text)
 }
@@ -58,8 +58,8 @@ fn write_arg(
 ) -> Result<(), AllocError> {
     let (head, help) = (head_of(arg), arg.help);
     if is_wide {
-        write!(text, "  {head}\n          {help}\n")
+        writeln!(text, "  {head}\n          {help}")
     } else {
-        write!(text, "  {head:longest$}{help}\n")
+        writeln!(text, "  {head:longest$}{help}")
     }
 }

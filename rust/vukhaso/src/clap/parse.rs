@@ -105,15 +105,18 @@ impl<'a> Reading<'a> {
         rest: &mut impl Iterator<Item = &'a str>,
     ) -> Result<(), Error> {
         for (at, letter) in letters.char_indices() {
-            let found = self.command.args.iter().find(|arg| arg.short == Some(letter));
+            let found = self
+                .command
+                .args
+                .iter()
+                .find(|arg| arg.short == Some(letter));
             let Some(arg) = found.cloned() else {
                 let tip = String::format(format_args!(
                     "\n\n  tip: to pass '-{letter}' as a value, use '-- -{letter}'"
                 ))?;
-                return Err(self.mistake(
-                    format_args!("unexpected argument '-{letter}' found"),
-                    &tip,
-                )?);
+                return Err(
+                    self.mistake(format_args!("unexpected argument '-{letter}' found"), &tip)?
+                );
             };
             if arg.takes_value() {
                 let behind = &letters[at + letter.len_utf8()..];
@@ -199,11 +202,7 @@ impl<'a> Reading<'a> {
     }
 
     /// The error of words that are no command line.
-    fn mistake(
-        &self,
-        what: core::fmt::Arguments<'_>,
-        tip: &str,
-    ) -> Result<Error, AllocError> {
+    fn mistake(&self, what: core::fmt::Arguments<'_>, tip: &str) -> Result<Error, AllocError> {
         let usage = help::usage(&self.command, self.name)?;
         Ok(Error {
             kind: ErrorKind::Words,
