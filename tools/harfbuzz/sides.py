@@ -39,12 +39,12 @@ class Difference:
     ours: str
     theirs: str
 
-    def show(self, programs=()):
+    def show(self, programs=(), file=sys.stdout):
         """Prints it, and the command that shows it with some programs."""
         unicodes = ",".join(f"U+{ord(character):04X}" for character in self.line)
-        print(f"{self.batch.font.name}, {unicodes or 'a run'}\n    ours   {self.ours}\n    theirs {self.theirs}")
+        print(f"{self.batch.font.name}, {unicodes or 'a run'}\n    ours   {self.ours}\n    theirs {self.theirs}", file=file)
         for program in programs:
-            print(f"    {shlex.join([*self.batch.command(program), '--unicodes', unicodes])}")
+            print(f"    {shlex.join([*self.batch.command(program), '--unicodes', unicodes])}", file=file)
 
 
 def answers(program, batch):

@@ -4,6 +4,7 @@ All is kept in the folder `vukhaso-harfbuzz` for temporary files, and fetched wh
 package lists of their own and unpacked there: the machine's lists stay as they are, and nothing is installed.
 """
 
+import functools
 import os
 import subprocess
 import sys
@@ -43,6 +44,14 @@ def apt(lists, *more):
     return ["apt-get", "-qq", *(word for name, value in options.items() for word in ("-o", f"{name}={value}"))]
 
 
+@functools.cache
+def with_lists(lists):
+    """The same, once the lists are fetched."""
+    words = apt(lists)
+    subprocess.run([*words, "update"], check=True)
+    return words
+
+
 def fetched_sources():
     """The folder of HarfBuzz's sources, which are fetched where they are missing."""
     found = sorted(FETCHED.glob("harfbuzz-10*/src"))
@@ -63,9 +72,7 @@ def unpacked(packages, folder):
     missing = [package for package in packages if not (folder / package).exists()]
     if missing:
         folder.mkdir(parents=True, exist_ok=True)
-        words = apt(folder / "lists")
-        subprocess.run([*words, "update"], check=True)
-        subprocess.run([*words, "download", *missing], cwd=folder, check=True)
+        subprocess.run([*with_lists(folder / "lists"), "download", *missing], cwd=folder, check=True)
     for package in missing:
         file = next(folder.glob(f"{package}_*.deb"))
         subprocess.run(["dpkg", "-x", file, folder / f"{package}.new"], check=True)
