@@ -1,5 +1,8 @@
-"""`apple.ttf`, whose glyphs are substituted by the table `morx`, and stand closer or farther apart by `trak`."""
+"""`apple.ttf`, whose glyphs are substituted by the table `morx`, and stand closer or farther apart by `trak`; `apple-more.ttf`, which has
+each kind of rearrangement and of insertion, and `GPOS` beside; `apple-kern.ttf`, which has Apple's table `kern`.
+"""
 
+from . import layout as lay
 from . import opentype as ot
 from .glyphs import LOWER, UPPER, tables
 
@@ -93,3 +96,110 @@ def apple():
         "feat": feat([(1, False, [2]), (37, True, [0, 1])]),
         "trak": trak({9: 60, 18: 0, 36: -20}),
     })
+
+
+def rearrangements(place):
+    """Each verb: a letter from a to o begins, and z ends what is put in another order."""
+    verbs = 15
+    classes = {place[chr(97 + at)]: 4 + at for at in range(verbs)} | {place["z"]: 4 + verbs}
+    width = 5 + verbs
+    entries = [(0, 0), *((2 + at, 0x8000) for at in range(verbs)), *((2 + at, 0) for at in range(verbs)), *((0, 0x2000 | at + 1) for at in range(verbs))]
+    start = [0] * 4 + [1 + at for at in range(verbs)] + [0]
+    states = [start, start, *([0, 1 + verbs + at, 1 + verbs + at, 0] + [1 + verbs + at] * verbs + [1 + 2 * verbs + at] for at in range(verbs))]
+    assert all(len(state) == width for state in states)
+    return machine(classes, states, entries)
+
+
+def insertions(place):
+    """p to s put glyphs before or behind themselves; u marks, and v to y put glyphs before or behind the mark, and go on or stay."""
+    own = {"p": 0x0820, "q": 0x0040, "r": 0x0860, "s": 0x2020}
+    marked = {"v": 0x0401, "w": 0x0002, "x": 0x0403, "y": 0x1001}
+    classes = {place[letter]: 4 + at for at, letter in enumerate("pqrsuvwxy")}
+    entries = [(0, 0, NO, NO), *((0, flags, 0, NO) for flags in own.values()), (2, 0x8000, NO, NO), *((0, flags, NO, 0) for flags in marked.values()),
+               (2, 0, NO, NO), (0, 0x0820 | 0x0401, 1, 2)]
+    start = [0] * 4 + [1, 2, 3, 4, 5, 0, 0, 0, 0]
+    behind = [0, 10, 10, 0, 11, 2, 3, 4, 5, 6, 7, 8, 9]
+    return machine(classes, [start, start, behind], entries, ot.numbers(place["A"], place["B"], place["C"]))
+
+
+def replacements(place):
+    """t marks; i replaces both the mark and itself, h the mark alone, g itself alone, and deletes."""
+    classes = {place[letter]: 4 + at for at, letter in enumerate("tihg")}
+    entries = [(0, 0, NO, NO), (2, 0x8000, NO, NO), (0, 0, 0, 1), (0, 0, 0, NO), (2, 0x4000, NO, 1), (2, 0, NO, NO)]
+    states = [[0, 0, 0, 0, 1, 0, 0, 0]] * 2 + [[0, 5, 5, 0, 1, 2, 3, 4]]
+    tables = ot.long_numbers(8, 8 + len(by_glyph({place["t"]: place["T"]}))) + by_glyph({place["t"]: place["T"]}) \
+        + by_glyph({place["i"]: place["I"], place["g"]: NO})
+    return machine(classes, states, entries, tables)
+
+
+def joined_letters(place):
+    """j k l become X, and j l becomes Y, with what stands between left as it is."""
+    classes = {place[letter]: 4 + at for at, letter in enumerate("jkl")}
+    entries = [(0, 0, 0), (2, 0x8000, 0), (3, 0x8000, 0), (0, 0xA000, 0), (0, 0xA000, 3)]
+    states = [[0, 0, 0, 0, 1, 0, 0]] * 2 + [[0, 2, 2, 0, 1, 2, 4], [0, 3, 3, 0, 1, 0, 3]]
+    states[2][1], states[3][1] = 0, 0
+    return machine(classes, states, entries, actions(place["l"], place["k"], place["j"]) + actions_from(3, place["l"], place["j"]),
+                   ot.numbers(0, 0, 0, 0), ot.numbers(place["X"], place["Y"]))
+
+
+def actions_from(first, *glyphs):
+    """The actions of a ligature, whose components are listed from a place on."""
+    offsets = [(first - glyph if at else first + 1 - glyph) & 0x3FFF_FFFF for at, glyph in enumerate(glyphs)]
+    return ot.long_numbers(*offsets[:-1], offsets[-1] | 0x8000_0000)
+
+
+def mapped(names):
+    return ot.cmap({(3, 1): ot.segment_mapping({ord(name): at for at, name in enumerate(names) if len(name) == 1} | {0x20: 1})})
+
+
+def apple_more():
+    names = [".notdef", "space", *UPPER, *LOWER]
+    place = {name: at for at, name in enumerate(names)}
+    ways = {1: rearrangements, 2: insertions, 4: replacements, 8: joined_letters}
+    kinds = {1: REARRANGEMENT, 2: INSERTION, 4: CONTEXTUAL, 8: LIGATURE}
+    chosen = [(14, at, flag, 0xFFFF_FFFF) for at, flag in enumerate(ways)] + [(37, 1, 16, 0xFFFF_FFFF), (37, 0, 0, 0xFFFF_FFEF)]
+    subtables = [(kinds[flag], ALL_DIRECTIONS, flag, make(place)) for flag, make in ways.items()]
+    deleted = by_glyph({place["n"]: NO, place["m"]: place["M"]})
+    gpos = lay.layout({"DFLT": {"dflt": (None, ["kern"])}}, {"kern": ["0"]},
+                      {"0": lay.lookup(2, 0, lay.pairs_of_glyphs({place["A"]: {place["B"]: [-90]}, place["m"]: {place["o"]: [-30]}}, 4))})
+    return ot.font({
+        **tables(names, "Vukhaso Apple More"), "post": ot.post(names), "cmap": mapped(names), "GPOS": gpos,
+        "morx": morx(chain(1, chosen, subtables), chain(16, [(37, 1, 16, 0xFFFF_FFFF), (37, 0, 0, 0xFFFF_FFEF)], [(NONCONTEXTUAL, ALL_DIRECTIONS, 16, deleted)])),
+        "feat": feat([(14, False, [0, 1, 2, 3]), (37, True, [0, 1])]),
+    })
+
+
+def chain_more(number, flag):
+    """`apple-more.ttf` with one of its kinds of subtables always on."""
+    names = [".notdef", "space", *UPPER, *LOWER]
+    place = {name: at for at, name in enumerate(names)}
+    make = {REARRANGEMENT: rearrangements, INSERTION: insertions, CONTEXTUAL: replacements, LIGATURE: joined_letters}[number]
+    deleted = by_glyph({place["n"]: NO, place["m"]: place["M"]})
+    subtables = [(number, flag, 1, make(place)), (NONCONTEXTUAL, ALL_DIRECTIONS, 1, deleted)]
+    gpos = lay.layout({"DFLT": {"dflt": (None, ["kern"])}}, {"kern": ["0"]},
+                      {"0": lay.lookup(2, 0, lay.pairs_of_glyphs({place["A"]: {place["B"]: [-90]}, place["M"]: {place["o"]: [-30]}}, 4))})
+    return ot.font({**tables(names, "Vukhaso Apple More"), "post": ot.post(names), "cmap": mapped(names), "GPOS": gpos,
+                    "morx": morx(chain(1, [(1, 2, 1, 0xFFFF_FFFF), (1, 3, 0, 0xFFFF_FFFE)], subtables)), "feat": feat([(1, False, [2])])})
+
+
+def apple_kern():
+    """Apple's `kern`: pairs, classes, an array, and what is across the line or for vertical lines."""
+    names = [".notdef", "space", *UPPER, *LOWER]
+    place = {name: at for at, name in enumerate(names)}
+
+    def pairs(**values):
+        return lay.kern_pairs({(place[pair[0]], place[pair[1]]): value for pair, value in values.items()})
+
+    bodies = [(0x00, 0, pairs(AV=-80, VA=-70, To=-60)), (0x40, 0, pairs(xy=35)), (0x80, 0, pairs(AV=-33, ab=-44)), (0x00, 0, pairs(AV=-5, cd=0))]
+    rows = b"".join(ot.long_numbers(8 + len(body)) + bytes([flags, form]) + ot.numbers(0) + body for flags, form, body in bodies)
+    return ot.font({**tables(names, "Vukhaso Apple Kern"), "post": ot.post(names), "cmap": mapped(names),
+                    "kern": ot.long_numbers(0x10000, len(bodies)) + rows})
+
+
+FONTS = {
+    "apple-more.ttf": apple_more, "apple-kern.ttf": apple_kern,
+    **{f"apple-{name}.ttf": (lambda number=number, bits=bits: chain_more(number, bits))
+       for name, number, bits in (("rearrangement", REARRANGEMENT, ALL_DIRECTIONS), ("insertion", INSERTION, ALL_DIRECTIONS),
+                                  ("contextual", CONTEXTUAL, ALL_DIRECTIONS), ("ligature", LIGATURE, ALL_DIRECTIONS),
+                                  ("backwards", REARRANGEMENT, BACKWARDS), ("logical", INSERTION, BACKWARDS | LOGICAL))},
+}

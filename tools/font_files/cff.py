@@ -11,7 +11,8 @@ FIRST_OWN = 391
 
 OPERATORS = {
     "hstem": 1, "vmoveto": 4, "rlineto": 5, "hlineto": 6, "vlineto": 7, "rrcurveto": 8, "callsubr": 10, "return": 11, "endchar": 14,
-    "rmoveto": 21, "hmoveto": 22, "callgsubr": 29, "vhcurveto": 30, "hvcurveto": 31,
+    "vstem": 3, "hstemhm": 18, "hintmask": 19, "cntrmask": 20, "vstemhm": 23, "rcurveline": 24, "rlinecurve": 25, "vvcurveto": 26,
+    "hhcurveto": 27, "rmoveto": 21, "hmoveto": 22, "callgsubr": 29, "vhcurveto": 30, "hvcurveto": 31,
 }
 
 
@@ -34,9 +35,21 @@ def number(value):
     return b"\x1c" + struct.pack(">h", value)
 
 
+# Operators of two bytes, by the second.
+ESCAPED = {"hflex": 34, "flex": 35, "hflex1": 36, "flex1": 37}
+
+
 def charstring(text):
-    """A charstring of numbers and operators, as `10 0 rmoveto 50 50 -50 hlineto endchar`."""
-    return b"".join(bytes([OPERATORS[word]]) if word in OPERATORS else number(int(word)) for word in text.split())
+    """A charstring of numbers and operators, as `10 0 rmoveto 50 50 -50 hlineto endchar`; a mask has its bits, as `hintmask:10100000`."""
+    made = b""
+    for word in text.split():
+        word, _, bits = word.partition(":")
+        if word in ESCAPED:
+            made += bytes([12, ESCAPED[word]])
+        else:
+            made += bytes([OPERATORS[word]]) if word in OPERATORS else number(int(word))
+        made += int(bits + "0" * (-len(bits) % 8), 2).to_bytes(-(-len(bits) // 8), "big") if bits else b""
+    return made
 
 
 def entry(operator, *values):

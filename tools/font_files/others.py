@@ -64,3 +64,31 @@ def upright():
         "vhea": ot.measures(500, -500, 1000, 1, vertical=True), "vmtx": ot.advances([(1000, 60)] * len(names), 1),
         "VORG": ot.numbers(1, 0, 850, 1, place["b"], 880),
     }, b"OTTO")
+
+
+HINTED = {
+    ".notdef": "50 0 rmoveto 200 300 -200 hlineto endchar",
+    "a": "10 20 30 20 hstemhm 40 20 60 20 hintmask:10100000 100 0 rmoveto 100 200 -100 hlineto endchar",
+    "b": "10 20 10 20 10 20 10 20 10 hstemhm 10 20 10 20 10 20 10 20 10 20 vstemhm hintmask:1111000011110000 50 60 rmoveto 210 170 -90 hlineto endchar",
+    "c": "300 10 20 hstem 30 40 vstem 7 -8 rmoveto 50 60 70 80 90 100 rrcurveto endchar",
+    "d": "20 30 rmoveto 10 20 30 40 50 60 70 80 90 100 rcurveline endchar",
+    "e": "20 30 rmoveto 10 20 30 40 10 -20 30 -40 50 60 rlinecurve endchar",
+    "f": "20 30 rmoveto 5 10 20 30 40 vvcurveto 6 15 25 35 45 hhcurveto endchar",
+    "g": "20 30 vmoveto 1 2 3 4 5 6 7 8 9 10 11 12 50 flex endchar",
+    "h": "40 hmoveto 10 20 30 40 50 60 70 hflex 11 21 31 41 51 61 71 81 91 hflex1 1 2 3 4 5 6 7 8 9 10 21 flex1 endchar",
+    "i": "10 10 rmoveto 10 20 30 40 50 60 70 80 vhcurveto 15 25 35 45 55 65 75 85 95 hvcurveto 10 20 30 hlineto 5 15 25 vlineto endchar",
+    "j": "10 20 10 20 10 20 10 20 hstemhm cntrmask:1100000000 20 20 rmoveto 40 50 60 hlineto endchar",
+}
+
+
+def hinted():
+    """Charstrings with hints, masks of them, and each kind of line and curve."""
+    names = list(HINTED)
+    rows = [(500 + 10 * at, 0) for at in range(len(names))]
+    measures = tables(["space", *[name for name in names if name in LOWER]], "Vukhaso Hinted")
+    return ot.font({
+        **{tag: measures[tag] for tag in ("head", "OS/2", "name")},
+        "hhea": ot.measures(800, -200, 500, len(rows)), "hmtx": ot.advances(rows, len(rows)), "maxp": ot.maxp(len(names), outlines=False),
+        "post": ot.post(), "cmap": ot.cmap({(0, 3): ot.trimmed_mapping({ord(name): at for at, name in enumerate(names) if len(name) == 1})}),
+        "CFF ": cff.cff("Vukhaso Hinted", names, HINTED, [], [], (0, -20, 600, 800)),
+    }, b"OTTO")

@@ -3,7 +3,7 @@
 A name of four to six hexadecimal digits stands for the glyph of that character; any other name is a glyph without a character. Rules
 of one lookup are of one kind, which their shape says: `a > b` is a single substitution, `a b > c` a ligature, `a > b c` and `a >`
 multiple ones, `a > b / c` an alternate one, and `a [b] c > d` a single substitution of what is in brackets, where the rest stands
-around it. A number before the rules of a lookup is its flags.
+around it, or a ligature where several glyphs are in brackets. A number before the rules of a lookup is its flags.
 """
 
 import re
@@ -115,7 +115,9 @@ class Substitutions:
     def context(self, rule):
         left, right = split(rule)
         before, inside, after = ([[at] for at in self.glyphs.of(part)] for part in re.split(r"[\[\]]", left))
-        self.nested.append(lay.lookup(1, 0, lay.by_list({inside[0][0]: self.glyphs.of(right)[0]})))
+        (first, *rest), whole = [at for at, in inside], self.glyphs.of(right)[0]
+        nested = (4, lay.ligatures({first: [(rest, whole)]})) if rest else (1, lay.by_list({first: whole}))
+        self.nested.append(lay.lookup(nested[0], 0, nested[1]))
         action = (0, self.total + len(self.nested) - 1)
         return lay.chained_of_coverage(before[::-1], inside, after, [action])
 
@@ -133,7 +135,7 @@ def positions(glyphs, scripts, features):
         made["mkmk"] = lay.lookup(6, 0, lay.marks_on(placed, {at: [lay.anchor(glyphs.advance(at) // 2, 650)] for at in marks}))
     moved = bases[6:12]
     made["kern"] = lay.lookup(2, 0, lay.pairs_of_glyphs({moved[0]: {moved[1]: [-40]}}, X_ADVANCE))
-    made["dist"] = lay.lookup(1, 0, lay.one_value(moved[2:4], X_ADVANCE, [60]))
+    made["dist"] = lay.lookup(1, 0, lay.one_value([*moved[2:4], *marks[:3]], X_ADVANCE, [60]))
     made["curs"] = lay.lookup(3, lay.RIGHT_TO_LEFT, lay.cursive({at: (lay.anchor(glyphs.advance(at), 0), lay.anchor(0, 90)) for at in moved[4:]}))
     made = {tag: data for tag, data in made.items() if tag in features}
     return lay.layout({tag: {"dflt": (None, list(made))} for tag in scripts}, {tag: [tag] for tag in made}, made)

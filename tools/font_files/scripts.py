@@ -72,6 +72,9 @@ def indic(name, old=False, bare=False):
         of("psts", f"{c(0x24, 0x40)} > t_ii"),
         of("haln", f"{c(0x24, halant)} > t.haln"),
         of("calt", f"{c(0x15)} [{c(0x24)}] > {c(0x24)}.calt"),
+        {"blwf": [[f"{c(0x28)} [{c(halant, plain[4])}] > {c(plain[4])}.behind"]], "pstf": [[f"[{c(halant, plain[5])}] {c(0x28)} > {c(plain[5])}.ahead"]],
+         "pres": [[f"{c(plain[6])} [{c(plain[7])}] > {c(plain[7])}.after"]], "psts": [[f"[{c(plain[6])}] {c(0x28)} > {c(plain[6])}.before"]],
+         "abvs": [["25CC > 25CC.abvs"]]},
     )
     if bare:
         rules = {tag: rules[tag] for tag in ("blwf", "rphf") if tag in rules}
@@ -146,7 +149,9 @@ def universal(name):
          "pstf": [[f"{c(halant, few[4])} > l.post"]], "vatu": [[f"{c(few[0])} l.below > k.vatu"]], "cjct": [[f"l.half {c(few[0])} > l_k"]],
          "isol": [[f"{c(few[5])} > f.isol"]], "init": [[f"{c(few[5])} > f.init"]],
          "medi": [[f"{c(few[5])} > f.medi"]], "fina": [[f"{c(few[5])} > f.fina"]],
-         "pres": [[f"{c(vowel, few[0])} > v_k"]], "abvs": [[f"{c(few[1])} reph > l_reph"]], "haln": [[f"{c(few[3], halant)} > l.haln"]]},
+         "pres": [[f"{c(vowel, few[0])} > v_k"]], "abvs": [[f"{c(few[1])} reph > l_reph"]], "haln": [[f"{c(few[3], halant)} > l.haln"]],
+         "abvs": [["25CC > 25CC.abvs"]], "rclt": [[f"{c(few[0])} [{c(few[5])}] > f.rclt"]]},
+        {"blwf": [[f"{c(more[-1])} [{c(halant, more[-2])}] > l.behind"], [f"{c(more[-1])} [{c(more[-2])}] > l.after"]]},
         probes(map(code, more), "rphf pref rkrf abvf blwf half pstf vatu cjct abvs blws calt clig haln liga pres psts rclt rlig ccmp locl".split()))
     return font(f"Vukhaso {name.title()}", codes, [tag], rules)
 
@@ -159,7 +164,8 @@ FORMS = "isol fina medi init".split()
 def joined(family, tags, codes, forms, more=None, placed=("mark", "mkmk", "kern", "curs"), **how):
     """A font of letters that join, with a glyph for each form of some of them."""
     rules = {tag: [[f"{code(number)} > {code(number)}.{tag}" for number in numbers]] for tag, numbers in forms.items()}
-    return font(family, codes, tags, merged(rules, more or {}), placed, **how)
+    return font(family, codes, tags, merged({tag: of for tag, of in (more or {}).items() if tag in rules}, rules,
+                                            {tag: of for tag, of in (more or {}).items() if tag not in rules}), placed, **how)
 
 
 def arabic():
@@ -198,6 +204,8 @@ def joining(name):
     letters = [number for number in codes if chr(number).isalpha()]
     more = {"rlig": [[f"{code(letters[0])}.init {code(letters[1])}.fina > a_b"]], "calt": [[f"{code(letters[2])} > {code(letters[2])}.calt"]],
             "liga": [[f"{code(letters[4])}.init {code(letters[5])}.medi > c_d"]]}
+    if name == "mongolian":
+        more |= {tag: [[f"{code(at)} 180B > {code(at)}.{tag}.one" for at in letters[:9]]] for tag in FORMS}
     return joined(f"Vukhaso {name.title()}", [tag], codes + ([0x1807] if name == "phagspa" else []), {tag: letters[:40] for tag in FORMS}, more)
 
 
