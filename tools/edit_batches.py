@@ -12,8 +12,11 @@ from collections import defaultdict
 from dataclasses import dataclass, field
 
 from rattle_source import every
-from scratch import Scratch, side_by_side
+from scratch import ROOT, Scratch, side_by_side
 from wrong_bodies import changed_functions, functions_of, is_named, is_of_a_goal, left_open, readers_of, speaks_of, texts_with
+
+# What the checks said.
+LOG = ROOT / "out/edits.log"
 
 # A name of a function, with what stands before it: a dot, or a path.
 CALL = re.compile(r"(?:(?P<dot>\.\s*)|(?:(?P<path>\w+|>)\s*::\s*))?(?P<name>[^\W\d]\w*)(?P<call>\s*(?:\(|::\s*<))?")
@@ -151,7 +154,10 @@ def tried(scratch, edits, texts, functions=()):
     crate = edits[0].crate
     own = {path.relative_to(crate): text for path, text in texts.items()}
     only = [word for it in functions for word in ("--only", it.printed(crate))]
-    return scratch.tried(crate.name, own, ["--jobs", "1", *only])[1]
+    lines = scratch.tried(crate.name, own, ["--jobs", "1", *only])[1]
+    with LOG.open("a") as log:
+        log.write("".join(f"{line}\n" for line in (f"== {' '.join(edit.label for edit in edits)}", *lines)))
+    return lines
 
 
 class Tries:
@@ -201,7 +207,9 @@ class Tries:
 
 
 def try_all(edits):
-    """Plants all these edits, and prints how many are refused. Returns how many are not."""
+    """Plants all these edits, and prints how many are refused. Returns how many are not. What the checks said stands in `LOG`."""
+    LOG.parent.mkdir(exist_ok=True)
+    LOG.write_text("")
     with Scratch({edit.crate.name for edit in edits}) as scratch:
         print("the crates as they stand", flush=True)
         open_crates, said = scratch.prove()
@@ -210,5 +218,5 @@ def try_all(edits):
             return len(edits)
         tries = Tries(scratch)
         tries.run(edits)
-    print(f"{tries.told - tries.failed} passed, {tries.failed} failed, in {time.monotonic() - tries.begun:.0f} seconds")
+    print(f"in {time.monotonic() - tries.begun:.0f} seconds", f"{tries.told - tries.failed} passed, {tries.failed} failed", sep="\n")
     return tries.failed

@@ -146,9 +146,19 @@ class Scratch:
             shutil.rmtree(top, ignore_errors=True)
 
 
+# What runs, so that it can be ended where this process is.
+STARTED = set()
+
+
 def run(words, folder):
     how = {"stdin": subprocess.DEVNULL, "stdout": subprocess.PIPE, "stderr": subprocess.STDOUT, "text": True, "errors": "replace"}
-    return subprocess.run(words, cwd=folder, **how)
+    with subprocess.Popen(words, cwd=folder, **how) as started:
+        STARTED.add(started)
+        try:
+            said = started.communicate()[0]
+        finally:
+            STARTED.discard(started)
+    return subprocess.CompletedProcess(words, started.returncode, said)
 
 
 def processors():
@@ -171,5 +181,6 @@ def side_by_side(tasks):
                     del running[done]
                     yield done.result()
         finally:
-            for it in running:
-                it.cancel()
+            # (none runs any more but where this is stopped)
+            for it in [*STARTED]:
+                it.terminate()
