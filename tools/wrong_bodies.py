@@ -44,8 +44,8 @@ class Edit:
 
 @dataclass
 class Function:
-    """A function of a source file, with the lines of its body, also with those of its braces; its lines are counted from 0,
-    and `last` is its own. It promises something where it has an `ensures`."""
+    """A function of a source file, with the lines of its body, also with those of its braces. Its lines are counted from 0: `top` has
+    its documentation and attributes, `last` is its own. It promises something where it has an `ensures`."""
 
     file: Path
     owner: str
@@ -53,6 +53,7 @@ class Function:
     name: str
     is_public: bool
     promises: bool
+    top: int
     first: int
     last: int
     body: list
@@ -117,9 +118,9 @@ def functions_in(file, text, with_defaults=False):
         found += [it for item in reader.items if item.kind == "trait" for it in functions(item.items, item.name)]
     for item, owner, trait in found:
         opening, closing = (words[place].line - 1 for place in item.body)
-        first = words[item.start].line - 1
+        top, first = words[item.first].line - 1, words[item.start].line - 1
         yield Function(
-            file, owner, trait, item.name, item.is_public, bool(item.ensures), first, closing, lines[opening + 1 : closing],
+            file, owner, trait, item.name, item.is_public, bool(item.ensures), top, first, closing, lines[opening + 1 : closing],
             lines[opening : closing + 1])
 
 
@@ -189,6 +190,6 @@ def speaks_of(line, function, crate):
         return False
     path = crate / said[1]
     if path == function.file:
-        return function.first <= int(said[2]) - 1 <= function.last
+        return function.top <= int(said[2]) - 1 <= function.last
     name = function.printed(crate).removeprefix(f"{crate.name}::")
     return f"/{path.parent}".endswith("/" + name.replace("::", "/"))
