@@ -58,8 +58,8 @@ def lookups_by_name(named):
 
 
 def substitutions():
-    order = ["lig2", "lig2.next", "lg17", "null", "shr4", "gone", "twic", "ct64", "ct65", "many", "chai", *(f"grow.{at}" for at in range(8)),
-             "_ab", "_c_to_x", "_d_to_y", "_e_to_z", "_none", "_b_to_cc", "_abc", "_many"]
+    order = ["lig2", "lig2.next", "lg17", "null", "shr4", "gone", "twic", "ct62", "ct64", "ct65", "many", "chai", *(f"grow.{at}" for at in range(8)),
+             "_ab", "_c_to_x", "_d_to_y", "_e_to_z", "_none", "_b_to_cc", "_abc", "_many", "_more"]
 
     def calls(*rows):
         return [(place, order.index(name)) for place, name in rows]
@@ -73,6 +73,7 @@ def substitutions():
         "shr4": lay.lookup(5, 0, lay.context_of_coverage(each("a b c d e"), calls((0, "_ab"), (1, "_c_to_x"), (2, "_d_to_y"), (3, "_e_to_z"), (4, "_e_to_z")))),
         "gone": lay.lookup(5, 0, lay.context_of_coverage(each("a b c d"), calls((1, "_none"), (1, "_c_to_x"), (2, "_d_to_y")))),
         "twic": lay.lookup(5, 0, lay.context_of_coverage(each("a b c"), calls((0, "_abc"), (0, "_none"), (1, "_c_to_x")))),
+        "ct62": lay.lookup(5, 0, lay.context_of_coverage(each(" ".join("s" * 62)), calls((0, "_more"), (3, "_many")))),
         "ct64": lay.lookup(5, 0, lay.context_of_coverage(each(" ".join("s" * 64)), calls((63, "_many"), (0, "_many")))),
         "ct65": lay.lookup(5, 0, lay.context_of_coverage(each(" ".join("s" * 65)), calls((64, "_many"), (0, "_many")))),
         "many": lay.lookup(5, 0, lay.context_of_glyphs({PLACE["a"]: rules})),
@@ -81,6 +82,7 @@ def substitutions():
         "_ab": ligature(0, ("a b", "E")), "_c_to_x": single(c="x"), "_d_to_y": single(d="y"), "_e_to_z": single(e="z"),
         "_none": lay.lookup(2, 0, lay.sequences({PLACE["b"]: [], PLACE["D"]: []})), "_b_to_cc": lay.lookup(2, 0, lay.sequences({PLACE["b"]: g("c c")})),
         "_abc": ligature(0, ("a b c", "D")), "_many": single(s="Z", a="Y"),
+        "_more": lay.lookup(2, 0, lay.sequences({PLACE["s"]: g("s s s s")})),
     }
     return lay.layout({"DFLT": {"dflt": (None, sorted(lookups_by_name(order)))}}, lookups_by_name(order), {name: made[name] for name in order})
 
@@ -104,9 +106,12 @@ def positions():
         "dist": lay.lookup(1, 0, bounded({PLACE["p"]: 40}, g("q r"))),
         "mark": lay.lookup(4, 0, nested),
         "mark.2": lay.lookup(5, 0, lay.marks_on_ligatures(marks, {PLACE["A"]: parts(2), PLACE["B"]: parts(4), PLACE["C"]: parts(2), PLACE["O"]: parts(17)})),
-        "nest": lay.lookup(8, 0, lay.chained_of_coverage([], [[*g("a b c")], g("acute grave"), g("acute grave")], [], [(2, 5), (1, 5), (1, 6)])),
+        "nest": lay.lookup(8, 0, lay.chained_of_coverage([], [[*g("a b c")], g("acute grave"), g("acute grave")], [], [(2, 6), (1, 6), (1, 7)])),
+        "nst2": lay.lookup(8, 0, lay.chained_of_coverage([], [g("a"), g("e"), g("acute")], [], [(2, 8), (1, 8)])),
         "_again": lay.lookup(4, 0, lay.marks_on(marks, {PLACE[name]: [lay.anchor(99, 99)] for name in "abc"})),
         "_raised": lay.lookup(1, 0, lay.one_value(g("acute"), 2, [77])),
+        "_letter": lay.lookup(4, 0, lay.marks_on({PLACE["acute"]: (0, lay.anchor(0, 500)), PLACE["e"]: (0, lay.anchor(0, 400))},
+                                                 {PLACE[name]: [lay.anchor(111, 222)] for name in "ae"})),
     }
     features = lookups_by_name(made)
     return lay.layout({"DFLT": {"dflt": (None, sorted(features))}}, features, made)
