@@ -151,7 +151,7 @@ def universal(name):
          "medi": [[f"{c(few[5])} > f.medi"]], "fina": [[f"{c(few[5])} > f.fina"]],
          "pres": [[f"{c(vowel, few[0])} > v_k"]], "abvs": [[f"{c(few[1])} reph > l_reph"]], "haln": [[f"{c(few[3], halant)} > l.haln"]],
          "abvs": [["25CC > 25CC.abvs"]], "rclt": [[f"{c(few[0])} [{c(few[5])}] > f.rclt"]]},
-        {"blwf": [[f"{c(more[-1])} [{c(halant, more[-2])}] > l.behind"], [f"{c(more[-1])} [{c(more[-2])}] > l.after"]]},
+        {"blwf": [[f"{c(more[-1])} [{c(halant, more[-2])}] > l.behind", f"{c(more[-1])} [{c(more[-2])}] > l.after"]]},
         probes(map(code, more), "rphf pref rkrf abvf blwf half pstf vatu cjct abvs blws calt clig haln liga pres psts rclt rlig ccmp locl".split()))
     return font(f"Vukhaso {name.title()}", codes, [tag], rules)
 

@@ -138,7 +138,7 @@ def scripts():
 def ligated():
     """Ligatures, and no positions, and glyphs without classes: marks are placed by bounds, components by their number."""
     rules = {
-        "liga": [[8, "0066 0069 > f_i", "0066 0066 0069 > f_f_i", "2003 2003 > wide", "00AD 0061 > shy_a", "200B 0062 > zero_b", "0301 0302 > two_marks"]],
+        "liga": [[8, "0066 0069 > f_i", "0066 0066 0069 > f_f_i", "2003 2003 > wide", "0020 0061 > space_a", "00AD 0061 > shy_a", "200B 0062 > zero_b", "0301 0302 > two_marks"]],
         "ccmp": [["0077 > 0076 0076"], ["0079 > 0079 0301"], ["0071 > "]], "smcp": [["00AD > 00AD.seen", "0063 > 0063.small"]], "dlig": [["0076 0076 > v_v"]],
     }
     codes = [*range(0x61, 0x7B), 0x301, 0x302, 0x323, 0x327, 0x2003, 0x2002, 0xAD, 0x200B, 0x5D0, 0x627]
