@@ -10,6 +10,7 @@ import re
 import time
 from collections import defaultdict
 from dataclasses import dataclass, field
+from functools import lru_cache
 
 from rattle_source import every
 from scratch import ROOT, Scratch, side_by_side
@@ -27,6 +28,12 @@ bitand bitor bitxor shl shr add_assign sub_assign mul_assign div_assign rem_assi
 UNNAMED_TOO = {"parse": "from_str", "unwrap_or_default": "default", "to_string": "fmt", "into": "from", "try_into": "try_from", "collect": "from_iter"}
 
 
+@lru_cache(maxsize=None)
+def traits_of_all():
+    texts = (path.read_text() for path in ROOT.glob("crates/*/src/**/*.rt"))
+    return {name for text in texts for name in re.findall(r"^pub trait (\w+)", text, re.M)}
+
+
 class Calls:
     """The functions of a crate, each by its file and its first line, and those that each may reach."""
 
@@ -38,7 +45,9 @@ class Calls:
         for reader in readers_of(crate):
             traits |= {item.name for item in every(reader.items) if item.kind == "trait"}
         self.owners = {it.owner for it in self.its.values() if it.owner} - traits
-        unnamed = {key for key, it in self.its.items() if it.trait and it.name in UNNAMED}
+        # What implements a trait of another crate may be called by what that crate has.
+        handed = traits_of_all() - traits
+        unnamed = {key for key, it in self.its.items() if it.trait and (it.name in UNNAMED or it.trait.split("::")[-1] in handed)}
         direct = {key: unnamed | set(self.named_in(it)) for key, it in self.its.items()}
         self.reached = {key: self.all_from(key, direct) for key in direct}
 
