@@ -153,6 +153,8 @@ def universal(name):
          "abvs": [["25CC > 25CC.abvs"]], "rclt": [[f"{c(few[0])} [{c(few[5])}] > f.rclt"]]},
         {"blwf": [[f"{c(more[-1])} [{c(halant, more[-2])}] > l.behind", f"{c(more[-1])} [{c(more[-2])}] > l.after"]]},
         probes(map(code, more), "rphf pref rkrf abvf blwf half pstf vatu cjct abvs blws calt clig haln liga pres psts rclt rlig ccmp locl".split()))
+    if name == "newa":
+        rules = merged({"ccmp": [[f"{c(ra)} > {c(ra)} ra.second"]], "rphf": [[f"{c(ra)} ra.second {c(halant)} > reph"]]}, rules)
     return font(f"Vukhaso {name.title()}", codes, [tag], rules)
 
 

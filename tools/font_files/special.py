@@ -58,7 +58,7 @@ def lookups_by_name(named):
 
 
 def substitutions():
-    order = ["lig2", "lig2.next", "lg17", "null", "shr4", "gone", "twic", "ct62", "ct64", "ct65", "many", "chai", *(f"grow.{at}" for at in range(8)),
+    order = ["lig2", "lig2.next", "lig2.last", "revm", "shrm", "lg17", "null", "shr4", "gone", "twic", "ct62", "ct64", "ct65", "many", "chai", *(f"grow.{at}" for at in range(8)),
              "_ab", "_c_to_x", "_d_to_y", "_e_to_z", "_none", "_b_to_cc", "_abc", "_many", "_more"]
 
     def calls(*rows):
@@ -67,7 +67,10 @@ def substitutions():
     rules = [lay.rule(g(f"b {end}"), calls((1, "_b_to_cc"))) for end in "cdefg"] + [lay.rule(g("h"), calls((0, "_many"))), lay.rule(g("b"), calls((0, "_many")))]
     chained = [lay.chained_rule([], g("b"), g(f"i {end}"), calls((1, "_b_to_cc"))) for end in "cdefg"] + [lay.chained_rule([], [], g("b"), calls((0, "_many")))]
     made = {
-        "lig2": ligature(lay.IGNORE_MARKS, ("a b", "A"), ("a a", "C")), "lig2.next": ligature(lay.IGNORE_MARKS, ("A c", "B"), ("A A", "B")),
+        "lig2": ligature(lay.IGNORE_MARKS, ("a b", "A"), ("a a", "C")), "lig2.next": ligature(lay.IGNORE_MARKS, ("A c", "B"), ("A A", "B"), ("c A", "B")),
+        "lig2.last": ligature(lay.IGNORE_MARKS, ("B d", "O"), ("d B", "O")),
+        "revm": lay.lookup(8, 0, lay.reverse_chained([], {PLACE["x"]: PLACE["below"]}, [])),
+        "shrm": lay.lookup(5, lay.IGNORE_MARKS, lay.context_of_coverage(each("a b c d"), calls((0, "_ab"), (1, "_c_to_x"), (2, "_d_to_y")))),
         "lg17": ligature(lay.IGNORE_MARKS, (" ".join("o" * 17), "O")),
         "null": None,
         "shr4": lay.lookup(5, 0, lay.context_of_coverage(each("a b c d e"), calls((0, "_ab"), (1, "_c_to_x"), (2, "_d_to_y"), (3, "_e_to_z"), (4, "_e_to_z")))),
@@ -99,6 +102,8 @@ def positions():
     def parts(count):
         return [[lay.anchor(100 * at, 600 + 10 * at)] for at in range(1, count + 1)]
 
+    joining = lay.cursive({PLACE[name]: (lay.anchor(10 * at, 30 * at), lay.anchor(400 + 10 * at, 40 - 20 * at)) for at, name in enumerate("fghijk")})
+    some = lay.cursive({PLACE["f"]: (None, lay.anchor(400, 15)), PLACE["h"]: (lay.anchor(5, 25), lay.anchor(390, -35)), PLACE["j"]: (lay.anchor(9, 77), None)})
     nested = lay.marks_on(marks, {PLACE[name]: [lay.anchor(250, 640)] for name in "abcdT"})
     made = {
         "kern": lay.lookup(2, 0, lay.pairs_of_glyphs({PLACE["T"]: {PLACE["o"]: [0], PLACE["a"]: [-70]}}, X_ADVANCE),
@@ -106,8 +111,10 @@ def positions():
         "dist": lay.lookup(1, 0, bounded({PLACE["p"]: 40}, g("q r"))),
         "mark": lay.lookup(4, 0, nested),
         "mark.2": lay.lookup(5, 0, lay.marks_on_ligatures(marks, {PLACE["A"]: parts(2), PLACE["B"]: parts(4), PLACE["C"]: parts(2), PLACE["O"]: parts(17)})),
-        "nest": lay.lookup(8, 0, lay.chained_of_coverage([], [[*g("a b c")], g("acute grave"), g("acute grave")], [], [(2, 6), (1, 6), (1, 7)])),
-        "nst2": lay.lookup(8, 0, lay.chained_of_coverage([], [g("a"), g("e"), g("acute")], [], [(2, 8), (1, 8)])),
+        "mkmk": lay.lookup(6, 0, lay.marks_on(marks, {PLACE[name]: [lay.anchor(20, 730)] for name in MARKS})),
+        "cur1": lay.lookup(3, 0, joining), "cur2": lay.lookup(3, lay.RIGHT_TO_LEFT, joining), "cur3": lay.lookup(3, 0, some),
+        "nest": lay.lookup(8, 0, lay.chained_of_coverage([], [[*g("a b c")], g("acute grave"), g("acute grave")], [], [(2, 10), (1, 10), (1, 11)])),
+        "nst2": lay.lookup(8, 0, lay.chained_of_coverage([], [g("a"), g("e"), g("acute")], [], [(2, 12), (1, 12)])),
         "_again": lay.lookup(4, 0, lay.marks_on(marks, {PLACE[name]: [lay.anchor(99, 99)] for name in "abc"})),
         "_raised": lay.lookup(1, 0, lay.one_value(g("acute"), 2, [77])),
         "_letter": lay.lookup(4, 0, lay.marks_on({PLACE["acute"]: (0, lay.anchor(0, 500)), PLACE["e"]: (0, lay.anchor(0, 400))},
