@@ -68,7 +68,7 @@ def upright():
 
 HINTED = {
     ".notdef": "50 0 rmoveto 200 300 -200 hlineto endchar",
-    "a": "10 20 30 20 hstemhm 40 20 60 20 hintmask:10100000 100 0 rmoveto 100 200 -100 hlineto endchar",
+    "a": "10 20 30 20 hstemhm 40 20 60 20 hintmask:00001110 100 0 rmoveto 100 200 -100 hlineto endchar",
     "b": "10 20 10 20 10 20 10 20 10 hstemhm 10 20 10 20 10 20 10 20 10 20 vstemhm hintmask:1111000011110000 50 60 rmoveto 210 170 -90 hlineto endchar",
     "c": "300 10 20 hstem 30 40 vstem 7 -8 rmoveto 50 60 70 80 90 100 rrcurveto endchar",
     "d": "20 30 rmoveto 10 20 30 40 50 60 70 80 90 100 rcurveline endchar",

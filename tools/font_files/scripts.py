@@ -77,7 +77,8 @@ def indic(name, old=False, bare=False):
          "abvs": [["25CC > 25CC.abvs"]]},
     )
     if bare:
-        rules = {tag: rules[tag] for tag in ("blwf", "rphf") if tag in rules}
+        twice = {"nukt": [[f"{c(ra)} > {c(ra)} ra.second"]], "rphf": [[f"{c(ra)} ra.second {c(halant)} > reph"]], "half": [[f"{c(0x15, halant)} > k.half"]]}
+        rules = merged(twice, {tag: rules[tag] for tag in ("blwf", "rphf") if tag in rules})
     else:
         rules = merged(rules, probes([code(start + at) for at in plain[8:]],
                                      "rphf pref half blwf abvf pstf cjct init pres abvs blws psts haln calt liga clig".split()))
