@@ -5,6 +5,7 @@ each kind of rearrangement and of insertion, and `GPOS` beside; `apple-kern.ttf`
 from . import layout as lay
 from . import opentype as ot
 from .glyphs import LOWER, UPPER, tables
+from .rules import font as ruled
 
 REARRANGEMENT, CONTEXTUAL, LIGATURE, NONCONTEXTUAL, INSERTION = 0, 1, 2, 4, 5
 BACKWARDS, ALL_DIRECTIONS, LOGICAL = 0x4000_0000, 0x2000_0000, 0x1000_0000
@@ -196,8 +197,20 @@ def apple_kern():
                     "kern": ot.long_numbers(0x10000, len(bodies)) + rows})
 
 
+def apple_scripts(has_marks=False):
+    """Letters and signs of many scripts, with a table `morx`, which leaves nothing to the shapers of scripts."""
+    codes = [*range(0x61, 0x67), 0x301, 0x323, 0x5D0, 0x5E9, 0x5B8, 0x5BC, 0x5C1, 0xFB4A, 0x627, 0x628, 0x644, 0x64E, 0x651, 0xFE8E, 0xFEFB, 0x710, 0x712,
+             0x730, 0x915, 0x930, 0x93F, 0x94D, 0x901, 0xE01, 0xE1B, 0xE33, 0xE48, 0xE49, 0xE4D, 0xE32, 0x1000, 0x1025, 0x102E, 0x103B, 0x1039, 0x1031,
+             0x1780, 0x17D2, 0x17C1, 0x17BE, 0x17B6, 0x1100, 0x1161, 0xAC00, 0x302E, 0xA984, 0xA9BA, 0xA9C0, 0x1820, 0x180B, 0x7C1, 0x7EB, 0x7FD]
+    swapped = by_glyph({5: 6, 6: 5})
+    more = {"morx": morx(chain(1, [(1, 2, 1, 0xFFFF_FFFF), (1, 3, 0, 0xFFFF_FFFE)], [(NONCONTEXTUAL, ALL_DIRECTIONS, 1, swapped)])),
+            "feat": feat([(1, False, [2])])}
+    return ruled("Vukhaso Apple Scripts", codes, ["DFLT", "arab", "hebr", "mym2", "thai"], {}, placed=("mark",) if has_marks else (), has_gdef=has_marks,
+                 more=more, outlined=100)
+
+
 FONTS = {
-    "apple-more.ttf": apple_more, "apple-kern.ttf": apple_kern,
+    "apple-scripts.ttf": apple_scripts, "apple-marks.ttf": lambda: apple_scripts(True), "apple-more.ttf": apple_more, "apple-kern.ttf": apple_kern,
     **{f"apple-{name}.ttf": (lambda number=number, bits=bits: chain_more(number, bits))
        for name, number, bits in (("rearrangement", REARRANGEMENT, ALL_DIRECTIONS), ("insertion", INSERTION, ALL_DIRECTIONS),
                                   ("contextual", CONTEXTUAL, ALL_DIRECTIONS), ("ligature", LIGATURE, ALL_DIRECTIONS),
