@@ -13,6 +13,7 @@ import shutil
 import signal
 import subprocess
 import tempfile
+import time
 from concurrent.futures import FIRST_COMPLETED, ThreadPoolExecutor, wait
 from pathlib import Path
 
@@ -61,6 +62,14 @@ def copy_if_there(folder, to, copy):
         shutil.copytree(folder, to, symlinks=True, copy_function=copy)
 
 
+def copy_kept(folder, to, copy):
+    """Copies what a check kept, which another one may be writing: then it is done without."""
+    try:
+        copy_if_there(folder, to, copy)
+    except (OSError, shutil.Error):
+        shutil.rmtree(to, ignore_errors=True)
+
+
 def count_of_lines(crate, ending):
     return sum(path.read_bytes().count(b"\n") for part in PARTS[:3] for path in (crate / part).rglob(f"*{ending}"))
 
@@ -93,8 +102,8 @@ class Scratch:
             own, to = ROOT / "crates" / name, self.base / "crates" / name
             for part in PARTS:
                 copy_if_there(own / part, to / part, shutil.copyfile)
-            copy_if_there(own / "out/rlib", to / "out/rlib", link)
-            copy_if_there(own / "out/incremental", to / "out/incremental", link_if_replaced)
+            copy_kept(own / "out/rlib", to / "out/rlib", link)
+            copy_kept(own / "out/incremental", to / "out/incremental", link_if_replaced)
         return self
 
     def __exit__(self, *_):
@@ -112,7 +121,7 @@ class Scratch:
 
     def prove(self):
         """Proves the copy as it stands. Returns the crates that are not proved, and what was said."""
-        ran = run(["rt", "all", "check", "--jobs", str(processors())], self.base)
+        ran = run(["rt", "all", "check", "--jobs", str(processors())], self.base, tells=True)
         return re.findall(r"^(\w+): (?:failed|not run)", ran.stdout, re.M) or ["?"] * (ran.returncode != 0), ran.stdout
 
     def needs(self, name):
@@ -150,15 +159,20 @@ class Scratch:
 STARTED = set()
 
 
-def run(words, folder):
+def run(words, folder, tells=False):
+    """Runs a command, and tells as it goes of which crate something is said, where that is asked for."""
     how = {"stdin": subprocess.DEVNULL, "stdout": subprocess.PIPE, "stderr": subprocess.STDOUT, "text": True, "errors": "replace"}
+    said, begun = [], time.monotonic()
     with subprocess.Popen(words, cwd=folder, **how) as started:
         STARTED.add(started)
         try:
-            said = started.communicate()[0]
+            for line in started.stdout:
+                said.append(line)
+                if tells and line.startswith("== ") and line != "== summary\n":
+                    print(f"[{time.monotonic() - begun:.0f} s] {line[3:-1]}", flush=True)
         finally:
             STARTED.discard(started)
-    return subprocess.CompletedProcess(words, started.returncode, said)
+    return subprocess.CompletedProcess(words, started.returncode, "".join(said))
 
 
 def processors():
