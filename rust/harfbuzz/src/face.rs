@@ -78,9 +78,10 @@ pub struct hb_face_t {
 }
 
 /// The tables that queries ask for, which are fetched once.
-const KEPT: [&[u8; 4]; 20] = [
-    b"BASE", b"COLR", b"CPAL", b"GDEF", b"GPOS", b"GSUB", b"MATH", b"MVAR", b"OS/2", b"STAT", b"avar", b"cmap", b"fvar", b"head",
-    b"hhea", b"maxp", b"meta", b"name", b"post", b"vhea",
+const KEPT: [&[u8; 4]; 29] = [
+    b"BASE", b"CBDT", b"CBLC", b"COLR", b"CPAL", b"GDEF", b"GPOS", b"GSUB", b"MATH", b"MVAR", b"OS/2", b"STAT", b"SVG ", b"avar",
+    b"cmap", b"feat", b"fvar", b"head", b"hhea", b"kerx", b"maxp", b"meta", b"morx", b"mort", b"name", b"post", b"sbix", b"trak",
+    b"vhea",
 ];
 
 impl Object for hb_face_t {
@@ -184,6 +185,14 @@ impl hb_face_t {
         match KEPT.iter().position(|kept| *kept == name) {
             Some(place) => self.tables[place].get_or_init(|| self.locked(tag(name))).bytes(),
             None => &[],
+        }
+    }
+
+    /// A part of such a table, as a blob.
+    pub fn table_part(&self, name: &[u8; 4], offset: usize, length: usize) -> *mut hb_blob_t {
+        match KEPT.iter().position(|kept| *kept == name) {
+            Some(place) => part(self.tables[place].get_or_init(|| self.locked(tag(name))).0, offset, length),
+            None => hb_blob_t::empty(),
         }
     }
 

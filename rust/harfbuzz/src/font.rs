@@ -11,6 +11,9 @@ pub mod opentype;
 mod settings;
 mod variations;
 
+pub use settings::{hb_font_set_funcs, hb_font_set_scale};
+pub use variations::hb_font_set_var_coords_normalized;
+
 use crate::face::pool::Settings;
 use crate::face::{hb_face_destroy, hb_face_t};
 use crate::font::functions::{hb_font_funcs_destroy, hb_font_funcs_t};
@@ -127,6 +130,19 @@ impl hb_font_t {
         self.coordinates.borrow()
     }
 
+    pub fn design(&self) -> std::cell::Ref<'_, Vec<f32>> {
+        self.design.borrow()
+    }
+
+    pub fn serial(&self) -> c_uint {
+        self.serial.get()
+    }
+
+    /// What the font's functions are passed, and by which function it is given back.
+    pub fn functions_data(&self) -> (*mut c_void, hb_destroy_func_t) {
+        (self.data.get(), self.destroy.get())
+    }
+
     pub fn slant(&self) -> f32 {
         self.slant.get()
     }
@@ -135,6 +151,10 @@ impl hb_font_t {
     pub fn slant_across(&self) -> f32 {
         let (x, y) = self.scale();
         if y == 0 { 0.0 } else { self.slant.get() * x as f32 / y as f32 }
+    }
+
+    pub fn points(&self) -> f32 {
+        self.points.get()
     }
 
     pub fn ppem(&self) -> (c_uint, c_uint) {

@@ -11,16 +11,19 @@
 #![allow(clippy::missing_safety_doc)] // HarfBuzz's documentation has the terms of each call
 #![allow(clippy::too_many_arguments)] // as the header has them
 
+mod aat;
 mod blob;
 mod buffer;
 mod common;
 mod face;
 mod font;
+mod ft;
 mod map;
 mod object;
 mod ot;
 mod set;
 mod sfnt;
 mod shape;
+mod style;
 mod types;
 mod unicode;

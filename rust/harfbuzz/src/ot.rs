@@ -1,5 +1,9 @@
 //! `hb-ot.h`: what tables of OpenType say.
 
+mod color;
+pub mod layout;
+mod math;
+mod meta;
 pub mod metrics;
 pub mod tags;
 pub mod var;

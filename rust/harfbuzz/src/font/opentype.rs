@@ -252,7 +252,7 @@ fn slanted(font: &hb_font_t, plain: hb_glyph_extents_t) -> hb_glyph_extents_t {
 }
 
 /// The box of a glyph that is made bolder.
-fn bolder(font: &hb_font_t, plain: hb_glyph_extents_t) -> hb_glyph_extents_t {
+pub fn bolder(font: &hb_font_t, plain: hb_glyph_extents_t) -> hb_glyph_extents_t {
     let (x, y, in_place) = font.strength();
     if (x, y) == (0, 0) {
         return plain;

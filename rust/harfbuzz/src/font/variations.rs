@@ -110,7 +110,7 @@ pub unsafe extern "C" fn hb_font_set_var_coords_normalized(font: *mut hb_font_t,
         return;
     }
     font.changed();
-    font.design.replace(font.axes().design_of(coords));
+    font.design.replace(font.axes().design_of(font.face(), coords));
     font.coordinates.replace(coords.to_vec());
 }
 

@@ -27,6 +27,12 @@ fn tags_of(script: hb_script_t, language: Option<&Language>) -> (Vec<hb_tag_t>, 
     (scripts, languages.as_slice().iter().map(|tag| tag.as_u32()).collect())
 }
 
+/// The last tags of a script and a language, or those of the defaults: what the table `BASE` is asked by.
+pub fn last_tags(script: hb_script_t, language: hb_language_t) -> (hb_tag_t, hb_tag_t) {
+    let (scripts, languages) = tags_of(script, shaper_language(language).as_ref());
+    (scripts.last().copied().unwrap_or(DEFAULT_SCRIPT), languages.last().copied().unwrap_or(DEFAULT_LANGUAGE))
+}
+
 #[unsafe(no_mangle)]
 pub unsafe extern "C" fn hb_ot_tags_from_script_and_language(
     script: hb_script_t,
@@ -131,10 +137,14 @@ pub extern "C" fn hb_ot_tag_to_language(tag: hb_tag_t) -> hb_language_t {
     if tag == DEFAULT_LANGUAGE {
         return null();
     }
-    if let Some(&language) = languages_of_tags().get(&tag) {
-        return language;
-    }
     let bytes = tag.to_be_bytes();
+    if let Some(&language) = languages_of_tags().get(&tag) {
+        // Where several languages have a tag, that is meant whose code it is.
+        let code = bytes[..3].to_ascii_lowercase();
+        let own = std::str::from_utf8(&code).ok().and_then(|code| Language::from_str(code).ok());
+        let is_own = tags_of(0, own.as_ref()).1.contains(&tag);
+        return if is_own { language_of(&code) } else { language };
+    }
     let is_code = bytes[..3].iter().all(u8::is_ascii_alphabetic) && bytes[3] == b' ';
     let code = if is_code { format!("{}-", String::from_utf8_lossy(&bytes[..3]).to_lowercase()) } else { String::new() };
     language_of(format!("{code}x-hbot-{tag:08x}").as_bytes())

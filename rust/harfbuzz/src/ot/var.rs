@@ -2,7 +2,7 @@
 
 use crate::common::variations::hb_variation_t;
 use crate::face::hb_face_t;
-use crate::sfnt::{tail, u16_at, u32_at};
+use crate::sfnt::{i16_at, tail, u16_at, u32_at};
 use crate::types::{hb_bool_t, hb_tag_t, put, put_part, slice, slice_mut};
 use std::ffi::{c_int, c_uint};
 use vukhaso::font_variations::{AxisMaps, VariationAxes};
@@ -102,8 +102,9 @@ impl<'a> Axes<'a> {
         (0..self.axes.axis_count).map_while(|axis| self.axes.instance_value(instance, axis)).collect()
     }
 
-    /// The values on the axes that have these normalized coordinates, apart from what `avar` does.
-    pub fn design_of(&self, coordinates: &[i32]) -> Vec<f32> {
+    /// The values on the axes that have these normalized coordinates.
+    pub fn design_of(&self, face: &hb_face_t, coordinates: &[i32]) -> Vec<f32> {
+        let coordinates = unmapped(face.table(b"avar"), coordinates);
         let value = |(place, coordinate): (usize, &i32)| {
             let Some(axis) = self.info(place as u16) else {
                 return 0.0;
@@ -114,6 +115,33 @@ impl<'a> Axes<'a> {
         };
         coordinates.iter().enumerate().map(value).collect()
     }
+}
+
+/// The coordinates that the segments of `avar` move to these (OpenType specification, "avar - Axis Variations Table").
+fn unmapped(table: &[u8], coordinates: &[i32]) -> Vec<i32> {
+    let mut at = 8;
+    let mut before = |coordinate: &i32| {
+        let count = usize::from(u16_at(table, at));
+        let pairs = tail(table, at + 2).chunks_exact(4).take(count);
+        let segments: Vec<_> = pairs.map(|pair| (i32::from(i16_at(pair, 2)), i32::from(i16_at(pair, 0)))).collect();
+        at += 2 + 4 * count;
+        moved(&segments, *coordinate)
+    };
+    coordinates.iter().map(&mut before).collect()
+}
+
+/// A number on a line of segments, each end of which moves to another.
+fn moved(segments: &[(i32, i32)], number: i32) -> i32 {
+    let Some(place) = segments.iter().position(|(from, _)| number <= *from) else {
+        return segments.last().map_or(number, |(from, to)| number - from + to);
+    };
+    let (from, to) = segments[place];
+    if place == 0 || number == from {
+        return number - from + to;
+    }
+    let (start, start_to) = segments[place - 1];
+    let part = (to - start_to) as f32 * (number - start) as f32 / (from - start) as f32;
+    (start_to as f32 + part).round() as i32
 }
 
 /// Moves coordinates as the table `avar` says.
