@@ -92,3 +92,18 @@ def hinted():
         "post": ot.post(), "cmap": ot.cmap({(0, 3): ot.trimmed_mapping({ord(name): at for at, name in enumerate(names) if len(name) == 1})}),
         "CFF ": cff.cff("Vukhaso Hinted", names, HINTED, [], [], (0, -20, 600, 800)),
     }, b"OTTO")
+
+
+def collection():
+    """Two fonts in one file: `kern.ttf` and `hinted.otf`."""
+    fonts = [kern(), hinted()]
+    start = 12 + 4 * len(fonts)
+    places = [start + sum(len(it) for it in fonts[:at]) for at in range(len(fonts))]
+    made = b"ttcf" + ot.numbers(1, 0) + ot.long_numbers(len(fonts), *places)
+    for data, place in zip(fonts, places):
+        moved = bytearray(data)
+        for at in range(int.from_bytes(data[4:6], "big")):
+            row = 12 + 16 * at + 8
+            moved[row:row + 4] = ot.long_numbers(int.from_bytes(data[row:row + 4], "big") + place)
+        made += bytes(moved)
+    return made
