@@ -87,7 +87,7 @@ class Scratch:
         self.room = Path(tempfile.gettempdir(), f"vukhaso-tries-{place}")
         self.crates = libraries()
         self.names = sorted(with_below(names, self.crates))
-        self.numbers = itertools.count(1)
+        self.numbers = {name: itertools.count(1) for name in self.names}
 
     def __enter__(self):
         self.held = open(f"{self.room}.lock", "w")
@@ -135,7 +135,7 @@ class Scratch:
     def tried(self, name, texts, words):
         """Whether `rt check` proves this crate with these texts in it, by their paths in the crate, and the lines that it prints."""
         names = with_below([name], self.crates)
-        top = self.begin(f"{name}-{next(self.numbers)}", names)
+        top = self.begin(f"{name}-{next(self.numbers[name])}", names)
         try:
             for it in names:
                 own, to = self.base / "crates" / it, top / "crates" / it
