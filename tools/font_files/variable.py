@@ -120,7 +120,14 @@ def outline(name):
     return ot.square(20 + at, at, 300 + 10 * at, 400 + 10 * at) if name != "acute" else ot.square(50, 600, 100, 80)
 
 
-def variable(axis_maps=None):
+def mvar(some, values):
+    """Values of a font that vary, by tag: each with its block and row."""
+    rows = b"".join(tag.encode() + ot.numbers(*of) for tag, of in sorted(values.items()))
+    return ot.numbers(1, 0, 0, 8, len(values), 12 + len(rows)) + rows + some
+
+
+def variable(axis_maps=None, without=()):
+    """The font, with other maps of axes, or without some of its tables."""
     count = len(NAMES)
     rows = [(0 if name == "acute" else 500 + 10 * at, 20) for at, name in enumerate(NAMES)]
     glyf, loca = ot.glyf_and_loca([outline(name) for name in NAMES])
@@ -129,7 +136,7 @@ def variable(axis_maps=None):
     hvar = ot.table(1, 0, ot.Offset(some, 4), ot.Offset(index_map([(at % 2, at % 6) for at in range(count)]), 4), ot.long_numbers(0, 0))
     vvar = ot.table(1, 0, ot.Offset(some, 4), *[ot.long_numbers(0)] * 4)
     moved = {
-        PLACE["a"]: glyph_variations(((1, 0), None, [40, 60, 80, 20, 0, 90, 0, 0], [0, 30, 70, 0, 0, 0, 0, 0]),
+        PLACE["a"]: glyph_variations(((1, 0), None, [40, 60, 80, 20, 0, 90, 0, 0], [0, 30, 70, 0, 0, 0, 30, -20]),
                                      ((0, 1), [0, 2], [10, 35], [0, -50])),
         PLACE["b"]: glyph_variations(((-1, 0), [1, 3, 5], [-30, 10, -60], [20, -10, 0]), ((0.5, 0), [0], [12], [14], (0.25, 0), (0.75, 0))),
         PLACE["c"]: glyph_variations(((1, 1), [2], [50], [60])),
@@ -147,7 +154,7 @@ def variable(axis_maps=None):
         "0": lay.lookup(1, 0, both), "1": lay.lookup(4, 0, anchored), "2": lay.lookup(1, 0, lay.one_value([PLACE["d"]], X_ADVANCE, [99]))})
     marks = lay.classes({at: 3 if name == "acute" else 1 for name, at in PLACE.items() if at > 1})
     gdef = ot.table(1, 3, ot.Offset(marks), 0, 0, 0, 0, ot.Offset(some, 4))
-    return ot.font({
+    tables = {
         "head": ot.head(1000, (0, 0, 900, 900)), "hhea": ot.measures(800, -200, 900, count), "maxp": ot.maxp(count),
         "hmtx": ot.advances(rows, count), "glyf": glyf, "loca": loca, "post": ot.post(NAMES), "OS/2": ot.os2(0x20, 0xFFFF, 800, -200),
         "name": ot.name_table("Vukhaso Variable"), "cmap": ot.cmap({(3, 1): ot.segment_mapping(CODES)}),
@@ -156,28 +163,24 @@ def variable(axis_maps=None):
         "avar": axis_maps or avar([(-1, -1), (0, 0), (0.5, 0.8), (1, 1)], [(-1, -1), (0, 0), (1, 1)]),
         "HVAR": hvar, "VVAR": vvar, "gvar": gvar(2, moved, count), "GDEF": gdef,
         "GSUB": with_variations(gsub, [([(0, 0.4, 1)], 1, [1]), ([(0, -1, -0.5), (1, 0, 1)], 1, [2])]),
-        "GPOS": with_variations(gpos, [([(1, 0.5, 1)], 0, [0, 2])]),
-    })
+        "GPOS": with_variations(gpos, [([(1, 0.5, 1)], 0, [0, 2])]), "MVAR": mvar(some, {"hasc": (0, 4), "hdsc": (0, 7)}),
+    }
+    return ot.font({tag: data for tag, data in tables.items() if tag not in without})
 
 
 def second_map():
-    """The same with a map of version 2, in which one axis moves the other."""
+    """The same with a map of version 2, in which one axis moves the other, and without vertical measures."""
     some = store(2, [[(0, 1, 1), (0, 0, 0)], [(-1, -1, 0), (0, 0, 0)]], ([0, 1], [(part(0.25), -100), (part(-0.5), 90)]))
     first = avar([(-1, -1), (0, 0), (0.5, 0.8), (1, 1)], [(-1, -1), (0, 0), (1, 1)])
     second = ot.numbers(2) + first[2:]
     maps = index_map([(0, 1), (0, 0)])
     table = second + ot.long_numbers(len(second) + 8, len(second) + 8 + len(maps)) + maps + some
-    return variable(table)
+    return variable(table, ("vhea", "vmtx", "VVAR"))
 
 
 def without_advances():
     """The same, whose advances vary by the outlines alone."""
-    data = bytearray(variable())
-    count = int.from_bytes(data[4:6], "big")
-    for at in range(12, 12 + 16 * count, 16):
-        if data[at:at + 4] in (b"HVAR", b"VVAR"):
-            data[at:at + 4] = b"ZZZZ"
-    return bytes(data)
+    return variable(None, ("HVAR", "VVAR"))
 
 
 FONTS = {"variable.ttf": variable, "variable-second.ttf": second_map, "variable-outlines.ttf": without_advances}

@@ -4,6 +4,7 @@ use std::str::FromStr;
 use vukhaso::rustybuzz;
 
 const FONT: &[u8] = include_bytes!("../../../fonts/letters.ttf");
+const APPLE: &[u8] = include_bytes!("../../../fonts/apple.ttf");
 
 #[test]
 fn a_text_is_shaped() {
@@ -34,6 +35,33 @@ fn a_text_is_shaped() {
             .count(),
         3
     );
+}
+
+/// The glyphs of a word by a plan with a feature, and those that are shaped at once with it.
+fn planned_and_shaped(font: &[u8], feature: &str, word: &str) -> [String; 2] {
+    let face = rustybuzz::Face::from_slice(font, 0).unwrap();
+    let features = [rustybuzz::Feature::from_str(feature).unwrap()];
+    let text = || {
+        let mut buffer = rustybuzz::UnicodeBuffer::new();
+        buffer.push_str(word);
+        buffer.guess_segment_properties();
+        buffer
+    };
+    let (direction, script) = (text().direction(), text().script());
+    let plan = rustybuzz::ShapePlan::new(&face, direction, Some(script), None, &features);
+    let flags = rustybuzz::SerializeFlags::default();
+    let planned = rustybuzz::shape_with_plan(&face, &plan, text()).serialize(&face, flags);
+    [
+        planned,
+        rustybuzz::shape(&face, &features, text()).serialize(&face, flags),
+    ]
+}
+
+#[test]
+fn a_plan_has_features_of_apple() {
+    let [planned, shaped] = planned_and_shaped(APPLE, "smcp", "fik");
+    assert_eq!(planned, shaped);
+    assert_eq!(planned, "L=0+720|K=2+710|J=2+700");
 }
 
 #[test]
