@@ -195,7 +195,7 @@ unsafe fn shape_text(font: &hb_font_t, buffer: *mut hb_buffer_t, features: &[hb_
     };
     // SAFETY: the caller's word.
     unsafe {
-        caller_functions::correct(font, &*buffer, &mut shaped);
+        caller_functions::correct(font, &*buffer, &characters, &mut shaped);
         put(&mut *buffer, shaped);
     }
     true

@@ -8,7 +8,7 @@
 //!   behind a glyph are moved back by it. That is what HarfBuzz gives but for glyphs that stand against their line, and cursive ones.
 //! - **Extents and kerning** of the caller's are not asked while a text is shaped.
 
-use crate::buffer::{hb_buffer_t, hb_glyph_position_t};
+use crate::buffer::{hb_buffer_t, hb_glyph_info_t, hb_glyph_position_t};
 use crate::font::functions::hb_font_funcs_t;
 use crate::font::{hb_font_t, opentype};
 use crate::shape::Shaped;
@@ -20,6 +20,9 @@ use vukhaso::character_maps::CharacterMap;
 
 /// Characters that shaping asks for beside those of a text: spaces, hyphens, the dotted circle, and joiners.
 const ALWAYS: [u32; 8] = [0x20, 0xA0, 0x2010, 0x2011, 0x25CC, 0x200C, 0x200D, 0x2044];
+
+/// The last number of a glyph of 16 bits.
+const LAST_GLYPH: u32 = 0xFFFE;
 
 impl hb_font_t {
     /// The font of whose functions a question is answered.
@@ -61,29 +64,47 @@ impl hb_font_t {
     }
 }
 
-/// The glyphs that the caller gives the characters of a text: none where the font's own table says them.
-pub struct Characters(Option<Vec<u8>>);
+/// The glyphs that the caller gives the characters of a text: no table where the font's own table says them.
+pub struct Characters {
+    table: Option<Vec<u8>>,
+    /// The caller's glyphs of more than 16 bits, which the shaper has not: the last numbers of 16 bits stand for them.
+    wide: Vec<u32>,
+}
 
 impl Characters {
     pub fn of(font: &hb_font_t, buffer: &hb_buffer_t) -> Self {
         if !font.maps_characters() {
-            return Characters(None);
+            return Characters { table: None, wide: Vec::new() };
         }
         let mut asked = BTreeMap::new();
         for &character in &ALWAYS {
             asked.insert(character, 0);
         }
         add_related(&mut asked, &buffer.infos.iter().map(|info| info.codepoint).collect::<Vec<_>>());
+        let mut wide = Vec::new();
         asked.retain(|character, glyph| {
             *glyph = font.nominal_glyph(*character).unwrap_or(0);
+            if *glyph > LAST_GLYPH {
+                wide.push(*glyph);
+                *glyph = LAST_GLYPH + 1 - wide.len() as u32;
+            }
             *glyph != 0
         });
-        Characters(Some(character_map(&asked)))
+        Characters { table: Some(character_map(&asked)), wide }
+    }
+
+    /// Puts the caller's glyphs of more than 16 bits in the place of those that stand for them.
+    fn widen(&self, infos: &mut [hb_glyph_info_t]) {
+        for info in infos {
+            if let Some(glyph) = LAST_GLYPH.checked_sub(info.codepoint).and_then(|place| self.wide.get(place as usize)) {
+                info.codepoint = *glyph;
+            }
+        }
     }
 
     /// Lends a face in which the characters have these glyphs.
     pub fn with<T>(&self, face: &mut Face<'static>, ask: impl FnOnce(&Face<'static>) -> T) -> T {
-        let Some(table) = &self.0 else {
+        let Some(table) = &self.table else {
             return ask(face);
         };
         let own = face.characters;
@@ -120,9 +141,7 @@ fn add_related(asked: &mut BTreeMap<u32, u32>, text: &[u32]) {
                 parts.insert(from, whole);
             }
         }
-        if (0x600..0x700).contains(&character) {
-            asked.extend((0xFE70..0xFF00).chain(0xFB50..0xFBC0).map(|form| (form, 0)));
-        }
+        asked.extend(script_parts(character).map(|part| (part, 0)));
     }
     let mut start: Option<u32> = None;
     for part in parts {
@@ -133,6 +152,21 @@ fn add_related(asked: &mut BTreeMap<u32, u32>, text: &[u32]) {
         let begins = unicode.combining_class(part) == 0;
         start = whole.or(if begins { Some(part) } else { start });
     }
+}
+
+/// What the shapers of scripts make of a character beside what Unicode says.
+fn script_parts(character: u32) -> impl Iterator<Item = u32> {
+    let (first, second) = match character {
+        // Arabic letters have forms, and Hebrew ones have compositions, that fonts without rules are drawn by.
+        0x600..0x700 => (0xFE70..0xFF00, 0xFB50..0xFBC0),
+        0x591..0x5F5 => (0xFB1D..0xFB50, 0..0),
+        // Vowels that stand on two sides are taken apart: Thai, Lao and Khmer.
+        0xE33 => (0xE4D..0xE4E, 0xE32..0xE33),
+        0xEB3 => (0xECD..0xECE, 0xEB2..0xEB3),
+        0x17BE..0x17C6 => (0x17C1..0x17C2, 0..0),
+        _ => (0..0, 0..0),
+    };
+    first.chain(second)
 }
 
 /// A table `cmap` of these glyphs (OpenType specification, "Format 12: Segmented coverage").
@@ -159,10 +193,11 @@ fn character_map(glyphs: &BTreeMap<u32, u32>) -> Vec<u8> {
 }
 
 /// Puts the caller's advances and origins in the place of those of the font's tables, and the caller's glyph for what is not found.
-pub fn correct(font: &hb_font_t, buffer: &hb_buffer_t, shaped: &mut Shaped) {
+pub fn correct(font: &hb_font_t, buffer: &hb_buffer_t, characters: &Characters, shaped: &mut Shaped) {
     let direction = buffer.properties.direction;
     let horizontal = is_horizontal(direction);
     let own_glyphs: Vec<u32> = shaped.infos.iter().map(|info| info.codepoint).collect();
+    characters.widen(&mut shaped.infos);
     if buffer.not_found != 0 {
         for info in &mut shaped.infos {
             if info.codepoint == 0 {
@@ -182,14 +217,22 @@ pub fn correct(font: &hb_font_t, buffer: &hb_buffer_t, shaped: &mut Shaped) {
         own_glyphs.iter().map(advance).collect::<Vec<_>>()
     });
     let moves: Vec<i32> = theirs.iter().zip(&plain).map(|(theirs, plain)| theirs - plain).collect();
-    move_glyphs(&mut shaped.positions, &plain, &moves, horizontal, !is_backward(direction));
+    let zeroed: Vec<bool> = shaped.infos.iter().zip(&plain).map(|(info, plain)| may_be_zeroed(info, *plain)).collect();
+    move_glyphs(&mut shaped.positions, &zeroed, &moves, horizontal, !is_backward(direction));
     if !horizontal {
         move_origins(font, shaped, &own_glyphs);
     }
 }
 
+/// Whether a glyph that does not advance lost its advance: its font gives it one, or it is a mark or not to be seen.
+fn may_be_zeroed(info: &hb_glyph_info_t, plain: i32) -> bool {
+    const MARK: u32 = 0x08;
+    const IGNORABLE: u32 = 0x20;
+    plain != 0 || (info.codepoint > LAST_GLYPH && (info.var1 & MARK != 0 || info.var2 & IGNORABLE != 0))
+}
+
 /// Moves the pen on by what each glyph advances more, and marks behind it back.
-fn move_glyphs(positions: &mut [hb_glyph_position_t], plain: &[i32], moves: &[i32], horizontal: bool, is_forward: bool) {
+fn move_glyphs(positions: &mut [hb_glyph_position_t], zeroed: &[bool], moves: &[i32], horizontal: bool, is_forward: bool) {
     let mut last = 0;
     for (place, position) in positions.iter_mut().enumerate() {
         let (advance, offset) = if horizontal {
@@ -197,7 +240,7 @@ fn move_glyphs(positions: &mut [hb_glyph_position_t], plain: &[i32], moves: &[i3
         } else {
             (&mut position.y_advance, &mut position.y_offset)
         };
-        if *advance == 0 && plain[place] != 0 {
+        if *advance == 0 && zeroed[place] {
             if is_forward {
                 *offset -= last;
             }
