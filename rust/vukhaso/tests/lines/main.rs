@@ -1,9 +1,10 @@
-//! The example's lines: the stored run of the proved program, and random programs beside it.
+//! The example's lines: the stored run of the proved program, rows of calls, and random programs beside it.
 #![allow(dead_code, unused_variables)]
 
 use shaping_session::run::run_on;
 use std::env;
 use std::fs;
+use std::path::PathBuf;
 
 #[allow(clippy::style, clippy::complexity)]
 #[path = "../../examples/lines/shaping_session/mod.rs"]
@@ -38,6 +39,37 @@ fn the_stored_run_is_answered_as_by_the_proved_program() {
     let (ours, status) = answers(lines);
     assert_same(lines, &ours, include_bytes!("../stored_run/stdout"));
     assert_eq!(status, 2);
+}
+
+/// The files of rows, by their names.
+fn files_of_rows() -> Vec<PathBuf> {
+    let folder = concat!(env!("CARGO_MANIFEST_DIR"), "/tests/rows");
+    let files = fs::read_dir(folder).expect("the folder of rows");
+    let mut files = files
+        .map(|file| file.expect("a file of rows").path())
+        .collect::<Vec<_>>();
+    files.sort();
+    files
+}
+
+/// Each row of calls, `line -> answer`. A file is one run of the program.
+#[test]
+fn rows_of_calls_are_answered() {
+    let files = files_of_rows();
+    assert!(!files.is_empty());
+    for file in files {
+        let text = fs::read_to_string(&file).expect("rows");
+        let rows = text
+            .lines()
+            .filter(|line| !line.is_empty() && !line.starts_with('#'))
+            .map(|line| line.rsplit_once(" -> ").expect("a line and its answer"));
+        let (lines, wanted): (Vec<_>, Vec<_>) = rows.unzip();
+        let lines = lines.join("\n") + "\n";
+        let wanted = wanted.join("\n") + "\n";
+        let (ours, status) = answers(lines.as_bytes());
+        assert_same(lines.as_bytes(), &ours, wanted.as_bytes());
+        assert_eq!(status, 0, "{}", file.display());
+    }
 }
 
 /// `tools/plain_rust test` names a file of random programs, and the answers of the proved program to them.
