@@ -176,7 +176,9 @@ def run(words, folder, tells=False):
 
 
 def processors():
-    return len(os.sched_getaffinity(0))
+    """How many checks may run side by side: as `rt ci` asks it, by RT_JOBS or by the machine."""
+    asked = os.environ.get("RT_JOBS", "")
+    return int(asked) if asked.isdigit() and int(asked) else len(os.sched_getaffinity(0))
 
 
 def side_by_side(tasks):
