@@ -17,3 +17,4 @@ mod shaper_tests;
 mod shaping_uses;
 mod text_tests;
 mod unicode_tests;
+mod variation_tests;

@@ -1,0 +1,83 @@
+// Written by tools/plain_rust from crates/variation_tests. Do not edit.
+
+//! Tests of `glyph_variations`: a triangle whose corner and advance move to the right.
+use vukhaso::common::GlyphId;
+use vukhaso::font_tables::metrics::Metrics;
+use vukhaso::glyph_outlines::GlyfTables;
+use vukhaso::glyph_variations::{
+    GlyphSources, GlyphVariations, Point, varied_outline, varied_phantoms,
+};
+
+/// A triangle from the origin to 100 across and 100 up.
+static GLYF: [u8; 20] = [
+    0, 1, 0, 0, 0, 0, 0, 100, 0, 100, 0, 2, 0, 0, 0x31, 0x33, 0x27, 100, 100, 100,
+];
+
+static LOCA: [u8; 4] = [0, 0, 0, 10];
+
+/// An advance of 120, and no bearing.
+static HMTX: [u8; 4] = [0, 120, 0, 0];
+
+/// A tuple with a shared peak at the greatest coordinate: the second point moves by 10, and the advance by 20.
+static GVAR: [u8; 44] = [
+    0, 1, 0, 0, 0, 1, 0, 1, 0, 0, 0, 24, 0, 1, 0, 0, 0, 0, 0, 26, //
+    0, 0, 0, 9, //
+    0x40, 0, //
+    0, 1, 0, 8, 0, 9, 0, 0, 6, 0, 10, 0, 0, 20, 0, 0, 0x86, 0,
+];
+
+/// The tables of the font, with these variations.
+fn sources(gvar: &[u8]) -> GlyphSources<'_> {
+    GlyphSources {
+        outlines: GlyfTables {
+            glyf: &GLYF,
+            loca: &LOCA,
+            has_long_offsets: false,
+            glyph_count: 1,
+        },
+        variations: GlyphVariations::new(gvar, 1),
+        horizontal: Metrics::new(&HMTX, 1, 1, 500),
+        vertical: Metrics::new(&[], 0, 1, 1000),
+    }
+}
+
+/// Coordinates, and where the advance ends.
+static ADVANCES: [(i32, f32); 4] = [(0, 120.0), (8192, 130.0), (16384, 140.0), (-8192, 120.0)];
+
+#[test]
+fn the_advance_moves() {
+    for &(at, right) in &ADVANCES {
+        let Some(phantoms) = varied_phantoms(&sources(&GVAR), GlyphId(0), &[at]) else {
+            panic!("the font has the glyph")
+        };
+        assert!(phantoms.left == Point { x: 0.0, y: 0.0 }, "at {at}");
+        assert!(phantoms.right == Point { x: right, y: 0.0 }, "at {at}");
+        assert!(phantoms.top == Point { x: 0.0, y: 100.0 }, "at {at}");
+        assert!(phantoms.bottom == Point { x: 0.0, y: -900.0 }, "at {at}");
+    }
+    assert!(varied_phantoms(&sources(&GVAR), GlyphId(1), &[0]) == None);
+    let still = varied_phantoms(&sources(&[]), GlyphId(0), &[16384]);
+    assert!(still.map(|phantoms| phantoms.right.x) == Some(120.0));
+}
+
+#[test]
+fn the_box_grows() {
+    let found = varied_outline(&sources(&GVAR), GlyphId(0), &[16384]);
+    let Ok(Some(outline)) = found else {
+        panic!("the font has the glyph")
+    };
+    assert!(outline.extents.x_bearing == 0);
+    assert!(outline.extents.y_bearing == 100);
+    assert!(outline.extents.width == 110);
+    assert!(outline.extents.height == -100);
+    assert!(outline.phantoms.right == Point { x: 140.0, y: 0.0 });
+}
+
+#[test]
+fn points_move() {
+    let point = Point { x: 3.0, y: 5.0 };
+    let by = Point { x: 1.0, y: 2.0 };
+    assert!(point.moved(by) == Point { x: 4.0, y: 7.0 });
+    assert!(point.times(2.0) == Point { x: 6.0, y: 10.0 });
+    assert!(point.from(by) == Point { x: 2.0, y: 3.0 });
+}
