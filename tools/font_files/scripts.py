@@ -112,6 +112,12 @@ def khmer():
     return font("Vukhaso Khmer", assigned(0x1780, 0x17FF), ["khmr"], rules)
 
 
+def khmer_stages():
+    """A font whose first rule is of a feature that comes behind the basic ones, and is for what a basic feature makes."""
+    rules = {"pres": [["1783.abvf > 1783.pres"]], "abvf": [["1783 > 1783.abvf"]]}
+    return font("Vukhaso Khmer Stages", assigned(0x1780, 0x17FF), ["khmr"], rules)
+
+
 def myanmar(tag="mym2"):
     rules = merged(
         {"rphf": [["1004 103A 1039 > kinzi"]], "pref": [["103C > ra.pref"]],
@@ -252,7 +258,7 @@ FONTS = {
     **{f"{name}.ttf": partial(indic, name) for name in INDIC},
     **{f"{name}-old.ttf": partial(indic, name, True) for name in ("devanagari", "bengali", "malayalam", "kannada", "oriya", "tamil")},
     "devanagari-bare.ttf": partial(indic, "devanagari", False, True),
-    "sinhala.ttf": sinhala, "khmer.ttf": khmer, "myanmar.ttf": myanmar, "myanmar-old.ttf": partial(myanmar, "mymr"),
+    "sinhala.ttf": sinhala, "khmer.ttf": khmer, "khmer-stages.ttf": khmer_stages, "myanmar.ttf": myanmar, "myanmar-old.ttf": partial(myanmar, "mymr"),
     **{f"{name}.ttf": partial(universal, name) for name in UNIVERSAL},
     "arabic.ttf": arabic, "arabic-fallback.ttf": arabic_fallback, "syriac.ttf": syriac,
     **{f"{name}.ttf": partial(joining, name) for name in ("nko", "mongolian", "phagspa", "adlam", "mandaic")},
