@@ -23,7 +23,7 @@ def signs():
     digits = [code(number) for number in range(0x30, 0x3A)]
     rules = merged(
         {"numr": [[f"{digit} > {digit}.numr" for digit in digits]], "dnom": [[f"{digit} > {digit}.dnom" for digit in digits]],
-         "frac": [["2044 > slash.frac"]], "vert": [["0041 > 0041.vert", "0028 > 0028.vert"]], "rtlm": [["0028 > 0028.rtlm"]],
+         "frac": [["2044 > slash.frac", "0034.dnom > four.below", "0031.numr > one.above"]], "vert": [["0041 > 0041.vert", "0028 > 0028.vert"]], "rtlm": [["0028 > 0028.rtlm"]],
          "ltrm": [["005B > 005B.ltrm"]], "ltra": [["003C > 003C.ltra"]], "rtla": [["003E > 003E.rtla"]], "rvrn": [["0042 > 0042.rvrn"]],
          "rand": [["0043 > 0043.one / 0043.two / 0043.three / 0043.four"]], "ccmp": [["0069 0307 > i_dot"], ["0044 > 0044 0045"]], "rlig": [["0046 0047 > f_g"]], "liga": [["0066 0069 > f_i"]],
          "clig": [["0063 0074 > c_t"]], "calt": [["0061 [0062] > 0062.calt"]], "rclt": [["0062 [0063] > 0063.rclt"]], "dlig": [["0073 0074 > s_t"]],

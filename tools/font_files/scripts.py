@@ -77,7 +77,7 @@ def indic(name, old=False, bare=False):
          "abvs": [["25CC > 25CC.abvs"]]},
     )
     if bare:
-        twice = {"nukt": [[f"{c(ra)} > {c(ra)} ra.second"]], "rphf": [[f"{c(ra)} ra.second {c(halant)} > reph"]], "half": [[f"{c(0x15, halant)} > k.half"]]}
+        twice = {"nukt": [[f"{c(ra)} > {c(ra)} ra.second"]], "rphf": [[f"{c(ra)} ra.second {c(halant)} > reph"]], "half": [[f"{c(0x15, halant)} > k.half", f"{c(0x16, halant)} > {c(halant)}"]]}
         rules = merged(twice, {tag: rules[tag] for tag in ("blwf", "rphf") if tag in rules})
     else:
         rules = merged(rules, probes([code(start + at) for at in plain[8:]],

@@ -131,10 +131,11 @@ def special():
 def scripts():
     """Features that only some scripts have, a required feature that is asked for too, and a table `kern` beside `GPOS`."""
     gsub = lay.layout(
-        {"DFLT": {"dflt": (None, ["liga"])}, "latn": {"dflt": ("calt", ["liga", "rvrn"]), "NLD ": ("ss09", ["liga"])}, "kana": {"dflt": (None, ["vert", "liga"])},
+        {"DFLT": {"dflt": (None, ["liga"])}, "latn": {"dflt": ("calt", ["liga", "ligb", "rvrn"]), "NLD ": ("ss09", ["liga"])}, "kana": {"dflt": (None, ["vert", "liga"])},
          "hebr": {"dflt": ("init", ["liga"])}},
-        {"liga": ["0"], "calt": ["1"], "vert": ["2"], "rvrn": ["3"], "ss09": ["4"], "init": ["5"]},
-        {"0": ligature(0, ("a c", "X"), ("b c", "Y")), "1": single(a="b"), "2": single(c="vertical"), "3": single(d="a"), "4": single(e="f"), "5": single(g="h")})
+        {"liga": ["0"], "ligb": ["6"], "calt": ["1"], "vert": ["2"], "rvrn": ["3"], "ss09": ["4"], "init": ["5"]},
+        {"0": ligature(0, ("a c", "X"), ("b c", "Y")), "1": single(a="b"), "2": single(c="vertical"), "3": single(d="a"), "4": single(e="f"), "5": single(g="h"), "6": single(z="y", a="x")})
+    gsub = gsub.replace(b"ligb", b"liga")  # A second feature of this tag, which does not count.
     gpos = lay.layout({"latn": {"dflt": (None, ["kern"])}, "DFLT": {"dflt": (None, ["kern"])}}, {"kern": ["0"]},
                       {"0": lay.lookup(2, 0, lay.pairs_of_glyphs({PLACE["T"]: {PLACE["V"]: [-90]}}, X_ADVANCE))})
     kern = lay.kern((0, 1, lay.kern_pairs({(PLACE["T"], PLACE["V"]): -50, (PLACE["V"], PLACE["T"]): -45})))
