@@ -8,6 +8,7 @@ pub mod pool;
 use crate::blob::{hb_blob_destroy, hb_blob_t, part};
 use crate::face::pool::Pool;
 use crate::object::{Empty, Header, Object, given, object_calls, reference, release};
+use crate::ot::name::hb_ot_name_entry_t;
 use crate::sfnt;
 use crate::types::{hb_bool_t, hb_destroy_func_t, hb_tag_t, put_part, tag};
 use std::cell::Cell;
@@ -75,6 +76,7 @@ pub struct hb_face_t {
     shaper_bytes: Table,
     tables: [Table; KEPT.len()],
     names: OnceLock<names::Names>,
+    name_entries: OnceLock<Vec<hb_ot_name_entry_t>>,
 }
 
 /// The tables that queries ask for, which are fetched once.
@@ -130,6 +132,7 @@ impl hb_face_t {
             shaper_bytes: OnceLock::new(),
             tables: Default::default(),
             names: OnceLock::new(),
+            name_entries: OnceLock::new(),
         }
     }
 
@@ -218,6 +221,11 @@ impl hb_face_t {
         let tables: Vec<_> =
             blobs.iter().map(|(tag, blob)| (*tag, blob.bytes())).filter(|(_, table)| !table.is_empty()).collect();
         sfnt::file_of(0x0001_0000, &tables)
+    }
+
+    /// The names of the font, in order.
+    pub fn name_entries(&self) -> &[hb_ot_name_entry_t] {
+        self.name_entries.get_or_init(|| crate::ot::name::entries(self.table(b"name")))
     }
 
     /// The settings of a font at the size of its units.

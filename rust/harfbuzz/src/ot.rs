@@ -5,5 +5,6 @@ pub mod layout;
 mod math;
 mod meta;
 pub mod metrics;
+pub mod name;
 pub mod tags;
 pub mod var;

@@ -139,10 +139,10 @@ pub extern "C" fn hb_ot_tag_to_language(tag: hb_tag_t) -> hb_language_t {
     }
     let bytes = tag.to_be_bytes();
     if let Some(&language) = languages_of_tags().get(&tag) {
-        // Where several languages have a tag, that is meant whose code it is.
+        // Where only languages with codes of three letters have a tag, that is meant whose code it is.
         let code = bytes[..3].to_ascii_lowercase();
         let own = std::str::from_utf8(&code).ok().and_then(|code| Language::from_str(code).ok());
-        let is_own = tags_of(0, own.as_ref()).1.contains(&tag);
+        let is_own = text_of(language).len() > 2 && tags_of(0, own.as_ref()).1.contains(&tag);
         return if is_own { language_of(&code) } else { language };
     }
     let is_code = bytes[..3].iter().all(u8::is_ascii_alphabetic) && bytes[3] == b' ';
