@@ -65,6 +65,13 @@ fn a_plan_has_features_of_apple() {
 }
 
 #[test]
+fn a_plan_has_features_of_a_part() {
+    let [planned, shaped] = planned_and_shaped(FONT, "sin1[1:2]", "aaa");
+    assert_eq!(planned, shaped);
+    assert_eq!(planned, "a=0+410|b=1+420|a=2+410");
+}
+
+#[test]
 fn a_plan_is_kept() {
     let face = rustybuzz::Face::from_slice(FONT, 0).unwrap();
     let features = [rustybuzz::Feature::from_str("-liga").unwrap()];
