@@ -146,6 +146,26 @@ def unsorted_groups():
     return font({"cmap": ot.cmap({(3, 10): mapping})}), "abcdefgh" * 3, []
 
 
+def swapped_groups():
+    """200,000 groups in order but for the last two."""
+    starts = [*range(199_998), 199_999, 199_998]
+    rows = b"".join(long_numbers(5 * at, 5 * at, at % 50) for at in starts)
+    mapping = numbers(12, 0) + long_numbers(16 + len(rows), 0, len(starts)) + rows
+    line = "".join(chr(5 * at) for at in range(20, 199_998, 1_000) if not 0xD800 <= 5 * at < 0xE000)
+    return font({"cmap": ot.cmap({(3, 10): mapping})}), line[:100], []
+
+
+def shared_sequences():
+    """Eight variation selectors with the same characters, of which there are 60,000."""
+    rows = long_numbers(60_000) + b"".join((3 * at).to_bytes(3, "big") + b"\0" for at in range(60_000))
+    selectors = [0xFE00 + at for at in range(8)]
+    start = 10 + 11 * len(selectors)
+    records = b"".join(code.to_bytes(3, "big") + long_numbers(start, 0) for code in selectors)
+    sequences = numbers(14) + long_numbers(start + len(rows), len(selectors)) + records + rows
+    line = "".join(chr(0x61 + at % 26) + chr(selectors[at % 8]) for at in range(1_000))
+    return font({"cmap": ot.cmap({(3, 10): ot.group_mapping(MAPPED), (0, 5): sequences})}), line, []
+
+
 def unsorted_classes():
     """Ranges of classes that fall."""
     rows = b"".join(numbers(at, at, 3) for at in reversed(range(65_535)))
@@ -179,5 +199,6 @@ def glyph_of_itself():
 
 FONTS = {make.__name__: make for make in (
     calls_of_calls, calls_itself, many_calls, many_lookups, many_features, grows, grows_in_calls, many_ligatures, many_rules,
-    many_subtables, extends_itself, many_marks, long_cursive, many_kern_tables, many_groups, unsorted_groups, unsorted_classes,
+    many_subtables, extends_itself, many_marks, long_cursive, many_kern_tables, many_groups, unsorted_groups, swapped_groups, shared_sequences,
+    unsorted_classes,
     routines_of_routines, routine_calls_itself, glyph_of_itself)}

@@ -2,9 +2,9 @@
 use Rattle.std.proofs.Common.{◌≡◌, ℕ, ◌+◌, ◌*◌, ◌/◌, ◌≤◌, List, length, None, refl, arith}
 use Rattle.std.proofs.lemmas.Bool.Decides.{nat_tests}
 use Rattle.font_tables.specs.Bytes.{number_16, number_24, number_32}
-use Rattle.character_maps.specs.Variations.{range_start, range_end}
+use Rattle.character_maps.specs.Variations.{range_start, beside_characters}
 use Rattle.character_maps.specs.Subtables.{number_of_list, segment_count, segment_glyph}
-use Rattle.character_maps.specs.Subtables.{group_end, group_glyph}
+use Rattle.character_maps.specs.Subtables.{group_glyph, beside_group, beside_segment}
 
 pub number_16-outside : (bs : List ℕ) (i : ℕ) → length bs ≤ i + 1 → number_16 bs i ≡ None
 unfolding number_16
@@ -24,8 +24,11 @@ pub segment_glyph_outside : (bs : List ℕ) (code row : ℕ) → length bs / 2 �
 unfolding segment_glyph
 segment_glyph_outside bs code row past = rw (number_of_list_outside bs 1 row past) refl
 
-pub group_ends_outside : (bs : List ℕ) (row : ℕ) → length bs / 12 ≤ row → group_end bs row ≡ None
-group_ends_outside bs row past = number_32-outside bs (20 + 12 * row) (omega arith)
+pub beside_group_outside : (bs : List ℕ) (code row : ℕ) → length bs / 12 ≤ row → beside_group bs code row ≡ None
+beside_group_outside bs code row past = rw (number_32-outside bs (16 + 12 * row) (omega arith)) refl
+
+pub beside_segment_outside : (bs : List ℕ) (code row : ℕ) → length bs / 2 ≤ row → beside_segment bs code row ≡ None
+beside_segment_outside bs code row past = rw (number_16-outside bs (14 + 2 * row) (omega arith)) refl
 
 pub group_glyph_outside : (bs : List ℕ) (format code row : ℕ) → length bs / 12 ≤ row
     → group_glyph bs format code row ≡ None
@@ -40,9 +43,9 @@ number_24_outside bs i past = grind (arith, nat_tests)
 pub range_starts_outside : (bs : List ℕ) (row : ℕ) → length bs / 4 ≤ row → range_start bs row ≡ None
 range_starts_outside bs row past = number_24_outside bs (4 + 4 * row) (omega arith)
 
-pub range_ends_outside : (bs : List ℕ) (row : ℕ) → length bs / 4 ≤ row → range_end bs row ≡ None
-unfolding range_end
-range_ends_outside bs row past = rw (range_starts_outside bs row past) refl
+pub beside_characters_outside : (bs : List ℕ) (character row : ℕ) → length bs / 4 ≤ row
+    → beside_characters bs character row ≡ None
+beside_characters_outside bs character row past = rw (range_starts_outside bs row past) refl
 
 pub number_16_outside_row : (bs : List ℕ) (row : ℕ) → length bs / 5 ≤ row → number_16 bs (7 + 5 * row) ≡ None
 number_16_outside_row bs row past = number_16-outside bs (7 + 5 * row) (omega arith)

@@ -3,7 +3,9 @@ use Rattle.std.specs.Prelude.{ℕ, List, Option, Some, None, ◌+◌, ◌-◌, �
 use Rattle.std.specs.Prelude.{if◌then◌else◌}
 use Rattle.std.specs.Prelude.{unwrap_or, option_and_then}
 use Rattle.font_tables.specs.Bytes.{byte_at, number_16, number_32}
-use Rattle.font_tables.specs.Rows.{first_row}
+use Rattle.font_tables.specs.Bisection.{beside_range, row_with}
+use Rattle.std.specs.declared.cmp.Ordering.{Ordering}
+use Rattle.std.specs.declared.cmp.Ordering.TheVariants.{Less, Equal, Greater}
 
 -- the glyph of a number: 0 is no glyph, and none is above 65,535
 abbrev pub some_glyph : ℕ → Option ℕ
@@ -66,16 +68,35 @@ segment_glyph bs code row =
     option_and_then (glyph_in_segment bs code row start delta) (number_of_list bs 3 row))
     (number_of_list bs 2 row)) (number_of_list bs 1 row)
 
--- the first segment that reaches the code has its glyph, if it starts at or before it
+-- where a code that is not behind a segment lies, by the segment's start
+abbrev pub beside_start : Option ℕ → ℕ → Option Ordering
+beside_start None code = None
+beside_start (Some start) code = Some (if nat_lt code start then Less else Equal)
+
+-- where a code lies from the segment of a row
+abbrev pub beside_end : Option ℕ → Option ℕ → ℕ → Option Ordering
+beside_end None start code = None
+beside_end (Some end) start code = if nat_lt end code then Some Greater else beside_start start code
+
+abbrev pub beside_segment : List ℕ → ℕ → ℕ → Option Ordering
+beside_segment bs code row = beside_end (segment_end bs row) (number_of_list bs 1 row) code
+
+-- the segment that bisection finds has the code's glyph
 unfoldable pub segments_glyph : List ℕ → ℕ → Option ℕ
-segments_glyph bs code = option_and_then (segment_glyph bs code) (first_row (segment_end bs) code (segment_count bs))
+segments_glyph bs code = option_and_then (segment_glyph bs code) (row_with (beside_segment bs code) (segment_count bs))
 
 -- formats 12 and 13: groups, each with its first and last code and a glyph
 unfoldable pub group_count : List ℕ → ℕ
 group_count bs = unwrap_or (number_32 bs 12) 0
 
+abbrev pub group_start : List ℕ → ℕ → Option ℕ
+group_start bs row = number_32 bs (16 + 12 * row)
+
 abbrev pub group_end : List ℕ → ℕ → Option ℕ
 group_end bs row = number_32 bs (20 + 12 * row)
+
+abbrev pub beside_group : List ℕ → ℕ → ℕ → Option Ordering
+beside_group bs code row = beside_range (group_start bs row) (group_end bs row) code
 
 -- a group of format 12 counts its glyphs up from the first, and one of format 13 has one glyph for all of its codes
 unfoldable pub glyph_in_group : ℕ → ℕ → ℕ → ℕ → Option ℕ
@@ -86,12 +107,12 @@ glyph_in_group format code start glyph =
 unfoldable pub group_glyph : List ℕ → ℕ → ℕ → ℕ → Option ℕ
 group_glyph bs format code row =
     option_and_then (λ start. option_and_then (glyph_in_group format code start) (number_32 bs (24 + 12 * row)))
-    (number_32 bs (16 + 12 * row))
+    (group_start bs row)
 
--- the first group that reaches the code has its glyph, if it starts at or before it
+-- the group that bisection finds has the code's glyph
 unfoldable pub groups_glyph : List ℕ → ℕ → ℕ → Option ℕ
 groups_glyph bs format code =
-    option_and_then (group_glyph bs format code) (first_row (group_end bs) code (group_count bs))
+    option_and_then (group_glyph bs format code) (row_with (beside_group bs code) (group_count bs))
 
 -- a subtable begins with its format
 unfoldable pub glyph_by_format : List ℕ → ℕ → ℕ → Option ℕ

@@ -1,19 +1,14 @@
 -- Format 14: variation sequences, a character and a variation selector.
-use Rattle.std.specs.Prelude.{ℕ, List, [], Bool, false, Option, Some, None, ◌+◌, ◌*◌, nat_eq, nat_le}
+use Rattle.std.specs.Prelude.{ℕ, List, [], Bool, Option, Some, None, ◌+◌, ◌*◌, nat_le, is_some}
 use Rattle.std.specs.Prelude.{if◌then◌else◌}
 use Rattle.std.specs.Prelude.{unwrap_or, option_and_then, option_map, length}
-use Rattle.std.specs.Option.{option_eq, option_map_or}
+use Rattle.std.specs.Option.{option_map_or}
 use Rattle.font_tables.specs.Bytes.{byte_at, number_16, number_24, number_32, table_at_32}
-use Rattle.font_tables.specs.Rows.{first_row, is_within}
+use Rattle.font_tables.specs.Bisection.{beside_key, beside_range, row_with}
+use Rattle.std.specs.declared.cmp.Ordering.{Ordering}
 use Rattle.character_maps.specs.declared.variations.GlyphVariant.{GlyphVariant}
 use Rattle.character_maps.specs.declared.variations.GlyphVariant.TheVariants.{NotFound, UseDefault, Found}
 use Rattle.character_maps.specs.Subtables.{some_glyph}
-
--- the row of a key: the first that reaches it, if it has it
-unfoldable pub row_of : (ℕ → Option ℕ) → ℕ → ℕ → Option ℕ
-row_of key_of key count =
-    option_and_then (λ row. if option_eq nat_eq (key_of row) (Some key) then Some row else None)
-    (first_row key_of key count)
 
 -- the variation selectors, a row for each
 unfoldable pub selector_count : List ℕ → ℕ
@@ -21,6 +16,9 @@ selector_count bs = unwrap_or (number_32 bs 6) 0
 
 abbrev pub selector_at : List ℕ → ℕ → Option ℕ
 selector_at bs row = number_24 bs (10 + 11 * row)
+
+abbrev pub beside_selector : List ℕ → ℕ → ℕ → Option Ordering
+beside_selector bs selector row = beside_key (selector_at bs row) selector
 
 -- the tables that a row leads to, which are empty where it leads nowhere: the characters that keep their glyph before
 -- the selector, and those that have another glyph there
@@ -46,15 +44,19 @@ range_end bs row =
 unfoldable pub range_count : List ℕ → ℕ
 range_count bs = rows_declared bs 4
 
--- the first range that reaches the character holds it, if it starts at or before it
+abbrev pub beside_characters : List ℕ → ℕ → ℕ → Option Ordering
+beside_characters bs character row = beside_range (range_start bs row) (range_end bs row) character
+
+-- whether bisection finds a range that holds the character
 unfoldable pub in_ranges : List ℕ → ℕ → Bool
-in_ranges bs character =
-    option_map_or (λ row. is_within (range_start bs row) character)
-    (first_row (range_end bs) character (range_count bs)) false
+in_ranges bs character = is_some (row_with (beside_characters bs character) (range_count bs))
 
 -- characters, with a glyph for each
 abbrev pub mapped_at : List ℕ → ℕ → Option ℕ
 mapped_at bs row = number_24 bs (4 + 5 * row)
+
+abbrev pub beside_mapped : List ℕ → ℕ → ℕ → Option Ordering
+beside_mapped bs character row = beside_key (mapped_at bs row) character
 
 unfoldable pub mapped_count : List ℕ → ℕ
 mapped_count bs = rows_declared bs 5
@@ -62,7 +64,7 @@ mapped_count bs = rows_declared bs 5
 unfoldable pub mapped_glyph : List ℕ → ℕ → Option ℕ
 mapped_glyph bs character =
     option_and_then (λ row. option_and_then some_glyph (number_16 bs (7 + 5 * row)))
-    (row_of (mapped_at bs) character (mapped_count bs))
+    (row_with (beside_mapped bs character) (mapped_count bs))
 
 -- a glyph that was found, and none
 abbrev pub found_glyph : Option ℕ → GlyphVariant
@@ -78,4 +80,4 @@ variant_in_row bs character row =
 -- the glyph of a variation sequence
 unfoldable pub glyph_variant : List ℕ → ℕ → ℕ → GlyphVariant
 glyph_variant bs character selector =
-    option_map_or (variant_in_row bs character) (row_of (selector_at bs) selector (selector_count bs)) NotFound
+    option_map_or (variant_in_row bs character) (row_with (beside_selector bs selector) (selector_count bs)) NotFound

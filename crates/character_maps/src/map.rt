@@ -1,16 +1,15 @@
 //! The map from characters to glyphs.
 
-ghost use Rattle.std.specs.Prelude.{◌≡◌, ◌<◌, ℕ, None, IsTrue, get_or, option_map, option_and_then};
+ghost use Rattle.std.specs.Prelude.{◌≡◌, ◌<◌, ℕ, None, get_or, option_map, option_and_then};
 ghost use Rattle.character_maps.specs.Choice.{chosen_subtable, chosen_encoding, variation_subtable};
 ghost use Rattle.character_maps.specs.Codes.{glyph_index, glyph_variation_index};
-ghost use Rattle.character_maps.specs.Rising.{RowsRise, VariationsRise};
 ghost use Rattle.character_maps.specs.Variations.{glyph_variant};
 ghost use Rattle.character_maps.specs.Subtables.{subtable_glyph};
 
 use crate::choice::{choose, variation_subtable};
 use crate::codes::{Encoding, other_code, own_code};
-use crate::subtable::{rows_rise, subtable_glyph};
-use crate::variations::{GlyphVariant, glyph_variant, variations_rise};
+use crate::subtable::subtable_glyph;
+use crate::variations::{GlyphVariant, glyph_variant};
 use rb_common::GlyphId;
 
 /// The characters of the block Basic Latin, whose glyphs are found once.
@@ -21,8 +20,6 @@ const FIRST_COUNT: usize = 128;
 struct Codes<'a> {
     subtable: &'a [u8],
     encoding: Encoding,
-    rows_rise: bool,
-    ghost rows: { IsTrue rows_rise → RowsRise subtable.now },
 }
 
 impl Codes<'_> {
@@ -42,7 +39,7 @@ impl Codes<'_> {
         ensures { result ≡ option_and_then (subtable_glyph self.now.subtable.now) code }
     {
         let code = code?;
-        subtable_glyph(self.subtable, code, self.rows_rise)
+        subtable_glyph(self.subtable, code)
     }
 }
 
@@ -67,13 +64,9 @@ pub struct CharacterMap<'a> {
     pub encoding: Encoding,
     /// The subtable of variation sequences, from its format on; empty where the font has none.
     pub variations: &'a [u8],
-    rows_rise: bool,
-    variations_rise: bool,
     first_glyphs: [Option<u16>; FIRST_COUNT],
     ghost firsts: { (character : ℕ) → character < 128
         → get_or first_glyphs character None ≡ glyph_index subtable.now encoding character },
-    ghost rows: { IsTrue rows_rise → RowsRise subtable.now },
-    ghost selectors: { IsTrue variations_rise → VariationsRise variations.now },
 }
 
 impl<'a> CharacterMap<'a> {
@@ -93,15 +86,11 @@ impl<'a> CharacterMap<'a> {
         let codes = Codes {
             subtable: choice.subtable,
             encoding: choice.encoding,
-            rows_rise: rows_rise(choice.subtable),
         };
-        let variations = variation_subtable(cmap);
         CharacterMap {
             subtable: codes.subtable,
             encoding: codes.encoding,
-            variations,
-            rows_rise: codes.rows_rise,
-            variations_rise: variations_rise(variations),
+            variations: variation_subtable(cmap),
             first_glyphs: first_glyphs(&codes),
         }
     }
@@ -126,7 +115,6 @@ impl<'a> CharacterMap<'a> {
         Codes {
             subtable: self.subtable,
             encoding: self.encoding,
-            rows_rise: self.rows_rise,
         }
     }
 
@@ -134,7 +122,7 @@ impl<'a> CharacterMap<'a> {
     pub fn glyph_variant(&self, character: u32, selector: u32) -> GlyphVariant
         ensures { result ≡ glyph_variant self.now.variations.now character selector }
     {
-        glyph_variant(self.variations, character, selector, self.variations_rise)
+        glyph_variant(self.variations, character, selector)
     }
 
     /// The glyph of a character before a variation selector; `None` where the font does not have that variation

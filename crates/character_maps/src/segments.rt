@@ -1,26 +1,41 @@
 //! Segments of codes (OpenType specification, `cmap`, "Format 4").
 
-ghost use Rattle.std.specs.Prelude.{◌≡◌, ◌<◌, ◌^◌, IsTrue};
-ghost use Rattle.font_tables.specs.Rows.{Rises, first_row};
-ghost use Rattle.character_maps.specs.Subtables.{segment_count, segment_end, number_of_list};
+ghost use Rattle.std.specs.Prelude.{◌≡◌, ◌<◌, ◌^◌};
+ghost use Rattle.font_tables.specs.Bisection.{row_with};
+ghost use Rattle.character_maps.specs.Subtables.{beside_segment, segment_count, number_of_list};
 ghost use Rattle.character_maps.specs.Subtables.{glyph_behind_range_offset, with_delta, glyph_in_segment};
 ghost use Rattle.character_maps.specs.Subtables.{segment_glyph, segments_glyph};
 
 use crate::arrays::some_glyph;
 use crate::counts::count_16;
-use font_tables::bytes::{tail, u16_at};
-use font_tables::rows::{Keys16, Numbers16, first_row, rises};
+use font_tables::bisection::{KeyedRows, row_with};
+use font_tables::bytes::u16_at;
+use std::cmp::Ordering;
 
-/// The segments' ends, in their order.
-fn ends(table: &[u8]) -> Keys16<'_>
-    ensures table { result.table.now ≡ table.now }
-    ensures start { result.start ≡ 14 }
-    ensures size { result.size ≡ 2 }
-{
-    Keys16 {
-        table,
-        start: 14,
-        size: 2,
+/// The segments of a subtable.
+#[derive(Clone, Copy)]
+struct Segments<'a>(&'a [u8]);
+
+impl KeyedRows for Segments<'_> {
+    ghost use Rattle.character_maps.specs.Subtables.{beside_segment};
+
+    ghost beside_of = { λ segments code row. beside_segment segments.0.now code row };
+
+    #[tactic(auto, using(crate::proofs::Outside::beside_segment_outside))]
+    fn beside(&self, code: u32, row: usize) -> Option<Ordering> {
+        if row >= self.0.len() / 2 {
+            return None;
+        }
+        let end = u16_at(self.0, 14 + 2 * row)?;
+        if u32::from(end) < code {
+            return Some(Ordering::Greater);
+        }
+        let start = number_of_list(self.0, 1, row)?;
+        Some(if code < u32::from(start) {
+            Ordering::Less
+        } else {
+            Ordering::Equal
+        })
     }
 }
 
@@ -31,13 +46,6 @@ fn segment_count(table: &[u8]) -> usize
     ensures small { result < 32768 }
 {
     count_16(table, 6) / 2
-}
-
-/// Whether the segments' ends rise.
-pub(crate) fn segments_rise(table: &[u8]) -> bool
-    ensures { IsTrue result → Rises (segment_end table.now) (segment_count table.now) }
-{
-    rises(&ends(table), segment_count(table))
 }
 
 /// The number at a place of a list behind the ends: starts (1), deltas (2), range offsets and then glyphs (3).
@@ -122,26 +130,11 @@ fn segment_glyph(table: &[u8], code: u32, row: usize) -> Option<u16>
     glyph_in_segment(table, code, &segment)
 }
 
-/// The first segment that reaches a code.
-fn first_segment(table: &[u8], code: u32, are_rising: bool) -> Option<usize>
-    requires { IsTrue are_rising → Rises (segment_end table.now) (segment_count table.now) }
-    ensures { result ≡ first_row (segment_end table.now) code (segment_count table.now) }
-{
-    let count = segment_count(table);
-    let (numbers, _) = tail(table, 14).as_chunks::<2>();
-    if count <= numbers.len() {
-        first_row(&Numbers16(numbers), count, code, are_rising)
-    } else {
-        first_row(&ends(table), count, code, are_rising)
-    }
-}
-
 /// The glyph of a code by format 4.
 #[tactic(auto, unfolding(crate::specs::Subtables::segments_glyph))]
-pub(crate) fn segments_glyph(table: &[u8], code: u32, are_rising: bool) -> Option<u16>
-    requires { IsTrue are_rising → Rises (segment_end table.now) (segment_count table.now) }
+pub(crate) fn segments_glyph(table: &[u8], code: u32) -> Option<u16>
     ensures { result ≡ segments_glyph table.now code }
 {
-    let row = first_segment(table, code, are_rising)?;
+    let row = row_with(&Segments(table), segment_count(table), code)?;
     segment_glyph(table, code, row)
 }

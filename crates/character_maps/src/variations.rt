@@ -1,21 +1,20 @@
 //! Variation sequences (OpenType specification, `cmap`, "Format 14").
 
-ghost use Rattle.std.specs.Prelude.{◌≡◌, ◌<◌, ◌*◌, ◌+◌, ◌^◌, option_and_then, IsTrue, IfSome};
+ghost use Rattle.std.specs.Prelude.{◌≡◌, ◌<◌, ◌*◌, ◌+◌, ◌^◌, option_and_then, IfSome};
 ghost use Rattle.font_tables.specs.Bytes.{number_16, number_24};
-ghost use Rattle.font_tables.specs.Rows.{Rises, is_within};
+ghost use Rattle.font_tables.specs.Bisection.{beside_key, row_with};
 ghost use Rattle.character_maps.specs.Subtables.{some_glyph};
-ghost use Rattle.character_maps.specs.Variations.{row_of, selector_count, selector_at, default_characters};
-ghost use Rattle.character_maps.specs.Variations.{own_glyphs, rows_declared, range_start};
-ghost use Rattle.character_maps.specs.Variations.{range_end, range_count};
-ghost use Rattle.character_maps.specs.Variations.{in_ranges, mapped_at, mapped_count, mapped_glyph};
+ghost use Rattle.character_maps.specs.Variations.{selector_count, default_characters};
+ghost use Rattle.character_maps.specs.Variations.{own_glyphs, rows_declared, range_count};
+ghost use Rattle.character_maps.specs.Variations.{in_ranges, mapped_count, mapped_glyph};
 ghost use Rattle.character_maps.specs.Variations.{variant_in_row, glyph_variant};
-ghost use Rattle.character_maps.specs.Rising.{VariationsRise};
 
 use crate::arrays::some_glyph;
 use crate::counts::count_32;
+use font_tables::bisection::{KeyedRows, beside_key, row_with};
 use font_tables::bytes::{table_at_32, u8_at, u16_at, u24_at};
-use font_tables::rows::{Rows, first_row, rises};
 use rb_common::GlyphId;
+use std::cmp::Ordering;
 
 /// What a font says of a character before a variation selector (OpenType specification, `cmap`, "Format 14").
 #[derive(Clone, Copy, PartialEq, Eq, Debug)]
@@ -45,20 +44,28 @@ struct Keys24<'a> {
     size: usize,
 }
 
-impl Rows for Keys24<'_> {
+impl KeyedRows for Keys24<'_> {
     ghost use Rattle.std.specs.Prelude.{◌+◌, ◌*◌};
     ghost use Rattle.font_tables.specs.Bytes.{number_24};
+    ghost use Rattle.font_tables.specs.Bisection.{beside_key};
 
-    ghost last_of = { λ keys row. number_24 keys.table.now (keys.start + keys.size * row) };
+    ghost beside_of = { λ keys key row. beside_key (number_24 keys.table.now (keys.start + keys.size * row)) key };
 
-    #[tactic(auto, using(crate::proofs::Outside::number_24_outside))]
-    fn last(&self, row: usize) -> Option<u32> {
-        let place = self.start.saturating_add(self.size.saturating_mul(row));
-        if place < self.table.len() {
-            u24_at(self.table, place)
-        } else {
-            None
-        }
+    fn beside(&self, key: u32, row: usize) -> Option<Ordering> {
+        beside_key(key_at(self.table, self.start, self.size, row), key)
+    }
+}
+
+/// The key of a row of `size` bytes.
+#[tactic(auto, using(crate::proofs::Outside::number_24_outside))]
+fn key_at(table: &[u8], start: usize, size: usize, row: usize) -> Option<u32>
+    ensures { result ≡ number_24 table.now (start + size * row) }
+{
+    let place = start.saturating_add(size.saturating_mul(row));
+    if place < table.len() {
+        u24_at(table, place)
+    } else {
+        None
     }
 }
 
@@ -92,35 +99,26 @@ fn mappings(table: &[u8]) -> Keys24<'_>
 #[derive(Clone, Copy, Debug)]
 struct Ranges<'a>(&'a [u8]);
 
-impl Rows for Ranges<'_> {
-    ghost use Rattle.character_maps.specs.Variations.{range_end};
+impl KeyedRows for Ranges<'_> {
+    ghost use Rattle.character_maps.specs.Variations.{beside_characters};
 
-    ghost last_of = { λ rows row. range_end rows.0.now row };
+    ghost beside_of = { λ ranges character row. beside_characters ranges.0.now character row };
 
-    #[tactic(auto, using(crate::proofs::Outside::range_ends_outside), unfolding(crate::specs::Variations::range_end))]
-    fn last(&self, row: usize) -> Option<u32> {
-        if row < self.0.len() / 4 {
-            let start = character_at(self.0, 4 + 4 * row)?;
-            let more = u8_at(self.0, 7 + 4 * row)?;
-            Some(start + u32::from(more))
-        } else {
-            None
+    #[tactic(auto, using(crate::proofs::Outside::beside_characters_outside), unfolding(crate::specs::Variations::range_end))]
+    fn beside(&self, character: u32, row: usize) -> Option<Ordering> {
+        if row >= self.0.len() / 4 {
+            return None;
         }
-    }
-}
-
-/// The row of a key: the first that reaches it, if it has it.
-#[tactic(auto, unfolding(crate::specs::Variations::row_of))]
-fn row_of<R: Rows>(rows: &R, count: usize, key: u32, are_rising: bool) -> Option<usize>
-    requires { IsTrue are_rising → Rises (R.last_of rows.now) count }
-    ensures is { result ≡ row_of (R.last_of rows.now) key count }
-    ensures within { IfSome result (λ row. row < count) }
-{
-    let row = first_row(rows, count, key, are_rising)?;
-    if rows.last(row) == Some(key) {
-        Some(row)
-    } else {
-        None
+        let start = character_at(self.0, 4 + 4 * row)?;
+        if character < start {
+            return Some(Ordering::Less);
+        }
+        let more = u8_at(self.0, 7 + 4 * row)?;
+        Some(if start + u32::from(more) < character {
+            Ordering::Greater
+        } else {
+            Ordering::Equal
+        })
     }
 }
 
@@ -190,69 +188,20 @@ fn mapped_count(characters: &[u8]) -> usize
     rows_declared(characters, 5)
 }
 
-/// Whether the tables of one selector rise.
-fn tables_rise(ranges: &[u8], own: &[u8]) -> bool
-    ensures ranges { IsTrue result → Rises (range_end ranges.now) (range_count ranges.now) }
-    ensures mappings { IsTrue result → Rises (mapped_at own.now) (mapped_count own.now) }
-{
-    rises(&Ranges(ranges), range_count(ranges)) && rises(&mappings(own), mapped_count(own))
-}
-
-/// Whether the selectors rise, and the tables of each. The tables are read only as far as all of their rows could lie
-/// beside one another, so that many selectors with one long table take no longer than its bytes.
-pub(crate) fn variations_rise(table: &[u8]) -> bool
-    ensures { IsTrue result → VariationsRise table.now }
-{
-    let count = selector_count(table);
-    if !rises(&selectors(table), count) {
-        return false;
-    }
-    let mut left = table.len();
-    for row in 0..count {
-        let ranges = default_characters(table, row);
-        let own = own_glyphs(table, row);
-        let rows = range_count(ranges) + mapped_count(own);
-        if left < rows || !tables_rise(ranges, own) {
-            return false;
-        }
-        left -= rows;
-    }
-    true
-}
-
-/// Whether a range starts at or before the character.
-#[tactic(auto, using(crate::proofs::Outside::range_starts_outside))]
-fn starts_by(ranges: &[u8], row: usize, character: u32) -> bool
-    ensures { result ≡ is_within (range_start ranges.now row) character }
-{
-    if row >= ranges.len() / 4 {
-        return false;
-    }
-    match u24_at(ranges, 4 + 4 * row) {
-        Some(start) => start <= character,
-        None => false,
-    }
-}
-
-/// Whether the first range that reaches the character holds it.
+/// Whether a range holds the character.
 #[tactic(auto, unfolding(crate::specs::Variations::in_ranges))]
-fn in_ranges(ranges: &[u8], character: u32, are_rising: bool) -> bool
-    requires { IsTrue are_rising → Rises (range_end ranges.now) (range_count ranges.now) }
+fn in_ranges(ranges: &[u8], character: u32) -> bool
     ensures { result ≡ in_ranges ranges.now character }
 {
-    match first_row(&Ranges(ranges), range_count(ranges), character, are_rising) {
-        Some(row) => starts_by(ranges, row, character),
-        None => false,
-    }
+    row_with(&Ranges(ranges), range_count(ranges), character).is_some()
 }
 
 /// The other glyph of a character.
 #[tactic(auto, unfolding(crate::specs::Variations::mapped_glyph))]
-fn mapped_glyph(own: &[u8], character: u32, are_rising: bool) -> Option<u16>
-    requires { IsTrue are_rising → Rises (mapped_at own.now) (mapped_count own.now) }
+fn mapped_glyph(own: &[u8], character: u32) -> Option<u16>
     ensures { result ≡ mapped_glyph own.now character }
 {
-    let row = row_of(&mappings(own), mapped_count(own), character, are_rising)?;
+    let row = row_with(&mappings(own), mapped_count(own), character)?;
     glyph_of_row(own, row)
 }
 
@@ -270,16 +219,14 @@ fn glyph_of_row(own: &[u8], row: usize) -> Option<u16>
 
 /// The glyph of a character before the selector of a row.
 #[tactic(auto, unfolding(crate::specs::Variations::variant_in_row))]
-fn variant_in_row(table: &[u8], character: u32, row: usize, are_rising: bool) -> GlyphVariant
-    requires row { row < selector_count table.now }
-    requires small { row < 2 ^ 32 }
-    requires rises { IsTrue are_rising → VariationsRise table.now }
+fn variant_in_row(table: &[u8], character: u32, row: usize) -> GlyphVariant
+    requires { row < 2 ^ 32 }
     ensures { result ≡ variant_in_row table.now character row }
 {
-    if in_ranges(default_characters(table, row), character, are_rising) {
+    if in_ranges(default_characters(table, row), character) {
         return GlyphVariant::UseDefault;
     }
-    match mapped_glyph(own_glyphs(table, row), character, are_rising) {
+    match mapped_glyph(own_glyphs(table, row), character) {
         Some(glyph) => GlyphVariant::Found(GlyphId(glyph)),
         None => GlyphVariant::NotFound,
     }
@@ -287,18 +234,11 @@ fn variant_in_row(table: &[u8], character: u32, row: usize, are_rising: bool) ->
 
 /// The glyph of a variation sequence.
 #[tactic(auto, unfolding(crate::specs::Variations::glyph_variant))]
-pub(crate) fn glyph_variant(
-    table: &[u8],
-    character: u32,
-    selector: u32,
-    are_rising: bool,
-) -> GlyphVariant
-    requires { IsTrue are_rising → VariationsRise table.now }
+pub(crate) fn glyph_variant(table: &[u8], character: u32, selector: u32) -> GlyphVariant
     ensures { result ≡ glyph_variant table.now character selector }
 {
-    let count = selector_count(table);
-    match row_of(&selectors(table), count, selector, are_rising) {
-        Some(row) => variant_in_row(table, character, row, are_rising),
+    match row_with(&selectors(table), selector_count(table), selector) {
+        Some(row) => variant_in_row(table, character, row),
         None => GlyphVariant::NotFound,
     }
 }

@@ -5,7 +5,7 @@ use Rattle.std.proofs.lemmas.Option.{slice_get-get_or}
 use Rattle.std.proofs.Math.Nat.{div-mul-le_self}
 use Rattle.std.specs.Prelude.{slice_get, option_and_then}
 use Rattle.std.specs.Simd.{first_chunks}
-use Rattle.font_tables.specs.Bytes.{number_16, number_32}
+use Rattle.font_tables.specs.Bytes.{number_16}
 use Rattle.font_tables.specs.Rows.{first_row, Rises}
 
 -- a number behind the first bytes of a table
@@ -39,40 +39,6 @@ option_and_then-chunk_16 size (suc count) (suc row) place bytes less inside fits
     let rest = option_and_then-chunk_16 size count row place (drop size bytes) (omega arith) shorter fits in
     rest ∙ number_16-drop size (place + size * row) bytes ∙ ap (number_16 bytes) (simp mul-suc (omega arith))
 
-pub number_32-drop : (first at : ℕ) (bytes : List ℕ) → number_32 (drop first bytes) at ≡ number_32 bytes (first + at)
-unfolding number_32
-number_32-drop first at bytes =
-    let long = length-drop first bytes in
-    let one = get_or-drop first bytes at 0 in
-    let two = get_or-drop first bytes (at + 1) 0 in
-    let three = get_or-drop first bytes (at + 2) 0 in
-    let four = get_or-drop first bytes (at + 3) 0 in
-    grind (arith, long, one, two, three, four)
-
-pub number_32-take : (size at : ℕ) (bytes : List ℕ) → at + 4 ≤ size → size ≤ length bytes
-    → number_32 (take size bytes) at ≡ number_32 bytes at
-unfolding number_32
-number_32-take size at bytes fits inside =
-    let long : length (take size bytes) ≡ size = length-take-le size bytes (omega arith) in
-    let one = get_or-take size bytes at 0 (omega arith) in
-    let two = get_or-take size bytes (at + 1) 0 (omega arith) in
-    let three = get_or-take size bytes (at + 2) 0 (omega arith) in
-    let four = get_or-take size bytes (at + 3) 0 (omega arith) in
-    grind (arith, long, one, two, three, four)
-
--- the number of 32 bits in a chunk is that of the table
-pub option_and_then-chunk_32 : (size count row place : ℕ) (bytes : List ℕ) → row < count → count * size ≤ length bytes
-    → place + 4 ≤ size
-    → option_and_then (λ chunk. number_32 chunk place) (slice_get (first_chunks size count bytes) row)
-    ≡ number_32 bytes (place + size * row)
-option_and_then-chunk_32 size zero row place bytes less inside fits = absurd (omega arith)
-option_and_then-chunk_32 size (suc count) zero place bytes less inside fits =
-    number_32-take size place bytes fits (omega arith) ∙ ap (number_32 bytes) (omega arith)
-option_and_then-chunk_32 size (suc count) (suc row) place bytes less inside fits =
-    let shorter : count * size ≤ length (drop size bytes) = simp length-drop (omega arith) in
-    let rest = option_and_then-chunk_32 size count row place (drop size bytes) (omega arith) shorter fits in
-    rest ∙ number_32-drop size (place + size * row) bytes ∙ ap (number_32 bytes) (simp mul-suc (omega arith))
-
 -- rows with the same last keys
 pub record SameRows (last other : ℕ → Option ℕ) (count : ℕ) : Type 0 where
   pub same : (row : ℕ) → row < count → last row ≡ other row
@@ -105,23 +71,6 @@ rows_from_16 start size count place at bytes rest chunks behind are inside fits 
       rw behind (number_16-drop start (place + size * row) bytes) in
       let there : start + (place + size * row) ≡ at + size * row = omega arith in
       rw are (in_rest ∙ whole ∙ ap (number_16 bytes) there);
-}
-
-pub rows_from_32 : (start size count place at : ℕ) (bytes rest : List ℕ) (chunks : List (List ℕ)) → rest ≡ drop start bytes
-    → chunks ≡ first_chunks size (length rest / size) rest → count ≤ (length bytes - start) / size → place + 4 ≤ size
-    → start + place ≡ at
-    → SameRows (λ row. option_and_then (λ chunk. number_32 chunk place) (slice_get chunks row))
-    (λ row. number_32 bytes (at + size * row)) count
-rows_from_32 start size count place at bytes rest chunks behind are inside fits begins = record {
-  same = λ row less.
-      let long : length rest ≡ length bytes - start = rw behind (length-drop start bytes) in
-      let less_than : row < length rest / size = rw long (omega arith) in
-      let in_rest =
-      option_and_then-chunk_32 size (length rest / size) row place rest less_than (div-mul-le_self _ _) fits in
-      let whole : number_32 rest (place + size * row) ≡ number_32 bytes (start + (place + size * row)) =
-      rw behind (number_32-drop start (place + size * row) bytes) in
-      let there : start + (place + size * row) ≡ at + size * row = omega arith in
-      rw are (in_rest ∙ whole ∙ ap (number_32 bytes) there);
 }
 
 -- how many rows lie in a table whole

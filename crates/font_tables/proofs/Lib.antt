@@ -6,6 +6,7 @@
 -- (`ChunkLemmas`). Names stand one behind the other, each behind its length, so a walk finds where each begins
 -- (`StringLemmas`).
 
+pub mod BisectionLemmas
 pub mod ChunkLemmas
 pub mod RowLemmas
 pub mod StringLemmas

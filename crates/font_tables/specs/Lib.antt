@@ -1,3 +1,4 @@
+pub mod Bisection
 pub mod Bytes
 pub mod ClassDefinition
 pub mod Coverage

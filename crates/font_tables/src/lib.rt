@@ -4,6 +4,7 @@
 //! so is a row: what a font does not have is not there, and no reader fails.
 #![tactic(auto)]
 
+pub mod bisection;
 pub mod bytes;
 pub mod class_definition;
 pub mod coverage;

@@ -5,6 +5,7 @@
 //! A table is a slice of bytes that may be cut short or hold anything. A number that lies outside of it is `None`, and
 //! so is a row: what a font does not have is not there, and no reader fails.
 
+pub mod bisection;
 pub mod bytes;
 pub mod class_definition;
 pub mod coverage;

@@ -1,7 +1,9 @@
+use font_tables::bisection::{KeyedRows, beside_key, row_with};
 use font_tables::bytes::{
     i16_at, part, table_at_16, table_at_32, tail, u8_at, u16_at, u24_at, u32_at,
 };
 use font_tables::rows::{Keys16, Numbers16, Rows, first_row, rises, rows_within};
+use std::cmp::Ordering;
 
 static TABLE: [u8; 8] = [0x01, 0x02, 0x03, 0x04, 0xFF, 0xFE, 0x00, 0x00];
 
@@ -60,4 +62,28 @@ fn the_first_row_reaches_a_key(rt: HostRuntime) {
         assert!(rt; first_row(&numbers, 4, key, do_rise) == row, "{key}");
     }
     assert!(rt; rows_within(&TABLE, 2, 4, 9) == 1);
+}
+
+/// Keys, and the row that bisection finds for each among 2, 4, 4, 9 and 6.
+static FOUND: [(u32, Option<usize>); 6] = [
+    (2, Some(0)),
+    (3, None),
+    (4, Some(2)),
+    (6, None),
+    (9, Some(3)),
+    (10, None),
+];
+
+#[test]
+fn bisection_finds_the_row_of_a_key(rt: HostRuntime) {
+    let rows = Keys16 {
+        table: &[0, 2, 0, 4, 0, 4, 0, 9, 0, 6],
+        start: 0,
+        size: 2,
+    };
+    for &(key, row) in &FOUND {
+        assert!(rt; row_with(&rows, 5, key) == row, "{key}");
+    }
+    assert!(rt; rows.beside(3, 1) == Some(Ordering::Less) && rows.beside(3, 5).is_none());
+    assert!(rt; beside_key(Some(3), 4) == Some(Ordering::Greater) && beside_key(None, 4).is_none());
 }

@@ -5,53 +5,41 @@
 
 use crate::character_maps::arrays::some_glyph;
 use crate::character_maps::counts::count_32;
-use crate::font_tables::bytes::{tail, u32_at};
-use crate::font_tables::rows::{Rows, first_row, rises};
+use crate::font_tables::bisection::{KeyedRows, row_with};
+use crate::font_tables::bytes::u32_at;
+use core::cmp::Ordering;
 
-/// Groups that lie whole in a subtable.
+/// The groups of a subtable.
 #[derive(Clone, Copy)]
-struct Groups<'a>(&'a [[u8; 12]]);
+struct Groups<'a>(&'a [u8]);
 
 ///
 /// # Proved
 ///
 /// ```text
-/// ghost last_of = { λ groups row. option_and_then (λ group. number_32 group 4) (slice_get groups.0.now row) }
+/// ghost beside_of = { λ groups code row. beside_group groups.0.now code row }
 /// ```
-impl Rows for Groups<'_> {
-    fn last(&self, row: usize) -> Option<u32> {
-        u32_at(self.0.get(row)?, 4)
-    }
-}
-
-/// The groups of a subtable, of which not all may lie in it.
-#[derive(Clone, Copy)]
-struct DeclaredGroups<'a>(&'a [u8]);
-
-///
-/// # Proved
-///
-/// ```text
-/// ghost last_of = { λ groups row. group_end groups.0.now row }
-/// ```
-impl Rows for DeclaredGroups<'_> {
-    fn last(&self, row: usize) -> Option<u32> {
-        if row < self.0.len() / 12 {
-            u32_at(self.0, 20 + 12 * row)
-        } else {
-            None
+impl KeyedRows for Groups<'_> {
+    fn beside(&self, code: u32, row: usize) -> Option<Ordering> {
+        if row >= self.0.len() / 12 {
+            return None;
         }
+        let start = u32_at(self.0, 16 + 12 * row)?;
+        if code < start {
+            return Some(Ordering::Less);
+        }
+        let end = u32_at(self.0, 20 + 12 * row)?;
+        Some(if end < code {
+            Ordering::Greater
+        } else {
+            Ordering::Equal
+        })
     }
 }
 
 /// How many groups there are.
 fn group_count(table: &[u8]) -> usize {
     count_32(table, 12)
-}
-
-/// Whether the groups' last codes rise.
-pub(crate) fn groups_rise(table: &[u8]) -> bool {
-    rises(&DeclaredGroups(table), group_count(table))
 }
 
 /// The glyph that a group gives to a code that it reaches.
@@ -76,27 +64,8 @@ fn group_glyph(table: &[u8], format: u16, code: u32, row: usize) -> Option<u16> 
     }
 }
 
-/// The first group that reaches a code.
-///
-/// # Requires
-///
-/// - `IsTrue are_rising → Rises (group_end table.now) (group_count table.now)`
-fn first_group(table: &[u8], code: u32, are_rising: bool) -> Option<usize> {
-    let count = group_count(table);
-    let (groups, _) = tail(table, 16).as_chunks::<12>();
-    if count <= groups.len() {
-        first_row(&Groups(groups), count, code, are_rising)
-    } else {
-        first_row(&DeclaredGroups(table), count, code, are_rising)
-    }
-}
-
 /// The glyph of a code by format 12 or 13.
-///
-/// # Requires
-///
-/// - `IsTrue are_rising → Rises (group_end table.now) (group_count table.now)`
-pub(crate) fn groups_glyph(table: &[u8], format: u16, code: u32, are_rising: bool) -> Option<u16> {
-    let row = first_group(table, code, are_rising)?;
+pub(crate) fn groups_glyph(table: &[u8], format: u16, code: u32) -> Option<u16> {
+    let row = row_with(&Groups(table), group_count(table), code)?;
     group_glyph(table, format, code, row)
 }

@@ -4,8 +4,8 @@
 
 use crate::character_maps::choice::{choose, variation_subtable};
 use crate::character_maps::codes::{Encoding, other_code, own_code};
-use crate::character_maps::subtable::{rows_rise, subtable_glyph};
-use crate::character_maps::variations::{GlyphVariant, glyph_variant, variations_rise};
+use crate::character_maps::subtable::subtable_glyph;
+use crate::character_maps::variations::{GlyphVariant, glyph_variant};
 use crate::common::GlyphId;
 
 /// The characters of the block Basic Latin, whose glyphs are found once.
@@ -16,7 +16,6 @@ const FIRST_COUNT: usize = 128;
 struct Codes<'a> {
     subtable: &'a [u8],
     encoding: Encoding,
-    rows_rise: bool,
 }
 
 impl Codes<'_> {
@@ -31,7 +30,7 @@ impl Codes<'_> {
     /// The glyph of a code, if there is a code.
     fn glyph_of_code(&self, code: Option<u32>) -> Option<u16> {
         let code = code?;
-        subtable_glyph(self.subtable, code, self.rows_rise)
+        subtable_glyph(self.subtable, code)
     }
 }
 
@@ -51,8 +50,6 @@ fn first_glyphs(codes: &Codes<'_>) -> [Option<u16>; FIRST_COUNT] {
 /// ```text
 /// ghost firsts: { (character : ℕ) → character < 128
 ///     → get_or first_glyphs character None ≡ glyph_index subtable.now encoding character }
-/// ghost rows: { IsTrue rows_rise → RowsRise subtable.now }
-/// ghost selectors: { IsTrue variations_rise → VariationsRise variations.now }
 /// ```
 #[derive(Clone, Copy, Debug)]
 pub struct CharacterMap<'a> {
@@ -62,8 +59,6 @@ pub struct CharacterMap<'a> {
     pub encoding: Encoding,
     /// The subtable of variation sequences, from its format on; empty where the font has none.
     pub variations: &'a [u8],
-    rows_rise: bool,
-    variations_rise: bool,
     first_glyphs: [Option<u16>; FIRST_COUNT],
 }
 
@@ -90,15 +85,11 @@ impl<'a> CharacterMap<'a> {
         let codes = Codes {
             subtable: choice.subtable,
             encoding: choice.encoding,
-            rows_rise: rows_rise(choice.subtable),
         };
-        let variations = variation_subtable(cmap);
         CharacterMap {
             subtable: codes.subtable,
             encoding: codes.encoding,
-            variations,
-            rows_rise: codes.rows_rise,
-            variations_rise: variations_rise(variations),
+            variations: variation_subtable(cmap),
             first_glyphs: first_glyphs(&codes),
         }
     }
@@ -125,7 +116,6 @@ impl<'a> CharacterMap<'a> {
         Codes {
             subtable: self.subtable,
             encoding: self.encoding,
-            rows_rise: self.rows_rise,
         }
     }
 
@@ -138,7 +128,7 @@ impl<'a> CharacterMap<'a> {
     /// ```
     #[inline]
     pub fn glyph_variant(&self, character: u32, selector: u32) -> GlyphVariant {
-        glyph_variant(self.variations, character, selector, self.variations_rise)
+        glyph_variant(self.variations, character, selector)
     }
 
     /// The glyph of a character before a variation selector; `None` where the font does not have that

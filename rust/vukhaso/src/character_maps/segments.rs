@@ -4,26 +4,41 @@
 
 use crate::character_maps::arrays::some_glyph;
 use crate::character_maps::counts::count_16;
-use crate::font_tables::bytes::{tail, u16_at};
-use crate::font_tables::rows::{Keys16, Numbers16, first_row, rises};
+use crate::font_tables::bisection::{KeyedRows, row_with};
+use crate::font_tables::bytes::u16_at;
+use core::cmp::Ordering;
 
-/// The segments' ends, in their order.
-fn ends(table: &[u8]) -> Keys16<'_> {
-    Keys16 {
-        table,
-        start: 14,
-        size: 2,
+/// The segments of a subtable.
+#[derive(Clone, Copy)]
+struct Segments<'a>(&'a [u8]);
+
+///
+/// # Proved
+///
+/// ```text
+/// ghost beside_of = { λ segments code row. beside_segment segments.0.now code row }
+/// ```
+impl KeyedRows for Segments<'_> {
+    fn beside(&self, code: u32, row: usize) -> Option<Ordering> {
+        if row >= self.0.len() / 2 {
+            return None;
+        }
+        let end = u16_at(self.0, 14 + 2 * row)?;
+        if u32::from(end) < code {
+            return Some(Ordering::Greater);
+        }
+        let start = number_of_list(self.0, 1, row)?;
+        Some(if code < u32::from(start) {
+            Ordering::Less
+        } else {
+            Ordering::Equal
+        })
     }
 }
 
 /// How many segments there are: the table has twice that number.
 fn segment_count(table: &[u8]) -> usize {
     count_16(table, 6) / 2
-}
-
-/// Whether the segments' ends rise.
-pub(crate) fn segments_rise(table: &[u8]) -> bool {
-    rises(&ends(table), segment_count(table))
 }
 
 /// The number at a place of a list behind the ends: starts (1), deltas (2), range offsets and then
@@ -105,27 +120,8 @@ fn segment_glyph(table: &[u8], code: u32, row: usize) -> Option<u16> {
     glyph_in_segment(table, code, &segment)
 }
 
-/// The first segment that reaches a code.
-///
-/// # Requires
-///
-/// - `IsTrue are_rising → Rises (segment_end table.now) (segment_count table.now)`
-fn first_segment(table: &[u8], code: u32, are_rising: bool) -> Option<usize> {
-    let count = segment_count(table);
-    let (numbers, _) = tail(table, 14).as_chunks::<2>();
-    if count <= numbers.len() {
-        first_row(&Numbers16(numbers), count, code, are_rising)
-    } else {
-        first_row(&ends(table), count, code, are_rising)
-    }
-}
-
 /// The glyph of a code by format 4.
-///
-/// # Requires
-///
-/// - `IsTrue are_rising → Rises (segment_end table.now) (segment_count table.now)`
-pub(crate) fn segments_glyph(table: &[u8], code: u32, are_rising: bool) -> Option<u16> {
-    let row = first_segment(table, code, are_rising)?;
+pub(crate) fn segments_glyph(table: &[u8], code: u32) -> Option<u16> {
+    let row = row_with(&Segments(table), segment_count(table), code)?;
     segment_glyph(table, code, row)
 }

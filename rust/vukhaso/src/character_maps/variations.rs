@@ -5,8 +5,9 @@
 use crate::character_maps::arrays::some_glyph;
 use crate::character_maps::counts::count_32;
 use crate::common::GlyphId;
+use crate::font_tables::bisection::{KeyedRows, beside_key, row_with};
 use crate::font_tables::bytes::{table_at_32, u8_at, u16_at, u24_at};
-use crate::font_tables::rows::{Rows, first_row, rises};
+use core::cmp::Ordering;
 
 /// What a font says of a character before a variation selector (OpenType specification, `cmap`, "Format 14").
 #[derive(Clone, Copy, PartialEq, Eq, Debug)]
@@ -36,16 +37,21 @@ struct Keys24<'a> {
 /// # Proved
 ///
 /// ```text
-/// ghost last_of = { λ keys row. number_24 keys.table.now (keys.start + keys.size * row) }
+/// ghost beside_of = { λ keys key row. beside_key (number_24 keys.table.now (keys.start + keys.size * row)) key }
 /// ```
-impl Rows for Keys24<'_> {
-    fn last(&self, row: usize) -> Option<u32> {
-        let place = self.start.saturating_add(self.size.saturating_mul(row));
-        if place < self.table.len() {
-            u24_at(self.table, place)
-        } else {
-            None
-        }
+impl KeyedRows for Keys24<'_> {
+    fn beside(&self, key: u32, row: usize) -> Option<Ordering> {
+        beside_key(key_at(self.table, self.start, self.size, row), key)
+    }
+}
+
+/// The key of a row of `size` bytes.
+fn key_at(table: &[u8], start: usize, size: usize, row: usize) -> Option<u32> {
+    let place = start.saturating_add(size.saturating_mul(row));
+    if place < table.len() {
+        u24_at(table, place)
+    } else {
+        None
     }
 }
 
@@ -75,31 +81,23 @@ struct Ranges<'a>(&'a [u8]);
 /// # Proved
 ///
 /// ```text
-/// ghost last_of = { λ rows row. range_end rows.0.now row }
+/// ghost beside_of = { λ ranges character row. beside_characters ranges.0.now character row }
 /// ```
-impl Rows for Ranges<'_> {
-    fn last(&self, row: usize) -> Option<u32> {
-        if row < self.0.len() / 4 {
-            let start = character_at(self.0, 4 + 4 * row)?;
-            let more = u8_at(self.0, 7 + 4 * row)?;
-            Some(start + u32::from(more))
-        } else {
-            None
+impl KeyedRows for Ranges<'_> {
+    fn beside(&self, character: u32, row: usize) -> Option<Ordering> {
+        if row >= self.0.len() / 4 {
+            return None;
         }
-    }
-}
-
-/// The row of a key: the first that reaches it, if it has it.
-///
-/// # Requires
-///
-/// - `IsTrue are_rising → Rises (R.last_of rows.now) count`
-fn row_of<R: Rows>(rows: &R, count: usize, key: u32, are_rising: bool) -> Option<usize> {
-    let row = first_row(rows, count, key, are_rising)?;
-    if rows.last(row) == Some(key) {
-        Some(row)
-    } else {
-        None
+        let start = character_at(self.0, 4 + 4 * row)?;
+        if character < start {
+            return Some(Ordering::Less);
+        }
+        let more = u8_at(self.0, 7 + 4 * row)?;
+        Some(if start + u32::from(more) < character {
+            Ordering::Greater
+        } else {
+            Ordering::Equal
+        })
     }
 }
 
@@ -158,62 +156,14 @@ fn mapped_count(characters: &[u8]) -> usize {
     rows_declared(characters, 5)
 }
 
-/// Whether the tables of one selector rise.
-fn tables_rise(ranges: &[u8], own: &[u8]) -> bool {
-    rises(&Ranges(ranges), range_count(ranges)) && rises(&mappings(own), mapped_count(own))
-}
-
-/// Whether the selectors rise, and the tables of each. The tables are read only as far as all of their
-/// rows could lie beside one another, so that many selectors with one long table take no longer than
-/// its bytes.
-pub(crate) fn variations_rise(table: &[u8]) -> bool {
-    let count = selector_count(table);
-    if !rises(&selectors(table), count) {
-        return false;
-    }
-    let mut left = table.len();
-    for row in 0..count {
-        let ranges = default_characters(table, row);
-        let own = own_glyphs(table, row);
-        let rows = range_count(ranges) + mapped_count(own);
-        if left < rows || !tables_rise(ranges, own) {
-            return false;
-        }
-        left -= rows;
-    }
-    true
-}
-
-/// Whether a range starts at or before the character.
-fn starts_by(ranges: &[u8], row: usize, character: u32) -> bool {
-    if row >= ranges.len() / 4 {
-        return false;
-    }
-    match u24_at(ranges, 4 + 4 * row) {
-        Some(start) => start <= character,
-        None => false,
-    }
-}
-
-/// Whether the first range that reaches the character holds it.
-///
-/// # Requires
-///
-/// - `IsTrue are_rising → Rises (range_end ranges.now) (range_count ranges.now)`
-fn in_ranges(ranges: &[u8], character: u32, are_rising: bool) -> bool {
-    match first_row(&Ranges(ranges), range_count(ranges), character, are_rising) {
-        Some(row) => starts_by(ranges, row, character),
-        None => false,
-    }
+/// Whether a range holds the character.
+fn in_ranges(ranges: &[u8], character: u32) -> bool {
+    row_with(&Ranges(ranges), range_count(ranges), character).is_some()
 }
 
 /// The other glyph of a character.
-///
-/// # Requires
-///
-/// - `IsTrue are_rising → Rises (mapped_at own.now) (mapped_count own.now)`
-fn mapped_glyph(own: &[u8], character: u32, are_rising: bool) -> Option<u16> {
-    let row = row_of(&mappings(own), mapped_count(own), character, are_rising)?;
+fn mapped_glyph(own: &[u8], character: u32) -> Option<u16> {
+    let row = row_with(&mappings(own), mapped_count(own), character)?;
     glyph_of_row(own, row)
 }
 
@@ -230,33 +180,21 @@ fn glyph_of_row(own: &[u8], row: usize) -> Option<u16> {
 ///
 /// # Requires
 ///
-/// - `row: row < selector_count table.now`
-/// - `small: row < 2 ^ 32`
-/// - `rises: IsTrue are_rising → VariationsRise table.now`
-fn variant_in_row(table: &[u8], character: u32, row: usize, are_rising: bool) -> GlyphVariant {
-    if in_ranges(default_characters(table, row), character, are_rising) {
+/// - `row < 2 ^ 32`
+fn variant_in_row(table: &[u8], character: u32, row: usize) -> GlyphVariant {
+    if in_ranges(default_characters(table, row), character) {
         return GlyphVariant::UseDefault;
     }
-    match mapped_glyph(own_glyphs(table, row), character, are_rising) {
+    match mapped_glyph(own_glyphs(table, row), character) {
         Some(glyph) => GlyphVariant::Found(GlyphId(glyph)),
         None => GlyphVariant::NotFound,
     }
 }
 
 /// The glyph of a variation sequence.
-///
-/// # Requires
-///
-/// - `IsTrue are_rising → VariationsRise table.now`
-pub(crate) fn glyph_variant(
-    table: &[u8],
-    character: u32,
-    selector: u32,
-    are_rising: bool,
-) -> GlyphVariant {
-    let count = selector_count(table);
-    match row_of(&selectors(table), count, selector, are_rising) {
-        Some(row) => variant_in_row(table, character, row, are_rising),
+pub(crate) fn glyph_variant(table: &[u8], character: u32, selector: u32) -> GlyphVariant {
+    match row_with(&selectors(table), selector_count(table), selector) {
+        Some(row) => variant_in_row(table, character, row),
         None => GlyphVariant::NotFound,
     }
 }

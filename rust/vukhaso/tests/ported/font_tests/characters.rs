@@ -16,7 +16,7 @@ struct Case {
     glyphs: &'static [(u32, u16)],
 }
 
-static CASES: [Case; 14] = [
+static CASES: [Case; 17] = [
     // the example of the OpenType specification, "Format 4"
     Case {
         name: "segments",
@@ -127,6 +127,36 @@ static CASES: [Case; 14] = [
             (0x102527, 57),
             (0x102528, 0),
         ],
+    },
+    // segments that overlap: bisection finds the one in the middle first
+    Case {
+        name: "overlapping segments",
+        cmap: &[
+            0, 1, 3, 1, 0, 12, 4, 40, 0, 6, 0, 0, 0, 0x50, 0x60, 0x70, 0, 0x41, 0x41, 0x41, 0, 100,
+            200, 0, 0, 0,
+        ],
+        font_page: 0,
+        glyphs: &[(0x0041, 165), (0x0060, 196), (0x0061, 297), (0x0071, 0)],
+    },
+    // groups of which two are swapped: what stands on the wrong side is missed
+    Case {
+        name: "swapped groups",
+        cmap: &[
+            0, 1, 3, 10, 0, 12, 12, 0, 0, 52, 0, 0, 0, 3, 0, 0x51, 0, 0x51, 0, 6, 0, 0x41, 0, 0x41,
+            0, 5, 0, 0x61, 0, 0x61, 0, 7,
+        ],
+        font_page: 0,
+        glyphs: &[(0x0041, 5), (0x0051, 0), (0x0061, 7)],
+    },
+    // a group that ends before it begins lies behind the codes before its first one
+    Case {
+        name: "a group that is turned round",
+        cmap: &[
+            0, 1, 3, 10, 0, 12, 12, 0, 0, 52, 0, 0, 0, 3, 0, 0x41, 0, 0x41, 0, 5, 0, 0x51, 0, 0x31,
+            0, 6, 0, 0x61, 0, 0x61, 0, 7,
+        ],
+        font_page: 0,
+        glyphs: &[(0x0041, 5), (0x0051, 0), (0x0061, 7)],
     },
     // format 13
     Case {

@@ -1,5 +1,7 @@
 // Written by tools/plain_rust from crates/font_tests. Do not edit.
 
+use std::cmp::Ordering;
+use vukhaso::font_tables::bisection::{KeyedRows, beside_key, row_with};
 use vukhaso::font_tables::bytes::{
     i16_at, part, table_at_16, table_at_32, tail, u8_at, u16_at, u24_at, u32_at,
 };
@@ -60,4 +62,28 @@ fn the_first_row_reaches_a_key() {
         assert!(first_row(&numbers, 4, key, do_rise) == row, "{key}");
     }
     assert!(rows_within(&TABLE, 2, 4, 9) == 1);
+}
+
+/// Keys, and the row that bisection finds for each among 2, 4, 4, 9 and 6.
+static FOUND: [(u32, Option<usize>); 6] = [
+    (2, Some(0)),
+    (3, None),
+    (4, Some(2)),
+    (6, None),
+    (9, Some(3)),
+    (10, None),
+];
+
+#[test]
+fn bisection_finds_the_row_of_a_key() {
+    let rows = Keys16 {
+        table: &[0, 2, 0, 4, 0, 4, 0, 9, 0, 6],
+        start: 0,
+        size: 2,
+    };
+    for &(key, row) in &FOUND {
+        assert!(row_with(&rows, 5, key) == row, "{key}");
+    }
+    assert!(rows.beside(3, 1) == Some(Ordering::Less) && rows.beside(3, 5).is_none());
+    assert!(beside_key(Some(3), 4) == Some(Ordering::Greater) && beside_key(None, 4).is_none());
 }
