@@ -180,6 +180,22 @@ impl hb_unicode_funcs_t {
         )
     }
 
+    /// How wide a character is among East Asian ones: 1, unless a function says else.
+    fn east_asian_width(&self, c: Character) -> c_uint {
+        ask!(
+            self, east_asian_width, slot => (slot.function)(self.address(), c, slot.data),
+            parent => parent.east_asian_width(c), 1, 1
+        )
+    }
+
+    /// Writes the compatibility decomposition of a character, and answers its length: 0, unless a function says else.
+    fn decompose_compatibility(&self, c: Character, decomposed: *mut Character) -> c_uint {
+        ask!(
+            self, decompose_compatibility, slot => (slot.function)(self.address(), c, decomposed, slot.data),
+            parent => parent.decompose_compatibility(c, decomposed), 0, 0
+        )
+    }
+
     pub fn compose(&self, a: Character, b: Character) -> Option<Character> {
         if a == 0 || b == 0 {
             return None;
@@ -285,18 +301,23 @@ pub unsafe extern "C" fn hb_unicode_decompose(
     }
 }
 
-/// All characters are narrow unless a function says else, as in HarfBuzz since it no longer asks.
 #[unsafe(no_mangle)]
-pub unsafe extern "C" fn hb_unicode_eastasian_width(_: *mut hb_unicode_funcs_t, _: hb_codepoint_t) -> c_uint {
-    1
+pub unsafe extern "C" fn hb_unicode_eastasian_width(functions: *mut hb_unicode_funcs_t, c: hb_codepoint_t) -> c_uint {
+    // SAFETY: HarfBuzz's terms: functions that are alive.
+    unsafe { &*functions }.east_asian_width(c)
 }
 
-/// No character is decomposed so, as in HarfBuzz since it no longer asks.
 #[unsafe(no_mangle)]
 pub unsafe extern "C" fn hb_unicode_decompose_compatibility(
-    _: *mut hb_unicode_funcs_t,
-    _: hb_codepoint_t,
-    _: *mut hb_codepoint_t,
+    functions: *mut hb_unicode_funcs_t,
+    c: hb_codepoint_t,
+    decomposed: *mut hb_codepoint_t,
 ) -> c_uint {
-    0
+    // SAFETY: HarfBuzz's terms: functions that are alive, and room for the longest decomposition with a 0 behind it.
+    unsafe {
+        let length = (*functions).decompose_compatibility(c, decomposed);
+        let length = if length == 1 && *decomposed == c { 0 } else { length };
+        *decomposed.add(length as usize) = 0;
+        length
+    }
 }
