@@ -88,6 +88,8 @@ class Erased(Bodies):
             self.erase_function(item, parent)
         if item.kind == "struct" and item.name in SEEN_BY_C:
             self.prefix[item.start] = "#[repr(C)]\n"
+        if item.kind == "struct" and any(other.trait == "Flags" and other.name == item.name for other in self.reader.items):
+            self.open_bits(item)
         if item.kind in ("struct", "enum", "trait", "impl"):
             contracts.document_type(self, item, parent)
             self.erase_drop_bounds(item)
@@ -101,6 +103,11 @@ class Erased(Bodies):
                 self.cut_item(inner)
             else:
                 self.erase_item(inner, item)
+
+    def open_bits(self, item):
+        """The bits of a set of flags are seen in the package, which gives the set methods of its own beside those of `Flags`."""
+        opening = next(at for at in self.bare(item.start, item.last) if self.texts[at] == "(")
+        self.put(opening, "(pub(crate) ")
 
     def take_alloc_error(self, item):
         """Makes the conversion of what was not pushed one of the error alone."""
@@ -232,6 +239,8 @@ class Erased(Bodies):
         """The path that is imported, or nothing where nothing is left to import."""
         if "::".join(names) in GONE or names[-1] in self.laws.names or self.is_dropped(names):
             return None
+        if not item.visibility and names[-1] == "Flags" and not self.is_named("Flags"):
+            return None  # each set has its methods by itself
         if not item.visibility and names[-1].isupper() and not self.is_named(names[-1]):
             return None  # a constant that clauses alone name
         if names[-1] == "from_utf8_unchecked":

@@ -16,7 +16,9 @@ pub use crate::memory::AllocError;
 pub use crate::runs::{Answer, Call, RenderFault, Stopped, render, render_at, replay};
 pub use crate::text::{Feature, Language, LanguageError};
 
-use core::ops::{BitAnd, BitAndAssign, BitOr, BitOrAssign, Sub, SubAssign};
+use core::ops::{
+    BitAnd, BitAndAssign, BitOr, BitOrAssign, BitXor, BitXorAssign, Not, Sub, SubAssign,
+};
 use core::str::FromStr;
 
 impl<'a> Face<'a> {
@@ -47,10 +49,159 @@ impl Default for hb_buffer_t {
     }
 }
 
-/// The operators of sets of flags, as the crate `bitflags` gives them.
-macro_rules! operators {
-    ($($set:ty)*) => {
+impl Clone for Language {
+    /// A copy. It panics where memory runs out, as a copy of a `String` of std does.
+    fn clone(&self) -> Self {
+        Language::from_str(self.as_str())
+            .expect("a language is not empty, and there is memory for its copy")
+    }
+}
+
+impl core::fmt::Debug for UnicodeBuffer {
+    fn fmt(&self, f: &mut core::fmt::Formatter<'_>) -> core::fmt::Result {
+        f.debug_struct("UnicodeBuffer")
+            .field("len", &self.len())
+            .field("direction", &self.direction())
+            .field("language", &self.language())
+            .field("script", &self.script())
+            .field("cluster_level", &self.cluster_level())
+            .finish()
+    }
+}
+
+impl core::fmt::Debug for GlyphBuffer {
+    fn fmt(&self, f: &mut core::fmt::Formatter<'_>) -> core::fmt::Result {
+        f.debug_struct("GlyphBuffer")
+            .field("glyph_infos", &self.glyph_infos())
+            .field("glyph_positions", &self.glyph_positions())
+            .finish()
+    }
+}
+
+/// The methods and operators of sets of flags, as the crate `bitflags` gives them.
+macro_rules! sets_of_flags {
+    ($($set:ident: $bits:ty),*) => {
         $(
+            impl $set {
+                /// No flags.
+                #[inline]
+                pub const fn empty() -> Self {
+                    $set(0)
+                }
+
+                /// All named flags.
+                pub fn all() -> Self {
+                    <Self as Flags>::all()
+                }
+
+                /// The bits of the set.
+                #[inline]
+                pub const fn bits(&self) -> $bits {
+                    self.0
+                }
+
+                /// The set of these bits, where all of them are known.
+                pub fn from_bits(bits: $bits) -> Option<Self> {
+                    <Self as Flags>::from_bits(bits)
+                }
+
+                /// The set of the known ones of these bits.
+                pub fn from_bits_truncate(bits: $bits) -> Self {
+                    <Self as Flags>::from_bits_truncate(bits)
+                }
+
+                /// The set of these bits, unknown ones among them.
+                #[inline]
+                pub const fn from_bits_retain(bits: $bits) -> Self {
+                    $set(bits)
+                }
+
+                /// Whether no bit is set.
+                #[inline]
+                pub const fn is_empty(&self) -> bool {
+                    self.0 == 0
+                }
+
+                /// Whether all named flags are set.
+                pub fn is_all(&self) -> bool {
+                    self.contains(Self::all())
+                }
+
+                /// Whether all bits of the other set are set.
+                #[inline]
+                pub const fn contains(&self, other: Self) -> bool {
+                    self.0 & other.0 == other.0
+                }
+
+                /// Whether a bit is set in both.
+                #[inline]
+                pub const fn intersects(&self, other: Self) -> bool {
+                    self.0 & other.0 != 0
+                }
+
+                /// The bits of either set.
+                #[inline]
+                #[must_use]
+                pub const fn union(self, other: Self) -> Self {
+                    $set(self.0 | other.0)
+                }
+
+                /// The bits of both sets.
+                #[inline]
+                #[must_use]
+                pub const fn intersection(self, other: Self) -> Self {
+                    $set(self.0 & other.0)
+                }
+
+                /// The bits of this set that are not in the other.
+                #[inline]
+                #[must_use]
+                pub const fn difference(self, other: Self) -> Self {
+                    $set(self.0 & !other.0)
+                }
+
+                /// The bits that are in one of the sets alone.
+                #[inline]
+                #[must_use]
+                pub const fn symmetric_difference(self, other: Self) -> Self {
+                    $set(self.0 ^ other.0)
+                }
+
+                /// The known bits that are not set.
+                #[must_use]
+                pub fn complement(self) -> Self {
+                    Self::from_bits_truncate(!self.0)
+                }
+
+                /// Sets the bits of the other set.
+                #[inline]
+                pub fn insert(&mut self, other: Self) {
+                    self.0 |= other.0;
+                }
+
+                /// Clears the bits of the other set.
+                #[inline]
+                pub fn remove(&mut self, other: Self) {
+                    self.0 &= !other.0;
+                }
+
+                /// Sets the bits of the other set that are not set, and clears the others.
+                #[inline]
+                pub fn toggle(&mut self, other: Self) {
+                    self.0 ^= other.0;
+                }
+
+                /// Sets or clears the bits of the other set.
+                #[inline]
+                pub fn set(&mut self, other: Self, value: bool) {
+                    if value {
+                        self.insert(other);
+                    } else {
+                        self.remove(other);
+                    }
+                }
+            }
+
             impl BitOr for $set {
                 type Output = Self;
 
@@ -79,6 +230,20 @@ macro_rules! operators {
                 }
             }
 
+            impl BitXor for $set {
+                type Output = Self;
+
+                fn bitxor(self, other: Self) -> Self {
+                    self.symmetric_difference(other)
+                }
+            }
+
+            impl BitXorAssign for $set {
+                fn bitxor_assign(&mut self, other: Self) {
+                    self.toggle(other);
+                }
+            }
+
             impl Sub for $set {
                 type Output = Self;
 
@@ -93,9 +258,17 @@ macro_rules! operators {
                 }
             }
 
+            impl Not for $set {
+                type Output = Self;
+
+                fn not(self) -> Self {
+                    self.complement()
+                }
+            }
+
             impl PartialEq for $set {
                 fn eq(&self, other: &Self) -> bool {
-                    self.bits() == other.bits()
+                    self.0 == other.0
                 }
             }
 
@@ -104,4 +277,4 @@ macro_rules! operators {
     };
 }
 
-operators!(BufferFlags SerializeFlags UnicodeProps GlyphPropsFlags);
+sets_of_flags!(BufferFlags: u32, SerializeFlags: u8, UnicodeProps: u16, GlyphPropsFlags: u16);

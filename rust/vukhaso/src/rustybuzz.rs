@@ -7,8 +7,8 @@ use crate::FaceNames;
 use crate::memory::AllocError;
 
 pub use crate::{
-    BufferClusterLevel, BufferFlags, Direction, Face, Feature, GlyphInfo, GlyphPosition, Language,
-    Script, SerializeFlags, Tag, script,
+    BufferFlags, Direction, Face, Feature, GlyphInfo, GlyphPosition, Language, Script,
+    SerializeFlags, Tag, script,
 };
 
 /// The value of a call that memory sufficed for.
@@ -19,8 +19,41 @@ fn held<T>(answer: Result<T, AllocError>) -> T {
     }
 }
 
+/// How far clusters are merged: the levels that rustybuzz has.
+#[derive(Clone, Copy, Debug, Default, PartialEq, Eq, Hash)]
+pub enum BufferClusterLevel {
+    /// Clusters rise or fall, and a grapheme is in one.
+    #[default]
+    MonotoneGraphemes,
+    /// Clusters rise or fall, and characters are not merged before they are shaped.
+    MonotoneCharacters,
+    /// Clusters are not merged.
+    Characters,
+}
+
+impl From<BufferClusterLevel> for crate::BufferClusterLevel {
+    fn from(level: BufferClusterLevel) -> Self {
+        match level {
+            BufferClusterLevel::MonotoneGraphemes => Self::MonotoneGraphemes,
+            BufferClusterLevel::MonotoneCharacters => Self::MonotoneCharacters,
+            BufferClusterLevel::Characters => Self::Characters,
+        }
+    }
+}
+
+impl From<crate::BufferClusterLevel> for BufferClusterLevel {
+    /// The level; one that rustybuzz does not have is its default.
+    fn from(level: crate::BufferClusterLevel) -> Self {
+        match level {
+            crate::BufferClusterLevel::MonotoneCharacters => Self::MonotoneCharacters,
+            crate::BufferClusterLevel::Characters => Self::Characters,
+            _ => Self::MonotoneGraphemes,
+        }
+    }
+}
+
 /// A text, before it is shaped.
-#[derive(Default)]
+#[derive(Default, Debug)]
 pub struct UnicodeBuffer(crate::UnicodeBuffer);
 
 impl UnicodeBuffer {
@@ -85,8 +118,13 @@ impl UnicodeBuffer {
     }
 
     /// The language of the text.
-    pub fn language(&self) -> Option<&Language> {
-        self.0.language()
+    pub fn language(&self) -> Option<Language> {
+        self.0.language().cloned()
+    }
+
+    /// Says the glyph of variation selectors that the font does not know.
+    pub fn set_not_found_variation_selector_glyph(&mut self, glyph: u32) {
+        self.0.set_not_found_variation_selector_glyph(glyph);
     }
 
     /// Guesses the script and the direction where they were not said.
@@ -106,12 +144,12 @@ impl UnicodeBuffer {
 
     /// Says how clusters are made.
     pub fn set_cluster_level(&mut self, cluster_level: BufferClusterLevel) {
-        self.0.set_cluster_level(cluster_level);
+        self.0.set_cluster_level(cluster_level.into());
     }
 
     /// How clusters are made.
     pub fn cluster_level(&self) -> BufferClusterLevel {
-        self.0.cluster_level()
+        self.0.cluster_level().into()
     }
 
     /// Gives each character the cluster of its place.
@@ -126,6 +164,7 @@ impl UnicodeBuffer {
 }
 
 /// The glyphs of a text that was shaped.
+#[derive(Debug)]
 pub struct GlyphBuffer(crate::GlyphBuffer);
 
 impl GlyphBuffer {
@@ -156,7 +195,10 @@ impl GlyphBuffer {
 
     /// The text of the glyphs, as `hb-shape` writes it.
     pub fn serialize(&self, face: &Face, flags: SerializeFlags) -> alloc::string::String {
-        let names = held(FaceNames::new(face));
+        let mut names = held(FaceNames::new(face));
+        if flags.contains(SerializeFlags::GLYPH_EXTENTS) {
+            held(names.find_extents(self.0.glyph_infos()));
+        }
         let text = held(self.0.serialize(&names, flags));
         alloc::string::String::from(text.as_str())
     }

@@ -8,7 +8,7 @@ use crate::buffer::cluster_level::{
     hb_buffer_cluster_level_t,
 };
 use crate::glyph::{
-    BufferFlags, Flags, GlyphPosition, HB_BUFFER_SCRATCH_FLAG_DEFAULT,
+    BufferFlags, GlyphPosition, HB_BUFFER_SCRATCH_FLAG_DEFAULT,
     HB_BUFFER_SCRATCH_FLAG_HAS_GLYPH_FLAGS, hb_buffer_scratch_flags_t, hb_glyph_info_t,
 };
 use crate::glyph_lists::cluster_order::ClusterOrder;

@@ -3,7 +3,7 @@
 use super::vukhaso_status::*;
 use super::{vukhaso_buffer, vukhaso_status};
 use crate::buffer::hb_glyph_info_t;
-use crate::glyph::{Flags, GlyphPosition, NoGlyphNames, SerializeFlags};
+use crate::glyph::{GlyphPosition, NoGlyphNames, SerializeFlags};
 use crate::glyph_text::serialize::glyphs_text;
 use core::ptr;
 

@@ -4,7 +4,7 @@ use super::vukhaso_status::*;
 use super::{Stage, grown, utf8, vukhaso_buffer, vukhaso_status};
 use crate::buffer::{BufferClusterLevel, GlyphBuffer, UnicodeBuffer};
 use crate::common::{Direction, Script, Tag};
-use crate::glyph::{BufferFlags, Flags};
+use crate::glyph::BufferFlags;
 use crate::text::{Feature, Language};
 use alloc::boxed::Box;
 use core::{mem, ptr};

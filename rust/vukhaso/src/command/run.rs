@@ -2,7 +2,7 @@
 
 //! What the program does.
 
-use crate::buffer::{Flags, NoGlyphNames, SerializeFlags};
+use crate::buffer::{NoGlyphNames, SerializeFlags};
 use crate::command::arguments::matches_of;
 use crate::command::drawing::draw_text;
 use crate::command::font_file::FontFile;

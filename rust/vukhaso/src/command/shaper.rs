@@ -3,7 +3,7 @@
 //! What a line is answered with.
 
 use crate::buffer::{
-    Flags, GlyphBuffer, GlyphNames, NoGlyphNames, SerializeFlags, UnicodeBuffer, hb_glyph_info_t,
+    GlyphBuffer, GlyphNames, NoGlyphNames, SerializeFlags, UnicodeBuffer, hb_glyph_info_t,
 };
 use crate::command::options::LineOptions;
 use crate::command::text::{emptied, empty_text, fill, lossy_text};

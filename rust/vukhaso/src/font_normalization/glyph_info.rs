@@ -4,7 +4,7 @@
 //! `hb-ot-layout.hh` gives them. They are the general category and flags in the low byte, and in the high byte what is kept of a
 //! character of that category: of a mark the class that it is reordered by, of a space its kind.
 
-use crate::buffer::{CombiningClasses, Flags, UnicodeProps, hb_glyph_info_t};
+use crate::buffer::{CombiningClasses, UnicodeProps, hb_glyph_info_t};
 use crate::glyph::hb_gc::{
     RB_UNICODE_GENERAL_CATEGORY_ENCLOSING_MARK, RB_UNICODE_GENERAL_CATEGORY_FORMAT,
     RB_UNICODE_GENERAL_CATEGORY_NON_SPACING_MARK, RB_UNICODE_GENERAL_CATEGORY_SPACE_SEPARATOR,

@@ -3,7 +3,7 @@
 //! The last steps of shaping: glyphs that are not to be seen, and glyph flags of whole clusters.
 
 use crate::buffer::{
-    BufferFlags, Flags, HB_BUFFER_SCRATCH_FLAG_HAS_DEFAULT_IGNORABLES,
+    BufferFlags, HB_BUFFER_SCRATCH_FLAG_HAS_DEFAULT_IGNORABLES,
     HB_BUFFER_SCRATCH_FLAG_HAS_GLYPH_FLAGS, HB_BUFFER_SCRATCH_FLAG_HAS_VARIATION_SELECTOR_FALLBACK,
     glyph_flag, hb_buffer_t, hb_glyph_info_t,
 };

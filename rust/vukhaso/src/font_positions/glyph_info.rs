@@ -2,7 +2,7 @@
 
 //! What is asked of a glyph where it is placed: what its font and its lookups say of it.
 
-use crate::buffer::{Flags, GlyphPropsFlags, UnicodeProps, hb_glyph_info_t};
+use crate::buffer::{GlyphPropsFlags, UnicodeProps, hb_glyph_info_t};
 
 /// Whether the glyph is that of a character which is invisible by default, and no lookup put it there.
 pub(crate) fn is_default_ignorable(info: &hb_glyph_info_t) -> bool {

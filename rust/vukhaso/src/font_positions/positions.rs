@@ -4,7 +4,7 @@
 
 use crate::apple_substitution::deletion::is_deleted;
 use crate::buffer::{
-    BufferFlags, Flags, GlyphPosition, HB_BUFFER_SCRATCH_FLAG_HAS_DEFAULT_IGNORABLES,
+    BufferFlags, GlyphPosition, HB_BUFFER_SCRATCH_FLAG_HAS_DEFAULT_IGNORABLES,
     HB_BUFFER_SCRATCH_FLAG_HAS_SPACE_FALLBACK, hb_buffer_t, hb_glyph_info_t,
 };
 use crate::common::GlyphId;

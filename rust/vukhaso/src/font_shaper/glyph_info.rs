@@ -3,7 +3,7 @@
 //! What the steps of shaping ask of a character, and set: its Unicode properties, in the bits that HarfBuzz's
 //! `hb-ot-layout.hh` gives them.
 
-use crate::buffer::{Flags, UnicodeProps, hb_glyph_info_t};
+use crate::buffer::{UnicodeProps, hb_glyph_info_t};
 use crate::font_normalization::glyph_info::{general_category, is_continuation};
 use crate::glyph::hb_gc::{
     RB_UNICODE_GENERAL_CATEGORY_DECIMAL_NUMBER, RB_UNICODE_GENERAL_CATEGORY_FORMAT,

@@ -4,8 +4,7 @@
 
 use crate::apple_substitution::remove_deleted_glyphs;
 use crate::buffer::{
-    BufferFlags, Direction, Feature, Flags, GlyphBuffer, UnicodeBuffer, hb_buffer_t,
-    hb_glyph_info_t,
+    BufferFlags, Direction, Feature, GlyphBuffer, UnicodeBuffer, hb_buffer_t, hb_glyph_info_t,
 };
 use crate::font_face::Face;
 use crate::font_normalization::normalize;

@@ -3,7 +3,7 @@
 //! The characters of a text, before they are mapped to glyphs: their properties, graphemes and direction.
 
 use crate::buffer::{
-    BufferFlags, CharExt, Direction, Flags, HB_BUFFER_CLUSTER_LEVEL_MONOTONE_GRAPHEMES,
+    BufferFlags, CharExt, Direction, HB_BUFFER_CLUSTER_LEVEL_MONOTONE_GRAPHEMES,
     HB_BUFFER_SCRATCH_FLAG_HAS_NON_ASCII, hb_buffer_t, hb_glyph_info_t,
 };
 use crate::font_face::Face;

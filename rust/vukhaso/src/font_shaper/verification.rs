@@ -3,8 +3,7 @@
 //! Tests of shaped glyphs by shaping parts of their text again (HarfBuzz's `hb_buffer_t::verify`).
 
 use crate::buffer::{
-    BufferFlags, Feature, Flags, GlyphBuffer, GlyphPosition, glyph_flag, hb_buffer_t,
-    hb_glyph_info_t,
+    BufferFlags, Feature, GlyphBuffer, GlyphPosition, glyph_flag, hb_buffer_t, hb_glyph_info_t,
 };
 use crate::font_face::Face;
 use crate::font_shaper::comparison::is_elsewhere;

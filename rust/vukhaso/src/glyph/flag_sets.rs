@@ -7,7 +7,7 @@ use crate::bitflags::{Flag, Flags};
 
 /// How the text of a buffer is treated while it is shaped, after HarfBuzz's `hb_buffer_flags_t`.
 #[derive(Clone, Copy, Debug, Default)]
-pub struct BufferFlags(u32);
+pub struct BufferFlags(pub(crate) u32);
 
 impl BufferFlags {
     /// The text of the buffer is the beginning of a paragraph, so nothing stands before it.
@@ -103,7 +103,7 @@ impl Flags for BufferFlags {
 
 /// What the text of shaped glyphs leaves out or adds, after HarfBuzz's `hb_buffer_serialize_flags_t`.
 #[derive(Clone, Copy, Debug, Default)]
-pub struct SerializeFlags(u8);
+pub struct SerializeFlags(pub(crate) u8);
 
 impl SerializeFlags {
     /// Clusters are left out.
@@ -185,7 +185,7 @@ impl Flags for SerializeFlags {
 
 /// What is remembered of a character while it is shaped: its general category, and flags.
 #[derive(Clone, Copy, Debug, Default)]
-pub struct UnicodeProps(u16);
+pub struct UnicodeProps(pub(crate) u16);
 
 impl UnicodeProps {
     /// The bits that hold the number of the general category.
@@ -268,7 +268,7 @@ impl Flags for UnicodeProps {
 /// What is remembered of a glyph while it is shaped: its class in the font's glyph definition table, and what lookups
 /// did to it.
 #[derive(Clone, Copy, Debug, Default)]
-pub struct GlyphPropsFlags(u16);
+pub struct GlyphPropsFlags(pub(crate) u16);
 
 impl GlyphPropsFlags {
     /// The glyph is a base.

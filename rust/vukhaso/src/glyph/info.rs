@@ -2,7 +2,6 @@
 
 //! A character before shaping and a glyph after it.
 
-use crate::bitflags::Flags;
 use crate::common::GlyphId;
 use crate::glyph::fields::{read_field, write_field};
 use crate::glyph::flag_sets::UnicodeProps;

@@ -2,7 +2,6 @@
 
 //! The properties that a character is given before it is shaped.
 
-use crate::bitflags::Flags;
 use crate::glyph::category::{GeneralCategoryExt, hb_unicode_general_category_t};
 use crate::glyph::characters::CharExt;
 use crate::glyph::flag_sets::UnicodeProps;

@@ -3,7 +3,7 @@
 //! Which part of a ligature a mark belongs to, and which glyphs came of one.
 
 use crate::font_tables::bytes::u16_at;
-use crate::glyph::{Flags, GlyphPropsFlags, hb_glyph_info_t};
+use crate::glyph::{GlyphPropsFlags, hb_glyph_info_t};
 use crate::glyph_layout::ligature_parts::{ligature_component, ligature_id};
 use crate::glyph_positions::marks::is_mark;
 

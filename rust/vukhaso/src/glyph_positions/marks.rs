@@ -4,7 +4,7 @@
 
 use crate::buffer::hb_buffer_t;
 use crate::font_tables::bytes::table_at_16;
-use crate::glyph::{Flags, GlyphPropsFlags, hb_glyph_info_t};
+use crate::glyph::{GlyphPropsFlags, hb_glyph_info_t};
 use crate::glyph_layout::filter::{Filter, covered_index};
 use crate::glyph_layout::walk::{Found, Skip, Walk};
 use crate::glyph_layout::wanted::Wanted;

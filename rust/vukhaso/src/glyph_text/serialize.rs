@@ -2,7 +2,6 @@
 
 //! Glyphs as a text.
 
-use crate::bitflags::Flags;
 use crate::common::GlyphId;
 use crate::glyph::{
     GlyphExtents, GlyphNames, GlyphPosition, SerializeFlags, glyph_flag, hb_glyph_info_t,

@@ -3,7 +3,7 @@
 //! Characters that are invisible by default are hidden, as HarfBuzz's `hb_ot_hide_default_ignorables` hides them.
 
 use crate::buffer::{
-    BufferFlags, Flags, GlyphId, GlyphPropsFlags, UnicodeProps, hb_buffer_t, hb_glyph_info_t,
+    BufferFlags, GlyphId, GlyphPropsFlags, UnicodeProps, hb_buffer_t, hb_glyph_info_t,
 };
 
 /// Hides the glyphs of characters that are invisible by default, except those that a lookup put there:

@@ -7,7 +7,7 @@ use crate::glyph::hb_gc::{
     RB_UNICODE_GENERAL_CATEGORY_ENCLOSING_MARK, RB_UNICODE_GENERAL_CATEGORY_FORMAT,
     RB_UNICODE_GENERAL_CATEGORY_NON_SPACING_MARK, RB_UNICODE_GENERAL_CATEGORY_SPACING_MARK,
 };
-use crate::glyph::{Flags, GlyphPropsFlags, UnicodeProps, hb_glyph_info_t};
+use crate::glyph::{GlyphPropsFlags, UnicodeProps, hb_glyph_info_t};
 
 /// The byte that the shapers of scripts keep what they like in, the highest of `var2`.
 pub(crate) fn shaper_byte(info: &hb_glyph_info_t) -> u8 {

@@ -3,7 +3,7 @@
 //! The dotted circle as the base of syllables that have none.
 
 use crate::buffer::{HB_BUFFER_SCRATCH_FLAG_HAS_BROKEN_SYLLABLE, hb_buffer_t, hb_glyph_info_t};
-use crate::glyph::{BufferFlags, Flags};
+use crate::glyph::BufferFlags;
 use crate::memory::AllocError;
 use crate::syllabic_shapers::category::position::Position;
 use crate::syllabic_shapers::font::FontForms;

@@ -3,7 +3,7 @@
 //! What the shapers of syllables keep with an item: its category and its position, in the bytes that HarfBuzz's
 //! `hb-ot-shaper.hh` gives them, the third and the fourth of `var2`; and what became of its glyph.
 
-use crate::glyph::{Flags, GlyphPropsFlags, UnicodeProps, hb_glyph_info_t};
+use crate::glyph::{GlyphPropsFlags, UnicodeProps, hb_glyph_info_t};
 use crate::syllabic_shapers::category::position::{POSITIONS, Position};
 use crate::syllabic_shapers::category::search::category_of;
 use crate::syllabic_shapers::category::{CATEGORIES, Category};

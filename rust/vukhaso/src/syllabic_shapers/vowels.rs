@@ -7,7 +7,7 @@ mod rows;
 
 use crate::buffer::{hb_buffer_t, hb_glyph_info_t};
 use crate::glyph::row_search::row_at;
-use crate::glyph::{BufferFlags, CharExt, Flags, UnicodeProps};
+use crate::glyph::{BufferFlags, CharExt, UnicodeProps};
 use crate::memory::AllocError;
 use crate::syllabic_shapers::dotted_circle::DOTTED_CIRCLE;
 use rows::SEQUENCES;

@@ -6,7 +6,7 @@ use crate::anyhow::bail;
 use crate::shaping_bench::measuring::Item;
 use crate::shaping_bench::pass::{Clusters, Pass};
 use std::mem;
-use vukhaso::buffer::{Flags, GlyphBuffer, SerializeFlags, UnicodeBuffer, hb_buffer_t};
+use vukhaso::buffer::{GlyphBuffer, SerializeFlags, UnicodeBuffer, hb_buffer_t};
 use vukhaso::glyph::NoGlyphNames;
 
 /// How many ids there are, from 1 on, before they begin again.

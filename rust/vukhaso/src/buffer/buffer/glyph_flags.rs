@@ -10,7 +10,7 @@
 //! `HB_BUFFER_SCRATCH_FLAG_HAS_GLYPH_FLAGS`: each says when.
 
 use super::hb_buffer_t;
-use crate::glyph::{BufferFlags, Flags, glyph_flag};
+use crate::glyph::{BufferFlags, glyph_flag};
 use crate::glyph_lists::glyph_flags::BREAK_BITS;
 use crate::glyph_lists::range_change::RangeChange;
 

@@ -3,7 +3,7 @@
 //! Marks that are stretched over a word: their pieces are repeated behind the glyphs of the word (OpenType, feature `stch`).
 
 use crate::buffer::{Direction, HB_BUFFER_SCRATCH_FLAG_SHAPER0, hb_buffer_t};
-use crate::glyph::{Flags, GlyphPosition, GlyphPropsFlags, hb_glyph_info_t};
+use crate::glyph::{GlyphPosition, GlyphPropsFlags, hb_glyph_info_t};
 use crate::memory::{AllocError, Vec};
 use crate::script_shapers::arabic::measure::{FIXED, REPEATING, Stretch, last_stretch};
 use crate::script_shapers::font::FontGlyphs;

@@ -2,7 +2,7 @@
 
 //! Tone marks of Hangul: each is written before its syllable, and on a dotted circle where it has none.
 
-use crate::buffer::{BufferFlags, Flags, hb_buffer_t};
+use crate::buffer::{BufferFlags, hb_buffer_t};
 use crate::memory::AllocError;
 use crate::script_shapers::font::{FontGlyphs, has_no_width};
 use crate::script_shapers::hangul::text::Syllable;

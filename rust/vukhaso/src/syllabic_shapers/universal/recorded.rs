@@ -3,7 +3,7 @@
 //! What became of glyphs by the features of rephs and of forms that stand in front: the glyphs are sorted anew.
 
 use crate::buffer::{hb_buffer_t, hb_glyph_info_t};
-use crate::glyph::{Flags, GlyphPropsFlags};
+use crate::glyph::GlyphPropsFlags;
 use crate::syllabic_shapers::item::is_substituted;
 use crate::syllabic_shapers::syllables::syllable_end;
 use crate::syllabic_shapers::universal::category::UniversalCategory;

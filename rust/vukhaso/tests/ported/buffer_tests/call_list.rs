@@ -8,7 +8,7 @@ use held_runs::{HELD, NEVER_REFUSED};
 use odd_runs::{LIMITED_RUNS, ODD_RUNS};
 use stored_runs::STORED_RUNS;
 use vukhaso::buffer::{
-    BufferClusterLevel, BufferFlags, Flags, UnicodeBuffer, hb_buffer_t, hb_glyph_info_t,
+    BufferClusterLevel, BufferFlags, UnicodeBuffer, hb_buffer_t, hb_glyph_info_t,
 };
 use vukhaso::memory::String;
 use vukhaso::runs::{Answer, Call, Stopped, replay};

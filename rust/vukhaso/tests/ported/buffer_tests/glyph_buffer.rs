@@ -3,7 +3,7 @@
 use crate::Fail;
 use crate::buffer_tests::lists::buffer_of;
 use crate::shaping_uses::comparing::equal_texts_mean_equal_glyphs;
-use vukhaso::buffer::{Flags, GlyphBuffer, SerializeFlags};
+use vukhaso::buffer::{GlyphBuffer, SerializeFlags};
 use vukhaso::glyph::NoGlyphNames;
 use vukhaso::memory::String;
 

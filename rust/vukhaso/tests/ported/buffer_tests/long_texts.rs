@@ -4,7 +4,7 @@
 
 use crate::Fail;
 use crate::buffer_tests::lists::long_text;
-use vukhaso::buffer::{Flags, GlyphBuffer, NoGlyphNames, SerializeFlags, UnicodeBuffer};
+use vukhaso::buffer::{GlyphBuffer, NoGlyphNames, SerializeFlags, UnicodeBuffer};
 use vukhaso::memory::String;
 use vukhaso::runs::{Answer, Call, RenderFault, render};
 

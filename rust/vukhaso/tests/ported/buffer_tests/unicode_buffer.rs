@@ -2,7 +2,7 @@
 
 use crate::Fail;
 use vukhaso::buffer::{
-    BufferClusterLevel, BufferFlags, Direction, Flags, Language, Script, UnicodeBuffer, script,
+    BufferClusterLevel, BufferFlags, Direction, Language, Script, UnicodeBuffer, script,
 };
 use vukhaso::memory::String;
 

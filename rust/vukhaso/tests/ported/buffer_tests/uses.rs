@@ -13,9 +13,7 @@ use crate::shaping_uses::rendering::render_with_ligature;
 use crate::shaping_uses::room::{put_marks, put_marks_within_room};
 use crate::shaping_uses::runs::{first_two_as_one, ligate_first_two};
 use std::str::FromStr;
-use vukhaso::buffer::{
-    Feature, Flags, SerializeFlags, UnicodeBuffer, hb_buffer_t, hb_glyph_info_t,
-};
+use vukhaso::buffer::{Feature, SerializeFlags, UnicodeBuffer, hb_buffer_t, hb_glyph_info_t};
 use vukhaso::glyph::NoGlyphNames;
 use vukhaso::runs::Answer;
 

@@ -2,7 +2,7 @@
 
 use crate::Fail;
 use crate::glyph_tests::font::Five;
-use vukhaso::glyph::{Flags, GlyphPosition, SerializeFlags, hb_glyph_info_t};
+use vukhaso::glyph::{GlyphPosition, SerializeFlags, hb_glyph_info_t};
 use vukhaso::glyph_text::serialize::*;
 
 /// The texts of the glyphs 5 and 6 below, a line for each set of flags.

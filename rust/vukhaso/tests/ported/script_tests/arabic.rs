@@ -4,7 +4,7 @@
 
 use crate::Fail;
 use crate::script_tests::texts::{TestFont, assert_characters, buffer_of, plan_of};
-use vukhaso::buffer::{Direction, Flags, GlyphPropsFlags, hb_glyph_info_t};
+use vukhaso::buffer::{Direction, GlyphPropsFlags, hb_glyph_info_t};
 use vukhaso::script_shapers::{FallbackLookups, ScriptPlan, ScriptShaper};
 
 /// A hamza above goes before a fatha, and a maddah does not.

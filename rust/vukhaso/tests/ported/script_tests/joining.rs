@@ -4,7 +4,7 @@
 
 use crate::Fail;
 use crate::script_tests::texts::{buffer_between, buffer_of, plan_of};
-use vukhaso::buffer::{BufferFlags, Flags, hb_buffer_t};
+use vukhaso::buffer::{BufferFlags, hb_buffer_t};
 use vukhaso::glyph::glyph_flag;
 use vukhaso::script_shapers::ScriptShaper;
 

@@ -4,7 +4,7 @@
 
 use crate::Fail;
 use crate::shaper_tests::apple_font::APPLE;
-use vukhaso::buffer::{Feature, Flags, SerializeFlags, UnicodeBuffer};
+use vukhaso::buffer::{Feature, SerializeFlags, UnicodeBuffer};
 use vukhaso::common::Tag;
 use vukhaso::font_shaper::{Face, FaceNames, shape};
 use vukhaso::memory::String;

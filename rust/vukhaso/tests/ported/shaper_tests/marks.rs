@@ -4,7 +4,7 @@
 
 use crate::Fail;
 use crate::shaper_tests::upright::UPRIGHT;
-use vukhaso::buffer::{BufferFlags, Direction, Flags, SerializeFlags, UnicodeBuffer};
+use vukhaso::buffer::{BufferFlags, Direction, SerializeFlags, UnicodeBuffer};
 use vukhaso::font_shaper::{Face, FaceNames, ShapeError, VerifyError, shape};
 
 /// A text, its direction, and its glyphs.

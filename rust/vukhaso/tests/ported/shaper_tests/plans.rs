@@ -4,7 +4,7 @@
 
 use crate::Fail;
 use crate::shaper_tests::upright::UPRIGHT;
-use vukhaso::buffer::{BufferFlags, Direction, Flags, Language, SerializeFlags, UnicodeBuffer};
+use vukhaso::buffer::{BufferFlags, Direction, Language, SerializeFlags, UnicodeBuffer};
 use vukhaso::common::script;
 use vukhaso::font_shaper::{
     Face, FaceNames, KeptPlan, ShapeError, ShapePlan, shape_with_kept_plan, shape_with_plan,

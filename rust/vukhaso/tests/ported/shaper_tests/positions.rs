@@ -6,7 +6,7 @@ use crate::Fail;
 use crate::shaper_tests::apple_font::APPLE;
 use crate::shaper_tests::upright::UPRIGHT;
 use vukhaso::buffer::{
-    Flags, GlyphPosition, GlyphPropsFlags, HB_BUFFER_SCRATCH_FLAG_HAS_DEFAULT_IGNORABLES,
+    GlyphPosition, GlyphPropsFlags, HB_BUFFER_SCRATCH_FLAG_HAS_DEFAULT_IGNORABLES,
     HB_BUFFER_SCRATCH_FLAG_HAS_GLYPH_FLAGS, HB_BUFFER_SCRATCH_FLAG_HAS_VARIATION_SELECTOR_FALLBACK,
     UnicodeBuffer, UnicodeProps, glyph_flag, hb_buffer_t, hb_glyph_info_t,
 };

@@ -4,7 +4,7 @@
 
 use crate::Fail;
 use crate::shaper_tests::upright::UPRIGHT;
-use vukhaso::buffer::{Direction, Flags, SerializeFlags, UnicodeBuffer};
+use vukhaso::buffer::{Direction, SerializeFlags, UnicodeBuffer};
 use vukhaso::font_shaper::{Face, FaceNames, shape};
 use vukhaso::memory::String;
 

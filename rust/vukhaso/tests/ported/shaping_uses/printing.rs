@@ -2,7 +2,7 @@
 
 //! A text is pushed, and printed as HarfBuzz prints glyphs.
 
-use vukhaso::buffer::{Flags, GlyphBuffer, SerializeFlags, UnicodeBuffer};
+use vukhaso::buffer::{GlyphBuffer, SerializeFlags, UnicodeBuffer};
 use vukhaso::glyph::NoGlyphNames;
 use vukhaso::memory::{AllocError, String};
 

@@ -3,7 +3,7 @@
 //! Texts and buffers in which each thing that can be said of them was said, so that none can go unseen.
 
 use crate::fault_tests::scenario::Lost;
-use vukhaso::buffer::{BufferFlags, Flags, GlyphBuffer, UnicodeBuffer, hb_buffer_t};
+use vukhaso::buffer::{BufferFlags, GlyphBuffer, UnicodeBuffer, hb_buffer_t};
 use vukhaso::text::{Direction, GlyphId, Language, script};
 
 /// Flags that have glyphs marked as unsafe to concatenate, and as safe for a tatweel.

@@ -2,9 +2,7 @@
 
 //! All that can be seen of a buffer, compared with what is seen of another one.
 
-use vukhaso::buffer::{
-    Flags, GlyphBuffer, GlyphPosition, UnicodeBuffer, hb_buffer_t, hb_glyph_info_t,
-};
+use vukhaso::buffer::{GlyphBuffer, GlyphPosition, UnicodeBuffer, hb_buffer_t, hb_glyph_info_t};
 
 /// Whether two buffers cannot be told apart.
 ///

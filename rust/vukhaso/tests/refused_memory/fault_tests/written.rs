@@ -4,7 +4,7 @@
 
 use crate::fault_tests::beginning::begun_buffer;
 use crate::fault_tests::scenario::{Lost, Scenario};
-use vukhaso::buffer::{Flags, GlyphBuffer, SerializeFlags};
+use vukhaso::buffer::{GlyphBuffer, SerializeFlags};
 use vukhaso::glyph::{GlyphExtents, GlyphNames};
 use vukhaso::memory::{AllocError, String, Vec};
 use vukhaso::text::GlyphId;
