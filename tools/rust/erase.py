@@ -22,6 +22,9 @@ SHORT = 150
 # Types of parameters that are not there in plain Rust: the allocator, and what a program of Rattle's is given to act.
 NOT_PASSED = {"Global", "HostRuntime", "&impl Abort", "&impl Print", "&E"}
 
+# Functions of types that have another name in the package, which has one of its own by that name.
+RENAMED = {("Face", "parse"): "parse_if_there"}
+
 KNOWN_ATTRIBUTES = {"inline", "cfg", "test", "must_use", "cold", "allow", "should_panic", "repr", "non_exhaustive"}
 
 
@@ -65,6 +68,7 @@ class Erased(Bodies):
                 self.source.refuse(attribute.first, f"the attribute `{attribute.name}` is not known")
             self.cut(attribute.first, attribute.last)
         self.erase_bodies()
+        self.rename_calls()
         self.rewrite_docs()
         return self.finished()
 
@@ -84,6 +88,7 @@ class Erased(Bodies):
         if item.kind == "use":
             return self.rewrite_use(item)
         if item.kind == "fn":
+            self.rename(item, parent)
             contracts.document_function(self, item, parent)
             self.erase_function(item, parent)
         if item.kind == "struct" and item.name in SEEN_BY_C:
@@ -103,6 +108,14 @@ class Erased(Bodies):
                 self.cut_item(inner)
             else:
                 self.erase_item(inner, item)
+
+    def rename(self, item, parent):
+        """Gives a function the name that it has in the package, and leaves it out of the documentation."""
+        name = RENAMED.get((parent.name if parent is not None else "", item.name))
+        if name:
+            place = next(at for at in self.bare(item.start, item.last) if self.texts[at] == item.name)
+            self.put(place, name)
+            self.prefix[item.start] = "#[doc(hidden)]\n" + self.prefix.get(item.start, "")
 
     def open_bits(self, item):
         """The bits of a set of flags are seen in the package, which gives the set methods of its own beside those of `Flags`."""
@@ -239,7 +252,7 @@ class Erased(Bodies):
         """The path that is imported, or nothing where nothing is left to import."""
         if "::".join(names) in GONE or names[-1] in self.laws.names or self.is_dropped(names):
             return None
-        if not item.visibility and names[-1] == "Flags" and not self.is_named("Flags"):
+        if not item.visibility and names[-1] == "Flags" and not self.stands_alone("Flags"):
             return None  # each set has its methods by itself
         if not item.visibility and names[-1].isupper() and not self.is_named(names[-1]):
             return None  # a constant that clauses alone name
@@ -267,6 +280,21 @@ class Erased(Bodies):
     def is_named(self, name):
         """Whether a word that is left has this name, in imports or elsewhere more than once."""
         return sum(self.texts[at] == name for at in self.bare()) > 1
+
+    def stands_alone(self, name):
+        """Whether a word that is left has this name outside of imports and of other names' parts."""
+        imports = [(item.start, item.last) for item in self.reader.items if item.kind == "use"]
+        places = self.bare()
+        return any(
+            self.texts[at] == name and self.texts[places[i - 1]] != "::" and not any(a <= at < b for a, b in imports)
+            for i, at in enumerate(places))
+
+    def rename_calls(self):
+        places = self.bare()
+        for i, at in enumerate(places[:-2]):
+            name = RENAMED.get((self.texts[at], self.texts[places[i + 2]]))
+            if name and self.texts[places[i + 1]] == "::":
+                self.put(places[i + 2], name)
 
     def rewrite_docs(self):
         """Paths in the links of documentation."""

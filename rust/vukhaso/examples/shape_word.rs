@@ -1,6 +1,6 @@
 //! Shapes a word with a font, and prints its glyphs: `cargo run --example shape_word FONT WORD`.
 
-use vukhaso::{Face, FaceNames, Flags, SerializeFlags, UnicodeBuffer, shape};
+use vukhaso::{Face, FaceNames, SerializeFlags, UnicodeBuffer, shape};
 
 fn main() -> Result<(), Box<dyn std::error::Error>> {
     let words: Vec<String> = std::env::args().collect();

@@ -21,11 +21,47 @@ use core::ops::{
 };
 use core::str::FromStr;
 
+/// Why there is no face.
+#[derive(Clone, Copy, Debug, PartialEq, Eq)]
+#[non_exhaustive]
+pub enum FaceError {
+    /// The file has no font of this number.
+    NoFont,
+    /// There is no memory.
+    Memory,
+}
+
+impl core::fmt::Display for FaceError {
+    fn fmt(&self, f: &mut core::fmt::Formatter<'_>) -> core::fmt::Result {
+        f.write_str(match self {
+            FaceError::NoFont => "no font of this number",
+            FaceError::Memory => "out of memory",
+        })
+    }
+}
+
+impl core::error::Error for FaceError {}
+
+impl From<AllocError> for FaceError {
+    fn from(_: AllocError) -> Self {
+        FaceError::Memory
+    }
+}
+
 impl<'a> Face<'a> {
-    /// The font with this index in a file, as rustybuzz finds it: `None` also where memory runs out, which
+    /// The font of this number in a file.
+    ///
+    /// # Errors
+    ///
+    /// [`FaceError::NoFont`] where the file has no such font, and [`FaceError::Memory`] where memory runs out.
+    pub fn parse(data: &'a [u8], index: u32) -> Result<Face<'a>, FaceError> {
+        Face::parse_if_there(data, index)?.ok_or(FaceError::NoFont)
+    }
+
+    /// The font of this number in a file, as rustybuzz finds it: `None` also where memory runs out, which
     /// [`Face::parse`] says.
     pub fn from_slice(data: &'a [u8], index: u32) -> Option<Face<'a>> {
-        Face::parse(data, index).ok().flatten()
+        Face::parse(data, index).ok()
     }
 }
 

@@ -2,8 +2,8 @@
 //! answers, and the glyphs in the end. With overflow checks, as tests are built.
 
 use vukhaso::{
-    Answer, BufferClusterLevel, BufferFlags, Call, Flags, UnicodeBuffer, hb_buffer_t,
-    hb_glyph_info_t, render_at, replay,
+    Answer, BufferClusterLevel, BufferFlags, Call, UnicodeBuffer, hb_buffer_t, hb_glyph_info_t,
+    render_at, replay,
 };
 
 const ROUNDS: u64 = 10_000;

@@ -30,7 +30,7 @@ impl<'f> LoadedFont<'f> {
     ///
     /// `Err(AllocError)` where memory runs out.
     pub(crate) fn new(file: &'f FontFile, choice: FontChoice) -> Result<Option<Self>, AllocError> {
-        let Some(mut face) = Face::parse(file.data(), choice.index)? else {
+        let Some(mut face) = Face::parse_if_there(file.data(), choice.index)? else {
             return Ok(None);
         };
         set_size(&mut face, choice.size);

@@ -99,7 +99,8 @@ impl<'a> Face<'a> {
     ///     option_map (λ face. (face.tables.file.now, face.tables.directory)) found ≡ font_of file.now index) }
     /// ensures keeps { IfOk result (λ found. IfSome found KeepsItsTables) }
     /// ```
-    pub fn parse(file: &'a [u8], index: u32) -> Result<Option<Face<'a>>, AllocError> {
+    #[doc(hidden)]
+    pub fn parse_if_there(file: &'a [u8], index: u32) -> Result<Option<Face<'a>>, AllocError> {
         let Some(tables) = Tables::new(file, index) else {
             return Ok(None);
         };

@@ -7,7 +7,7 @@ use crate::shaping_session::query;
 use crate::shaping_session::reply::Reply;
 use crate::shaping_session::state_text::print_state;
 use vukhaso::buffer::{
-    BufferClusterLevel, BufferFlags, Flags, GlyphBuffer, SerializeFlags, UnicodeBuffer, hb_buffer_t,
+    BufferClusterLevel, BufferFlags, GlyphBuffer, SerializeFlags, UnicodeBuffer, hb_buffer_t,
 };
 use vukhaso::glyph::{NoGlyphNames, hb_glyph_info_t};
 use vukhaso::memory::{AllocError, String};

@@ -11,7 +11,7 @@ use vukhaso::memory::String;
 
 /// The text of a string's glyphs, at a size in points.
 fn shaped(text: &str, points: f32, features: &[Feature]) -> Result<String, Fail> {
-    let mut face = Face::parse(APPLE, 0)?.ok_or("no font")?;
+    let mut face = Face::parse_if_there(APPLE, 0)?.ok_or("no font")?;
     face.set_points_per_em(points);
     let names = FaceNames::new(&face)?;
     let mut buffer = UnicodeBuffer::new();

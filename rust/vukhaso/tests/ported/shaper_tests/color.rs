@@ -91,7 +91,7 @@ fn bounds_of(face: &Face, glyph: u16) -> Result<[i32; 4], Fail> {
 /// Each kind of glyph, at sizes and in pixels.
 #[test]
 fn bitmaps_and_colours_have_bounds() -> Result<(), Fail> {
-    let mut face = Face::parse(COLORED, 0)?.ok_or("no font")?;
+    let mut face = Face::parse_if_there(COLORED, 0)?.ok_or("no font")?;
     for (size, pixels, bounds) in SIZES {
         face.set_scale(size, size);
         face.set_pixels_per_em(pixels, pixels);
@@ -106,7 +106,7 @@ fn bitmaps_and_colours_have_bounds() -> Result<(), Fail> {
 /// A glyph with no bounds, which is asked for twice.
 #[test]
 fn a_glyph_may_have_no_bounds() -> Result<(), Fail> {
-    let face = Face::parse(COLORED, 0)?.ok_or("no font")?;
+    let face = Face::parse_if_there(COLORED, 0)?.ok_or("no font")?;
     let mut names = FaceNames::new(&face)?;
     let [known, unknown] = [2, 3].map(|glyph_id| hb_glyph_info_t {
         glyph_id,

@@ -11,7 +11,7 @@ use vukhaso::glyph::{GlyphNames, hb_glyph_info_t};
 /// The glyphs, advances and origins of a letter.
 #[test]
 fn letters_have_glyphs_and_advances() -> Result<(), Fail> {
-    let face = Face::parse(UPRIGHT, 0)?.ok_or("no font")?;
+    let face = Face::parse_if_there(UPRIGHT, 0)?.ok_or("no font")?;
     assert_eq!(face.units_per_em(), 1000);
     for (letter, glyph, across, origin) in [
         ('a', 3, 410, (205, 850)),
@@ -37,7 +37,7 @@ fn letters_have_glyphs_and_advances() -> Result<(), Fail> {
 /// The bounds and the names of glyphs.
 #[test]
 fn letters_have_bounds_and_names() -> Result<(), Fail> {
-    let face = Face::parse(UPRIGHT, 0)?.ok_or("no font")?;
+    let face = Face::parse_if_there(UPRIGHT, 0)?.ok_or("no font")?;
     let mut names = FaceNames::new(&face)?;
     assert_eq!(names.glyph_name(GlyphId(3)), Some("a"));
     assert_eq!(names.glyph_name(GlyphId(999)), None);
@@ -59,9 +59,9 @@ fn letters_have_bounds_and_names() -> Result<(), Fail> {
 /// Bytes that are no font, and how many glyphs there are.
 #[test]
 fn bytes_that_are_no_font_have_no_face() -> Result<(), Fail> {
-    assert!(Face::parse(b"no font", 0)?.is_none());
-    assert!(Face::parse(&[], 0)?.is_none());
-    let face = Face::parse(UPRIGHT, 0)?.ok_or("no font")?;
+    assert!(Face::parse_if_there(b"no font", 0)?.is_none());
+    assert!(Face::parse_if_there(&[], 0)?.is_none());
+    let face = Face::parse_if_there(UPRIGHT, 0)?.ok_or("no font")?;
     assert!(face.number_of_glyphs() > 5);
     Ok(())
 }
@@ -85,7 +85,7 @@ static SIZES: [Measured; 5] = [
 /// The measures of a letter at other sizes.
 #[test]
 fn letters_are_scaled() -> Result<(), Fail> {
-    let mut face = Face::parse(UPRIGHT, 0)?.ok_or("no font")?;
+    let mut face = Face::parse_if_there(UPRIGHT, 0)?.ok_or("no font")?;
     let a = GlyphId(3);
     for (size, advances, origin, bounds) in SIZES {
         face.set_scale(size.0, size.1);

@@ -43,7 +43,7 @@ fn text_of(text: &str, direction: Direction) -> Result<UnicodeBuffer, Fail> {
 /// Marks stand around their bases, as HarfBuzz puts them, also where the glyphs are verified.
 #[test]
 fn marks_stand_around_their_bases() -> Result<(), Fail> {
-    let face = Face::parse(UPRIGHT, 0)?.ok_or("no font")?;
+    let face = Face::parse_if_there(UPRIGHT, 0)?.ok_or("no font")?;
     let names = FaceNames::new(&face)?;
     for (text, direction, wanted) in MARKS {
         for flags in [BufferFlags::empty(), verified()] {
@@ -66,7 +66,7 @@ fn verified() -> BufferFlags {
 /// round with these: so a text that is cut between them has other glyphs.
 #[test]
 fn a_text_that_is_not_safe_to_cut_is_told() -> Result<(), Fail> {
-    let face = Face::parse(UPRIGHT, 0)?.ok_or("no font")?;
+    let face = Face::parse_if_there(UPRIGHT, 0)?.ok_or("no font")?;
     let mut buffer = text_of("\u{627}1\u{651}", Direction::LeftToRight)?;
     buffer.set_flags(verified());
     let error = shape(&face, &[], buffer).err().ok_or("verified")?;

@@ -62,7 +62,7 @@ static NORMALIZED: [(&str, &[(u32, u32)]); 3] = [
 /// Glyphs are found, and marks are put in order.
 #[test]
 fn characters_are_normalized() -> Result<(), Fail> {
-    let face = Face::parse(UPRIGHT, 0)?.ok_or("no font")?;
+    let face = Face::parse_if_there(UPRIGHT, 0)?.ok_or("no font")?;
     for (text, wanted) in NORMALIZED {
         let mut buffer = buffer_of(text);
         assert!(normalize(&mut buffer, &face, &plan())?, "{text}");
@@ -127,7 +127,7 @@ fn assert_properties(infos: &mut [hb_glyph_info_t]) {
 /// A mark, a space, and a variation selector that the font does not know.
 #[test]
 fn properties_are_kept() -> Result<(), Fail> {
-    let face = Face::parse(UPRIGHT, 0)?.ok_or("no font")?;
+    let face = Face::parse_if_there(UPRIGHT, 0)?.ok_or("no font")?;
     let mut buffer = buffer_of("a\u{301}\u{2003}b\u{fe01}");
     assert!(normalize(&mut buffer, &face, &plan())?);
     assert_properties(buffer.info_slice_mut());

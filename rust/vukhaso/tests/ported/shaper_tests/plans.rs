@@ -21,7 +21,7 @@ fn text_of(text: &str, direction: Direction) -> Result<UnicodeBuffer, Fail> {
 /// A plan shapes the texts that it is for, and no others.
 #[test]
 fn a_plan_is_for_its_texts() -> Result<(), Fail> {
-    let face = Face::parse(UPRIGHT, 0)?.ok_or("no font")?;
+    let face = Face::parse_if_there(UPRIGHT, 0)?.ok_or("no font")?;
     let names = FaceNames::new(&face)?;
     let turkish = Language::from_str("tr")?;
     let latin = Some(script::LATIN);
@@ -62,7 +62,7 @@ static TEXTS: [(&str, Direction, &str); 6] = [
 /// it too.
 #[test]
 fn a_kept_plan_gives_way() -> Result<(), Fail> {
-    let face = Face::parse(UPRIGHT, 0)?.ok_or("no font")?;
+    let face = Face::parse_if_there(UPRIGHT, 0)?.ok_or("no font")?;
     let names = FaceNames::new(&face)?;
     let mut kept = KeptPlan::new();
     for (characters, direction, wanted) in &TEXTS {

@@ -73,7 +73,7 @@ fn assert_positions(positions: &[GlyphPosition], wanted: [(i32, i32, i32); 2]) {
 /// Glyphs have the font's advances, and marks lose theirs.
 #[test]
 fn glyphs_have_advances() -> Result<(), Fail> {
-    let face = Face::parse(UPRIGHT, 0)?.ok_or("no font")?;
+    let face = Face::parse_if_there(UPRIGHT, 0)?.ok_or("no font")?;
     let mark = glyph_of(4, MARK, GlyphPropsFlags::MARK.bits());
     let mut buffer = buffer_of(3, mark);
     position_glyphs(&mut buffer, &face)?;
@@ -86,7 +86,7 @@ fn glyphs_have_advances() -> Result<(), Fail> {
 /// Characters that are invisible by default have no width, and are hidden.
 #[test]
 fn invisible_characters_have_no_width() -> Result<(), Fail> {
-    let face = Face::parse(UPRIGHT, 0)?.ok_or("no font")?;
+    let face = Face::parse_if_there(UPRIGHT, 0)?.ok_or("no font")?;
     let invisible = glyph_of(4, FORMAT | UnicodeProps::IGNORABLE.bits(), 0);
     let mut buffer = buffer_of(3, invisible);
     buffer.scratch_flags = HB_BUFFER_SCRATCH_FLAG_HAS_DEFAULT_IGNORABLES;
@@ -102,7 +102,7 @@ fn invisible_characters_have_no_width() -> Result<(), Fail> {
 /// Glyphs that Apple's table `morx` deleted have no width, and others stand farther apart at a size.
 #[test]
 fn glyphs_of_apple_are_placed() -> Result<(), Fail> {
-    let mut face = Face::parse(APPLE, 0)?.ok_or("no font")?;
+    let mut face = Face::parse_if_there(APPLE, 0)?.ok_or("no font")?;
     face.set_points_per_em(9.0);
     let mut buffer = buffer_of(1, glyph_of(0xFFFF, 0, 0));
     position_glyphs(&mut buffer, &face)?;
@@ -119,7 +119,7 @@ fn glyphs_of_apple_are_placed() -> Result<(), Fail> {
 /// A mark of Thai has the class of its place, and one behind a letter stands over it.
 #[test]
 fn marks_are_placed() -> Result<(), Fail> {
-    let face = Face::parse(UPRIGHT, 0)?.ok_or("no font")?;
+    let face = Face::parse_if_there(UPRIGHT, 0)?.ok_or("no font")?;
     let mut buffer = buffer_of(3, glyph_of(0xE34, MARK, 0));
     recategorize_marks(&mut buffer);
     assert_eq!(
@@ -136,7 +136,7 @@ fn marks_are_placed() -> Result<(), Fail> {
 /// A variation selector that the font does not know has the buffer's glyph, without width.
 #[test]
 fn selectors_are_shown() -> Result<(), Fail> {
-    let face = Face::parse(UPRIGHT, 0)?.ok_or("no font")?;
+    let face = Face::parse_if_there(UPRIGHT, 0)?.ok_or("no font")?;
     let selector = glyph_of(4, FORMAT | UnicodeProps::CF_VS.bits(), 0);
     let mut buffer = buffer_of(3, selector);
     buffer.scratch_flags = HB_BUFFER_SCRATCH_FLAG_HAS_VARIATION_SELECTOR_FALLBACK;
@@ -151,7 +151,7 @@ fn selectors_are_shown() -> Result<(), Fail> {
 /// Glyphs of one cluster have the same glyph flags.
 #[test]
 fn flags_are_those_of_a_cluster() -> Result<(), Fail> {
-    let face = Face::parse(UPRIGHT, 0)?.ok_or("no font")?;
+    let face = Face::parse_if_there(UPRIGHT, 0)?.ok_or("no font")?;
     let mut flagged = glyph_of(4, 0, 0);
     flagged.mask = glyph_flag::UNSAFE_TO_BREAK;
     let mut buffer = buffer_of(3, flagged);

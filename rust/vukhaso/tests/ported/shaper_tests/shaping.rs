@@ -10,7 +10,7 @@ use vukhaso::memory::String;
 
 /// The text of a string's glyphs.
 fn shaped(text: &str, direction: Direction) -> Result<String, Fail> {
-    let face = Face::parse(UPRIGHT, 0)?.ok_or("no font")?;
+    let face = Face::parse_if_there(UPRIGHT, 0)?.ok_or("no font")?;
     let names = FaceNames::new(&face)?;
     let mut buffer = UnicodeBuffer::new();
     let _ = buffer.push_str(text)?;
