@@ -104,6 +104,14 @@ def test_program(tally, room):
     tally.note("its stored run, which is the proved program's", fault)
 
 
+def test_front(tally, room):
+    """The package with rustybuzz's names, where the crate that it needs can be had."""
+    words = [sys.executable, str(ROOT / "tools/clients/rustybuzz")]
+    done = tally.run("the tests of rust/rustybuzz", words)
+    if "skipped" in done.stdout:
+        print(done.stdout, end="")
+
+
 def test_readme(tally, room):
     """The lines of README in a new package, which print what it says, and again in the package's own README."""
     text = (ROOT / "README.md").read_text()
@@ -129,5 +137,6 @@ def test_all(tally):
     with tempfile.TemporaryDirectory(prefix="plain-rust-") as folder:
         test_rust(tally, Path(folder))
         test_program(tally, Path(folder))
+        test_front(tally, Path(folder))
         test_readme(tally, Path(folder))
         test_c(tally, Path(folder))
