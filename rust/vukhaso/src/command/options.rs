@@ -3,7 +3,8 @@
 //! What a command line asks for.
 
 use crate::buffer::{
-    BufferClusterLevel, BufferFlags, Direction, Feature, GlyphId, Script, SerializeFlags, script,
+    BufferClusterLevel, BufferFlags, Direction, Feature, Flags, GlyphId, Script, SerializeFlags,
+    script,
 };
 use crate::clap::ArgMatches;
 use crate::command::code_points::{CodePointsError, code_points, text_of_code_points};
@@ -308,13 +309,18 @@ fn glyph<'a>(
     }
 }
 
+/// How far clusters are merged. A number that is none of a level does not merge graphemes, as in
+/// HarfBuzz, so it is taken for level 1.
 fn cluster_level<'a>(matches: &ArgMatches<'a>) -> Result<BufferClusterLevel, OptionsError<'a>> {
-    match matches.get_str("cluster-level") {
-        None | Some("0") => Ok(BufferClusterLevel::MonotoneGraphemes),
-        Some("1") => Ok(BufferClusterLevel::MonotoneCharacters),
-        Some("2") => Ok(BufferClusterLevel::Characters),
-        Some("3") => Ok(BufferClusterLevel::Graphemes),
-        Some(text) => Err(OptionsError::Number("cluster-level", text)),
+    let Some(text) = matches.get_str("cluster-level") else {
+        return Ok(BufferClusterLevel::MonotoneGraphemes);
+    };
+    match text.parse::<i32>() {
+        Ok(0) => Ok(BufferClusterLevel::MonotoneGraphemes),
+        Ok(2) => Ok(BufferClusterLevel::Characters),
+        Ok(3) => Ok(BufferClusterLevel::Graphemes),
+        Ok(_) => Ok(BufferClusterLevel::MonotoneCharacters),
+        Err(_) => Err(OptionsError::Number("cluster-level", text)),
     }
 }
 
