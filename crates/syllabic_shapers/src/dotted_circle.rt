@@ -5,13 +5,13 @@ ghost use Rattle.glyph_lists.specs.Clusters.{clusters, occurs};
 ghost use Rattle.shaping_buffer.specs.ClusterStep.{both};
 ghost use Rattle.syllabic_shapers.specs.KeepsNumbers.{KeepsNumbers};
 
-use crate::category::position::Position;
 use crate::font::FontForms;
 use crate::item::{category_byte, set_category_byte, set_position};
 use crate::syllables::kind_of;
 use rb_glyph::{BufferFlags, Flags};
 use shaping_buffer::{HB_BUFFER_SCRATCH_FLAG_HAS_BROKEN_SYLLABLE, hb_buffer_t, hb_glyph_info_t};
 use std::alloc::AllocError;
+use syllable_tables::Position;
 
 /// The dotted circle.
 pub(crate) const DOTTED_CIRCLE: u32 = 0x25CC;

@@ -4,10 +4,8 @@
 ghost use Rattle.std.specs.Prelude.{◌≡◌};
 ghost use Rattle.glyph_lists.specs.Clusters.{clusters};
 
-use crate::category::position::{POSITIONS, Position};
-use crate::category::search::category_of;
-use crate::category::{CATEGORIES, Category};
 use rb_glyph::{Flags, GlyphPropsFlags, UnicodeProps, hb_glyph_info_t};
+use syllable_tables::{Category, Position, category_of};
 
 /// The byte of an item's category.
 pub(crate) fn category_byte(info: &hb_glyph_info_t) -> u8 {
@@ -23,10 +21,7 @@ pub(crate) fn set_category_byte(info: &mut hb_glyph_info_t, byte: u8)
 
 /// The category of an item.
 pub(crate) fn category(info: &hb_glyph_info_t) -> Category {
-    match CATEGORIES.get(usize::from(category_byte(info))) {
-        Some(category) => *category,
-        None => Category::Other,
-    }
+    Category::numbered(category_byte(info))
 }
 
 /// Sets the category of an item.
@@ -38,10 +33,7 @@ pub(crate) fn set_category(info: &mut hb_glyph_info_t, category: Category)
 
 /// Where an item stands in its syllable.
 pub(crate) fn position(info: &hb_glyph_info_t) -> Position {
-    match POSITIONS.get((info.var2 / 0x100_0000) as usize) {
-        Some(position) => *position,
-        None => Position::End,
-    }
+    Position::numbered((info.var2 / 0x100_0000) as u8)
 }
 
 /// Sets where an item stands in its syllable.

@@ -1,4 +1,4 @@
-//! Machines that find syllables.
+//! How the first syllable of a list is found.
 
 ghost use Rattle.std.specs.Prelude.{◌≡◌};
 ghost use Rattle.glyph_lists.specs.Clusters.{clusters};
@@ -7,19 +7,13 @@ use crate::item::category_byte;
 use crate::syllables::NO_KIND;
 use crate::universal::item::is_passed_over;
 use rb_glyph::hb_glyph_info_t;
+use syllable_tables::Machine;
 
-/// A machine that reads categories one after the other.
+/// How the syllables of a script are found.
 #[derive(Clone, Copy, Debug)]
-pub(crate) struct Machine<'a> {
-    /// The next state of each state, a row for each, by the number of a category; 0 where a syllable goes no further. The first state
-    /// is 1.
-    pub next: &'a [u8],
-    /// How many categories a row has.
-    pub width: usize,
-    /// The kind of the syllable that each state has read.
-    pub ends: &'a [Option<u8>],
-    /// The state after a character of any other category.
-    pub other: u8,
+pub(crate) struct Grammar<'a> {
+    /// The machine that reads them.
+    pub machine: Machine<'a>,
     /// The kind of syllables that are broken: they have no base.
     pub broken: u8,
     /// Whether items that are marked are passed over, as the universal shaper marks them.
@@ -35,7 +29,7 @@ pub(crate) struct Syllable {
     pub kind: u8,
 }
 
-impl<'a> Machine<'a> {
+impl<'a> Grammar<'a> {
     /// The longest syllable that a list begins with, and the items behind it that are passed over.
     ///
     /// Each item that was read keeps the state in which it was, as the number of its syllable. Behind the longest one nothing ended in
@@ -76,31 +70,18 @@ impl<'a> Machine<'a> {
             if self.passes_over && is_passed_over(&infos[place]) {
                 continue;
             }
-            state = self.next_state(state, category_byte(&infos[place]));
+            state = self.machine.next_state(state, category_byte(&infos[place]));
             if state == 0 || state == infos[place].syllable() {
                 break;
             }
             infos[place].set_syllable(state);
-            if let Some(Some(kind)) = self.ends.get(usize::from(state)) {
+            if let Some(kind) = self.machine.kind_read(state) {
                 found = Syllable {
                     length: place.saturating_add(1),
-                    kind: *kind,
+                    kind,
                 };
             }
         }
         found
-    }
-
-    /// The state after another character.
-    fn next_state(&self, state: u8, category: u8) -> u8 {
-        let category = usize::from(category);
-        if category >= self.width {
-            return if state == 1 { self.other } else { 0 };
-        }
-        let row = usize::from(state).saturating_mul(self.width);
-        match self.next.get(row.saturating_add(category)) {
-            Some(next) => *next,
-            None => 0,
-        }
     }
 }

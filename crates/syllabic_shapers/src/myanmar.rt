@@ -1,6 +1,5 @@
 //! The shaper of Myanmar (OpenType, "Developing OpenType Fonts for Myanmar Script"): HarfBuzz's `hb-ot-shaper-myanmar.cc`.
 
-mod machine_rows;
 mod order;
 pub mod plan;
 mod positions;

@@ -4,7 +4,7 @@ ghost use Rattle.std.specs.Prelude.{◌≡◌, ◌<◌, ◌≤◌, false, length
 ghost use Rattle.glyph_lists.specs.Clusters.{clusters};
 ghost use Rattle.shaping_buffer.specs.KeepsClusters.{KeepsClusters};
 
-use crate::machine::Machine;
+use crate::machine::Grammar;
 use glyph_lists::groups::group_end;
 use shaping_buffer::{HB_BUFFER_SCRATCH_FLAG_HAS_BROKEN_SYLLABLE, hb_buffer_t, hb_glyph_info_t};
 use std::ops::Range;
@@ -14,42 +14,42 @@ pub(crate) const NO_KIND: u8 = 15;
 
 /// Finds the syllables of a text, and flags each as unsafe to break: each item keeps the number and the kind of its syllable.
 #[tactic(auto, using(shaping_buffer::proofs::ClosedKeepsLemmas::kept))]
-pub(crate) fn find_syllables(buffer: &mut hb_buffer_t, machine: &Machine)
+pub(crate) fn find_syllables(buffer: &mut hb_buffer_t, grammar: &Grammar)
     requires { buffer.old.have_output ≡ false }
     ensures closed { buffer.new.have_output ≡ false }
     ensures keeps { KeepsClusters buffer.old buffer.new }
 {
-    if number_items(buffer, machine) {
+    if number_items(buffer, grammar) {
         buffer.scratch_flags = buffer.scratch_flags | HB_BUFFER_SCRATCH_FLAG_HAS_BROKEN_SYLLABLE;
     }
     flag_syllables(buffer);
 }
 
 /// Lets each item keep the number and the kind of its syllable. Whether one is broken.
-fn number_items(buffer: &mut hb_buffer_t, machine: &Machine) -> bool
+fn number_items(buffer: &mut hb_buffer_t, grammar: &Grammar) -> bool
     requires { buffer.old.have_output ≡ false }
     ensures closed { buffer.new.have_output ≡ false }
     ensures keeps { KeepsClusters buffer.old buffer.new }
 {
-    number_syllables(buffer.info_slice_mut(), machine)
+    number_syllables(buffer.info_slice_mut(), grammar)
 }
 
 /// Does that with the items of a list.
 #[tactic(auto, using(crate::proofs::MovedLemmas::same))]
-fn number_syllables(infos: &mut [hb_glyph_info_t], machine: &Machine) -> bool
+fn number_syllables(infos: &mut [hb_glyph_info_t], grammar: &Grammar) -> bool
     ensures { clusters infos.new ≡ clusters infos.old }
 {
     let mut has_broken = false;
-    let mut start = machine.passed_count(infos);
+    let mut start = grammar.passed_count(infos);
     let mut serial = 1;
     for _turn in 0..infos.len() {
         if start >= infos.len() {
             break;
         }
-        let found = machine.first_syllable(&mut infos[start..]);
+        let found = grammar.first_syllable(&mut infos[start..]);
         let end = start.saturating_add(found.length);
         set_syllable(infos, start, end, serial % 16 * 16 + found.kind % 16);
-        has_broken = has_broken || found.kind == machine.broken;
+        has_broken = has_broken || found.kind == grammar.broken;
         start = end;
         serial = if serial == 15 { 1 } else { serial + 1 };
     }

@@ -1,11 +1,8 @@
 //! The universal shaper, of scripts that have no shaper of their own (OpenType, "Creating and supporting OpenType fonts for the
 //! Universal Shaping Engine"): HarfBuzz's `hb-ot-shaper-use.cc`.
 
-pub mod category;
 pub(crate) mod item;
-mod machine_rows;
 mod masks;
 mod order;
 pub mod plan;
 mod recorded;
-mod rows;

@@ -5,14 +5,11 @@ ghost use Rattle.std.specs.Prelude.{◌≡◌, ◌<◌, true, false, length, IfO
 ghost use Rattle.glyph_lists.specs.Clusters.{clusters};
 ghost use Rattle.shaping_buffer.specs.KeepsClusters.{KeepsClusters};
 
-mod rows;
-
 use crate::dotted_circle::DOTTED_CIRCLE;
-use rb_glyph::row_search::row_at;
 use rb_glyph::{BufferFlags, CharExt, Flags, UnicodeProps};
-use rows::SEQUENCES;
 use shaping_buffer::{hb_buffer_t, hb_glyph_info_t};
 use std::alloc::AllocError;
+use syllable_tables::third_vowel;
 
 /// Puts a dotted circle before the last character of each sequence that looks like another vowel of the text's script. `Ok(false)` where
 /// the text would become too long.
@@ -85,11 +82,7 @@ fn sequence_length(buffer: &hb_buffer_t) -> Option<usize> {
     if buffer.script != Some(first.script()) {
         return None;
     }
-    let row = row_at(
-        &SEQUENCES,
-        |row| (row.0 as u32, row.1 as u32).cmp(&(first as u32, second)),
-    )?;
-    match row.2 {
+    match third_vowel(first, second)? {
         None => Some(2),
         Some(third) if infos.get(2)?.glyph_id == third as u32 => Some(3),
         Some(_) => None,

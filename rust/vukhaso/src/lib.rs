@@ -116,6 +116,9 @@ pub mod script_shapers;
 pub mod syllabic_shapers;
 #[allow(clippy::style, clippy::complexity)]
 #[doc(hidden)]
+pub mod syllable_tables;
+#[allow(clippy::style, clippy::complexity)]
+#[doc(hidden)]
 pub mod text;
 #[allow(clippy::style, clippy::complexity)]
 #[doc(hidden)]

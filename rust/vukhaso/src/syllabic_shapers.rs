@@ -5,9 +5,6 @@
 //!
 //! The features of a font and its lookups are asked by [`FontForms`]; nothing here knows of a font's tables.
 
-pub use category::Category;
-pub use category::position::Position;
-pub use category::search::category_of;
 pub use font::{FontForms, FormFeature};
 pub use indic::configuration::{IndicConfiguration, RephMode};
 pub use indic::plan::{IndicMasks, IndicPlan};
@@ -16,7 +13,6 @@ pub use plan::{SyllablePause, SyllablePlan};
 pub use universal::plan::{FormMasks, UniversalPlan};
 pub use vowels::part_vowels;
 
-pub mod category;
 mod clusters;
 mod dotted_circle;
 mod font;

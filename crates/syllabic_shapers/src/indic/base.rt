@@ -1,12 +1,11 @@
 //! The base of a syllable: the consonant that signs are placed around.
 
-use crate::category::Category;
-use crate::category::position::Position;
 use crate::font::{FontForms, FormFeature};
 use crate::indic::configuration::RephMode;
 use crate::indic::plan::IndicPlan;
 use crate::item::{behind_joiners, category, is_consonant, is_joiner, position};
 use shaping_buffer::hb_glyph_info_t;
+use syllable_tables::{Category, Position};
 
 /// The base of a syllable.
 #[derive(Clone, Copy, PartialEq, Eq, Debug)]

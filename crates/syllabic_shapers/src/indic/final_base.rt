@@ -3,8 +3,6 @@
 ghost use Rattle.std.specs.Prelude.{◌≡◌};
 ghost use Rattle.glyph_lists.specs.Clusters.{clusters};
 
-use crate::category::Category;
-use crate::category::position::Position;
 use crate::indic::initial_order::place_at;
 use crate::indic::plan::IndicPlan;
 use crate::item::{
@@ -12,6 +10,7 @@ use crate::item::{
 };
 use rb_common::script;
 use shaping_buffer::hb_glyph_info_t;
+use syllable_tables::{Category, Position};
 
 /// The base of a syllable after the basic features.
 #[derive(Clone, Copy, PartialEq, Eq, Debug)]

@@ -5,8 +5,6 @@ ghost use Rattle.glyph_lists.specs.Clusters.{clusters};
 ghost use Rattle.shaping_buffer.specs.KeepsClusters.{KeepsClusters};
 ghost use Rattle.syllabic_shapers.specs.KeepsNumbers.{KeepsNumbers};
 
-use crate::category::Category;
-use crate::category::position::Position;
 use crate::indic::final_base::{FinalBase, find_final_base};
 use crate::indic::matras::move_matras;
 use crate::indic::plan::IndicPlan;
@@ -21,6 +19,7 @@ use rb_glyph::hb_gc::{
 };
 use shaping_buffer::{hb_buffer_t, hb_glyph_info_t};
 use std::ops::Range;
+use syllable_tables::{Category, Position};
 
 /// Puts the glyphs of each syllable in order. `virama` is the glyph of the halant.
 #[tactic(auto, using(crate::proofs::NumbersLemmas::numbered))]

@@ -3,13 +3,12 @@
 ghost use Rattle.std.specs.Prelude.{◌≡◌};
 ghost use Rattle.glyph_lists.specs.Clusters.{clusters};
 
-use crate::category::Category;
-use crate::category::position::Position;
 use crate::font::{FontForms, FormFeature};
 use crate::indic::plan::IndicPlan;
 use crate::item::{add_mask, category, is_consonant, is_joiner, position};
 use rb_common::script;
 use shaping_buffer::hb_glyph_info_t;
+use syllable_tables::{Category, Position};
 
 /// Sets the masks of a syllable's items, by where they stand around its base.
 pub(crate) fn set_masks(syllable: &mut [hb_glyph_info_t], base: usize, plan: &IndicPlan)

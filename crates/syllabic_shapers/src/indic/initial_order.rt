@@ -5,14 +5,13 @@ ghost use Rattle.std.specs.List.Sorted.{IsPermutation};
 ghost use Rattle.glyph_lists.specs.Clusters.{clusters};
 ghost use Rattle.syllabic_shapers.specs.KeepsNumbers.{SameClusters};
 
-use crate::category::Category;
-use crate::category::position::Position;
 use crate::indic::base::Base;
 use crate::indic::plan::IndicPlan;
 use crate::item::{category, is_consonant, is_matra, position, set_position};
 use crate::moves::first_to_end;
 use rb_common::script;
 use shaping_buffer::hb_glyph_info_t;
+use syllable_tables::{Category, Position};
 
 /// Gives each item of a syllable its position.
 pub(crate) fn set_positions(syllable: &mut [hb_glyph_info_t], base: &Base, plan: &IndicPlan)

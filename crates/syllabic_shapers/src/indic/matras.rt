@@ -4,8 +4,6 @@ ghost use Rattle.std.specs.Prelude.{◌≡◌, false};
 ghost use Rattle.shaping_buffer.specs.KeepsClusters.{KeepsClusters};
 ghost use Rattle.syllabic_shapers.specs.KeepsNumbers.{KeepsNumbers};
 
-use crate::category::Category;
-use crate::category::position::Position;
 use crate::clusters::merge;
 use crate::indic::plan::IndicPlan;
 use crate::item::{category, is_halant, is_matra_or_halant, position};
@@ -14,6 +12,7 @@ use crate::syllables::syllable;
 use rb_common::script;
 use shaping_buffer::{hb_buffer_t, hb_glyph_info_t};
 use std::ops::Range;
+use syllable_tables::{Category, Position};
 
 /// Moves the vowel signs on the left of a syllable towards its base. Where the base is then.
 #[tactic(auto, using(crate::proofs::NumbersLemmas::numbered))]

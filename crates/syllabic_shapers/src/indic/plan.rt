@@ -7,13 +7,13 @@ ghost use Rattle.syllabic_shapers.specs.KeepsNumbers.{KeepsNumbers};
 use crate::font::FontForms;
 use crate::indic::configuration::IndicConfiguration;
 use crate::indic::final_order::order_finally;
-use crate::indic::machine_rows::{ENDS, NEXT, OTHER, WIDTH};
 use crate::indic::reordering::order_initially;
-use crate::machine::Machine;
+use crate::machine::Grammar;
 use crate::syllables::find_syllables;
 use rb_common::{Script, Tag, script};
 use shaping_buffer::hb_buffer_t;
 use std::alloc::{AllocError, Global};
+use syllable_tables::machines::indic_machine;
 
 /// The kind of syllables without a base.
 pub(crate) const BROKEN: u8 = 4;
@@ -78,15 +78,12 @@ impl IndicPlan {
         ensures closed { buffer.new.have_output ≡ false }
         ensures keeps { KeepsClusters buffer.old buffer.new }
     {
-        let machine = Machine {
-            next: &NEXT,
-            width: WIDTH,
-            ends: &ENDS,
-            other: OTHER,
+        let grammar = Grammar {
+            machine: indic_machine(),
             broken: BROKEN,
             passes_over: false,
         };
-        find_syllables(buffer, &machine);
+        find_syllables(buffer, &grammar);
     }
 
     /// Puts the glyphs of each syllable in the order in which the basic features find them. `Ok(false)` where the text would become too

@@ -5,8 +5,6 @@ ghost use Rattle.glyph_lists.specs.Clusters.{clusters};
 ghost use Rattle.shaping_buffer.specs.KeepsClusters.{KeepsClusters};
 ghost use Rattle.syllabic_shapers.specs.KeepsNumbers.{KeepsNumbers, SameClusters};
 
-use crate::category::Category;
-use crate::category::position::Position;
 use crate::clusters::merge;
 use crate::dotted_circle::{CircleKind, insert_dotted_circles};
 use crate::font::{FontForms, FormFeature};
@@ -22,6 +20,7 @@ use rb_common::script;
 use shaping_buffer::{hb_buffer_t, hb_glyph_info_t};
 use std::alloc::{AllocError, Global};
 use std::ops::Range;
+use syllable_tables::{Category, Position};
 
 /// The kinds of syllables that are reordered come before this one, but for symbols.
 const SYMBOL: u8 = 3;

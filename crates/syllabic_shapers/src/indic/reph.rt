@@ -3,8 +3,6 @@
 ghost use Rattle.std.specs.Prelude.{◌≡◌, false};
 ghost use Rattle.syllabic_shapers.specs.KeepsNumbers.{KeepsNumbers};
 
-use crate::category::Category;
-use crate::category::position::Position;
 use crate::clusters::merge;
 use crate::indic::configuration::RephPosition;
 use crate::indic::plan::IndicPlan;
@@ -13,6 +11,7 @@ use crate::moves::move_first;
 use crate::syllables::syllable;
 use shaping_buffer::{hb_buffer_t, hb_glyph_info_t};
 use std::ops::Range;
+use syllable_tables::{Category, Position};
 
 /// Moves the reph of a syllable. Where the base is then.
 #[tactic(auto, using(crate::proofs::NumbersLemmas::numbered))]

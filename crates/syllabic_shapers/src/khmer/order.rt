@@ -5,7 +5,6 @@ ghost use Rattle.glyph_lists.specs.Clusters.{clusters};
 ghost use Rattle.shaping_buffer.specs.KeepsClusters.{KeepsClusters};
 ghost use Rattle.syllabic_shapers.specs.KeepsNumbers.{KeepsNumbers};
 
-use crate::category::Category;
 use crate::clusters::merge;
 use crate::item::{add_mask, category};
 use crate::khmer::plan::{BROKEN, KhmerPlan};
@@ -13,6 +12,7 @@ use crate::moves::move_last;
 use crate::syllables::kind_at;
 use shaping_buffer::{hb_buffer_t, hb_glyph_info_t};
 use std::ops::Range;
+use syllable_tables::Category;
 
 /// How many coengs of a syllable there may be before one that is looked at.
 const MOST_COENGS: usize = 2;

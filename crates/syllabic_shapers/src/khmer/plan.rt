@@ -4,16 +4,15 @@ ghost use Rattle.std.specs.Prelude.{◌≡◌, true, false, IfOk};
 ghost use Rattle.shaping_buffer.specs.KeepsClusters.{KeepsClusters};
 ghost use Rattle.syllabic_shapers.specs.KeepsNumbers.{KeepsNumbers};
 
-use crate::category::Category;
-use crate::category::position::Position;
 use crate::dotted_circle::{CircleKind, insert_dotted_circles};
 use crate::font::FontForms;
-use crate::khmer::machine_rows::{ENDS, NEXT, OTHER, WIDTH};
 use crate::khmer::order::order_syllables;
-use crate::machine::Machine;
+use crate::machine::Grammar;
 use crate::syllables::find_syllables;
 use shaping_buffer::hb_buffer_t;
 use std::alloc::AllocError;
+use syllable_tables::machines::khmer_machine;
+use syllable_tables::{Category, Position};
 
 /// The kind of syllables without a base.
 pub(crate) const BROKEN: u8 = 1;
@@ -47,15 +46,12 @@ impl KhmerPlan {
         ensures closed { buffer.new.have_output ≡ false }
         ensures keeps { KeepsClusters buffer.old buffer.new }
     {
-        let machine = Machine {
-            next: &NEXT,
-            width: WIDTH,
-            ends: &ENDS,
-            other: OTHER,
+        let grammar = Grammar {
+            machine: khmer_machine(),
             broken: BROKEN,
             passes_over: false,
         };
-        find_syllables(buffer, &machine);
+        find_syllables(buffer, &grammar);
     }
 
     /// Puts the glyphs of each syllable in order. `Ok(false)` where the text would become too long.

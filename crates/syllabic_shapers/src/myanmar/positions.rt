@@ -3,10 +3,9 @@
 ghost use Rattle.std.specs.Prelude.{◌≡◌};
 ghost use Rattle.glyph_lists.specs.Clusters.{clusters};
 
-use crate::category::Category;
-use crate::category::position::Position;
 use crate::item::{category, is_ligated, position, set_position};
 use shaping_buffer::hb_glyph_info_t;
+use syllable_tables::{Category, Position};
 
 /// How many items a kinzi has: RA, an asat and a halant.
 const KINZI_LENGTH: usize = 3;

@@ -5,13 +5,13 @@ ghost use Rattle.glyph_lists.specs.Clusters.{clusters};
 ghost use Rattle.shaping_buffer.specs.KeepsClusters.{KeepsClusters};
 
 use crate::item::{category_byte, general_category, is_ligated, set_category_byte};
-use crate::universal::category::{UniversalCategory, universal_category_of};
 use UniversalCategory::*;
 use rb_glyph::hb_gc::{
     RB_UNICODE_GENERAL_CATEGORY_ENCLOSING_MARK, RB_UNICODE_GENERAL_CATEGORY_NON_SPACING_MARK,
     RB_UNICODE_GENERAL_CATEGORY_SPACING_MARK,
 };
 use shaping_buffer::{hb_buffer_t, hb_glyph_info_t};
+use syllable_tables::{UniversalCategory, universal_category_of};
 
 /// Whether an item has a category.
 pub(crate) fn is(info: &hb_glyph_info_t, category: UniversalCategory) -> bool {

@@ -6,10 +6,10 @@ ghost use Rattle.shaping_buffer.specs.KeepsClusters.{KeepsClusters};
 
 use crate::item::add_mask;
 use crate::syllables::{kind_at, syllable_end};
-use crate::universal::category::UniversalCategory;
 use crate::universal::item::is;
 use crate::universal::plan::{BROKEN, FormMasks};
 use shaping_buffer::{hb_buffer_t, hb_glyph_info_t};
+use syllable_tables::UniversalCategory;
 
 /// How many items may make a reph.
 const REPH_LENGTH: usize = 3;

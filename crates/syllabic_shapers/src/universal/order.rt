@@ -6,11 +6,11 @@ ghost use Rattle.syllabic_shapers.specs.KeepsNumbers.{KeepsNumbers};
 use crate::clusters::merge;
 use crate::moves::{move_first, move_last};
 use crate::syllables::{kind_at, syllable};
-use crate::universal::category::UniversalCategory;
 use crate::universal::item::{is, is_behind_base, is_halant};
 use crate::universal::plan::BROKEN;
 use shaping_buffer::{hb_buffer_t, hb_glyph_info_t};
 use std::ops::Range;
+use syllable_tables::UniversalCategory;
 
 /// The last kind of syllables of letters, and the kind of symbols.
 const STANDARD: u8 = 2;

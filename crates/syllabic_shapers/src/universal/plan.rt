@@ -4,20 +4,19 @@ ghost use Rattle.std.specs.Prelude.{◌≡◌, true, false, IfOk};
 ghost use Rattle.shaping_buffer.specs.KeepsClusters.{KeepsClusters};
 ghost use Rattle.syllabic_shapers.specs.KeepsNumbers.{KeepsNumbers};
 
-use crate::category::position::Position;
 use crate::dotted_circle::{CircleKind, insert_dotted_circles};
 use crate::font::FontForms;
-use crate::machine::Machine;
+use crate::machine::Grammar;
 use crate::plan::SyllablePause;
 use crate::syllables::find_syllables;
-use crate::universal::category::UniversalCategory;
 use crate::universal::item::mark_passed_over;
-use crate::universal::machine_rows::{ENDS, NEXT, OTHER, WIDTH};
 use crate::universal::masks::{mask_forms, mask_rephs};
 use crate::universal::order::order_syllables;
 use crate::universal::recorded::{forget_substitutions, record_prefs, record_rephs};
 use shaping_buffer::hb_buffer_t;
 use std::alloc::AllocError;
+use syllable_tables::machines::universal_machine;
+use syllable_tables::{Position, UniversalCategory};
 
 /// The kind of syllables without a base.
 pub(crate) const BROKEN: u8 = 7;
@@ -83,16 +82,13 @@ impl UniversalPlan {
         ensures closed { buffer.new.have_output ≡ false }
         ensures keeps { KeepsClusters buffer.old buffer.new }
     {
-        let machine = Machine {
-            next: &NEXT,
-            width: WIDTH,
-            ends: &ENDS,
-            other: OTHER,
+        let grammar = Grammar {
+            machine: universal_machine(),
             broken: BROKEN,
             passes_over: true,
         };
         mark_passed_over(buffer);
-        find_syllables(buffer, &machine);
+        find_syllables(buffer, &grammar);
         mask_rephs(buffer, self.rphf);
         mask_forms(buffer, &self.forms);
     }

@@ -6,10 +6,10 @@ ghost use Rattle.shaping_buffer.specs.KeepsClusters.{KeepsClusters};
 
 use crate::item::is_substituted;
 use crate::syllables::syllable_end;
-use crate::universal::category::UniversalCategory;
 use crate::universal::item::set;
 use rb_glyph::{Flags, GlyphPropsFlags};
 use shaping_buffer::{hb_buffer_t, hb_glyph_info_t};
+use syllable_tables::UniversalCategory;
 
 /// Forgets which glyphs lookups put there.
 pub(crate) fn forget_substitutions(buffer: &mut hb_buffer_t)

@@ -5,10 +5,10 @@
 use crate::buffer::{HB_BUFFER_SCRATCH_FLAG_HAS_BROKEN_SYLLABLE, hb_buffer_t, hb_glyph_info_t};
 use crate::glyph::BufferFlags;
 use crate::memory::AllocError;
-use crate::syllabic_shapers::category::position::Position;
 use crate::syllabic_shapers::font::FontForms;
 use crate::syllabic_shapers::item::{category_byte, set_category_byte, set_position};
 use crate::syllabic_shapers::syllables::kind_of;
+use crate::syllable_tables::Position;
 
 /// The dotted circle.
 pub(crate) const DOTTED_CIRCLE: u32 = 0x25CC;

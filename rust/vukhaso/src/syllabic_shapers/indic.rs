@@ -10,7 +10,6 @@ mod final_base;
 mod final_order;
 mod initial_masks;
 mod initial_order;
-mod machine_rows;
 mod matras;
 pub mod plan;
 mod pref;

@@ -3,6 +3,5 @@
 //! The shaper of Khmer (OpenType, "Developing OpenType Fonts for Khmer Script"): HarfBuzz's `hb-ot-shaper-khmer.cc`.
 
 pub mod composition;
-mod machine_rows;
 mod order;
 pub mod plan;

@@ -4,7 +4,7 @@
 
 use crate::buffer::{HB_BUFFER_SCRATCH_FLAG_HAS_BROKEN_SYLLABLE, hb_buffer_t, hb_glyph_info_t};
 use crate::glyph_lists::groups::group_end;
-use crate::syllabic_shapers::machine::Machine;
+use crate::syllabic_shapers::machine::Grammar;
 use core::ops::Range;
 
 /// A number that no kind of syllables has.
@@ -16,9 +16,9 @@ pub(crate) const NO_KIND: u8 = 15;
 /// # Requires
 ///
 /// - `buffer.old.have_output ≡ false`
-pub(crate) fn find_syllables(buffer: &mut hb_buffer_t, machine: &Machine) {
+pub(crate) fn find_syllables(buffer: &mut hb_buffer_t, grammar: &Grammar) {
     debug_assert!(!buffer.have_output());
-    if number_items(buffer, machine) {
+    if number_items(buffer, grammar) {
         buffer.scratch_flags = buffer.scratch_flags | HB_BUFFER_SCRATCH_FLAG_HAS_BROKEN_SYLLABLE;
     }
     flag_syllables(buffer);
@@ -29,24 +29,24 @@ pub(crate) fn find_syllables(buffer: &mut hb_buffer_t, machine: &Machine) {
 /// # Requires
 ///
 /// - `buffer.old.have_output ≡ false`
-fn number_items(buffer: &mut hb_buffer_t, machine: &Machine) -> bool {
+fn number_items(buffer: &mut hb_buffer_t, grammar: &Grammar) -> bool {
     debug_assert!(!buffer.have_output());
-    number_syllables(buffer.info_slice_mut(), machine)
+    number_syllables(buffer.info_slice_mut(), grammar)
 }
 
 /// Does that with the items of a list.
-fn number_syllables(infos: &mut [hb_glyph_info_t], machine: &Machine) -> bool {
+fn number_syllables(infos: &mut [hb_glyph_info_t], grammar: &Grammar) -> bool {
     let mut has_broken = false;
-    let mut start = machine.passed_count(infos);
+    let mut start = grammar.passed_count(infos);
     let mut serial = 1;
     for _turn in 0..infos.len() {
         if start >= infos.len() {
             break;
         }
-        let found = machine.first_syllable(&mut infos[start..]);
+        let found = grammar.first_syllable(&mut infos[start..]);
         let end = start.saturating_add(found.length);
         set_syllable(infos, start, end, serial % 16 * 16 + found.kind % 16);
-        has_broken = has_broken || found.kind == machine.broken;
+        has_broken = has_broken || found.kind == grammar.broken;
         start = end;
         serial = if serial == 15 { 1 } else { serial + 1 };
     }

@@ -3,14 +3,11 @@
 //! Sequences of vowels that look like another vowel: a dotted circle parts them (OpenType, "Creating and supporting OpenType fonts for
 //! the Universal Shaping Engine", "Independent vowels that are not to be used with vowel signs").
 
-mod rows;
-
 use crate::buffer::{hb_buffer_t, hb_glyph_info_t};
-use crate::glyph::row_search::row_at;
 use crate::glyph::{BufferFlags, CharExt, UnicodeProps};
 use crate::memory::AllocError;
 use crate::syllabic_shapers::dotted_circle::DOTTED_CIRCLE;
-use rows::SEQUENCES;
+use crate::syllable_tables::third_vowel;
 
 /// Puts a dotted circle before the last character of each sequence that looks like another vowel of the
 /// text's script.
@@ -96,10 +93,7 @@ fn sequence_length(buffer: &hb_buffer_t) -> Option<usize> {
     if buffer.script != Some(first.script()) {
         return None;
     }
-    let row = row_at(&SEQUENCES, |row| {
-        (row.0 as u32, row.1 as u32).cmp(&(first as u32, second))
-    })?;
-    match row.2 {
+    match third_vowel(first, second)? {
         None => Some(2),
         Some(third) if infos.get(2)?.glyph_id == third as u32 => Some(3),
         Some(_) => None,

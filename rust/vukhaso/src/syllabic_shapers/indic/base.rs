@@ -3,12 +3,11 @@
 //! The base of a syllable: the consonant that signs are placed around.
 
 use crate::buffer::hb_glyph_info_t;
-use crate::syllabic_shapers::category::Category;
-use crate::syllabic_shapers::category::position::Position;
 use crate::syllabic_shapers::font::{FontForms, FormFeature};
 use crate::syllabic_shapers::indic::configuration::RephMode;
 use crate::syllabic_shapers::indic::plan::IndicPlan;
 use crate::syllabic_shapers::item::{behind_joiners, category, is_consonant, is_joiner, position};
+use crate::syllable_tables::{Category, Position};
 
 /// The base of a syllable.
 #[derive(Clone, Copy, PartialEq, Eq, Debug)]

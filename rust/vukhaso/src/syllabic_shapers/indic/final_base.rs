@@ -4,13 +4,12 @@
 
 use crate::buffer::hb_glyph_info_t;
 use crate::common::script;
-use crate::syllabic_shapers::category::Category;
-use crate::syllabic_shapers::category::position::Position;
 use crate::syllabic_shapers::indic::initial_order::place_at;
 use crate::syllabic_shapers::indic::plan::IndicPlan;
 use crate::syllabic_shapers::item::{
     behind_joiners, is_consonant, is_halant, is_one, is_substituted, is_whole_ligature, position,
 };
+use crate::syllable_tables::{Category, Position};
 
 /// The base of a syllable after the basic features.
 #[derive(Clone, Copy, PartialEq, Eq, Debug)]

@@ -6,8 +6,6 @@ use crate::buffer::{hb_buffer_t, hb_glyph_info_t};
 use crate::glyph::hb_gc::{
     RB_UNICODE_GENERAL_CATEGORY_FORMAT, RB_UNICODE_GENERAL_CATEGORY_NON_SPACING_MARK,
 };
-use crate::syllabic_shapers::category::Category;
-use crate::syllabic_shapers::category::position::Position;
 use crate::syllabic_shapers::indic::final_base::{FinalBase, find_final_base};
 use crate::syllabic_shapers::indic::matras::move_matras;
 use crate::syllabic_shapers::indic::plan::IndicPlan;
@@ -17,6 +15,7 @@ use crate::syllabic_shapers::item::{
     add_mask, forget_ligature, general_category, is_ligated, is_multiplied, position, set_category,
 };
 use crate::syllabic_shapers::syllables::within;
+use crate::syllable_tables::{Category, Position};
 use core::ops::Range;
 
 /// Puts the glyphs of each syllable in order. `virama` is the glyph of the halant.

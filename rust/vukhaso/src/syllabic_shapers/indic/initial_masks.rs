@@ -4,11 +4,10 @@
 
 use crate::buffer::hb_glyph_info_t;
 use crate::common::script;
-use crate::syllabic_shapers::category::Category;
-use crate::syllabic_shapers::category::position::Position;
 use crate::syllabic_shapers::font::{FontForms, FormFeature};
 use crate::syllabic_shapers::indic::plan::IndicPlan;
 use crate::syllabic_shapers::item::{add_mask, category, is_consonant, is_joiner, position};
+use crate::syllable_tables::{Category, Position};
 
 /// Sets the masks of a syllable's items, by where they stand around its base.
 pub(crate) fn set_masks(syllable: &mut [hb_glyph_info_t], base: usize, plan: &IndicPlan) {

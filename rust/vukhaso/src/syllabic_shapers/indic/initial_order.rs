@@ -4,12 +4,11 @@
 
 use crate::buffer::hb_glyph_info_t;
 use crate::common::script;
-use crate::syllabic_shapers::category::Category;
-use crate::syllabic_shapers::category::position::Position;
 use crate::syllabic_shapers::indic::base::Base;
 use crate::syllabic_shapers::indic::plan::IndicPlan;
 use crate::syllabic_shapers::item::{category, is_consonant, is_matra, position, set_position};
 use crate::syllabic_shapers::moves::first_to_end;
+use crate::syllable_tables::{Category, Position};
 
 /// Gives each item of a syllable its position.
 pub(crate) fn set_positions(syllable: &mut [hb_glyph_info_t], base: &Base, plan: &IndicPlan) {

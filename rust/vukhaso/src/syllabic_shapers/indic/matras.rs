@@ -4,13 +4,12 @@
 
 use crate::buffer::{hb_buffer_t, hb_glyph_info_t};
 use crate::common::script;
-use crate::syllabic_shapers::category::Category;
-use crate::syllabic_shapers::category::position::Position;
 use crate::syllabic_shapers::clusters::merge;
 use crate::syllabic_shapers::indic::plan::IndicPlan;
 use crate::syllabic_shapers::item::{category, is_halant, is_matra_or_halant, position};
 use crate::syllabic_shapers::moves::move_first;
 use crate::syllabic_shapers::syllables::syllable;
+use crate::syllable_tables::{Category, Position};
 use core::ops::Range;
 
 /// Moves the vowel signs on the left of a syllable towards its base. Where the base is then.

@@ -8,10 +8,10 @@ use crate::memory::AllocError;
 use crate::syllabic_shapers::font::FontForms;
 use crate::syllabic_shapers::indic::configuration::IndicConfiguration;
 use crate::syllabic_shapers::indic::final_order::order_finally;
-use crate::syllabic_shapers::indic::machine_rows::{ENDS, NEXT, OTHER, WIDTH};
 use crate::syllabic_shapers::indic::reordering::order_initially;
-use crate::syllabic_shapers::machine::Machine;
+use crate::syllabic_shapers::machine::Grammar;
 use crate::syllabic_shapers::syllables::find_syllables;
+use crate::syllable_tables::machines::indic_machine;
 
 /// The kind of syllables without a base.
 pub(crate) const BROKEN: u8 = 4;
@@ -96,15 +96,12 @@ impl IndicPlan {
     #[inline]
     pub fn setup_syllables(&self, buffer: &mut hb_buffer_t) {
         debug_assert!(!buffer.have_output());
-        let machine = Machine {
-            next: &NEXT,
-            width: WIDTH,
-            ends: &ENDS,
-            other: OTHER,
+        let grammar = Grammar {
+            machine: indic_machine(),
             broken: BROKEN,
             passes_over: false,
         };
-        find_syllables(buffer, &machine);
+        find_syllables(buffer, &grammar);
     }
 
     /// Puts the glyphs of each syllable in the order in which the basic features find them.

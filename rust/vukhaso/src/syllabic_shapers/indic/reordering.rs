@@ -5,8 +5,6 @@
 use crate::buffer::{hb_buffer_t, hb_glyph_info_t};
 use crate::common::script;
 use crate::memory::AllocError;
-use crate::syllabic_shapers::category::Category;
-use crate::syllabic_shapers::category::position::Position;
 use crate::syllabic_shapers::clusters::merge;
 use crate::syllabic_shapers::dotted_circle::{CircleKind, insert_dotted_circles};
 use crate::syllabic_shapers::font::{FontForms, FormFeature};
@@ -18,6 +16,7 @@ use crate::syllabic_shapers::indic::sorting::sort_syllable;
 use crate::syllabic_shapers::item::{is_halant, is_one, position, set_position};
 use crate::syllabic_shapers::moves::move_first;
 use crate::syllabic_shapers::syllables::{kind_at, syllable, within};
+use crate::syllable_tables::{Category, Position};
 use core::ops::Range;
 
 /// The kinds of syllables that are reordered come before this one, but for symbols.

@@ -3,8 +3,6 @@
 //! Rephs, after the basic features: from the start of a syllable they move to where they are seen.
 
 use crate::buffer::{hb_buffer_t, hb_glyph_info_t};
-use crate::syllabic_shapers::category::Category;
-use crate::syllabic_shapers::category::position::Position;
 use crate::syllabic_shapers::clusters::merge;
 use crate::syllabic_shapers::indic::configuration::RephPosition;
 use crate::syllabic_shapers::indic::plan::IndicPlan;
@@ -13,6 +11,7 @@ use crate::syllabic_shapers::item::{
 };
 use crate::syllabic_shapers::moves::move_first;
 use crate::syllabic_shapers::syllables::syllable;
+use crate::syllable_tables::{Category, Position};
 use core::ops::Range;
 
 /// Moves the reph of a syllable. Where the base is then.

@@ -3,12 +3,12 @@
 //! The order of the glyphs of Khmer syllables, before the basic features.
 
 use crate::buffer::{hb_buffer_t, hb_glyph_info_t};
-use crate::syllabic_shapers::category::Category;
 use crate::syllabic_shapers::clusters::merge;
 use crate::syllabic_shapers::item::{add_mask, category};
 use crate::syllabic_shapers::khmer::plan::{BROKEN, KhmerPlan};
 use crate::syllabic_shapers::moves::move_last;
 use crate::syllabic_shapers::syllables::kind_at;
+use crate::syllable_tables::Category;
 use core::ops::Range;
 
 /// How many coengs of a syllable there may be before one that is looked at.

@@ -4,14 +4,13 @@
 
 use crate::buffer::hb_buffer_t;
 use crate::memory::AllocError;
-use crate::syllabic_shapers::category::Category;
-use crate::syllabic_shapers::category::position::Position;
 use crate::syllabic_shapers::dotted_circle::{CircleKind, insert_dotted_circles};
 use crate::syllabic_shapers::font::FontForms;
-use crate::syllabic_shapers::khmer::machine_rows::{ENDS, NEXT, OTHER, WIDTH};
 use crate::syllabic_shapers::khmer::order::order_syllables;
-use crate::syllabic_shapers::machine::Machine;
+use crate::syllabic_shapers::machine::Grammar;
 use crate::syllabic_shapers::syllables::find_syllables;
+use crate::syllable_tables::machines::khmer_machine;
+use crate::syllable_tables::{Category, Position};
 
 /// The kind of syllables without a base.
 pub(crate) const BROKEN: u8 = 1;
@@ -54,15 +53,12 @@ impl KhmerPlan {
     #[inline]
     pub fn setup_syllables(&self, buffer: &mut hb_buffer_t) {
         debug_assert!(!buffer.have_output());
-        let machine = Machine {
-            next: &NEXT,
-            width: WIDTH,
-            ends: &ENDS,
-            other: OTHER,
+        let grammar = Grammar {
+            machine: khmer_machine(),
             broken: BROKEN,
             passes_over: false,
         };
-        find_syllables(buffer, &machine);
+        find_syllables(buffer, &grammar);
     }
 
     /// Puts the glyphs of each syllable in order.

@@ -3,9 +3,8 @@
 //! Where each item of a Myanmar syllable belongs.
 
 use crate::buffer::hb_glyph_info_t;
-use crate::syllabic_shapers::category::Category;
-use crate::syllabic_shapers::category::position::Position;
 use crate::syllabic_shapers::item::{category, is_ligated, position, set_position};
+use crate::syllable_tables::{Category, Position};
 
 /// How many items a kinzi has: RA, an asat and a halant.
 const KINZI_LENGTH: usize = 3;

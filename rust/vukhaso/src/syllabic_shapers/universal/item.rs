@@ -10,7 +10,7 @@ use crate::glyph::hb_gc::{
 use crate::syllabic_shapers::item::{
     category_byte, general_category, is_ligated, set_category_byte,
 };
-use crate::syllabic_shapers::universal::category::{UniversalCategory, universal_category_of};
+use crate::syllable_tables::{UniversalCategory, universal_category_of};
 use UniversalCategory::*;
 
 /// Whether an item has a category.

@@ -5,9 +5,9 @@
 use crate::buffer::{hb_buffer_t, hb_glyph_info_t};
 use crate::syllabic_shapers::item::add_mask;
 use crate::syllabic_shapers::syllables::{kind_at, syllable_end};
-use crate::syllabic_shapers::universal::category::UniversalCategory;
 use crate::syllabic_shapers::universal::item::is;
 use crate::syllabic_shapers::universal::plan::{BROKEN, FormMasks};
+use crate::syllable_tables::UniversalCategory;
 
 /// How many items may make a reph.
 const REPH_LENGTH: usize = 3;

@@ -6,9 +6,9 @@ use crate::buffer::{hb_buffer_t, hb_glyph_info_t};
 use crate::syllabic_shapers::clusters::merge;
 use crate::syllabic_shapers::moves::{move_first, move_last};
 use crate::syllabic_shapers::syllables::{kind_at, syllable};
-use crate::syllabic_shapers::universal::category::UniversalCategory;
 use crate::syllabic_shapers::universal::item::{is, is_behind_base, is_halant};
 use crate::syllabic_shapers::universal::plan::BROKEN;
+use crate::syllable_tables::UniversalCategory;
 use core::ops::Range;
 
 /// The last kind of syllables of letters, and the kind of symbols.

@@ -4,20 +4,19 @@
 
 use crate::buffer::hb_buffer_t;
 use crate::memory::AllocError;
-use crate::syllabic_shapers::category::position::Position;
 use crate::syllabic_shapers::dotted_circle::{CircleKind, insert_dotted_circles};
 use crate::syllabic_shapers::font::FontForms;
-use crate::syllabic_shapers::machine::Machine;
+use crate::syllabic_shapers::machine::Grammar;
 use crate::syllabic_shapers::plan::SyllablePause;
 use crate::syllabic_shapers::syllables::find_syllables;
-use crate::syllabic_shapers::universal::category::UniversalCategory;
 use crate::syllabic_shapers::universal::item::mark_passed_over;
-use crate::syllabic_shapers::universal::machine_rows::{ENDS, NEXT, OTHER, WIDTH};
 use crate::syllabic_shapers::universal::masks::{mask_forms, mask_rephs};
 use crate::syllabic_shapers::universal::order::order_syllables;
 use crate::syllabic_shapers::universal::recorded::{
     forget_substitutions, record_prefs, record_rephs,
 };
+use crate::syllable_tables::machines::universal_machine;
+use crate::syllable_tables::{Position, UniversalCategory};
 
 /// The kind of syllables without a base.
 pub(crate) const BROKEN: u8 = 7;
@@ -87,16 +86,13 @@ impl UniversalPlan {
     /// - `buffer.old.have_output ≡ false`
     fn setup_syllables(&self, buffer: &mut hb_buffer_t) {
         debug_assert!(!buffer.have_output());
-        let machine = Machine {
-            next: &NEXT,
-            width: WIDTH,
-            ends: &ENDS,
-            other: OTHER,
+        let grammar = Grammar {
+            machine: universal_machine(),
             broken: BROKEN,
             passes_over: true,
         };
         mark_passed_over(buffer);
-        find_syllables(buffer, &machine);
+        find_syllables(buffer, &grammar);
         mask_rephs(buffer, self.rphf);
         mask_forms(buffer, &self.forms);
     }

@@ -6,8 +6,8 @@ use crate::buffer::{hb_buffer_t, hb_glyph_info_t};
 use crate::glyph::GlyphPropsFlags;
 use crate::syllabic_shapers::item::is_substituted;
 use crate::syllabic_shapers::syllables::syllable_end;
-use crate::syllabic_shapers::universal::category::UniversalCategory;
 use crate::syllabic_shapers::universal::item::set;
+use crate::syllable_tables::UniversalCategory;
 
 /// Forgets which glyphs lookups put there.
 ///
