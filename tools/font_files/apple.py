@@ -5,6 +5,7 @@ each kind of rearrangement and of insertion, and `GPOS` beside; `apple-kern.ttf`
 from . import layout as lay
 from . import opentype as ot
 from .glyphs import LOWER, UPPER, tables
+from .rules import assigned
 from .rules import font as ruled
 
 REARRANGEMENT, CONTEXTUAL, LIGATURE, NONCONTEXTUAL, INSERTION = 0, 1, 2, 4, 5
@@ -209,8 +210,18 @@ def apple_scripts(has_marks=False):
                  more=more, outlined=100)
 
 
+def apple_syllables():
+    """Letters and signs that compose, and marks with a width, in scripts whose shapers would leave them apart or take the width."""
+    codes = [*range(0x41, 0x44), 0x4E, 0x6E, 0xF1, 0xD1, 0x300, 0x303, 0x307, 0x323, *assigned(0x1000, 0x1049), *assigned(0x1780, 0x17D3),
+             *assigned(0x0900, 0x094D), 0x0958, 0x05D0, 0x05D1, 0x05B7, 0x05BC, 0xFB31, 0x0627, 0x0628, 0x0622, 0x0653, 0x064E, 0x08DE, 0x07CA, 0x07D0,
+             0x07EB, 0x07FD, 0x0E01, 0x0E33, 0x0E49, 0x0E4D, 0x0E32, 0xAC00, 0x1100, 0x1161, 0x1B05, 0x1B06, 0x1B35, 0x0DDA, 0x0DD9, 0x0DCA, 0x0D9A]
+    first, second = (5 + codes.index(number) for number in (0x41, 0x42))
+    everything = chain(1, [], [(NONCONTEXTUAL, ALL_DIRECTIONS, 1, by_glyph({first: second}))])
+    return ruled("Vukhaso Apple Syllables", codes, [], {}, placed=(), more={"morx": morx(everything)})
+
+
 FONTS = {
-    "apple-scripts.ttf": apple_scripts, "apple-marks.ttf": lambda: apple_scripts(True), "apple-more.ttf": apple_more, "apple-kern.ttf": apple_kern,
+    "apple-scripts.ttf": apple_scripts, "apple-syllables.ttf": apple_syllables, "apple-marks.ttf": lambda: apple_scripts(True), "apple-more.ttf": apple_more, "apple-kern.ttf": apple_kern,
     **{f"apple-{name}.ttf": (lambda number=number, bits=bits: chain_more(number, bits))
        for name, number, bits in (("rearrangement", REARRANGEMENT, ALL_DIRECTIONS), ("insertion", INSERTION, ALL_DIRECTIONS),
                                   ("contextual", CONTEXTUAL, ALL_DIRECTIONS), ("ligature", LIGATURE, ALL_DIRECTIONS),

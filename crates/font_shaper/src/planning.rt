@@ -187,8 +187,7 @@ struct ChosenShaper {
     finds_script: bool,
 }
 
-/// Chooses the shaper of a script, and asks for its features, those of every text and of a user. Where glyphs are substituted by `morx`,
-/// the font does all, as with the shaper of Zawgyi.
+/// Chooses the shaper of a script, and asks for its features, those of every text and of a user.
 fn add_features(
     builder: &mut PlanBuilder,
     segment: &SegmentProperties,
@@ -196,8 +195,7 @@ fn add_features(
     substitutes_by_morx: bool,
 ) -> Result<ChosenShaper, AllocError> {
     let own = ScriptShaper::of(segment.script, segment.direction, builder.gsub.script.tag);
-    let does_all = substitutes_by_morx && own != ScriptShaper::Default;
-    let shaper = if does_all { ScriptShaper::Zawgyi } else { own };
+    let shaper = own.with_morx(substitutes_by_morx);
     let chosen = ChosenShaper {
         shaper,
         rules: ShaperRules {

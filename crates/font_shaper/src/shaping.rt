@@ -1,6 +1,7 @@
 //! The shaping of a text by a font: HarfBuzz's steps, one after the other.
 
-ghost use Rattle.std.specs.Prelude.{◌≡◌, ◌≤◌, [], true, false, not, length, IfOk, IsSome, if◌then◌else◌};
+ghost use Rattle.std.specs.Prelude.{◌≡◌, ◌↔◌, ◌≤◌, [], true, false, not, length, IfOk, IsSome, IsTrue, if◌then◌else◌};
+ghost use Rattle.script_shapers.specs.Shapers.{width_of};
 ghost use Rattle.rb_common.specs.Direction.{is_forward};
 ghost use Rattle.shaping_buffer.specs.Clusters.{clusters};
 ghost use Rattle.shaping_buffer.specs.Limits.{enter};
@@ -417,13 +418,20 @@ fn position<W: Watch>(
     position_glyphs(buffer, face)?;
     watch.step(Step::Advances, buffer)?;
     let adjusts = adjusts_marks(buffer, &plan.shape);
-    let early = plan.script.shaper.zero_width_marks() == ZeroWidthMarks::Early;
-    zero_marks(buffer, plan.shape.zero_marks && early, adjusts);
+    zero_marks(buffer, zeroes_marks(plan, ZeroWidthMarks::Early), adjusts);
     position_by_lookups(buffer, face, &plan.shape, watch)?;
     track(buffer, face, plan.trak_mask);
-    zero_marks(buffer, plan.shape.zero_marks && !early, adjusts);
+    zero_marks(buffer, zeroes_marks(plan, ZeroWidthMarks::Late), adjusts);
     zero_deleted(buffer, plan);
     finish_positions(buffer, face, &plan.shape, direction)
+}
+
+/// Whether marks lose their width at this step.
+fn zeroes_marks(plan: &TextPlan, step: ZeroWidthMarks) -> bool
+    ensures { IsTrue result
+        ↔ (IsTrue plan.now.shape.zero_marks) × (width_of plan.now.script.shaper ≡ step) }
+{
+    plan.shape.zero_marks && plan.script.shaper.zero_width_marks() == step
 }
 
 /// Whether a mark that loses its width is moved back by it.

@@ -18,4 +18,5 @@ is_plan_of shaper.Hebrew plan.None = true
 is_plan_of shaper.Hangul plan.None = true
 is_plan_of shaper.Thai plan.None = true
 is_plan_of shaper.Zawgyi plan.None = true
+is_plan_of shaper.Plain plan.None = true
 is_plan_of _ _ = false

@@ -32,8 +32,11 @@ pub fn collect_features(
         ScriptShaper::Universal | ScriptShaper::UniversalJoining => {
             universal::collect_features(builder)
         }
-        ScriptShaper::Default | ScriptShaper::Hebrew | ScriptShaper::Thai | ScriptShaper::Zawgyi =>
-            { Ok(()) }
+        ScriptShaper::Default
+        | ScriptShaper::Hebrew
+        | ScriptShaper::Thai
+        | ScriptShaper::Zawgyi
+        | ScriptShaper::Plain => Ok(()),
     }
 }
 

@@ -15,7 +15,7 @@ use Rattle.script_shapers.specs.declared.shaper.ZeroWidthMarks.{ZeroWidthMarks}
 use Rattle.script_shapers.specs.declared.shaper.ZeroWidthMarks.TheVariants as width
 use Rattle.script_shapers.specs.declared.shaper.ScriptShaper.{ScriptShaper}
 use Rattle.script_shapers.specs.declared.shaper.ScriptShaper.TheVariants.{Default, Arabic, Hebrew, Hangul, Thai, Indic, Khmer}
-use Rattle.script_shapers.specs.declared.shaper.ScriptShaper.TheVariants.{Myanmar, Universal, UniversalJoining, Zawgyi}
+use Rattle.script_shapers.specs.declared.shaper.ScriptShaper.TheVariants.{Myanmar, Universal, UniversalJoining, Zawgyi, Plain}
 
 -- the scripts that OpenType has the Indic shaper for, by their ISO 15924 tags
 abbrev pub indic_scripts : List ℕ
@@ -97,6 +97,11 @@ abbrev pub shaper_of : ℕ → Direction → ℕ → ScriptShaper
 shaper_of script direction tag =
     if is_arabic script direction tag then Arabic else other_shaper_of script tag
 
+-- the shaper where Apple's table `morx` substitutes glyphs: it does what the shaper of the script would do
+abbrev pub shaper_with_morx : ScriptShaper → ScriptShaper
+shaper_with_morx Default = Default
+shaper_with_morx _ = Plain
+
 -- the script that the font's table `GPOS` has to have
 abbrev pub wanted_script : ScriptShaper → Option ℕ
 wanted_script Hebrew = Some (tag_of (codes "hebr"))
@@ -114,6 +119,7 @@ mode_of Myanmar = mode.TakenApart
 mode_of Universal = mode.TakenApart
 mode_of UniversalJoining = mode.TakenApart
 mode_of Zawgyi = mode.Nothing
+mode_of Plain = mode.Auto
 
 abbrev pub width_of : ScriptShaper → ZeroWidthMarks
 width_of Default = width.Late
@@ -127,6 +133,7 @@ width_of Myanmar = width.Early
 width_of Universal = width.Early
 width_of UniversalJoining = width.Early
 width_of Zawgyi = width.Never
+width_of Plain = width.Never
 
 abbrev pub has_fallback : ScriptShaper → Bool
 has_fallback Default = true

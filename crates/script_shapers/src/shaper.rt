@@ -13,7 +13,7 @@ ghost use Rattle.script_shapers.specs.Hebrew.{presentation_forms};
 ghost use Rattle.script_shapers.specs.Shapers.{shaper_of, other_shaper_of, syllabic_shaper_of, is_arabic, myanmar_of, indic_of};
 ghost use Rattle.script_shapers.specs.Shapers.{universal_of, is_for_others, is_listed, indic_scripts, wanted_script, mode_of};
 ghost use Rattle.script_shapers.specs.Shapers.{width_of, has_fallback, has_own_composite, own_composite, other_composite};
-ghost use Rattle.script_shapers.specs.Shapers.{has_own_parts, own_parts};
+ghost use Rattle.script_shapers.specs.Shapers.{has_own_parts, own_parts, shaper_with_morx};
 ghost use Rattle.script_shapers.specs.declared.shaper.ScriptShaper.TheVariants.{Default, Hebrew};
 
 use crate::arabic::stretching::{record_pieces, stretch};
@@ -54,6 +54,9 @@ pub enum ScriptShaper {
     UniversalJoining,
     /// That of Burmese in the encoding Zawgyi, of which fonts do all.
     Zawgyi,
+    /// That of fonts whose table `morx` does what the shaper of the script would do: HarfBuzz's plainest one, which is the default
+    /// one but for marks, which keep their width and are placed by nothing else.
+    Plain,
 }
 
 use ScriptShaper::*;
@@ -94,6 +97,17 @@ impl ScriptShaper {
         }
     }
 
+    /// The shaper in its place where Apple's table `morx` substitutes glyphs: the plain one, unless it is the default one.
+    pub fn with_morx(self, substitutes_by_morx: bool) -> ScriptShaper
+        ensures { result ≡ (if substitutes_by_morx then shaper_with_morx self else self) }
+    {
+        if substitutes_by_morx && self != Default {
+            Plain
+        } else {
+            self
+        }
+    }
+
     /// The script that the font's table `GPOS` has to have, for its lookups to be applied; `None` where any will do.
     pub fn gpos_script(self) -> Option<Tag>
         ensures { option_map (λ tag. tag.0) result ≡ wanted_script self }
@@ -110,7 +124,7 @@ impl ScriptShaper {
     {
         match self {
             Hangul | Zawgyi => NormalizationMode::Nothing,
-            Default | Arabic | Hebrew | Thai => NormalizationMode::Auto,
+            Default | Arabic | Hebrew | Thai | Plain => NormalizationMode::Auto,
             _ => NormalizationMode::TakenApart,
         }
     }
@@ -120,7 +134,7 @@ impl ScriptShaper {
         ensures { result ≡ width_of self }
     {
         match self {
-            Hangul | Indic | Khmer | Zawgyi => ZeroWidthMarks::Never,
+            Hangul | Indic | Khmer | Zawgyi | Plain => ZeroWidthMarks::Never,
             Myanmar | Universal | UniversalJoining => ZeroWidthMarks::Early,
             Default | Arabic | Hebrew | Thai => ZeroWidthMarks::Late,
         }
@@ -147,7 +161,9 @@ impl ScriptShaper {
             Indic => indic::composition::compose(a, b),
             Khmer | Universal | UniversalJoining => khmer::composition::compose(a, b),
             Hebrew => compose_hebrew(a, b, has_gpos_mark),
-            Default | Arabic | Hangul | Thai | Myanmar | Zawgyi => unicode_tables::compose(a, b),
+            Default | Arabic | Hangul | Thai | Myanmar | Zawgyi | Plain => {
+                unicode_tables::compose(a, b)
+            }
         }
     }
 

@@ -74,6 +74,17 @@ fn shapers_differ(rt: HostRuntime) -> Result<(), Fail> {
     assert_eq!(rt; ScriptShaper::Hangul.zero_width_marks(), never);
     let late = ZeroWidthMarks::Late;
     assert_eq!(rt; ScriptShaper::Hebrew.zero_width_marks(), late);
+    assert_eq!(rt; ScriptShaper::Plain.zero_width_marks(), never);
+    assert_eq!(rt; ScriptShaper::Plain.normalization_mode(), auto);
+    assert_eq!(rt; ScriptShaper::Myanmar.with_morx(true), ScriptShaper::Plain);
+    assert_eq!(rt;
+        ScriptShaper::Myanmar.with_morx(false),
+        ScriptShaper::Myanmar
+    );
+    assert_eq!(rt;
+        ScriptShaper::Default.with_morx(true),
+        ScriptShaper::Default
+    );
     assert!(rt; ScriptShaper::Arabic.fallback_position());
     assert!(rt; !ScriptShaper::Hangul.fallback_position());
     assert!(rt; !ScriptShaper::Thai.fallback_position());

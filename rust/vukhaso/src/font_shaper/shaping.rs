@@ -452,13 +452,17 @@ fn position<W: Watch>(
     position_glyphs(buffer, face)?;
     watch.step(Step::Advances, buffer)?;
     let adjusts = adjusts_marks(buffer, &plan.shape);
-    let early = plan.script.shaper.zero_width_marks() == ZeroWidthMarks::Early;
-    zero_marks(buffer, plan.shape.zero_marks && early, adjusts);
+    zero_marks(buffer, zeroes_marks(plan, ZeroWidthMarks::Early), adjusts);
     position_by_lookups(buffer, face, &plan.shape, watch)?;
     track(buffer, face, plan.trak_mask);
-    zero_marks(buffer, plan.shape.zero_marks && !early, adjusts);
+    zero_marks(buffer, zeroes_marks(plan, ZeroWidthMarks::Late), adjusts);
     zero_deleted(buffer, plan);
     finish_positions(buffer, face, &plan.shape, direction)
+}
+
+/// Whether marks lose their width at this step.
+fn zeroes_marks(plan: &TextPlan, step: ZeroWidthMarks) -> bool {
+    plan.shape.zero_marks && plan.script.shaper.zero_width_marks() == step
 }
 
 /// Whether a mark that loses its width is moved back by it.

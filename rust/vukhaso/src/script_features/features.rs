@@ -41,7 +41,8 @@ pub fn collect_features(
         ScriptShaper::Default
         | ScriptShaper::Hebrew
         | ScriptShaper::Thai
-        | ScriptShaper::Zawgyi => Ok(()),
+        | ScriptShaper::Zawgyi
+        | ScriptShaper::Plain => Ok(()),
     }
 }
 

@@ -40,6 +40,9 @@ pub enum ScriptShaper {
     UniversalJoining,
     /// That of Burmese in the encoding Zawgyi, of which fonts do all.
     Zawgyi,
+    /// That of fonts whose table `morx` does what the shaper of the script would do: HarfBuzz's plainest one, which is the default
+    /// one but for marks, which keep their width and are placed by nothing else.
+    Plain,
 }
 
 use ScriptShaper::*;
@@ -85,6 +88,23 @@ impl ScriptShaper {
         }
     }
 
+    /// The shaper in its place where Apple's table `morx` substitutes glyphs: the plain one, unless it is
+    /// the default one.
+    ///
+    /// # Proved
+    ///
+    /// ```text
+    /// ensures { result ≡ (if substitutes_by_morx then shaper_with_morx self else self) }
+    /// ```
+    #[inline]
+    pub fn with_morx(self, substitutes_by_morx: bool) -> ScriptShaper {
+        if substitutes_by_morx && self != Default {
+            Plain
+        } else {
+            self
+        }
+    }
+
     /// The script that the font's table `GPOS` has to have, for its lookups to be applied; `None` where any
     /// will do.
     ///
@@ -112,7 +132,7 @@ impl ScriptShaper {
     pub fn normalization_mode(self) -> NormalizationMode {
         match self {
             Hangul | Zawgyi => NormalizationMode::Nothing,
-            Default | Arabic | Hebrew | Thai => NormalizationMode::Auto,
+            Default | Arabic | Hebrew | Thai | Plain => NormalizationMode::Auto,
             _ => NormalizationMode::TakenApart,
         }
     }
@@ -127,7 +147,7 @@ impl ScriptShaper {
     #[inline]
     pub fn zero_width_marks(self) -> ZeroWidthMarks {
         match self {
-            Hangul | Indic | Khmer | Zawgyi => ZeroWidthMarks::Never,
+            Hangul | Indic | Khmer | Zawgyi | Plain => ZeroWidthMarks::Never,
             Myanmar | Universal | UniversalJoining => ZeroWidthMarks::Early,
             Default | Arabic | Hebrew | Thai => ZeroWidthMarks::Late,
         }
@@ -164,7 +184,7 @@ impl ScriptShaper {
             Indic => indic::composition::compose(a, b),
             Khmer | Universal | UniversalJoining => khmer::composition::compose(a, b),
             Hebrew => compose_hebrew(a, b, has_gpos_mark),
-            Default | Arabic | Hangul | Thai | Myanmar | Zawgyi => {
+            Default | Arabic | Hangul | Thai | Myanmar | Zawgyi | Plain => {
                 crate::unicode_tables::compose(a, b)
             }
         }

@@ -79,6 +79,14 @@ fn shapers_differ() -> Result<(), Fail> {
     assert_eq!(ScriptShaper::Hangul.zero_width_marks(), never);
     let late = ZeroWidthMarks::Late;
     assert_eq!(ScriptShaper::Hebrew.zero_width_marks(), late);
+    assert_eq!(ScriptShaper::Plain.zero_width_marks(), never);
+    assert_eq!(ScriptShaper::Plain.normalization_mode(), auto);
+    assert_eq!(ScriptShaper::Myanmar.with_morx(true), ScriptShaper::Plain);
+    assert_eq!(
+        ScriptShaper::Myanmar.with_morx(false),
+        ScriptShaper::Myanmar
+    );
+    assert_eq!(ScriptShaper::Default.with_morx(true), ScriptShaper::Default);
     assert!(ScriptShaper::Arabic.fallback_position());
     assert!(!ScriptShaper::Hangul.fallback_position());
     assert!(!ScriptShaper::Thai.fallback_position());
