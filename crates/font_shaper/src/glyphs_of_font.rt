@@ -35,6 +35,10 @@ impl FontGlyphs for FaceGlyphs<'_> {
         let glyph = GlyphId(u16::try_from(glyph).unwrap_or(0));
         self.face.glyph_hor_advance(glyph)
     }
+
+    fn is_mirrored(&self) -> bool {
+        self.face.scale.x < 0
+    }
 }
 
 /// Stretches the marks of a text that is shaped, as the shaper of its script says. `Ok(false)` where a call was refused for length.

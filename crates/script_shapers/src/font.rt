@@ -18,6 +18,9 @@ pub trait FontGlyphs {
 
     /// How far the line goes on behind the glyph, in horizontal lines, at the font's scale.
     fn horizontal_advance(&self, glyph: u32) -> i32;
+
+    /// Whether the font's scale across is negative, so that glyphs are mirrored and widths are negative.
+    fn is_mirrored(&self) -> bool;
 }
 
 /// Whether the font has a glyph without width for the character.

@@ -55,6 +55,10 @@ impl FontGlyphs for TestFont {
             500
         }
     }
+
+    fn is_mirrored(&self) -> bool {
+        false
+    }
 }
 
 /// A buffer over a text whose characters have their properties.

@@ -40,6 +40,17 @@ struct Widths {
     repeating_count: i64,
 }
 
+/// How pieces are fitted to a word.
+#[derive(Clone, Copy, Debug)]
+struct Fit {
+    /// How often each repeating piece is put in once more.
+    copies: i64,
+    /// By how much pieces that were put in overlap.
+    overlap: i64,
+    /// What is left of the word, beside the pieces that are not repeated.
+    left: i64,
+}
+
 /// Whether the glyph is a piece of a mark that is stretched.
 fn is_piece(info: &hb_glyph_info_t) -> bool {
     matches!(shaper_byte(info), FIXED | REPEATING)
@@ -65,7 +76,16 @@ pub(crate) fn last_stretch<F: FontGlyphs>(
     for info in infos.iter().take(end).skip(start) {
         add_piece(&mut widths, info, font);
     }
-    Some(fitted(&widths, word, start, end))
+    let fit = fitted(&widths, font.is_mirrored());
+    Some(Stretch {
+        word,
+        start,
+        end,
+        added: fit.copies.wrapping_mul(widths.repeating_count),
+        copies: fit.copies,
+        overlap: fit.overlap,
+        offset: fit.left / 2,
+    })
 }
 
 /// Where the items begin that pass a test and end at a place.
@@ -97,39 +117,45 @@ fn add_piece<F: FontGlyphs>(widths: &mut Widths, info: &hb_glyph_info_t, font: &
 }
 
 /// How often pieces are repeated so that they fit the word: once more than they fit in, drawn over each other, where a part of the word
-/// would be left.
-fn fitted(widths: &Widths, word: usize, start: usize, end: usize) -> Stretch
-    ensures { result.end ≡ end }
-{
-    let mut left = widths.word.wrapping_sub(widths.fixed);
-    let repeating = widths.repeating;
-    let mut copies = if left > repeating && repeating > 0 {
-        (left / repeating).wrapping_sub(1)
+/// would be left. Where glyphs are mirrored, all widths are negative, and are compared without their signs.
+fn fitted(widths: &Widths, is_mirrored: bool) -> Fit {
+    let left = widths.word.wrapping_sub(widths.fixed);
+    let room = unsigned_width(left, is_mirrored);
+    let repeating = unsigned_width(widths.repeating, is_mirrored);
+    let mut copies = if room > repeating && repeating > 0 {
+        (room / repeating).wrapping_sub(1)
     } else {
         0
     };
-    let mut overlap = 0;
-    let shortfall = left.wrapping_sub(repeating.wrapping_mul(copies.wrapping_add(1)));
+    let shortfall = room.wrapping_sub(repeating.wrapping_mul(copies.wrapping_add(1)));
     if shortfall > 0 && widths.repeating_count > 0 {
         copies = copies.wrapping_add(1);
         let excess = copies
             .wrapping_add(1)
             .wrapping_mul(repeating)
-            .wrapping_sub(left);
+            .wrapping_sub(room);
         let added = copies.wrapping_mul(widths.repeating_count);
         if excess > 0 && added > 0 {
-            overlap = excess / added;
-            left = 0;
+            return Fit {
+                copies,
+                overlap: excess / added,
+                left: 0,
+            };
         }
     }
-    Stretch {
-        word,
-        start,
-        end,
-        added: copies.wrapping_mul(widths.repeating_count),
+    Fit {
         copies,
-        overlap,
-        offset: left / 2,
+        overlap: 0,
+        left,
+    }
+}
+
+/// A width without the sign that mirrored glyphs have.
+fn unsigned_width(width: i64, is_mirrored: bool) -> i64 {
+    if is_mirrored {
+        0i64.wrapping_sub(width)
+    } else {
+        width
     }
 }
 

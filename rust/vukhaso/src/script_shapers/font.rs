@@ -32,6 +32,13 @@ pub trait FontGlyphs {
     ///
     /// That it returns.
     fn horizontal_advance(&self, glyph: u32) -> i32;
+
+    /// Whether the font's scale across is negative, so that glyphs are mirrored and widths are negative.
+    ///
+    /// # Proved
+    ///
+    /// That it returns.
+    fn is_mirrored(&self) -> bool;
 }
 
 /// Whether the font has a glyph without width for the character.
