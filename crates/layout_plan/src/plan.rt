@@ -18,8 +18,6 @@ pub enum Pause {
     Nothing,
     /// It forgets which glyphs were substituted.
     ClearSubstitutionFlags,
-    /// It forgets the syllables.
-    ClearSyllables,
     /// It finds the syllables.
     SetUpSyllables,
     /// It puts the glyphs of each syllable in order before the basic features.

@@ -1,7 +1,7 @@
 -- The pauses between the stages of features that each shaper asks for, in their order.
 use Rattle.std.specs.Prelude.{ℕ, ◌++◌, List, [], ◌∷◌, length, replicate, codes}
 use Rattle.layout_plan.specs.declared.plan.Pause.{Pause}
-use Rattle.layout_plan.specs.declared.plan.Pause.TheVariants.{Nothing, ClearSubstitutionFlags, ClearSyllables, SetUpSyllables}
+use Rattle.layout_plan.specs.declared.plan.Pause.TheVariants.{Nothing, ClearSubstitutionFlags, SetUpSyllables}
 use Rattle.layout_plan.specs.declared.plan.Pause.TheVariants.{InitialReordering, FinalReordering, RecordRphf, RecordPref}
 use Rattle.script_shapers.specs.declared.shaper.ScriptShaper.{ScriptShaper}
 use Rattle.script_shapers.specs.declared.shaper.ScriptShaper.TheVariants.{Indic, Khmer, Myanmar, Universal, UniversalJoining}
@@ -24,21 +24,21 @@ stages_of features = replicate (length features) Nothing
 abbrev pub indic_pauses : List Pause
 indic_pauses = SetUpSyllables ∷ InitialReordering ∷ stages_of indic_basic ++ (FinalReordering ∷ [])
 
--- syllables are found and put in order, and forgotten after the basic features
+-- syllables are found and put in order, and the other features follow the basic ones
 abbrev pub khmer_pauses : List Pause
-khmer_pauses = SetUpSyllables ∷ InitialReordering ∷ ClearSyllables ∷ []
+khmer_pauses = SetUpSyllables ∷ InitialReordering ∷ Nothing ∷ []
 
 abbrev pub myanmar_pauses : List Pause
-myanmar_pauses = SetUpSyllables ∷ InitialReordering ∷ stages_of myanmar_basic ++ (ClearSyllables ∷ [])
+myanmar_pauses = SetUpSyllables ∷ InitialReordering ∷ stages_of myanmar_basic ++ (Nothing ∷ [])
 
 -- it is noted which glyphs `rphf` and `pref` made
 abbrev pub universal_pauses_of_records : List Pause
 universal_pauses_of_records = ClearSubstitutionFlags ∷ RecordRphf ∷ ClearSubstitutionFlags ∷ RecordPref ∷ []
 
--- syllables are found, and put in order and forgotten after the basic features
+-- syllables are found, and put in order after the basic features
 abbrev pub universal_pauses_of_syllables : List Pause
 universal_pauses_of_syllables =
-    SetUpSyllables ∷ universal_pauses_of_records ++ (InitialReordering ∷ ClearSyllables ∷ [])
+    SetUpSyllables ∷ universal_pauses_of_records ++ (InitialReordering ∷ Nothing ∷ [])
 
 -- and the forms of letters are in a stage behind that
 abbrev pub universal_pauses : List Pause
@@ -52,8 +52,3 @@ pauses_of Myanmar = myanmar_pauses
 pauses_of Universal = universal_pauses
 pauses_of UniversalJoining = universal_pauses
 pauses_of _ = []
-
--- those that come behind the features of a user
-abbrev pub last_pauses_of : ScriptShaper → List Pause
-last_pauses_of Indic = ClearSyllables ∷ []
-last_pauses_of _ = []

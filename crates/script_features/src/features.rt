@@ -2,7 +2,7 @@
 
 ghost use Rattle.std.specs.Prelude.{◌≡◌, ◌≢◌, ◌++◌, IfOk};
 ghost use Rattle.layout_plan.specs.Pauses.{HasSamePauses};
-ghost use Rattle.script_features.specs.Stages.{pauses_of, last_pauses_of};
+ghost use Rattle.script_features.specs.Stages.{pauses_of};
 ghost use Rattle.script_shapers.specs.declared.shaper.ScriptShaper.TheVariants.{Arabic};
 
 use crate::{arabic, indic, khmer, myanmar, universal};
@@ -43,7 +43,7 @@ pub fn collect_features(
 /// Changes the features that were asked for, after those of the user: Hangul has no contextual alternates, since fonts have jamo
 /// there.
 pub fn override_features(shaper: ScriptShaper, builder: &mut PlanBuilder) -> Result<(), AllocError>
-    ensures { IfOk result (λ _. builder.new.pauses.items ≡ builder.old.pauses.items ++ last_pauses_of shaper) }
+    ensures { HasSamePauses builder.old builder.new }
 {
     match shaper {
         ScriptShaper::Hangul => builder.disable_feature(Tag::from_bytes(b"calt")),

@@ -1,7 +1,7 @@
 //! The features that Indic scripts ask for, in their stages (OpenType, "Developing OpenType Fonts for Devanagari Script").
 
-ghost use Rattle.std.specs.Prelude.{◌≡◌, ◌++◌, ◌∷◌, [], IfOk};
-ghost use Rattle.layout_plan.specs.declared.plan.Pause.TheVariants.{ClearSyllables};
+ghost use Rattle.std.specs.Prelude.{◌≡◌, ◌++◌, IfOk};
+ghost use Rattle.layout_plan.specs.Pauses.{HasSamePauses};
 ghost use Rattle.script_features.specs.Stages.{indic_pauses};
 
 use crate::requests::{add_all, add_in_stages};
@@ -63,10 +63,9 @@ pub(crate) fn collect_features(builder: &mut PlanBuilder) -> Result<(), AllocErr
 
 /// Turns standard ligatures off, behind the features of a user.
 pub(crate) fn override_features(builder: &mut PlanBuilder) -> Result<(), AllocError>
-    ensures { IfOk result (λ _. builder.new.pauses.items ≡ builder.old.pauses.items ++ (ClearSyllables ∷ [])) }
+    ensures { HasSamePauses builder.old builder.new }
 {
-    builder.disable_feature(Tag::from_bytes(b"liga"))?;
-    builder.add_gsub_pause(Pause::ClearSyllables)
+    builder.disable_feature(Tag::from_bytes(b"liga"))
 }
 
 /// The plan for a script and the features of a font.

@@ -245,7 +245,7 @@ fn pause(
         }
         Pause::RecordRphf => work_on_syllables(buffer, face, plan, SyllablePause::RecordRphf),
         Pause::RecordPref => work_on_syllables(buffer, face, plan, SyllablePause::RecordPref),
-        _ => Ok(true),
+        Pause::Nothing => Ok(true),
     }
 }
 

@@ -56,7 +56,7 @@ pub fn collect_features(
 /// # Proved
 ///
 /// ```text
-/// ensures { IfOk result (λ _. builder.new.pauses.items ≡ builder.old.pauses.items ++ last_pauses_of shaper) }
+/// ensures { HasSamePauses builder.old builder.new }
 /// ```
 #[inline]
 pub fn override_features(

@@ -59,8 +59,7 @@ pub(crate) fn collect_features(builder: &mut PlanBuilder) -> Result<(), AllocErr
 
 /// Turns standard ligatures off, behind the features of a user.
 pub(crate) fn override_features(builder: &mut PlanBuilder) -> Result<(), AllocError> {
-    builder.disable_feature(Tag::from_bytes(b"liga"))?;
-    builder.add_gsub_pause(Pause::ClearSyllables)
+    builder.disable_feature(Tag::from_bytes(b"liga"))
 }
 
 /// The plan for a script and the features of a font.

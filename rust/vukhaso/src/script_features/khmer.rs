@@ -49,7 +49,7 @@ pub(crate) fn collect_features(builder: &mut PlanBuilder) -> Result<(), AllocErr
         ..MANUAL_JOINERS
     };
     add_all(builder, &BASIC_FEATURES, flags)?;
-    builder.add_gsub_pause(Pause::ClearSyllables)?;
+    builder.add_gsub_pause(Pause::Nothing)?;
     add_all(builder, &OTHER_FEATURES, MANUAL_JOINERS)
 }
 

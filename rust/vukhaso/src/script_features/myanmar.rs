@@ -46,6 +46,6 @@ pub(crate) fn collect_features(builder: &mut PlanBuilder) -> Result<(), AllocErr
         ..MANUAL_JOINER
     };
     add_in_stages(builder, &BASIC_FEATURES, flags)?;
-    builder.add_gsub_pause(Pause::ClearSyllables)?;
+    builder.add_gsub_pause(Pause::Nothing)?;
     add_all(builder, &OTHER_FEATURES, MANUAL_JOINER)
 }

@@ -75,7 +75,7 @@ fn add_basic_features(builder: &mut PlanBuilder) -> Result<(), AllocError> {
     add_recorded_features(builder)?;
     add_all(builder, &BASIC_FEATURES, WITHIN_SYLLABLE)?;
     builder.add_gsub_pause(Pause::InitialReordering)?;
-    builder.add_gsub_pause(Pause::ClearSyllables)
+    builder.add_gsub_pause(Pause::Nothing)
 }
 
 /// Asks for the features of which it is noted where they have made a glyph.
