@@ -2,6 +2,7 @@
 
 ghost use Rattle.std.specs.Prelude.{◌≡◌, true, false, IfOk};
 ghost use Rattle.font_shaper.specs.ClusterOrder.{KeepsStage};
+ghost use Rattle.shaping_buffer.specs.KeepsClusters.{KeepsClusters};
 
 use crate::lookups::budget_of;
 use crate::planning::TextPlan;
@@ -63,6 +64,7 @@ fn tag_of(feature: FormFeature) -> Tag {
 }
 
 /// Works on the syllables of a text at a pause. `Ok(false)` where a call was refused for length.
+#[tactic(auto, using(crate::proofs::StageLemmas::stages))]
 pub(crate) fn work_on_syllables(
     buffer: &mut hb_buffer_t,
     face: &Face,
@@ -82,5 +84,20 @@ pub(crate) fn work_on_syllables(
         wants_no_context: plan.syllables.wants_no_context(),
         budget: budget_of(buffer),
     };
-    plan.syllables.pause(face.alloc, buffer, &mut forms, pause)
+    if !plan.syllables.pause(face.alloc, buffer, &mut forms, pause)? {
+        return Ok(false);
+    }
+    fail_if_spent(buffer, &forms.budget);
+    Ok(true)
+}
+
+/// Says that shaping was given up where the budget is spent.
+fn fail_if_spent(buffer: &mut hb_buffer_t, budget: &Budget)
+    ensures same_output { buffer.new.have_output ≡ buffer.old.have_output }
+    ensures keeps { KeepsClusters buffer.old buffer.new }
+    ensures says { budget.now.steps ≡ 0 → buffer.new.shaping_failed ≡ true }
+{
+    if budget.is_spent() {
+        buffer.shaping_failed = true;
+    }
 }

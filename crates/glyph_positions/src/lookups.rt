@@ -1,7 +1,7 @@
 //! A lookup of `GPOS` over a buffer: each glyph that it is for is tried with its subtables, one after the other (HarfBuzz,
 //! `apply_forward`).
 
-ghost use Rattle.std.specs.Prelude.{◌≡◌, ◌≤◌, ◌+◌, false, length, IsSome, IfSome};
+ghost use Rattle.std.specs.Prelude.{◌≡◌, ◌≤◌, ◌-◌, true, false, length, IsSome, IfSome};
 ghost use Rattle.glyph_layout.specs.Budget.{IsNotMore};
 ghost use Rattle.glyph_layout.specs.Walk.{covered_index};
 ghost use Rattle.glyph_lists.specs.Masks.{reset_masks};
@@ -43,7 +43,7 @@ struct Task<'a> {
 }
 
 /// Positions the glyphs by the lookup of this index, where the buffer's glyphs have one of the options' bits. A budget that is spent
-/// ends the walk.
+/// ends the walk, and `buffer.shaping_failed` says so.
 #[tactic(auto, using(crate::proofs::FlagLemmas::keeps_by))]
 pub fn position(
     buffer: &mut hb_buffer_t,
@@ -59,10 +59,12 @@ pub fn position(
     ensures level { buffer.new.cluster_level ≡ buffer.old.cluster_level }
     ensures glyphs { reset_masks 0 buffer.new.input ≡ reset_masks 0 buffer.old.input }
     ensures spent { IsNotMore search.old.budget search.new.budget }
+    ensures says { search.new.budget.steps ≡ 0 → buffer.new.shaping_failed ≡ true }
     ensures keeps { KeepsClusters buffer.old buffer.new }
 {
     prove!(buffer.out_len() == 0);
     place_all(buffer, setting, lookup, options, search);
+    fail_if_spent(buffer, search);
     prove!(buffer.out_len() == 0);
 }
 
@@ -243,7 +245,7 @@ fn apply_records<'a>(
 {
     for index in 0..usize::from(fit.record_count) {
         if let Some(nested) = nested_task(task, fit, places, index) {
-            if !search.budget.nest() {
+            if task.depth == 0 || !search.budget.nest() {
                 fail(buffer);
                 return;
             }
@@ -252,25 +254,38 @@ fn apply_records<'a>(
     }
 }
 
-/// The lookup of a record, at the glyph that the record names; `None` where there is no such lookup or glyph, or no lookup may be
-/// applied so deep.
+/// The lookup of a record, at the glyph that the record names; `None` where there is no such lookup or glyph.
 fn nested_task<'a>(task: &Task<'a>, fit: &Fit, places: &Places, index: usize) -> Option<Task<'a>>
-    ensures { IfSome result (λ nested. nested.depth + 1 ≡ task.now.depth) }
+    ensures { IfSome result (λ nested. nested.depth ≡ task.now.depth - 1) }
 {
     let record = fit.record(index)?;
     let at = *places.as_slice().get(record.sequence)?;
     let lookup = task.setting.list.lookup(record.lookup)?;
-    let depth = task.depth.checked_sub(1)?;
     Some(Task {
         setting: task.setting,
         lookup,
         options: task.options,
         place: task.place.saturating_add(at),
-        depth,
+        depth: task.depth.saturating_sub(1),
     })
 }
 
-/// Says that the text could not be shaped as the font asks, as too many lookups were applied.
+/// Says that shaping was given up where the budget is spent.
+fn fail_if_spent(buffer: &mut hb_buffer_t, search: &Search)
+    requires closed { buffer.old.have_output ≡ false }
+    requires placed { IsSome buffer.old.positions }
+    ensures closed { buffer.new.have_output ≡ false }
+    ensures placed { IsSome buffer.new.positions }
+    ensures level { buffer.new.cluster_level ≡ buffer.old.cluster_level }
+    ensures glyphs { reset_masks 0 buffer.new.input ≡ reset_masks 0 buffer.old.input }
+    ensures says { search.now.budget.steps ≡ 0 → buffer.new.shaping_failed ≡ true }
+{
+    if search.budget.is_spent() {
+        fail(buffer);
+    }
+}
+
+/// Says that the text could not be shaped as the font asks.
 fn fail(buffer: &mut hb_buffer_t)
     requires closed { buffer.old.have_output ≡ false }
     requires placed { IsSome buffer.old.positions }
@@ -278,6 +293,7 @@ fn fail(buffer: &mut hb_buffer_t)
     ensures placed { IsSome buffer.new.positions }
     ensures level { buffer.new.cluster_level ≡ buffer.old.cluster_level }
     ensures glyphs { reset_masks 0 buffer.new.input ≡ reset_masks 0 buffer.old.input }
+    ensures says { buffer.new.shaping_failed ≡ true }
 {
     buffer.shaping_failed = true;
 }

@@ -106,9 +106,22 @@ fn apply(
     }
     if is_reverse(substitutions.list, lookup) {
         substitute_reverse(buffer, substitutions, lookup, progress);
+        fail_if_spent(buffer, progress);
         return Ok(true);
     }
     substitute_forward(buffer, substitutions, lookup, first, progress)
+}
+
+/// Says that shaping was given up where the budget is spent.
+fn fail_if_spent(buffer: &mut hb_buffer_t, progress: &Progress)
+    ensures same_output { buffer.new.have_output ≡ buffer.old.have_output }
+    ensures same_length { length buffer.new.input ≡ length buffer.old.input }
+    ensures keeps { KeepsClusters buffer.old buffer.new }
+    ensures says { progress.now.search.budget.steps ≡ 0 → buffer.new.shaping_failed ≡ true }
+{
+    if progress.search.budget.is_spent() {
+        fail(buffer);
+    }
 }
 
 /// Whether a lookup is applied from the end.
@@ -145,9 +158,7 @@ fn substitute_forward(
             return Ok(false);
         }
     }
-    if progress.search.budget.is_spent() {
-        fail(buffer);
-    }
+    fail_if_spent(buffer, progress);
     buffer.sync()
 }
 

@@ -94,12 +94,12 @@ fn positioned(
     let gdef = no_definitions(gpos);
     let list = LookupList::new(alloc, gpos, 9, &gdef)?;
     let mut buffer = line_of(alloc, direction, glyphs)?;
-    position_all(&mut buffer, &list, glyphs.len());
+    position_all(&mut buffer, &list, Budget::new(1000, glyphs.len()));
     Ok(buffer)
 }
 
-/// Positions a line by the first lookup.
-fn position_all(buffer: &mut hb_buffer_t, list: &LookupList, count: usize)
+/// Positions a line by the first lookup, within a budget.
+fn position_all(buffer: &mut hb_buffer_t, list: &LookupList, budget: Budget)
     requires closed { buffer.old.have_output ≡ false }
     requires placed { IsSome buffer.old.positions }
     ensures { IsSome buffer.new.positions }
@@ -111,7 +111,7 @@ fn position_all(buffer: &mut hb_buffer_t, list: &LookupList, count: usize)
             deltas: Deltas::NONE,
         },
     };
-    let mut search = Search::new(Budget::new(1000, count));
+    let mut search = Search::new(budget);
     position_start(buffer);
     position(buffer, &setting, 0, &OPTIONS, &mut search);
     position_finish_offsets(buffer);
@@ -163,6 +163,21 @@ fn the_second_glyph_of_a_pair(rt: HostRuntime) -> Result<(), AllocError> {
     assert!(rt; !is_unsafe(&buffer, 0));
     assert!(rt; is_unsafe(&buffer, 1));
     assert!(rt; is_unsafe(&buffer, 3));
+    Ok(())
+}
+
+/// Where the budget is spent, glyphs stay as they are, and it is told.
+#[test]
+fn a_spent_budget_is_told(rt: HostRuntime) -> Result<(), AllocError> {
+    let pairs = [1, 12, 4, 0, 1, 18, 1, 1, 10, 2, 11, 0xFFCE, 12, 20];
+    let gpos = gpos_of(rt.alloc(), 2, 0, &pairs)?;
+    let gdef = no_definitions(&gpos);
+    let list = LookupList::new(rt.alloc(), &gpos, 9, &gdef)?;
+    for (steps, wanted) in [(3, (600, true)), (1000, (550, false))] {
+        let mut buffer = line_of(rt.alloc(), Direction::LeftToRight, &[10, 11])?;
+        position_all(&mut buffer, &list, Budget { nested: 1, steps });
+        assert_eq!(rt; (at(&buffer, 0).0, buffer.shaping_failed), wanted);
+    }
     Ok(())
 }
 

@@ -10,5 +10,6 @@ concerns_words (errors.Options error) = true
 concerns_words (errors.Font file error) = false
 concerns_words (errors.Face file) = false
 concerns_words (errors.Text file error) = false
+concerns_words errors.GivenUp = false
 concerns_words (errors.Output error) = false
 concerns_words errors.Memory = true

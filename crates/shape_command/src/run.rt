@@ -1,6 +1,6 @@
 //! What the program does.
 
-ghost use Rattle.std.specs.Prelude.{◌≡◌, Some, true, IfErr, IsSome, OnOk};
+ghost use Rattle.std.specs.Prelude.{◌≡◌, Some, true, false, IfErr, IsErr, IsSome, OnOk};
 ghost use Rattle.shape_command.specs.Errors.{concerns_words};
 
 use crate::arguments::matches_of;
@@ -9,7 +9,7 @@ use crate::font_file::FontFile;
 use crate::lines::{LinesError, answer_lines, answer_paragraph};
 use crate::loaded_font::LoadedFont;
 use crate::options::{Options, OptionsError, TextSource};
-use crate::shaper::{LineNames, LineShaper, LineState};
+use crate::shaper::{KeptLine, LineNames, LineShaper, LineState};
 use shaping_buffer::{Flags, NoGlyphNames, SerializeFlags};
 use std::alloc::{AllocError, Global};
 use std::convert::AsStr;
@@ -46,6 +46,9 @@ pub enum CommandError<'a> {
         /// Why it was not read.
         error: io::Error,
     },
+    /// The answers are those of shaping that was given up.
+    #[error("Shaping was given up: the font asks for more work than the text may cost")]
+    GivenUp,
     /// The answers were not written.
     #[error("Failed writing glyphs: {0}")]
     Output(io::Error),
@@ -153,6 +156,7 @@ pub(crate) fn answer_options<'a, F: Files + AllocGlobal, R: BufRead, W: Write>(
         };
         let shaper = shaper_of(font, options);
         let answered = answer_text(rt, &shaper, &mut state, &options.text, input, output);
+        let answered = unless_given_up(answered, &mut state.kept);
         font.kept = state.kept;
         font.names = Some(state.names);
         answered
@@ -163,9 +167,27 @@ pub(crate) fn answer_options<'a, F: Files + AllocGlobal, R: BufRead, W: Write>(
         };
         let shaper = shaper_of(font, options);
         let answered = answer_text(rt, &shaper, &mut state, &options.text, input, output);
+        let answered = unless_given_up(answered, &mut state.kept);
         font.kept = state.kept;
         answered
     }
+}
+
+/// What became of a text: an error where the shaping of one of its lines was given up, which is said once.
+fn unless_given_up<'a>(
+    answered: Result<bool, CommandError<'a>>,
+    kept: &mut KeptLine,
+) -> Result<bool, CommandError<'a>>
+    ensures told { kept.new.has_given_up ≡ false }
+    ensures same { kept.old.has_given_up ≡ false → result ≡ answered.entry }
+    ensures given_up { kept.old.has_given_up ≡ true → IsErr result }
+{
+    let has_given_up = kept.has_given_up;
+    kept.has_given_up = false;
+    if has_given_up && answered.is_ok() {
+        return Err(CommandError::GivenUp);
+    }
+    answered
 }
 
 /// How lines are shaped with a font and printed.

@@ -1,6 +1,6 @@
 //! What a line is answered with.
 
-ghost use Rattle.std.specs.Prelude.{◌≡◌, None, IfOk};
+ghost use Rattle.std.specs.Prelude.{◌≡◌, None, false, IfOk};
 ghost use Rattle.shape_command.specs.Answer.{answer_text, is_shaped};
 ghost use Rattle.shape_command.specs.Lines.{IsAnswer, glyphs_line};
 
@@ -59,6 +59,8 @@ pub struct KeptLine {
     pub plan: KeptPlan,
     /// Its buffer, emptied.
     pub text: Option<UnicodeBuffer>,
+    /// Whether the shaping of a line was given up, and nothing was said of it yet.
+    pub has_given_up: bool,
 }
 
 impl KeptLine {
@@ -66,10 +68,12 @@ impl KeptLine {
     pub fn new() -> Self
         ensures plan { result.plan ≡ None }
         ensures text { result.text ≡ None }
+        ensures has_given_up { result.has_given_up ≡ false }
     {
         KeptLine {
             plan: KeptPlan::new(),
             text: None,
+            has_given_up: false,
         }
     }
 
@@ -160,6 +164,7 @@ impl LineShaper<'_> {
         ensures { IfOk result (λ answer. IsAnswer self.now.output (answer_text answer)) }
     {
         let answer = self.print(alloc, &mut state.names, &glyphs)?;
+        state.kept.has_given_up |= glyphs.shaping_failed();
         state.kept.text = Some(glyphs.clear());
         Ok(answer)
     }

@@ -185,13 +185,16 @@ fn tables_list_glyphs(rt: HostRuntime) -> Result<(), AllocError> {
 fn budgets_are_spent(rt: HostRuntime) {
     let mut budget = Budget::new(1, 10);
     let steps = budget.steps;
-    assert!(rt; steps == 26624);
+    assert!(rt; steps == 425_984);
     assert!(rt; budget.pay(24) && budget.pay_for(10));
     assert!(rt; budget.steps.saturating_add(34) == steps);
     assert!(rt; (budget.nest(), budget.nest()) == (true, false));
     assert!(rt; !budget.is_spent());
-    assert!(rt; !budget.pay(u32::MAX));
+    assert!(rt; !budget.pay(u64::MAX));
     assert!(rt; budget.is_spent());
+    let mut long = Budget::new(1, 1_000_000);
+    assert!(rt; long.steps == 16_384_262_144);
+    assert!(rt; long.pay(16_384_262_144) && long.is_spent());
 }
 
 /// What a walk passes over, by the options of its feature.

@@ -24,7 +24,7 @@ impl Work {
     pub(crate) fn new(max_ops: i32, glyphs: &[hb_glyph_info_t]) -> Self {
         let nested = u32::try_from(max_ops).unwrap_or(0);
         let mut budget = Budget::new(nested, glyphs.len());
-        budget.steps = budget.steps.saturating_add(nested.saturating_mul(8));
+        budget.steps = budget.steps.saturating_add(u64::from(nested) * 8);
         Work {
             budget,
             digest: if glyphs.len() < DIGEST_THRESHOLD {

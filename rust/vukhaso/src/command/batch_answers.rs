@@ -156,6 +156,7 @@ fn answer_line<F: Files + AllocGlobal, R: BufRead, W: Write>(
     };
     match answered {
         Ok(all_shaped) => Ok(Some(all_shaped)),
+        Err(CommandError::GivenUp) => Ok(Some(false)),
         Err(error) => {
             say(output, error)?;
             Ok(Some(false))

@@ -71,7 +71,7 @@ fn shape_text(
         return Ok(false);
     }
     match shape_watched(face, options.features.as_slice(), characters, picture) {
-        Ok(_glyphs) => Ok(true),
+        Ok(glyphs) => Ok(!glyphs.shaping_failed()),
         Err(ShapeError::Memory) => Err(AllocError),
         Err(_) => Ok(false),
     }

@@ -9,7 +9,7 @@ use crate::command::font_file::FontFile;
 use crate::command::lines::{LinesError, answer_lines, answer_paragraph};
 use crate::command::loaded_font::LoadedFont;
 use crate::command::options::{Options, OptionsError, TextSource};
-use crate::command::shaper::{LineNames, LineShaper, LineState};
+use crate::command::shaper::{KeptLine, LineNames, LineShaper, LineState};
 use crate::host::Files;
 use crate::host::fs;
 use crate::host::io::{self, BufRead, BufReader, Write};
@@ -39,6 +39,8 @@ pub enum CommandError<'a> {
         /// Why it was not read.
         error: io::Error,
     },
+    /// The answers are those of shaping that was given up.
+    GivenUp,
     /// The answers were not written.
     Output(io::Error),
     /// There is no memory.
@@ -53,6 +55,10 @@ impl<'a> core::fmt::Display for CommandError<'a> {
             Self::Font { file, error, .. } => write!(f, "{file}: {error}"),
             Self::Face(n0) => write!(f, "{n0}: Failed loading font face"),
             Self::Text { file, error, .. } => write!(f, "Failed reading text: {file}: {error}"),
+            Self::GivenUp => write!(
+                f,
+                "Shaping was given up: the font asks for more work than the text may cost"
+            ),
             Self::Output(n0) => write!(f, "Failed writing glyphs: {n0}"),
             Self::Memory => write!(f, "out of memory"),
         }
@@ -175,6 +181,7 @@ pub(crate) fn answer_options<'a, F: Files + AllocGlobal, R: BufRead, W: Write>(
         };
         let shaper = shaper_of(font, options);
         let answered = answer_text(rt, &shaper, &mut state, &options.text, input, output);
+        let answered = unless_given_up(answered, &mut state.kept);
         font.kept = state.kept;
         font.names = Some(state.names);
         answered
@@ -185,9 +192,24 @@ pub(crate) fn answer_options<'a, F: Files + AllocGlobal, R: BufRead, W: Write>(
         };
         let shaper = shaper_of(font, options);
         let answered = answer_text(rt, &shaper, &mut state, &options.text, input, output);
+        let answered = unless_given_up(answered, &mut state.kept);
         font.kept = state.kept;
         answered
     }
+}
+
+/// What became of a text: an error where the shaping of one of its lines was given up, which is said
+/// once.
+fn unless_given_up<'a>(
+    answered: Result<bool, CommandError<'a>>,
+    kept: &mut KeptLine,
+) -> Result<bool, CommandError<'a>> {
+    let has_given_up = kept.has_given_up;
+    kept.has_given_up = false;
+    if has_given_up && answered.is_ok() {
+        return Err(CommandError::GivenUp);
+    }
+    answered
 }
 
 /// How lines are shaped with a font and printed.

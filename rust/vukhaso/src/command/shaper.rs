@@ -71,6 +71,8 @@ pub struct KeptLine {
     pub plan: KeptPlan,
     /// Its buffer, emptied.
     pub text: Option<UnicodeBuffer>,
+    /// Whether the shaping of a line was given up, and nothing was said of it yet.
+    pub has_given_up: bool,
 }
 
 impl KeptLine {
@@ -81,12 +83,14 @@ impl KeptLine {
     /// ```text
     /// ensures plan { result.plan ≡ None }
     /// ensures text { result.text ≡ None }
+    /// ensures has_given_up { result.has_given_up ≡ false }
     /// ```
     #[inline]
     pub fn new() -> Self {
         KeptLine {
             plan: KeptPlan::new(),
             text: None,
+            has_given_up: false,
         }
     }
 
@@ -186,6 +190,7 @@ impl LineShaper<'_> {
         glyphs: GlyphBuffer,
     ) -> Result<Answer, AllocError> {
         let answer = self.print(&mut state.names, &glyphs)?;
+        state.kept.has_given_up |= glyphs.shaping_failed();
         state.kept.text = Some(glyphs.clear());
         Ok(answer)
     }

@@ -86,5 +86,16 @@ pub(crate) fn work_on_syllables(
         wants_no_context: plan.syllables.wants_no_context(),
         budget: budget_of(buffer),
     };
-    plan.syllables.pause(buffer, &mut forms, pause)
+    if !plan.syllables.pause(buffer, &mut forms, pause)? {
+        return Ok(false);
+    }
+    fail_if_spent(buffer, &forms.budget);
+    Ok(true)
+}
+
+/// Says that shaping was given up where the budget is spent.
+fn fail_if_spent(buffer: &mut hb_buffer_t, budget: &Budget) {
+    if budget.is_spent() {
+        buffer.shaping_failed = true;
+    }
 }

@@ -141,9 +141,10 @@ pub(crate) fn shape_verified(
     Ok(glyphs)
 }
 
-/// Tests glyphs by their text. Where clusters may stand in any order there is no test.
+/// Tests glyphs by their text. Where clusters may stand in any order, or where shaping was given up,
+/// there is no test.
 fn verify(shaping: Shaping<'_>, text: &Original, glyphs: &GlyphBuffer) -> Result<(), ShapeError> {
-    if !text.has_monotone_level() {
+    if !text.has_monotone_level() || glyphs.shaping_failed() {
         return Ok(());
     }
     let glyphs = InOrder::of(glyphs, text.direction.is_forward());
@@ -225,6 +226,9 @@ fn is_safe_to_break(
         {
             let buffer = part_of(text, *start, *end)?;
             let shaped = shaping.shape(buffer)?;
+            if shaped.shaping_failed() {
+                return Ok(true);
+            }
             let shaped = InOrder::of(&shaped, glyphs.is_forward);
             if !stands_at(shaped, 0, shaped.len(), glyphs, compared) {
                 return Ok(false);

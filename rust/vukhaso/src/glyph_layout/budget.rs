@@ -3,10 +3,16 @@
 //! How much work a text may still cost while it is shaped, so that no font makes it endless.
 
 /// How many steps a subtable costs that is tried.
-pub const SUBTABLE_STEPS: u32 = 4;
+pub const SUBTABLE_STEPS: u64 = 4;
 
 /// How many glyphs or subtables are passed over by their digests in a step.
 pub const PASSED_A_STEP: usize = 16;
+
+/// How many steps a text may cost however short it is: four for each rule of the greatest set of rules that a table can hold.
+const STEPS_A_TEXT: u64 = 0x4_0000;
+
+/// How many more it may cost for each of its glyphs.
+const STEPS_A_GLYPH: u64 = 0x4000;
 
 /// What is left to spend. It never rises.
 #[derive(Clone, Copy, Debug)]
@@ -14,14 +20,12 @@ pub struct Budget {
     /// How many more lookups may be applied by others, as HarfBuzz counts them in `max_ops`.
     pub nested: u32,
     /// How many more steps may be made: subtables and rules that are tried, and glyphs that are looked at.
-    pub steps: u32,
+    pub steps: u64,
 }
 
 impl Budget {
-    /// The budget of a text with so many glyphs, in which lookups may apply so many others: 1,024 steps for
-    /// each of at most 65,536 glyphs, and 16,384 more. The first and the last are HarfBuzz's numbers for
-    /// its operations (`HB_BUFFER_MAX_OPS_FACTOR` and `HB_BUFFER_MAX_OPS_MIN`), of which it allows the
-    /// greater.
+    /// The budget of a text with so many glyphs, in which lookups may apply so many others: 16,384 steps
+    /// for each glyph, and 262,144 more.
     ///
     /// # Proved
     ///
@@ -31,25 +35,26 @@ impl Budget {
     /// ```
     #[inline]
     pub fn new(nested: u32, glyphs: usize) -> Self {
-        let glyphs = glyphs.min(65536) as u32;
+        let steps = (glyphs as u64).saturating_mul(STEPS_A_GLYPH);
         Budget {
             nested,
-            steps: 16384 + 1024 * glyphs,
+            steps: steps.saturating_add(STEPS_A_TEXT),
         }
     }
 
-    /// Pays for steps. Where fewer are left, all of them are spent, and the answer is false.
+    /// Pays for steps, where as many are left. Where fewer are left, all of them are spent, and the answer
+    /// is false.
     ///
     /// # Proved
     ///
     /// ```text
+    /// ensures left { self.new ≡ record self.old { steps = self.old.steps - steps } }
+    /// ensures paid { IsTrue result ↔ steps ≤ self.old.steps }
     /// ensures spent { IsNotMore self.old self.new }
-    /// ensures same { self.new.nested ≡ self.old.nested }
-    /// ensures paid { IsTrue result → self.new.steps + steps ≡ self.old.steps }
     /// ensures empty { IsFalse result → self.new.steps ≡ 0 }
     /// ```
     #[inline]
-    pub fn pay(&mut self, steps: u32) -> bool {
+    pub fn pay(&mut self, steps: u64) -> bool {
         if self.steps < steps {
             self.steps = 0;
             return false;
@@ -58,18 +63,19 @@ impl Budget {
         true
     }
 
-    /// Pays for going over so many glyphs.
+    /// Pays for going over so many glyphs, as `pay` does.
     ///
     /// # Proved
     ///
     /// ```text
+    /// ensures left { self.new ≡ record self.old { steps = self.old.steps - glyphs } }
+    /// ensures paid { IsTrue result ↔ glyphs ≤ self.old.steps }
     /// ensures spent { IsNotMore self.old self.new }
-    /// ensures same { self.new.nested ≡ self.old.nested }
     /// ensures empty { IsFalse result → self.new.steps ≡ 0 }
     /// ```
     #[inline]
     pub fn pay_for(&mut self, glyphs: usize) -> bool {
-        self.pay(glyphs.min(0x3FFF_FFFF) as u32)
+        self.pay(glyphs as u64)
     }
 
     /// Pays for a lookup that another one applies. Where none may be applied any more, the answer is false.
@@ -77,10 +83,9 @@ impl Budget {
     /// # Proved
     ///
     /// ```text
+    /// ensures left { self.new ≡ record self.old { nested = self.old.nested - 1 } }
+    /// ensures paid { IsTrue result ↔ 0 < self.old.nested }
     /// ensures spent { IsNotMore self.old self.new }
-    /// ensures same { self.new.steps ≡ self.old.steps }
-    /// ensures paid { IsTrue result → self.new.nested + 1 ≡ self.old.nested }
-    /// ensures none { IsFalse result → self.old.nested ≡ 0 }
     /// ```
     #[inline]
     pub fn nest(&mut self) -> bool {

@@ -39,7 +39,7 @@ struct Task<'a> {
 }
 
 /// Positions the glyphs by the lookup of this index, where the buffer's glyphs have one of the options'
-/// bits. A budget that is spent ends the walk.
+/// bits. A budget that is spent ends the walk, and `buffer.shaping_failed` says so.
 ///
 /// # Requires
 ///
@@ -54,6 +54,7 @@ struct Task<'a> {
 /// ensures level { buffer.new.cluster_level ≡ buffer.old.cluster_level }
 /// ensures glyphs { reset_masks 0 buffer.new.input ≡ reset_masks 0 buffer.old.input }
 /// ensures spent { IsNotMore search.old.budget search.new.budget }
+/// ensures says { search.new.budget.steps ≡ 0 → buffer.new.shaping_failed ≡ true }
 /// ensures keeps { KeepsClusters buffer.old buffer.new }
 /// ```
 #[inline]
@@ -68,6 +69,7 @@ pub fn position(
     debug_assert!(buffer.have_positions());
     debug_assert!(buffer.out_len() == 0);
     place_all(buffer, setting, lookup, options, search);
+    fail_if_spent(buffer, search);
     debug_assert!(buffer.out_len() == 0);
 }
 
@@ -237,7 +239,7 @@ fn apply_records<'a>(
     debug_assert!(buffer.have_positions());
     for index in 0..usize::from(fit.record_count) {
         if let Some(nested) = nested_task(task, fit, places, index) {
-            if !search.budget.nest() {
+            if task.depth == 0 || !search.budget.nest() {
                 fail(buffer);
                 return;
             }
@@ -247,22 +249,35 @@ fn apply_records<'a>(
 }
 
 /// The lookup of a record, at the glyph that the record names; `None` where there is no such lookup or
-/// glyph, or no lookup may be applied so deep.
+/// glyph.
 fn nested_task<'a>(task: &Task<'a>, fit: &Fit, places: &Places, index: usize) -> Option<Task<'a>> {
     let record = fit.record(index)?;
     let at = *places.as_slice().get(record.sequence)?;
     let lookup = task.setting.list.lookup(record.lookup)?;
-    let depth = task.depth.checked_sub(1)?;
     Some(Task {
         setting: task.setting,
         lookup,
         options: task.options,
         place: task.place.saturating_add(at),
-        depth,
+        depth: task.depth.saturating_sub(1),
     })
 }
 
-/// Says that the text could not be shaped as the font asks, as too many lookups were applied.
+/// Says that shaping was given up where the budget is spent.
+///
+/// # Requires
+///
+/// - `closed: buffer.old.have_output ≡ false`
+/// - `placed: IsSome buffer.old.positions`
+fn fail_if_spent(buffer: &mut hb_buffer_t, search: &Search) {
+    debug_assert!(!buffer.have_output());
+    debug_assert!(buffer.have_positions());
+    if search.budget.is_spent() {
+        fail(buffer);
+    }
+}
+
+/// Says that the text could not be shaped as the font asks.
 ///
 /// # Requires
 ///

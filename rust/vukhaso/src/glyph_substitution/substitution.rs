@@ -122,9 +122,17 @@ fn apply(
     }
     if is_reverse(substitutions.list, lookup) {
         substitute_reverse(buffer, substitutions, lookup, progress);
+        fail_if_spent(buffer, progress);
         return Ok(true);
     }
     substitute_forward(buffer, substitutions, lookup, first, progress)
+}
+
+/// Says that shaping was given up where the budget is spent.
+fn fail_if_spent(buffer: &mut hb_buffer_t, progress: &Progress) {
+    if progress.search.budget.is_spent() {
+        fail(buffer);
+    }
 }
 
 /// Whether a lookup is applied from the end.
@@ -162,9 +170,7 @@ fn substitute_forward(
             return Ok(false);
         }
     }
-    if progress.search.budget.is_spent() {
-        fail(buffer);
-    }
+    fail_if_spent(buffer, progress);
     buffer.sync()
 }
 

@@ -88,17 +88,17 @@ fn positioned(
     let gdef = no_definitions(gpos);
     let list = LookupList::new(gpos, 9, &gdef)?;
     let mut buffer = line_of(direction, glyphs)?;
-    position_all(&mut buffer, &list, glyphs.len());
+    position_all(&mut buffer, &list, Budget::new(1000, glyphs.len()));
     Ok(buffer)
 }
 
-/// Positions a line by the first lookup.
+/// Positions a line by the first lookup, within a budget.
 ///
 /// # Requires
 ///
 /// - `closed: buffer.old.have_output ≡ false`
 /// - `placed: IsSome buffer.old.positions`
-fn position_all(buffer: &mut hb_buffer_t, list: &LookupList, count: usize) {
+fn position_all(buffer: &mut hb_buffer_t, list: &LookupList, budget: Budget) {
     debug_assert!(!buffer.have_output());
     debug_assert!(buffer.have_positions());
     let setting = Setting {
@@ -108,7 +108,7 @@ fn position_all(buffer: &mut hb_buffer_t, list: &LookupList, count: usize) {
             deltas: Deltas::NONE,
         },
     };
-    let mut search = Search::new(Budget::new(1000, count));
+    let mut search = Search::new(budget);
     position_start(buffer);
     position(buffer, &setting, 0, &OPTIONS, &mut search);
     position_finish_offsets(buffer);
@@ -160,6 +160,21 @@ fn the_second_glyph_of_a_pair() -> Result<(), AllocError> {
     assert!(!is_unsafe(&buffer, 0));
     assert!(is_unsafe(&buffer, 1));
     assert!(is_unsafe(&buffer, 3));
+    Ok(())
+}
+
+/// Where the budget is spent, glyphs stay as they are, and it is told.
+#[test]
+fn a_spent_budget_is_told() -> Result<(), AllocError> {
+    let pairs = [1, 12, 4, 0, 1, 18, 1, 1, 10, 2, 11, 0xFFCE, 12, 20];
+    let gpos = gpos_of(2, 0, &pairs)?;
+    let gdef = no_definitions(&gpos);
+    let list = LookupList::new(&gpos, 9, &gdef)?;
+    for (steps, wanted) in [(3, (600, true)), (1000, (550, false))] {
+        let mut buffer = line_of(Direction::LeftToRight, &[10, 11])?;
+        position_all(&mut buffer, &list, Budget { nested: 1, steps });
+        assert_eq!((at(&buffer, 0).0, buffer.shaping_failed), wanted);
+    }
     Ok(())
 }
 

@@ -188,13 +188,16 @@ fn tables_list_glyphs() -> Result<(), AllocError> {
 fn budgets_are_spent() {
     let mut budget = Budget::new(1, 10);
     let steps = budget.steps;
-    assert!(steps == 26624);
+    assert!(steps == 425_984);
     assert!(budget.pay(24) && budget.pay_for(10));
     assert!(budget.steps.saturating_add(34) == steps);
     assert!((budget.nest(), budget.nest()) == (true, false));
     assert!(!budget.is_spent());
-    assert!(!budget.pay(u32::MAX));
+    assert!(!budget.pay(u64::MAX));
     assert!(budget.is_spent());
+    let mut long = Budget::new(1, 1_000_000);
+    assert!(long.steps == 16_384_262_144);
+    assert!(long.pay(16_384_262_144) && long.is_spent());
 }
 
 /// What a walk passes over, by the options of its feature.
