@@ -41,7 +41,7 @@ impl<'f> LoadedFont<'f> {
         if !has_font(file.data(), choice.index) {
             return Ok(None);
         }
-        let Some(mut face) = Face::parse(file.data(), choice.index)? else {
+        let Some(mut face) = Face::parse_if_there(file.data(), choice.index)? else {
             return Ok(None);
         };
         set_size(&mut face, choice.size);

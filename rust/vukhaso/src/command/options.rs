@@ -3,8 +3,7 @@
 //! What a command line asks for.
 
 use crate::buffer::{
-    BufferClusterLevel, BufferFlags, Direction, Feature, Flags, GlyphId, Script, SerializeFlags,
-    script,
+    BufferClusterLevel, BufferFlags, Direction, Feature, GlyphId, Script, SerializeFlags, script,
 };
 use crate::clap::ArgMatches;
 use crate::command::code_points::{CodePointsError, code_points, text_of_code_points};
