@@ -149,7 +149,8 @@ class Scratch:
                 (crate / path).write_text(text)
             ran = run(["rt", "check", *words], crate)
             if ran.returncode == -signal.SIGKILL:
-                ran = run(["rt", "check", *words, "--jobs", "1"], crate)
+                # (most likely for memory)
+                ran = run(["rt", "check", *words, *([] if "--jobs" in words else ["--jobs", "1"])], crate)
             return ran.returncode == 0, ran.stdout.splitlines()
         finally:
             shutil.rmtree(top, ignore_errors=True)
