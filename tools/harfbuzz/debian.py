@@ -10,6 +10,10 @@ from pathlib import Path
 
 from sources import unpacked
 
+# The version of Unicode that the kit's tables have, and with them all tables, and the suites of Debian that may have its files.
+UNICODE_VERSION = "18.0.0"
+SUITES = "experimental sid"
+
 PACKAGES = Path(tempfile.gettempdir()) / "vukhaso-fonts"
 
 # Name, package, file, index of the face.
@@ -92,6 +96,18 @@ def found(package, name):
     return files[0]
 
 
+def unicode_file(name):
+    """The text of one of Unicode's files, of the version that the kit's tables have."""
+    [folder] = unpacked(["unicode-data"], PACKAGES / f"unicode-{UNICODE_VERSION}", SUITES, f"{UNICODE_VERSION}-*")
+    return next(file for file in sorted(folder.rglob(name)) if not file.is_symlink()).read_text()
+
+
+def newer_characters():
+    """The code points that were assigned after Unicode 16, which HarfBuzz 10 has."""
+    rows = re.findall(r"^(\w+)(?:\.\.(\w+))? *; (\d+)\.\d", unicode_file("DerivedAge.txt"), re.MULTILINE)
+    return {code for first, last, age in rows if int(age) > 16 for code in range(int(first, 16), int(last or first, 16) + 1)}
+
+
 def fonts(rows=FONTS):
     unpacked(list(dict.fromkeys(package for _, package, _, _ in rows)), PACKAGES)
     return [Font(name, found(package, file), index) for name, package, file, index in rows]
@@ -148,7 +164,7 @@ def translations_of(script):
 def scripts():
     """The code points of each script, by Unicode's Scripts.txt."""
     by_script = {}
-    text = found("unicode-data", "Scripts.txt").read_text()
+    text = unicode_file("Scripts.txt")
     for first, last, script in re.findall(r"^(\w+)(?:\.\.(\w+))? *; (\w+)", text, re.MULTILINE):
         by_script.setdefault(script, []).extend(range(int(first, 16), int(last or first, 16) + 1))
     return by_script

@@ -45,9 +45,9 @@ def apt(lists, *more):
 
 
 @functools.cache
-def with_lists(lists):
+def with_lists(lists, *more):
     """The same, once the lists are fetched."""
-    words = apt(lists)
+    words = apt(lists, *more)
     subprocess.run([*words, "update"], check=True)
     return words
 
@@ -67,18 +67,29 @@ def fetched_sources():
     return found[-1]
 
 
-def unpacked(packages, folder):
-    """Fetches those packages of this machine's Debian that a folder lacks, and unpacks them there, each below its name."""
+def unpacked(packages, folder, suites=None, versions=None):
+    """Fetches those packages that a folder lacks, of this machine's Debian or of some of its suites, and unpacks them there, each below
+    its name. `versions` is a pattern."""
     missing = [package for package in packages if not (folder / package).exists()]
     if missing:
         folder.mkdir(parents=True, exist_ok=True)
-        subprocess.run([*with_lists(folder / "lists"), "download", *missing], cwd=folder, check=True)
+        words = with_lists(folder / "lists", *(of_suites(suites, folder).items() if suites else []))
+        wanted = [f"{package}={versions}" if versions else package for package in missing]
+        subprocess.run([*words, "download", *wanted], cwd=folder, check=True)
     for package in missing:
         file = next(folder.glob(f"{package}_*.deb"))
         subprocess.run(["dpkg", "-x", file, folder / f"{package}.new"], check=True)
         os.replace(folder / f"{package}.new", folder / package)
         file.unlink()
     return [folder / package for package in packages]
+
+
+def of_suites(suites, folder):
+    """What `apt-get` is told for packages of these suites alone."""
+    listed = folder / "suites.sources"
+    listed.write_text(SOURCES.replace("deb-src", "deb").replace("trixie", suites))
+    caches = {f"Dir::Cache::{name}": folder / f"{name}.bin" for name in ("pkgcache", "srcpkgcache")}
+    return {"Dir::Etc::sourcelist": listed, "Dir::Etc::sourceparts": "-", **caches}
 
 
 def built(name, words, sources=()):

@@ -1,4 +1,4 @@
-use crate::lists::{assert_glyphs, buffer_of};
+use crate::lists::assert_glyphs;
 use shaping_buffer::{UnicodeBuffer, hb_buffer_t, hb_glyph_info_t};
 use std::test::Fail;
 
@@ -18,17 +18,7 @@ fn the_largest_cluster_is_in_the_range_of_all(rt: HostRuntime) -> Result<(), Fai
 }
 
 #[test]
-fn merges_and_flags_with_no_output(rt: HostRuntime) -> Result<(), Fail> {
-    let mut buffer = buffer_of(&rt, rt.alloc(), "abcd");
-    assert!(rt; buffer.len() == 4);
-    assert!(rt; !buffer.have_output());
-    buffer.merge_clusters(1, 3);
-    assert_glyphs(&rt, buffer.info(), &[(0, 0), (1, 0), (1, 0), (3, 0)]);
-    assert!(rt; buffer.len() == 4);
-    assert!(rt; !buffer.have_output());
-    buffer.unsafe_to_break(None, Some(9));
-    assert_glyphs(&rt, buffer.info(), &[(0, 0), (1, 3), (1, 3), (3, 3)]);
-    assert!(rt; buffer.scratch_flags == 0x20);
+fn a_glyph_is_put_into_a_cluster(rt: HostRuntime) {
     let mut info = hb_glyph_info_t {
         glyph_id: 97,
         mask: 31,
@@ -38,15 +28,4 @@ fn merges_and_flags_with_no_output(rt: HostRuntime) -> Result<(), Fail> {
     };
     hb_buffer_t::set_cluster(&mut info, 1, 10);
     assert_glyphs(&rt, &[info], &[(1, 26)]);
-    Ok(())
-}
-
-#[test]
-fn a_deleted_glyph_leaves_its_cluster(rt: HostRuntime) {
-    let mut buffer = buffer_of(&rt, rt.alloc(), "abc");
-    buffer.clear_output();
-    assert!(rt; buffer.lookahead_len() > 0);
-    assert!(rt; buffer.have_output());
-    buffer.delete_glyph();
-    assert_glyphs(&rt, buffer.info(), &[(0, 0), (2, 0)]);
 }

@@ -1,22 +1,10 @@
+//! Lists of calls, where lines of the program do not say all: what a caller alone can hand in, and how a buffer stores its glyphs.
+
 use crate::lists::buffer_of;
-use cluster_runs::CLUSTER_RUNS;
-use cursor_runs::CURSOR_RUNS;
-use held_runs::{HELD, NEVER_REFUSED};
-use odd_runs::{LIMITED_RUNS, ODD_RUNS};
-use shaping_buffer::{
-    BufferClusterLevel, BufferFlags, Flags, UnicodeBuffer, hb_buffer_t, hb_glyph_info_t,
-};
+use shaping_buffer::{hb_buffer_t, hb_glyph_info_t};
 use shaping_runs::{Answer, Call, Stopped, replay};
-use std::alloc::Global;
 use std::process::Abort;
 use std::test::Fail;
-use stored_runs::STORED_RUNS;
-
-mod cluster_runs;
-mod cursor_runs;
-mod held_runs;
-mod odd_runs;
-mod stored_runs;
 
 /// A glyph as it is seen here: its id, its cluster and its glyph flags.
 type Seen = (u32, u32, u32);
@@ -27,153 +15,140 @@ const REFUSED: Answer = Answer::Refused;
 
 const OUTSIDE: Answer = Answer::Outside;
 
-/// A text of the letters from a on, in these clusters; calls on it, and what they answer and leave.
-#[derive(Clone, Copy)]
-struct Run<'a> {
-    name: &'a str,
-    clusters: &'a [u32],
-    level: BufferClusterLevel,
-    flags: u32,
-    max_len: usize,
-    calls: &'a [Call<'a>],
-    answers: &'a [Answer],
-    open: bool,
-    separate: bool,
-    idx: usize,
-    successful: bool,
-    out: &'a [Seen],
-    input: &'a [Seen],
-    scratch_flags: u32,
-}
-
-/// What is not said of a run.
-const PLAIN: Run<'static> = Run {
-    name: "",
-    clusters: &[],
-    level: BufferClusterLevel::MonotoneGraphemes,
-    flags: 0,
-    max_len: 99,
-    calls: &[],
-    answers: &[],
-    open: true,
-    separate: false,
-    idx: 0,
-    successful: true,
-    out: &[],
-    input: &[],
-    scratch_flags: 0,
+/// A glyph of the caller's.
+const GLYPH: hb_glyph_info_t = hb_glyph_info_t {
+    glyph_id: 5,
+    mask: 9,
+    cluster: 6,
+    var1: 0,
+    var2: 0,
 };
 
-fn letters_in(alloc: Global, clusters: &[u32]) -> Result<UnicodeBuffer, Fail> {
-    let letters = ['a', 'b', 'c', 'd'];
-    let mut text = UnicodeBuffer::new(alloc);
-    for (letter, cluster) in letters.iter().zip(clusters) {
-        text.add(*letter, *cluster)?;
-    }
-    Ok(text)
-}
-
-fn buffer_of_run(rt: &impl Abort, alloc: Global, run: &Run<'_>) -> Result<hb_buffer_t, Fail> {
-    let mut text = letters_in(alloc, run.clusters)?;
-    text.set_cluster_level(run.level);
-    text.set_flags(BufferFlags::from_bits_retain(run.flags));
-    let mut buffer = text.into_buffer();
-    assert!(rt; buffer.len() <= run.max_len);
-    assert!(rt; buffer.out_len() <= run.max_len);
-    buffer.set_max_len(run.max_len);
-    Ok(buffer)
-}
-
-fn assert_glyphs(rt: &impl Abort, name: &str, glyphs: &[hb_glyph_info_t], want: &[Seen]) {
-    assert!(rt; glyphs.len() == want.len(), "{name}");
+fn assert_glyphs(rt: &impl Abort, glyphs: &[hb_glyph_info_t], want: &[Seen]) {
+    assert!(rt; glyphs.len() == want.len(), "{want:?}");
     for (glyph, want) in glyphs.iter().zip(want) {
         assert!(rt;
             (glyph.glyph_id, glyph.cluster, glyph.mask & 7) == *want,
-            "{name}"
+            "{want:?}"
         );
     }
 }
 
-fn assert_run(rt: &impl Abort, alloc: Global, run: &Run<'_>) -> Result<(), Fail> {
-    let name = run.name;
-    let mut buffer = buffer_of_run(rt, alloc, run)?;
-    let mut answers = [REFUSED; 12];
-    let count = run.calls.len();
-    assert!(rt; count <= 12, "{name}");
-    assert!(rt;
-        replay(&mut buffer, run.calls, &mut answers[..count]) == Ok(()),
-        "{name}"
-    );
-    assert!(rt; &answers[..count] == run.answers, "{name}");
-    assert!(rt; buffer.have_output() == run.open, "{name}");
-    assert!(rt; buffer.have_separate_output() == run.separate, "{name}");
-    assert!(rt; buffer.idx() == run.idx, "{name}");
-    assert!(rt; buffer.successful() == run.successful, "{name}");
-    assert_glyphs(rt, name, buffer.out_info(), run.out);
-    assert_glyphs(rt, name, buffer.info(), run.input);
-    assert!(rt; buffer.scratch_flags == run.scratch_flags, "{name}");
-    Ok(())
-}
-
-#[test]
-fn cursor_calls_answer_and_leave_what_is_written(rt: HostRuntime) -> Result<(), Fail> {
-    for run in &CURSOR_RUNS {
-        assert_run(&rt, rt.alloc(), run)?;
-    }
-    Ok(())
-}
-
-/// A text, calls on it, and what they leave: in one vector to its end, or not.
-#[derive(Clone, Copy)]
-struct Stored<'a> {
-    name: &'a str,
-    text: &'a str,
-    calls: &'a [Call<'a>],
+/// Makes a call, and asserts its answer, and whether the output is separate behind it.
+fn make_one(
+    rt: &impl Abort,
+    buffer: &mut hb_buffer_t,
+    call: Call<'_>,
+    answer: Answer,
     separate: bool,
-    idx: usize,
-    out: &'a [Seen],
-    input: &'a [Seen],
-}
-
-fn assert_stored(rt: &impl Abort, alloc: Global, run: &Stored<'_>) -> Result<(), Fail> {
-    let name = run.name;
-    let mut buffer = buffer_of(rt, alloc, run.text);
-    let mut answers = [OUTSIDE; 12];
-    let count = run.calls.len();
-    assert!(rt; count <= 12, "{name}");
-    assert!(rt;
-        replay(&mut buffer, run.calls, &mut answers[..count]) == Ok(()),
-        "{name}"
-    );
-    assert!(rt;
-        answers[..count].iter().all(|answer| *answer == DONE),
-        "{name}"
-    );
-    assert!(rt; buffer.have_separate_output() == run.separate, "{name}");
-    assert!(rt; buffer.idx() == run.idx, "{name}");
-    assert_glyphs(rt, name, buffer.out_info(), run.out);
-    assert_glyphs(rt, name, buffer.info(), run.input);
-    if !buffer.have_separate_output() {
-        assert_ends(rt, buffer.storage(), run);
-    }
-    Ok(())
-}
-
-/// Asserts the glyphs at the two ends of the one vector.
-fn assert_ends(rt: &impl Abort, storage: &[hb_glyph_info_t], run: &Stored<'_>) {
-    let name = run.name;
-    let (out_len, left) = (run.out.len(), run.input.len());
-    assert!(rt; out_len <= storage.len() && left <= storage.len(), "{name}");
-    assert_glyphs(rt, name, &storage[..out_len], run.out);
-    assert_glyphs(rt, name, &storage[storage.len() - left..], run.input);
+) {
+    let mut answers = [OUTSIDE];
+    assert!(rt; replay(buffer, &[call], &mut answers) == Ok(()), "{call:?}");
+    assert!(rt; answers == [answer], "{call:?}");
+    assert!(rt; buffer.have_separate_output() == separate, "{call:?}");
 }
 
 #[test]
-fn both_sides_stand_in_one_vector(rt: HostRuntime) -> Result<(), Fail> {
-    for run in &STORED_RUNS {
-        assert_stored(&rt, rt.alloc(), run)?;
+fn a_glyph_of_the_callers_is_put_out(rt: HostRuntime) {
+    let mut buffer = buffer_of(&rt, rt.alloc(), "a");
+    make_one(&rt, &mut buffer, Call::ClearOutput, DONE, false);
+    make_one(&rt, &mut buffer, Call::OutputInfo(GLYPH), DONE, true);
+    make_one(&rt, &mut buffer, Call::NextGlyphs(2), OUTSIDE, true);
+    make_one(&rt, &mut buffer, Call::NextGlyphs(1), DONE, true);
+    assert_glyphs(&rt, buffer.out_info(), &[(5, 6, 1), (97, 0, 0)]);
+    assert!(rt; buffer.scratch_flags == 0);
+}
+
+/// A limit of so many glyphs on each side of AB.
+fn set_limit(rt: &impl Abort, buffer: &mut hb_buffer_t, limit: usize) {
+    assert!(rt; buffer.len() <= limit && buffer.out_len() <= limit);
+    buffer.set_max_len(limit);
+}
+
+/// One glyph of the caller's more than the limit is refused, at any level; levels above 3 act as 0.
+#[test]
+fn a_glyph_of_the_callers_keeps_to_the_limit(rt: HostRuntime) {
+    for level in [0, 1, 2, 3, 4, 4_294_967_295] {
+        let mut buffer = buffer_of(&rt, rt.alloc(), "AB");
+        buffer.cluster_level = level;
+        make_one(&rt, &mut buffer, Call::ClearOutput, DONE, false);
+        make_one(&rt, &mut buffer, Call::NextGlyphs(2), DONE, false);
+        set_limit(&rt, &mut buffer, 3);
+        make_one(&rt, &mut buffer, Call::OutputInfo(GLYPH), DONE, true);
+        make_one(&rt, &mut buffer, Call::OutputInfo(GLYPH), REFUSED, true);
+        assert!(rt; buffer.out_len() == 3 && !buffer.successful(), "{level}");
     }
-    Ok(())
+}
+
+/// Ids are taken as many as are asked for: with fewer nothing is done, and of more the first ones.
+#[test]
+fn ids_are_as_many_as_are_asked_for(rt: HostRuntime) {
+    let mut buffer = buffer_of(&rt, rt.alloc(), "ab");
+    make_one(&rt, &mut buffer, Call::ClearOutput, DONE, false);
+    make_one(
+        &rt,
+        &mut buffer,
+        Call::ReplaceGlyphs(0, 2, &[7, 8]),
+        DONE,
+        true,
+    );
+    make_one(
+        &rt,
+        &mut buffer,
+        Call::ReplaceGlyphs(3, 1, &[9]),
+        OUTSIDE,
+        true,
+    );
+    make_one(
+        &rt,
+        &mut buffer,
+        Call::ReplaceGlyphs(1, 2, &[9]),
+        OUTSIDE,
+        true,
+    );
+    make_one(
+        &rt,
+        &mut buffer,
+        Call::ReplaceGlyphs(1, 1, &[5, 6]),
+        DONE,
+        true,
+    );
+    assert_glyphs(&rt, buffer.out_info(), &[(7, 0, 0), (8, 0, 0), (5, 0, 0)]);
+    assert_glyphs(&rt, buffer.info(), &[(98, 1, 0)]);
+}
+
+/// Calls on three glyphs at a level that has no name, what they leave, and the scratch flags.
+static UNNAMED: [(Call<'static>, [Seen; 3], u32); 3] = [
+    (
+        Call::MergeClusters(0, 2),
+        [(97, 0, 0), (98, 0, 0), (99, 2, 0)],
+        0,
+    ),
+    (
+        Call::MergeGraphemeClusters(1, 3),
+        [(97, 0, 0), (98, 1, 0), (99, 1, 0)],
+        0,
+    ),
+    (
+        Call::UnsafeToBreak(None, None),
+        [(97, 0, 0), (98, 1, 3), (99, 2, 3)],
+        0x20,
+    ),
+];
+
+/// They act as level 0.
+#[test]
+fn levels_may_have_no_name(rt: HostRuntime) {
+    for level in [4, 4_294_967_295] {
+        for (call, want, scratch_flags) in &UNNAMED {
+            let mut buffer = buffer_of(&rt, rt.alloc(), "abc");
+            buffer.cluster_level = level;
+            make_one(&rt, &mut buffer, *call, DONE, false);
+            assert_glyphs(&rt, buffer.info(), want);
+            assert!(rt; buffer.scratch_flags == *scratch_flags, "{call:?}");
+            assert!(rt; buffer.cluster_level == level, "{call:?}");
+        }
+    }
 }
 
 /// Asserts that the storage has five glyphs, and these at their places.
@@ -191,23 +166,15 @@ fn assert_places(rt: &impl Abort, buffer: &hb_buffer_t, want: &[(usize, u32)]) {
 fn a_rewind_moves_glyphs_up_in_the_vector(rt: HostRuntime) {
     let mut buffer = buffer_of(&rt, rt.alloc(), "ZABCD");
     for call in [Call::ClearOutput, Call::SkipGlyph] {
-        make_one(&rt, &mut buffer, call, false);
+        make_one(&rt, &mut buffer, call, DONE, false);
     }
     for _ in 0..3 {
-        make_one(&rt, &mut buffer, Call::NextGlyph, false);
+        make_one(&rt, &mut buffer, Call::NextGlyph, DONE, false);
     }
     assert_places(&rt, &buffer, &[(0, 65), (1, 66), (2, 67), (4, 68)]);
-    make_one(&rt, &mut buffer, Call::MoveTo(0), false);
+    make_one(&rt, &mut buffer, Call::MoveTo(0), DONE, false);
     assert!(rt; (buffer.idx(), buffer.out_len()) == (1, 0));
     assert_places(&rt, &buffer, &[(1, 65), (2, 66), (3, 67), (4, 68)]);
-}
-
-/// Makes a call, and asserts that it is done, and whether the output is separate behind it.
-fn make_one(rt: &impl Abort, buffer: &mut hb_buffer_t, call: Call<'_>, separate: bool) {
-    let mut answers = [OUTSIDE];
-    assert!(rt; replay(buffer, &[call], &mut answers) == Ok(()));
-    assert!(rt; answers == [DONE]);
-    assert!(rt; buffer.have_separate_output() == separate);
 }
 
 #[test]
@@ -236,17 +203,9 @@ fn an_output_is_separate_once_it_is_the_longer(rt: HostRuntime) -> Result<(), Fa
     for (calls, len) in &runs {
         let mut buffer = buffer_of(&rt, rt.alloc(), "AB");
         for (call, separate) in *calls {
-            make_one(&rt, &mut buffer, *call, *separate);
+            make_one(&rt, &mut buffer, *call, DONE, *separate);
         }
         assert!(rt; buffer.len() == *len, "the run of {len}");
-    }
-    Ok(())
-}
-
-#[test]
-fn cluster_calls_answer_and_leave_what_is_written(rt: HostRuntime) -> Result<(), Fail> {
-    for run in &CLUSTER_RUNS {
-        assert_run(&rt, rt.alloc(), run)?;
     }
     Ok(())
 }
@@ -267,85 +226,4 @@ fn calls_and_answers_are_printed_by_name(rt: HostRuntime) -> Result<(), Fail> {
     let printed = format!(in rt.alloc(); "{OUTSIDE:?} {:?}", Stopped { at: 3 })?;
     assert!(rt; printed.as_str() == "Outside Stopped { at: 3 }");
     Ok(())
-}
-
-#[test]
-fn odd_orders_and_limits_answer_and_leave_what_is_written(rt: HostRuntime) -> Result<(), Fail> {
-    for run in ODD_RUNS.iter().chain(&LIMITED_RUNS) {
-        assert_run(&rt, rt.alloc(), run)?;
-    }
-    Ok(())
-}
-
-/// Calls on AB, one more, and how many glyphs the longer side holds after that one.
-#[derive(Clone, Copy)]
-struct Held<'a>(&'a [Call<'a>], Call<'a>, usize);
-
-/// The answer of a call at a cluster level, where each side may hold so many glyphs.
-fn answer_at(
-    rt: &impl Abort,
-    alloc: Global,
-    level: u32,
-    held: &Held<'_>,
-    max_len: usize,
-) -> Answer {
-    let mut buffer = buffer_of(rt, alloc, "AB");
-    buffer.cluster_level = level;
-    let mut answers = [OUTSIDE; 3];
-    let count = held.0.len();
-    assert!(rt; count <= 3);
-    assert!(rt; replay(&mut buffer, held.0, &mut answers[..count]) == Ok(()));
-    assert!(rt; buffer.len() <= max_len && buffer.out_len() <= max_len);
-    buffer.set_max_len(max_len);
-    let before = (buffer.idx(), buffer.out_len(), buffer.len());
-    let mut answers = [OUTSIDE];
-    let call = held.1;
-    assert!(rt;
-        replay(&mut buffer, &[call], &mut answers) == Ok(()),
-        "{call:?}"
-    );
-    if answers == [REFUSED] {
-        assert!(rt;
-            (buffer.idx(), buffer.out_len(), buffer.len()) == before,
-            "{call:?}"
-        );
-    }
-    assert!(rt; buffer.successful() == (answers == [DONE]), "{call:?}");
-    answers[0]
-}
-
-fn assert_answered(
-    rt: &impl Abort,
-    alloc: Global,
-    level: u32,
-    held: &Held<'_>,
-    max_len: usize,
-    want: Answer,
-) {
-    let call = held.1;
-    let answer = answer_at(rt, alloc, level, held, max_len);
-    assert!(rt;
-        answer == want,
-        "{call:?} at level {level} and limit {max_len}"
-    );
-}
-
-#[test]
-fn a_limit_is_met_and_one_below_is_refused(rt: HostRuntime) {
-    for level in [0, 1, 2, 3, 4, 4_294_967_295] {
-        for held in &HELD {
-            assert_answered(&rt, rt.alloc(), level, held, held.2, DONE);
-            assert_answered(
-                &rt,
-                rt.alloc(),
-                level,
-                held,
-                held.2.saturating_sub(1),
-                REFUSED,
-            );
-        }
-        for held in &NEVER_REFUSED {
-            assert_answered(&rt, rt.alloc(), level, held, held.2, DONE);
-        }
-    }
 }

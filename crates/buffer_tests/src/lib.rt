@@ -1,5 +1,5 @@
 //! Tests of `shaping_buffer`, `shaping_runs` and `shaping_uses`, over what they make public, as in the `tests/` folder
-//! of a Rust crate.
+//! of a Rust crate. Most calls are tested by lines of the program, in `rows/calls`; here is what these do not say.
 #![tactic(auto)]
 
 #[cfg(test)]
@@ -8,10 +8,6 @@ mod accessors;
 mod buffer;
 #[cfg(test)]
 mod call_list;
-#[cfg(test)]
-mod cursor;
-#[cfg(test)]
-mod filled;
 #[cfg(test)]
 mod glyph_buffer;
 #[cfg(test)]

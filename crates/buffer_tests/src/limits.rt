@@ -1,4 +1,4 @@
-use crate::lists::{buffer_of, read_one};
+use crate::lists::buffer_of;
 use shaping_buffer::hb_buffer_t;
 use std::alloc::Global;
 use std::process::Abort;
@@ -21,17 +21,6 @@ fn room_is_made_up_to_the_limit(rt: HostRuntime) {
     assert!(rt; (buffer.len(), buffer.room()) == (3, 5));
     buffer.clear();
     assert!(rt; (buffer.len(), buffer.room()) == (0, 5));
-}
-
-#[test]
-fn an_output_keeps_to_the_limit(rt: HostRuntime) {
-    let mut buffer = buffer_of(&rt, rt.alloc(), "a");
-    set_max_len(&rt, &mut buffer, 1);
-    read_one(&rt, &mut buffer);
-    assert!(rt; buffer.have_output());
-    assert!(rt; buffer.output_glyph(5) == Ok(false));
-    assert!(rt; buffer.have_output() && !buffer.successful());
-    assert!(rt; buffer.sync() == Ok(false));
 }
 
 /// The limits after `enter` over a text, and that `leave` puts them back.

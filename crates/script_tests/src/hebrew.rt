@@ -1,6 +1,5 @@
-//! Hebrew letters with marks, and the order of marks.
+//! Hebrew letters with marks.
 
-use crate::texts::{assert_characters, buffer_of};
 use script_shapers::ScriptShaper;
 use std::test::Fail;
 
@@ -22,20 +21,6 @@ fn presentation_forms(rt: HostRuntime) -> Result<(), Fail> {
     assert_eq!(rt;
         ScriptShaper::Hebrew.compose('\u{5d7}', '\u{5bc}', false),
         None
-    );
-    Ok(())
-}
-
-/// A meteg behind a patah and a sheva goes before the sheva.
-#[test]
-fn meteg(rt: HostRuntime) -> Result<(), Fail> {
-    let mut buffer = buffer_of(&rt, rt.alloc(), "\u{5d0}\u{5b7}\u{5b0}\u{5bd}");
-    assert!(rt; !buffer.have_output());
-    ScriptShaper::Hebrew.reorder_marks(&mut buffer, 1, 4);
-    assert_characters(
-        &rt,
-        &buffer,
-        &[(0x5D0, 0), (0x5B7, 2), (0x5BD, 4), (0x5B0, 4)],
     );
     Ok(())
 }

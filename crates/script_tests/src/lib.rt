@@ -1,9 +1,7 @@
-//! Tests of `script_shapers` and `script_features`, as in the `tests/` folder of a Rust crate. What is expected comes from the
-//! Unicode Standard, the OpenType specification and HarfBuzz's tests.
+//! Tests of `syllable_tables`, `script_shapers` and `script_features`, as in the `tests/` folder of a Rust crate: what rows of shaping
+//! (`rows/shaping`) cannot say. What is expected comes from the Unicode Standard, the OpenType specification and HarfBuzz's tests.
 #![tactic(auto)]
 
-#[cfg(test)]
-mod arabic;
 #[cfg(test)]
 mod features;
 #[cfg(test)]
@@ -15,6 +13,6 @@ mod joining;
 #[cfg(test)]
 mod shapers;
 #[cfg(test)]
-mod texts;
+mod syllables;
 #[cfg(test)]
-mod thai;
+mod texts;

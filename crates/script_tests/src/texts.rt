@@ -7,19 +7,8 @@ use shaping_buffer::{CombiningClasses, UnicodeBuffer, hb_buffer_t, hb_glyph_info
 use std::alloc::Global;
 use std::process::Abort;
 
-/// Classes of the marks that are in the tests.
-static CLASSES: [(char, u8); 10] = [
-    ('\u{5b0}', 10),
-    ('\u{5b4}', 14),
-    ('\u{5b7}', 17),
-    ('\u{5bd}', 22),
-    ('\u{64b}', 27),
-    ('\u{64e}', 30),
-    ('\u{651}', 33),
-    ('\u{653}', 230),
-    ('\u{654}', 230),
-    ('\u{655}', 220),
-];
+/// The class of a mark, since a table of classes has a row.
+static CLASSES: [(char, u8); 1] = [('\u{302e}', 224)];
 
 /// A font that has glyphs for the characters from one to another. Some have no width.
 #[derive(Clone, Copy, Debug)]
@@ -65,22 +54,7 @@ impl FontGlyphs for TestFont {
 pub(crate) fn buffer_of(rt: &impl Abort, alloc: Global, text: &str) -> hb_buffer_t
     ensures { result.have_output ≡ false }
 {
-    buffer_between(rt, alloc, "", text, "")
-}
-
-/// The same, with texts before it and behind it.
-pub(crate) fn buffer_between(
-    rt: &impl Abort,
-    alloc: Global,
-    before: &str,
-    text: &str,
-    behind: &str,
-) -> hb_buffer_t
-    ensures { result.have_output ≡ false }
-{
     let mut characters = UnicodeBuffer::new(alloc);
-    characters.set_pre_context(before);
-    characters.set_post_context(behind);
     assert!(rt; characters.push_str(text) == Ok(true));
     let mut buffer = characters.into_buffer();
     set_properties(rt, buffer.info_slice_mut());

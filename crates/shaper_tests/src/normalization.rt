@@ -1,4 +1,4 @@
-//! Characters that are normalized with a font, and what is kept of each.
+//! What is kept of characters that are normalized with a font.
 
 ghost use Rattle.std.specs.Prelude.{◌≡◌, false};
 
@@ -50,36 +50,6 @@ fn plan() -> ScriptPlan {
         rlig_mask: 0,
         masks: [0; 8],
     }
-}
-
-/// Texts, and the characters and glyphs that are made of them: marks stand in the order of their classes, a space that the font lacks
-/// has the invisible glyph, and what the font has neither whole nor in parts stays.
-static NORMALIZED: [(&str, &[(u32, u32)]); 3] = [
-    (
-        "a\u{301}\u{323}b",
-        &[(0x61, 3), (0x323, 0), (0x301, 0), (0x62, 4)],
-    ),
-    ("c\u{2003}", &[(0x63, 5), (0x2003, 1)]),
-    ("\u{e1}\u{2011}", &[(0xE1, 0), (0x2011, 0)]),
-];
-
-/// Glyphs are found, and marks are put in order.
-#[test]
-fn characters_are_normalized(rt: HostRuntime) -> Result<(), Fail> {
-    let face = Face::parse(rt.alloc(), UPRIGHT, 0)?.ok_or("no font")?;
-    for (text, wanted) in NORMALIZED {
-        let mut buffer = buffer_of(&rt, rt.alloc(), text);
-        assert!(rt; normalize(&mut buffer, &face, &plan())?, "{text}");
-        assert_eq!(rt; buffer.info().len(), wanted.len(), "{text}");
-        for (info, (character, glyph)) in buffer.info().iter().zip(wanted) {
-            assert_eq!(rt;
-                (info.glyph_id, info.glyph_index()),
-                (*character, *glyph),
-                "{text}"
-            );
-        }
-    }
-    Ok(())
 }
 
 /// Asserts what is kept of a letter, a mark and a space.

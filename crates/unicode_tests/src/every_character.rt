@@ -5,7 +5,7 @@ use std::alloc::{AllocError, Global};
 use std::test::Fail;
 use unicode_normalization::Form;
 use unicode_normalization::char::{compose as kit_compose, decomposition as kit_decomposition};
-use unicode_tables::{compositions, decompositions};
+use unicode_tables::{UNICODE_VERSION, compositions, decompositions};
 
 /// The most steps that a character takes, and one more.
 const STEPS: u32 = 6;
@@ -59,4 +59,10 @@ fn composes_again(rt: HostRuntime) -> Result<(), Fail> {
         }
     }
     Ok(())
+}
+
+/// The tables that the repository's tools write are of the version that the kit's have.
+#[test]
+fn all_tables_are_of_one_version(rt: HostRuntime) {
+    assert!(rt; UNICODE_VERSION == unicode::UNICODE_VERSION);
 }

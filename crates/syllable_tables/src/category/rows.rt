@@ -1,11 +1,11 @@
 //! What characters are in syllables, as `tools/indic_categories` writes it from IndicSyllabicCategory.txt and
-//! IndicPositionalCategory.txt of Unicode 15.0.0, with OpenType's own categories.
+//! IndicPositionalCategory.txt of Unicode 18.0.0, with OpenType's own categories.
 
 use crate::category::Category::{self, *};
 use crate::category::position::Position::{self, *};
 
 /// The characters that have a category, from the first of each row to its last, the category, and where they stand in a syllable.
-pub(crate) static ROWS: [(char, char, Category, Position); 340] = [
+pub(crate) static ROWS: [(char, char, Category, Position); 341] = [
     ('\u{2d}', '\u{2d}', Placeholder, Base),
     ('\u{30}', '\u{39}', Placeholder, Base),
     ('\u{a0}', '\u{a0}', Placeholder, Base),
@@ -136,6 +136,7 @@ pub(crate) static ROWS: [(char, char, Category, Position); 340] = [
     ('\u{b48}', '\u{b48}', Matra, AfterMain),
     ('\u{b4b}', '\u{b4c}', Matra, AfterPost),
     ('\u{b4d}', '\u{b4d}', Halant, Below),
+    ('\u{b53}', '\u{b54}', Matra, AfterMain),
     ('\u{b55}', '\u{b55}', Nukta, End),
     ('\u{b56}', '\u{b56}', Matra, AfterMain),
     ('\u{b57}', '\u{b57}', Matra, AfterPost),

@@ -1,10 +1,10 @@
 // Written by tools/plain_rust from crates/unicode_tables. Do not edit.
 
 //! The mirror images of characters, as `tools/mirrors` writes them from BidiMirroring.txt of Unicode
-//! 15.0.0.
+//! 18.0.0.
 
 /// Each character that has a mirror image, and that character, in the order of the first.
-pub(crate) static MIRRORS: [(char, char); 428] = [
+pub(crate) static MIRRORS: [(char, char); 438] = [
     ('\u{28}', '\u{29}'),
     ('\u{29}', '\u{28}'),
     ('\u{3c}', '\u{3e}'),
@@ -36,6 +36,7 @@ pub(crate) static MIRRORS: [(char, char); 428] = [
     ('\u{220c}', '\u{2209}'),
     ('\u{220d}', '\u{220a}'),
     ('\u{2215}', '\u{29f5}'),
+    ('\u{221d}', '\u{1db10}'),
     ('\u{221f}', '\u{2bfe}'),
     ('\u{2220}', '\u{29a3}'),
     ('\u{2221}', '\u{299b}'),
@@ -395,6 +396,8 @@ pub(crate) static MIRRORS: [(char, char); 428] = [
     ('\u{2e5a}', '\u{2e59}'),
     ('\u{2e5b}', '\u{2e5c}'),
     ('\u{2e5c}', '\u{2e5b}'),
+    ('\u{2e62}', '\u{2e63}'),
+    ('\u{2e63}', '\u{2e62}'),
     ('\u{3008}', '\u{3009}'),
     ('\u{3009}', '\u{3008}'),
     ('\u{300a}', '\u{300b}'),
@@ -433,4 +436,11 @@ pub(crate) static MIRRORS: [(char, char); 428] = [
     ('\u{ff60}', '\u{ff5f}'),
     ('\u{ff62}', '\u{ff63}'),
     ('\u{ff63}', '\u{ff62}'),
+    ('\u{1db03}', '\u{1db04}'),
+    ('\u{1db04}', '\u{1db03}'),
+    ('\u{1db05}', '\u{1db06}'),
+    ('\u{1db06}', '\u{1db05}'),
+    ('\u{1db08}', '\u{1db09}'),
+    ('\u{1db09}', '\u{1db08}'),
+    ('\u{1db10}', '\u{221d}'),
 ];

@@ -1,12 +1,11 @@
 // Written by tools/plain_rust from crates/script_shapers. Do not edit.
 
-//! How characters join their neighbours, as `tools/joining` writes it from ArabicShaping.txt of Unicode 15.0.0 and
-//! the letters that came since.
+//! How characters join their neighbours, as `tools/joining` writes it from ArabicShaping.txt of Unicode 18.0.0.
 
 use crate::script_shapers::joining::kind::JoiningType::{self, *};
 
 /// The characters that Unicode lists, from the first of each row to its last, and how they join.
-pub(crate) static ROWS: [(char, char, JoiningType); 184] = [
+pub(crate) static ROWS: [(char, char, JoiningType); 187] = [
     ('\u{600}', '\u{605}', NonJoining),
     ('\u{608}', '\u{608}', NonJoining),
     ('\u{60b}', '\u{60b}', NonJoining),
@@ -93,6 +92,7 @@ pub(crate) static ROWS: [(char, char, JoiningType); 184] = [
     ('\u{887}', '\u{888}', NonJoining),
     ('\u{889}', '\u{88d}', Dual),
     ('\u{88e}', '\u{88e}', Right),
+    ('\u{88f}', '\u{88f}', Dual),
     ('\u{890}', '\u{891}', NonJoining),
     ('\u{8a0}', '\u{8a9}', Dual),
     ('\u{8aa}', '\u{8ac}', Right),
@@ -160,6 +160,8 @@ pub(crate) static ROWS: [(char, char, JoiningType); 184] = [
     ('\u{10d23}', '\u{10d23}', Dual),
     ('\u{10ec2}', '\u{10ec2}', Right),
     ('\u{10ec3}', '\u{10ec4}', Dual),
+    ('\u{10ec6}', '\u{10ec7}', Dual),
+    ('\u{10ed9}', '\u{10eee}', Left),
     ('\u{10f30}', '\u{10f32}', Dual),
     ('\u{10f33}', '\u{10f33}', Right),
     ('\u{10f34}', '\u{10f44}', Dual),

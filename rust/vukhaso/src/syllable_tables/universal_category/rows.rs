@@ -1,12 +1,12 @@
 // Written by tools/plain_rust from crates/syllable_tables. Do not edit.
 
 //! What characters are in syllables of the universal shaper, as `tools/universal_categories` writes it from the files of Unicode
-//! 15.0.0, with Microsoft's additions, and what came since.
+//! 18.0.0, with Microsoft's additions.
 
 use crate::syllable_tables::universal_category::UniversalCategory::{self, *};
 
 /// The characters that have a category, from the first of each row to its last.
-pub(crate) static ROWS: [(u32, u32, UniversalCategory); 1051] = [
+pub(crate) static ROWS: [(u32, u32, UniversalCategory); 1060] = [
     (0x2D, 0x2D, BaseOther),
     (0x30, 0x39, Base),
     (0x5B, 0x5B, SegmentBegin),
@@ -142,7 +142,7 @@ pub(crate) static ROWS: [(u32, u32, UniversalCategory); 1051] = [
     (0xB47, 0xB48, VowelPre),
     (0xB4B, 0xB4C, VowelPre),
     (0xB4D, 0xB4D, Halant),
-    (0xB55, 0xB57, VowelAbove),
+    (0xB53, 0xB57, VowelAbove),
     (0xB5C, 0xB5D, Base),
     (0xB5F, 0xB61, Base),
     (0xB62, 0xB63, VowelBelow),
@@ -362,8 +362,7 @@ pub(crate) static ROWS: [(u32, u32, UniversalCategory); 1051] = [
     (0x1887, 0x18A8, Base),
     (0x18A9, 0x18A9, ModifierBelow),
     (0x18AA, 0x18AA, Base),
-    (0x1900, 0x1900, BaseOther),
-    (0x1901, 0x191E, Base),
+    (0x1900, 0x191E, Base),
     (0x1920, 0x1921, VowelAbove),
     (0x1922, 0x1922, VowelBelow),
     (0x1923, 0x1924, VowelPost),
@@ -931,6 +930,14 @@ pub(crate) static ROWS: [(u32, u32, UniversalCategory); 1051] = [
     (0x11A98, 0x11A98, ModifierAbove),
     (0x11A99, 0x11A99, InvisibleStacker),
     (0x11A9D, 0x11A9D, Base),
+    (0x11B0A, 0x11B0A, Base),
+    (0x11B60, 0x11B60, VowelAbove),
+    (0x11B61, 0x11B61, VowelPost),
+    (0x11B62, 0x11B63, VowelBelow),
+    (0x11B64, 0x11B64, VowelAbove),
+    (0x11B65, 0x11B65, VowelPost),
+    (0x11B66, 0x11B66, VowelAbove),
+    (0x11B67, 0x11B67, VowelPost),
     (0x11C00, 0x11C08, Base),
     (0x11C0A, 0x11C2E, Base),
     (0x11C2F, 0x11C2F, VowelPost),
@@ -977,6 +984,8 @@ pub(crate) static ROWS: [(u32, u32, UniversalCategory); 1051] = [
     (0x11D96, 0x11D96, VowelModifierPost),
     (0x11D97, 0x11D97, InvisibleStacker),
     (0x11DA0, 0x11DA9, Base),
+    (0x11DF0, 0x11DF0, VowelModifierAbove),
+    (0x11DF1, 0x11DF1, Base),
     (0x11EE0, 0x11EF1, Base),
     (0x11EF2, 0x11EF2, BaseOther),
     (0x11EF3, 0x11EF3, VowelAbove),

@@ -1,7 +1,7 @@
 // Written by tools/plain_rust from crates/buffer_tests. Do not edit.
 
 use crate::Fail;
-use crate::buffer_tests::lists::{assert_glyphs, buffer_of};
+use crate::buffer_tests::lists::assert_glyphs;
 use vukhaso::buffer::{UnicodeBuffer, hb_buffer_t, hb_glyph_info_t};
 
 #[test]
@@ -20,17 +20,7 @@ fn the_largest_cluster_is_in_the_range_of_all() -> Result<(), Fail> {
 }
 
 #[test]
-fn merges_and_flags_with_no_output() -> Result<(), Fail> {
-    let mut buffer = buffer_of("abcd");
-    assert!(buffer.len() == 4);
-    assert!(!buffer.have_output());
-    buffer.merge_clusters(1, 3);
-    assert_glyphs(buffer.info(), &[(0, 0), (1, 0), (1, 0), (3, 0)]);
-    assert!(buffer.len() == 4);
-    assert!(!buffer.have_output());
-    buffer.unsafe_to_break(None, Some(9));
-    assert_glyphs(buffer.info(), &[(0, 0), (1, 3), (1, 3), (3, 3)]);
-    assert!(buffer.scratch_flags == 0x20);
+fn a_glyph_is_put_into_a_cluster() {
     let mut info = hb_glyph_info_t {
         glyph_id: 97,
         mask: 31,
@@ -40,15 +30,4 @@ fn merges_and_flags_with_no_output() -> Result<(), Fail> {
     };
     hb_buffer_t::set_cluster(&mut info, 1, 10);
     assert_glyphs(&[info], &[(1, 26)]);
-    Ok(())
-}
-
-#[test]
-fn a_deleted_glyph_leaves_its_cluster() {
-    let mut buffer = buffer_of("abc");
-    buffer.clear_output();
-    assert!(buffer.lookahead_len() > 0);
-    assert!(buffer.have_output());
-    buffer.delete_glyph();
-    assert_glyphs(buffer.info(), &[(0, 0), (2, 0)]);
 }

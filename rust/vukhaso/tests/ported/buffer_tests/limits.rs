@@ -1,6 +1,6 @@
 // Written by tools/plain_rust from crates/buffer_tests. Do not edit.
 
-use crate::buffer_tests::lists::{buffer_of, read_one};
+use crate::buffer_tests::lists::buffer_of;
 use vukhaso::buffer::hb_buffer_t;
 
 fn set_max_len(buffer: &mut hb_buffer_t, len: usize) {
@@ -21,17 +21,6 @@ fn room_is_made_up_to_the_limit() {
     assert!((buffer.len(), buffer.room()) == (3, 5));
     buffer.clear();
     assert!((buffer.len(), buffer.room()) == (0, 5));
-}
-
-#[test]
-fn an_output_keeps_to_the_limit() {
-    let mut buffer = buffer_of("a");
-    set_max_len(&mut buffer, 1);
-    read_one(&mut buffer);
-    assert!(buffer.have_output());
-    assert!(buffer.output_glyph(5) == Ok(false));
-    assert!(buffer.have_output() && !buffer.successful());
-    assert!(buffer.sync() == Ok(false));
 }
 
 /// The limits after `enter` over a text, and that `leave` puts them back.

@@ -1,7 +1,7 @@
 // Written by tools/plain_rust from crates/buffer_tests. Do not edit.
 
 //! Tests of `shaping_buffer`, `shaping_runs` and `shaping_uses`, over what they make public, as in the `tests/` folder
-//! of a Rust crate.
+//! of a Rust crate. Most calls are tested by lines of the program, in `rows/calls`; here is what these do not say.
 
 #[cfg(test)]
 mod accessors;
@@ -9,10 +9,6 @@ mod accessors;
 mod buffer;
 #[cfg(test)]
 mod call_list;
-#[cfg(test)]
-mod cursor;
-#[cfg(test)]
-mod filled;
 #[cfg(test)]
 mod glyph_buffer;
 #[cfg(test)]

@@ -28,8 +28,6 @@ mod glyph_flags;
 #[cfg(test)]
 mod guess;
 #[cfg(test)]
-mod hangul;
-#[cfg(test)]
 mod info;
 #[cfg(test)]
 mod lists;

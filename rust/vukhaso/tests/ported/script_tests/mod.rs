@@ -1,10 +1,8 @@
 // Written by tools/plain_rust from crates/script_tests. Do not edit.
 
-//! Tests of `script_shapers` and `script_features`, as in the `tests/` folder of a Rust crate. What is expected comes from the
-//! Unicode Standard, the OpenType specification and HarfBuzz's tests.
+//! Tests of `syllable_tables`, `script_shapers` and `script_features`, as in the `tests/` folder of a Rust crate: what rows of shaping
+//! (`rows/shaping`) cannot say. What is expected comes from the Unicode Standard, the OpenType specification and HarfBuzz's tests.
 
-#[cfg(test)]
-mod arabic;
 #[cfg(test)]
 mod features;
 #[cfg(test)]
@@ -16,6 +14,6 @@ mod joining;
 #[cfg(test)]
 mod shapers;
 #[cfg(test)]
-mod texts;
+mod syllables;
 #[cfg(test)]
-mod thai;
+mod texts;

@@ -5,19 +5,8 @@
 use vukhaso::buffer::{CombiningClasses, UnicodeBuffer, hb_buffer_t, hb_glyph_info_t};
 use vukhaso::script_shapers::{FontGlyphs, ScriptPlan, ScriptShaper};
 
-/// Classes of the marks that are in the tests.
-static CLASSES: [(char, u8); 10] = [
-    ('\u{5b0}', 10),
-    ('\u{5b4}', 14),
-    ('\u{5b7}', 17),
-    ('\u{5bd}', 22),
-    ('\u{64b}', 27),
-    ('\u{64e}', 30),
-    ('\u{651}', 33),
-    ('\u{653}', 230),
-    ('\u{654}', 230),
-    ('\u{655}', 220),
-];
+/// The class of a mark, since a table of classes has a row.
+static CLASSES: [(char, u8); 1] = [('\u{302e}', 224)];
 
 /// A font that has glyphs for the characters from one to another. Some have no width.
 #[derive(Clone, Copy, Debug)]
@@ -63,14 +52,7 @@ impl FontGlyphs for TestFont {
 
 /// A buffer over a text whose characters have their properties.
 pub(crate) fn buffer_of(text: &str) -> hb_buffer_t {
-    buffer_between("", text, "")
-}
-
-/// The same, with texts before it and behind it.
-pub(crate) fn buffer_between(before: &str, text: &str, behind: &str) -> hb_buffer_t {
     let mut characters = UnicodeBuffer::new();
-    characters.set_pre_context(before);
-    characters.set_post_context(behind);
     assert!(characters.push_str(text) == Ok(true));
     let mut buffer = characters.into_buffer();
     set_properties(buffer.info_slice_mut());

@@ -1,113 +1,13 @@
 // Written by tools/plain_rust from crates/text_tests. Do not edit.
 
-//! Tests of tags: worked rows, texts of every form, tables, and complex cases.
+//! Tests of tags: tables, and complex cases. `rows/calls/tags.calls` has scripts and languages of every form.
 use crate::Fail;
 use vukhaso::text::{
     ComplexLanguages, Language, LanguageTable, NoComplexLanguages, Script, SmallVecExt, Tag,
     TagExt, ThreeTags, tags_from_script_and_language,
 };
 
-/// Scripts, languages, the tags of the script and those of the language; `-` is none.
-static ROWS: [[&str; 4]; 96] = [
-    ["Arab", "-", "arab", ""],
-    ["Beng", "-", "bng3bng2beng", ""],
-    ["Copt", "-", "copt", ""],
-    ["Deva", "-", "dev3dev2deva", ""],
-    ["Gujr", "-", "gjr3gjr2gujr", ""],
-    ["Guru", "-", "gur3gur2guru", ""],
-    ["Hira", "-", "kana", ""],
-    ["Kana", "-", "kana", ""],
-    ["Knda", "-", "knd3knd2knda", ""],
-    ["Laoo", "-", "lao ", ""],
-    ["Latn", "-", "latn", ""],
-    ["Mand", "-", "mand", ""],
-    ["Mlym", "-", "mlm3mlm2mlym", ""],
-    ["Mtei", "-", "mtei", ""],
-    ["Mymr", "-", "mym2mymr", ""],
-    ["Nkoo", "-", "nko ", ""],
-    ["Orya", "-", "ory3ory2orya", ""],
-    ["Taml", "-", "tml3tml2taml", ""],
-    ["Telu", "-", "tel3tel2telu", ""],
-    ["Vaii", "-", "vai ", ""],
-    ["Wwyz", "-", "wwyz", ""],
-    ["Yiii", "-", "yi  ", ""],
-    ["Zinh", "-", "zinh", ""],
-    ["Zmth", "-", "zmth", ""],
-    ["Zyyy", "-", "zyyy", ""],
-    ["Zzzz", "-", "zzzz", ""],
-    ["Copt", "en", "copt", ""],
-    ["Copt", "en-x-hbsc", "copt", ""],
-    ["Copt", "x-hbsc", "copt", ""],
-    ["Latn", "en-x-hbscabc", "abc ", ""],
-    ["Latn", "en-x-hbscdev2", "dev2", ""],
-    ["Latn", "en-x-hbscdev3", "dev3", ""],
-    ["Latn", "en-x-hbscdeva", "deva", ""],
-    ["Latn", "x-hbscabc", "abc ", ""],
-    ["Latn", "x-hbscdev2", "dev2", ""],
-    ["Latn", "x-hbscdev3", "dev3", ""],
-    ["Latn", "x-hbscdeva", "deva", ""],
-    ["Mlym", "ml", "mlm3mlm2mlym", "MAL "],
-    ["-", "a-\u{e9}", "", ""],
-    ["-", "abc", "", "ABC "],
-    ["-", "asdf-asdf-wer-x-hbot-zxc", "", ""],
-    ["-", "asdf-asdf-wer-x-hbotabc", "", "ABC "],
-    ["-", "asdf-asdf-wer-x-hbotabc-zxc", "", "ABC "],
-    ["-", "asdf-asdf-wer-x-hbotabcd", "", "ABCD"],
-    ["-", "en", "", ""],
-    ["-", "en-x-hbotpap0-hbsccopt", "copt", "PAP0"],
-    ["-", "en-x-hbsc", "", ""],
-    ["-", "en-x-hbscabc", "abc ", ""],
-    ["-", "en-x-hbscdev2", "dev2", ""],
-    ["-", "en-x-hbscdev3", "dev3", ""],
-    ["-", "en-x-hbscdeva", "deva", ""],
-    ["-", "en-x-hbscdflt", "DFLT", ""],
-    ["-", "fa-ir-x-hbotabc-zxc", "", "ABC "],
-    ["-", "fa-x-hbotabc-zxc", "", "ABC "],
-    ["-", "x-hbot1234-hbsc5678", "5678", "1234"],
-    ["-", "x-hbotabcd", "", "ABCD"],
-    ["-", "x-hbotpap0-hbsccopt", "copt", "PAP0"],
-    ["-", "x-hbsc", "", ""],
-    ["-", "x-hbsc5678-hbot1234", "5678", "1234"],
-    ["-", "x-hbscabc", "abc ", ""],
-    ["-", "x-hbscdev2", "dev2", ""],
-    ["-", "x-hbscdev3", "dev3", ""],
-    ["-", "x-hbscdeva", "deva", ""],
-    ["-", "x-hbscdflt", "DFLT", ""],
-    ["-", "xy", "", ""],
-    ["-", "xyz", "", "XYZ "],
-    ["-", "xyz-a-foo-b-bar", "", "XYZ "],
-    ["-", "xyz-qw", "", ""],
-    ["-", "xyz-xy-x-hbotabc-zxc", "", "ABC "],
-    ["-", "zh-cn-x-hbotabc-zxc", "", "ABC "],
-    ["-", "zh-x-hbotabc-zxc", "", "ABC "],
-    ["-", "zh-xy-x-hbotabc-zxc", "", "ABC "],
-    ["-", "\u{e9}", "", ""],
-    ["-", "\u{e9}-x-hbsc\u{e9}", "", ""],
-    ["-", "x-", "", ""],
-    ["-", "x-hbotabcdef", "", "ABCD"],
-    ["-", "-x-hbscabc", "abc ", ""],
-    ["-", "-x-en", "", ""],
-    ["-", "xyz-a-b-c", "", "XYZ "],
-    ["-", "en-a-foo-x-hbotabc", "", "ABC "],
-    ["-", "xyz-x-a-b-foo", "", "XYZ "],
-    ["-", "x-hbsc-hbscabc", "", ""],
-    ["-", "x-hbscabc-hbscdef", "abc ", ""],
-    ["-", "x-hbscabcde", "abcd", ""],
-    ["-", "x-hbscDFLT", "DFLT", ""],
-    ["-", "x-hbscDfLt", "DFLT", ""],
-    ["-", "x-hbotdflt", "", "dflt"],
-    ["-", "x-hbotDfLT", "", "dflt"],
-    ["Latn", "xyz-x-hbsc", "latn", "XYZ "],
-    ["-", "en-x", "", ""],
-    ["-", "ax-hbscabc", "", ""],
-    ["-", "a---b", "", ""],
-    ["-", "--", "", ""],
-    ["-", "--x", "", "--X "],
-    ["-", "-x-", "", ""],
-    ["-", "xyz--x-hbotab", "", "AB  "],
-];
-
-/// The same over [`TABLE`], with no script.
+/// Languages, with no script and over [`TABLE`], and their tags.
 static ROWS_OF_TABLE: [[&str; 4]; 20] = [
     ["-", "a", "", "A   "],
     ["-", "aa", "", "AA1 "],
@@ -150,8 +50,6 @@ const TABLE: [(&str, Tag); 17] = [
     ("zz", Tag(0x5a5a3320)),
     ("zz", Tag(0x5a5a3420)),
 ];
-
-const MALAYALAM: [(&str, Tag); 1] = [("ml", Tag(0x4d414c20))];
 
 /// Every prefix is a complex case, with no tags.
 struct NoTags;
@@ -211,9 +109,7 @@ fn rows_hold(table: &LanguageTable<'_>, rows: &[[&str; 4]]) {
 }
 
 #[test]
-fn rows_of_scripts_and_languages() -> Result<(), Fail> {
-    let one_row = LanguageTable::new(&MALAYALAM).ok_or("no table")?;
-    rows_hold(&one_row, &ROWS);
+fn rows_of_a_table() -> Result<(), Fail> {
     let many_rows = LanguageTable::new(&TABLE).ok_or("no table")?;
     rows_hold(&many_rows, &ROWS_OF_TABLE);
     Ok(())
