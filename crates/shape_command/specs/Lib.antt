@@ -5,7 +5,6 @@ pub mod Errors
 pub mod Features
 pub mod HeldFile
 pub mod Lines
-pub mod Loaded
 pub mod Prepared
 pub mod Status
 pub mod Variations

@@ -1,25 +1,15 @@
 //! A font of a file, which is kept for all command lines in a row that name it.
 
-ghost use Rattle.std.specs.Prelude.{◌≡◌, None, true, false, option_map, IfOk, IfSome, OnErr};
-ghost use Rattle.std.specs.Option.{option_map_or};
-ghost use Rattle.font_tables.specs.Bytes.{number_32};
-ghost use Rattle.font_tables.specs.Directory.{font_of, is_font_tag};
-ghost use Rattle.shape_command.specs.Loaded.{has_font, is_directory_whole};
+ghost use Rattle.std.specs.Prelude.{◌≡◌, None, option_map, IfOk, IfSome, OnErr};
+ghost use Rattle.font_tables.specs.Directory.{font_of};
 ghost use Rattle.font_shaper.specs.Face.{KeepsItsTables};
 
 use crate::font_file::FontFile;
 use crate::options::{FontChoice, Options};
 use crate::shaper::KeptLine;
 use font_shaper::{Face, FaceNames, Variation};
-use font_tables::bytes::{u16_at, u32_at};
-use font_tables::directory::face_count;
-use font_tables::rows::rows_within;
 use std::alloc::{AllocError, Global};
 use std::mem;
-
-/// The tags that a file with one font begins with: TrueType outlines, Apple's `true`, CFF outlines (`OTTO`) and Type 1
-/// outlines (`typ1`).
-const FONT_TAGS: [u32; 4] = [0x0001_0000, 0x7472_7565, 0x4F54_544F, 0x7479_7031];
 
 /// A font at a size, with the names of its glyphs once they were asked for.
 #[derive(Drop)]
@@ -37,22 +27,17 @@ pub(crate) struct LoadedFont<'f> {
 }
 
 impl<'f> LoadedFont<'f> {
-    /// A font of the file that was read last; `None` where the file has no font of that number, or the directory of its tables is cut
-    /// short. `Err(AllocError)` where memory runs out.
+    /// A font of the file that was read last; `None` where the file has no such font. `Err(AllocError)` where memory
+    /// runs out.
     pub(crate) fn new(
         alloc: Global,
         file: &'f FontFile,
         choice: FontChoice,
     ) -> Result<Option<Self>, AllocError>
-        ensures found { has_font file.now.bytes choice.index ≡ true
-            → IfOk result (λ found. option_map (λ font. (font.face.tables.file.now, font.face.tables.directory)) found
+        ensures found { IfOk result (λ found. option_map (λ font. (font.face.tables.file.now, font.face.tables.directory)) found
             ≡ font_of file.now.bytes choice.index) }
-        ensures refused { has_font file.now.bytes choice.index ≡ false → IfOk result (λ found. found ≡ None) }
         ensures keeps { IfOk result (λ found. IfSome found (λ font. KeepsItsTables font.face)) }
     {
-        if !has_font(file.data(), choice.index) {
-            return Ok(None);
-        }
         let Some(mut face) = Face::parse(alloc, file.data(), choice.index)? else {
             return Ok(None);
         };
@@ -107,36 +92,6 @@ impl<'f> LoadedFont<'f> {
         ensures { result ≡ self.old.kept }
     {
         mem::replace(&mut self.kept, KeptLine::new())
-    }
-}
-
-/// Whether a file has a font of this number that `hb-shape` loads.
-#[tactic(auto, unfolding(crate::specs::Loaded::has_font))]
-fn has_font(file: &[u8], index: u32) -> bool
-    ensures { result ≡ has_font file.now index }
-{
-    index < face_count(file) && is_directory_whole(file)
-}
-
-/// Whether the directory of the tables is whole where it begins the file, as it does but in a collection.
-#[tactic(auto, unfolding(crate::specs::Loaded::is_directory_whole))]
-fn is_directory_whole(file: &[u8]) -> bool
-    ensures { result ≡ is_directory_whole file.now }
-{
-    if !is_single(file) {
-        return true;
-    }
-    let count = usize::from(u16_at(file, 4).unwrap_or(0));
-    file.len() >= 12 && rows_within(file, 12, 16, count) == count
-}
-
-/// Whether the bytes begin as a file with one font does.
-fn is_single(file: &[u8]) -> bool
-    ensures { result ≡ option_map_or is_font_tag (number_32 file.now 0) false }
-{
-    match u32_at(file, 0) {
-        Some(tag) => FONT_TAGS.contains(&tag),
-        None => false,
     }
 }
 

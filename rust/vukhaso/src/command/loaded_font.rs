@@ -6,15 +6,8 @@ use crate::command::font_file::FontFile;
 use crate::command::options::{FontChoice, Options};
 use crate::command::shaper::KeptLine;
 use crate::font_shaper::{Face, FaceNames, Variation};
-use crate::font_tables::bytes::{u16_at, u32_at};
-use crate::font_tables::directory::face_count;
-use crate::font_tables::rows::rows_within;
 use crate::memory::{AllocError, Vec};
 use std::mem;
-
-/// The tags that a file with one font begins with: TrueType outlines, Apple's `true`, CFF outlines (`OTTO`) and Type 1
-/// outlines (`typ1`).
-const FONT_TAGS: [u32; 4] = [0x0001_0000, 0x7472_7565, 0x4F54_544F, 0x7479_7031];
 
 /// A font at a size, with the names of its glyphs once they were asked for.
 pub(crate) struct LoadedFont<'f> {
@@ -31,16 +24,12 @@ pub(crate) struct LoadedFont<'f> {
 }
 
 impl<'f> LoadedFont<'f> {
-    /// A font of the file that was read last; `None` where the file has no font of that number, or the
-    /// directory of its tables is cut short.
+    /// A font of the file that was read last; `None` where the file has no such font.
     ///
     /// # Errors
     ///
     /// `Err(AllocError)` where memory runs out.
     pub(crate) fn new(file: &'f FontFile, choice: FontChoice) -> Result<Option<Self>, AllocError> {
-        if !has_font(file.data(), choice.index) {
-            return Ok(None);
-        }
         let Some(mut face) = Face::parse_if_there(file.data(), choice.index)? else {
             return Ok(None);
         };
@@ -88,29 +77,6 @@ impl<'f> LoadedFont<'f> {
     /// What is kept of the last line. The caller puts it back.
     pub(crate) fn take_kept(&mut self) -> KeptLine {
         mem::replace(&mut self.kept, KeptLine::new())
-    }
-}
-
-/// Whether a file has a font of this number that `hb-shape` loads.
-fn has_font(file: &[u8], index: u32) -> bool {
-    index < face_count(file) && is_directory_whole(file)
-}
-
-/// Whether the directory of the tables is whole where it begins the file, as it does but in a
-/// collection.
-fn is_directory_whole(file: &[u8]) -> bool {
-    if !is_single(file) {
-        return true;
-    }
-    let count = usize::from(u16_at(file, 4).unwrap_or(0));
-    file.len() >= 12 && rows_within(file, 12, 16, count) == count
-}
-
-/// Whether the bytes begin as a file with one font does.
-fn is_single(file: &[u8]) -> bool {
-    match u32_at(file, 0) {
-        Some(tag) => FONT_TAGS.contains(&tag),
-        None => false,
     }
 }
 
