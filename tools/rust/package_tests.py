@@ -99,8 +99,8 @@ def test_program(tally, room):
     with (stored / "stdin").open() as lines:
         ran = subprocess.run(
             [program, *(stored / "args").read_text().split()], cwd=stored / "data", stdin=lines, capture_output=True, text=True)
-    told = (stored / "stdout").read_text()
-    fault = "" if (ran.stdout, ran.stderr, ran.returncode) == (told, "", 0) else f"status {ran.returncode}\n{ran.stderr}{ran.stdout}"
+    told, status = (stored / "stdout").read_text(), int((stored / "status").read_text())
+    fault = "" if (ran.stdout, ran.stderr, ran.returncode) == (told, "", status) else f"status {ran.returncode}\n{ran.stderr}{ran.stdout}"
     tally.note("its stored run, which is the proved program's", fault)
 
 

@@ -1,4 +1,4 @@
-use Rattle.std.proofs.Common.{◌≡◌, true, false, sym, ◌∙◌}
+use Rattle.std.proofs.Common.{sym, ◌∙◌}
 use Rattle.std.proofs.lemmas.Bool.{false≢true}
 use Rattle.font_shaper.specs.ClusterOrder.{KeepsStage}
 use Rattle.font_shaper.proofs.StageLemmas.{stage_then, stage_of_keeps}
