@@ -170,7 +170,7 @@ impl VariedPhantoms {
 
     /// Adds a tuple's deltas of phantom points, which stand behind so many points.
     fn add(&mut self, tuple: &Tuple<'_>, scalar: f32, count: u32) -> Option<()> {
-        let mut deltas = TupleDeltas::new(tuple, count.saturating_add(4))?;
+        let mut deltas = TupleDeltas::new(tuple, count.saturating_add(4), count)?;
         if !deltas.is_for_all {
             self.settle();
         }

@@ -14,7 +14,7 @@ pub(crate) struct PackedDeltas<'a> {
     /// How many of them are left in the run.
     run: u32,
     /// How many bytes each of the run has; a delta without bytes is 0.
-    size: usize,
+    size: u8,
 }
 
 impl<'a> PackedDeltas<'a> {
@@ -42,7 +42,7 @@ impl<'a> PackedDeltas<'a> {
             self.begin_run()?;
         }
         let delta = delta_of_size(self.size, self.rest)?;
-        self.rest = tail(self.rest, self.size);
+        self.rest = tail(self.rest, usize::from(self.size));
         self.run = self.run.saturating_sub(1);
         self.left -= 1;
         Some(delta)
@@ -57,17 +57,51 @@ impl<'a> PackedDeltas<'a> {
         if self.run > self.left { None } else { Some(()) }
     }
 
+    /// Passes over so many deltas, run by run; `None` where there are fewer, or the list is broken.
+    pub(crate) fn skip(&mut self, count: u32) -> Option<()> {
+        if count > self.left {
+            return None;
+        }
+        let mut skipped = 0;
+        for _ in 0..count {
+            if skipped == count {
+                break;
+            }
+            skipped += self.skip_in_run(count - skipped)?;
+        }
+        if skipped == count { Some(()) } else { None }
+    }
+
+    /// Passes over deltas of a run, at most so many; how many these were. `None` where the list is broken.
+    ///
+    /// # Requires
+    ///
+    /// - `most ≤ self.old.left`
+    fn skip_in_run(&mut self, most: u32) -> Option<u32> {
+        if self.run == 0 {
+            self.begin_run()?;
+        }
+        let skipped = self.run.min(most);
+        let size = usize::from(self.size) * skipped as usize;
+        if self.rest.len() < size {
+            return None;
+        }
+        self.rest = tail(self.rest, size);
+        self.run -= skipped;
+        self.left -= skipped;
+        Some(skipped)
+    }
+
     /// What follows the list; `None` where it is broken.
     pub(crate) fn behind(mut self) -> Option<&'a [u8]> {
-        for _ in 0..self.left {
-            self.next()?;
-        }
+        let left = self.left;
+        self.skip(left)?;
         Some(self.rest)
     }
 }
 
 /// How many bytes each delta of a run has, by the byte before the run.
-fn delta_size(control: u8) -> usize {
+fn delta_size(control: u8) -> u8 {
     match control {
         0..=63 => 1,
         64..=127 => 2,
@@ -77,7 +111,7 @@ fn delta_size(control: u8) -> usize {
 }
 
 /// The delta of so many bytes at the front.
-fn delta_of_size(size: usize, bytes: &[u8]) -> Option<i32> {
+fn delta_of_size(size: u8, bytes: &[u8]) -> Option<i32> {
     match size {
         0 => Some(0),
         1 => Some(i32::from(u8_at(bytes, 0)?.cast_signed())),

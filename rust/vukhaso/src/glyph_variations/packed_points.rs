@@ -81,10 +81,43 @@ impl<'a> PackedPoints<'a> {
         if self.run > self.left { None } else { Some(()) }
     }
 
+    /// Passes over the numbers that are below this one, and says how many these are.
+    pub(crate) fn skip_below(&mut self, point: u32) -> u32 {
+        let mut skipped = 0u32;
+        for _ in 0..self.left {
+            let mut ahead = *self;
+            match ahead.next() {
+                Some(next) if next < point => *self = ahead,
+                _ => break,
+            }
+            skipped = skipped.saturating_add(1);
+        }
+        skipped
+    }
+
+    /// Passes over what is left of a run, or else over the next one.
+    fn skip_run(&mut self) -> Option<()> {
+        if self.run == 0 {
+            self.begin_run()?;
+        }
+        let unit = if self.is_wide { 2 } else { 1 };
+        let size = unit * usize::from(self.run);
+        if self.rest.len() < size {
+            return None;
+        }
+        self.rest = tail(self.rest, size);
+        self.left = self.left.saturating_sub(self.run);
+        self.run = 0;
+        Some(())
+    }
+
     /// What follows the list; `None` where it is broken.
     pub(crate) fn behind(mut self) -> Option<&'a [u8]> {
         for _ in 0..self.left {
-            self.next()?;
+            if self.left == 0 {
+                break;
+            }
+            self.skip_run()?;
         }
         Some(self.rest)
     }

@@ -20,31 +20,33 @@ pub(crate) struct TupleDeltas<'a> {
 }
 
 impl<'a> TupleDeltas<'a> {
-    /// The points of a tuple of a glyph with so many points, phantom points among them; `None` where they
-    /// are broken.
-    pub(crate) fn new(tuple: &Tuple<'a>, point_count: u32) -> Option<Self> {
+    /// The points of a tuple, from the one with a number on, of a glyph with so many points, phantom points
+    /// among them; `None` where they are broken.
+    pub(crate) fn new(tuple: &Tuple<'a>, point_count: u32, first: u32) -> Option<Self> {
         let data = tuple.data?;
-        let (points, deltas) = if tuple.has_points() {
+        let (mut points, deltas) = if tuple.has_points() {
             let points = PackedPoints::new(data)?;
             (points, points.behind()?)
         } else {
             (tuple.shared_points, data)
         };
         let is_for_all = points.left() == 0;
-        let count = if is_for_all {
-            point_count
+        let (count, skipped) = if is_for_all {
+            (point_count, first)
         } else {
-            u32::from(points.left())
+            (u32::from(points.left()), points.skip_below(first))
         };
-        let x = PackedDeltas::new(deltas, count);
-        let y = PackedDeltas::new(x.behind()?, count);
+        let mut x = PackedDeltas::new(deltas, count);
+        x.skip(skipped)?;
+        let mut y = PackedDeltas::new(x.behind()?, count);
+        y.skip(skipped)?;
         let _behind = y.behind()?;
         Some(TupleDeltas {
             is_for_all,
             points,
             x,
             y,
-            next: 0,
+            next: first,
         })
     }
 

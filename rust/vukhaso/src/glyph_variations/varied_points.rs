@@ -79,7 +79,7 @@ impl<'p> VariedPoints<'p> {
     /// Adds a tuple's deltas; `None` where it is broken.
     fn add(&mut self, tuple: &Tuple<'_>, scalar: f32) -> Option<()> {
         let count = u32::try_from(self.deltas.len()).ok()?;
-        let found = TupleDeltas::new(tuple, count)?;
+        let found = TupleDeltas::new(tuple, count, 0)?;
         if !found.is_for_all {
             self.settle();
         }
