@@ -8,7 +8,7 @@
 -- at the cursor has no edit there, so the first edit is that of the subtables that are tried (`EditLemmas`).
 
 pub mod AroundLemmas
-pub mod BehindLemmas
+pub mod AskedLemmas
 pub mod ContextLemmas
 pub mod DigestLemmas
 pub mod EditLemmas

@@ -8,7 +8,7 @@ use Rattle.font_tables.specs.declared.class_definition.ClassDefinition.{ClassDef
 use Rattle.font_tables.specs.declared.coverage.Coverage.{Coverage}
 use Rattle.rb_glyph.specs.declared.info.hb_glyph_info_t.{hb_glyph_info_t}
 use Rattle.glyph_layout.specs.Match.{joins, next_place, place_of}
-use Rattle.glyph_layout.specs.Pattern.{IsFitBy, IsFitOf, Pattern, fitting, pattern_fits, plain_of, plain_pattern, rule_pattern}
+use Rattle.glyph_layout.specs.Pattern.{IsFitBy, IsFitOf, Pattern, fitting, pattern_fits, plain_of, plain_pattern, rule_fits, rule_pattern}
 use Rattle.glyph_layout.specs.Rule.{input_walk, wanted_by}
 use Rattle.glyph_layout.specs.RuleSet.{asks_nothing, counts, first_rule, fits_at, fits_found, fits_next, fits_second, is_asked, looks_first, next_counted, passes_joiners, rule_at, rule_count, taken}
 use Rattle.glyph_layout.specs.Walk.{glyph_at, is_shown, next_found}
@@ -143,7 +143,7 @@ is_shown-wanted (Classes c) numbers k x asks = class_shown c _ x asks
 is_shown-wanted (Coverages cs) numbers k x asks = covered_shown _ x asks
 
 -- nothing that is asked for stands where another glyph counts
-next_place-other : (w : Walk) (gs : List hb_glyph_info_t) (i p : ℕ) (o : Option Wanted) → next_found w Any gs i ≡ At p
+pub next_place-other : (w : Walk) (gs : List hb_glyph_info_t) (i p : ℕ) (o : Option Wanted) → next_found w Any gs i ≡ At p
     → counts w (glyph_at gs p) ≡ true → ((x : Wanted) → o ≡ Some x → is_shown x ≡ false)
     → is_asked o (glyph_at gs p).glyph_id ≡ false → next_place w o gs i ≡ None
 next_place-other w gs i p None found here asks other = refl
@@ -154,7 +154,7 @@ next_place-same : (w : Walk) (gs : List hb_glyph_info_t) (i p q : ℕ) (o : Opti
 next_place-same w gs i p q None found here some = cc
 next_place-same w gs i p q (Some x) found here some = place_of-counted_same w x gs i p q found here some
 
-next_place-absent : (w : Walk) (gs : List hb_glyph_info_t) (i : ℕ) (o : Option Wanted)
+pub next_place-absent : (w : Walk) (gs : List hb_glyph_info_t) (i : ℕ) (o : Option Wanted)
     → place_of (next_found w Any gs i) ≡ None → next_place w o gs i ≡ None
 next_place-absent w gs i None none = refl
 next_place-absent w gs i (Some x) none = place_of-absent w x gs i none
@@ -315,6 +315,36 @@ pub rule_at-passed : (s : Sides) (chained : Bool) (m : Meanings) (set t : List �
     → rule_at s chained m set k ≡ None
 rule_at-passed s chained m set t k p there is other =
     rule_at-there s chained m set t k p there is ∙ taken-passed s chained (rule_count set) m t p is other
+
+rule_at-told_by : (s : Sides) (chained : Bool) (m : Meanings) (set t : List ℕ) (k : ℕ) (o : Option Pattern)
+    → table_at_16 set (2 + 2 * k) ≡ Some t → rule_pattern chained m t ≡ o
+    → ((p : Pattern) → rule_pattern chained m t ≡ Some p
+    → (not (looks_first s chained (rule_count set)) || fits_next s p) ≡ false)
+    → rule_at s chained m set k ≡ None
+rule_at-told_by s chained m set t k None there is other = rule_at-cut s chained m set t k there is
+rule_at-told_by s chained m set t k (Some p) there is other = rule_at-passed s chained m set t k p there is (other p is)
+
+-- so no rule is taken that is told apart by the next glyphs, if it is one
+pub rule_at-told : (s : Sides) (chained : Bool) (m : Meanings) (set t : List ℕ) (k : ℕ)
+    → table_at_16 set (2 + 2 * k) ≡ Some t
+    → ((p : Pattern) → rule_pattern chained m t ≡ Some p
+    → (not (looks_first s chained (rule_count set)) || fits_next s p) ≡ false)
+    → rule_at s chained m set k ≡ None
+rule_at-told s chained m set t k there other = rule_at-told_by s chained m set t k _ there refl other
+
+if-none : (b : Bool) {x : Option Pattern} → x ≡ None → (if b then x else None) ≡ None
+if-none true none = none
+if-none false none = refl
+
+taken-missed : (s : Sides) (chained : Bool) (count : ℕ) (o : Option Pattern) → rule_fits s o ≡ false → taken s chained count o ≡ None
+taken-missed s chained count None misses = refl
+taken-missed s chained count (Some p) misses = if-none _ (fitting-none s p misses)
+
+-- nor one that does not fit
+pub rule_at-missed : (s : Sides) (chained : Bool) (m : Meanings) (set t : List ℕ) (k : ℕ)
+    → table_at_16 set (2 + 2 * k) ≡ Some t → rule_fits s (rule_pattern chained m t) ≡ false
+    → rule_at s chained m set k ≡ None
+rule_at-missed s chained m set t k there misses = rw there (taken-missed s chained (rule_count set) (rule_pattern chained m t) misses)
 
 rule_at-tried : (s : Sides) (chained : Bool) (m : Meanings) (set t : List ℕ) (k : ℕ) (p : Pattern)
     → table_at_16 set (2 + 2 * k) ≡ Some t → rule_pattern chained m t ≡ Some p

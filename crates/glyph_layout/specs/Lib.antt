@@ -1,4 +1,4 @@
-pub mod Behind
+pub mod Asked
 pub mod Budget
 pub mod Context
 pub mod Digest

@@ -6,6 +6,7 @@
 //! `Budget`.
 #![tactic(auto)]
 
+mod asked;
 pub mod budget;
 pub mod context;
 pub mod digest;
@@ -23,6 +24,7 @@ mod seconds;
 pub mod substitution;
 pub mod subtable;
 pub mod summary;
+mod told;
 pub mod walk;
 pub mod wanted;
 mod would;

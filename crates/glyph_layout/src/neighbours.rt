@@ -59,7 +59,7 @@ impl Beyond {
 
 /// Whether HarfBuzz looks at the next two glyphs before it tries the rules of a set of so many: of more than four, and of chained rules
 /// where joiners are passed over both in the input and around it.
-fn looks_first(count: usize, is_chained: bool, sides: &Sides) -> bool
+pub(crate) fn looks_first(count: usize, is_chained: bool, sides: &Sides) -> bool
     ensures { result ≡ looks_first sides.now is_chained count }
 {
     count > 4 && (!is_chained || sides.context.ignores_zwnj && sides.walk.ignores_zwj)
@@ -131,7 +131,7 @@ fn next_beside(walk: &Walk, glyphs: &[hb_glyph_info_t], place: usize) -> Option<
 }
 
 /// No glyph of a font has this number.
-const NO_GLYPH: u32 = u32::MAX;
+pub(crate) const NO_GLYPH: u32 = u32::MAX;
 
 /// The next glyph behind a place, if it counts whatever is asked for; behind the last place a glyph that nobody asks for.
 pub(crate) fn next_seen(walk: &Walk, glyphs: &[hb_glyph_info_t], place: usize) -> Option<Next>

@@ -1,7 +1,7 @@
 //! The rules of a set, of which the first that fits is taken.
 
 ghost use Rattle.std.specs.Prelude.{◌≡◌, ◌<◌, ◌≤◌, ◌||◌, not, Bool, true, false, length, IfSome, IsTrue, Some, is_some};
-ghost use Rattle.glyph_layout.specs.Behind.{IsBehindOf, IsSeenBehind, first_ahead};
+ghost use Rattle.glyph_layout.specs.Asked.{IsBehind, IsInput, IsTold};
 ghost use Rattle.glyph_layout.specs.Budget.{IsNotMore};
 ghost use Rattle.glyph_layout.specs.Context.{IsFitWithin};
 ghost use Rattle.glyph_layout.specs.Neighbours.{may_fit};
@@ -10,15 +10,17 @@ ghost use Rattle.glyph_layout.specs.Rule.{ArePlaces, context_walk, input_walk, p
 ghost use Rattle.glyph_layout.specs.RuleSet.{fits_next, looks_first, rule_at, rule_count, rule_of_set};
 ghost use Rattle.glyph_layout.specs.Walk.{skip_of};
 ghost use Rattle.glyph_layout.specs.declared.rule.Meanings.{Meanings};
+ghost use Rattle.glyph_layout.specs.declared.search.Sides.{Sides};
 ghost use Rattle.glyph_layout.specs.declared.walk.Skip.TheVariants.{No};
 
+use crate::asked::{Asked, asked_at};
 use crate::context::Fit;
 use crate::matching::{match_ahead, match_behind, match_input};
-use crate::neighbours::{Beyond, Neighbours, may_fit, seen_ahead};
-use crate::rule::{Meaning, Meanings, Rule, rule_in};
+use crate::neighbours::{Beyond, Neighbours, looks_first, may_fit, seen_ahead};
+use crate::rule::{Meanings, Rule, rule_in};
 use crate::search::{Search, Sides};
+use crate::told::{Beside, Told};
 use crate::walk::Skip;
-use crate::wanted::class_of;
 use font_tables::bytes::{table_at_16, u16_at};
 use rb_glyph::hb_glyph_info_t;
 
@@ -82,10 +84,67 @@ pub(crate) struct RuleSet<'a> {
 /// What stands behind the cursor, looked at once for all rules of a set.
 #[derive(Clone, Copy, Debug)]
 struct Seen {
-    /// The next two glyphs of the input, for a set of more than four rules.
+    /// The next two glyphs of the input, where HarfBuzz looks at them first.
     ahead: Neighbours,
-    /// The glyph behind the cursor, for a set of few chained rules.
-    behind: Option<Behind>,
+    /// These in the numbers of the rules.
+    told: Option<Told>,
+    /// Where they were not looked at, the next glyph of the input.
+    input: Option<Beside>,
+    /// And the next glyph behind an input of a single glyph, for chained rules.
+    behind: Option<Beside>,
+}
+
+/// What stands behind the cursor for the rules of a set, of which there are so many.
+fn seen_by(rules: &RuleSet, count: usize, sides: &Sides) -> Seen
+    requires { 0 < length sides.now.input.now }
+    ensures ahead { (p : Pattern) → may_fit result.ahead p
+        ≡ (not (looks_first sides.now rules.now.is_chained count) || fits_next sides.now p) }
+    ensures told { IfSome result.told (IsTold result.ahead rules.now.meanings) }
+    ensures input { IfSome result.input (IsInput sides.now rules.now.meanings) }
+    ensures behind { IfSome result.behind (IsBehind sides.now rules.now.meanings) }
+{
+    let ahead = seen_ahead(count, rules.is_chained, sides);
+    match Told::new(&ahead, &rules.meanings) {
+        Some(told) => Seen {
+            ahead,
+            told: Some(told),
+            input: None,
+            behind: None,
+        },
+        None => Seen {
+            ahead,
+            told: None,
+            input: input_beside(rules, sides),
+            behind: ahead_beside(rules, count, sides),
+        },
+    }
+}
+
+/// The next glyph of the input. How far a chained rule looked at it is not told of.
+fn input_beside(rules: &RuleSet, sides: &Sides) -> Option<Beside>
+    requires { 0 < length sides.now.input.now }
+    ensures { IfSome result (IsInput sides.now rules.now.meanings) }
+{
+    let beside = Beside::new(&sides.input_walk(), &rules.meanings.input, sides.input)?;
+    Some(Beside {
+        end: if rules.is_chained { 0 } else { beside.end },
+        ..beside
+    })
+}
+
+/// The next glyph behind an input of a single glyph, for chained rules that are all tried.
+fn ahead_beside(rules: &RuleSet, count: usize, sides: &Sides) -> Option<Beside>
+    requires { 0 < length sides.now.input.now }
+    ensures { IfSome result (IsBehind sides.now rules.now.meanings) }
+{
+    if !rules.is_chained || looks_first(count, true, sides) {
+        return None;
+    }
+    Beside::new(
+        &sides.context_walk(true),
+        &rules.meanings.ahead,
+        sides.input,
+    )
 }
 
 /// The first rule of a set that fits.
@@ -104,10 +163,7 @@ pub(crate) fn first_fit<'a>(
         ≡ is_some (rule_of_set sides.now rules.now.is_chained rules.now.meanings (Some rules.now.table.now)) }
 {
     let count = usize::from(u16_at(rules.table, 0)?);
-    let seen = Seen {
-        ahead: seen_ahead(count, rules.is_chained, sides),
-        behind: seen_by_few(count, rules, sides),
-    };
+    let seen = seen_by(rules, count, sides);
     let mut beyond = Beyond::new(&seen.ahead, rules.is_chained);
     for index in 0..count {
         if !search.budget.pay(1) {
@@ -124,7 +180,7 @@ pub(crate) fn first_fit<'a>(
     None
 }
 
-/// The rule of this number in a set, if it fits. One that asks for other glyphs behind the cursor is not tried.
+/// The rule of this number in a set, if it fits. One that asks for other glyphs behind the cursor is not made.
 #[tactic(auto, using(crate::proofs::RuleSetLemmas::at_steps))]
 fn fit_at<'a>(
     rules: &RuleSet<'a>,
@@ -138,7 +194,9 @@ fn fit_at<'a>(
     requires few { index < 65536 }
     requires ahead { (p : Pattern) → may_fit seen.now.ahead p
         ≡ (not (looks_first sides.now rules.now.is_chained (rule_count rules.now.table.now)) || fits_next sides.now p) }
-    requires behind { IfSome seen.now.behind (IsBehindOf sides.now rules.now.is_chained rules.now.meanings) }
+    requires told { IfSome seen.now.told (IsTold seen.now.ahead rules.now.meanings) }
+    requires input { IfSome seen.now.input (IsInput sides.now rules.now.meanings) }
+    requires behind { IfSome seen.now.behind (IsBehind sides.now rules.now.meanings) }
     ensures spent { IsNotMore search.old.budget search.new.budget }
     ensures fits { IfSome result (IsFitWithin (length sides.now.out.now) (length sides.now.input.now)) }
     ensures rule { IfSome result
@@ -147,7 +205,12 @@ fn fit_at<'a>(
         ≡ is_some (rule_at sides.now rules.now.is_chained rules.now.meanings rules.now.table.now index) }
 {
     let table = table_at_16(rules.table, 2 + 2 * index)?;
-    if is_missed(table, &seen.behind, sides, search) {
+    if is_told_apart(table, rules.is_chained, seen, beyond) {
+        return None;
+    }
+    if let Some(missed) = missed_by(table, rules.is_chained, seen) {
+        search.budget.pay_for(missed.steps);
+        search.reach.extend(sides.out.len(), missed.end);
         return None;
     }
     let rule = rule_in(table, &rules.meanings, rules.is_chained)?;
@@ -155,58 +218,6 @@ fn fit_at<'a>(
         return None;
     }
     fit(&rule, sides, search)
-}
-
-/// What stands behind the glyph at the cursor, in the numbers of rules that ask for it behind their input.
-#[derive(Clone, Copy, Debug)]
-struct Behind {
-    /// The number that a rule has to ask for; none where no rule fits.
-    number: Option<u32>,
-    /// How far glyphs were looked at.
-    end: usize,
-}
-
-/// What stands behind the glyph at the cursor, for a set of few chained rules.
-fn seen_by_few(count: usize, rules: &RuleSet, sides: &Sides) -> Option<Behind>
-    requires { 0 < length sides.now.input.now }
-    ensures { IfSome result (IsBehindOf sides.now rules.now.is_chained rules.now.meanings) }
-{
-    if count <= 4 && rules.is_chained {
-        seen_behind(&rules.meanings.ahead, sides)
-    } else {
-        None
-    }
-}
-
-/// What stands behind the glyph at the cursor, where it counts whatever is asked for, or where there is nothing.
-#[tactic(auto, using(crate::proofs::BehindLemmas::seen))]
-fn seen_behind(ahead: &Meaning, sides: &Sides) -> Option<Behind>
-    requires { 0 < length sides.now.input.now }
-    ensures { IfSome result (IsSeenBehind sides.now ahead.now) }
-{
-    if sides.input.len() == 1 {
-        return Some(Behind {
-            number: None,
-            end: 1,
-        });
-    }
-    let glyph = &sides.input[1];
-    if !counts_around(sides, glyph) {
-        return None;
-    }
-    let number = match *ahead {
-        Meaning::Glyphs => Some(glyph.glyph_id),
-        Meaning::Classes(classes) => Some(u32::from(class_of(&classes, glyph.glyph_id))),
-        Meaning::Coverages(_) => return None,
-    };
-    Some(Behind {
-        number: if sides.context_walk(true).is_within(glyph) {
-            number
-        } else {
-            None
-        },
-        end: 2,
-    })
 }
 
 /// Whether a glyph counts for the walk over the glyphs around a match, whatever is asked for.
@@ -217,33 +228,24 @@ pub(crate) fn counts_around(sides: &Sides, glyph: &hb_glyph_info_t) -> bool
     sides.context.skip(glyph) == Skip::No
 }
 
-/// Whether a chained rule asks for something else behind its only glyph than what stands there.
-fn is_missed(table: &[u8], behind: &Option<Behind>, sides: &Sides, search: &mut Search) -> bool
-    ensures spent { IsNotMore search.old.budget search.new.budget }
-    ensures missed { IsTrue result → (chained : Bool) → (meanings : Meanings) → IfSome behind.now (IsBehindOf sides.now chained meanings)
-        → rule_fits sides.now (rule_pattern chained meanings table.now) ≡ false }
+/// Whether the rule in these bytes asks for other glyphs than the next two, and that is known to be looked at so far.
+fn is_told_apart(table: &[u8], is_chained: bool, seen: &Seen, beyond: &Beyond) -> bool
+    ensures { IsTrue result → (m : Meanings) → (p : Pattern) → IfSome seen.now.told (IsTold seen.now.ahead m)
+        → rule_pattern is_chained m table.now ≡ Some p → may_fit seen.now.ahead p ≡ false }
 {
-    let Some(behind) = *behind else {
-        return false;
-    };
-    let Some(asked) = first_ahead(table) else {
-        return false;
-    };
-    if behind.number == Some(u32::from(asked)) {
-        return false;
+    match &seen.told {
+        Some(told) => told.is_passed(table, is_chained, beyond),
+        None => false,
     }
-    search.budget.pay(1);
-    search.reach.extend(sides.out.len(), behind.end);
-    true
 }
 
-/// The first number behind the input of a chained rule whose input is a single glyph, if it has one there.
-fn first_ahead(table: &[u8]) -> Option<u16>
-    ensures { result ≡ first_ahead table.now }
+/// What stands right behind the cursor, where the rule in these bytes asks for something else there.
+fn missed_by(table: &[u8], is_chained: bool, seen: &Seen) -> Option<Beside>
+    ensures { IfSome result (λ beside. (s : Sides) → (m : Meanings) → IfSome seen.now.input (IsInput s m)
+        → IfSome seen.now.behind (IsBehind s m) → rule_fits s (rule_pattern is_chained m table.now) ≡ false) }
 {
-    let input_at = 2 + 2 * usize::from(u16_at(table, 0)?);
-    if u16_at(table, input_at)? > 1 || u16_at(table, input_at + 2)? == 0 {
-        return None;
+    match asked_at(table, is_chained, 0)? {
+        Asked::Input(asked) => seen.input?.other_than(asked),
+        Asked::Ahead(asked) => seen.behind?.other_than(asked),
     }
-    u16_at(table, input_at + 4)
 }

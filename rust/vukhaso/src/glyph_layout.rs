@@ -7,6 +7,7 @@
 //! A table is a slice of bytes that may be cut short or hold anything. How much work a font may cause is limited by a
 //! `Budget`.
 
+mod asked;
 pub mod budget;
 pub mod context;
 pub mod digest;
@@ -24,6 +25,7 @@ mod seconds;
 pub mod substitution;
 pub mod subtable;
 pub mod summary;
+mod told;
 pub mod walk;
 pub mod wanted;
 mod would;

@@ -4,13 +4,14 @@
 
 use crate::font_tables::bytes::{table_at_16, u16_at};
 use crate::glyph::hb_glyph_info_t;
+use crate::glyph_layout::asked::{Asked, asked_at};
 use crate::glyph_layout::context::Fit;
 use crate::glyph_layout::matching::{match_ahead, match_behind, match_input};
-use crate::glyph_layout::neighbours::{Beyond, Neighbours, may_fit, seen_ahead};
-use crate::glyph_layout::rule::{Meaning, Meanings, Rule, rule_in};
+use crate::glyph_layout::neighbours::{Beyond, Neighbours, looks_first, may_fit, seen_ahead};
+use crate::glyph_layout::rule::{Meanings, Rule, rule_in};
 use crate::glyph_layout::search::{Search, Sides};
+use crate::glyph_layout::told::{Beside, Told};
 use crate::glyph_layout::walk::Skip;
-use crate::glyph_layout::wanted::class_of;
 
 /// The rule, if it fits at the cursor.
 ///
@@ -64,10 +65,66 @@ pub(crate) struct RuleSet<'a> {
 /// What stands behind the cursor, looked at once for all rules of a set.
 #[derive(Clone, Copy, Debug)]
 struct Seen {
-    /// The next two glyphs of the input, for a set of more than four rules.
+    /// The next two glyphs of the input, where HarfBuzz looks at them first.
     ahead: Neighbours,
-    /// The glyph behind the cursor, for a set of few chained rules.
-    behind: Option<Behind>,
+    /// These in the numbers of the rules.
+    told: Option<Told>,
+    /// Where they were not looked at, the next glyph of the input.
+    input: Option<Beside>,
+    /// And the next glyph behind an input of a single glyph, for chained rules.
+    behind: Option<Beside>,
+}
+
+/// What stands behind the cursor for the rules of a set, of which there are so many.
+///
+/// # Requires
+///
+/// - `0 < length sides.now.input.now`
+fn seen_by(rules: &RuleSet, count: usize, sides: &Sides) -> Seen {
+    let ahead = seen_ahead(count, rules.is_chained, sides);
+    match Told::new(&ahead, &rules.meanings) {
+        Some(told) => Seen {
+            ahead,
+            told: Some(told),
+            input: None,
+            behind: None,
+        },
+        None => Seen {
+            ahead,
+            told: None,
+            input: input_beside(rules, sides),
+            behind: ahead_beside(rules, count, sides),
+        },
+    }
+}
+
+/// The next glyph of the input. How far a chained rule looked at it is not told of.
+///
+/// # Requires
+///
+/// - `0 < length sides.now.input.now`
+fn input_beside(rules: &RuleSet, sides: &Sides) -> Option<Beside> {
+    let beside = Beside::new(&sides.input_walk(), &rules.meanings.input, sides.input)?;
+    Some(Beside {
+        end: if rules.is_chained { 0 } else { beside.end },
+        ..beside
+    })
+}
+
+/// The next glyph behind an input of a single glyph, for chained rules that are all tried.
+///
+/// # Requires
+///
+/// - `0 < length sides.now.input.now`
+fn ahead_beside(rules: &RuleSet, count: usize, sides: &Sides) -> Option<Beside> {
+    if !rules.is_chained || looks_first(count, true, sides) {
+        return None;
+    }
+    Beside::new(
+        &sides.context_walk(true),
+        &rules.meanings.ahead,
+        sides.input,
+    )
 }
 
 /// The first rule of a set that fits.
@@ -81,10 +138,7 @@ pub(crate) fn first_fit<'a>(
     search: &mut Search,
 ) -> Option<Fit<'a>> {
     let count = usize::from(u16_at(rules.table, 0)?);
-    let seen = Seen {
-        ahead: seen_ahead(count, rules.is_chained, sides),
-        behind: seen_by_few(count, rules, sides),
-    };
+    let seen = seen_by(rules, count, sides);
     let mut beyond = Beyond::new(&seen.ahead, rules.is_chained);
     for index in 0..count {
         if !search.budget.pay(1) {
@@ -102,14 +156,16 @@ pub(crate) fn first_fit<'a>(
 }
 
 /// The rule of this number in a set, if it fits. One that asks for other glyphs behind the cursor is
-/// not tried.
+/// not made.
 ///
 /// # Requires
 ///
 /// - `some: 0 < length sides.now.input.now`
 /// - `few: index < 65536`
 /// - `ahead: (p : Pattern) → may_fit seen.now.ahead p ≡ (not (looks_first sides.now rules.now.is_chained (rule_count rules.now.table.now)) || fits_next sides.now p)`
-/// - `behind: IfSome seen.now.behind (IsBehindOf sides.now rules.now.is_chained rules.now.meanings)`
+/// - `told: IfSome seen.now.told (IsTold seen.now.ahead rules.now.meanings)`
+/// - `input: IfSome seen.now.input (IsInput sides.now rules.now.meanings)`
+/// - `behind: IfSome seen.now.behind (IsBehind sides.now rules.now.meanings)`
 fn fit_at<'a>(
     rules: &RuleSet<'a>,
     index: usize,
@@ -120,7 +176,12 @@ fn fit_at<'a>(
 ) -> Option<Fit<'a>> {
     debug_assert!(index < 65536);
     let table = table_at_16(rules.table, 2 + 2 * index)?;
-    if is_missed(table, &seen.behind, sides, search) {
+    if is_told_apart(table, rules.is_chained, seen, beyond) {
+        return None;
+    }
+    if let Some(missed) = missed_by(table, rules.is_chained, seen) {
+        search.budget.pay_for(missed.steps);
+        search.reach.extend(sides.out.len(), missed.end);
         return None;
     }
     let rule = rule_in(table, &rules.meanings, rules.is_chained)?;
@@ -130,87 +191,24 @@ fn fit_at<'a>(
     fit(&rule, sides, search)
 }
 
-/// What stands behind the glyph at the cursor, in the numbers of rules that ask for it behind their input.
-#[derive(Clone, Copy, Debug)]
-struct Behind {
-    /// The number that a rule has to ask for; none where no rule fits.
-    number: Option<u32>,
-    /// How far glyphs were looked at.
-    end: usize,
-}
-
-/// What stands behind the glyph at the cursor, for a set of few chained rules.
-///
-/// # Requires
-///
-/// - `0 < length sides.now.input.now`
-fn seen_by_few(count: usize, rules: &RuleSet, sides: &Sides) -> Option<Behind> {
-    if count <= 4 && rules.is_chained {
-        seen_behind(&rules.meanings.ahead, sides)
-    } else {
-        None
-    }
-}
-
-/// What stands behind the glyph at the cursor, where it counts whatever is asked for, or where there is
-/// nothing.
-///
-/// # Requires
-///
-/// - `0 < length sides.now.input.now`
-fn seen_behind(ahead: &Meaning, sides: &Sides) -> Option<Behind> {
-    if sides.input.len() == 1 {
-        return Some(Behind {
-            number: None,
-            end: 1,
-        });
-    }
-    let glyph = &sides.input[1];
-    if !counts_around(sides, glyph) {
-        return None;
-    }
-    let number = match *ahead {
-        Meaning::Glyphs => Some(glyph.glyph_id),
-        Meaning::Classes(classes) => Some(u32::from(class_of(&classes, glyph.glyph_id))),
-        Meaning::Coverages(_) => return None,
-    };
-    Some(Behind {
-        number: if sides.context_walk(true).is_within(glyph) {
-            number
-        } else {
-            None
-        },
-        end: 2,
-    })
-}
-
 /// Whether a glyph counts for the walk over the glyphs around a match, whatever is asked for.
 pub(crate) fn counts_around(sides: &Sides, glyph: &hb_glyph_info_t) -> bool {
     sides.context.skip(glyph) == Skip::No
 }
 
-/// Whether a chained rule asks for something else behind its only glyph than what stands there.
-fn is_missed(table: &[u8], behind: &Option<Behind>, sides: &Sides, search: &mut Search) -> bool {
-    let Some(behind) = *behind else {
-        return false;
-    };
-    let Some(asked) = first_ahead(table) else {
-        return false;
-    };
-    if behind.number == Some(u32::from(asked)) {
-        return false;
+/// Whether the rule in these bytes asks for other glyphs than the next two, and that is known to be
+/// looked at so far.
+fn is_told_apart(table: &[u8], is_chained: bool, seen: &Seen, beyond: &Beyond) -> bool {
+    match &seen.told {
+        Some(told) => told.is_passed(table, is_chained, beyond),
+        None => false,
     }
-    search.budget.pay(1);
-    search.reach.extend(sides.out.len(), behind.end);
-    true
 }
 
-/// The first number behind the input of a chained rule whose input is a single glyph, if it has one
-/// there.
-fn first_ahead(table: &[u8]) -> Option<u16> {
-    let input_at = 2 + 2 * usize::from(u16_at(table, 0)?);
-    if u16_at(table, input_at)? > 1 || u16_at(table, input_at + 2)? == 0 {
-        return None;
+/// What stands right behind the cursor, where the rule in these bytes asks for something else there.
+fn missed_by(table: &[u8], is_chained: bool, seen: &Seen) -> Option<Beside> {
+    match asked_at(table, is_chained, 0)? {
+        Asked::Input(asked) => seen.input?.other_than(asked),
+        Asked::Ahead(asked) => seen.behind?.other_than(asked),
     }
-    u16_at(table, input_at + 4)
 }

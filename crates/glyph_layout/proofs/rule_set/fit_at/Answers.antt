@@ -1,8 +1,22 @@
 use Rattle.std.proofs.Common.{◌∙◌, ap, is_some, option_map, sym}
 use Rattle.std.specs.Prelude.{option_copied}
 use Rattle.glyph_layout.specs.Pattern.{pattern_of}
-use Rattle.glyph_layout.proofs.RuleSetLemmas.{rule_at-passed, rules_fit}
+use Rattle.glyph_layout.proofs.RuleSetLemmas.{rule_at-missed, rule_at-passed, rule_at-told, rules_fit}
 use Rattle.glyph_layout.proofs.rule_set.fit_at.Goals as goal
+
+pub returns-then-is_told_apart-clause-exact : goal.returns-then-is_told_apart-clause-exact
+returns-then-is_told_apart-clause-exact c some =
+    let table = sym c.table_at_16.ensures ∙ ap option_copied c.in_ok-table.was in
+    let rules = c.args.rules.now in
+    sym (ap is_some (rule_at-told c.args.sides.now rules.is_chained rules.meanings rules.table.now _ c.args.index table
+    (λ p is. sym (c.requires.ahead p) ∙ c.is_told_apart.ensures c.if-is_told_apart.true rules.meanings p c.requires.told is)))
+
+pub returns-in-Some-clause-exact : goal.returns-in-Some-clause-exact
+returns-in-Some-clause-exact c some =
+    let table = sym c.table_at_16.ensures ∙ ap option_copied c.in_ok-table.was in
+    let rules = c.args.rules.now in
+    sym (ap is_some (rule_at-missed c.args.sides.now rules.is_chained rules.meanings rules.table.now _ c.args.index table
+    (c.in-Some.ensures c.args.sides.now rules.meanings c.requires.input c.requires.behind)))
 
 pub returns-then-not-may_fit-clause-exact : goal.returns-then-not-may_fit-clause-exact
 returns-then-not-may_fit-clause-exact c some =

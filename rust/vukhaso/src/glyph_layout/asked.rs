@@ -1,0 +1,84 @@
+// Written by tools/plain_rust from crates/glyph_layout. Do not edit.
+
+//! What a rule asks of the next glyphs behind the cursor, read from its bytes without the rest of it.
+
+use crate::font_tables::bytes::u16_at;
+use crate::glyph_layout::search::MAX_CONTEXT_LENGTH;
+
+/// The number that a rule asks for.
+#[derive(Clone, Copy, Debug)]
+pub(crate) enum Asked {
+    /// That of a glyph of its input.
+    Input(u16),
+    /// That of a glyph behind its input.
+    Ahead(u16),
+}
+
+/// What the rule in these bytes asks of the glyph of this number behind the cursor; `None` where it
+/// asks for nothing there, its input is too long for a match, or it is cut short.
+///
+/// # Requires
+///
+/// - `number < 2`
+#[inline(always)]
+pub(crate) fn asked_at(table: &[u8], is_chained: bool, number: usize) -> Option<Asked> {
+    debug_assert!(number < 2);
+    if is_chained {
+        chained_asked(table, number)
+    } else {
+        plain_asked(table, number)
+    }
+}
+
+/// What a rule without context asks for.
+///
+/// # Requires
+///
+/// - `number < 2`
+#[inline(always)]
+fn plain_asked(table: &[u8], number: usize) -> Option<Asked> {
+    debug_assert!(number < 2);
+    let input = usize::from(u16_at(table, 0)?.saturating_sub(1));
+    if number < input && input < MAX_CONTEXT_LENGTH {
+        Some(Asked::Input(u16_at(table, 4 + 2 * number)?))
+    } else {
+        None
+    }
+}
+
+/// What a rule with context asks for.
+///
+/// # Requires
+///
+/// - `number < 2`
+#[inline(always)]
+fn chained_asked(table: &[u8], number: usize) -> Option<Asked> {
+    debug_assert!(number < 2);
+    let input_at = 2 + 2 * usize::from(u16_at(table, 0)?);
+    let input = usize::from(u16_at(table, input_at)?.saturating_sub(1));
+    if number >= input {
+        return asked_ahead(table, input_at + 2 + 2 * input, number - input);
+    }
+    if input < MAX_CONTEXT_LENGTH {
+        Some(Asked::Input(u16_at(table, input_at + 2 + 2 * number)?))
+    } else {
+        None
+    }
+}
+
+/// What it asks for behind its input, where the count of that stands at this place.
+///
+/// # Requires
+///
+/// - `near: at < 1000000`
+/// - `few: number < 2`
+#[inline(always)]
+fn asked_ahead(table: &[u8], at: usize, number: usize) -> Option<Asked> {
+    debug_assert!(at < 1000000);
+    debug_assert!(number < 2);
+    if number < usize::from(u16_at(table, at)?) {
+        Some(Asked::Ahead(u16_at(table, at + 2 + 2 * number)?))
+    } else {
+        None
+    }
+}
