@@ -25,9 +25,9 @@ has_row-word a b c d g within first second third fourth =
     ]
 
 -- a glyph past the first 256 may be in any set
-past : (firsts : FirstGlyphs) (g : ℕ) → 256 ≤ g → may_have_first firsts g ≡ true
+pub may_have_first-past : (firsts : FirstGlyphs) (g : ℕ) → 256 ≤ g → may_have_first firsts g ≡ true
 unfolding may_have_first
-past firsts g from = grind (arith, common_steps)
+may_have_first-past firsts g from = grind (arith, common_steps)
 
 -- one of the first 256 glyphs is in a set where its bit says so
 pub may_have_first-words : (a b c d g : ℕ)
@@ -40,7 +40,7 @@ may_have_first-words a b c d g first second third fourth =
       | inl low ↦
           let bit = has_row-word a b c d g low first second third fourth in
           grind (arith, common_steps)
-      | inr from ↦ past (record { words = a ∷ b ∷ c ∷ d ∷ [] }) g from
+      | inr from ↦ may_have_first-past (record { words = a ∷ b ∷ c ∷ d ∷ [] }) g from
     ]
 
 -- where each word has the bits that another one had, the set has the glyphs of the other one
@@ -57,5 +57,5 @@ may_have_first-kept firsts a b c d g first second third fourth has =
           let bit : has_row (slice_index_or firsts.words (g / 64) 0) g ≡ true = grind (arith, common_steps) in
           may_have_first-words a b c d g (λ at. first g (rw at at bit)) (λ at. second g (rw at at bit))
           (λ at. third g (rw at at bit)) (λ at. fourth g (rw at at bit))
-      | inr from ↦ past (record { words = a ∷ b ∷ c ∷ d ∷ [] }) g from
+      | inr from ↦ may_have_first-past (record { words = a ∷ b ∷ c ∷ d ∷ [] }) g from
     ]

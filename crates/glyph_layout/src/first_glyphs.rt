@@ -1,11 +1,13 @@
 //! The first 256 glyphs of a font, told apart, which a digest does not do.
 
-ghost use Rattle.std.specs.Prelude.{ℕ, ◌≡◌, ◌<◌, ◌≤◌, ◌+◌, true};
-ghost use Rattle.glyph_layout.specs.Digest.{has_row};
-ghost use Rattle.glyph_layout.specs.FirstGlyphs.{HasMoreFirst, may_have_first};
+ghost use Rattle.std.specs.Prelude.{ℕ, ◌≡◌, ◌<◌, ◌≤◌, ◌+◌, is_some, true};
+ghost use Rattle.glyph_layout.specs.Digest.{HasAll, has_row};
+ghost use Rattle.glyph_layout.specs.FirstGlyphs.{HasMoreFirst, may_have_both, may_have_first};
+ghost use Rattle.glyph_layout.specs.Walk.{covered_index};
 
-use crate::digest::{has_row, with_all, with_rows};
-use crate::summary::Summary;
+use crate::digest::{Digest, has_row, with_all, with_rows};
+use crate::summary::{Summary, summary_of};
+use font_tables::coverage::Coverage;
 
 /// How many glyphs are told apart.
 const COUNT: u32 = 256;
@@ -49,6 +51,9 @@ impl Summary for FirstGlyphs {
     }
 
     fn add_range(&mut self, first: u32, last: u32) {
+        if first >= COUNT {
+            return;
+        }
         self.words = [
             with_rows_from(self.words[0], 0, first, last),
             with_rows_from(self.words[1], 64, first, last),
@@ -56,6 +61,40 @@ impl Summary for FirstGlyphs {
             with_rows_from(self.words[3], 192, first, last),
         ];
     }
+}
+
+/// Both summaries of a set of glyphs, made in one pass.
+#[derive(Clone, Copy, Debug)]
+pub(crate) struct Summaries {
+    /// Its digest.
+    pub(crate) digest: Digest,
+    /// Those of it that are among the first 256.
+    pub(crate) firsts: FirstGlyphs,
+}
+
+impl Summary for Summaries {
+    ghost has = { may_have_both };
+
+    fn none() -> Self {
+        Summaries {
+            digest: Digest::new(),
+            firsts: FirstGlyphs::none(),
+        }
+    }
+
+    fn add_range(&mut self, first: u32, last: u32) {
+        self.digest.add_range(first, last);
+        self.firsts.add_range(first, last);
+    }
+}
+
+/// Both summaries of the glyphs that a coverage covers.
+pub(crate) fn summaries_of(coverage: &Coverage) -> Summaries
+    ensures digest { HasAll (λ glyph. is_some (covered_index coverage.now.table.now glyph) ≡ true) result.digest }
+    ensures firsts { (glyph : ℕ) → is_some (covered_index coverage.now.table.now glyph) ≡ true
+        → may_have_first result.firsts glyph ≡ true }
+{
+    summary_of(coverage)
 }
 
 /// A word with the bits of the rows from one to another, the last one too, where the word has the 64 rows from this one on.

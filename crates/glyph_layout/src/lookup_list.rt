@@ -13,14 +13,14 @@ ghost use Rattle.glyph_layout.specs.Walk.{glyph_at};
 
 use crate::digest::Digest;
 use crate::filter::Filter;
-use crate::first_glyphs::FirstGlyphs;
+use crate::first_glyphs::{FirstGlyphs, summaries_of};
 use crate::search::MAX_CONTEXT_LENGTH;
 use crate::seconds::seconds_of;
 use crate::subtable::{
     Form, NextAsked, Subtable, behind_extension, behind_list, is_quick, positioning_form,
     substitution_form, table_or_empty,
 };
-use crate::summary::{Summary, summary_of};
+use crate::summary::Summary;
 use font_tables::bytes::{table_at_16, u16_at};
 use font_tables::class_definition::ClassDefinition;
 use font_tables::coverage::Coverage;
@@ -33,6 +33,9 @@ pub const SUBSTITUTION_EXTENSION: u16 = 7;
 
 /// The kind of an extension in `GPOS`.
 pub const POSITIONING_EXTENSION: u16 = 9;
+
+/// How many subtables room is made for before they are read.
+const MOST_RESERVED: usize = 4096;
 
 /// The kind of ligatures in `GSUB`.
 const LIGATURES: u16 = 4;
@@ -202,11 +205,22 @@ impl<'a> LookupList<'a> {
     /// Reads the lookups of a list.
     fn read_all(&mut self, list: &'a [u8], gdef: &Gdef<'a>) -> Result<(), AllocError> {
         let count = usize::from(u16_at(list, 0).unwrap_or(0));
+        self.make_room(list, count)?;
         for index in 0..count {
             if let Some(_offset) = u16_at(list, 2 + 2 * index) {
                 self.read_lookup(table_or_empty(list, 2 + 2 * index), gdef)?;
             }
         }
+        Ok(())
+    }
+
+    /// Makes room for the lookups of a list, of which there are so many, and for their subtables, as far as these are not too many.
+    fn make_room(&mut self, list: &[u8], count: usize) -> Result<(), AllocError>
+        requires { count < 65536 }
+    {
+        self.lookups.reserve(count.min(list.len() / 2))?;
+        self.subtables
+            .reserve(subtable_count(list, count).min(MOST_RESERVED))?;
         Ok(())
     }
 
@@ -257,13 +271,14 @@ impl<'a> LookupList<'a> {
         let first_coverage = self.coverages.len();
         self.read_coverages(form, table)?;
         let coverage = self.first_of(form, table, first_coverage);
+        let summaries = summaries_of(&coverage);
         let subtable = Subtable {
             kind,
             format,
             table,
             coverage,
-            digest: Digest::of_coverage(&coverage),
-            firsts: summary_of(&coverage),
+            digest: summaries.digest,
+            firsts: summaries.firsts,
             bases: self.coverage_if(form == Form::Marks, table, 4),
             classes: self.input_classes(form, table),
             classes_behind: self.classes_if(form == Form::ChainedClasses, table, 4),
@@ -434,6 +449,19 @@ impl<'a> LookupList<'a> {
         self.room -= bytes;
         true
     }
+}
+
+/// How many subtables the lookups of a list have, of which there are so many.
+fn subtable_count(list: &[u8], count: usize) -> usize
+    requires { count < 65536 }
+{
+    let mut subtables: usize = 0;
+    for index in 0..count {
+        let lookup = table_or_empty(list, 2 + 2 * index);
+        let own = usize::from(u16_at(lookup, 4).unwrap_or(0));
+        subtables = subtables.saturating_add(own);
+    }
+    subtables
 }
 
 /// How many coverages a context by coverages has before the cursor, for its input and behind it.

@@ -2,8 +2,9 @@
 
 //! The first 256 glyphs of a font, told apart, which a digest does not do.
 
-use crate::glyph_layout::digest::{has_row, with_all, with_rows};
-use crate::glyph_layout::summary::Summary;
+use crate::font_tables::coverage::Coverage;
+use crate::glyph_layout::digest::{Digest, has_row, with_all, with_rows};
+use crate::glyph_layout::summary::{Summary, summary_of};
 
 /// How many glyphs are told apart.
 const COUNT: u32 = 256;
@@ -60,6 +61,9 @@ impl Summary for FirstGlyphs {
     }
 
     fn add_range(&mut self, first: u32, last: u32) {
+        if first >= COUNT {
+            return;
+        }
         self.words = [
             with_rows_from(self.words[0], 0, first, last),
             with_rows_from(self.words[1], 64, first, last),
@@ -67,6 +71,40 @@ impl Summary for FirstGlyphs {
             with_rows_from(self.words[3], 192, first, last),
         ];
     }
+}
+
+/// Both summaries of a set of glyphs, made in one pass.
+#[derive(Clone, Copy, Debug)]
+pub(crate) struct Summaries {
+    /// Its digest.
+    pub(crate) digest: Digest,
+    /// Those of it that are among the first 256.
+    pub(crate) firsts: FirstGlyphs,
+}
+
+///
+/// # Proved
+///
+/// ```text
+/// ghost has = { may_have_both }
+/// ```
+impl Summary for Summaries {
+    fn none() -> Self {
+        Summaries {
+            digest: Digest::new(),
+            firsts: FirstGlyphs::none(),
+        }
+    }
+
+    fn add_range(&mut self, first: u32, last: u32) {
+        self.digest.add_range(first, last);
+        self.firsts.add_range(first, last);
+    }
+}
+
+/// Both summaries of the glyphs that a coverage covers.
+pub(crate) fn summaries_of(coverage: &Coverage) -> Summaries {
+    summary_of(coverage)
 }
 
 /// A word with the bits of the rows from one to another, the last one too, where the word has the 64

@@ -9,14 +9,14 @@ use crate::font_tables::gdef::Gdef;
 use crate::glyph::hb_glyph_info_t;
 use crate::glyph_layout::digest::Digest;
 use crate::glyph_layout::filter::Filter;
-use crate::glyph_layout::first_glyphs::FirstGlyphs;
+use crate::glyph_layout::first_glyphs::{FirstGlyphs, summaries_of};
 use crate::glyph_layout::search::MAX_CONTEXT_LENGTH;
 use crate::glyph_layout::seconds::seconds_of;
 use crate::glyph_layout::subtable::{
     Form, NextAsked, Subtable, behind_extension, behind_list, is_quick, positioning_form,
     substitution_form, table_or_empty,
 };
-use crate::glyph_layout::summary::{Summary, summary_of};
+use crate::glyph_layout::summary::Summary;
 use crate::memory::{AllocError, Vec};
 
 /// The kind of an extension in `GSUB`.
@@ -24,6 +24,9 @@ pub const SUBSTITUTION_EXTENSION: u16 = 7;
 
 /// The kind of an extension in `GPOS`.
 pub const POSITIONING_EXTENSION: u16 = 9;
+
+/// How many subtables room is made for before they are read.
+const MOST_RESERVED: usize = 4096;
 
 /// The kind of ligatures in `GSUB`.
 const LIGATURES: u16 = 4;
@@ -238,11 +241,26 @@ impl<'a> LookupList<'a> {
     /// Reads the lookups of a list.
     fn read_all(&mut self, list: &'a [u8], gdef: &Gdef<'a>) -> Result<(), AllocError> {
         let count = usize::from(u16_at(list, 0).unwrap_or(0));
+        self.make_room(list, count)?;
         for index in 0..count {
             if let Some(_offset) = u16_at(list, 2 + 2 * index) {
                 self.read_lookup(table_or_empty(list, 2 + 2 * index), gdef)?;
             }
         }
+        Ok(())
+    }
+
+    /// Makes room for the lookups of a list, of which there are so many, and for their subtables, as far as
+    /// these are not too many.
+    ///
+    /// # Requires
+    ///
+    /// - `count < 65536`
+    fn make_room(&mut self, list: &[u8], count: usize) -> Result<(), AllocError> {
+        debug_assert!(count < 65536);
+        self.lookups.reserve(count.min(list.len() / 2))?;
+        self.subtables
+            .reserve(subtable_count(list, count).min(MOST_RESERVED))?;
         Ok(())
     }
 
@@ -293,13 +311,14 @@ impl<'a> LookupList<'a> {
         let first_coverage = self.coverages.len();
         self.read_coverages(form, table)?;
         let coverage = self.first_of(form, table, first_coverage);
+        let summaries = summaries_of(&coverage);
         let subtable = Subtable {
             kind,
             format,
             table,
             coverage,
-            digest: Digest::of_coverage(&coverage),
-            firsts: summary_of(&coverage),
+            digest: summaries.digest,
+            firsts: summaries.firsts,
             bases: self.coverage_if(form == Form::Marks, table, 4),
             classes: self.input_classes(form, table),
             classes_behind: self.classes_if(form == Form::ChainedClasses, table, 4),
@@ -468,6 +487,22 @@ impl<'a> LookupList<'a> {
         self.room -= bytes;
         true
     }
+}
+
+/// How many subtables the lookups of a list have, of which there are so many.
+///
+/// # Requires
+///
+/// - `count < 65536`
+fn subtable_count(list: &[u8], count: usize) -> usize {
+    debug_assert!(count < 65536);
+    let mut subtables: usize = 0;
+    for index in 0..count {
+        let lookup = table_or_empty(list, 2 + 2 * index);
+        let own = usize::from(u16_at(lookup, 4).unwrap_or(0));
+        subtables = subtables.saturating_add(own);
+    }
+    subtables
 }
 
 /// How many coverages a context by coverages has before the cursor, for its input and behind it.

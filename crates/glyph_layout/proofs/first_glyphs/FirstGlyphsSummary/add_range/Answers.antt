@@ -1,5 +1,6 @@
-use Rattle.std.proofs.Common.{arith}
-use Rattle.glyph_layout.proofs.FirstGlyphsLemmas.{may_have_first-kept, may_have_first-words}
+use Rattle.std.proofs.Common.{◌≤◌, arith}
+use Rattle.std.proofs.lemmas.Grind.{common_steps}
+use Rattle.glyph_layout.proofs.FirstGlyphsLemmas.{may_have_first-kept, may_have_first-past, may_have_first-words}
 use Rattle.glyph_layout.proofs.first_glyphs.FirstGlyphsSummary.add_range.Goals as goal
 
 pub returns-clause-added : goal.returns-clause-added
@@ -14,3 +15,8 @@ pub returns-clause-kept : goal.returns-clause-kept
 returns-clause-kept c = λ g.
     may_have_first-kept c.args.self.now _ _ _ _ g c.with_rows_from.ensures.kept c.with_rows_from-2.ensures.kept
     c.with_rows_from-3.ensures.kept c.with_rows_from-4.ensures.kept
+
+pub returns-then-first-ge-COUNT-clause-added : goal.returns-then-first-ge-COUNT-clause-added
+returns-then-first-ge-COUNT-clause-added c = λ g least most.
+    let from : 256 ≤ g = grind (arith, common_steps, least) in
+    may_have_first-past c.args.self.now g from

@@ -10,7 +10,7 @@ returns-in_ok-second-in-Some c =
     let second = c.in_ok-second-in-Some.second in (
       apart_first m c.args.first c.args.second c.in_ok-first.first c.in_ok-first.ensures,
       subst (λ next. IsApart (Seen c.args.first next) m 1 second) (sym c.in-Some.is)
-      (apart_second m c.args.first c.in-Some.second second c.in_ok-second-in-Some.ensures),
+          (apart_second m c.args.first c.in-Some.second second c.in_ok-second-in-Some.ensures),
     )
 
 pub returns-in-None : goal.returns-in-None
