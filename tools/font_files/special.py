@@ -153,4 +153,23 @@ def ligated():
     return ruled("Vukhaso Ligated", codes, ["DFLT"], rules, placed=(), has_gdef=False, outlined=100)
 
 
-FONTS = {"special.ttf": special, "scripts.ttf": scripts, "ligated.ttf": ligated}
+def breaks_kern():
+    """A table `kern` with pairs whose first glyph most pairs pass over: n, which is a mark, and the glyph of a zero width non-joiner."""
+    kern = lay.kern((0, 1, lay.kern_pairs({(PLACE["n"], PLACE["a"]): 50, (PLACE["vertical"], PLACE["m"]): 10})))
+    classes = {at: 3 if name in MARKS or name == "n" else 1 for name, at in PLACE.items() if at > 1}
+    return whole("Vukhaso Breaks Kern", {"kern": kern}, {0x200C: PLACE["vertical"]}, classes)
+
+
+def breaks_pairs():
+    """Pairs by glyphs and by classes, of which some begin with the glyph of a zero width non-joiner, which other pairs pass over."""
+    joiner = PLACE["vertical"]
+    first, second = {PLACE["b"]: 0, joiner: 1}, {PLACE["m"]: 1}
+    gpos = lay.layout({"DFLT": {"dflt": (None, ["kern", "pair", "both"])}}, {"kern": ["0"], "pair": ["1"], "both": ["2"]}, {
+        "0": lay.lookup(2, 0, lay.pairs_of_glyphs({PLACE["d"]: {PLACE["a"]: [0]}, joiner: {PLACE["a"]: [-40]}}, X_ADVANCE)),
+        "1": lay.lookup(2, 0, lay.pairs_of_classes([PLACE["b"], joiner], first, second, [[[0], [0]], [[0], [-30]]], X_ADVANCE)),
+        "2": lay.lookup(2, 0, lay.pairs_of_glyphs({PLACE["g"]: {PLACE["a"]: [0, 0]}, joiner: {PLACE["a"]: [-20, 5]}}, X_ADVANCE, X_ADVANCE)),
+    })
+    return whole("Vukhaso Breaks Pairs", {"GPOS": gpos}, {0x200C: joiner})
+
+
+FONTS = {"breaks-kern.ttf": breaks_kern, "breaks-pairs.ttf": breaks_pairs, "special.ttf": special, "scripts.ttf": scripts, "ligated.ttf": ligated}

@@ -108,6 +108,7 @@ fn kern_by(buffer: &mut hb_buffer_t, subtable: &KernSubtable, walk: &Walk, scale
     let len = buffer.len();
     let is_backward = buffer.direction.is_backward();
     let mut next = 0;
+    let mut first_crossed = None;
     for turn in 0..len {
         let left = if is_backward { len - 1 - turn } else { turn };
         if next <= turn
@@ -120,8 +121,33 @@ fn kern_by(buffer: &mut hb_buffer_t, subtable: &KernSubtable, walk: &Walk, scale
             };
             if pair.value != 0 {
                 kern_pair(buffer, &pair, scale);
+                if pair.is_cross_stream && first_crossed.is_none() {
+                    first_crossed = Some(left);
+                }
+            } else if left.abs_diff(pair.right) > 1 {
+                mark_passed(buffer, &pair);
             }
         }
+    }
+    if let Some(left) = first_crossed {
+        mark_rest(buffer, left, is_backward);
+    }
+}
+
+/// Marks that no glyph from a place on, in the order of the line, may be parted from it: what is moved across the line moves all that
+/// follow.
+fn mark_rest(buffer: &mut hb_buffer_t, left: usize, is_backward: bool)
+    requires closed { buffer.old.have_output ≡ false }
+    requires placed { IsSome buffer.old.positions }
+    ensures closed { buffer.new.have_output ≡ false }
+    ensures placed { IsSome buffer.new.positions }
+    ensures level { buffer.new.cluster_level ≡ buffer.old.cluster_level }
+    ensures glyphs { reset_masks 0 buffer.new.input ≡ reset_masks 0 buffer.old.input }
+{
+    if is_backward {
+        mark_break(buffer, 0, left.saturating_add(1));
+    } else {
+        mark_break(buffer, left, usize::MAX);
     }
 }
 
@@ -184,6 +210,26 @@ fn kern_pair(buffer: &mut hb_buffer_t, pair: &KernPair, scale: &Scale)
     }
     let (first, second) = (pair.left.min(pair.right), pair.left.max(pair.right));
     mark_break(buffer, first, second.saturating_add(1));
+}
+
+/// Marks what a pair passes over: if a line began there, it might be kerned with the right glyph.
+fn mark_passed(buffer: &mut hb_buffer_t, pair: &KernPair)
+    requires closed { buffer.old.have_output ≡ false }
+    requires placed { IsSome buffer.old.positions }
+    ensures closed { buffer.new.have_output ≡ false }
+    ensures placed { IsSome buffer.new.positions }
+    ensures level { buffer.new.cluster_level ≡ buffer.old.cluster_level }
+    ensures glyphs { reset_masks 0 buffer.new.input ≡ reset_masks 0 buffer.old.input }
+{
+    if pair.left <= pair.right {
+        mark_break(buffer, pair.left, pair.right);
+    } else {
+        mark_break(
+            buffer,
+            pair.right.saturating_add(1),
+            pair.left.saturating_add(1),
+        );
+    }
 }
 
 /// Moves a pair along the line, or its right glyph across it.

@@ -138,8 +138,26 @@ fn kern_pair(buffer: &mut hb_buffer_t, turn: &Turn, end: usize, advance: i16) {
     if advance != 0 {
         advance_at(buffer.pos_mut(), turn.place, advance, turn.instance);
         mark_break(buffer, turn.place, end);
-    } else if turn.subtable.format == 2 {
-        mark_concat(buffer, turn.place, end);
+    } else {
+        mark_unmoved(buffer, turn.place, end, turn.subtable.format == 2);
+    }
+}
+
+/// Marks a pair that is not moved, which ends before a place. A glyph that it passes over might be
+/// moved, if the line began there.
+///
+/// # Requires
+///
+/// - `closed: buffer.old.have_output ≡ false`
+/// - `placed: IsSome buffer.old.positions`
+fn mark_unmoved(buffer: &mut hb_buffer_t, first: usize, end: usize, is_classed: bool) {
+    debug_assert!(!buffer.have_output());
+    debug_assert!(buffer.have_positions());
+    if end.saturating_sub(first) > 2 {
+        mark_break(buffer, first, end - 1);
+    }
+    if is_classed {
+        mark_concat(buffer, first, end);
     }
 }
 
@@ -229,8 +247,8 @@ fn move_pair(buffer: &mut hb_buffer_t, pair: &Pair, instance: &Instance<'_>) {
         || pair.values.second.has_effect(instance, is_horizontal)
     {
         mark_break(buffer, pair.first, end);
-    } else if pair.is_classed {
-        mark_concat(buffer, pair.first, end);
+    } else {
+        mark_unmoved(buffer, pair.first, end, pair.is_classed);
     }
     if pair.uses_second {
         mark_break(buffer, pair.first, end.saturating_add(1));

@@ -1,0 +1,59 @@
+"""Rows of `rows/breaks`: texts that HarfBuzz marks as safe to break where its own `hb-shape` gives something else for the two parts.
+
+The answer of such a row has HarfBuzz's glyphs, positions and flags, and where the parts differ from the whole, the first glyphs of the
+cluster there are marked as unsafe to break and to concatenate too. A row names its script and direction, which are those of the parts.
+"""
+
+import re
+from collections import defaultdict
+from dataclasses import replace
+
+UNSAFE = 3
+GLYPH = re.compile(r"(?P<name>[^=|]+)=(?P<cluster>\d+)(?P<rest>[^#|]*)(?:#(?P<flags>\w+))?")
+
+
+def glyphs_of(answer):
+    """The glyphs of an answer: name, cluster, position, flags."""
+    return [(it["name"], int(it["cluster"]), it["rest"], int(it["flags"] or "0", 16)) for it in GLYPH.finditer(answer.strip("[]"))]
+
+
+def written(glyphs):
+    return "[" + "|".join(f"{name}={cluster}{rest}" + (f"#{flags:X}" if flags else "") for name, cluster, rest, flags in glyphs) + "]"
+
+
+def cuts(glyphs):
+    """Where the text may be cut: at the clusters, but for the first."""
+    return sorted({cluster for _, cluster, *_ in glyphs})[1:]
+
+
+def parts_of(row, cut):
+    """The rows of both parts."""
+    codes = row.text.split(",")
+    return [replace(row, text=",".join(codes[:cut])), replace(row, text=",".join(codes[cut:]))]
+
+
+def shapes(glyphs, moved=0):
+    return [(name, cluster + moved, rest) for name, cluster, rest, _ in glyphs]
+
+
+def marked(row, whole, said):
+    """The answer with the marks that are missing. `said` has for each cut the answers to both parts."""
+    glyphs = glyphs_of(whole)
+    unsafe = set()
+    for cut, (left, right) in said.items():
+        halves = [shapes(glyphs_of(left)), shapes(glyphs_of(right), cut)]
+        is_backward = bool({"--direction=rtl", "--direction=btt"} & set(row.options))
+        if sum(reversed(halves) if is_backward else halves, []) != shapes(glyphs):
+            unsafe.add(cut)
+    return written((name, cluster, rest, flags | UNSAFE if cluster in unsafe else flags) for name, cluster, rest, flags in glyphs)
+
+
+def answers(program, rows):
+    """What `hb-shape` answers to rows, with the marks that are missing there."""
+    wholes = program.answers([row.line() for row in rows])
+    asked = [(at, cut, part) for at, (row, whole) in enumerate(zip(rows, wholes)) for cut in cuts(glyphs_of(whole or "")) for part in parts_of(row, cut)]
+    halves = program.answers([part.line() for _, _, part in asked])
+    said = defaultdict(lambda: defaultdict(list))
+    for (at, cut, _), half in zip(asked, halves):
+        said[at][cut].append(half or "")
+    return [whole and marked(row, whole, said[at]) for at, (row, whole) in enumerate(zip(rows, wholes))]
