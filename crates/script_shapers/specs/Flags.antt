@@ -14,6 +14,11 @@ heeds_next before Dual = true
 heeds_next before Alaph = joins_next before || joins_previous before
 heeds_next before _ = false
 
+-- whether the form of a letter depends on the one before even where these are not joined, as that of an alaph within a word does
+abbrev pub heeds_previous : JoiningType → JoiningType → Bool
+heeds_previous before Alaph = joins_previous before
+heeds_previous before _ = false
+
 -- the letter before changes its form by this one: a tatweel may stand between; one of both might be joined: it is unsafe to put texts
 -- together there
 abbrev pub tie_of : Bool → JoiningType → Tie

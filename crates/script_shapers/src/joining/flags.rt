@@ -2,7 +2,7 @@
 
 ghost use Rattle.std.specs.Prelude.{◌≡◌, false};
 ghost use Rattle.shaping_buffer.specs.KeepsClusters.{KeepsClusters};
-ghost use Rattle.script_shapers.specs.Flags.{heeds_next, tie_of};
+ghost use Rattle.script_shapers.specs.Flags.{heeds_next, heeds_previous, tie_of};
 
 use crate::joining::forms::kind;
 use crate::joining::kind::JoiningType;
@@ -29,6 +29,8 @@ struct LastLetter {
     kind: JoiningType,
     /// Whether its form depends on the next letter.
     heeds_next: bool,
+    /// The place of the letter before it, where its form depends on that and they are not joined.
+    formed_by: Option<usize>,
 }
 
 /// Whether the form of a letter depends on the next one.
@@ -39,6 +41,16 @@ fn heeds_next(before: JoiningType, own: JoiningType) -> bool
         Left | Dual => true,
         Alaph => before.joins_next() || before.joins_previous(),
         NonJoining | Right | DalathRish | Transparent => false,
+    }
+}
+
+/// Whether the form of a letter depends on the one before even where these are not joined.
+fn heeds_previous(before: JoiningType, own: JoiningType) -> bool
+    ensures { result ≡ heeds_previous before own }
+{
+    match own {
+        Alaph => before.joins_previous(),
+        NonJoining | Left | Right | Dual | DalathRish | Transparent => false,
     }
 }
 
@@ -65,21 +77,22 @@ pub(crate) fn flag_joins(buffer: &mut hb_buffer_t, before: JoiningType, behind: 
         place: None,
         kind: before,
         heeds_next: false,
+        formed_by: None,
     };
     for i in 0..buffer.len() {
         let own = kind_at(buffer.info(), i);
         if own != Transparent {
             flag_join(buffer, &last, own, i + 1);
+            let is_formed = !last.heeds_next && heeds_previous(last.kind, own);
             last = LastLetter {
                 place: Some(i),
                 kind: own,
                 heeds_next: heeds_next(last.kind, own),
+                formed_by: if is_formed { last.place } else { None },
             };
         }
     }
-    if let Some(own) = behind {
-        flag_end(buffer, &last, own);
-    }
+    flag_end(buffer, &last, behind);
 }
 
 /// The type of the item at a place.
@@ -97,6 +110,7 @@ fn flag_join(buffer: &mut hb_buffer_t, last: &LastLetter, own: JoiningType, end:
     ensures closed { buffer.new.have_output ≡ false }
     ensures keeps { KeepsClusters buffer.old buffer.new }
 {
+    flag_formed(buffer, last, own);
     let Some(start) = last.place else {
         if own.joins_previous() {
             buffer.unsafe_to_concat_from_outbuffer(Some(0), Some(end));
@@ -106,18 +120,37 @@ fn flag_join(buffer: &mut hb_buffer_t, last: &LastLetter, own: JoiningType, end:
     flag_between(buffer, tie_of(last.heeds_next, own), start, end);
 }
 
-/// Flags the end of the text, where its last letter heeds the letter behind it.
+/// Flags the end of the text: its last letter may have its form by the letter before it, and heed the letter behind it, if one is known.
 #[tactic(auto, using(shaping_buffer::proofs::ClosedKeepsLemmas::kept))]
-fn flag_end(buffer: &mut hb_buffer_t, last: &LastLetter, own: JoiningType)
+fn flag_end(buffer: &mut hb_buffer_t, last: &LastLetter, behind: Option<JoiningType>)
     requires { buffer.old.have_output ≡ false }
     ensures closed { buffer.new.have_output ≡ false }
     ensures keeps { KeepsClusters buffer.old buffer.new }
 {
+    flag_formed(buffer, last, behind.unwrap_or(NonJoining));
     if let Some(start) = last.place
+        && let Some(own) = behind
         && last.heeds_next
     {
         let end = buffer.len();
         flag_between(buffer, tie_of(true, own), start, end);
+    }
+}
+
+/// Flags the place before the last letter, where that has its form by the letter before, and not by the next one, which is of a type.
+#[tactic(auto, using(shaping_buffer::proofs::ClosedKeepsLemmas::kept))]
+fn flag_formed(buffer: &mut hb_buffer_t, last: &LastLetter, next: JoiningType)
+    requires { buffer.old.have_output ≡ false }
+    ensures closed { buffer.new.have_output ≡ false }
+    ensures keeps { KeepsClusters buffer.old buffer.new }
+{
+    if let Some(from) = last.formed_by
+        && let Some(place) = last.place
+        && from <= place
+        && place < buffer.len()
+        && !next.joins_previous()
+    {
+        buffer.unsafe_to_break(Some(from), Some(place + 1));
     }
 }
 

@@ -27,6 +27,8 @@ struct LastLetter {
     kind: JoiningType,
     /// Whether its form depends on the next letter.
     heeds_next: bool,
+    /// The place of the letter before it, where its form depends on that and they are not joined.
+    formed_by: Option<usize>,
 }
 
 /// Whether the form of a letter depends on the next one.
@@ -35,6 +37,14 @@ fn heeds_next(before: JoiningType, own: JoiningType) -> bool {
         Left | Dual => true,
         Alaph => before.joins_next() || before.joins_previous(),
         NonJoining | Right | DalathRish | Transparent => false,
+    }
+}
+
+/// Whether the form of a letter depends on the one before even where these are not joined.
+fn heeds_previous(before: JoiningType, own: JoiningType) -> bool {
+    match own {
+        Alaph => before.joins_previous(),
+        NonJoining | Left | Right | Dual | DalathRish | Transparent => false,
     }
 }
 
@@ -64,21 +74,22 @@ pub(crate) fn flag_joins(
         place: None,
         kind: before,
         heeds_next: false,
+        formed_by: None,
     };
     for i in 0..buffer.len() {
         let own = kind_at(buffer.info(), i);
         if own != Transparent {
             flag_join(buffer, &last, own, i + 1);
+            let is_formed = !last.heeds_next && heeds_previous(last.kind, own);
             last = LastLetter {
                 place: Some(i),
                 kind: own,
                 heeds_next: heeds_next(last.kind, own),
+                formed_by: if is_formed { last.place } else { None },
             };
         }
     }
-    if let Some(own) = behind {
-        flag_end(buffer, &last, own);
-    }
+    flag_end(buffer, &last, behind);
 }
 
 /// The type of the item at a place.
@@ -96,6 +107,7 @@ fn kind_at(infos: &[hb_glyph_info_t], place: usize) -> JoiningType {
 /// - `buffer.old.have_output ≡ false`
 fn flag_join(buffer: &mut hb_buffer_t, last: &LastLetter, own: JoiningType, end: usize) {
     debug_assert!(!buffer.have_output());
+    flag_formed(buffer, last, own);
     let Some(start) = last.place else {
         if own.joins_previous() {
             buffer.unsafe_to_concat_from_outbuffer(Some(0), Some(end));
@@ -105,18 +117,39 @@ fn flag_join(buffer: &mut hb_buffer_t, last: &LastLetter, own: JoiningType, end:
     flag_between(buffer, tie_of(last.heeds_next, own), start, end);
 }
 
-/// Flags the end of the text, where its last letter heeds the letter behind it.
+/// Flags the end of the text: its last letter may have its form by the letter before it, and heed the
+/// letter behind it, if one is known.
 ///
 /// # Requires
 ///
 /// - `buffer.old.have_output ≡ false`
-fn flag_end(buffer: &mut hb_buffer_t, last: &LastLetter, own: JoiningType) {
+fn flag_end(buffer: &mut hb_buffer_t, last: &LastLetter, behind: Option<JoiningType>) {
     debug_assert!(!buffer.have_output());
+    flag_formed(buffer, last, behind.unwrap_or(NonJoining));
     if let Some(start) = last.place
+        && let Some(own) = behind
         && last.heeds_next
     {
         let end = buffer.len();
         flag_between(buffer, tie_of(true, own), start, end);
+    }
+}
+
+/// Flags the place before the last letter, where that has its form by the letter before, and not by the
+/// next one, which is of a type.
+///
+/// # Requires
+///
+/// - `buffer.old.have_output ≡ false`
+fn flag_formed(buffer: &mut hb_buffer_t, last: &LastLetter, next: JoiningType) {
+    debug_assert!(!buffer.have_output());
+    if let Some(from) = last.formed_by
+        && let Some(place) = last.place
+        && from <= place
+        && place < buffer.len()
+        && !next.joins_previous()
+    {
+        buffer.unsafe_to_break(Some(from), Some(place + 1));
     }
 }
 
