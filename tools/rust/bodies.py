@@ -1,6 +1,7 @@
 """The words of signatures, types and bodies, as plain Rust has them."""
 
 from edited import Edited
+from rattle_source import CLOSING
 
 # Calls of std that are given an allocator in Rattle, and then may answer that there is no memory.
 TWINS = {
@@ -20,6 +21,13 @@ KNOWN_MACROS = {
 
 PROOFS = {"prove": "debug_assert", "prove_eq": "debug_assert_eq", "prove_ne": "debug_assert_ne"}
 
+# Methods of std that are newer than the oldest compiler that the package is built with, and the trait and the method of the
+# package in their place.
+NEWER = {"cast_signed": ("ToSigned", "to_signed"), "cast_unsigned": ("ToUnsigned", "to_unsigned")}
+
+# Types that hold the chunks of a slice.
+CHUNKED = {"Numbers16", "Ranges"}
+
 # Attributes that say how something is proved or laid out.
 FOR_PROOFS = {"tactic", "cycle", "rattlefmt"}
 
@@ -33,6 +41,8 @@ class Bodies(Edited):
         self.erase_unsafe()
         self.erase_macros()
         self.erase_arguments()
+        self.name_older_calls()
+        self.nest_conditions()
         self.rewrite_paths()
         for at in self.bare():
             text, kind = self.texts[at], self.source.words[at].kind
@@ -173,6 +183,97 @@ class Bodies(Edited):
             self.source.refuse(name, f"`{self.texts[name]}` with an allocator is not known")
         self.texts[name], trait = TWINS[self.texts[name]]
         self.of_memory.add(trait)
+
+    # What the oldest compiler does not know.
+
+    def name_older_calls(self):
+        places = self.bare()
+        for before, at, behind in zip(places, places[1:], places[2:]):
+            if self.texts[before] == "." and self.texts[at] in NEWER:
+                trait, self.texts[at] = NEWER[self.texts[at]]
+                self.of_numbers.add(trait)
+            elif self.texts[before] == "." and self.texts[at] == "as_chunks":
+                self.hold_chunks(at)
+            elif self.texts[before] == "&" and self.texts[at] == self.texts[behind] == "[":
+                self.name_chunks(before, at)
+
+    def hold_chunks(self, at):
+        """`X.as_chunks::<N>()`, of which the first part alone is taken."""
+        start = at
+        while self.texts[start] != "=":
+            start = self.before(start)
+        self.of_numbers.add("Chunks")
+        opening = next(place for place in self.bare(at) if self.texts[place] == "(")
+        size = "".join(self.texts[place] for place in self.bare(at + 1, opening))
+        self.put(self.behind(start + 1), f"Chunks{size}::split(" + self.texts[self.behind(start + 1)])
+        self.cut(self.before(at), opening)
+        self.put(opening, "")
+
+    def name_chunks(self, before, at):
+        """A list of chunks that is written out, in one of the types that hold chunks."""
+        opening = self.before(before)
+        if self.texts[opening] == "(" and self.texts[self.before(opening)] in CHUNKED:
+            self.of_numbers.add("Chunks")
+            self.put(before, "Chunks::from(&")
+            self.put(self.source.closing(at), "])")
+
+    def hold_chunk_types(self, item):
+        """The type `&'a [[u8; N]]` of a struct."""
+        places = self.bare(item.start, item.last)
+        for i, at in enumerate(places[:-8]):
+            if [self.texts[place] for place in places[i : i + 6 : 2]] == ["&", "[", "u8"] and self.texts[places[i + 3]] == "[":
+                lifetime, count = self.texts[places[i + 1]], self.texts[places[i + 6]]
+                self.cut(at, self.source.closing(places[i + 2]) + 1)
+                self.put(at, f"Chunks<{lifetime}, {count}>")
+                self.live[at] = True
+                self.of_numbers.add("Chunks")
+
+    def nest_conditions(self):
+        """Conditions of which one is a `let`: one in the other. Where there is an `else`, the block is left at the end."""
+        for at in self.bare():
+            if self.texts[at] not in ("if", "while") or self.source.words[at].kind != "name":
+                continue
+            opening, joints = self.condition(at)
+            if not joints:
+                continue
+            if self.texts[at] == "while":
+                self.source.refuse(at, "a `let` beside another condition of `while` is not known")
+            closing = self.source.closing(opening)
+            for joint in joints:
+                self.put(joint, "{ if")
+                self.cut(self.source.after(joint), self.source.after(joint) + 1)
+            ends = "}" * (len(joints) + 1)
+            otherwise = self.source.after(closing)
+            if self.source.at(otherwise) != "else":
+                self.put(closing, ends)
+                continue
+            if self.texts[self.before(closing)] != ";":
+                self.source.refuse(at, "the value of an `if` with a `let` beside another condition is not known")
+            self.put(at, "'chained: { if")
+            self.put(closing, "break 'chained;" + ends)
+            self.cut(otherwise, otherwise + 1)
+            last = self.source.after(otherwise)
+            if self.source.at(last) != "{":
+                self.source.refuse(otherwise, "an `else if` behind a `let` beside another condition is not known")
+            last = self.source.closing(last)
+            self.put(last, self.texts[last] + "}")
+
+    def condition(self, at):
+        """Where the block of an `if` begins, and the `&&` beside a `let` in its condition."""
+        place, signs, lets = self.source.after(at), [], set()
+        while self.source.at(place) != "{" and place < len(self.texts):
+            text, following = self.source.at(place), self.source.after(place)
+            if text in CLOSING:
+                place = self.source.closing(place)
+            elif text == "=" and self.source.at(following) == ">":
+                return None, []  # a guard
+            elif text == "let":
+                lets.add(len(signs))
+            elif text == "&" and self.source.at(following) == "&" and following == place + 1:
+                signs.append(place)
+                place = following
+            place = self.source.after(place)
+        return place, [sign for i, sign in enumerate(signs) if {i, i + 1} & lets]
 
     def rewrite_paths(self):
         imports = [(item.start, item.last) for item in self.reader.items if item.kind == "use"]

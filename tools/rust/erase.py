@@ -6,7 +6,7 @@ What is left is plain Rust. A word that is not known to either is `Refused`, wit
 import re
 
 import contracts
-from bodies import FOR_PROOFS, Bodies
+from bodies import CHUNKED, FOR_PROOFS, Bodies
 from paths import GONE, KNOWN_OF_HOST, grouped, use_leaves
 
 # Methods of std that core does not have, and the trait of the package that has them.
@@ -50,7 +50,7 @@ class Erased(Bodies):
     def __init__(self, path, text, paths, takers):
         super().__init__(path, text)
         self.paths, self.takers = paths, takers
-        self.of_memory = set()
+        self.of_memory, self.of_numbers = set(), set()
         self.modules = {item.name for item in self.reader.items if item.kind == "mod"}
         self.models = {
             item.name: contracts.ghosts(self, item)
@@ -91,6 +91,8 @@ class Erased(Bodies):
             self.rename(item, parent)
             contracts.document_function(self, item, parent)
             self.erase_function(item, parent)
+        if item.kind == "struct" and item.name in CHUNKED:
+            self.hold_chunk_types(item)
         if item.kind == "struct" and item.name in SEEN_BY_C:
             self.prefix[item.start] = "#[repr(C)]\n"
         if item.kind == "struct" and any(other.trait == "Flags" and other.name == item.name for other in self.reader.items):
@@ -258,9 +260,8 @@ class Erased(Bodies):
             return None  # a constant that clauses alone name
         if names[-1] == "from_utf8_unchecked":
             names = [*names[:-1], "from_utf8"]
-        if len(names) == 2 and names[0] != names[1] and set(names) <= self.paths.modules.keys():
-            # A crate that another one passes on.
-            return self.paths.modules[names[1]] if item.visibility else None
+        if {*names} <= self.paths.modules.keys() and (item.visibility or len({*names}) == 2):
+            return None  # a crate that another one passes on
         if names[0] in ("super", "self") or names[0] in self.modules and names[0] not in self.paths.modules:
             return "::".join(names)
         started = self.paths.start(names)
@@ -320,7 +321,7 @@ class Erased(Bodies):
 
     def imports(self):
         """What the file names of the package's own modules, by the modules."""
-        found = {self.paths.memory: self.names_of_memory()}
+        found = {self.paths.memory: self.names_of_memory(), self.paths.numbers: sorted(self.of_numbers)}
         if self.paths.host:
             places = self.bare()
             bounds = {self.texts[at] for i, at in enumerate(places) if i and self.texts[places[i - 1]] in (":", "+")}

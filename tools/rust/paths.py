@@ -24,6 +24,7 @@ class Paths:
 
     def __init__(self, modules, own, memory, has_std, fail=None, host=None):
         self.modules, self.own, self.memory, self.has_std, self.fail = modules, own, memory, has_std, fail
+        self.numbers = "crate::numbers" if memory == "crate::memory" else "vukhaso::internals::numbers"
         self.host = host  # where the runtime of a program is, if it is passed on
 
     def start(self, names):
@@ -43,7 +44,7 @@ class Paths:
         if names[0] in ("alloc", "collections"):
             return self.memory, names[1:]
         if names[0] == "num" and names[1:2] and names[1].startswith(CONVERSIONS):
-            return self.memory.replace("memory", "numbers"), names[1:]
+            return self.numbers, names[1:]
         if names[:2] == ["test", "Fail"] and self.fail:
             return self.fail, []
         if self.host and (names[0] in OF_HOST or names == ["convert", "AsStr"]):

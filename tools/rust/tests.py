@@ -127,7 +127,7 @@ class Package(unittest.TestCase):
         self.assertEqual(self.files, plain_rust.written())
 
     def test_sections_are_there(self):
-        text = self.files[Path("src/buffer/buffer/cursor.rs")]
+        text = self.files[Path("src/internals/buffer/buffer/cursor.rs")]
         function = text[text.index("/// Moves `n` glyphs") : text.index("pub fn next_glyphs")]
         for line in ("# Requires", "# Errors", "# Proved", "- `n ≤ lookahead_len self.old`", "`Ok(false)` where"):
             self.assertIn(line, function)
@@ -167,6 +167,25 @@ class Erasure(unittest.TestCase):
         text = erased("fn f() -> usize\n    ensures { result ≡ 2 }\n{\n    let _ = (b'{', '\\u{7d}', \"}\", 'x');\n    2\n}\n")
         self.assertIn("(b'{', '\\u{7d}', \"}\", 'x')", text)
         self.assertNotIn("ensures", code_of(text))
+
+    def test_conditions_beside_a_let_are_nested(self):
+        for given, told in (
+            ("if a && let Some(b) = c && d { e(); }", "if a { if let Some(b) = c { if d { e(); }}}"),
+            ("if let Some(b) = c { d(); } else if a && b { e() }", "if let Some(b) = c { d(); } else if a && b { e() }"),
+            ("if a && b && let Some(c) = d { e(); } else { f(); }",
+             "'chained: { if a && b { if let Some(c) = d { e(); break 'chained;}} { f(); }}"),
+        ):
+            with self.subTest(given):
+                self.assertIn(told, " ".join(erased(f"fn f() {{\n    {given}\n}}\n").split()))
+        for wrong in ("while a && let Some(b) = c { d(); }", "if a && let Some(b) = c { 1 } else { 2 }"):
+            with self.subTest(wrong), self.assertRaisesRegex(Refused, r"sample\.rt:2: "):
+                erased(f"fn f() {{\n    {wrong}\n}}\n")
+
+    def test_chunks_and_casts_are_those_of_the_package(self):
+        text = erased("pub struct Ranges<'a>(&'a [[u8; 6]]);\n\nfn f(t: &[u8]) -> i16 {\n    let (ranges, _) = tail(t, 4).as_chunks::<6>();\n"
+                      "    g(&Ranges(ranges)).cast_signed()\n}\n")
+        for line in ("pub struct Ranges<'a>(Chunks<'a, 6>);", "let (ranges, _) = Chunks::<6>::split(tail(t, 4));", ".to_signed()"):
+            self.assertIn(line, text)
 
     def test_bounds_of_drop_go(self):
         text = erased("pub fn f<T: Drop, U: Copy + Drop, V: Drop + Copy>(t: T, u: U, v: V) {}\n")

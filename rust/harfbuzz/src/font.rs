@@ -22,7 +22,7 @@ use crate::types::{hb_bool_t, hb_destroy_func_t};
 use std::cell::{Cell, RefCell};
 use std::ffi::{c_uint, c_void};
 use std::ptr::null_mut;
-use vukhaso::font_shaper::KeptPlan;
+use vukhaso::internals::font_shaper::KeptPlan;
 
 const NO_INSTANCE: u32 = u32::MAX;
 

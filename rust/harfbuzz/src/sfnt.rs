@@ -39,7 +39,7 @@ pub fn at_32(table: &[u8], at: usize) -> &[u8] {
 }
 
 /// How many fonts a file has.
-pub use vukhaso::font_tables::directory::face_count;
+pub use vukhaso::internals::font_tables::directory::face_count;
 
 /// The table directory of the font with this index (OpenType specification, "Font Collections").
 fn directory(file: &[u8], index: u32) -> &[u8] {

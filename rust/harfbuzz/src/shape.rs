@@ -13,7 +13,7 @@ use crate::font::hb_font_t;
 use crate::shape::watching::Telling;
 use crate::types::{BOTTOM_TO_TOP, LEFT_TO_RIGHT, RIGHT_TO_LEFT, TOP_TO_BOTTOM, hb_bool_t, hb_direction_t, is_valid, slice};
 use std::ffi::{CStr, c_char, c_uint};
-use vukhaso::font_shaper::{KeptPlan, shape_watched, shape_with_kept_plan};
+use vukhaso::internals::font_shaper::{KeptPlan, shape_watched, shape_with_kept_plan};
 use vukhaso::{
     BufferClusterLevel, BufferFlags, Direction, Face, Feature, GlyphBuffer, GlyphId, Script, ShapeError, Tag,
     UnicodeBuffer,

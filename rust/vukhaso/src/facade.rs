@@ -15,6 +15,7 @@ pub use crate::glyph::{
 pub use crate::memory::AllocError;
 pub use crate::runs::{Answer, Call, RenderFault, Stopped, render, render_at, replay};
 pub use crate::text::{Feature, Language, LanguageError};
+pub use crate::unicode_tables::UNICODE_VERSION;
 
 use core::ops::{
     BitAnd, BitAndAssign, BitOr, BitOrAssign, BitXor, BitXorAssign, Not, Sub, SubAssign,

@@ -13,129 +13,64 @@ extern crate alloc;
 #[cfg(any(test, feature = "std"))]
 extern crate std;
 
+#[allow(
+    clippy::assign_op_pattern,
+    clippy::collapsible_if,
+    clippy::collapsible_match,
+    clippy::explicit_auto_deref,
+    clippy::if_same_then_else,
+    clippy::len_without_is_empty,
+    clippy::manual_div_ceil,
+    clippy::manual_find,
+    clippy::manual_map,
+    clippy::manual_ok_err,
+    clippy::manual_range_contains,
+    clippy::manual_range_patterns,
+    clippy::match_like_matches_macro,
+    clippy::mem_replace_with_default,
+    clippy::module_inception,
+    clippy::needless_lifetimes,
+    clippy::needless_question_mark,
+    clippy::needless_range_loop,
+    clippy::neg_cmp_op_on_partial_ord,
+    clippy::new_without_default,
+    clippy::nonminimal_bool,
+    clippy::precedence,
+    clippy::question_mark,
+    clippy::redundant_closure,
+    clippy::should_implement_trait,
+    clippy::type_complexity,
+    clippy::wrong_self_convention,
+    reason = "written in the forms that a prover reads best"
+)]
 #[doc(hidden)]
-pub mod arrayvec;
-#[doc(hidden)]
-pub mod bitflags;
-mod itoa;
+pub mod internals;
 pub mod memory;
-#[doc(hidden)]
-pub mod numbers;
+pub mod rustybuzz;
+
+mod facade;
+mod itoa;
 mod ucd_normal;
 mod unicode;
-
-// Written, and so in the forms that a prover reads best.
-#[allow(clippy::style, clippy::complexity)]
-#[doc(hidden)]
-pub mod apple_substitution;
-#[allow(clippy::style, clippy::complexity)]
-#[doc(hidden)]
-pub mod apple_tables;
-#[allow(clippy::style, clippy::complexity)]
-#[doc(hidden)]
-pub mod buffer;
-#[allow(clippy::style, clippy::complexity)]
-#[doc(hidden)]
-pub mod character_maps;
-#[allow(clippy::style, clippy::complexity)]
-#[doc(hidden)]
-pub mod color_glyphs;
-#[cfg(feature = "std")]
-#[allow(clippy::style, clippy::complexity)]
-mod command;
-#[allow(clippy::style, clippy::complexity)]
-#[doc(hidden)]
-pub mod common;
-#[allow(clippy::style, clippy::complexity)]
-#[doc(hidden)]
-pub mod font_face;
-#[allow(clippy::style, clippy::complexity)]
-#[doc(hidden)]
-pub mod font_normalization;
-#[allow(clippy::style, clippy::complexity)]
-#[doc(hidden)]
-pub mod font_positions;
-#[allow(clippy::style, clippy::complexity)]
-#[doc(hidden)]
-pub mod font_shaper;
-#[allow(clippy::style, clippy::complexity)]
-#[doc(hidden)]
-pub mod font_tables;
-#[allow(clippy::style, clippy::complexity)]
-#[doc(hidden)]
-pub mod font_variations;
-#[allow(clippy::style, clippy::complexity)]
-#[doc(hidden)]
-pub mod glyph;
-#[allow(clippy::style, clippy::complexity)]
-#[doc(hidden)]
-pub mod glyph_layout;
-#[allow(clippy::style, clippy::complexity)]
-#[doc(hidden)]
-pub mod glyph_lists;
-#[allow(clippy::style, clippy::complexity)]
-#[doc(hidden)]
-pub mod glyph_outlines;
-#[allow(clippy::style, clippy::complexity)]
-#[doc(hidden)]
-pub mod glyph_positions;
-#[allow(clippy::style, clippy::complexity)]
-#[doc(hidden)]
-pub mod glyph_sides;
-#[allow(clippy::style, clippy::complexity)]
-#[doc(hidden)]
-pub mod glyph_substitution;
-#[allow(clippy::style, clippy::complexity)]
-#[doc(hidden)]
-pub mod glyph_text;
-#[allow(clippy::style, clippy::complexity)]
-#[doc(hidden)]
-pub mod glyph_variations;
-#[allow(clippy::style, clippy::complexity)]
-#[doc(hidden)]
-pub mod language_tags;
-#[allow(clippy::style, clippy::complexity)]
-#[doc(hidden)]
-pub mod layout_plan;
-#[allow(clippy::style, clippy::complexity)]
-pub mod passes;
-#[allow(clippy::style, clippy::complexity)]
-#[doc(hidden)]
-pub mod position_tables;
-#[allow(clippy::style, clippy::complexity)]
-#[doc(hidden)]
-pub mod runs;
-#[allow(clippy::style, clippy::complexity)]
-#[doc(hidden)]
-pub mod script_features;
-#[allow(clippy::style, clippy::complexity)]
-#[doc(hidden)]
-pub mod script_shapers;
-#[allow(clippy::style, clippy::complexity)]
-#[doc(hidden)]
-pub mod syllabic_shapers;
-#[allow(clippy::style, clippy::complexity)]
-#[doc(hidden)]
-pub mod syllable_tables;
-#[allow(clippy::style, clippy::complexity)]
-#[doc(hidden)]
-pub mod text;
-#[allow(clippy::style, clippy::complexity)]
-#[doc(hidden)]
-pub mod unicode_tables;
-
-#[cfg(feature = "std")]
-mod clap;
-#[cfg(feature = "std")]
-mod host;
-#[cfg(feature = "std")]
-#[doc(hidden)]
-pub mod program;
 
 #[cfg(feature = "capi")]
 #[allow(unsafe_code)]
 pub mod capi;
-mod facade;
-pub mod rustybuzz;
+#[cfg(feature = "std")]
+mod clap;
+#[cfg(feature = "std")]
+mod host;
+
+#[cfg(feature = "std")]
+use internals::command;
+use internals::{
+    apple_substitution, apple_tables, arrayvec, bitflags, buffer, character_maps, color_glyphs,
+    common, font_face, font_normalization, font_positions, font_shaper, font_tables,
+    font_variations, glyph, glyph_layout, glyph_lists, glyph_outlines, glyph_positions,
+    glyph_sides, glyph_substitution, glyph_text, glyph_variations, language_tags, layout_plan,
+    numbers, position_tables, runs, script_features, script_shapers, syllabic_shapers,
+    syllable_tables, text,
+};
 
 pub use facade::*;
+pub use internals::{passes, unicode_tables};

@@ -3,5 +3,5 @@
 use std::process::ExitCode;
 
 fn main() -> ExitCode {
-    vukhaso::program::run_to_end()
+    vukhaso::internals::program::run_to_end()
 }

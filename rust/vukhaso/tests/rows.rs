@@ -1,6 +1,8 @@
 //! Worked rows: what rustybuzz's own tests ask of features and tags, and texts of glyphs by all flags.
 
-use vukhaso::text::{LanguageTable, NoComplexLanguages, ThreeTags, tags_from_script_and_language};
+use vukhaso::internals::text::{
+    LanguageTable, NoComplexLanguages, ThreeTags, tags_from_script_and_language,
+};
 use vukhaso::{
     BufferFlags, Direction, Feature, GlyphBuffer, GlyphExtents, GlyphId, GlyphNames, GlyphPosition,
     Language, LanguageError, NoGlyphNames, Script, SerializeFlags, Tag, TagExt, UnicodeBuffer,

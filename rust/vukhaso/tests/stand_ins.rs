@@ -1,7 +1,7 @@
 //! What stands in the place of std and of library crates, beside std itself.
 
+use vukhaso::internals::numbers::{Round, nearest_i64_to_f32, saturating_f32_to_i32};
 use vukhaso::memory::{BTreeMap, String, TryText, Vec};
-use vukhaso::numbers::{Round, nearest_i64_to_f32, saturating_f32_to_i32};
 
 /// Some numbers, by the generator xorshift64.
 fn numbers(count: usize) -> impl Iterator<Item = u64> {

@@ -3,7 +3,7 @@
 
 use std::sync::Mutex;
 use vukhaso::Face;
-use vukhaso::font_shaper::KeptPlan;
+use vukhaso::internals::font_shaper::KeptPlan;
 
 /// How a font is set.
 #[derive(Clone, PartialEq, Debug, Default)]

@@ -7,8 +7,8 @@ use crate::ot::layout::correction;
 use crate::sfnt::{at_16, i16_at, tail, u16_at, u32_at};
 use crate::types::{hb_bool_t, hb_codepoint_t, hb_direction_t, hb_position_t, is_horizontal, put, put_part};
 use std::ffi::c_uint;
-use vukhaso::font_tables::coverage::Coverage;
-use vukhaso::font_variations::VariationStore;
+use vukhaso::internals::font_tables::coverage::Coverage;
+use vukhaso::internals::font_variations::VariationStore;
 
 /// A kerning value, with the height up to which it holds.
 #[repr(C)]

@@ -5,7 +5,7 @@ use crate::font::hb_font_t;
 use crate::sfnt::{i16_at, u16_at};
 use crate::types::{LEFT_TO_RIGHT, TOP_TO_BOTTOM, hb_bool_t, hb_position_t, hb_tag_t, put};
 use vukhaso::Tag;
-use vukhaso::font_variations::ValueVariations;
+use vukhaso::internals::font_variations::ValueVariations;
 
 /// The axis along which a measure is.
 #[derive(Clone, Copy, PartialEq)]

@@ -6,8 +6,8 @@ use std::collections::HashMap;
 use std::ffi::c_uint;
 use std::ptr::null;
 use std::sync::OnceLock;
-use vukhaso::language_tags::LanguageTags;
-use vukhaso::text::{LanguageTable, tags::tags_from_script_and_language};
+use vukhaso::internals::language_tags::LanguageTags;
+use vukhaso::internals::text::{LanguageTable, tags::tags_from_script_and_language};
 use vukhaso::{Language, Script, Tag};
 
 const DEFAULT_SCRIPT: hb_tag_t = tag(b"DFLT");

@@ -5,7 +5,7 @@ use crate::face::hb_face_t;
 use crate::sfnt::{i16_at, tail, u16_at, u32_at};
 use crate::types::{hb_bool_t, hb_tag_t, put, put_part, slice, slice_mut};
 use std::ffi::{c_int, c_uint};
-use vukhaso::font_variations::{AxisMaps, VariationAxes};
+use vukhaso::internals::font_variations::{AxisMaps, VariationAxes};
 
 /// A name that is none.
 const NO_NAME: c_uint = 0xFFFF;

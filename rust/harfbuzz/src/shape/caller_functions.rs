@@ -16,7 +16,7 @@ use crate::types::{is_backward, is_horizontal};
 use crate::unicode::{hb_unicode_funcs_get_default, hb_unicode_funcs_t};
 use std::collections::BTreeMap;
 use vukhaso::Face;
-use vukhaso::character_maps::CharacterMap;
+use vukhaso::internals::character_maps::CharacterMap;
 
 /// Characters that shaping asks for beside those of a text: spaces, hyphens, the dotted circle, and joiners.
 const ALWAYS: [u32; 8] = [0x20, 0xA0, 0x2010, 0x2011, 0x25CC, 0x200C, 0x200D, 0x2044];

@@ -5,7 +5,7 @@ use crate::types::{hb_codepoint_t, hb_script_t};
 use std::ffi::c_uint;
 use std::sync::OnceLock;
 use vukhaso::CharExt;
-use vukhaso::glyph::Mirrors;
+use vukhaso::internals::glyph::Mirrors;
 use vukhaso::unicode_tables as tables;
 
 pub const OTHER_LETTER: c_uint = 7;

@@ -9,7 +9,7 @@
 
 mod runs;
 
-#[allow(dead_code, clippy::style, clippy::complexity)]
+#[allow(clippy::redundant_closure, dead_code)] // written code
 mod shaping_bench {
     pub mod item;
     pub mod lists;

@@ -7,7 +7,7 @@
 use std::io::{stdin, stdout};
 use std::process::ExitCode;
 
-#[allow(clippy::style, clippy::complexity, dead_code, unused_variables)]
+#[allow(clippy::needless_question_mark, dead_code, unused_variables)] // written code
 mod shaping_session;
 
 use shaping_session::run::run_on;

@@ -6,7 +6,7 @@ use std::env;
 use std::fs;
 use std::path::PathBuf;
 
-#[allow(clippy::style, clippy::complexity)]
+#[allow(clippy::needless_question_mark)] // written code
 #[path = "../../examples/lines/shaping_session/mod.rs"]
 mod shaping_session;
 

@@ -1,6 +1,16 @@
 // Written by tools/plain_rust from its table of crates. Do not edit.
 //! The tests of the library's crates, written by `tools/plain_rust` from the Rattle sources: of each call, its answers.
-#![allow(clippy::style, clippy::complexity)]
+#![allow(
+    clippy::assertions_on_constants,
+    clippy::borrow_deref_ref,
+    clippy::field_reassign_with_default,
+    clippy::get_first,
+    clippy::len_zero,
+    clippy::manual_map,
+    clippy::partialeq_to_none,
+    clippy::type_complexity,
+    reason = "written in the forms that a prover reads best"
+)]
 #![allow(unused_imports, dead_code, unused_variables)] // of some modules only a part is a test here
 
 type Fail = Box<dyn std::error::Error>;

@@ -1,13 +1,7 @@
 //! Each allocation refused in turn, by the global allocator of this test: a call that runs out of memory has changed
 //! nothing, and is then made again. The scenarios are those of the program `fault_tests`, written by
 //! `tools/plain_rust`.
-#![allow(
-    clippy::style,
-    clippy::complexity,
-    unused_imports,
-    unused_variables,
-    dead_code
-)]
+#![allow(unused_imports, unused_variables, dead_code)]
 
 use allocator::refusing;
 use fault_tests::growth::GROWTHS;
@@ -23,6 +17,7 @@ use fault_tests::written::Written;
 mod allocator;
 mod more;
 
+#[allow(clippy::needless_question_mark)] // written code
 #[path = "../../examples/lines/shaping_session/mod.rs"]
 mod shaping_session;
 

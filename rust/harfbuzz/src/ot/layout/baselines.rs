@@ -9,7 +9,7 @@ use crate::ot::tags::last_tags;
 use crate::sfnt::{at_16, at_32, i16_at, u16_at, u32_at};
 use crate::types::{hb_bool_t, hb_direction_t, hb_position_t, hb_script_t, hb_tag_t, is_horizontal, put, tag};
 use std::ffi::c_int;
-use vukhaso::font_variations::VariationStore;
+use vukhaso::internals::font_variations::VariationStore;
 
 const HANGING: hb_tag_t = tag(b"hang");
 const ROMAN: hb_tag_t = tag(b"romn");

@@ -9,9 +9,9 @@ use crate::sfnt::{at_16, i16_at, tail, u16_at};
 use crate::types::{hb_bool_t, hb_codepoint_t, hb_direction_t, hb_position_t, is_horizontal, put, put_part};
 use std::ffi::c_uint;
 use vukhaso::GlyphId;
-use vukhaso::font_tables::coverage::Coverage;
-use vukhaso::font_tables::gdef::Gdef;
-use vukhaso::font_variations::VariationStore;
+use vukhaso::internals::font_tables::coverage::Coverage;
+use vukhaso::internals::font_tables::gdef::Gdef;
+use vukhaso::internals::font_variations::VariationStore;
 
 /// The table of a face that C passes, as the shaper believes it.
 ///

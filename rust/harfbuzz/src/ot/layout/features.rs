@@ -5,7 +5,7 @@ use crate::ot::layout::{GPOS, NONE, Table, feature_indexes, numbers, required_fe
 use crate::sfnt::{at_16, at_32, i16_at, tail, u16_at, u32_at};
 use crate::types::{hb_bool_t, hb_codepoint_t, hb_tag_t, put, put_part, slice, tag};
 use std::ffi::{c_int, c_uint};
-use vukhaso::font_variations::feature_variations::{substitute_of, substitutions_of};
+use vukhaso::internals::font_variations::feature_variations::{substitute_of, substitutions_of};
 
 /// A name that is none.
 const NO_NAME: c_uint = 0xFFFF;
@@ -271,7 +271,7 @@ pub unsafe extern "C" fn hb_ot_layout_lookup_get_optical_bound(
     let table = Table::of(font.face(), GPOS);
     let lists = crate::ot::layout::glyphs::subtables(table, lookup, 9);
     let value = |subtable: &[u8]| {
-        let coverage = vukhaso::font_tables::coverage::Coverage::new(at_16(subtable, 2));
+        let coverage = vukhaso::internals::font_tables::coverage::Coverage::new(at_16(subtable, 2));
         let index = coverage.index(crate::font::opentype::glyph_of(glyph)?)? as usize;
         let (format, fields) = (u16_at(subtable, 4), u16_at(subtable, 4));
         let size = 2 * fields.count_ones() as usize;

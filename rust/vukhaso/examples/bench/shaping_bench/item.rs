@@ -6,8 +6,8 @@ use crate::anyhow::bail;
 use crate::shaping_bench::measuring::Item;
 use crate::shaping_bench::pass::{Clusters, Pass};
 use std::mem;
-use vukhaso::buffer::{GlyphBuffer, SerializeFlags, UnicodeBuffer, hb_buffer_t};
-use vukhaso::glyph::NoGlyphNames;
+use vukhaso::internals::buffer::{GlyphBuffer, SerializeFlags, UnicodeBuffer, hb_buffer_t};
+use vukhaso::internals::glyph::NoGlyphNames;
 
 /// How many ids there are, from 1 on, before they begin again.
 const IDS: usize = 30000;

@@ -3,7 +3,7 @@
 //! Calls that go over a whole list with no output open, as each function requires. Each stands out of line, so that its
 //! time does not depend on what stands beside it.
 
-use vukhaso::buffer::{_cluster_group_func, hb_buffer_t};
+use vukhaso::internals::buffer::{_cluster_group_func, hb_buffer_t};
 
 /// Deletes each glyph whose number is a multiple of three.
 ///

@@ -3,7 +3,7 @@
 //! Passes of calls over a list of glyphs, each as one value.
 
 use crate::shaping_bench::{lists, ranges, walks};
-use vukhaso::buffer::hb_buffer_t;
+use vukhaso::internals::buffer::hb_buffer_t;
 use vukhaso::memory::AllocError;
 
 /// A pass of calls over a list of glyphs.

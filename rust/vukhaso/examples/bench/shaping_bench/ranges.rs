@@ -3,7 +3,7 @@
 //! Merges and break flags over ranges of a list with no output open, as each function requires. Each stands out of line,
 //! so that its time does not depend on what stands beside it.
 
-use vukhaso::buffer::hb_buffer_t;
+use vukhaso::internals::buffer::hb_buffer_t;
 
 /// Merges each glyph with the next.
 ///

@@ -7,11 +7,11 @@ use crate::shaping_bench::item::{last_id, low_bits};
 use crate::shaping_bench::measuring::Item;
 use crate::shaping_bench::shaper_tables::Tables;
 use std::mem;
-use vukhaso::buffer::{CombiningClasses, GlyphBuffer, UnicodeBuffer, hb_buffer_t};
-use vukhaso::memory::AllocError;
-use vukhaso::passes::{
+use vukhaso::internals::buffer::{CombiningClasses, GlyphBuffer, UnicodeBuffer, hb_buffer_t};
+use vukhaso::internals::passes::{
     compose_marks, decompose_all, hide_default_ignorables, line_ends, order_marks,
 };
+use vukhaso::memory::AllocError;
 
 /// Of three characters the first is precomposed, the second a letter, and the third the mark behind it.
 static ACCENTED: [char; 12] = [

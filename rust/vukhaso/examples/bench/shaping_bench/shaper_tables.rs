@@ -2,8 +2,8 @@
 
 //! The tables that the passes of a shaper take.
 
-use vukhaso::buffer::{CombiningClasses, Compositions, Decompositions};
-use vukhaso::unicode_tables::UnicodeRows;
+use vukhaso::internals::buffer::{CombiningClasses, Compositions, Decompositions};
+use vukhaso::internals::unicode_tables::UnicodeRows;
 
 /// The tables over the rows of the Unicode Character Database.
 pub struct Tables<'a> {

@@ -5,10 +5,12 @@
 use crate::anyhow::anyhow;
 use crate::shaping_bench::measuring::Item;
 use std::str::FromStr;
+use vukhaso::internals::text::language_table::LanguageTable;
+use vukhaso::internals::text::tags::{
+    NoComplexLanguages, ThreeTags, tags_from_script_and_language,
+};
+use vukhaso::internals::text::{Language, Script, Tag, TagExt};
 use vukhaso::memory::{AllocError, String, Vec};
-use vukhaso::text::language_table::LanguageTable;
-use vukhaso::text::tags::{NoComplexLanguages, ThreeTags, tags_from_script_and_language};
-use vukhaso::text::{Language, Script, Tag, TagExt};
 
 /// A script and a language, where there are such.
 pub type Pair = (Option<Script>, Option<Language>);

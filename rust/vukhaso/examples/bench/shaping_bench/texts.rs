@@ -5,9 +5,9 @@
 use crate::anyhow::bail;
 use crate::shaping_bench::measuring::Item;
 use std::str::FromStr;
-use vukhaso::buffer::UnicodeBuffer;
+use vukhaso::internals::buffer::UnicodeBuffer;
+use vukhaso::internals::text::Feature;
 use vukhaso::memory::{AllocError, String};
-use vukhaso::text::Feature;
 
 /// Latin, Greek, Hebrew, Arabic, Devanagari, Hangul, Han, emoji, spaces and digits.
 const MIXED: &str = "The quick fox, Ζεύς שלום עולם مرحبا 12 नमस्ते 한국어 漢字かな 😀é\u{301}fi.";
@@ -152,10 +152,11 @@ fn read_features(texts: &[&str], size: usize) -> u32 {
     let count = texts.len().max(1);
     let mut seen = 0u32;
     for i in 0..size {
-        if let Some(text) = texts.get(i % count)
-            && let Ok(feature) = Feature::from_str(text)
-        {
-            seen = seen.wrapping_add(feature.tag.0 ^ feature.value ^ feature.start ^ feature.end);
+        if let Some(text) = texts.get(i % count) {
+            if let Ok(feature) = Feature::from_str(text) {
+                seen =
+                    seen.wrapping_add(feature.tag.0 ^ feature.value ^ feature.start ^ feature.end);
+            }
         }
     }
     seen

@@ -5,7 +5,7 @@
 //! Each answers `Ok(false)` where a call was refused. They require that no output is open. Each stands out of line, so
 //! that its time does not depend on what stands beside it.
 
-use vukhaso::buffer::hb_buffer_t;
+use vukhaso::internals::buffer::hb_buffer_t;
 use vukhaso::memory::AllocError;
 
 /// The glyphs that are put out between two rewinds, and those that a rewind takes back.

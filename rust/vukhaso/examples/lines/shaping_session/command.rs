@@ -4,10 +4,10 @@
 
 use crate::shaping_session::words::Words;
 use std::str;
-use vukhaso::buffer::BufferClusterLevel;
+use vukhaso::internals::buffer::BufferClusterLevel;
+use vukhaso::internals::runs::Call;
+use vukhaso::internals::text::Script;
 use vukhaso::memory::{AllocError, Vec};
-use vukhaso::runs::Call;
-use vukhaso::text::Script;
 
 /// What a line asks for.
 pub enum Command<'a> {

@@ -3,12 +3,12 @@
 //! What is asked of no text: features, tags of scripts and languages, and how characters compose and decompose.
 
 use crate::shaping_session::reply::Reply;
-use vukhaso::glyph::{Compositions, Decompositions};
-use vukhaso::memory::{AllocError, String};
-use vukhaso::text::{
+use vukhaso::internals::glyph::{Compositions, Decompositions};
+use vukhaso::internals::text::{
     Feature, Language, LanguageTable, NoComplexLanguages, Script, Tag,
     tags_from_script_and_language,
 };
+use vukhaso::memory::{AllocError, String};
 
 /// The feature that a text reads as: its tag in hexadecimal digits, its value, its start and its end. A
 /// text that is none takes no memory.
@@ -151,11 +151,11 @@ pub fn decompose(c: char) -> Result<Reply, AllocError> {
 /// What two characters compose to where no table has a row.
 fn composed(a: char, b: char) -> Option<char> {
     let table = Compositions::new(&[])?;
-    vukhaso::glyph::compose(&table, a, b)
+    vukhaso::internals::glyph::compose(&table, a, b)
 }
 
 /// What a character decomposes to where no table has a row.
 fn decomposed(c: char) -> Option<(char, char)> {
     let table = Decompositions::new(&[])?;
-    vukhaso::glyph::decompose(&table, c)
+    vukhaso::internals::glyph::decompose(&table, c)
 }

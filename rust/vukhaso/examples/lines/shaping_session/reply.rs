@@ -2,8 +2,8 @@
 
 //! What a command is answered with.
 
+use vukhaso::internals::runs::Answer;
 use vukhaso::memory::String;
-use vukhaso::runs::Answer;
 
 /// The text of an answer.
 pub enum Reply {

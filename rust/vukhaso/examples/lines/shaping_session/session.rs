@@ -6,12 +6,12 @@ use crate::shaping_session::command::Command;
 use crate::shaping_session::query;
 use crate::shaping_session::reply::Reply;
 use crate::shaping_session::state_text::print_state;
-use vukhaso::buffer::{
+use vukhaso::internals::buffer::{
     BufferClusterLevel, BufferFlags, GlyphBuffer, SerializeFlags, UnicodeBuffer, hb_buffer_t,
 };
-use vukhaso::glyph::{NoGlyphNames, hb_glyph_info_t};
+use vukhaso::internals::glyph::{NoGlyphNames, hb_glyph_info_t};
+use vukhaso::internals::runs::{Call, make_call};
 use vukhaso::memory::{AllocError, String};
-use vukhaso::runs::{Call, make_call};
 
 /// A text that grows, and then the buffer that it was turned into.
 pub enum Session {

@@ -2,8 +2,8 @@
 
 //! What a buffer holds, as a line of text.
 
-use vukhaso::buffer::hb_buffer_t;
-use vukhaso::glyph::{glyph_flag, hb_glyph_info_t};
+use vukhaso::internals::buffer::hb_buffer_t;
+use vukhaso::internals::glyph::{glyph_flag, hb_glyph_info_t};
 use vukhaso::memory::{AllocError, String};
 
 /// # Errors

@@ -2,7 +2,7 @@
 
 //! The words of a line.
 
-use vukhaso::common::Script;
+use vukhaso::internals::common::Script;
 
 /// A line that is taken word by word from its front. Words are not empty, and one space parts them.
 /// A contract sees what is left of the line, and nothing at all once its end was taken.

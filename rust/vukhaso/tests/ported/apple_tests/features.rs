@@ -3,11 +3,11 @@
 //! The features of a user as settings of a font, and the flags of chains that they turn on.
 
 use crate::apple_tests::tables::bytes_of;
-use vukhaso::apple_substitution::{ChainFlags, mapping_of, selected_features};
-use vukhaso::apple_tables::{FeatureNames, Metamorphosis};
-use vukhaso::common::Tag;
+use vukhaso::internals::apple_substitution::{ChainFlags, mapping_of, selected_features};
+use vukhaso::internals::apple_tables::{FeatureNames, Metamorphosis};
+use vukhaso::internals::common::Tag;
+use vukhaso::internals::text::Feature;
 use vukhaso::memory::AllocError;
-use vukhaso::text::Feature;
 
 /// Common ligatures, whose settings go together, and alternates, of which one alone is on.
 const FEAT: [u16; 20] = [

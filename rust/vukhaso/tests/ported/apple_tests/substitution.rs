@@ -3,12 +3,14 @@
 //! Chains of `morx` over lines of glyphs.
 
 use crate::apple_tests::tables::bytes_of;
-use vukhaso::apple_substitution::deletion::is_deleted;
-use vukhaso::apple_substitution::{ChainFlags, Substitution, remove_deleted_glyphs, substitute};
-use vukhaso::apple_tables::Metamorphosis;
-use vukhaso::buffer::{UnicodeBuffer, hb_buffer_t, hb_glyph_info_t};
-use vukhaso::common::Direction;
-use vukhaso::font_tables::gdef::Gdef;
+use vukhaso::internals::apple_substitution::deletion::is_deleted;
+use vukhaso::internals::apple_substitution::{
+    ChainFlags, Substitution, remove_deleted_glyphs, substitute,
+};
+use vukhaso::internals::apple_tables::Metamorphosis;
+use vukhaso::internals::buffer::{UnicodeBuffer, hb_buffer_t, hb_glyph_info_t};
+use vukhaso::internals::common::Direction;
+use vukhaso::internals::font_tables::gdef::Gdef;
 use vukhaso::memory::{AllocError, Vec};
 
 /// Lines of both kinds.

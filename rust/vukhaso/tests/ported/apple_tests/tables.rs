@@ -2,10 +2,12 @@
 
 //! Lookup tables, state tables, and the tables `feat`, `morx` and `trak`.
 
-use vukhaso::apple_tables::glyph_rows::GlyphRows;
-use vukhaso::apple_tables::tracking::Tracking;
-use vukhaso::apple_tables::{Entry, FeatureNames, Lookup, Metamorphosis, StateTable, SubtableKind};
-use vukhaso::font_tables::bytes::part;
+use vukhaso::internals::apple_tables::glyph_rows::GlyphRows;
+use vukhaso::internals::apple_tables::tracking::Tracking;
+use vukhaso::internals::apple_tables::{
+    Entry, FeatureNames, Lookup, Metamorphosis, StateTable, SubtableKind,
+};
+use vukhaso::internals::font_tables::bytes::part;
 use vukhaso::memory::{AllocError, Vec};
 
 /// A table in numbers of 16 bits.

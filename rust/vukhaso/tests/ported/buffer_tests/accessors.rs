@@ -1,7 +1,7 @@
 // Written by tools/plain_rust from crates/buffer_tests. Do not edit.
 
 use crate::buffer_tests::lists::{assert_ids, read_one};
-use vukhaso::buffer::{UnicodeBuffer, hb_buffer_t};
+use vukhaso::internals::buffer::{UnicodeBuffer, hb_buffer_t};
 
 /// `len`, `out_len`, `idx`, `backtrack_len` and `lookahead_len`.
 fn assert_counts(buffer: &hb_buffer_t, want: [usize; 5]) {

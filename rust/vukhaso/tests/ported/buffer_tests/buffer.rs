@@ -2,7 +2,7 @@
 
 use crate::Fail;
 use crate::buffer_tests::lists::assert_glyphs;
-use vukhaso::buffer::{UnicodeBuffer, hb_buffer_t, hb_glyph_info_t};
+use vukhaso::internals::buffer::{UnicodeBuffer, hb_buffer_t, hb_glyph_info_t};
 
 #[test]
 fn the_largest_cluster_is_in_the_range_of_all() -> Result<(), Fail> {

@@ -4,9 +4,9 @@
 
 use crate::Fail;
 use crate::buffer_tests::lists::buffer_of;
-use vukhaso::buffer::{hb_buffer_t, hb_glyph_info_t};
+use vukhaso::internals::buffer::{hb_buffer_t, hb_glyph_info_t};
+use vukhaso::internals::runs::{Answer, Call, Stopped, replay};
 use vukhaso::memory::String;
-use vukhaso::runs::{Answer, Call, Stopped, replay};
 
 /// A glyph as it is seen here: its id, its cluster and its glyph flags.
 type Seen = (u32, u32, u32);

@@ -3,8 +3,8 @@
 use crate::Fail;
 use crate::buffer_tests::lists::buffer_of;
 use crate::shaping_uses::comparing::equal_texts_mean_equal_glyphs;
-use vukhaso::buffer::{GlyphBuffer, SerializeFlags};
-use vukhaso::glyph::NoGlyphNames;
+use vukhaso::internals::buffer::{GlyphBuffer, SerializeFlags};
+use vukhaso::internals::glyph::NoGlyphNames;
 use vukhaso::memory::String;
 
 /// The glyphs of a text, with positions of 0.

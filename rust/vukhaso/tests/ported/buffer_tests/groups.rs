@@ -1,7 +1,9 @@
 // Written by tools/plain_rust from crates/buffer_tests. Do not edit.
 
 use std::cell::Cell;
-use vukhaso::buffer::{_cluster_group_func, UnicodeBuffer, hb_buffer_t, hb_glyph_info_t};
+use vukhaso::internals::buffer::{
+    _cluster_group_func, UnicodeBuffer, hb_buffer_t, hb_glyph_info_t,
+};
 
 /// A text from `a` on, of these clusters and masks, with advances of 10, 20 and so on.
 fn buffer_of(glyphs: &[(u32, u32)]) -> hb_buffer_t {

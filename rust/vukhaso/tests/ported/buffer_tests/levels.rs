@@ -2,7 +2,7 @@
 
 //! The cluster levels by their names and by their numbers.
 
-use vukhaso::buffer::{BufferClusterLevel, UnicodeBuffer};
+use vukhaso::internals::buffer::{BufferClusterLevel, UnicodeBuffer};
 
 #[test]
 fn levels_have_names_and_numbers() {

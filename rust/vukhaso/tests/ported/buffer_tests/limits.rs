@@ -1,7 +1,7 @@
 // Written by tools/plain_rust from crates/buffer_tests. Do not edit.
 
 use crate::buffer_tests::lists::buffer_of;
-use vukhaso::buffer::hb_buffer_t;
+use vukhaso::internals::buffer::hb_buffer_t;
 
 fn set_max_len(buffer: &mut hb_buffer_t, len: usize) {
     assert!(buffer.len() <= len && buffer.out_len() <= len);

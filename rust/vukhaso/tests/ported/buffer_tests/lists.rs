@@ -2,7 +2,7 @@
 
 //! Buffers and lists of glyphs for tests.
 
-use vukhaso::buffer::{UnicodeBuffer, hb_buffer_t, hb_glyph_info_t};
+use vukhaso::internals::buffer::{UnicodeBuffer, hb_buffer_t, hb_glyph_info_t};
 use vukhaso::memory::{AllocError, String};
 
 /// Asserts the clusters and the masks of the glyphs.

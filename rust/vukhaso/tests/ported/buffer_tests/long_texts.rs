@@ -4,9 +4,9 @@
 
 use crate::Fail;
 use crate::buffer_tests::lists::long_text;
-use vukhaso::buffer::{GlyphBuffer, NoGlyphNames, SerializeFlags, UnicodeBuffer};
+use vukhaso::internals::buffer::{GlyphBuffer, NoGlyphNames, SerializeFlags, UnicodeBuffer};
+use vukhaso::internals::runs::{Answer, Call, RenderFault, render};
 use vukhaso::memory::String;
-use vukhaso::runs::{Answer, Call, RenderFault, render};
 
 /// How many letters there are.
 const COUNT: usize = 200_000;

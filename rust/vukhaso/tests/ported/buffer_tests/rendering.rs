@@ -1,8 +1,8 @@
 // Written by tools/plain_rust from crates/buffer_tests. Do not edit.
 
 use crate::Fail;
-use vukhaso::buffer::{BufferClusterLevel, Feature, GlyphBuffer, Tag};
-use vukhaso::runs::{Answer, Call, RenderFault, render, render_at};
+use vukhaso::internals::buffer::{BufferClusterLevel, Feature, GlyphBuffer, Tag};
+use vukhaso::internals::runs::{Answer, Call, RenderFault, render, render_at};
 
 fn kern(value: u32, start: u32, end: u32) -> Feature {
     Feature {

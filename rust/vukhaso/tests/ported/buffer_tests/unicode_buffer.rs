@@ -1,7 +1,7 @@
 // Written by tools/plain_rust from crates/buffer_tests. Do not edit.
 
 use crate::Fail;
-use vukhaso::buffer::{
+use vukhaso::internals::buffer::{
     BufferClusterLevel, BufferFlags, Direction, Language, Script, UnicodeBuffer, script,
 };
 use vukhaso::memory::String;

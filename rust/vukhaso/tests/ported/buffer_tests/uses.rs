@@ -13,9 +13,11 @@ use crate::shaping_uses::rendering::render_with_ligature;
 use crate::shaping_uses::room::{put_marks, put_marks_within_room};
 use crate::shaping_uses::runs::{first_two_as_one, ligate_first_two};
 use std::str::FromStr;
-use vukhaso::buffer::{Feature, SerializeFlags, UnicodeBuffer, hb_buffer_t, hb_glyph_info_t};
-use vukhaso::glyph::NoGlyphNames;
-use vukhaso::runs::Answer;
+use vukhaso::internals::buffer::{
+    Feature, SerializeFlags, UnicodeBuffer, hb_buffer_t, hb_glyph_info_t,
+};
+use vukhaso::internals::glyph::NoGlyphNames;
+use vukhaso::internals::runs::Answer;
 
 fn assert_masks(glyphs: &[hb_glyph_info_t], want: &[u32]) {
     assert!(glyphs.len() == want.len());

@@ -2,10 +2,10 @@
 
 //! Tests of `color_glyphs`. The boxes in font units are those that HarfBuzz's `hb-shape --show-extents` prints for a font of six
 //! glyphs with these tables, of which an em has 1,000 units.
-use vukhaso::color_glyphs::strikes::{Strikes, best_strike, wanted_size};
-use vukhaso::color_glyphs::{CbdtTables, ColrTable, PixelBox, SbixTable};
-use vukhaso::common::GlyphId;
-use vukhaso::glyph::GlyphExtents;
+use vukhaso::internals::color_glyphs::strikes::{Strikes, best_strike, wanted_size};
+use vukhaso::internals::color_glyphs::{CbdtTables, ColrTable, PixelBox, SbixTable};
+use vukhaso::internals::common::GlyphId;
+use vukhaso::internals::glyph::GlyphExtents;
 
 /// The numbers of a box: its left side, its top, its width and its height.
 type Numbers = [i32; 4];

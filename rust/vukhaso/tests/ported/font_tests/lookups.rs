@@ -7,11 +7,11 @@ mod contexts;
 mod edits;
 mod glyphs;
 
-use vukhaso::font_tables::bytes::tail;
-use vukhaso::font_tables::gdef::Gdef;
-use vukhaso::glyph::hb_glyph_info_t;
-use vukhaso::glyph_layout::lookup_list::SUBSTITUTION_EXTENSION;
-use vukhaso::glyph_layout::{LookupList, LookupOptions};
+use vukhaso::internals::font_tables::bytes::tail;
+use vukhaso::internals::font_tables::gdef::Gdef;
+use vukhaso::internals::glyph::hb_glyph_info_t;
+use vukhaso::internals::glyph_layout::lookup_list::SUBSTITUTION_EXTENSION;
+use vukhaso::internals::glyph_layout::{LookupList, LookupOptions};
 use vukhaso::memory::{AllocError, Vec};
 
 /// A table in numbers of 16 bits.

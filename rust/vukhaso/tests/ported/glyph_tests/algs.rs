@@ -1,6 +1,6 @@
 // Written by tools/plain_rust from crates/glyph_tests. Do not edit.
 
-use vukhaso::glyph::algs::*;
+use vukhaso::internals::glyph::algs::*;
 
 #[test]
 fn words_have_the_bits_that_are_named() {

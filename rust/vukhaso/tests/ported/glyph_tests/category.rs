@@ -1,6 +1,8 @@
 // Written by tools/plain_rust from crates/glyph_tests. Do not edit.
 
-use vukhaso::glyph::category::{GeneralCategoryExt, hb_unicode_general_category_t as Category};
+use vukhaso::internals::glyph::category::{
+    GeneralCategoryExt, hb_unicode_general_category_t as Category,
+};
 
 /// Categories and their numbers, and whether they are of marks and of letters.
 static CATEGORIES: [(Category, u32, bool, bool); 8] = [

@@ -1,11 +1,11 @@
 // Written by tools/plain_rust from crates/glyph_tests. Do not edit.
 
 use crate::Fail;
-use vukhaso::glyph::hb_unicode_funcs_t::*;
-use vukhaso::glyph::{
+use vukhaso::internals::glyph::hb_unicode_funcs_t::*;
+use vukhaso::internals::glyph::{
     CharExt, CombiningClasses, Mirrors, hb_unicode_general_category_t as Category,
 };
-use vukhaso::text::tag::Tag;
+use vukhaso::internals::text::tag::Tag;
 
 /// Characters, the tags of their scripts, their categories and the kinds of spaces that they are.
 static KINDS: [(char, &[u8; 4], Category, space_t); 9] = [

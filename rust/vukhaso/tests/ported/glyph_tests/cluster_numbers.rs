@@ -1,8 +1,8 @@
 // Written by tools/plain_rust from crates/glyph_tests. Do not edit.
 
 use crate::Fail;
-use vukhaso::glyph::hb_glyph_info_t;
-use vukhaso::glyph_lists::cluster_numbers::reset_clusters;
+use vukhaso::internals::glyph::hb_glyph_info_t;
+use vukhaso::internals::glyph_lists::cluster_numbers::reset_clusters;
 
 fn glyph(glyph_id: u32, cluster: u32) -> hb_glyph_info_t {
     hb_glyph_info_t {

@@ -1,7 +1,7 @@
 // Written by tools/plain_rust from crates/glyph_tests. Do not edit.
 
 use crate::glyph_tests::lists::glyphs;
-use vukhaso::glyph_lists::cluster_reads::ClusterReads;
+use vukhaso::internals::glyph_lists::cluster_reads::ClusterReads;
 
 #[test]
 fn each_cluster_that_is_read_is_counted() {

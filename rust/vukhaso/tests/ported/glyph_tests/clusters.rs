@@ -1,7 +1,7 @@
 // Written by tools/plain_rust from crates/glyph_tests. Do not edit.
 
 use crate::glyph_tests::lists::{assert_clusters, assert_glyphs, glyph, glyphs};
-use vukhaso::glyph_lists::clusters::{set_cluster, set_sides};
+use vukhaso::internals::glyph_lists::clusters::{set_cluster, set_sides};
 
 #[test]
 fn a_change_of_cluster_takes_the_flags() {

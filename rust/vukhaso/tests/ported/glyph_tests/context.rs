@@ -1,7 +1,7 @@
 // Written by tools/plain_rust from crates/glyph_tests. Do not edit.
 
 use crate::Fail;
-use vukhaso::glyph_lists::context::{Context, keep_after, keep_before};
+use vukhaso::internals::glyph_lists::context::{Context, keep_after, keep_before};
 
 #[test]
 fn the_last_five_characters_before_a_text_are_kept_outward() -> Result<(), Fail> {

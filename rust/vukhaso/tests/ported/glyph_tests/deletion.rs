@@ -1,8 +1,8 @@
 // Written by tools/plain_rust from crates/glyph_tests. Do not edit.
 
 use crate::glyph_tests::lists::{assert_clusters, assert_glyphs, glyph, glyphs};
-use vukhaso::glyph_lists::cluster_order::ClusterOrder::{Any, Monotone};
-use vukhaso::glyph_lists::deletion::{keep_cluster, merges_next, set_trailing_run};
+use vukhaso::internals::glyph_lists::cluster_order::ClusterOrder::{Any, Monotone};
+use vukhaso::internals::glyph_lists::deletion::{keep_cluster, merges_next, set_trailing_run};
 
 /// What was put out, if anything, and the current glyph with the two glyphs after it.
 #[test]

@@ -1,6 +1,6 @@
 // Written by tools/plain_rust from crates/glyph_tests. Do not edit.
 
-use vukhaso::glyph::{BufferFlags, GlyphPropsFlags, SerializeFlags, UnicodeProps};
+use vukhaso::internals::glyph::{BufferFlags, GlyphPropsFlags, SerializeFlags, UnicodeProps};
 
 #[test]
 fn a_set_is_its_bits() {

@@ -2,8 +2,8 @@
 
 //! A font for tests.
 
-use vukhaso::glyph::{GlyphExtents, GlyphNames};
-use vukhaso::text::GlyphId;
+use vukhaso::internals::glyph::{GlyphExtents, GlyphNames};
+use vukhaso::internals::text::GlyphId;
 
 /// A font that knows glyph 5 by name and extents, and nothing else.
 pub(crate) struct Five;

@@ -1,10 +1,10 @@
 // Written by tools/plain_rust from crates/glyph_tests. Do not edit.
 
 use crate::glyph_tests::lists::{assert_masks, glyph, glyphs};
-use vukhaso::glyph_lists::cluster_order::ClusterOrder;
-use vukhaso::glyph_lists::cluster_order::ClusterOrder::{Any, Monotone};
-use vukhaso::glyph_lists::glyph_flags::scan_slice;
-use vukhaso::glyph_lists::range_change::{RangeChange, change};
+use vukhaso::internals::glyph_lists::cluster_order::ClusterOrder;
+use vukhaso::internals::glyph_lists::cluster_order::ClusterOrder::{Any, Monotone};
+use vukhaso::internals::glyph_lists::glyph_flags::scan_slice;
+use vukhaso::internals::glyph_lists::range_change::{RangeChange, change};
 
 /// Clusters, a range, their order, and the masks after the scan.
 static SCANS: [([u32; 4], usize, usize, ClusterOrder, [u32; 4]); 6] = [

@@ -1,9 +1,9 @@
 // Written by tools/plain_rust from crates/glyph_tests. Do not edit.
 
 use crate::Fail;
-use vukhaso::glyph::hb_glyph_info_t;
-use vukhaso::glyph_lists::guess::{first_script, guess_direction};
-use vukhaso::text::{Direction, script};
+use vukhaso::internals::glyph::hb_glyph_info_t;
+use vukhaso::internals::glyph_lists::guess::{first_script, guess_direction};
+use vukhaso::internals::text::{Direction, script};
 
 fn item(c: char) -> hb_glyph_info_t {
     hb_glyph_info_t {

@@ -1,7 +1,7 @@
 // Written by tools/plain_rust from crates/glyph_tests. Do not edit.
 
-use vukhaso::glyph::{GlyphInfo, glyph_flag, hb_glyph_info_t};
-use vukhaso::text::GlyphId;
+use vukhaso::internals::glyph::{GlyphInfo, glyph_flag, hb_glyph_info_t};
+use vukhaso::internals::text::GlyphId;
 
 #[test]
 fn properties_share_words() {

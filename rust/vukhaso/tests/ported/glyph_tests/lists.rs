@@ -2,7 +2,7 @@
 
 //! Lists of glyphs for tests.
 
-use vukhaso::glyph::hb_glyph_info_t;
+use vukhaso::internals::glyph::hb_glyph_info_t;
 
 /// A glyph in the cluster, with the mask.
 pub(crate) fn glyph(cluster: u32, mask: u32) -> hb_glyph_info_t {

@@ -1,7 +1,7 @@
 // Written by tools/plain_rust from crates/glyph_tests. Do not edit.
 
 use crate::glyph_tests::lists::{assert_glyphs, glyph, glyphs};
-use vukhaso::glyph_lists::masks::{reset_masks, set_masks};
+use vukhaso::internals::glyph_lists::masks::{reset_masks, set_masks};
 
 #[test]
 fn each_mask_is_reset() {

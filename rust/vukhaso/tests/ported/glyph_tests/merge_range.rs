@@ -1,8 +1,8 @@
 // Written by tools/plain_rust from crates/glyph_tests. Do not edit.
 
 use crate::glyph_tests::lists::glyphs;
-use vukhaso::glyph_lists::cluster_reads::ClusterReads;
-use vukhaso::glyph_lists::merge_range::{PairChange, merge_range, pair_change};
+use vukhaso::internals::glyph_lists::cluster_reads::ClusterReads;
+use vukhaso::internals::glyph_lists::merge_range::{PairChange, merge_range, pair_change};
 
 #[test]
 fn a_range_is_widened_through_the_runs_at_its_ends() {

@@ -1,8 +1,8 @@
 // Written by tools/plain_rust from crates/glyph_tests. Do not edit.
 
 use crate::glyph_tests::lists::{glyph, glyphs};
-use vukhaso::glyph_lists::cluster_order::ClusterOrder::{Any, Monotone};
-use vukhaso::glyph_lists::merged_head::{keeps_head, lowered_head};
+use vukhaso::internals::glyph_lists::cluster_order::ClusterOrder::{Any, Monotone};
+use vukhaso::internals::glyph_lists::merged_head::{keeps_head, lowered_head};
 
 /// The input, how many of its glyphs are merged, and whether the current glyph and what is behind them
 /// stay.

@@ -1,8 +1,8 @@
 // Written by tools/plain_rust from crates/glyph_tests. Do not edit.
 
 use crate::glyph_tests::lists::{assert_clusters, assert_glyphs, glyph, glyphs};
-use vukhaso::glyph_lists::cluster_order::ClusterOrder;
-use vukhaso::glyph_lists::merging::{merge_input, merge_out, merge_slice};
+use vukhaso::internals::glyph_lists::cluster_order::ClusterOrder;
+use vukhaso::internals::glyph_lists::merging::{merge_input, merge_out, merge_slice};
 
 /// How many were put out, clusters, a range, and the clusters after the merge.
 static MERGES: [(usize, [u32; 4], usize, usize, [u32; 4]); 11] = [

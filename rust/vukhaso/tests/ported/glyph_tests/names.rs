@@ -1,8 +1,8 @@
 // Written by tools/plain_rust from crates/glyph_tests. Do not edit.
 
 use crate::glyph_tests::font::Five;
-use vukhaso::glyph::{GlyphNames, NoGlyphNames};
-use vukhaso::text::GlyphId;
+use vukhaso::internals::glyph::{GlyphNames, NoGlyphNames};
+use vukhaso::internals::text::GlyphId;
 
 /// The length of a glyph's name and the width of the glyph, 0 where they are not known.
 fn measures_of<F: GlyphNames>(font: &F, glyph: GlyphId) -> (usize, i32) {

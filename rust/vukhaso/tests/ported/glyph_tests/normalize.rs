@@ -1,7 +1,7 @@
 // Written by tools/plain_rust from crates/glyph_tests. Do not edit.
 
 use crate::Fail;
-use vukhaso::glyph::{Compositions, Decompositions, compose, decompose};
+use vukhaso::internals::glyph::{Compositions, Decompositions, compose, decompose};
 
 #[test]
 fn hangul_goes_before_the_table() -> Result<(), Fail> {

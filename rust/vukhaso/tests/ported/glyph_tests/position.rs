@@ -1,6 +1,6 @@
 // Written by tools/plain_rust from crates/glyph_tests. Do not edit.
 
-use vukhaso::glyph::GlyphPosition;
+use vukhaso::internals::glyph::GlyphPosition;
 
 #[test]
 fn chain_and_type_share_a_word() {

@@ -1,8 +1,8 @@
 // Written by tools/plain_rust from crates/glyph_tests. Do not edit.
 
 use crate::glyph_tests::lists::{assert_clusters, glyphs};
-use vukhaso::glyph::GlyphPosition;
-use vukhaso::glyph_lists::reversal::reverse;
+use vukhaso::internals::glyph::GlyphPosition;
+use vukhaso::internals::glyph_lists::reversal::reverse;
 
 #[test]
 fn glyphs_are_put_into_reverse_order() {

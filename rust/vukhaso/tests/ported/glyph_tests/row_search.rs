@@ -1,7 +1,7 @@
 // Written by tools/plain_rust from crates/glyph_tests. Do not edit.
 
 use std::cmp::Ordering;
-use vukhaso::glyph::row_search::{
+use vukhaso::internals::glyph::row_search::{
     holds, range_order, rises, row_at, row_of, value_of, value_of_pair,
 };
 

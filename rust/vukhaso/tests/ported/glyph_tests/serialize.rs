@@ -2,8 +2,8 @@
 
 use crate::Fail;
 use crate::glyph_tests::font::Five;
-use vukhaso::glyph::{GlyphPosition, SerializeFlags, hb_glyph_info_t};
-use vukhaso::glyph_text::serialize::*;
+use vukhaso::internals::glyph::{GlyphPosition, SerializeFlags, hb_glyph_info_t};
+use vukhaso::internals::glyph_text::serialize::*;
 
 /// The texts of the glyphs 5 and 6 below, a line for each set of flags.
 const TEXTS: &str = "\

@@ -1,10 +1,10 @@
 // Written by tools/plain_rust from crates/glyph_tests. Do not edit.
 
 use crate::glyph_tests::lists::{assert_clusters, assert_masks, glyph};
-use vukhaso::glyph_lists::cluster_order::ClusterOrder;
-use vukhaso::glyph_lists::glyph_flags::BREAK_BITS;
-use vukhaso::glyph_lists::range_change::RangeChange;
-use vukhaso::glyph_sides::Sides;
+use vukhaso::internals::glyph_lists::cluster_order::ClusterOrder;
+use vukhaso::internals::glyph_lists::glyph_flags::BREAK_BITS;
+use vukhaso::internals::glyph_lists::range_change::RangeChange;
+use vukhaso::internals::glyph_sides::Sides;
 
 /// A list of glyphs in these clusters.
 fn list(clusters: &[u32]) -> Sides {

@@ -1,6 +1,6 @@
 // Written by tools/plain_rust from crates/glyph_tests. Do not edit.
 
-use vukhaso::glyph::{CombiningClasses, Compositions, Decompositions, Mirrors};
+use vukhaso::internals::glyph::{CombiningClasses, Compositions, Decompositions, Mirrors};
 
 #[test]
 fn a_table_has_rising_rows() {

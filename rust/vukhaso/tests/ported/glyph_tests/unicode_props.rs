@@ -1,7 +1,7 @@
 // Written by tools/plain_rust from crates/glyph_tests. Do not edit.
 
 use crate::Fail;
-use vukhaso::glyph::{CombiningClasses, hb_buffer_scratch_flags_t, hb_glyph_info_t};
+use vukhaso::internals::glyph::{CombiningClasses, hb_buffer_scratch_flags_t, hb_glyph_info_t};
 
 /// Characters, their properties and the scratch flags that they set, where U+0301 has class 230
 /// and U+0651 class 33.

@@ -2,7 +2,7 @@
 
 //! Tests of how values are printed by `Debug`.
 use crate::Fail;
-use vukhaso::glyph::{
+use vukhaso::internals::glyph::{
     BufferFlags, CombiningClasses, Compositions, Decompositions, GlyphExtents, GlyphPosition,
     GlyphPropsFlags, Mirrors, SerializeFlags, UnicodeProps, hb_glyph_info_t,
     hb_unicode_general_category_t,

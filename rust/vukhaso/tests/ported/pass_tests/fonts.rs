@@ -4,8 +4,10 @@
 //! there, and a first part that is not is taken apart too.
 
 use crate::Fail;
-use vukhaso::buffer::{Decompositions, UnicodeBuffer, hb_buffer_t};
-use vukhaso::passes::normalization::{FontCharacters, Parts, add_font_parts, decompose_all};
+use vukhaso::internals::buffer::{Decompositions, UnicodeBuffer, hb_buffer_t};
+use vukhaso::internals::passes::normalization::{
+    FontCharacters, Parts, add_font_parts, decompose_all,
+};
 
 static DECOMPOSITIONS: [(char, char, Option<char>); 3] = [
     ('\u{1e63}', 's', Some('\u{323}')),

@@ -1,9 +1,9 @@
 // Written by tools/plain_rust from crates/pass_tests. Do not edit.
 
 use crate::Fail;
-use vukhaso::buffer::{GlyphPosition, hb_glyph_info_t};
+use vukhaso::internals::buffer::{GlyphPosition, hb_glyph_info_t};
+use vukhaso::internals::passes::line_ends;
 use vukhaso::memory::{AllocError, Vec};
-use vukhaso::passes::line_ends;
 
 /// The cluster, the mask and the advance of each glyph, the widths of the lines, and where the lines end.
 struct Case {

@@ -4,8 +4,8 @@
 //! back merges the clusters from its new place up to itself, or at levels 2 and 3 marks the glyphs outside their least one.
 
 use crate::Fail;
-use vukhaso::buffer::{CombiningClasses, UnicodeBuffer, hb_buffer_t};
-use vukhaso::passes::order_marks;
+use vukhaso::internals::buffer::{CombiningClasses, UnicodeBuffer, hb_buffer_t};
+use vukhaso::internals::passes::order_marks;
 
 static CLASSES: [(char, u8); 3] = [('\u{301}', 230), ('\u{315}', 232), ('\u{323}', 220)];
 

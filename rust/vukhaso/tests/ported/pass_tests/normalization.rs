@@ -3,8 +3,10 @@
 //! The rows are those of the Unicode Character Database, and the texts those of its `NormalizationTest.txt`.
 
 use crate::Fail;
-use vukhaso::buffer::{CombiningClasses, Compositions, Decompositions, UnicodeBuffer, hb_buffer_t};
-use vukhaso::passes::{compose_marks, decompose_all, order_marks};
+use vukhaso::internals::buffer::{
+    CombiningClasses, Compositions, Decompositions, UnicodeBuffer, hb_buffer_t,
+};
+use vukhaso::internals::passes::{compose_marks, decompose_all, order_marks};
 
 static DECOMPOSITIONS: [(char, char, Option<char>); 7] = [
     ('\u{c5}', 'A', Some('\u{30a}')),

@@ -4,8 +4,8 @@
 //! Standard, section 3.12, and the classes of Arabic marks those by which HarfBuzz puts them in order.
 
 use crate::Fail;
-use vukhaso::buffer::{CombiningClasses, Compositions, Decompositions, hb_glyph_info_t};
-use vukhaso::passes::normalization::{CharacterPairs, FontCharacters, MarkClasses};
+use vukhaso::internals::buffer::{CombiningClasses, Compositions, Decompositions, hb_glyph_info_t};
+use vukhaso::internals::passes::normalization::{CharacterPairs, FontCharacters, MarkClasses};
 
 static DECOMPOSITIONS: [(char, char, Option<char>); 3] = [
     ('\u{c5}', 'A', Some('\u{30a}')),

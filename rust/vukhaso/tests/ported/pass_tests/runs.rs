@@ -3,10 +3,10 @@
 //! Runs of marks: where one ends, and what one becomes whose marks are put in order (the Unicode Standard, section 3.11).
 
 use crate::Fail;
-use vukhaso::buffer::{CombiningClasses, UnicodeBuffer, hb_buffer_t, hb_glyph_info_t};
+use vukhaso::internals::buffer::{CombiningClasses, UnicodeBuffer, hb_buffer_t, hb_glyph_info_t};
+use vukhaso::internals::passes::normalization::{MOST_MARKS, MarkClasses, order_run, run_end};
+use vukhaso::internals::passes::order_marks;
 use vukhaso::memory::String;
-use vukhaso::passes::normalization::{MOST_MARKS, MarkClasses, order_run, run_end};
-use vukhaso::passes::order_marks;
 
 static CLASSES: [(char, u8); 3] = [('\u{301}', 230), ('\u{315}', 232), ('\u{323}', 220)];
 

@@ -4,8 +4,8 @@
 //! the last starter is.
 
 use crate::Fail;
-use vukhaso::buffer::{CombiningClasses, Compositions, UnicodeBuffer, hb_buffer_t};
-use vukhaso::passes::normalization::{CharacterPairs, MarkClasses, next_turn};
+use vukhaso::internals::buffer::{CombiningClasses, Compositions, UnicodeBuffer, hb_buffer_t};
+use vukhaso::internals::passes::normalization::{CharacterPairs, MarkClasses, next_turn};
 
 static COMPOSITIONS: [((char, char), char); 2] =
     [(('a', '\u{300}'), '\u{e0}'), (('s', '\u{323}'), '\u{1e63}')];

@@ -1,7 +1,7 @@
 // Written by tools/plain_rust from crates/pass_tests. Do not edit.
 
-use vukhaso::buffer::{BufferFlags, GlyphId, UnicodeBuffer, UnicodeProps, hb_buffer_t};
-use vukhaso::passes::hide_default_ignorables;
+use vukhaso::internals::buffer::{BufferFlags, GlyphId, UnicodeBuffer, UnicodeProps, hb_buffer_t};
+use vukhaso::internals::passes::hide_default_ignorables;
 
 /// The buffer's flags, its invisible glyph, and the ids that are left of a, U+200D ZERO WIDTH JOINER and b.
 static CASES: [(BufferFlags, Option<GlyphId>, &[u32]); 4] = [

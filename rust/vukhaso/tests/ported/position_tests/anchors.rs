@@ -3,13 +3,13 @@
 //! Anchors and the arrays in which they stand, after the OpenType specification, "GPOS - Glyph Positioning Table".
 
 use crate::position_tests::bytes::bytes_of;
-use vukhaso::font_tables::scale::Scale;
-use vukhaso::font_variations::Deltas;
-use vukhaso::memory::AllocError;
-use vukhaso::position_tables::anchors::{
+use vukhaso::internals::font_tables::scale::Scale;
+use vukhaso::internals::font_variations::Deltas;
+use vukhaso::internals::position_tables::anchors::{
     Anchor, anchor_in, ligature_matrix, mark_anchor, mark_class,
 };
-use vukhaso::position_tables::instance::Instance;
+use vukhaso::internals::position_tables::instance::Instance;
+use vukhaso::memory::AllocError;
 
 /// Where an anchor is: across and up, and how far it is moved.
 type Place = (i16, i16, i32, i32);

@@ -3,8 +3,10 @@
 //! The table `kern`, after the OpenType specification and Apple's reference manual.
 
 use crate::position_tests::bytes::bytes_of;
+use vukhaso::internals::position_tables::kern_table::{
+    KernTable, classed_value, pair_row, pair_value,
+};
 use vukhaso::memory::AllocError;
-use vukhaso::position_tables::kern_table::{KernTable, classed_value, pair_row, pair_value};
 
 /// A subtable of pairs with the header of Windows, for horizontal lines: 10 and 11 by -51, and 10 and 12 by 30.
 const PAIRS: &[u16] = &[0, 26, 1, 2, 0, 0, 0, 10, 11, 0xFFCD, 10, 12, 30];

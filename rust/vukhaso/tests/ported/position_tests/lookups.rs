@@ -4,21 +4,23 @@
 //! HarfBuzz makes of the same tables.
 
 use crate::position_tests::bytes::bytes_of;
-use vukhaso::buffer::{UnicodeBuffer, hb_buffer_t, hb_glyph_info_t};
-use vukhaso::common::Direction;
-use vukhaso::font_tables::bytes::tail;
-use vukhaso::font_tables::gdef::Gdef;
-use vukhaso::font_tables::scale::Scale;
-use vukhaso::font_variations::Deltas;
-use vukhaso::glyph::GlyphPosition;
-use vukhaso::glyph_layout::budget::Budget;
-use vukhaso::glyph_layout::lookup_list::LookupList;
-use vukhaso::glyph_layout::search::Search;
-use vukhaso::glyph_layout::walk::LookupOptions;
-use vukhaso::glyph_positions::{Setting, kern, position, position_finish_offsets, position_start};
+use vukhaso::internals::buffer::{UnicodeBuffer, hb_buffer_t, hb_glyph_info_t};
+use vukhaso::internals::common::Direction;
+use vukhaso::internals::font_tables::bytes::tail;
+use vukhaso::internals::font_tables::gdef::Gdef;
+use vukhaso::internals::font_tables::scale::Scale;
+use vukhaso::internals::font_variations::Deltas;
+use vukhaso::internals::glyph::GlyphPosition;
+use vukhaso::internals::glyph_layout::budget::Budget;
+use vukhaso::internals::glyph_layout::lookup_list::LookupList;
+use vukhaso::internals::glyph_layout::search::Search;
+use vukhaso::internals::glyph_layout::walk::LookupOptions;
+use vukhaso::internals::glyph_positions::{
+    Setting, kern, position, position_finish_offsets, position_start,
+};
+use vukhaso::internals::position_tables::instance::Instance;
+use vukhaso::internals::position_tables::kern_table::KernTable;
 use vukhaso::memory::{AllocError, Vec};
-use vukhaso::position_tables::instance::Instance;
-use vukhaso::position_tables::kern_table::KernTable;
 
 /// The bits of the only feature.
 const OPTIONS: LookupOptions = LookupOptions {

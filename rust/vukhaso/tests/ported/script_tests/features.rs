@@ -4,12 +4,12 @@
 //! Script" and "for Hangul Script").
 
 use crate::Fail;
-use vukhaso::common::{Script, Tag, script};
-use vukhaso::layout_plan::builder::ChosenTable;
-use vukhaso::layout_plan::{FeatureFlags, Pause, PlanBuilder};
+use vukhaso::internals::common::{Script, Tag, script};
+use vukhaso::internals::layout_plan::builder::ChosenTable;
+use vukhaso::internals::layout_plan::{FeatureFlags, Pause, PlanBuilder};
+use vukhaso::internals::script_features::{collect_features, override_features, script_plan};
+use vukhaso::internals::script_shapers::{ScriptPlan, ScriptShaper};
 use vukhaso::memory::AllocError;
-use vukhaso::script_features::{collect_features, override_features, script_plan};
-use vukhaso::script_shapers::{ScriptPlan, ScriptShaper};
 
 /// A table `GSUB` whose script `DFLT` has one feature, of the tag at the places 32 to 35, with the table's one lookup.
 const TABLE: [u8; 54] = [

@@ -4,7 +4,7 @@
 
 use crate::Fail;
 use crate::script_tests::texts::{TestFont, assert_characters, buffer_of, plan_of};
-use vukhaso::script_shapers::ScriptShaper;
+use vukhaso::internals::script_shapers::ScriptShaper;
 
 /// A font with jamo, syllables and tone marks, of which one has no width.
 const FONT: TestFont = TestFont {

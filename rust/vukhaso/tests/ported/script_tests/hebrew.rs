@@ -3,7 +3,7 @@
 //! Hebrew letters with marks.
 
 use crate::Fail;
-use vukhaso::script_shapers::ScriptShaper;
+use vukhaso::internals::script_shapers::ScriptShaper;
 
 /// A letter and a mark become a presentation form where the font does not place marks, and only in
 /// Hebrew.

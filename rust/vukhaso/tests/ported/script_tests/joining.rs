@@ -4,8 +4,8 @@
 
 use crate::Fail;
 use crate::script_tests::texts::{buffer_of, plan_of};
-use vukhaso::buffer::hb_buffer_t;
-use vukhaso::script_shapers::ScriptShaper;
+use vukhaso::internals::buffer::hb_buffer_t;
+use vukhaso::internals::script_shapers::ScriptShaper;
 
 const FINA: u32 = 0x20;
 

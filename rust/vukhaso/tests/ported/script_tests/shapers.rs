@@ -4,8 +4,8 @@
 //! characters join, by Unicode's ArabicShaping.txt.
 
 use crate::Fail;
-use vukhaso::common::{Direction, Script, Tag, script};
-use vukhaso::script_shapers::{
+use vukhaso::internals::common::{Direction, Script, Tag, script};
+use vukhaso::internals::script_shapers::{
     JoiningType, NormalizationMode, ScriptShaper, ZeroWidthMarks, joining_type,
 };
 

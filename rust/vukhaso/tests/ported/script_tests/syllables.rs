@@ -3,10 +3,10 @@
 //! Tables of syllables. What is expected is what OpenType's documents and HarfBuzz's tables have.
 
 use crate::Fail;
-use vukhaso::syllable_tables::machines::{
+use vukhaso::internals::syllable_tables::machines::{
     indic_machine, khmer_machine, myanmar_machine, universal_machine,
 };
-use vukhaso::syllable_tables::{
+use vukhaso::internals::syllable_tables::{
     Category, Machine, Position, UniversalCategory, category_of, third_vowel, universal_category_of,
 };
 

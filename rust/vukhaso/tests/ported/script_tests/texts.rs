@@ -2,8 +2,8 @@
 
 //! Texts, a font and plans for tests.
 
-use vukhaso::buffer::{CombiningClasses, UnicodeBuffer, hb_buffer_t, hb_glyph_info_t};
-use vukhaso::script_shapers::{FontGlyphs, ScriptPlan, ScriptShaper};
+use vukhaso::internals::buffer::{CombiningClasses, UnicodeBuffer, hb_buffer_t, hb_glyph_info_t};
+use vukhaso::internals::script_shapers::{FontGlyphs, ScriptPlan, ScriptShaper};
 
 /// The class of a mark, since a table of classes has a row.
 static CLASSES: [(char, u8); 1] = [('\u{302e}', 224)];

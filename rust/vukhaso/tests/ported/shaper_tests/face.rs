@@ -4,9 +4,9 @@
 
 use crate::Fail;
 use crate::shaper_tests::upright::UPRIGHT;
-use vukhaso::common::GlyphId;
-use vukhaso::font_shaper::{Face, FaceNames};
-use vukhaso::glyph::{GlyphNames, hb_glyph_info_t};
+use vukhaso::internals::common::GlyphId;
+use vukhaso::internals::font_shaper::{Face, FaceNames};
+use vukhaso::internals::glyph::{GlyphNames, hb_glyph_info_t};
 
 /// The glyphs, advances and origins of a letter.
 #[test]

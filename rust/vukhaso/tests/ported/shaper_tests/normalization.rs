@@ -4,16 +4,16 @@
 
 use crate::Fail;
 use crate::shaper_tests::upright::UPRIGHT;
-use vukhaso::buffer::{BufferClusterLevel, UnicodeBuffer, hb_buffer_t, hb_glyph_info_t};
-use vukhaso::common::GlyphId;
-use vukhaso::font_normalization::glyph_info::{
+use vukhaso::internals::buffer::{BufferClusterLevel, UnicodeBuffer, hb_buffer_t, hb_glyph_info_t};
+use vukhaso::internals::common::GlyphId;
+use vukhaso::internals::font_normalization::glyph_info::{
     clear_variation_selector, general_category, is_continuation, is_nonspacing_mark,
     is_unicode_mark, is_unicode_space, is_variation_selector, modified_combining_class,
     set_modified_combining_class, set_unicode_props, space_fallback,
 };
-use vukhaso::font_normalization::{allows_any_order, normalize};
-use vukhaso::font_shaper::Face;
-use vukhaso::script_shapers::{ScriptPlan, ScriptShaper};
+use vukhaso::internals::font_normalization::{allows_any_order, normalize};
+use vukhaso::internals::font_shaper::Face;
+use vukhaso::internals::script_shapers::{ScriptPlan, ScriptShaper};
 
 /// The characters of a text with their properties, in a buffer whose invisible glyph is 1.
 fn buffer_of(text: &str) -> hb_buffer_t {

@@ -4,9 +4,9 @@
 
 use crate::Fail;
 use crate::shaper_tests::upright::UPRIGHT;
-use vukhaso::buffer::{BufferFlags, Direction, Language, SerializeFlags, UnicodeBuffer};
-use vukhaso::common::script;
-use vukhaso::font_shaper::{
+use vukhaso::internals::buffer::{BufferFlags, Direction, Language, SerializeFlags, UnicodeBuffer};
+use vukhaso::internals::common::script;
+use vukhaso::internals::font_shaper::{
     Face, FaceNames, KeptPlan, ShapeError, ShapePlan, shape_with_kept_plan, shape_with_plan,
 };
 

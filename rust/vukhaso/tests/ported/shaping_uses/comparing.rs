@@ -2,7 +2,7 @@
 
 //! Two shapings, compared by their texts.
 
-use vukhaso::buffer::{GlyphBuffer, GlyphPosition, hb_glyph_info_t};
+use vukhaso::internals::buffer::{GlyphBuffer, GlyphPosition, hb_glyph_info_t};
 
 /// Two shapings have equal texts under `NO_GLYPH_NAMES` and `GLYPH_FLAGS` exactly where they have as
 /// many glyphs, with equal numbers, clusters, offsets, advances and glyph flags, whatever the fonts

@@ -2,7 +2,7 @@
 
 //! Groups of neighbours: clusters are counted and put into reverse order, and marks stay behind their bases.
 
-use vukhaso::buffer::{_cluster_group_func, hb_buffer_t};
+use vukhaso::internals::buffer::{_cluster_group_func, hb_buffer_t};
 
 /// Puts the clusters of a line into reverse order, as a line from right to left asks for, each cluster
 /// in its own order, with their positions, where there are any.

@@ -3,9 +3,9 @@
 //! Calls while the output is in place, in the storage of the input. They take no memory, so they never run out of it.
 //! It is so of single calls, and of a list of them.
 
-use vukhaso::buffer::hb_buffer_t;
+use vukhaso::internals::buffer::hb_buffer_t;
+use vukhaso::internals::runs::{Answer, Call, replay};
 use vukhaso::memory::AllocError;
-use vukhaso::runs::{Answer, Call, replay};
 
 /// Puts the glyph at the cursor out.
 ///

@@ -2,7 +2,7 @@
 
 //! A ligature stands for each f that an i follows.
 
-use vukhaso::buffer::hb_buffer_t;
+use vukhaso::internals::buffer::hb_buffer_t;
 use vukhaso::memory::AllocError;
 
 /// The ids of a text's characters, before a font gave them glyphs.

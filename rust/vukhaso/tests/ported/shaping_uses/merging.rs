@@ -2,7 +2,7 @@
 
 //! Two characters are merged, and the cluster numbers read.
 
-use vukhaso::buffer::{UnicodeBuffer, hb_glyph_info_t};
+use vukhaso::internals::buffer::{UnicodeBuffer, hb_glyph_info_t};
 use vukhaso::memory::{AllocError, TryIterator, Vec};
 
 /// The cluster numbers of a text after its first two characters became one cluster.

@@ -2,8 +2,8 @@
 
 //! A text is pushed, and printed as HarfBuzz prints glyphs.
 
-use vukhaso::buffer::{GlyphBuffer, SerializeFlags, UnicodeBuffer};
-use vukhaso::glyph::NoGlyphNames;
+use vukhaso::internals::buffer::{GlyphBuffer, SerializeFlags, UnicodeBuffer};
+use vukhaso::internals::glyph::NoGlyphNames;
 use vukhaso::memory::{AllocError, String};
 
 /// The characters of a text with their clusters, before any font gave them glyphs.

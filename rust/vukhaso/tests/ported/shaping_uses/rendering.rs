@@ -2,8 +2,8 @@
 
 //! A text from end to end: its characters, one feature, a list of calls, and glyphs with positions.
 
-use vukhaso::buffer::{Feature, GlyphBuffer};
-use vukhaso::runs::{Answer, Call, RenderFault, render};
+use vukhaso::internals::buffer::{Feature, GlyphBuffer};
+use vukhaso::internals::runs::{Answer, Call, RenderFault, render};
 
 /// Renders a text with a feature, and with a ligature in place of its first two glyphs, and answers
 /// each of the three calls: `Outside` for the second where there are no two glyphs.

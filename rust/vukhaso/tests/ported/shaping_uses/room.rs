@@ -3,7 +3,7 @@
 //! Memory that is taken once: after one `ensure` a pass that puts out more than it reads asks for none, so it never runs
 //! out of it.
 
-use vukhaso::buffer::hb_buffer_t;
+use vukhaso::internals::buffer::hb_buffer_t;
 use vukhaso::memory::AllocError;
 
 /// Puts a copy of each glyph under the id of a mark before it, so that the list becomes twice as long.

@@ -2,9 +2,9 @@
 
 //! Lists of calls, made by `replay`.
 
-use vukhaso::buffer::{UnicodeBuffer, hb_buffer_t};
+use vukhaso::internals::buffer::{UnicodeBuffer, hb_buffer_t};
+use vukhaso::internals::runs::{Answer, Call, Stopped, replay};
 use vukhaso::memory::AllocError;
-use vukhaso::runs::{Answer, Call, Stopped, replay};
 
 /// Puts the first two characters of a text into one cluster.
 ///

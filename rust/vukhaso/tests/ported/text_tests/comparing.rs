@@ -4,4 +4,4 @@
 use crate::Fail;
 use std::cmp::Ordering;
 use std::ops::Bound;
-use vukhaso::text::{Feature, Tag, script};
+use vukhaso::internals::text::{Feature, Tag, script};

@@ -1,6 +1,6 @@
 // Written by tools/plain_rust from crates/text_tests. Do not edit.
 
-use vukhaso::text::{Direction, script};
+use vukhaso::internals::text::{Direction, script};
 
 /// A text, the direction that it names, and what that is.
 struct Row<'a> {

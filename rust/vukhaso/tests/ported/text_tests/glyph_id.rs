@@ -1,6 +1,6 @@
 // Written by tools/plain_rust from crates/text_tests. Do not edit.
 
-use vukhaso::text::{GlyphId, hb_codepoint_t};
+use vukhaso::internals::text::{GlyphId, hb_codepoint_t};
 
 #[test]
 fn a_glyph_id_is_its_number() {

@@ -1,8 +1,8 @@
 // Written by tools/plain_rust from crates/text_tests. Do not edit.
 
 use crate::Fail;
+use vukhaso::internals::text::{Language, LanguageError};
 use vukhaso::memory::{String, TryText};
-use vukhaso::text::{Language, LanguageError};
 
 #[test]
 fn a_language_is_its_text_in_small_letters() -> Result<(), Fail> {

@@ -1,8 +1,8 @@
 // Written by tools/plain_rust from crates/text_tests. Do not edit.
 
 //! Tests of the constants by name, of other names of a script, and of texts in any case.
-use vukhaso::text::script::*;
-use vukhaso::text::{Tag, TagExt};
+use vukhaso::internals::text::script::*;
+use vukhaso::internals::text::{Tag, TagExt};
 
 // Each constant, beside the ISO 15924 code that its name has in Unicode Standard Annex 24.
 

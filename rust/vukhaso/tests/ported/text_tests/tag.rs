@@ -1,6 +1,6 @@
 // Written by tools/plain_rust from crates/text_tests. Do not edit.
 
-use vukhaso::text::{Tag, TagExt};
+use vukhaso::internals::text::{Tag, TagExt};
 
 /// Texts, their tags, and the tags in capitals.
 static TAGS: [(&str, u32, u32); 7] = [

@@ -2,7 +2,7 @@
 
 //! Tests of tags: tables, and complex cases. `rows/calls/tags.calls` has scripts and languages of every form.
 use crate::Fail;
-use vukhaso::text::{
+use vukhaso::internals::text::{
     ComplexLanguages, Language, LanguageTable, NoComplexLanguages, Script, SmallVecExt, Tag,
     TagExt, ThreeTags, tags_from_script_and_language,
 };

@@ -1,6 +1,6 @@
 // Written by tools/plain_rust from crates/text_tests. Do not edit.
 
-use vukhaso::text::{Tag, TextParser};
+use vukhaso::internals::text::{Tag, TextParser};
 
 #[test]
 fn bytes_are_read_from_the_left() {

@@ -2,10 +2,10 @@
 
 //! Tests of how values are printed by `Debug`.
 use crate::Fail;
-use vukhaso::memory::String;
-use vukhaso::text::{
+use vukhaso::internals::text::{
     Direction, Feature, GlyphId, Language, LanguageError, LanguageTable, Tag, script,
 };
+use vukhaso::memory::String;
 
 #[test]
 fn values_are_printed_by_their_fields() -> Result<(), Fail> {

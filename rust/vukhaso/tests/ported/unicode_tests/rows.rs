@@ -3,8 +3,12 @@
 //! Rows as the Unicode Character Database writes them.
 
 use crate::Fail;
-use vukhaso::glyph::{CharExt, CombiningClasses, Compositions, Decompositions, compose, decompose};
-use vukhaso::unicode_tables::{UnicodeRows, combining_classes, compositions, decompositions};
+use vukhaso::internals::glyph::{
+    CharExt, CombiningClasses, Compositions, Decompositions, compose, decompose,
+};
+use vukhaso::internals::unicode_tables::{
+    UnicodeRows, combining_classes, compositions, decompositions,
+};
 
 /// Characters and their mappings in field 5 of `UnicodeData.txt`: singletons, pairs, pairs of more than two characters
 /// in all, pairs that are excluded from composition, and a Hangul syllable by the rule of section 3.12.

@@ -1,10 +1,10 @@
 // Written by tools/plain_rust from crates/variation_tests. Do not edit.
 
 //! Tests of axes, named instances and segment maps.
-use vukhaso::common::Tag;
-use vukhaso::font_variations::regions::coordinate;
-use vukhaso::font_variations::user_variations::{last_with_tag, value_on};
-use vukhaso::font_variations::{AxisMaps, Variation, VariationAxes};
+use vukhaso::internals::common::Tag;
+use vukhaso::internals::font_variations::regions::coordinate;
+use vukhaso::internals::font_variations::user_variations::{last_with_tag, value_on};
+use vukhaso::internals::font_variations::{AxisMaps, Variation, VariationAxes};
 
 /// A weight from 100 over 400 to 900, and an instance at 700.
 static FVAR: [u8; 44] = [

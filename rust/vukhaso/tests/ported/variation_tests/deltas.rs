@@ -1,10 +1,10 @@
 // Written by tools/plain_rust from crates/variation_tests. Do not edit.
 
 //! Tests of regions, deltas and delta set index maps.
-use vukhaso::font_variations::index_map::IndexMap;
-use vukhaso::font_variations::regions::{axis_scalar, is_at_peak, is_disordered};
-use vukhaso::font_variations::rounding::{float, rounded};
-use vukhaso::font_variations::{Deltas, VariationStore};
+use vukhaso::internals::font_variations::index_map::IndexMap;
+use vukhaso::internals::font_variations::regions::{axis_scalar, is_at_peak, is_disordered};
+use vukhaso::internals::font_variations::rounding::{float, rounded};
+use vukhaso::internals::font_variations::{Deltas, VariationStore};
 
 /// A region that reaches from the default to the greatest coordinate, and two rows of bytes, 100 and -50.
 static STORE: [u8; 32] = [

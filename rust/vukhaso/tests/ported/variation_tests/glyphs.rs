@@ -1,10 +1,10 @@
 // Written by tools/plain_rust from crates/variation_tests. Do not edit.
 
 //! Tests of `glyph_variations`: a triangle whose corner and advance move to the right.
-use vukhaso::common::GlyphId;
-use vukhaso::font_tables::metrics::Metrics;
-use vukhaso::glyph_outlines::GlyfTables;
-use vukhaso::glyph_variations::{
+use vukhaso::internals::common::GlyphId;
+use vukhaso::internals::font_tables::metrics::Metrics;
+use vukhaso::internals::glyph_outlines::GlyfTables;
+use vukhaso::internals::glyph_variations::{
     GlyphSources, GlyphVariations, Point, varied_outline, varied_phantoms,
 };
 

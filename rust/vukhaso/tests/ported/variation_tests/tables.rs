@@ -1,9 +1,9 @@
 // Written by tools/plain_rust from crates/variation_tests. Do not edit.
 
 //! Tests of `HVAR`, `VVAR`, `MVAR` and feature variations.
-use vukhaso::common::{GlyphId, Tag};
-use vukhaso::font_variations::feature_variations::substitute_of;
-use vukhaso::font_variations::{MetricsVariations, ValueVariations, substitutions_of};
+use vukhaso::internals::common::{GlyphId, Tag};
+use vukhaso::internals::font_variations::feature_variations::substitute_of;
+use vukhaso::internals::font_variations::{MetricsVariations, ValueVariations, substitutions_of};
 
 /// Deltas of advances by the numbers of glyphs, 100 and -50 at the greatest coordinate, with no map for bearings.
 static HVAR: [u8; 52] = [

@@ -3,8 +3,8 @@
 //! Texts and buffers in which each thing that can be said of them was said, so that none can go unseen.
 
 use crate::fault_tests::scenario::Lost;
-use vukhaso::buffer::{BufferFlags, GlyphBuffer, UnicodeBuffer, hb_buffer_t};
-use vukhaso::text::{Direction, GlyphId, Language, script};
+use vukhaso::internals::buffer::{BufferFlags, GlyphBuffer, UnicodeBuffer, hb_buffer_t};
+use vukhaso::internals::text::{Direction, GlyphId, Language, script};
 
 /// Flags that have glyphs marked as unsafe to concatenate, and as safe for a tatweel.
 const FLAGS: u32 = 0xC0;

@@ -5,7 +5,7 @@
 use crate::fault_tests::beginning::begun_text_with_room;
 use crate::fault_tests::scenario::{Lost, Scenario};
 use crate::fault_tests::seen::{same_buffers, same_texts};
-use vukhaso::buffer::{UnicodeBuffer, hb_buffer_t};
+use vukhaso::internals::buffer::{UnicodeBuffer, hb_buffer_t};
 use vukhaso::memory::AllocError;
 
 /// A call that makes a text grow.

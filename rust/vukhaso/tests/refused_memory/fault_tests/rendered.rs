@@ -5,9 +5,9 @@
 use crate::fault_tests::run::MOST;
 use crate::fault_tests::scenario::{Lost, Scenario};
 use crate::fault_tests::seen::same_shaped;
-use vukhaso::buffer::{BufferClusterLevel, GlyphBuffer};
-use vukhaso::runs::{Answer, Call, RenderFault, render, render_at};
-use vukhaso::text::{Feature, Tag};
+use vukhaso::internals::buffer::{BufferClusterLevel, GlyphBuffer};
+use vukhaso::internals::runs::{Answer, Call, RenderFault, render, render_at};
+use vukhaso::internals::text::{Feature, Tag};
 
 /// A text with features, and with calls of which one puts out more than it reads.
 #[derive(Clone, Copy)]

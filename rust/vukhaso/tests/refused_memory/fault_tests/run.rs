@@ -5,9 +5,9 @@
 use crate::fault_tests::beginning::begun_buffer;
 use crate::fault_tests::scenario::{Lost, Scenario};
 use crate::fault_tests::seen::same_buffers;
-use vukhaso::buffer::hb_buffer_t;
+use vukhaso::internals::buffer::hb_buffer_t;
+use vukhaso::internals::runs::{Answer, Call, replay};
 use vukhaso::memory::{AllocError, Vec};
-use vukhaso::runs::{Answer, Call, replay};
 
 /// The most calls of a list.
 pub const MOST: usize = 12;

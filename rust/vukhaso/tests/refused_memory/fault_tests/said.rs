@@ -4,8 +4,8 @@
 
 use crate::fault_tests::beginning::begun_text;
 use crate::fault_tests::scenario::{Lost, Scenario};
-use vukhaso::buffer::UnicodeBuffer;
-use vukhaso::text::{
+use vukhaso::internals::buffer::UnicodeBuffer;
+use vukhaso::internals::text::{
     Language, LanguageTable, NoComplexLanguages, Tag, ThreeTags, script,
     tags_from_script_and_language,
 };

@@ -3,7 +3,7 @@
 //! A scenario: what is prepared, the calls that are watched, and what may be lost.
 
 use std::io;
-use vukhaso::buffer::LanguageError;
+use vukhaso::internals::buffer::LanguageError;
 use vukhaso::memory::AllocError;
 
 /// What was not as promised.

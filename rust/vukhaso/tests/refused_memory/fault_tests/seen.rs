@@ -2,7 +2,9 @@
 
 //! All that can be seen of a buffer, compared with what is seen of another one.
 
-use vukhaso::buffer::{GlyphBuffer, GlyphPosition, UnicodeBuffer, hb_buffer_t, hb_glyph_info_t};
+use vukhaso::internals::buffer::{
+    GlyphBuffer, GlyphPosition, UnicodeBuffer, hb_buffer_t, hb_glyph_info_t,
+};
 
 /// Whether two buffers cannot be told apart.
 ///

@@ -4,10 +4,10 @@
 
 use crate::fault_tests::beginning::begun_buffer;
 use crate::fault_tests::scenario::{Lost, Scenario};
-use vukhaso::buffer::{GlyphBuffer, SerializeFlags};
-use vukhaso::glyph::{GlyphExtents, GlyphNames};
+use vukhaso::internals::buffer::{GlyphBuffer, SerializeFlags};
+use vukhaso::internals::glyph::{GlyphExtents, GlyphNames};
+use vukhaso::internals::text::GlyphId;
 use vukhaso::memory::{AllocError, String, Vec};
-use vukhaso::text::GlyphId;
 
 /// A font that knows each glyph by one name.
 struct Known;

@@ -2,7 +2,7 @@
 
 //! What is known of every buffer, from its accessors alone.
 
-use vukhaso::buffer::{UnicodeBuffer, hb_buffer_t};
+use vukhaso::internals::buffer::{UnicodeBuffer, hb_buffer_t};
 
 /// With no output open nothing was put out.
 ///

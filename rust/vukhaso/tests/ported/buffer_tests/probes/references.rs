@@ -2,7 +2,7 @@
 
 //! Writes through a buffer's references and public fields: each lands at its one place, and nothing else changes.
 
-use vukhaso::buffer::hb_buffer_t;
+use vukhaso::internals::buffer::hb_buffer_t;
 
 /// Writes a mask on the out side.
 ///

@@ -3,10 +3,12 @@
 //! What a lookup of ligatures does, and for which glyphs it has a rule.
 
 use crate::font_tests::lookups::{JOINER, OPTIONS, bytes_of, fill, list_of};
-use vukhaso::glyph::hb_glyph_info_t;
-use vukhaso::glyph_layout::substitution::{Edit, edit_at};
-use vukhaso::glyph_layout::subtable::{Form, positioning_form, substitution_form};
-use vukhaso::glyph_layout::{Budget, Digest, LookupList, Search, Sides, Walk, would_substitute};
+use vukhaso::internals::glyph::hb_glyph_info_t;
+use vukhaso::internals::glyph_layout::substitution::{Edit, edit_at};
+use vukhaso::internals::glyph_layout::subtable::{Form, positioning_form, substitution_form};
+use vukhaso::internals::glyph_layout::{
+    Budget, Digest, LookupList, Search, Sides, Walk, would_substitute,
+};
 use vukhaso::memory::AllocError;
 
 /// A table `GSUB` with one lookup: 10, 11 and 12 become the ligature 20, and 10 and 13 the ligature 21.

@@ -3,17 +3,17 @@
 //! Sets of glyphs, what a lookup passes over, and the parts of ligatures.
 
 use crate::font_tests::lookups::bytes_of;
-use vukhaso::font_tables::coverage::Coverage;
-use vukhaso::glyph::hb_glyph_info_t;
-use vukhaso::glyph_layout::filter::covered_index;
-use vukhaso::glyph_layout::first_glyphs::FirstGlyphs;
-use vukhaso::glyph_layout::glyph_table::Glyphs;
-use vukhaso::glyph_layout::ligature_parts::{
+use vukhaso::internals::font_tables::coverage::Coverage;
+use vukhaso::internals::glyph::hb_glyph_info_t;
+use vukhaso::internals::glyph_layout::filter::covered_index;
+use vukhaso::internals::glyph_layout::first_glyphs::FirstGlyphs;
+use vukhaso::internals::glyph_layout::glyph_table::Glyphs;
+use vukhaso::internals::glyph_layout::ligature_parts::{
     component_count, ligature_component, ligature_id, ligature_properties, mark_properties,
 };
-use vukhaso::glyph_layout::subtable::{behind_list, table_or_empty};
-use vukhaso::glyph_layout::summary::{Summary, summary_of};
-use vukhaso::glyph_layout::{Budget, Digest, Filter, LookupOptions, Reach, Walk};
+use vukhaso::internals::glyph_layout::subtable::{behind_list, table_or_empty};
+use vukhaso::internals::glyph_layout::summary::{Summary, summary_of};
+use vukhaso::internals::glyph_layout::{Budget, Digest, Filter, LookupOptions, Reach, Walk};
 use vukhaso::memory::AllocError;
 
 /// A glyph with these glyph properties and ligature properties.

@@ -1,8 +1,8 @@
 // Written by tools/plain_rust from crates/font_tests. Do not edit.
 
 use crate::Fail;
-use vukhaso::common::Tag;
-use vukhaso::font_tables::directory::{Tables, face_count};
+use vukhaso::internals::common::Tag;
+use vukhaso::internals::font_tables::directory::{Tables, face_count};
 
 /// A font with two tables: `abcd` with the bytes 1, 2, 3, and `efgh`, which says that it has 100 bytes and has two.
 const FONT: &[u8] = &[

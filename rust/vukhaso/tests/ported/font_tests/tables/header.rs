@@ -1,8 +1,10 @@
 // Written by tools/plain_rust from crates/font_tests. Do not edit.
 
-use vukhaso::font_tables::bytes::part;
-use vukhaso::font_tables::extents::{FontExtents, horizontal_extents, long_metric_count};
-use vukhaso::font_tables::head::{glyph_count, index_to_loc_format, units_per_em};
+use vukhaso::internals::font_tables::bytes::part;
+use vukhaso::internals::font_tables::extents::{
+    FontExtents, horizontal_extents, long_metric_count,
+};
+use vukhaso::internals::font_tables::head::{glyph_count, index_to_loc_format, units_per_em};
 
 /// A table `head` with 2048 units to an em, and offsets of 32 bits in `loca`.
 static HEAD: [u8; 54] = [

@@ -1,10 +1,10 @@
 // Written by tools/plain_rust from crates/font_tests. Do not edit.
 
-use vukhaso::common::GlyphId;
-use vukhaso::font_tables::class_definition::ClassDefinition;
-use vukhaso::font_tables::coverage::Coverage;
-use vukhaso::font_tables::gdef::Gdef;
-use vukhaso::font_tables::ignored_gdef::is_ignored;
+use vukhaso::internals::common::GlyphId;
+use vukhaso::internals::font_tables::class_definition::ClassDefinition;
+use vukhaso::internals::font_tables::coverage::Coverage;
+use vukhaso::internals::font_tables::gdef::Gdef;
+use vukhaso::internals::font_tables::ignored_gdef::is_ignored;
 
 /// The specification's example of a coverage table of format 1.
 const LISTED: &[u8] = &[0, 1, 0, 5, 0, 0x38, 0, 0x3B, 0, 0x41, 0, 0x42, 0, 0x4A];

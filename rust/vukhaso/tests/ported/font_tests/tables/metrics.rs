@@ -1,9 +1,9 @@
 // Written by tools/plain_rust from crates/font_tests. Do not edit.
 
-use vukhaso::common::GlyphId;
-use vukhaso::font_tables::bytes::part;
-use vukhaso::font_tables::metrics::Metrics;
-use vukhaso::font_tables::vertical_origins::VerticalOrigins;
+use vukhaso::internals::common::GlyphId;
+use vukhaso::internals::font_tables::bytes::part;
+use vukhaso::internals::font_tables::metrics::Metrics;
+use vukhaso::internals::font_tables::vertical_origins::VerticalOrigins;
 
 /// Two advances with a side bearing each, and two more side bearings.
 static HMTX: [u8; 12] = [1, 244, 0, 10, 2, 88, 255, 236, 0, 30, 0, 40];

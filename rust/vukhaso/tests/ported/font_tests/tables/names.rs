@@ -1,8 +1,8 @@
 // Written by tools/plain_rust from crates/font_tests. Do not edit.
 
 use crate::Fail;
-use vukhaso::common::GlyphId;
-use vukhaso::font_tables::glyph_names::PostNames;
+use vukhaso::internals::common::GlyphId;
+use vukhaso::internals::font_tables::glyph_names::PostNames;
 
 /// A table `post` with names of its own for the glyphs 1 and 2, and a number that it has no name for.
 const POST: &[u8] = &[

@@ -1,11 +1,14 @@
 // Written by tools/plain_rust from crates/font_tests. Do not edit.
 
 use std::cmp::Ordering;
-use vukhaso::font_tables::bisection::{KeyedRows, beside_key, row_with};
-use vukhaso::font_tables::bytes::{
+use vukhaso::internals::font_tables::bisection::{KeyedRows, beside_key, row_with};
+use vukhaso::internals::font_tables::bytes::{
     i16_at, part, table_at_16, table_at_32, tail, u8_at, u16_at, u24_at, u32_at,
 };
-use vukhaso::font_tables::rows::{Keys16, Numbers16, Rows, first_row, rises, rows_within};
+use vukhaso::internals::font_tables::rows::{
+    Keys16, Numbers16, Rows, first_row, rises, rows_within,
+};
+use vukhaso::internals::numbers::Chunks;
 
 static TABLE: [u8; 8] = [0x01, 0x02, 0x03, 0x04, 0xFF, 0xFE, 0x00, 0x00];
 
@@ -53,7 +56,7 @@ fn the_first_row_reaches_a_key() {
         start: 0,
         size: 2,
     };
-    let numbers = Numbers16(&[[0, 2], [0, 4], [0, 4], [0, 9]]);
+    let numbers = Numbers16(Chunks::from(&[[0, 2], [0, 4], [0, 4], [0, 9]]));
     let (are_rising, do_rise) = (rises(&rows, 4), rises(&numbers, 4));
     assert!(are_rising && do_rise && numbers.last(3) == Some(9) && numbers.last(4).is_none());
     for &(key, row) in &REACHED {

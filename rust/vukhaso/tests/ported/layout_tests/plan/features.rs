@@ -5,13 +5,13 @@
 use crate::Fail;
 use crate::layout_tests::plan::TABLE;
 use std::ops::Bound;
-use vukhaso::common::{Direction, Tag};
-use vukhaso::layout_plan::builder::ChosenTable;
-use vukhaso::layout_plan::{
+use vukhaso::internals::common::{Direction, Tag};
+use vukhaso::internals::layout_plan::builder::ChosenTable;
+use vukhaso::internals::layout_plan::{
     FeatureFlags, FontLayout, KernLayout, LayoutPlan, Pause, PlanBuilder, ShapePlan, ShaperRules,
     TextProperties,
 };
-use vukhaso::text::Feature;
+use vukhaso::internals::text::Feature;
 
 /// A builder for Latin text in a language.
 fn builder(languages: &[Tag]) -> PlanBuilder<'static> {

@@ -3,9 +3,9 @@
 //! The bits of features, and what is asked of one tag.
 
 use crate::Fail;
-use vukhaso::common::Tag;
-use vukhaso::layout_plan::bits::{FeatureBits, bits_needed};
-use vukhaso::layout_plan::{FeatureFlags, FeatureRequest};
+use vukhaso::internals::common::Tag;
+use vukhaso::internals::layout_plan::bits::{FeatureBits, bits_needed};
+use vukhaso::internals::layout_plan::{FeatureFlags, FeatureRequest};
 
 /// The mask of bits, and values in them.
 #[test]

@@ -4,10 +4,10 @@
 
 use crate::Fail;
 use crate::layout_tests::plan::TABLE;
-use vukhaso::common::Tag;
-use vukhaso::layout_plan::LayoutTable;
-use vukhaso::layout_plan::builder::ChosenTable;
-use vukhaso::layout_plan::choice::{
+use vukhaso::internals::common::Tag;
+use vukhaso::internals::layout_plan::LayoutTable;
+use vukhaso::internals::layout_plan::builder::ChosenTable;
+use vukhaso::internals::layout_plan::choice::{
     feature_count, required_feature, select_language, select_script,
 };
 

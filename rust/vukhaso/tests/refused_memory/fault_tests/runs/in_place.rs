@@ -4,8 +4,8 @@
 //! drop, merge or mark glyphs.
 
 use crate::fault_tests::run::{PLAIN, Run};
-use vukhaso::glyph::hb_glyph_info_t;
-use vukhaso::runs::Call;
+use vukhaso::internals::glyph::hb_glyph_info_t;
+use vukhaso::internals::runs::Call;
 
 /// A glyph of the caller's.
 pub const GLYPH: hb_glyph_info_t = hb_glyph_info_t {

@@ -4,7 +4,7 @@
 
 use super::in_place::GLYPH;
 use crate::fault_tests::run::{PLAIN, Run};
-use vukhaso::runs::Call;
+use vukhaso::internals::runs::Call;
 
 /// A separate output of one glyph.
 const SEPARATE: &[Call<'static>] = &[Call::ClearOutput, Call::CopyGlyph];

@@ -3,7 +3,7 @@
 //! Lists of calls from the text on, and room that is made ahead.
 
 use crate::fault_tests::run::{PLAIN, Run};
-use vukhaso::runs::Call;
+use vukhaso::internals::runs::Call;
 
 pub static WHOLE: [Run<'static>; 9] = [
     Run {

@@ -5,7 +5,7 @@
 
 use super::in_place::GLYPH;
 use crate::fault_tests::run::{PLAIN, Run};
-use vukhaso::runs::Call;
+use vukhaso::internals::runs::Call;
 
 pub static WITHIN_ROOM: [Run<'static>; 4] = [
     Run {

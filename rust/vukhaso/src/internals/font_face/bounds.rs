@@ -1,0 +1,113 @@
+// Written by tools/plain_rust from crates/font_face. Do not edit.
+
+//! The bounds of glyphs at the size at which a font is used, and at the place that is chosen in its variations.
+
+use crate::common::GlyphId;
+use crate::font_face::color::ColorTables;
+use crate::font_face::face::Face;
+use crate::font_face::measures::scaled_bounds;
+use crate::font_tables::metrics::Metrics;
+use crate::font_tables::scale::Scale;
+use crate::glyph::GlyphExtents;
+use crate::glyph_outlines::{Cff2Table, Outlines};
+use crate::glyph_variations::{GlyphSources, GlyphVariations, varied_outline};
+use crate::memory::AllocError;
+
+/// What the bounds of a font's glyphs are found from.
+#[derive(Clone, Copy, Debug)]
+pub(crate) struct BoundsSource<'a> {
+    /// Bitmaps, and glyphs that are drawn in colours.
+    pub color: ColorTables<'a>,
+    /// The outlines.
+    pub outlines: Outlines<'a>,
+    /// The outlines of the table `CFF2`, where the font has one.
+    pub outlines_2: Option<Cff2Table<'a>>,
+    /// The variations of outlines of the table `glyf`.
+    pub variations: GlyphVariations<'a>,
+    /// Advances and side bearings in horizontal lines.
+    pub horizontal: Metrics<'a>,
+    /// Advances and side bearings in vertical lines.
+    pub vertical: Metrics<'a>,
+    /// The size.
+    pub scale: Scale,
+}
+
+impl<'a> BoundsSource<'a> {
+    /// What the bounds of a font's glyphs are found from.
+    pub(crate) fn new(face: &Face<'a>) -> Self {
+        BoundsSource {
+            color: face.color,
+            outlines: face.outlines,
+            outlines_2: face.variations.outlines_2,
+            variations: face.variations.glyphs,
+            horizontal: face.horizontal,
+            vertical: face.vertical,
+            scale: face.scale,
+        }
+    }
+
+    /// The tables of outlines and their variations.
+    pub(crate) fn glyph_sources(&self) -> GlyphSources<'a> {
+        GlyphSources {
+            outlines: self.outlines.glyf,
+            variations: self.variations,
+            horizontal: self.horizontal,
+            vertical: self.vertical,
+        }
+    }
+
+    /// The bounds of a glyph at a place in the variations: of its bitmap, or else of its colours, or of its
+    /// outline; `None` where the font has none of these.
+    pub(crate) fn bounds(
+        &self,
+
+        glyph: GlyphId,
+        coordinates: &[i32],
+    ) -> Result<Option<GlyphExtents>, AllocError> {
+        if let Some(found) = self.color.bounds(glyph, coordinates, &self.scale) {
+            return Ok(Some(found));
+        }
+        let found = self.outline_extents(glyph, coordinates)?;
+        Ok(found.map(|extents| scaled_bounds(extents, &self.scale)))
+    }
+
+    /// The bounds of a glyph's outline, in font units: of that in the table `glyf`, or else in `CFF2`, or
+    /// in `CFF `.
+    fn outline_extents(
+        &self,
+
+        glyph: GlyphId,
+        coordinates: &[i32],
+    ) -> Result<Option<GlyphExtents>, AllocError> {
+        let drawn = self.glyf_extents(glyph, coordinates)?;
+        Ok(match drawn {
+            Some(extents) => Some(extents),
+            None => self.charstring_extents(glyph, coordinates),
+        })
+    }
+
+    /// The bounds of a glyph's outline in the table `glyf`, in font units.
+    fn glyf_extents(
+        &self,
+
+        glyph: GlyphId,
+        coordinates: &[i32],
+    ) -> Result<Option<GlyphExtents>, AllocError> {
+        if coordinates.is_empty() {
+            let bearing = self.horizontal.side_bearing(glyph);
+            return Ok(self.outlines.glyf.glyph_extents(glyph, bearing));
+        }
+        let outline = varied_outline(&self.glyph_sources(), glyph, coordinates)?;
+        Ok(outline.map(|outline| outline.extents))
+    }
+
+    /// The bounds of what a glyph's charstring draws, in font units.
+    fn charstring_extents(&self, glyph: GlyphId, coordinates: &[i32]) -> Option<GlyphExtents> {
+        if let Some(table) = self.outlines_2 {
+            if let Some(extents) = table.glyph_extents(glyph, coordinates) {
+                return Some(extents);
+            }
+        }
+        self.outlines.cff?.glyph_extents(glyph)
+    }
+}

@@ -1,0 +1,258 @@
+// Written by tools/plain_rust from crates/font_positions. Do not edit.
+
+//! Where glyphs stand before any lookup moves them.
+
+use crate::apple_substitution::deletion::is_deleted;
+use crate::buffer::{
+    BufferFlags, GlyphPosition, HB_BUFFER_SCRATCH_FLAG_HAS_DEFAULT_IGNORABLES,
+    HB_BUFFER_SCRATCH_FLAG_HAS_SPACE_FALLBACK, hb_buffer_t, hb_glyph_info_t,
+};
+use crate::common::GlyphId;
+use crate::font_face::Face;
+use crate::font_positions::fallback_spaces::space_advance;
+use crate::font_positions::glyph_info::{is_default_ignorable, is_mark};
+use crate::memory::AllocError;
+
+/// Gives each glyph the font's advance at its size, and in vertical lines its vertical origin. A space
+/// that the font has no glyph for is as wide as its kind says.
+///
+/// # Requires
+///
+/// That no output is open.
+///
+/// - `buffer.old.have_output ≡ false`
+///
+/// # Errors
+///
+/// `Err(AllocError)` where memory runs out for the points of an outline that varies.
+///
+/// # Proved
+///
+/// ```text
+/// ensures closed { buffer.new.have_output ≡ false }
+/// ensures placed { IsSome buffer.new.positions }
+/// ensures keeps { KeepsClusters buffer.old buffer.new }
+/// ```
+pub fn position_glyphs(buffer: &mut hb_buffer_t, face: &Face) -> Result<(), AllocError> {
+    debug_assert!(!buffer.have_output());
+    let is_horizontal = buffer.direction.is_horizontal();
+    let has_spaces = buffer.scratch_flags & HB_BUFFER_SCRATCH_FLAG_HAS_SPACE_FALLBACK != 0;
+    let invisible = buffer.invisible;
+    buffer.clear_positions();
+    if is_horizontal && !has_spaces {
+        advance_glyphs(buffer, face);
+        return Ok(());
+    }
+    for i in 0..buffer.len() {
+        let Some(info) = buffer.info().get(i) else {
+            break;
+        };
+        let mut position = font_position(face, glyph_of(info), is_horizontal)?;
+        if has_spaces {
+            let advance = advance_of(&mut position, is_horizontal);
+            *advance = space_advance(info, *advance, face, is_horizontal, invisible);
+        }
+        set_position(buffer, i, position);
+    }
+    Ok(())
+}
+
+/// Gives each glyph of a horizontal line the font's advance.
+///
+/// # Requires
+///
+/// - `closed: buffer.old.have_output ≡ false`
+/// - `placed: IsSome buffer.old.positions`
+fn advance_glyphs(buffer: &mut hb_buffer_t, face: &Face) {
+    debug_assert!(!buffer.have_output());
+    debug_assert!(buffer.have_positions());
+    for i in 0..buffer.len() {
+        let Some(info) = buffer.info().get(i) else {
+            break;
+        };
+        let advance = face.glyph_hor_advance(glyph_of(info));
+        if let Some(position) = buffer.pos_mut().get_mut(i) {
+            position.x_advance = advance;
+        }
+    }
+}
+
+/// The glyph of an item.
+fn glyph_of(info: &hb_glyph_info_t) -> GlyphId {
+    GlyphId(u16::try_from(info.glyph_id).unwrap_or(0))
+}
+
+/// Sets the position at a place.
+///
+/// # Requires
+///
+/// - `closed: buffer.old.have_output ≡ false`
+/// - `placed: IsSome buffer.old.positions`
+fn set_position(buffer: &mut hb_buffer_t, place: usize, position: GlyphPosition) {
+    debug_assert!(!buffer.have_output());
+    debug_assert!(buffer.have_positions());
+    if let Some(own) = buffer.pos_mut().get_mut(place) {
+        *own = position;
+    }
+}
+
+/// The advance in the direction of the line.
+fn advance_of(position: &mut GlyphPosition, is_horizontal: bool) -> &mut i32 {
+    if is_horizontal {
+        &mut position.x_advance
+    } else {
+        &mut position.y_advance
+    }
+}
+
+/// The position that the font gives a glyph.
+fn font_position(
+    face: &Face,
+    glyph: GlyphId,
+    is_horizontal: bool,
+) -> Result<GlyphPosition, AllocError> {
+    if is_horizontal {
+        return Ok(GlyphPosition {
+            x_advance: face.glyph_hor_advance(glyph),
+            ..GlyphPosition::default()
+        });
+    }
+    let (x, y) = face.vertical_origin(glyph)?;
+    Ok(GlyphPosition {
+        y_advance: face.glyph_ver_advance(glyph),
+        x_offset: x.wrapping_neg(),
+        y_offset: y.wrapping_neg(),
+        ..GlyphPosition::default()
+    })
+}
+
+/// Takes the advance of each glyph that is a mark by its font; moves the mark back by it if `adjusts`
+/// says so.
+///
+/// # Requires
+///
+/// Positions, and that no output is open.
+///
+/// - `closed: buffer.old.have_output ≡ false`
+/// - `placed: IsSome buffer.old.positions`
+///
+/// # Proved
+///
+/// ```text
+/// ensures closed { buffer.new.have_output ≡ false }
+/// ensures placed { IsSome buffer.new.positions }
+/// ensures keeps { KeepsClusters buffer.old buffer.new }
+/// ```
+#[inline]
+pub fn zero_mark_widths(buffer: &mut hb_buffer_t, adjusts: bool) {
+    debug_assert!(!buffer.have_output());
+    debug_assert!(buffer.have_positions());
+    for i in 0..buffer.len() {
+        if buffer.info().get(i).is_some_and(|info| is_mark(info)) {
+            if let Some(position) = buffer.pos_mut().get_mut(i) {
+                zero_mark_width(position, adjusts);
+            }
+        }
+    }
+}
+
+/// Takes the advance of a mark.
+pub(crate) fn zero_mark_width(position: &mut GlyphPosition, adjusts: bool) {
+    if adjusts {
+        position.x_offset = position.x_offset.wrapping_sub(position.x_advance);
+        position.y_offset = position.y_offset.wrapping_sub(position.y_advance);
+    }
+    position.x_advance = 0;
+    position.y_advance = 0;
+}
+
+/// Takes the advances and offsets of characters that are invisible by default, unless the buffer's
+/// flags say that they are kept or removed.
+///
+/// # Requires
+///
+/// Positions, and that no output is open.
+///
+/// - `closed: buffer.old.have_output ≡ false`
+/// - `placed: IsSome buffer.old.positions`
+///
+/// # Proved
+///
+/// ```text
+/// ensures closed { buffer.new.have_output ≡ false }
+/// ensures placed { IsSome buffer.new.positions }
+/// ensures keeps { KeepsClusters buffer.old buffer.new }
+/// ```
+#[inline]
+pub fn zero_width_default_ignorables(buffer: &mut hb_buffer_t) {
+    debug_assert!(!buffer.have_output());
+    debug_assert!(buffer.have_positions());
+    if buffer.scratch_flags & HB_BUFFER_SCRATCH_FLAG_HAS_DEFAULT_IGNORABLES == 0
+        || buffer
+            .flags
+            .contains(BufferFlags::PRESERVE_DEFAULT_IGNORABLES)
+        || buffer
+            .flags
+            .contains(BufferFlags::REMOVE_DEFAULT_IGNORABLES)
+    {
+        return;
+    }
+    for i in 0..buffer.len() {
+        if buffer
+            .info()
+            .get(i)
+            .is_some_and(|info| is_default_ignorable(info))
+        {
+            take_width_at(buffer, i);
+        }
+    }
+}
+
+/// Takes the advances and offsets of glyphs that Apple's table `morx` deleted.
+///
+/// # Requires
+///
+/// Positions, and that no output is open.
+///
+/// - `closed: buffer.old.have_output ≡ false`
+/// - `placed: IsSome buffer.old.positions`
+///
+/// # Proved
+///
+/// ```text
+/// ensures closed { buffer.new.have_output ≡ false }
+/// ensures placed { IsSome buffer.new.positions }
+/// ensures keeps { KeepsClusters buffer.old buffer.new }
+/// ```
+#[inline]
+pub fn zero_width_deleted_glyphs(buffer: &mut hb_buffer_t) {
+    debug_assert!(!buffer.have_output());
+    debug_assert!(buffer.have_positions());
+    for i in 0..buffer.len() {
+        if buffer.info().get(i).is_some_and(|info| is_deleted(info)) {
+            take_width_at(buffer, i);
+        }
+    }
+}
+
+/// Takes all width and every offset of the glyph at a place.
+///
+/// # Requires
+///
+/// - `closed: buffer.old.have_output ≡ false`
+/// - `placed: IsSome buffer.old.positions`
+pub(crate) fn take_width_at(buffer: &mut hb_buffer_t, place: usize) {
+    debug_assert!(!buffer.have_output());
+    debug_assert!(buffer.have_positions());
+    if let Some(own) = buffer.pos_mut().get_mut(place) {
+        take_width(own);
+    }
+}
+
+/// Takes all width and every offset of a glyph; what it is attached to stays.
+fn take_width(position: &mut GlyphPosition) {
+    *position = GlyphPosition {
+        var: position.var,
+        ..GlyphPosition::default()
+    };
+}

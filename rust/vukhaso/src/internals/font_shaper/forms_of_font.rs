@@ -1,0 +1,101 @@
+// Written by tools/plain_rust from crates/font_shaper. Do not edit.
+
+//! What the shapers of syllables ask of a font.
+
+use crate::buffer::hb_buffer_t;
+use crate::common::Tag;
+use crate::font_face::Face;
+use crate::font_shaper::lookups::budget_of;
+use crate::font_shaper::planning::TextPlan;
+use crate::glyph_layout::{Budget, would_substitute};
+use crate::layout_plan::LayoutPlan;
+use crate::memory::AllocError;
+use crate::syllabic_shapers::{FontForms, FormFeature, SyllablePause};
+
+/// A font with the features of a text.
+#[derive(Debug)]
+struct Forms<'a> {
+    face: &'a Face<'a>,
+    layout: &'a LayoutPlan,
+    /// Whether a rule with context is not taken.
+    wants_no_context: bool,
+    /// What the questions may cost.
+    budget: Budget,
+}
+
+impl FontForms for Forms<'_> {
+    fn glyph_of(&self, character: u32) -> Option<u32> {
+        match self.face.glyph_index(character) {
+            Some(glyph) => Some(u32::from(glyph.0)),
+            None => None,
+        }
+    }
+
+    fn would_substitute(&mut self, feature: FormFeature, glyphs: &[u32]) -> bool {
+        let list = &self.face.lookups.substitutions;
+        for planned in self.layout.stage_lookups(tag_of(feature)) {
+            if let Some(lookup) = list.lookup(planned.index) {
+                if would_substitute(
+                    list,
+                    lookup,
+                    glyphs,
+                    self.wants_no_context,
+                    &mut self.budget,
+                ) {
+                    return true;
+                }
+            }
+        }
+        false
+    }
+}
+
+/// The tag of a feature that a shaper asks of.
+fn tag_of(feature: FormFeature) -> Tag {
+    match feature {
+        FormFeature::Rphf => Tag::from_bytes(b"rphf"),
+        FormFeature::Pref => Tag::from_bytes(b"pref"),
+        FormFeature::Blwf => Tag::from_bytes(b"blwf"),
+        FormFeature::Pstf => Tag::from_bytes(b"pstf"),
+        FormFeature::Vatu => Tag::from_bytes(b"vatu"),
+    }
+}
+
+/// Works on the syllables of a text at a pause.
+///
+/// # Requires
+///
+/// - `buffer.old.have_output ≡ false`
+///
+/// # Errors
+///
+/// `Ok(false)` where a call was refused for length.
+pub(crate) fn work_on_syllables(
+    buffer: &mut hb_buffer_t,
+    face: &Face,
+    plan: &TextPlan,
+    pause: SyllablePause,
+) -> Result<bool, AllocError> {
+    debug_assert!(!buffer.have_output());
+    if !plan.orders_syllables() {
+        return Ok(true);
+    }
+    let mut forms = Forms {
+        face,
+        layout: &plan.shape.layout,
+        wants_no_context: plan.syllables.wants_no_context(),
+        budget: budget_of(buffer),
+    };
+    if !plan.syllables.pause(buffer, &mut forms, pause)? {
+        return Ok(false);
+    }
+    fail_if_spent(buffer, &forms.budget);
+    Ok(true)
+}
+
+/// Says that shaping was given up where the budget is spent.
+fn fail_if_spent(buffer: &mut hb_buffer_t, budget: &Budget) {
+    if budget.is_spent() {
+        buffer.shaping_failed = true;
+    }
+}

@@ -1,0 +1,102 @@
+// Written by tools/plain_rust from crates/font_shaper. Do not edit.
+
+//! Characters that have another form in text which runs from right to left or in vertical lines.
+
+use crate::buffer::{CharExt, Direction, Mirrors, hb_buffer_t, hb_glyph_info_t};
+use crate::font_face::Face;
+use crate::font_normalization::glyph_info::{is_unicode_mark, is_unicode_space};
+use crate::font_shaper::glyph_info::{is_decimal_number, is_letter};
+use crate::layout_plan::ShapePlan;
+use crate::unicode_tables::mirrors;
+
+/// Replaces each character by its mirror image in text that runs backward, and by its vertical form in
+/// vertical lines, where the font has a glyph for that. A character that is not mirrored so has the
+/// feature of mirrored forms; a font that has vertical forms itself replaces characters by them later.
+///
+/// # Requires
+///
+/// - `buffer.old.have_output ≡ false`
+pub(crate) fn rotate_characters(
+    buffer: &mut hb_buffer_t,
+    face: &Face,
+    plan: &ShapePlan,
+    direction: Direction,
+) {
+    debug_assert!(!buffer.have_output());
+    rotate_all(buffer.info_slice_mut(), face, plan, direction);
+}
+
+/// Replaces each of the characters so.
+fn rotate_all(infos: &mut [hb_glyph_info_t], face: &Face, plan: &ShapePlan, direction: Direction) {
+    if direction.is_backward() {
+        let mirrors = if infos.iter().any(may_be_mirrored) {
+            mirrors()
+        } else {
+            None
+        };
+        mirror_all(infos, face, mirrors.as_ref(), plan.rtlm_mask);
+    }
+    if direction.is_vertical() && !plan.has_vert {
+        make_all_vertical(infos, face);
+    }
+}
+
+/// Whether a character may have a mirror image: no letter, mark, digit or space has one.
+fn may_be_mirrored(info: &hb_glyph_info_t) -> bool {
+    !is_letter(info)
+        && !is_unicode_mark(info)
+        && !is_decimal_number(info)
+        && !is_unicode_space(info)
+}
+
+/// Replaces each character by its mirror image, or gives it the mask.
+fn mirror_all(infos: &mut [hb_glyph_info_t], face: &Face, mirrors: Option<&Mirrors>, mask: u32) {
+    for i in 0..infos.len() {
+        mirror(&mut infos[i], face, mirrors, mask);
+    }
+}
+
+/// Replaces a character by its mirror image, or gives it the mask.
+fn mirror(info: &mut hb_glyph_info_t, face: &Face, mirrors: Option<&Mirrors>, mask: u32) {
+    if !is_mirrored(info, face, mirrors) {
+        info.mask |= mask;
+    }
+}
+
+/// Replaces a character by its mirror image, and says whether the font has a glyph for that.
+fn is_mirrored(info: &mut hb_glyph_info_t, face: &Face, mirrors: Option<&Mirrors>) -> bool {
+    match mirror_image(info, mirrors) {
+        Some(image) => replace_character(info, face, image),
+        None => false,
+    }
+}
+
+/// The mirror image of a character.
+fn mirror_image(info: &hb_glyph_info_t, mirrors: Option<&Mirrors>) -> Option<char> {
+    char::from_u32(info.glyph_id)?.mirrored(mirrors?)
+}
+
+/// Replaces each character by its vertical form.
+fn make_all_vertical(infos: &mut [hb_glyph_info_t], face: &Face) {
+    for i in 0..infos.len() {
+        make_vertical(&mut infos[i], face);
+    }
+}
+
+/// Replaces a character by its vertical form.
+fn make_vertical(info: &mut hb_glyph_info_t, face: &Face) {
+    if let Some(character) = char::from_u32(info.glyph_id) {
+        if let Some(vertical) = character.vertical() {
+            let _ = replace_character(info, face, vertical);
+        }
+    }
+}
+
+/// Replaces a character by another one, if the font has a glyph for that, and says whether it has.
+fn replace_character(info: &mut hb_glyph_info_t, face: &Face, other: char) -> bool {
+    if face.glyph_index(other as u32).is_none() {
+        return false;
+    }
+    info.glyph_id = other as u32;
+    true
+}

@@ -1,0 +1,148 @@
+// Written by tools/plain_rust from crates/font_tables. Do not edit.
+
+//! Coverage tables: the glyphs that a lookup is for, each with an index (OpenType specification, "OpenType Layout Common
+//! Table Formats", "Coverage table").
+
+use crate::common::GlyphId;
+use crate::font_tables::bytes::{tail, u16_at};
+use crate::font_tables::glyph_ranges::{last_glyphs, range_count, range_of};
+use crate::font_tables::rows::{Keys16, Numbers16, first_row, rises, rows_within};
+use crate::numbers::Chunks;
+
+/// A coverage table.
+///
+/// By the specification the glyphs of a list rise, and so do ranges: an index is then found by bisection. Where they do
+/// not, it is found by a walk.
+///
+/// # Proved
+///
+/// ```text
+/// ghost is_format: { format ≡ unwrap_or (number_16 table.now 0) 0 }
+/// ghost lists: { format ≡ 1 → count ≡ listed_count table.now }
+/// ghost ranges: { format ≡ 2 → count ≡ range_count table.now }
+/// ghost list_rises: { IsTrue are_rising → format ≡ 1 → Rises (listed_glyph table.now) count }
+/// ghost ranges_rise: { IsTrue are_rising → format ≡ 2 → Rises (range_last table.now) count }
+/// ```
+#[derive(Clone, Copy, Debug)]
+pub struct Coverage<'a> {
+    /// The bytes of the table.
+    pub table: &'a [u8],
+    format: u16,
+    count: u16,
+    are_rising: bool,
+}
+
+impl<'a> Coverage<'a> {
+    /// The coverage table in these bytes. One that is empty, or of another format than 1 and 2, covers no
+    /// glyph.
+    ///
+    /// # Proved
+    ///
+    /// ```text
+    /// ensures { result.table.now ≡ table.now }
+    /// ```
+    #[inline]
+    pub fn new(table: &'a [u8]) -> Self {
+        let format = u16_at(table, 0).unwrap_or(0);
+        let (count, are_rising) = match format {
+            1 => {
+                let count = listed_count(table);
+                (count, rises(&listed_glyphs(table), usize::from(count)))
+            }
+            2 => {
+                let count = range_count(table);
+                (count, rises(&last_glyphs(table), usize::from(count)))
+            }
+            _ => (0, false),
+        };
+        Coverage {
+            table,
+            format,
+            count,
+            are_rising,
+        }
+    }
+
+    /// The coverage index of a glyph; `None` where the table does not cover it.
+    ///
+    /// # Proved
+    ///
+    /// ```text
+    /// ensures { result ≡ coverage_index self.now.table.now glyph.0 }
+    /// ```
+    #[inline]
+    pub fn index(&self, glyph: GlyphId) -> Option<u32> {
+        match self.format {
+            1 => listed_index(self.table, self.count, self.are_rising, glyph),
+            2 => ranged_index(self.table, self.count, self.are_rising, glyph),
+            _ => None,
+        }
+    }
+}
+
+/// The glyphs of a list.
+fn listed_glyphs(table: &[u8]) -> Keys16<'_> {
+    Keys16 {
+        table,
+        start: 4,
+        size: 2,
+    }
+}
+
+/// How many of the glyphs of a list lie in the table.
+fn listed_count(table: &[u8]) -> u16 {
+    let declared = u16_at(table, 2).unwrap_or(0);
+    rows_within(table, 4, 2, usize::from(declared)) as u16
+}
+
+/// The place of the first glyph of a list that is not below a glyph.
+///
+/// # Requires
+///
+/// - `counts: count ≡ listed_count table.now`
+/// - `rise: IsTrue are_rising → Rises (listed_glyph table.now) count`
+fn first_listed(table: &[u8], count: u16, are_rising: bool, glyph: GlyphId) -> Option<usize> {
+    let (glyphs, _) = Chunks::<2>::split(tail(table, 4));
+    first_row(
+        &Numbers16(glyphs),
+        usize::from(count),
+        u32::from(glyph.0),
+        are_rising,
+    )
+}
+
+/// A glyph of a list, by its place.
+///
+/// # Requires
+///
+/// - `row < listed_count table.now`
+fn listed_at(table: &[u8], row: usize) -> Option<u16> {
+    let (glyphs, _) = Chunks::<2>::split(tail(table, 4));
+    u16_at(&glyphs[row], 0)
+}
+
+/// The place of a glyph in a list.
+///
+/// # Requires
+///
+/// - `counts: count ≡ listed_count table.now`
+/// - `rise: IsTrue are_rising → Rises (listed_glyph table.now) count`
+fn listed_index(table: &[u8], count: u16, are_rising: bool, glyph: GlyphId) -> Option<u32> {
+    let row = first_listed(table, count, are_rising, glyph)?;
+    if listed_at(table, row)? <= glyph.0 {
+        Some(row as u32)
+    } else {
+        None
+    }
+}
+
+/// The index of a glyph in ranges: that of the range's first glyph, and how far the glyph is behind it.
+///
+/// # Requires
+///
+/// - `counts: count ≡ range_count table.now`
+/// - `rise: IsTrue are_rising → Rises (range_last table.now) count`
+fn ranged_index(table: &[u8], count: u16, are_rising: bool, glyph: GlyphId) -> Option<u32> {
+    let range = range_of(table, count, are_rising, glyph)?;
+    Some(u32::from(range.value) + u32::from(glyph.0 - range.first))
+}

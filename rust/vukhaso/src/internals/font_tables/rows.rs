@@ -1,0 +1,161 @@
+// Written by tools/plain_rust from crates/font_tables. Do not edit.
+
+//! Rows of a table, each with a last key, and the first row that reaches a key.
+
+use crate::font_tables::bytes::u16_at;
+use crate::numbers::Chunks;
+
+/// Rows of a font's table. A row reaches a key where its last key is not below it.
+///
+/// # Proved
+///
+/// ```text
+/// ghost last_of: { Self → ℕ → Option ℕ }
+/// ```
+pub trait Rows {
+    /// The last key of a row; `None` where the row lies outside of the table.
+    ///
+    /// # Proved
+    ///
+    /// ```text
+    /// ensures { result ≡ last_of self.now row }
+    /// ```
+    fn last(&self, row: usize) -> Option<u32>;
+}
+
+/// Rows of `size` bytes each, of which the first has its last key, a number of 16 bits, at the byte `start`.
+#[derive(Clone, Copy, Debug)]
+pub struct Keys16<'a> {
+    /// The table.
+    pub table: &'a [u8],
+    /// Where the last key of the first row stands.
+    pub start: usize,
+    /// How many bytes a row has.
+    pub size: usize,
+}
+
+///
+/// # Proved
+///
+/// ```text
+/// ghost last_of = { λ keys row. number_16 keys.table.now (keys.start + keys.size * row) }
+/// ```
+impl Rows for Keys16<'_> {
+    fn last(&self, row: usize) -> Option<u32> {
+        let at = self.size.checked_mul(row)?.checked_add(self.start)?;
+        u16_at(self.table, at).map(u32::from)
+    }
+}
+
+/// Numbers of 16 bits, each of which is the last key of its row.
+#[derive(Clone, Copy, Debug)]
+pub struct Numbers16<'a>(pub Chunks<'a, 2>);
+
+///
+/// # Proved
+///
+/// ```text
+/// ghost last_of = { λ numbers row. option_and_then (λ number. number_16 number 0) (slice_get numbers.0.now row) }
+/// ```
+impl Rows for Numbers16<'_> {
+    fn last(&self, row: usize) -> Option<u32> {
+        u16_at(self.0.get(row)?, 0).map(u32::from)
+    }
+}
+
+/// Whether the first `count` rows lie in the table, each behind those whose last keys are lower.
+///
+/// # Proved
+///
+/// ```text
+/// ensures rise { IsTrue result → Rises (R.last_of rows.now) count }
+/// ensures seen { AreThere (R.last_of rows.now) count → Rises (R.last_of rows.now) count → IsTrue result }
+/// ```
+#[inline]
+pub fn rises<R: Rows>(rows: &R, count: usize) -> bool {
+    let mut before = 0;
+    for row in 0..count {
+        match rows.last(row) {
+            Some(last) if before <= last => before = last,
+            _ => return false,
+        }
+    }
+    true
+}
+
+/// The first of `count` rows that reaches the key: by bisection where they rise, and else by a walk
+/// over them.
+///
+/// # Requires
+///
+/// - `IsTrue are_rising → Rises (R.last_of rows.now) count`
+///
+/// # Proved
+///
+/// ```text
+/// ensures is { result ≡ first_row (R.last_of rows.now) key count }
+/// ensures within { IfSome result (λ row. row < count) }
+/// ```
+#[inline]
+pub fn first_row<R: Rows>(rows: &R, count: usize, key: u32, are_rising: bool) -> Option<usize> {
+    if are_rising {
+        bisect(rows, count, key)
+    } else {
+        walk(rows, count, key)
+    }
+}
+
+/// The first of these rows that reaches the key, one after the other.
+fn walk<R: Rows>(rows: &R, count: usize, key: u32) -> Option<usize> {
+    for row in 0..count {
+        if reaches(rows, row, key) {
+            return Some(row);
+        }
+    }
+    None
+}
+
+/// The first of these rows that reaches the key, by bisection.
+///
+/// # Requires
+///
+/// - `Rises (R.last_of rows.now) count`
+fn bisect<R: Rows>(rows: &R, count: usize, key: u32) -> Option<usize> {
+    let mut low = 0;
+    let mut high = count;
+    while low < high {
+        let middle = low + (high - low) / 2;
+        if reaches(rows, middle, key) {
+            high = middle;
+        } else {
+            low = middle + 1;
+        }
+    }
+    if low < count { Some(low) } else { None }
+}
+
+/// Whether a row reaches the key.
+fn reaches<R: Rows>(rows: &R, row: usize, key: u32) -> bool {
+    match rows.last(row) {
+        Some(last) => key <= last,
+        None => false,
+    }
+}
+
+/// How many of the rows that a table declares lie in it whole: rows of `size` bytes from the byte at
+/// `start` on.
+///
+/// # Requires
+///
+/// - `0 < size`
+///
+/// # Proved
+///
+/// ```text
+/// ensures { result ≡ rows_within table.now start size declared }
+/// ```
+#[inline]
+pub fn rows_within(table: &[u8], start: usize, size: usize, declared: usize) -> usize {
+    debug_assert!(0 < size);
+    declared.min(table.len().saturating_sub(start) / size)
+}

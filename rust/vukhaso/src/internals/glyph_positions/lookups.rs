@@ -1,0 +1,289 @@
+// Written by tools/plain_rust from crates/glyph_positions. Do not edit.
+
+//! A lookup of `GPOS` over a buffer: each glyph that it is for is tried with its subtables, one after the other (HarfBuzz,
+//! `apply_forward`).
+
+use crate::buffer::hb_buffer_t;
+use crate::glyph::hb_glyph_info_t;
+use crate::glyph_layout::budget::{PASSED_A_STEP, SUBTABLE_STEPS};
+use crate::glyph_layout::context::Fit;
+use crate::glyph_layout::filter::covered_index;
+use crate::glyph_layout::lookup_list::Lookup;
+use crate::glyph_layout::search::{Places, Search};
+use crate::glyph_layout::subtable::Subtable;
+use crate::glyph_layout::walk::{LookupOptions, Walk};
+use crate::glyph_positions::contexts::fit_at;
+use crate::glyph_positions::cursive::place_cursive;
+use crate::glyph_positions::flags::{mark_break, mark_concat};
+use crate::glyph_positions::marks::{LastBase, place_on_base, place_on_ligature, place_on_mark};
+use crate::glyph_positions::pairs::{place_pair, place_single};
+use crate::glyph_positions::turn::{Setting, Turn};
+use core::mem;
+
+/// How deep lookups may apply others (HarfBuzz, `HB_MAX_NESTING_LEVEL`).
+const MAX_NESTING_LEVEL: u32 = 64;
+
+/// A lookup at a glyph.
+#[derive(Clone, Copy, Debug)]
+struct Task<'a> {
+    /// The font's lookups and its size.
+    setting: &'a Setting<'a>,
+    /// The lookup.
+    lookup: &'a Lookup<'a>,
+    /// How it is applied.
+    options: &'a LookupOptions,
+    /// The place of the glyph.
+    place: usize,
+    /// How many levels of lookups it may apply.
+    depth: u32,
+}
+
+/// Positions the glyphs by the lookup of this index, where the buffer's glyphs have one of the options'
+/// bits. A budget that is spent ends the walk, and `buffer.shaping_failed` says so.
+///
+/// # Requires
+///
+/// - `closed: buffer.old.have_output ≡ false`
+/// - `placed: IsSome buffer.old.positions`
+///
+/// # Proved
+///
+/// ```text
+/// ensures closed { buffer.new.have_output ≡ false }
+/// ensures placed { IsSome buffer.new.positions }
+/// ensures level { buffer.new.cluster_level ≡ buffer.old.cluster_level }
+/// ensures glyphs { reset_masks 0 buffer.new.input ≡ reset_masks 0 buffer.old.input }
+/// ensures spent { IsNotMore search.old.budget search.new.budget }
+/// ensures says { search.new.budget.steps ≡ 0 → buffer.new.shaping_failed ≡ true }
+/// ensures keeps { KeepsClusters buffer.old buffer.new }
+/// ```
+#[inline]
+pub fn position(
+    buffer: &mut hb_buffer_t,
+    setting: &Setting,
+    lookup: u16,
+    options: &LookupOptions,
+    search: &mut Search,
+) {
+    debug_assert!(!buffer.have_output());
+    debug_assert!(buffer.have_positions());
+    debug_assert!(buffer.out_len() == 0);
+    place_all(buffer, setting, lookup, options, search);
+    fail_if_spent(buffer, search);
+    debug_assert!(buffer.out_len() == 0);
+}
+
+/// Positions the glyphs by a lookup, one after the other.
+///
+/// # Requires
+///
+/// - `closed: buffer.old.have_output ≡ false`
+/// - `placed: IsSome buffer.old.positions`
+fn place_all<'a>(
+    buffer: &mut hb_buffer_t,
+    setting: &'a Setting<'a>,
+    lookup: u16,
+    options: &'a LookupOptions,
+    search: &mut Search,
+) {
+    debug_assert!(!buffer.have_output());
+    debug_assert!(buffer.have_positions());
+    let Some(lookup) = setting.list.lookup(lookup) else {
+        return;
+    };
+    search.budget.pay_for(1 + buffer.len() / PASSED_A_STEP);
+    let mut task = Task {
+        setting,
+        lookup,
+        options,
+        place: 0,
+        depth: MAX_NESTING_LEVEL,
+    };
+    let mut last = LastBase::none();
+    let mut next = 0;
+    for _turn in 0..buffer.len() {
+        let place = next_place(buffer.info(), lookup, options.mask, next);
+        if place == buffer.len() || search.budget.is_spent() {
+            return;
+        }
+        task.place = place;
+        next = place_by_lookup(buffer, &task, search, &mut last)
+            .unwrap_or(0)
+            .max(place + 1);
+    }
+}
+
+/// The first place from this one on at which the lookup may do something, or the number of glyphs.
+fn next_place(glyphs: &[hb_glyph_info_t], lookup: &Lookup, mask: u32, from: usize) -> usize {
+    lookup.first_place(mask, glyphs, from.min(glyphs.len()))
+}
+
+/// Positions the glyph by the first subtable that does, and says where the walk goes on.
+///
+/// # Requires
+///
+/// - `closed: buffer.old.have_output ≡ false`
+/// - `placed: IsSome buffer.old.positions`
+fn place_by_lookup<'a>(
+    buffer: &mut hb_buffer_t,
+    task: &Task<'a>,
+    search: &mut Search,
+    last: &mut LastBase,
+) -> Option<usize> {
+    debug_assert!(!buffer.have_output());
+    debug_assert!(buffer.have_positions());
+    let glyph = buffer.info().get(task.place)?.glyph_id;
+    let subtables = task.setting.list.subtables_of(task.lookup);
+    search.budget.pay_for(subtables.len() / PASSED_A_STEP);
+    for subtable in subtables {
+        if subtable.may_be_for(glyph) && search.budget.pay(SUBTABLE_STEPS) {
+            if let Some(index) = index_in(subtable, glyph) {
+                let next = place_by_subtable(buffer, task, subtable, index, search, last);
+                if next.is_some() {
+                    return next;
+                }
+            }
+        }
+    }
+    None
+}
+
+/// The coverage index of a glyph in a subtable.
+#[inline(never)]
+fn index_in(subtable: &Subtable, glyph: u32) -> Option<u32> {
+    covered_index(&subtable.coverage, glyph)
+}
+
+/// Positions the glyph, which has this coverage index in a subtable, by the subtable, and says where
+/// the walk goes on; `None` where the subtable does not fit.
+///
+/// # Requires
+///
+/// - `closed: buffer.old.have_output ≡ false`
+/// - `placed: IsSome buffer.old.positions`
+#[inline(never)]
+fn place_by_subtable<'a>(
+    buffer: &mut hb_buffer_t,
+    task: &Task<'a>,
+    subtable: &'a Subtable<'a>,
+    index: u32,
+    search: &mut Search,
+    last: &mut LastBase,
+) -> Option<usize> {
+    debug_assert!(!buffer.have_output());
+    debug_assert!(buffer.have_positions());
+    let turn = Turn {
+        subtable,
+        walk: Walk::over_input(task.lookup.filter, task.options, true),
+        instance: &task.setting.instance,
+        place: task.place,
+        index,
+    };
+    match subtable.kind {
+        1 => place_single(buffer, &turn),
+        2 => place_pair(buffer, &turn),
+        3 => place_cursive(buffer, &turn),
+        4 => place_on_base(buffer, &turn, last),
+        5 => place_on_ligature(buffer, &turn, last),
+        6 => place_on_mark(buffer, &turn),
+        7 | 8 => place_by_context(buffer, task, &turn, search, last),
+        _ => None,
+    }
+}
+
+/// Applies the lookups of the rule that fits at the glyph, and says where the walk goes on.
+///
+/// # Requires
+///
+/// - `closed: buffer.old.have_output ≡ false`
+/// - `placed: IsSome buffer.old.positions`
+fn place_by_context<'a>(
+    buffer: &mut hb_buffer_t,
+    task: &Task<'a>,
+    turn: &Turn<'a>,
+    search: &mut Search,
+    last: &mut LastBase,
+) -> Option<usize> {
+    debug_assert!(!buffer.have_output());
+    debug_assert!(buffer.have_positions());
+    let context = Walk::over_context(task.lookup.filter, task.options, true);
+    let fit = fit_at(buffer.info(), task.setting, turn, &context, search);
+    let reached = turn.place.saturating_add(search.reach.to);
+    mark_concat(buffer, search.reach.from, reached);
+    let fit = fit?;
+    mark_break(buffer, fit.from, turn.place.saturating_add(fit.to));
+    let places = mem::replace(&mut search.places, Places::new());
+    apply_records(buffer, task, &fit, &places, search, last);
+    let end = turn.place.saturating_add(fit.end);
+    mark_concat(buffer, end, turn.place.saturating_add(fit.beyond));
+    Some(end)
+}
+
+/// Applies the lookups of a rule at the glyphs that it names, whose places are counted from the rule's
+/// first glyph.
+///
+/// # Requires
+///
+/// - `closed: buffer.old.have_output ≡ false`
+/// - `placed: IsSome buffer.old.positions`
+fn apply_records<'a>(
+    buffer: &mut hb_buffer_t,
+    task: &Task<'a>,
+    fit: &Fit<'a>,
+    places: &Places,
+    search: &mut Search,
+    last: &mut LastBase,
+) {
+    debug_assert!(!buffer.have_output());
+    debug_assert!(buffer.have_positions());
+    for index in 0..usize::from(fit.record_count) {
+        if let Some(nested) = nested_task(task, fit, places, index) {
+            if task.depth == 0 || !search.budget.nest() {
+                fail(buffer);
+                return;
+            }
+            let _next = place_by_lookup(buffer, &nested, search, last);
+        }
+    }
+}
+
+/// The lookup of a record, at the glyph that the record names; `None` where there is no such lookup or
+/// glyph.
+fn nested_task<'a>(task: &Task<'a>, fit: &Fit, places: &Places, index: usize) -> Option<Task<'a>> {
+    let record = fit.record(index)?;
+    let at = *places.as_slice().get(record.sequence)?;
+    let lookup = task.setting.list.lookup(record.lookup)?;
+    Some(Task {
+        setting: task.setting,
+        lookup,
+        options: task.options,
+        place: task.place.saturating_add(at),
+        depth: task.depth.saturating_sub(1),
+    })
+}
+
+/// Says that shaping was given up where the budget is spent.
+///
+/// # Requires
+///
+/// - `closed: buffer.old.have_output ≡ false`
+/// - `placed: IsSome buffer.old.positions`
+fn fail_if_spent(buffer: &mut hb_buffer_t, search: &Search) {
+    debug_assert!(!buffer.have_output());
+    debug_assert!(buffer.have_positions());
+    if search.budget.is_spent() {
+        fail(buffer);
+    }
+}
+
+/// Says that the text could not be shaped as the font asks.
+///
+/// # Requires
+///
+/// - `closed: buffer.old.have_output ≡ false`
+/// - `placed: IsSome buffer.old.positions`
+fn fail(buffer: &mut hb_buffer_t) {
+    debug_assert!(!buffer.have_output());
+    debug_assert!(buffer.have_positions());
+    buffer.shaping_failed = true;
+}
