@@ -4,6 +4,7 @@ answers the font, a line of text and the options that it is meant for."""
 from . import cff
 from . import layout as lay
 from . import opentype as ot
+from . import variable
 from .glyphs import CODES, NAMES, NUMBERED, advance, g, glyphs, tables
 from .layout import IGNORE_MARKS
 from .opentype import long_numbers, numbers
@@ -197,8 +198,40 @@ def glyph_of_itself():
     return font({**more, "glyf": glyf, "loca": loca}), "a" * 20, ["--show-extents"]
 
 
+def varied(more):
+    """A font with one axis, at whose end a line is shaped."""
+    return font({"fvar": variable.fvar([("wght", (0, 0, 100))], []), **more})
+
+
+def many_regions():
+    """An advance of each glyph that has a delta for each of 8,000 parts of an axis."""
+    count = 8_000
+    regions = numbers(1, count) + numbers(0, 0x4000, 0x4000) * count
+    row = bytes(at % 3 for at in range(count))
+    deltas = numbers(len(NAMES), 0, count, *range(count)) + row * len(NAMES)
+    some = ot.table(1, ot.Offset(regions, 4), 1, ot.Offset(deltas, 4))
+    return varied({"HVAR": ot.table(1, 0, ot.Offset(some, 4), *[ot.long_numbers(0)] * 3)}), "abcdefgh" * 1_250, ["--variations=wght=50"]
+
+
+def many_deltas():
+    """Eight letters of 2,000 points, with 4,000 tuples of deltas each."""
+    count, tuples = 2_000, 4_000
+    drawn = numbers(1, 0, 0, 10, 10, count - 1, 0) + bytes([0x31]) * count
+    glyf, loca = ot.glyf_and_loca([drawn] * len(NAMES))
+    deltas = variable.packed_deltas([0] * (count + 3) + [1])
+    data = b"\0" + deltas + deltas
+    heads = numbers(len(data), 0xA000, 0x4000) * tuples
+    moved = numbers(tuples, 4 + len(heads)) + heads + data * tuples
+    by_glyph = {g(name): moved for name in "abcdefgh"}
+    places = [sum(len(by_glyph.get(it, b"")) for it in range(at)) for at in range(len(NAMES) + 1)]
+    start = 20 + 4 * len(places)
+    head = numbers(1, 0, 1, 0) + long_numbers(start) + numbers(len(NAMES), 1) + long_numbers(start, *places)
+    return varied({"glyf": glyf, "loca": loca, "gvar": head + b"".join(by_glyph[at] for at in sorted(by_glyph))}), "abcdefgh" * 12, \
+        ["--variations=wght=50"]
+
+
 FONTS = {make.__name__: make for make in (
     calls_of_calls, calls_itself, many_calls, many_lookups, many_features, grows, grows_in_calls, many_ligatures, many_rules,
     many_subtables, extends_itself, many_marks, long_cursive, many_kern_tables, many_groups, unsorted_groups, swapped_groups, shared_sequences,
     unsorted_classes,
-    routines_of_routines, routine_calls_itself, glyph_of_itself)}
+    routines_of_routines, routine_calls_itself, glyph_of_itself, many_regions, many_deltas)}

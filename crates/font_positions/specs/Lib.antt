@@ -1,1 +1,2 @@
 pub mod FallbackMarks
+pub mod FontPositions

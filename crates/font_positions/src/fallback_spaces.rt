@@ -1,8 +1,10 @@
 //! The widths of spaces that a font has no glyph for (HarfBuzz's `_hb_ot_shape_fallback_spaces`).
 
 ghost use Rattle.std.specs.Prelude.{◌≡◌, ◌^◌, ◌≤ℤ◌, pos, negsuc};
+ghost use Rattle.font_positions.specs.FontPositions.{AreTheFonts};
 
 use crate::glyph_info::has_ligated;
+use crate::kept_positions::FontPositions;
 use font_face::Face;
 use font_normalization::glyph_info::{is_unicode_space, space_fallback};
 use rb_common::GlyphId;
@@ -11,6 +13,7 @@ use shaping_buffer::rb_glyph::hb_unicode_funcs_t::{
     SPACE_4_EM_18, SPACE_EM, SPACE_EM_2, SPACE_EM_3, SPACE_EM_4, SPACE_EM_5, SPACE_EM_6,
     SPACE_EM_16, SPACE_FIGURE, SPACE_NARROW, SPACE_PUNCTUATION,
 };
+use std::alloc::AllocError;
 
 /// The advance of a glyph, of which the font says `own`. If it stands for a space that the font has no glyph for, the kind of
 /// the space decides: it is a part of an em, or that of another character. A space of no such kind that has the buffer's
@@ -18,27 +21,30 @@ use shaping_buffer::rb_glyph::hb_unicode_funcs_t::{
 pub(crate) fn space_advance(
     info: &hb_glyph_info_t,
     own: i32,
-    face: &Face,
-    is_horizontal: bool,
+    positions: &mut FontPositions,
     invisible: Option<GlyphId>,
-) -> i32 {
+) -> Result<i32, AllocError>
+    requires { AreTheFonts positions.old }
+    ensures kept { AreTheFonts positions.new }
+{
     if !is_unicode_space(info) || has_ligated(info) {
-        return own;
+        return Ok(own);
     }
-    let em = em_along(face, is_horizontal);
+    let is_horizontal = positions.is_horizontal;
+    let em = em_along(positions.face, is_horizontal);
     let is_invisible = invisible.is_some_and(|glyph| u32::from(glyph.0) == info.glyph_id);
     let own = if is_invisible { advance(em / 4) } else { own };
     let space = space_fallback(info);
-    match space {
+    Ok(match space {
         SPACE_EM | SPACE_EM_2 | SPACE_EM_3 | SPACE_EM_4 | SPACE_EM_5 | SPACE_EM_6 | SPACE_EM_16 => {
             part_of_em(em, space, is_horizontal)
         }
         SPACE_4_EM_18 => advance(em * 4 / 18),
-        SPACE_FIGURE => first_advance(face, "0123456789", is_horizontal).unwrap_or(own),
-        SPACE_PUNCTUATION => first_advance(face, ".,", is_horizontal).unwrap_or(own),
+        SPACE_FIGURE => first_advance(positions, "0123456789")?.unwrap_or(own),
+        SPACE_PUNCTUATION => first_advance(positions, ".,")?.unwrap_or(own),
         SPACE_NARROW => own / 2,
         _ => own,
-    }
+    })
 }
 
 /// An em along the line. Vertical lines run down.
@@ -64,15 +70,18 @@ fn part_of_em(em: i64, parts: u8, is_horizontal: bool) -> i32
 }
 
 /// The advance of the first of the characters that the font has.
-fn first_advance(face: &Face, characters: &str, is_horizontal: bool) -> Option<i32> {
-    let glyph = characters
+fn first_advance(positions: &mut FontPositions, characters: &str) -> Result<Option<i32>, AllocError>
+    requires { AreTheFonts positions.old }
+    ensures kept { AreTheFonts positions.new }
+{
+    let face = positions.face;
+    let found = characters
         .chars()
-        .find_map(|character| face.glyph_index(character as u32))?;
-    Some(if is_horizontal {
-        face.glyph_hor_advance(glyph)
-    } else {
-        face.glyph_ver_advance(glyph)
-    })
+        .find_map(|character| face.glyph_index(character as u32));
+    match found {
+        Some(glyph) => Ok(Some(positions.advance(glyph)?)),
+        None => Ok(None),
+    }
 }
 
 /// The number as an advance.

@@ -6,6 +6,7 @@ mod ending;
 mod fallback_marks;
 mod fallback_spaces;
 mod glyph_info;
+mod kept_positions;
 mod mark_placing;
 mod positions;
 mod tracking;

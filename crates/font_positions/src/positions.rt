@@ -2,9 +2,11 @@
 
 ghost use Rattle.std.specs.Prelude.{◌≡◌, false, length, IsSome};
 ghost use Rattle.shaping_buffer.specs.KeepsClusters.{KeepsClusters};
+ghost use Rattle.font_positions.specs.FontPositions.{AreTheFonts};
 
 use crate::fallback_spaces::space_advance;
 use crate::glyph_info::{is_default_ignorable, is_mark};
+use crate::kept_positions::FontPositions;
 use apple_substitution::deletion::is_deleted;
 use font_face::Face;
 use rb_common::GlyphId;
@@ -26,20 +28,39 @@ pub fn position_glyphs(buffer: &mut hb_buffer_t, face: &Face) -> Result<(), Allo
 {
     let is_horizontal = buffer.direction.is_horizontal();
     let has_spaces = buffer.scratch_flags & HB_BUFFER_SCRATCH_FLAG_HAS_SPACE_FALLBACK != 0;
-    let invisible = buffer.invisible;
     buffer.clear_positions();
-    if is_horizontal && !has_spaces {
+    let is_varied = !face.coordinates().is_empty();
+    if is_horizontal && !has_spaces && !is_varied {
         advance_glyphs(buffer, face);
         return Ok(());
     }
+    let mut positions = FontPositions::new(face, is_horizontal);
+    place_glyphs(buffer, &mut positions, has_spaces)
+}
+
+/// Gives each glyph its position; a space that the font has no glyph for is as wide as its kind says, if there may be some.
+#[tactic(auto, using(shaping_buffer::proofs::ClosedKeepsLemmas::kept))]
+fn place_glyphs(
+    buffer: &mut hb_buffer_t,
+    positions: &mut FontPositions,
+    has_spaces: bool,
+) -> Result<(), AllocError>
+    requires closed { buffer.old.have_output ≡ false }
+    requires placed { IsSome buffer.old.positions }
+    requires kept { AreTheFonts positions.old }
+    ensures closed { buffer.new.have_output ≡ false }
+    ensures placed { IsSome buffer.new.positions }
+    ensures keeps { KeepsClusters buffer.old buffer.new }
+{
+    let invisible = buffer.invisible;
     for i in 0..buffer.len() {
         let Some(info) = buffer.info().get(i) else {
             break;
         };
-        let mut position = font_position(face, glyph_of(info), is_horizontal)?;
+        let mut position = positions.position(glyph_of(info))?;
         if has_spaces {
-            let advance = advance_of(&mut position, is_horizontal);
-            *advance = space_advance(info, *advance, face, is_horizontal, invisible);
+            let advance = advance_of(&mut position, positions.is_horizontal);
+            *advance = space_advance(info, *advance, positions, invisible)?;
         }
         set_position(buffer, i, position);
     }
@@ -92,27 +113,6 @@ fn advance_of(position: &mut GlyphPosition, is_horizontal: bool) -> &mut i32 {
     } else {
         &mut position.y_advance
     }
-}
-
-/// The position that the font gives a glyph.
-fn font_position(
-    face: &Face,
-    glyph: GlyphId,
-    is_horizontal: bool,
-) -> Result<GlyphPosition, AllocError> {
-    if is_horizontal {
-        return Ok(GlyphPosition {
-            x_advance: face.glyph_hor_advance(glyph),
-            ..GlyphPosition::default()
-        });
-    }
-    let (x, y) = face.vertical_origin(glyph)?;
-    Ok(GlyphPosition {
-        y_advance: face.glyph_ver_advance(glyph),
-        x_offset: x.wrapping_neg(),
-        y_offset: y.wrapping_neg(),
-        ..GlyphPosition::default()
-    })
 }
 
 /// Takes the advance of each glyph that is a mark by its font; moves the mark back by it if `adjusts` says so. Requires positions, and

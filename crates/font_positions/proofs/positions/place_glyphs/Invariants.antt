@@ -1,6 +1,12 @@
 use Rattle.std.proofs.Common.{◌≡◌, false, IsSome}
 use Rattle.shaping_buffer.specs.KeepsClusters.{KeepsClusters}
-use Rattle.font_positions.proofs.positions.position_glyphs.Given as goal
+use Rattle.font_positions.specs.FontPositions.{AreTheFonts}
+use Rattle.font_positions.proofs.positions.place_glyphs.Given as goal
 
 abbrev pub invariant-loop-i : goal.invariant-loop-i
-invariant-loop-i l = (l.buffer.have_output ≡ false) × IsSome l.buffer.positions × KeepsClusters l.fn.buffer l.buffer
+invariant-loop-i l = record {
+  closed : l.buffer.have_output ≡ false;
+  placed : IsSome l.buffer.positions;
+  keeps : KeepsClusters l.fn.buffer l.buffer;
+  kept : AreTheFonts l.positions;
+}

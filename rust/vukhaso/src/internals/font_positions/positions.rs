@@ -11,6 +11,7 @@ use crate::common::GlyphId;
 use crate::font_face::Face;
 use crate::font_positions::fallback_spaces::space_advance;
 use crate::font_positions::glyph_info::{is_default_ignorable, is_mark};
+use crate::font_positions::kept_positions::FontPositions;
 use crate::memory::AllocError;
 
 /// Gives each glyph the font's advance at its size, and in vertical lines its vertical origin. A space
@@ -33,24 +34,45 @@ use crate::memory::AllocError;
 /// ensures placed { IsSome buffer.new.positions }
 /// ensures keeps { KeepsClusters buffer.old buffer.new }
 /// ```
+#[inline]
 pub fn position_glyphs(buffer: &mut hb_buffer_t, face: &Face) -> Result<(), AllocError> {
     debug_assert!(!buffer.have_output());
     let is_horizontal = buffer.direction.is_horizontal();
     let has_spaces = buffer.scratch_flags & HB_BUFFER_SCRATCH_FLAG_HAS_SPACE_FALLBACK != 0;
-    let invisible = buffer.invisible;
     buffer.clear_positions();
-    if is_horizontal && !has_spaces {
+    let is_varied = !face.coordinates().is_empty();
+    if is_horizontal && !has_spaces && !is_varied {
         advance_glyphs(buffer, face);
         return Ok(());
     }
+    let mut positions = FontPositions::new(face, is_horizontal);
+    place_glyphs(buffer, &mut positions, has_spaces)
+}
+
+/// Gives each glyph its position; a space that the font has no glyph for is as wide as its kind says,
+/// if there may be some.
+///
+/// # Requires
+///
+/// - `closed: buffer.old.have_output ≡ false`
+/// - `placed: IsSome buffer.old.positions`
+/// - `kept: AreTheFonts positions.old`
+fn place_glyphs(
+    buffer: &mut hb_buffer_t,
+    positions: &mut FontPositions,
+    has_spaces: bool,
+) -> Result<(), AllocError> {
+    debug_assert!(!buffer.have_output());
+    debug_assert!(buffer.have_positions());
+    let invisible = buffer.invisible;
     for i in 0..buffer.len() {
         let Some(info) = buffer.info().get(i) else {
             break;
         };
-        let mut position = font_position(face, glyph_of(info), is_horizontal)?;
+        let mut position = positions.position(glyph_of(info))?;
         if has_spaces {
-            let advance = advance_of(&mut position, is_horizontal);
-            *advance = space_advance(info, *advance, face, is_horizontal, invisible);
+            let advance = advance_of(&mut position, positions.is_horizontal);
+            *advance = space_advance(info, *advance, positions, invisible)?;
         }
         set_position(buffer, i, position);
     }
@@ -103,27 +125,6 @@ fn advance_of(position: &mut GlyphPosition, is_horizontal: bool) -> &mut i32 {
     } else {
         &mut position.y_advance
     }
-}
-
-/// The position that the font gives a glyph.
-fn font_position(
-    face: &Face,
-    glyph: GlyphId,
-    is_horizontal: bool,
-) -> Result<GlyphPosition, AllocError> {
-    if is_horizontal {
-        return Ok(GlyphPosition {
-            x_advance: face.glyph_hor_advance(glyph),
-            ..GlyphPosition::default()
-        });
-    }
-    let (x, y) = face.vertical_origin(glyph)?;
-    Ok(GlyphPosition {
-        y_advance: face.glyph_ver_advance(glyph),
-        x_offset: x.wrapping_neg(),
-        y_offset: y.wrapping_neg(),
-        ..GlyphPosition::default()
-    })
 }
 
 /// Takes the advance of each glyph that is a mark by its font; moves the mark back by it if `adjusts`
