@@ -1,0 +1,117 @@
+"""The public items of the package, by rustdoc's JSON: what users can name, and so what may not change between versions."""
+
+import difflib
+import json
+import os
+import re
+import subprocess
+
+from package_tests import PACKAGE
+
+LIST = PACKAGE / "public-items.txt"
+
+HEAD = "# Written by tools/plain_rust items: what users of the package can name, with default features. Do not edit.\n"
+
+# Traits that the compiler gives by itself.
+OF_ITSELF = {"StructuralPartialEq", "TrivialClone"}
+
+
+class Items:
+    """The items of the package, by their numbers, and the text of its files."""
+
+    def __init__(self):
+        words = ["cargo", "rustdoc", "--offline", "--quiet", "--lib", "--", "-Z", "unstable-options", "--document-hidden-items", "--output-format", "json"]
+        # The JSON is there in each compiler, behind this switch.
+        subprocess.run(words, cwd=PACKAGE, check=True, capture_output=True, env={**os.environ, "RUSTC_BOOTSTRAP": "1"})
+        self.said = json.loads((PACKAGE / "target/doc/vukhaso.json").read_text())
+        self.files, self.lines, self.seen = {}, {}, {}
+
+    def item(self, number):
+        return self.said["index"].get(str(number))
+
+    def text(self, item):
+        """The declaration as it stands in its file: a function without its body. One that a macro writes is its name."""
+        span = item["span"]
+        file = self.files.setdefault(span["filename"], (PACKAGE / span["filename"]).read_text().splitlines())
+        (first, start), (last, end) = span["begin"], span["end"]
+        lines = [*file[first - 1 : last - 1], file[last - 1][: end - 1]] if last > first else [file[first - 1][: end - 1]]
+        text = re.sub(r"^(\s*(///[^\n]*|#\[[^\n]*\])\n)*", "", "\n".join([lines[0][start - 1 :], *lines[1:]]))
+        if item["name"] and not re.search(rf"\b{item['name']}\b", text):
+            return f"pub fn {item['name']}, of a macro"
+        if "function" in item["inner"]:
+            text = text.split("{")[0].rstrip(" ;\n")
+        return re.sub(r", ?([)}])", r"\1", " ".join(re.sub(r"//[^\n]*", "", text).split()).replace("( ", "(")).rstrip(",;")
+
+    def walk(self, item, path):
+        if "hidden" in str(item["attrs"]):
+            return
+        inner = item["inner"].get("use")
+        if inner and inner["is_glob"]:
+            self.walk_all(self.item(inner["id"])["inner"]["module"]["items"], path)
+        elif inner:
+            self.add(self.item(inner["id"]), f"{path}::{inner['name']}")
+        elif item["name"]:
+            self.add(item, f"{path}::{item['name']}")
+
+    def walk_all(self, numbers, path):
+        """Those of a module, and first those that it names from elsewhere."""
+        items = [item for item in map(self.item, numbers) if item]
+        for item in sorted(items, key=lambda item: "use" not in item["inner"]):
+            self.walk(item, path)
+        constants = sorted(item["name"] for item in items if "constant" in item["inner"])
+        if constants:
+            self.lines[f"{path}::"] = [f"consts of {path}: {' '.join(constants)}"]
+
+    def add(self, item, path):
+        kind = next(iter(item["inner"]))
+        inner = item["inner"][kind]
+        before = self.seen.setdefault(item["id"], path)
+        if before != path:
+            self.lines[path] = [f"{path} is {before}"]
+        elif kind == "module":
+            self.lines[path] = [f"mod {path}"]
+            self.walk_all(inner["items"], path)
+        elif kind in ("function", "static", "type_alias"):
+            self.lines[path] = [f"{path}: {self.text(item)}"]
+        elif kind != "constant":
+            open_ended = " (non_exhaustive)" if "non_exhaustive" in str(item["attrs"]) else ""
+            self.lines[path] = [f"{kind} {path}{open_ended}", *sorted({*self.members(inner, kind)})]
+
+    def members(self, inner, kind):
+        """The fields, variants and methods of a type, and the traits that it has."""
+        parts = inner["variants"] if kind == "enum" else inner["items"] if kind == "trait" else []
+        if kind == "struct":
+            shape = inner["kind"]
+            parts = shape.get("plain", {}).get("fields", shape.get("tuple", [])) if isinstance(shape, dict) else []
+        for number in parts:
+            if number is not None and (part := self.item(number)):
+                if (kind != "struct" or part["visibility"] == "public") and "hidden" not in str(part["attrs"]):
+                    yield f"    {self.text(part)}"
+        traits = set()
+        for number in inner.get("impls", []):
+            found = self.item(number)
+            made = found and found["inner"]["impl"]
+            if not made or made["is_synthetic"] or made["blanket_impl"]:
+                continue
+            if made["trait"]:
+                traits.add(made["trait"]["path"].rsplit("::", 1)[-1])
+            else:
+                for method in map(self.item, made["items"]):
+                    if method and method["visibility"] == "public" and "hidden" not in str(method["attrs"]):
+                        yield f"    {self.text(method)}"
+        if traits - OF_ITSELF:
+            yield f"    : {' + '.join(sorted(traits - OF_ITSELF))}"
+
+    def listed(self):
+        self.walk_all(self.item(self.said["root"])["inner"]["module"]["items"], "vukhaso")
+        return HEAD + "".join(f"{line}\n" for path in sorted(self.lines) for line in self.lines[path])
+
+
+def listed():
+    return Items().listed()
+
+
+def difference():
+    """The lines of the list that are not as they would be written."""
+    ours, theirs = LIST.read_text().splitlines(), listed().splitlines()
+    return "\n".join(difflib.unified_diff(ours, theirs, "public-items.txt", "the package", lineterm="", n=0))
