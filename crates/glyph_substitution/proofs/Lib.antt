@@ -5,3 +5,5 @@
 -- that was put out is in the cluster of the one that it came from (`BufferLemmas`).
 
 pub mod BufferLemmas
+pub mod EditsLemmas
+pub mod SinglesLemmas

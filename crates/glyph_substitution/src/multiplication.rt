@@ -1,12 +1,18 @@
 //! Edits that put one glyph or several in the place of one.
 
-ghost use Rattle.std.specs.Prelude.{◌≡◌, ◌<◌, true, length, IfOk};
+ghost use Rattle.std.specs.Prelude.{◌≡◌, ◌<◌, ◌==◌, ◌%◌, true, false, not, length, IfOk, Ok};
+ghost use Rattle.glyph_layout.specs.GlyphTable.{listed};
+ghost use Rattle.glyph_layout.specs.LigatureParts as parts;
+ghost use Rattle.glyph_substitution.specs.Edits as edits;
+ghost use Rattle.glyph_substitution.specs.Edits.{GivesOrWants, put_parts};
 ghost use Rattle.glyph_substitution.specs.Open.{IsLeftOpen};
+ghost use Rattle.glyph_substitution.specs.Writing.{has_twin_before};
 ghost use Rattle.shaping_buffer.specs.KeepsClusters.{KeepsClusters};
+ghost use Rattle.shaping_buffer.specs.Step.{Meets};
 
 use crate::properties::{BASE, LIGATURE, Way, substituted_props};
 use crate::substitution::Progress;
-use crate::writing::{drop_behind, write_properties};
+use crate::writing::{drop_behind, glyph_ahead, write_properties};
 use font_tables::gdef::Gdef;
 use glyph_layout::glyph_table::Glyphs;
 use glyph_layout::ligature_parts::{ligature_id, mark_properties};
@@ -18,12 +24,13 @@ use std::alloc::AllocError;
 pub(crate) fn set_class(buffer: &mut hb_buffer_t, gdef: &Gdef, glyph: u16, way: Way, guess: u16)
     requires opened { buffer.old.have_output ≡ true }
     requires glyph { 0 < length buffer.old.input }
+    ensures is { buffer.new ≡ edits.set_class gdef.now.table.now glyph way guess buffer.old }
     ensures opened { buffer.new.have_output ≡ true }
     ensures same_length { length buffer.new.input ≡ length buffer.old.input }
     ensures same_place { buffer.new.idx ≡ buffer.old.idx }
     ensures keeps { KeepsClusters buffer.old buffer.new }
 {
-    let mut written = *buffer.cur(0);
+    let mut written = glyph_ahead(buffer, 0);
     let props = substituted_props(gdef, written.glyph_props(), glyph, way, guess);
     written.set_glyph_props(props);
     write_properties(buffer, 0, &written);
@@ -33,6 +40,9 @@ pub(crate) fn set_class(buffer: &mut hb_buffer_t, gdef: &Gdef, glyph: u16, way: 
 pub(crate) fn replace(buffer: &mut hb_buffer_t, gdef: &Gdef, glyph: u16) -> Result<bool, AllocError>
     requires opened { buffer.old.have_output ≡ true }
     requires glyph { 0 < length buffer.old.input }
+    ensures meets { Meets (edits.replace gdef.now.table.now glyph buffer.old)
+        (edits.set_class gdef.now.table.now glyph Way.Replaced 0 buffer.old) result buffer.new }
+    ensures in_place { buffer.old.have_separate_output ≡ false → result ≡ Ok true }
     ensures left { IsLeftOpen result buffer.new }
     ensures keeps { KeepsClusters buffer.old buffer.new }
 {
@@ -50,14 +60,14 @@ pub(crate) fn choose(
 ) -> Result<bool, AllocError>
     requires opened { buffer.old.have_output ≡ true }
     requires glyph { 0 < length buffer.old.input }
+    ensures gives { GivesOrWants
+        (edits.choose gdef.now.table.now set.now.table.now progress.new.random_state buffer.old) result buffer.new }
+    ensures random { progress.new.random_state ≡ edits.next_random progress.old.random_state }
     ensures left { IsLeftOpen result buffer.new }
     ensures same_search { progress.new.search ≡ progress.old.search }
     ensures keeps { KeepsClusters buffer.old buffer.new }
 {
     mark_all(buffer);
-    if buffer.lookahead_len() == 0 {
-        return Ok(true);
-    }
     progress.random_state = next_random(progress.random_state);
     let index = if set.len() == 0 {
         0
@@ -70,7 +80,9 @@ pub(crate) fn choose(
 /// Marks all glyphs as unsafe to break.
 fn mark_all(buffer: &mut hb_buffer_t)
     requires { buffer.old.have_output ≡ true }
+    ensures is { buffer.new ≡ edits.mark_all buffer.old }
     ensures opened { buffer.new.have_output ≡ true }
+    ensures same_length { length buffer.new.input ≡ length buffer.old.input }
     ensures keeps { KeepsClusters buffer.old buffer.new }
 {
     let end = buffer.len();
@@ -78,7 +90,9 @@ fn mark_all(buffer: &mut hb_buffer_t)
 }
 
 /// The next random number (the generator `minstd_rand` of C++, in 32 bits as HarfBuzz computes it).
-fn next_random(state: u32) -> u32 {
+fn next_random(state: u32) -> u32
+    ensures { result ≡ edits.next_random state }
+{
     state.wrapping_mul(48271) % 2147483647
 }
 
@@ -90,6 +104,7 @@ pub(crate) fn multiply(
 ) -> Result<bool, AllocError>
     requires opened { buffer.old.have_output ≡ true }
     requires glyph { 0 < length buffer.old.input }
+    ensures gives { GivesOrWants (edits.multiply gdef.now.table.now sequence.now.table.now buffer.old) result buffer.new }
     ensures left { IsLeftOpen result buffer.new }
     ensures keeps { KeepsClusters buffer.old buffer.new }
 {
@@ -97,10 +112,9 @@ pub(crate) fn multiply(
         buffer.delete_glyph();
         return Ok(true);
     }
-    let (guess, is_part) = part_of(buffer.cur(0));
+    let whole = glyph_ahead(buffer, 0);
     for index in 0..sequence.len() {
-        set_component(buffer, index, is_part);
-        if !put_part(buffer, gdef, sequence.glyph(index), guess)? {
+        if !put_part(buffer, gdef, &whole, index, sequence.glyph(index))? {
             return Ok(false);
         }
     }
@@ -108,37 +122,43 @@ pub(crate) fn multiply(
     Ok(true)
 }
 
-/// Puts one of the glyphs out that come into the place of the current one.
+/// Puts one of the glyphs out that come into the place of a glyph, which is the current one but for its properties.
 fn put_part(
     buffer: &mut hb_buffer_t,
     gdef: &Gdef,
+    whole: &hb_glyph_info_t,
+    index: u16,
     glyph: u16,
-    guess: u16,
 ) -> Result<bool, AllocError>
     requires opened { buffer.old.have_output ≡ true }
     requires glyph { 0 < length buffer.old.input }
+    ensures gives { GivesOrWants (edits.put_part gdef.now.table.now whole.now index glyph buffer.old) result buffer.new }
     ensures left { IsLeftOpen result buffer.new }
     ensures glyph { IfOk result (λ _. 0 < length buffer.new.input) }
+    ensures twin { IfOk result (λ done. done ≡ true → has_twin_before buffer.new ≡ true) }
     ensures keeps { KeepsClusters buffer.old buffer.new }
 {
-    set_class(buffer, gdef, glyph, Way::Multiplied, guess);
+    set_component(buffer, index, ligature_id(whole) != 0);
+    set_class(buffer, gdef, glyph, Way::Multiplied, part_guess(whole));
     buffer.output_glyph(u32::from(glyph))
 }
 
-/// The class that is guessed for the parts of a glyph, and whether it belongs to a ligature: then that stays.
-fn part_of(glyph: &hb_glyph_info_t) -> (u16, bool) {
-    let guess = if glyph.glyph_props() & LIGATURE != 0 {
+/// The class that is guessed for the parts of a glyph.
+fn part_guess(whole: &hb_glyph_info_t) -> u16
+    ensures { result ≡ edits.part_guess whole.now }
+{
+    if whole.glyph_props() & LIGATURE != 0 {
         BASE
     } else {
         0
-    };
-    (guess, ligature_id(glyph) != 0)
+    }
 }
 
 /// Sets of which number the current glyph is, of those that come into the place of one that is no part of a ligature.
 fn set_component(buffer: &mut hb_buffer_t, index: u16, is_part: bool)
     requires opened { buffer.old.have_output ≡ true }
     requires glyph { 0 < length buffer.old.input }
+    ensures is { buffer.new ≡ edits.set_component is_part index buffer.old }
     ensures opened { buffer.new.have_output ≡ true }
     ensures same_length { length buffer.new.input ≡ length buffer.old.input }
     ensures same_place { buffer.new.idx ≡ buffer.old.idx }
@@ -147,7 +167,7 @@ fn set_component(buffer: &mut hb_buffer_t, index: u16, is_part: bool)
     if is_part {
         return;
     }
-    let mut written = *buffer.cur(0);
+    let mut written = glyph_ahead(buffer, 0);
     written.set_lig_props(mark_properties(0, (index % 16) as u8));
     write_properties(buffer, 0, &written);
 }

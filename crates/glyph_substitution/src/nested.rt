@@ -1,18 +1,20 @@
 //! A lookup at the cursor, and the lookups that it applies.
 
-ghost use Rattle.std.specs.Prelude.{◌≡◌, ◌+◌, ◌<◌, ◌≤◌, true, false, length, IfOk};
+ghost use Rattle.std.specs.Prelude.{◌≡◌, ◌+◌, ◌<◌, ◌≤◌, true, false, length, nat_lt, IfOk, IfSome, Ok};
 ghost use Rattle.glyph_layout.specs.Budget.{IsNotMore};
 ghost use Rattle.glyph_substitution.specs.Open.{IsLeftOpen};
+ghost use Rattle.glyph_substitution.specs.Turn as turn;
+ghost use Rattle.glyph_substitution.specs.Turn.{IsDecided, IsTurn, edited};
 ghost use Rattle.shaping_buffer.specs.KeepsClusters.{KeepsClusters};
 
 use crate::ligation::ligate;
 use crate::multiplication::{choose, multiply, replace};
 use crate::places::Matched;
 use crate::substitution::{Progress, Substitutions};
-use crate::writing::fail;
+use crate::writing::{fail, glyph_ahead};
 use glyph_layout::context::{Fit, Record};
 use glyph_layout::substitution::{Edit, edit_at};
-use glyph_layout::{Lookup, Reach, Sides, Walk};
+use glyph_layout::{Lookup, LookupOptions, Reach, Sides, Walk};
 use shaping_buffer::hb_buffer_t;
 use std::alloc::AllocError;
 
@@ -41,6 +43,9 @@ pub(crate) fn apply_at(
 ) -> Result<Step, AllocError>
     requires opened { buffer.old.have_output ≡ true }
     requires glyph { 0 < length buffer.old.input }
+    ensures turn { 0 < progress.new.search.budget.steps
+        → IsTurn substitutions.now lookup.now (nat_lt depth 64) progress.old.random_state buffer.old result buffer.new }
+    ensures changed { result ≡ Ok Step.Applied → progress.new.has_changed ≡ true }
     ensures left { IsLeftOpen result buffer.new }
     ensures spent { IsNotMore progress.old.search.budget progress.new.search.budget }
     ensures keeps { KeepsClusters buffer.old buffer.new }
@@ -54,6 +59,7 @@ pub(crate) fn apply_at(
     if !make(buffer, substitutions, &edit, progress, depth)? {
         return Ok(Step::Refused);
     }
+    progress.has_changed = true;
     mark_beyond(buffer, rest);
     Ok(Step::Applied)
 }
@@ -66,22 +72,20 @@ fn decide<'a>(
     progress: &mut Progress,
     depth: u32,
 ) -> Option<Edit<'a>>
-    requires { 0 < length buffer.now.input }
+    requires opened { buffer.now.have_output ≡ true }
+    requires glyph { 0 < length buffer.now.input }
+    ensures decided { 0 < progress.new.search.budget.steps
+        → IsDecided substitutions.now lookup.now (nat_lt depth 64) buffer.now result }
     ensures same_random { progress.new.random_state ≡ progress.old.random_state }
     ensures spent { IsNotMore progress.old.search.budget progress.new.search.budget }
 {
     let options = &substitutions.options;
-    let input = buffer.info();
     let sides = Sides {
         out: buffer.out_info(),
-        input,
+        input: buffer.info(),
         walk: Walk::over_input(lookup.filter, options, false),
         context: Walk::over_context(lookup.filter, options, false),
-        syllable: if options.per_syllable {
-            input[0].syllable()
-        } else {
-            0
-        },
+        syllable: syllable_at(buffer, options),
         is_level: buffer.out_len() == buffer.idx(),
     };
     progress.search.reach = Reach::none(sides.out.len());
@@ -96,9 +100,23 @@ fn decide<'a>(
     )
 }
 
+/// The syllable of the current glyph where all glyphs of a match are of one syllable, or else 0.
+fn syllable_at(buffer: &hb_buffer_t, options: &LookupOptions) -> u8
+    requires opened { buffer.now.have_output ≡ true }
+    requires glyph { 0 < length buffer.now.input }
+    ensures { result ≡ turn.syllable_at options.now buffer.now }
+{
+    if options.per_syllable {
+        glyph_ahead(buffer, 0).syllable()
+    } else {
+        0
+    }
+}
+
 /// Marks the glyphs that rules looked at which did not fit.
 fn mark_reach(buffer: &mut hb_buffer_t, reach: &Reach)
     requires { buffer.old.have_output ≡ true }
+    ensures is { buffer.new ≡ turn.mark_reach reach.now buffer.old }
     ensures opened { buffer.new.have_output ≡ true }
     ensures same_length { length buffer.new.input ≡ length buffer.old.input }
     ensures keeps { KeepsClusters buffer.old buffer.new }
@@ -112,7 +130,9 @@ fn mark_reach(buffer: &mut hb_buffer_t, reach: &Reach)
 }
 
 /// How many glyphs are left beyond those that other rules would have looked at; none where all rules were tried.
-fn rest_beyond(buffer: &hb_buffer_t, edit: &Edit) -> usize {
+fn rest_beyond(buffer: &hb_buffer_t, edit: &Edit) -> usize
+    ensures { result ≡ turn.rest_beyond edit.now buffer.now }
+{
     let beyond = match *edit {
         Edit::Ligate(ligation) => ligation.beyond,
         Edit::Apply(fit) => fit.beyond,
@@ -124,6 +144,7 @@ fn rest_beyond(buffer: &hb_buffer_t, edit: &Edit) -> usize {
 /// Marks the glyphs from the cursor on that are not among so many at the end.
 fn mark_beyond(buffer: &mut hb_buffer_t, rest: usize)
     requires { buffer.old.have_output ≡ true }
+    ensures is { buffer.new ≡ turn.mark_beyond rest buffer.old }
     ensures opened { buffer.new.have_output ≡ true }
     ensures keeps { KeepsClusters buffer.old buffer.new }
 {
@@ -146,12 +167,13 @@ fn make(
 ) -> Result<bool, AllocError>
     requires opened { buffer.old.have_output ≡ true }
     requires glyph { 0 < length buffer.old.input }
+    ensures edited { IfSome (edited substitutions.now.gdef.now.table.now progress.old.random_state edit.now buffer.old)
+        (λ outcome. turn.Ends edit.now outcome buffer.old result buffer.new) }
     ensures left { IsLeftOpen result buffer.new }
     ensures spent { IsNotMore progress.old.search.budget progress.new.search.budget }
     ensures keeps { KeepsClusters buffer.old buffer.new }
 {
     let gdef = substitutions.gdef;
-    progress.has_changed = true;
     match *edit {
         Edit::Replace(glyph) => replace(buffer, gdef, glyph),
         Edit::Choose(set) => choose(buffer, gdef, &set, progress),

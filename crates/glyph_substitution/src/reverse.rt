@@ -1,9 +1,9 @@
 //! Reverse substitutions: glyphs are replaced in place, from the last one to the first, so that each sees what became of
 //! those behind it.
 
-ghost use Rattle.std.specs.Prelude.{◌≡◌, ◌<◌, false, length};
+ghost use Rattle.std.specs.Prelude.{◌≡◌, ◌<◌, ◌+◌, false, length};
 ghost use Rattle.glyph_layout.specs.Budget.{IsNotMore};
-ghost use Rattle.shaping_buffer.specs.Clusters.{clusters};
+ghost use Rattle.glyph_substitution.specs.Edits as edits;
 ghost use Rattle.shaping_buffer.specs.KeepsClusters.{KeepsClusters};
 
 use crate::properties::{Way, substituted_props};
@@ -56,6 +56,7 @@ fn substitute_one(
 /// Makes an edit of the glyph at a place.
 fn make(buffer: &mut hb_buffer_t, gdef: &Gdef, place: usize, edit: &Edit)
     requires { buffer.old.have_output ≡ false }
+    ensures is { buffer.new ≡ edits.made_in_place gdef.now.table.now place edit.now buffer.old }
     ensures closed { buffer.new.have_output ≡ false }
     ensures keeps { KeepsClusters buffer.old buffer.new }
 {
@@ -118,6 +119,7 @@ fn mark_concat(buffer: &mut hb_buffer_t, reach: &Reach, place: usize)
 /// Marks the glyphs of a range as unsafe to break.
 fn mark_break(buffer: &mut hb_buffer_t, from: usize, to: usize)
     requires { buffer.old.have_output ≡ false }
+    ensures is { buffer.new ≡ edits.mark_break from to buffer.old }
     ensures closed { buffer.new.have_output ≡ false }
     ensures keeps { KeepsClusters buffer.old buffer.new }
 {
@@ -130,6 +132,7 @@ fn mark_break(buffer: &mut hb_buffer_t, from: usize, to: usize)
 /// Replaces the glyph at a place of the buffer.
 fn replace_in_place(buffer: &mut hb_buffer_t, gdef: &Gdef, place: usize, glyph: u16)
     requires { buffer.old.have_output ≡ false }
+    ensures is { buffer.new ≡ edits.replace_in_place gdef.now.table.now place glyph buffer.old }
     ensures closed { buffer.new.have_output ≡ false }
     ensures keeps { KeepsClusters buffer.old buffer.new }
 {
@@ -138,12 +141,13 @@ fn replace_in_place(buffer: &mut hb_buffer_t, gdef: &Gdef, place: usize, glyph: 
 
 /// Replaces the glyph at a place.
 fn set_glyph_at(glyphs: &mut [hb_glyph_info_t], gdef: &Gdef, place: usize, glyph: u16)
-    ensures { clusters glyphs.new ≡ clusters glyphs.old }
+    ensures { glyphs.new ≡ edits.replace_at gdef.now.table.now place glyph glyphs.old }
 {
     if place < glyphs.len() {
-        let old = glyphs[place].glyph_props();
-        let new = substituted_props(gdef, old, glyph, Way::Replaced, 0);
-        glyphs[place].set_glyph_props(new);
-        glyphs[place].glyph_id = u32::from(glyph);
+        let mut written = glyphs[place];
+        let props = substituted_props(gdef, written.glyph_props(), glyph, Way::Replaced, 0);
+        written.set_glyph_props(props);
+        written.glyph_id = u32::from(glyph);
+        glyphs[place] = written;
     }
 }

@@ -1,7 +1,7 @@
 //! What is set before lookups are applied.
 
-ghost use Rattle.std.specs.Prelude.{◌≡◌, false};
-ghost use Rattle.shaping_buffer.specs.Clusters.{clusters};
+ghost use Rattle.std.specs.Prelude.{◌≡◌, false, map};
+ghost use Rattle.glyph_substitution.specs.Properties.{first_props, started};
 ghost use Rattle.shaping_buffer.specs.KeepsClusters.{KeepsClusters};
 
 use crate::properties::{BASE, MARK};
@@ -23,6 +23,7 @@ const IGNORABLE: u16 = 0x0020;
 /// glyph is part of a ligature or of a syllable yet.
 pub fn substitute_start(buffer: &mut hb_buffer_t, gdef: &Gdef)
     requires { buffer.old.have_output ≡ false }
+    ensures is { buffer.new ≡ record buffer.old { input = map (started gdef.now.table.now) buffer.old.input } }
     ensures closed { buffer.new.have_output ≡ false }
     ensures keeps { KeepsClusters buffer.old buffer.new }
 {
@@ -30,16 +31,19 @@ pub fn substitute_start(buffer: &mut hb_buffer_t, gdef: &Gdef)
 }
 
 /// Sets the properties of each glyph.
+#[tactic(auto, using(glyph_lists::proofs::MapLemmas::walks))]
 fn set_all(glyphs: &mut [hb_glyph_info_t], gdef: &Gdef)
-    ensures { clusters glyphs.new ≡ clusters glyphs.old }
+    ensures { glyphs.new ≡ map (started gdef.now.table.now) glyphs.old }
 {
-    for index in 0..glyphs.len() {
-        glyphs[index].var1 = u32::from(first_props(&glyphs[index], gdef));
+    for glyph in glyphs.iter_mut() {
+        glyph.var1 = u32::from(first_props(glyph, gdef));
     }
 }
 
 /// The properties of a glyph that no lookup has changed.
-fn first_props(info: &hb_glyph_info_t, gdef: &Gdef) -> u16 {
+fn first_props(info: &hb_glyph_info_t, gdef: &Gdef) -> u16
+    ensures { result ≡ first_props gdef.now.table.now info.now }
+{
     if gdef.has_glyph_classes() {
         return match u16::try_from(info.glyph_id) {
             Ok(glyph) => gdef.glyph_props(GlyphId(glyph)),

@@ -1,8 +1,12 @@
 //! One lookup, applied to all glyphs of a buffer.
 
-ghost use Rattle.std.specs.Prelude.{◌≡◌, ◌+◌, ◌<◌, ◌≤◌, true, false, length, IfOk};
+ghost use Rattle.std.specs.Prelude.{ℕ, ◌≡◌, ◌+◌, ◌<◌, ◌≤◌, true, false, length, slice_get, IfOk, Ok, Some};
 ghost use Rattle.glyph_layout.specs.Budget.{IsNotMore};
+ghost use Rattle.glyph_layout.specs.Lookup.{is_for};
+ghost use Rattle.glyph_layout.specs.Subtables.{subtables_of};
+ghost use Rattle.glyph_layout.specs.Walk.{glyph_at};
 ghost use Rattle.glyph_substitution.specs.Open.{IsLeftOpen, IsLeftClosed};
+ghost use Rattle.glyph_substitution.specs.Singles.{GoesOn, HasMoved, IsForNext, IsLevel, IsSingle, IsSingleIf, IsSubstituted, moved, opened_at, starts_reverse, substituted};
 ghost use Rattle.shaping_buffer.specs.KeepsClusters.{KeepsClusters};
 
 use crate::nested::{MAX_NESTING_LEVEL, Step, apply_at};
@@ -64,6 +68,10 @@ pub fn substitute(
     progress: &mut Progress,
 ) -> Result<bool, AllocError>
     requires { buffer.old.have_output ≡ false }
+    ensures singles { let lookup = slice_get substitutions.now.list.now.lookups.items index in
+        0 < progress.new.search.budget.steps → buffer.old.successful ≡ true
+        → IsSingleIf substitutions.now lookup buffer.old
+        → IsSubstituted substitutions.now lookup buffer.old result buffer.new }
     ensures left { IsLeftClosed result buffer.new }
     ensures spent { IsNotMore progress.old.search.budget progress.new.search.budget }
     ensures keeps { KeepsClusters buffer.old buffer.new }
@@ -96,6 +104,13 @@ fn apply(
 ) -> Result<bool, AllocError>
     requires closed { buffer.old.have_output ≡ false }
     requires first { first ≤ length buffer.old.input }
+    requires passed { (place : ℕ) → place < first
+        → is_for lookup.now substitutions.now.options.mask (glyph_at buffer.old.input place) ≡ false }
+    requires at { first < length buffer.old.input
+        → is_for lookup.now substitutions.now.options.mask (glyph_at buffer.old.input first) ≡ true }
+    ensures singles { 0 < progress.new.search.budget.steps → buffer.old.successful ≡ true
+        → IsSingle substitutions.now lookup.now buffer.old
+        → IsSubstituted substitutions.now (Some lookup.now) buffer.old result buffer.new }
     ensures left { IsLeftClosed result buffer.new }
     ensures spent { IsNotMore progress.old.search.budget progress.new.search.budget }
     ensures keeps { KeepsClusters buffer.old buffer.new }
@@ -118,6 +133,7 @@ fn fail_if_spent(buffer: &mut hb_buffer_t, progress: &Progress)
     ensures same_length { length buffer.new.input ≡ length buffer.old.input }
     ensures keeps { KeepsClusters buffer.old buffer.new }
     ensures says { progress.now.search.budget.steps ≡ 0 → buffer.new.shaping_failed ≡ true }
+    ensures same { 0 < progress.now.search.budget.steps → buffer.new ≡ buffer.old }
 {
     if progress.search.budget.is_spent() {
         fail(buffer);
@@ -125,7 +141,9 @@ fn fail_if_spent(buffer: &mut hb_buffer_t, progress: &Progress)
 }
 
 /// Whether a lookup is applied from the end.
-fn is_reverse(list: &LookupList, lookup: &Lookup) -> bool {
+fn is_reverse(list: &LookupList, lookup: &Lookup) -> bool
+    ensures { result ≡ starts_reverse (subtables_of list.now.subtables.items lookup.now) }
+{
     match list.subtables_of(lookup).first() {
         Some(subtable) => subtable.kind == REVERSE,
         None => false,
@@ -142,24 +160,67 @@ fn substitute_forward(
 ) -> Result<bool, AllocError>
     requires closed { buffer.old.have_output ≡ false }
     requires first { first ≤ length buffer.old.input }
+    requires passed { (place : ℕ) → place < first
+        → is_for lookup.now substitutions.now.options.mask (glyph_at buffer.old.input place) ≡ false }
+    requires at { first < length buffer.old.input
+        → is_for lookup.now substitutions.now.options.mask (glyph_at buffer.old.input first) ≡ true }
+    ensures singles { 0 < progress.new.search.budget.steps → buffer.old.successful ≡ true
+        → IsSingle substitutions.now lookup.now buffer.old
+        → IsSubstituted substitutions.now (Some lookup.now) buffer.old result buffer.new }
     ensures left { IsLeftClosed result buffer.new }
     ensures spent { IsNotMore progress.old.search.budget progress.new.search.budget }
     ensures keeps { KeepsClusters buffer.old buffer.new }
 {
-    buffer.clear_output();
-    if first > 0 && !buffer.next_glyphs(first)? {
+    prove!(!buffer.have_separate_output());
+    prove!(buffer.out_len() == 0);
+    prove!(first <= buffer.len());
+    if !open_at(buffer, first)? {
         return Ok(false);
     }
+    if !substitute_rest(buffer, substitutions, lookup, progress)? {
+        return Ok(false);
+    }
+    fail_if_spent(buffer, progress);
+    buffer.sync()
+}
+
+/// Opens an output, and puts the first glyphs out.
+fn open_at(buffer: &mut hb_buffer_t, first: usize) -> Result<bool, AllocError>
+    requires closed { buffer.old.have_output ≡ false }
+    requires first { first ≤ length buffer.old.input }
+    ensures opened { (result ≡ Ok true) × (buffer.new ≡ opened_at first buffer.old) }
+    ensures left { IsLeftOpen result buffer.new }
+    ensures keeps { KeepsClusters buffer.old buffer.new }
+{
+    buffer.clear_output();
+    buffer.next_glyphs(first)
+}
+
+/// Applies the lookup at each glyph from the cursor on, while steps are left.
+fn substitute_rest(
+    buffer: &mut hb_buffer_t,
+    substitutions: &Substitutions,
+    lookup: &Lookup,
+    progress: &mut Progress,
+) -> Result<bool, AllocError>
+    requires opened { buffer.old.have_output ≡ true }
+    ensures singles { 0 < progress.new.search.budget.steps → IsSingle substitutions.now lookup.now buffer.old
+        → IsLevel buffer.old → IsForNext substitutions.now lookup.now buffer.old
+        → (result ≡ Ok true)
+        × (buffer.new ≡ moved (substituted substitutions.now lookup.now) (length buffer.old.input) buffer.old) }
+    ensures left { IsLeftOpen result buffer.new }
+    ensures spent { IsNotMore progress.old.search.budget progress.new.search.budget }
+    ensures keeps { KeepsClusters buffer.old buffer.new }
+{
     for _turn in 0..buffer.len() {
         if buffer.lookahead_len() == 0 || progress.search.budget.is_spent() {
-            break;
+            return Ok(true);
         }
         if !substitute_next(buffer, substitutions, lookup, progress)? {
             return Ok(false);
         }
     }
-    fail_if_spent(buffer, progress);
-    buffer.sync()
+    Ok(true)
 }
 
 /// Applies the lookup at the cursor, and puts out the glyphs behind that it is not for.
@@ -171,6 +232,9 @@ fn substitute_next(
 ) -> Result<bool, AllocError>
     requires opened { buffer.old.have_output ≡ true }
     requires glyph { 0 < length buffer.old.input }
+    ensures singles { 0 < progress.new.search.budget.steps → IsSingle substitutions.now lookup.now buffer.old
+        → IsLevel buffer.old → IsForNext substitutions.now lookup.now buffer.old
+        → (result ≡ Ok true) × HasMoved substitutions.now lookup.now 1 buffer.old buffer.new }
     ensures left { IsLeftOpen result buffer.new }
     ensures spent { IsNotMore progress.old.search.budget progress.new.search.budget }
     ensures keeps { KeepsClusters buffer.old buffer.new }
@@ -190,6 +254,8 @@ fn go_on(
     count: usize,
 ) -> Result<bool, AllocError>
     requires { buffer.old.have_output ≡ true }
+    ensures on { IfOk result (λ done. GoesOn lookup.now substitutions.now.options.mask count buffer.old done buffer.new) }
+    ensures in_place { buffer.old.have_separate_output ≡ false → result ≡ Ok true }
     ensures left { IsLeftOpen result buffer.new }
     ensures keeps { KeepsClusters buffer.old buffer.new }
 {

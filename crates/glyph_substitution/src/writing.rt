@@ -2,6 +2,7 @@
 //! buffer. No cluster changes by it.
 
 ghost use Rattle.std.specs.Prelude.{◌≡◌, ◌<◌, true, length};
+ghost use Rattle.glyph_substitution.specs.Writing as writing;
 ghost use Rattle.shaping_buffer.specs.ClusterStep.{any_order};
 ghost use Rattle.shaping_buffer.specs.KeepsClusters.{KeepsClusters};
 
@@ -11,10 +12,20 @@ use shaping_buffer::cluster_level::{
 };
 use shaping_buffer::hb_buffer_t;
 
+/// The glyph so many places ahead of the cursor.
+pub(crate) fn glyph_ahead(buffer: &hb_buffer_t, ahead: usize) -> hb_glyph_info_t
+    requires opened { buffer.now.have_output ≡ true }
+    requires glyph { ahead < length buffer.now.input }
+    ensures { result ≡ writing.glyph_ahead ahead buffer.now }
+{
+    *buffer.cur(ahead)
+}
+
 /// Writes the properties of a glyph so many places ahead of the cursor: the words `var1` and `var2`.
 pub(crate) fn write_properties(buffer: &mut hb_buffer_t, ahead: usize, glyph: &hb_glyph_info_t)
     requires opened { buffer.old.have_output ≡ true }
     requires glyph { ahead < length buffer.old.input }
+    ensures is { buffer.new ≡ writing.write_properties ahead glyph.now buffer.old }
     ensures opened { buffer.new.have_output ≡ true }
     ensures same_length { length buffer.new.input ≡ length buffer.old.input }
     ensures same_place { buffer.new.idx ≡ buffer.old.idx }
@@ -41,17 +52,30 @@ pub(crate) fn fail(buffer: &mut hb_buffer_t)
 pub(crate) fn drop_behind(buffer: &mut hb_buffer_t)
     requires opened { buffer.old.have_output ≡ true }
     requires glyph { 0 < length buffer.old.input }
+    ensures is { buffer.new ≡ writing.drop_behind buffer.old }
     ensures opened { buffer.new.have_output ≡ true }
     ensures same_out { length buffer.new.out ≡ length buffer.old.out }
     ensures keeps { KeepsClusters buffer.old buffer.new }
 {
-    if buffer.out_len() > 0 && buffer.prev().cluster == buffer.cur(0).cluster {
+    if has_twin_before(buffer) {
         buffer.skip_glyph();
     } else if may_stand_in_any_order(buffer) {
         buffer.skip_glyph();
     } else {
         buffer.delete_glyph();
     }
+}
+
+/// Whether the last glyph that was put out is in the cluster of the current one.
+fn has_twin_before(buffer: &hb_buffer_t) -> bool
+    requires opened { buffer.now.have_output ≡ true }
+    requires glyph { 0 < length buffer.now.input }
+    ensures { result ≡ writing.has_twin_before buffer.now }
+{
+    if buffer.out_len() == 0 {
+        return false;
+    }
+    buffer.prev().cluster == glyph_ahead(buffer, 0).cluster
 }
 
 /// Whether clusters may stand in any order.

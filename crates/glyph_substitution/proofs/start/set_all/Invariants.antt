@@ -1,6 +1,7 @@
 use Rattle.std.proofs.Common.{◌≡◌}
-use Rattle.shaping_buffer.specs.Clusters.{clusters}
+use Rattle.glyph_lists.proofs.MapLemmas.{mapped}
+use Rattle.glyph_substitution.specs.Properties.{started}
 use Rattle.glyph_substitution.proofs.start.set_all.Given as goal
 
-abbrev pub invariant-loop-index : goal.invariant-loop-index
-invariant-loop-index l = clusters l.glyphs ≡ clusters l.fn.glyphs
+abbrev pub invariant-loop-glyph : goal.invariant-loop-glyph
+invariant-loop-glyph l = l.glyphs ≡ mapped (started l.gdef.table.now) l.glyph-index l.fn.glyphs

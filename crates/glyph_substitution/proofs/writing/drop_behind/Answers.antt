@@ -1,17 +1,20 @@
-use Rattle.std.proofs.Common.{◌<◌, length, arith, ap, ◌∙◌, drop}
+use Rattle.std.proofs.Common.{length, ap, sym, ◌∙◌, drop}
 use Rattle.glyph_lists.proofs.LengthsLemmas.{length-deletion}
 use Rattle.shaping_buffer.specs.State.{State}
 use Rattle.shaping_buffer.specs.ClusterStep.{any_order, head_of}
 use Rattle.glyph_substitution.proofs.BufferLemmas.{twin_before}
+use Rattle.glyph_substitution.proofs.EditsLemmas.{drop_behind-twin}
 use Rattle.glyph_substitution.proofs.writing.drop_behind.Goals as goal
 
-pub returns-then-prev-cur-clause-keeps : goal.returns-then-prev-cur-clause-keeps
-returns-then-prev-cur-clause-keeps c =
-    let some_out : 0 < length c.args.buffer.now.out
-    = omega (arith, c.if-out_len-gt0.true, c.out_len.ensures.out_len) in
-    c.skip_glyph.ensures.keeps
-    (twin_before c.args.buffer.now c.prev.result.now c.cur.result.now c.requires.opened some_out c.requires.glyph
-    c.prev.ensures c.cur.ensures c.if-prev-cur.true)
+pub returns-then-has_twin_before-clause-keeps : goal.returns-then-has_twin_before-clause-keeps
+returns-then-has_twin_before-clause-keeps c =
+    c.skip_glyph.ensures.keeps (twin_before c.args.buffer.now c.requires.opened
+    (sym c.has_twin_before.ensures ∙ c.if-has_twin_before.true))
+
+pub returns-then-has_twin_before-clause-is : goal.returns-then-has_twin_before-clause-is
+returns-then-has_twin_before-clause-is c =
+    c.skip_glyph.ensures.is
+    ∙ sym (drop_behind-twin c.args.buffer.now (sym c.has_twin_before.ensures ∙ c.if-has_twin_before.true))
 
 pub returns-else-may_stand_in_any_order-clause-same_out : goal.returns-else-may_stand_in_any_order-clause-same_out
 returns-else-may_stand_in_any_order-clause-same_out c =

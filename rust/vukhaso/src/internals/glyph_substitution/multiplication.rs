@@ -9,7 +9,7 @@ use crate::glyph_layout::glyph_table::Glyphs;
 use crate::glyph_layout::ligature_parts::{ligature_id, mark_properties};
 use crate::glyph_substitution::properties::{BASE, LIGATURE, Way, substituted_props};
 use crate::glyph_substitution::substitution::Progress;
-use crate::glyph_substitution::writing::{drop_behind, write_properties};
+use crate::glyph_substitution::writing::{drop_behind, glyph_ahead, write_properties};
 use crate::memory::AllocError;
 
 /// Sets the properties of the current glyph to those of the glyph that comes into its place.
@@ -21,7 +21,7 @@ use crate::memory::AllocError;
 pub(crate) fn set_class(buffer: &mut hb_buffer_t, gdef: &Gdef, glyph: u16, way: Way, guess: u16) {
     debug_assert!(buffer.have_output());
     debug_assert!(!buffer.info().is_empty());
-    let mut written = *buffer.cur(0);
+    let mut written = glyph_ahead(buffer, 0);
     let props = substituted_props(gdef, written.glyph_props(), glyph, way, guess);
     written.set_glyph_props(props);
     write_properties(buffer, 0, &written);
@@ -60,9 +60,6 @@ pub(crate) fn choose(
     debug_assert!(buffer.have_output());
     debug_assert!(!buffer.info().is_empty());
     mark_all(buffer);
-    if buffer.lookahead_len() == 0 {
-        return Ok(true);
-    }
     progress.random_state = next_random(progress.random_state);
     let index = if set.len() == 0 {
         0
@@ -106,10 +103,9 @@ pub(crate) fn multiply(
         buffer.delete_glyph();
         return Ok(true);
     }
-    let (guess, is_part) = part_of(buffer.cur(0));
+    let whole = glyph_ahead(buffer, 0);
     for index in 0..sequence.len() {
-        set_component(buffer, index, is_part);
-        if !put_part(buffer, gdef, sequence.glyph(index), guess)? {
+        if !put_part(buffer, gdef, &whole, index, sequence.glyph(index))? {
             return Ok(false);
         }
     }
@@ -117,7 +113,8 @@ pub(crate) fn multiply(
     Ok(true)
 }
 
-/// Puts one of the glyphs out that come into the place of the current one.
+/// Puts one of the glyphs out that come into the place of a glyph, which is the current one but for its
+/// properties.
 ///
 /// # Requires
 ///
@@ -126,24 +123,24 @@ pub(crate) fn multiply(
 fn put_part(
     buffer: &mut hb_buffer_t,
     gdef: &Gdef,
+    whole: &hb_glyph_info_t,
+    index: u16,
     glyph: u16,
-    guess: u16,
 ) -> Result<bool, AllocError> {
     debug_assert!(buffer.have_output());
     debug_assert!(!buffer.info().is_empty());
-    set_class(buffer, gdef, glyph, Way::Multiplied, guess);
+    set_component(buffer, index, ligature_id(whole) != 0);
+    set_class(buffer, gdef, glyph, Way::Multiplied, part_guess(whole));
     buffer.output_glyph(u32::from(glyph))
 }
 
-/// The class that is guessed for the parts of a glyph, and whether it belongs to a ligature: then that
-/// stays.
-fn part_of(glyph: &hb_glyph_info_t) -> (u16, bool) {
-    let guess = if glyph.glyph_props() & LIGATURE != 0 {
+/// The class that is guessed for the parts of a glyph.
+fn part_guess(whole: &hb_glyph_info_t) -> u16 {
+    if whole.glyph_props() & LIGATURE != 0 {
         BASE
     } else {
         0
-    };
-    (guess, ligature_id(glyph) != 0)
+    }
 }
 
 /// Sets of which number the current glyph is, of those that come into the place of one that is no part
@@ -159,7 +156,7 @@ fn set_component(buffer: &mut hb_buffer_t, index: u16, is_part: bool) {
     if is_part {
         return;
     }
-    let mut written = *buffer.cur(0);
+    let mut written = glyph_ahead(buffer, 0);
     written.set_lig_props(mark_properties(0, (index % 16) as u8));
     write_properties(buffer, 0, &written);
 }

@@ -5,12 +5,12 @@
 use crate::buffer::hb_buffer_t;
 use crate::glyph_layout::context::{Fit, Record};
 use crate::glyph_layout::substitution::{Edit, edit_at};
-use crate::glyph_layout::{Lookup, Reach, Sides, Walk};
+use crate::glyph_layout::{Lookup, LookupOptions, Reach, Sides, Walk};
 use crate::glyph_substitution::ligation::ligate;
 use crate::glyph_substitution::multiplication::{choose, multiply, replace};
 use crate::glyph_substitution::places::Matched;
 use crate::glyph_substitution::substitution::{Progress, Substitutions};
-use crate::glyph_substitution::writing::fail;
+use crate::glyph_substitution::writing::{fail, glyph_ahead};
 use crate::memory::AllocError;
 
 /// How deep lookups may apply others (HarfBuzz, `HB_MAX_NESTING_LEVEL`).
@@ -51,6 +51,7 @@ pub(crate) fn apply_at(
     if !make(buffer, substitutions, &edit, progress, depth)? {
         return Ok(Step::Refused);
     }
+    progress.has_changed = true;
     mark_beyond(buffer, rest);
     Ok(Step::Applied)
 }
@@ -59,7 +60,8 @@ pub(crate) fn apply_at(
 ///
 /// # Requires
 ///
-/// - `0 < length buffer.now.input`
+/// - `opened: buffer.now.have_output ≡ true`
+/// - `glyph: 0 < length buffer.now.input`
 fn decide<'a>(
     buffer: &hb_buffer_t,
     substitutions: &Substitutions<'a>,
@@ -67,19 +69,15 @@ fn decide<'a>(
     progress: &mut Progress,
     depth: u32,
 ) -> Option<Edit<'a>> {
+    debug_assert!(buffer.have_output());
     debug_assert!(!buffer.info().is_empty());
     let options = &substitutions.options;
-    let input = buffer.info();
     let sides = Sides {
         out: buffer.out_info(),
-        input,
+        input: buffer.info(),
         walk: Walk::over_input(lookup.filter, options, false),
         context: Walk::over_context(lookup.filter, options, false),
-        syllable: if options.per_syllable {
-            input[0].syllable()
-        } else {
-            0
-        },
+        syllable: syllable_at(buffer, options),
         is_level: buffer.out_len() == buffer.idx(),
     };
     progress.search.reach = Reach::none(sides.out.len());
@@ -92,6 +90,22 @@ fn decide<'a>(
         &sides,
         &mut progress.search,
     )
+}
+
+/// The syllable of the current glyph where all glyphs of a match are of one syllable, or else 0.
+///
+/// # Requires
+///
+/// - `opened: buffer.now.have_output ≡ true`
+/// - `glyph: 0 < length buffer.now.input`
+fn syllable_at(buffer: &hb_buffer_t, options: &LookupOptions) -> u8 {
+    debug_assert!(buffer.have_output());
+    debug_assert!(!buffer.info().is_empty());
+    if options.per_syllable {
+        glyph_ahead(buffer, 0).syllable()
+    } else {
+        0
+    }
 }
 
 /// Marks the glyphs that rules looked at which did not fit.
@@ -155,7 +169,6 @@ fn make(
     debug_assert!(buffer.have_output());
     debug_assert!(!buffer.info().is_empty());
     let gdef = substitutions.gdef;
-    progress.has_changed = true;
     match *edit {
         Edit::Replace(glyph) => replace(buffer, gdef, glyph),
         Edit::Choose(set) => choose(buffer, gdef, &set, progress),

@@ -138,9 +138,10 @@ fn replace_in_place(buffer: &mut hb_buffer_t, gdef: &Gdef, place: usize, glyph: 
 /// Replaces the glyph at a place.
 fn set_glyph_at(glyphs: &mut [hb_glyph_info_t], gdef: &Gdef, place: usize, glyph: u16) {
     if place < glyphs.len() {
-        let old = glyphs[place].glyph_props();
-        let new = substituted_props(gdef, old, glyph, Way::Replaced, 0);
-        glyphs[place].set_glyph_props(new);
-        glyphs[place].glyph_id = u32::from(glyph);
+        let mut written = glyphs[place];
+        let props = substituted_props(gdef, written.glyph_props(), glyph, Way::Replaced, 0);
+        written.set_glyph_props(props);
+        written.glyph_id = u32::from(glyph);
+        glyphs[place] = written;
     }
 }

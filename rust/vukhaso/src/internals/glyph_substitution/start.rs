@@ -27,6 +27,7 @@ const IGNORABLE: u16 = 0x0020;
 /// # Proved
 ///
 /// ```text
+/// ensures is { buffer.new ≡ record buffer.old { input = map (started gdef.now.table.now) buffer.old.input } }
 /// ensures closed { buffer.new.have_output ≡ false }
 /// ensures keeps { KeepsClusters buffer.old buffer.new }
 /// ```
@@ -38,8 +39,8 @@ pub fn substitute_start(buffer: &mut hb_buffer_t, gdef: &Gdef) {
 
 /// Sets the properties of each glyph.
 fn set_all(glyphs: &mut [hb_glyph_info_t], gdef: &Gdef) {
-    for index in 0..glyphs.len() {
-        glyphs[index].var1 = u32::from(first_props(&glyphs[index], gdef));
+    for glyph in glyphs.iter_mut() {
+        glyph.var1 = u32::from(first_props(glyph, gdef));
     }
 }
 

@@ -71,6 +71,10 @@ impl Progress {
 /// # Proved
 ///
 /// ```text
+/// ensures singles { let lookup = slice_get substitutions.now.list.now.lookups.items index in
+///     0 < progress.new.search.budget.steps → buffer.old.successful ≡ true
+///     → IsSingleIf substitutions.now lookup buffer.old
+///     → IsSubstituted substitutions.now lookup buffer.old result buffer.new }
 /// ensures left { IsLeftClosed result buffer.new }
 /// ensures spent { IsNotMore progress.old.search.budget progress.new.search.budget }
 /// ensures keeps { KeepsClusters buffer.old buffer.new }
@@ -107,6 +111,8 @@ pub fn substitute(
 ///
 /// - `closed: buffer.old.have_output ≡ false`
 /// - `first: first ≤ length buffer.old.input`
+/// - `passed: (place : ℕ) → place < first → is_for lookup.now substitutions.now.options.mask (glyph_at buffer.old.input place) ≡ false`
+/// - `at: first < length buffer.old.input → is_for lookup.now substitutions.now.options.mask (glyph_at buffer.old.input first) ≡ true`
 fn apply(
     buffer: &mut hb_buffer_t,
     substitutions: &Substitutions,
@@ -149,6 +155,8 @@ fn is_reverse(list: &LookupList, lookup: &Lookup) -> bool {
 ///
 /// - `closed: buffer.old.have_output ≡ false`
 /// - `first: first ≤ length buffer.old.input`
+/// - `passed: (place : ℕ) → place < first → is_for lookup.now substitutions.now.options.mask (glyph_at buffer.old.input place) ≡ false`
+/// - `at: first < length buffer.old.input → is_for lookup.now substitutions.now.options.mask (glyph_at buffer.old.input first) ≡ true`
 fn substitute_forward(
     buffer: &mut hb_buffer_t,
     substitutions: &Substitutions,
@@ -158,20 +166,53 @@ fn substitute_forward(
 ) -> Result<bool, AllocError> {
     debug_assert!(!buffer.have_output());
     debug_assert!(first <= buffer.info().len());
-    buffer.clear_output();
-    if first > 0 && !buffer.next_glyphs(first)? {
+    debug_assert!(!buffer.have_separate_output());
+    debug_assert!(buffer.out_len() == 0);
+    debug_assert!(first <= buffer.len());
+    if !open_at(buffer, first)? {
         return Ok(false);
     }
+    if !substitute_rest(buffer, substitutions, lookup, progress)? {
+        return Ok(false);
+    }
+    fail_if_spent(buffer, progress);
+    buffer.sync()
+}
+
+/// Opens an output, and puts the first glyphs out.
+///
+/// # Requires
+///
+/// - `closed: buffer.old.have_output ≡ false`
+/// - `first: first ≤ length buffer.old.input`
+fn open_at(buffer: &mut hb_buffer_t, first: usize) -> Result<bool, AllocError> {
+    debug_assert!(!buffer.have_output());
+    debug_assert!(first <= buffer.info().len());
+    buffer.clear_output();
+    buffer.next_glyphs(first)
+}
+
+/// Applies the lookup at each glyph from the cursor on, while steps are left.
+///
+/// # Requires
+///
+/// - `opened: buffer.old.have_output ≡ true`
+fn substitute_rest(
+    buffer: &mut hb_buffer_t,
+    substitutions: &Substitutions,
+    lookup: &Lookup,
+    progress: &mut Progress,
+) -> Result<bool, AllocError> {
+    debug_assert!(buffer.have_output());
     for _turn in 0..buffer.len() {
         if buffer.lookahead_len() == 0 || progress.search.budget.is_spent() {
-            break;
+            return Ok(true);
         }
         if !substitute_next(buffer, substitutions, lookup, progress)? {
             return Ok(false);
         }
     }
-    fail_if_spent(buffer, progress);
-    buffer.sync()
+    Ok(true)
 }
 
 /// Applies the lookup at the cursor, and puts out the glyphs behind that it is not for.

@@ -9,6 +9,18 @@ use crate::buffer::cluster_level::{
 use crate::buffer::hb_buffer_t;
 use crate::glyph::hb_glyph_info_t;
 
+/// The glyph so many places ahead of the cursor.
+///
+/// # Requires
+///
+/// - `opened: buffer.now.have_output ≡ true`
+/// - `glyph: ahead < length buffer.now.input`
+pub(crate) fn glyph_ahead(buffer: &hb_buffer_t, ahead: usize) -> hb_glyph_info_t {
+    debug_assert!(buffer.have_output());
+    debug_assert!(ahead < buffer.info().len());
+    *buffer.cur(ahead)
+}
+
 /// Writes the properties of a glyph so many places ahead of the cursor: the words `var1` and `var2`.
 ///
 /// # Requires
@@ -38,13 +50,28 @@ pub(crate) fn fail(buffer: &mut hb_buffer_t) {
 pub(crate) fn drop_behind(buffer: &mut hb_buffer_t) {
     debug_assert!(buffer.have_output());
     debug_assert!(!buffer.info().is_empty());
-    if buffer.out_len() > 0 && buffer.prev().cluster == buffer.cur(0).cluster {
+    if has_twin_before(buffer) {
         buffer.skip_glyph();
     } else if may_stand_in_any_order(buffer) {
         buffer.skip_glyph();
     } else {
         buffer.delete_glyph();
     }
+}
+
+/// Whether the last glyph that was put out is in the cluster of the current one.
+///
+/// # Requires
+///
+/// - `opened: buffer.now.have_output ≡ true`
+/// - `glyph: 0 < length buffer.now.input`
+fn has_twin_before(buffer: &hb_buffer_t) -> bool {
+    debug_assert!(buffer.have_output());
+    debug_assert!(!buffer.info().is_empty());
+    if buffer.out_len() == 0 {
+        return false;
+    }
+    buffer.prev().cluster == glyph_ahead(buffer, 0).cluster
 }
 
 /// Whether clusters may stand in any order.
