@@ -1,5 +1,5 @@
 use Rattle.std.proofs.Common.{◌<◌, length, arith}
-use Rattle.glyph_substitution.proofs.BufferLemmas.{twin_before}
+use Rattle.font_normalization.proofs.TwinLemmas.{twin_before}
 use Rattle.font_normalization.proofs.normalization.drop_behind.Goals as goal
 
 pub returns-then-prev-cur-clause-keeps : goal.returns-then-prev-cur-clause-keeps
