@@ -46,10 +46,7 @@ fn a_plan_is_for_its_texts() -> Result<(), Fail> {
 
 /// The feature `vert`, which puts b in the place of a, in one cluster.
 fn upright_in(cluster: usize) -> Feature {
-    let (start, end) = (
-        Bound::Included(cluster),
-        Bound::Included(cluster.saturating_add(1)),
-    );
+    let (start, end) = (Bound::Included(cluster), Bound::Included(cluster + 1));
     Feature::new(Tag::from_bytes(b"vert"), 1, start, end)
 }
 
