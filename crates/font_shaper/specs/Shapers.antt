@@ -1,11 +1,16 @@
 -- Which shaper the plan of a text has.
-use Rattle.std.specs.Prelude.{◌&&◌, ◌||◌, ℕ, Bool, Option, length, nat_eq, not, option_map, unwrap_or, if◌then◌else◌}
+use Rattle.std.specs.Prelude.{◌≡◌, ◌&&◌, ◌||◌, ℕ, Bool, true, List, Option, is_some, length, nat_eq, not, option_map, unwrap_or, if◌then◌else◌}
 use Rattle.rb_common.specs.Direction.{is_horizontal}
 use Rattle.rb_common.specs.declared.direction.Direction.{Direction}
+use Rattle.layout_plan.specs.Choice.{script_of}
+use Rattle.layout_plan.specs.Plan.{IsPlan}
+use Rattle.layout_plan.specs.Tables.{list_of}
 use Rattle.script_shapers.specs.Shapers.{shaper_of, shaper_with_morx}
 use Rattle.script_shapers.specs.declared.shaper.ScriptShaper.{ScriptShaper}
 use Rattle.script_shapers.specs.declared.shaper.ScriptShaper.TheVariants.{Default}
+use Rattle.script_features.specs.Syllables.{is_plan_of}
 use Rattle.font_face.specs.declared.face.Face.{Face}
+use Rattle.font_shaper.specs.declared.planning.TextPlan.{TextPlan}
 
 -- the shaper of a script in a direction, by the tag under which the font has it; the one in its place where Apple's table substitutes
 abbrev pub shaper_in : Bool → Option ℕ → Direction → ℕ → ScriptShaper

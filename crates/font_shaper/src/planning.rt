@@ -1,6 +1,8 @@
 //! How a text is shaped: the plan of its script, its language and its features.
 
-ghost use Rattle.std.specs.Prelude.{◌≡◌, IfOk};
+ghost use Rattle.std.specs.Prelude.{◌≡◌, map, IfOk};
+ghost use Rattle.std.specs.Option.{option_copied};
+ghost use Rattle.rb_text.specs.Tags.{scripts_of};
 ghost use Rattle.font_shaper.specs.ClusterOrder.{orders_syllables};
 ghost use Rattle.font_shaper.specs.Shapers.{shaper_in, has_morx};
 
@@ -74,7 +76,8 @@ pub(crate) fn plan_of_text(
     face: &Face,
     buffer: &hb_buffer_t,
     features: &[Feature],
-) -> Result<TextPlan, AllocError> {
+) -> Result<TextPlan, AllocError>
+{
     let segment = SegmentProperties {
         direction: buffer.direction,
         script: buffer.script,
@@ -88,7 +91,8 @@ pub(crate) fn plan_for(
     face: &Face,
     segment: &SegmentProperties,
     features: &[Feature],
-) -> Result<TextPlan, AllocError> {
+) -> Result<TextPlan, AllocError>
+{
     let Some(table) = LanguageTable::new(&[]) else {
         return Err(AllocError);
     };
@@ -113,7 +117,8 @@ fn plan_of(
     segment: &SegmentProperties,
     text: &TextProperties,
     features: &[Feature],
-) -> Result<TextPlan, AllocError> {
+) -> Result<TextPlan, AllocError>
+{
     let font = FontLayout {
         gsub: face.layout.gsub,
         gpos: face.layout.gpos,
