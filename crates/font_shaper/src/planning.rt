@@ -1,12 +1,8 @@
 //! How a text is shaped: the plan of its script, its language and its features.
 
-ghost use Rattle.std.specs.Prelude.{◌≡◌, map, IfOk};
-ghost use Rattle.std.specs.Option.{option_copied};
-ghost use Rattle.rb_text.specs.Tags.{scripts_of};
+ghost use Rattle.std.specs.Prelude.{◌≡◌};
 ghost use Rattle.font_shaper.specs.ClusterOrder.{orders_syllables};
-ghost use Rattle.font_shaper.specs.Shapers.{shaper_in, has_morx};
 
-use crate::forms_of_font::FormPlaces;
 use crate::glyphs_of_font::FaceGlyphs;
 use apple_substitution::{ChainFlags, selected_features};
 use apple_tables::FeatureNames;
@@ -35,8 +31,6 @@ pub(crate) struct TextPlan {
     pub script: ScriptPlan,
     /// What it does with syllables.
     pub syllables: SyllablePlan,
-    /// Where the lookups of features stand that it asks of.
-    pub forms: FormPlaces,
     /// The flags of the chains of Apple's table `morx`, where they stand in the place of the lookups of `GSUB`.
     pub chain_flags: Option<ChainFlags>,
     /// The bits of the glyphs that Apple's table `trak` moves.
@@ -76,8 +70,7 @@ pub(crate) fn plan_of_text(
     face: &Face,
     buffer: &hb_buffer_t,
     features: &[Feature],
-) -> Result<TextPlan, AllocError>
-{
+) -> Result<TextPlan, AllocError> {
     let segment = SegmentProperties {
         direction: buffer.direction,
         script: buffer.script,
@@ -91,8 +84,7 @@ pub(crate) fn plan_for(
     face: &Face,
     segment: &SegmentProperties,
     features: &[Feature],
-) -> Result<TextPlan, AllocError>
-{
+) -> Result<TextPlan, AllocError> {
     let Some(table) = LanguageTable::new(&[]) else {
         return Err(AllocError);
     };
@@ -117,8 +109,7 @@ fn plan_of(
     segment: &SegmentProperties,
     text: &TextProperties,
     features: &[Feature],
-) -> Result<TextPlan, AllocError>
-{
+) -> Result<TextPlan, AllocError> {
     let font = FontLayout {
         gsub: face.layout.gsub,
         gpos: face.layout.gpos,
@@ -153,12 +144,10 @@ fn plan_of(
         chosen.finds_script,
     );
     let fallback = fallback_of(face, &script)?;
-    let forms = FormPlaces::new(&shape.layout);
     Ok(TextPlan {
         shape,
         script,
         syllables,
-        forms,
         chain_flags,
         trak_mask,
         fallback,
@@ -167,10 +156,8 @@ fn plan_of(
 
 /// Whether Apple's table `morx` substitutes glyphs in place of the lookups of `GSUB`: in horizontal lines, and where the font has no
 /// lookups of `GSUB`.
-fn substitutes_by_morx(face: &Face, direction: Direction) -> bool
-    ensures { result ≡ has_morx face.now direction }
-{
-    !face.lookups.metamorphosis.chains.is_empty()
+fn substitutes_by_morx(face: &Face, direction: Direction) -> bool {
+    face.lookups.metamorphosis.is_there()
         && (direction.is_horizontal() || face.layout.gsub.is_empty())
 }
 
@@ -206,10 +193,7 @@ fn add_features(
     segment: &SegmentProperties,
     features: &[Feature],
     substitutes_by_morx: bool,
-) -> Result<ChosenShaper, AllocError>
-    ensures { IfOk result (λ chosen. chosen.shaper
-        ≡ shaper_in substitutes_by_morx segment.now.script segment.now.direction builder.old.gsub.script.tag.0) }
-{
+) -> Result<ChosenShaper, AllocError> {
     let own = ScriptShaper::of(segment.script, segment.direction, builder.gsub.script.tag);
     let shaper = own.with_morx(substitutes_by_morx);
     let chosen = ChosenShaper {
