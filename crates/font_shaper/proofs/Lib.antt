@@ -11,4 +11,3 @@ pub mod RisingLemmas
 pub mod StageLemmas
 pub mod CourseLemmas
 pub mod KeptPlanLemmas
-pub mod AskedLemmas
