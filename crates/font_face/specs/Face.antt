@@ -23,7 +23,7 @@ pub record IsLayoutOf (layout : Layout) (tables : Tables) : Type 0 where
   pub substitutions : layout.gsub.now ≡ table_in tables (codes "GSUB")
   pub positions : layout.gpos.now ≡ table_in tables (codes "GPOS")
   pub kerning : layout.kern.now ≡ table_in tables (codes "kern")
-  pub metamorphosis : layout.morx.now ≡ table_in tables (codes "morx")
+  pub morx : layout.morx.now ≡ table_in tables (codes "morx")
   pub features : layout.feat.now ≡ table_in tables (codes "feat")
   pub tracking : layout.trak.now ≡ table_in tables (codes "trak")
 
@@ -66,13 +66,13 @@ pub record KeepsItsTables (face : Face) : Type 0 where
       (face.units_per_em / 2)
   pub vertical :
       AreMetricsOf face.vertical (table face (codes "vmtx")) (table face (codes "vhea")) face.glyph_count face.units_per_em
-  pub origins : face.origins.table.now ≡ table face (codes "VORG")
+  pub vorg : face.vorg.table.now ≡ table face (codes "VORG")
   pub extents : face.extents ≡ horizontal_extents (table face (codes "OS/2")) (table face (codes "hhea"))
   pub layout : IsLayoutOf face.layout face.tables
   pub color :
       AreColorsOf face.color face.tables face.glyph_count (wanted_size face.scale.x_ppem face.scale.y_ppem)
-  pub definitions :
-      face.definitions.table.now
+  pub gdef :
+      face.gdef.table.now
       ≡ believed (table face (codes "GDEF")) (table face (codes "GSUB")) (table face (codes "GPOS"))
   pub outlines : face.outlines.glyf.glyf.now ≡ table face (codes "glyf")
   pub locations : face.outlines.glyf.loca.now ≡ table face (codes "loca")
@@ -81,4 +81,4 @@ pub record KeepsItsTables (face : Face) : Type 0 where
   pub outlined : face.outlines.glyf.glyph_count ≡ face.glyph_count
   pub positioned : face.has_gpos ≡ is_number (number_16 (table face (codes "GPOS")) 0) 1
   pub scaled : face.scale.units_per_em ≡ face.units_per_em
-  pub varied : AreVariationsOf face.variations face.tables face.definitions.table.now
+  pub varied : AreVariationsOf face.variations face.tables face.gdef.table.now

@@ -378,7 +378,7 @@ fn map_glyphs(buffer: &mut hb_buffer_t, face: &Face)
     ensures keeps { KeepsClusters buffer.old buffer.new }
 {
     put_glyphs(buffer);
-    substitute_start(buffer, &face.definitions);
+    substitute_start(buffer, &face.gdef);
 }
 
 /// Puts the glyph of each character in its place.

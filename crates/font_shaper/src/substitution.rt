@@ -52,9 +52,9 @@ fn substitute_by_morx(
     ensures keeps { IfOk result (λ done. done ≡ true → KeepsClusters buffer.old buffer.new) }
 {
     let substitution = Substitution {
-        table: &face.lookups.metamorphosis,
+        table: &face.lookups.morx,
         flags,
-        gdef: &face.definitions,
+        gdef: &face.gdef,
     };
     if !apple_substitution::substitute(buffer, &substitution)? {
         return Ok(false);
@@ -172,7 +172,7 @@ fn apply_planned(
     }
     let substitutions = Substitutions {
         list: &face.lookups.substitutions,
-        gdef: &face.definitions,
+        gdef: &face.gdef,
         options: options_of(planned),
     };
     if !glyph_substitution::substitute(buffer, &substitutions, planned.index, progress)? {
@@ -253,12 +253,12 @@ fn apply_fallback(
         face.alloc,
         fallback.table.as_slice(),
         SUBSTITUTION_EXTENSION,
-        &face.definitions,
+        &face.gdef,
     )?;
     apply_each(
         buffer,
         &list,
-        &face.definitions,
+        &face.gdef,
         fallback.masks.as_slice(),
         progress,
     )

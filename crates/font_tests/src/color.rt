@@ -40,7 +40,7 @@ impl Strikes for Sizes {
 #[test]
 fn the_strike_is_the_smallest_that_is_large_enough(rt: HostRuntime) {
     let sizes = Sizes([20, 128, 40, 128]);
-    for (wanted, strike) in [
+    for (matcher, strike) in [
         (1, 0),
         (20, 0),
         (21, 2),
@@ -49,7 +49,7 @@ fn the_strike_is_the_smallest_that_is_large_enough(rt: HostRuntime) {
         (128, 1),
         (129, 1),
     ] {
-        assert_eq!(rt; best_strike(&sizes, 4, wanted), strike, "{wanted}");
+        assert_eq!(rt; best_strike(&sizes, 4, matcher), strike, "{matcher}");
     }
     assert_eq!(rt; best_strike(&sizes, 4, wanted_size(0, 0)), 1);
     assert_eq!(rt; best_strike(&sizes, 0, 20), 0);

@@ -2,16 +2,16 @@
 use Rattle.std.proofs.Common.{◌≡◌, ℕ, zero, suc, ◌+◌, ◌<◌, Option, Some, None, refl, arith, option_map, inl, inr}
 use Rattle.std.proofs.lemmas.Bool.{cases_lt}
 use Rattle.glyph_layout.specs.Match.{steps_from}
-use Rattle.glyph_layout.specs.declared.wanted.Wanted.{Wanted}
+use Rattle.glyph_layout.specs.declared.matcher.Matcher.{Matcher}
 
 -- no step
-pub steps_from-none : (step : Option Wanted → ℕ → Option ℕ) (asked : ℕ → Option Wanted) (place : ℕ)
+pub steps_from-none : (step : Option Matcher → ℕ → Option ℕ) (asked : ℕ → Option Matcher) (place : ℕ)
     → steps_from step asked place 0 ≡ Some place
 unfolding steps_from
 steps_from-none step asked place = refl
 
 -- one more step
-pub steps_from-more : (step : Option Wanted → ℕ → Option ℕ) (asked : ℕ → Option Wanted) (place k p q : ℕ)
+pub steps_from-more : (step : Option Matcher → ℕ → Option ℕ) (asked : ℕ → Option Matcher) (place k p q : ℕ)
     → steps_from step asked place k ≡ Some p → step (asked k) p ≡ Some q → steps_from step asked place (k + 1) ≡ Some q
 unfolding steps_from
 steps_from-more step asked place k p q so_far next =
@@ -19,7 +19,7 @@ steps_from-more step asked place k p q so_far next =
     rw e (rw so_far next)
 
 -- no more steps where fewer lead nowhere
-steps_from-never : (step : Option Wanted → ℕ → Option ℕ) (asked : ℕ → Option Wanted) (place n k : ℕ)
+steps_from-never : (step : Option Matcher → ℕ → Option ℕ) (asked : ℕ → Option Matcher) (place n k : ℕ)
     → steps_from step asked place k ≡ None → k < n + 1 → steps_from step asked place n ≡ None
 unfolding steps_from
 steps_from-never step asked place zero zero never less = never
@@ -33,7 +33,7 @@ steps_from-never step asked place (suc n) k never less =
     ]
 
 -- a step that leads nowhere
-pub steps_from-missing : (step : Option Wanted → ℕ → Option ℕ) (asked : ℕ → Option Wanted) (place n k p : ℕ)
+pub steps_from-missing : (step : Option Matcher → ℕ → Option ℕ) (asked : ℕ → Option Matcher) (place n k p : ℕ)
     → steps_from step asked place k ≡ Some p → k < n → step (asked k) p ≡ None → steps_from step asked place n ≡ None
 unfolding steps_from
 steps_from-missing step asked place n k p so_far less missing =

@@ -12,7 +12,7 @@ use Rattle.font_tables.specs.Coverage.{listed_glyph, listed_count, listed_index,
 use Rattle.font_tables.specs.GlyphRanges.{range_first, range_last, range_value, range_count, range_of}
 use Rattle.glyph_layout.specs.Digest.{has_row, may_have}
 use Rattle.glyph_layout.specs.Lookup.{IsForNone}
-use Rattle.glyph_layout.specs.Walk.{covered_index}
+use Rattle.glyph_layout.specs.SkippingIterator.{covered_index}
 use Rattle.glyph_layout.specs.declared.digest.Digest.{Digest}
 use Rattle.glyph_layout.specs.declared.lookup_list.Lookup.{Lookup}
 

@@ -9,18 +9,18 @@ use Rattle.glyph_layout.specs.declared.lookup_list.Lookup.{Lookup}
 use Rattle.font_tables.specs.declared.coverage.Coverage.{Coverage}
 use Rattle.glyph_layout.specs.FirstEdit.{IsEditOf, IsFirstEdit, cursor_index}
 use Rattle.glyph_layout.specs.Substitution.{cursor_glyph}
-use Rattle.glyph_layout.specs.Walk.{covered_index}
-use Rattle.glyph_layout.specs.declared.search.Sides.{Sides}
+use Rattle.glyph_layout.specs.SkippingIterator.{covered_index}
+use Rattle.glyph_layout.specs.declared.search.ApplyContext.{ApplyContext}
 use Rattle.glyph_layout.specs.declared.substitution.Edit.{Edit}
 use Rattle.glyph_layout.specs.declared.subtable.Subtable.{Subtable}
-use Rattle.glyph_layout.specs.declared.walk.LookupOptions.{LookupOptions}
+use Rattle.glyph_layout.specs.declared.skipping_iterator.LookupOptions.{LookupOptions}
 
 none_is : (o : Option ℕ) → (is_some o ≡ true → ⊥) → o ≡ None
 none_is None none = refl
 none_is (Some n) none = absurd (none refl)
 
 -- a subtable that is not for the glyph does nothing
-uncovered : (cs : List Coverage) (o : LookupOptions) (s : Sides) (n : Bool) (t : Subtable) → cursor_index t s ≡ None → IsEditOf cs o s n t None
+uncovered : (cs : List Coverage) (o : LookupOptions) (s : ApplyContext) (n : Bool) (t : Subtable) → cursor_index t s ≡ None → IsEditOf cs o s n t None
 uncovered cs o s n t none = record {
   singles = λ is. rw none refl;
   multiples = λ is. rw none refl;
@@ -32,7 +32,7 @@ uncovered cs o s n t none = record {
 }
 
 -- nor does one that cannot be for it
-pub uncovered_by : (cs : List Coverage) (o : LookupOptions) (s : Sides) (n : Bool) (t : Subtable)
+pub uncovered_by : (cs : List Coverage) (o : LookupOptions) (s : ApplyContext) (n : Bool) (t : Subtable)
     → (is_some (covered_index t.coverage.table.now (cursor_glyph s).glyph_id) ≡ true → ⊥) → IsEditOf cs o s n t None
 uncovered_by cs o s n t none = uncovered cs o s n t (none_is _ none)
 
@@ -40,21 +40,21 @@ drop-more : (ts : List Subtable) (i : ℕ) (t : Subtable) → i < length ts → 
 drop-more ts i t within is = drop_more ts i t within ∙ ap (λ x. x ∷ drop (i + 1) ts) (sym is)
 
 -- the edit of a subtable that has one
-pub first_here : (cs : List Coverage) (o : LookupOptions) (s : Sides) (n : Bool) (ts : List Subtable) (i : ℕ) (t : Subtable) (edit : Option Edit)
+pub first_here : (cs : List Coverage) (o : LookupOptions) (s : ApplyContext) (n : Bool) (ts : List Subtable) (i : ℕ) (t : Subtable) (edit : Option Edit)
     → i < length ts → t ≡ get_or ts i t → is_some edit ≡ true → IsEditOf cs o s n t edit
     → IsFirstEdit cs o s n (drop i ts) edit
 first_here cs o s n ts i t edit within is some has =
     subst (λ l. IsFirstEdit cs o s n l edit) (sym (drop-more ts i t within is)) (inl (some, has))
 
--- that of the subtables behind one that has none
-pub first_later : (cs : List Coverage) (o : LookupOptions) (s : Sides) (n : Bool) (ts : List Subtable) (i : ℕ) (t : Subtable) (edit : Option Edit)
+-- that of the subtables after one that has none
+pub first_later : (cs : List Coverage) (o : LookupOptions) (s : ApplyContext) (n : Bool) (ts : List Subtable) (i : ℕ) (t : Subtable) (edit : Option Edit)
     → i < length ts → t ≡ get_or ts i t → IsEditOf cs o s n t None
     → IsFirstEdit cs o s n (drop (i + 1) ts) edit → IsFirstEdit cs o s n (drop i ts) edit
 first_later cs o s n ts i t edit within is none rest =
     subst (λ l. IsFirstEdit cs o s n l edit) (sym (drop-more ts i t within is)) (inr (none, rest))
 
 -- no edit
-pub no_edit : (cs : List Coverage) (o : LookupOptions) (s : Sides) (n : Bool) (t : Subtable) (edit : Option Edit) → IsEditOf cs o s n t edit
+pub no_edit : (cs : List Coverage) (o : LookupOptions) (s : ApplyContext) (n : Bool) (t : Subtable) (edit : Option Edit) → IsEditOf cs o s n t edit
     → is_some edit ≡ false → IsEditOf cs o s n t None
 no_edit cs o s n t None has none = has
 no_edit cs o s n t (Some e) has none = cc
@@ -64,7 +64,7 @@ each_if : (cs : List Coverage) (b : Bool) (ts : List Subtable) → All (IsNextOf
 each_if cs true ts are = are
 each_if cs false ts are = All-nil (IsNextOf cs)
 
--- what a subtable of a lookup asks for behind the cursor
+-- what a subtable of a lookup asks for after the cursor
 pub next_of_each : (cs : List Coverage) (ts read : List Subtable) (lookup : Lookup) (i : ℕ) (t : Subtable)
     → read ≡ subtables_of ts lookup → All (IsNextOf cs) ts → i < length read → t ≡ get_or read i t → IsNextOf cs t
 next_of_each cs ts read lookup i t same are within is =

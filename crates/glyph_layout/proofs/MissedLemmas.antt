@@ -1,28 +1,28 @@
--- A context by coverages does not fit where the glyph that it asks for behind the cursor does not stand there.
+-- A context by coverages does not fit where the glyph that it asks for after the cursor does not stand there.
 use Rattle.std.proofs.Common.{◌≡◌, ℕ, zero, suc, ◌+◌, ◌*◌, ◌<◌, Bool, true, false, List, [], ◌∷◌, drop, Option, Some, None, refl, arith, ap, subst, sym, ◌∙◌, inl, inr, option_map, slice_get, unwrap_or}
 use Rattle.std.proofs.lemmas.Bool.{cases_Bool}
 use Rattle.font_tables.specs.Bytes.{number_16}
 use Rattle.font_tables.specs.declared.coverage.Coverage.{Coverage}
 use Rattle.glyph_layout.specs.Context.{IsMissed}
-use Rattle.glyph_layout.specs.NextAsked.{IsNextAt, ahead_number, behind_number, input_number}
+use Rattle.glyph_layout.specs.NextAsked.{IsNextAt, lookahead_number, backtrack_number, input_number}
 use Rattle.glyph_layout.specs.Pattern.{Pattern, chained_covered_of, chained_covered_pattern, covered_by, covered_pattern, pattern_fits, plain_covered_of, plain_covered_pattern, rule_fits}
-use Rattle.glyph_layout.specs.declared.search.Sides.{Sides}
+use Rattle.glyph_layout.specs.declared.search.ApplyContext.{ApplyContext}
 use Rattle.glyph_layout.specs.declared.subtable.NextAsked.{NextAsked}
-use Rattle.glyph_layout.specs.declared.wanted.Wanted.TheVariants.{Covered}
+use Rattle.glyph_layout.specs.declared.matcher.Matcher.TheVariants.{Covered}
 use Rattle.glyph_layout.proofs.PatternLemmas.{pattern_fits-no_ahead, pattern_fits-no_next}
 
 -- the second glyph of the input
-missed_input : (s : Sides) (p : Pattern) (next : NextAsked) → next.is_input ≡ true → 0 < p.input_count
+missed_input : (s : ApplyContext) (p : Pattern) (next : NextAsked) → next.is_input ≡ true → 0 < p.input_count
     → p.input 0 ≡ Some (Covered next.coverage) → IsMissed next s → pattern_fits s p ≡ false
 missed_input s p next input some asks missed =
     let there = rw input at missed in
     pattern_fits-no_next s p some (rw asks there)
 
--- the first glyph behind an input of one
-missed_ahead : (s : Sides) (p : Pattern) (next : NextAsked) → next.is_input ≡ false → p.input_count ≡ 0 → 0 < p.ahead_count
-    → p.ahead 0 ≡ Some (Covered next.coverage) → IsMissed next s → pattern_fits s p ≡ false
-missed_ahead s p next behind one some asks missed =
-    let there = rw behind at missed in
+-- the first glyph after an input of one
+missed_lookahead : (s : ApplyContext) (p : Pattern) (next : NextAsked) → next.is_input ≡ false → p.input_count ≡ 0 → 0 < p.lookahead_count
+    → p.lookahead 0 ≡ Some (Covered next.coverage) → IsMissed next s → pattern_fits s p ≡ false
+missed_lookahead s p next backtrack one some asks missed =
+    let there = rw backtrack at missed in
     pattern_fits-no_ahead s p one some (rw asks there)
 
 slice_get-head : (cs : List Coverage) (n : ℕ) → slice_get (drop n cs) 0 ≡ slice_get cs n
@@ -44,7 +44,7 @@ covered_by-dropped : (cs : List Coverage) (first n : ℕ) (c : Coverage) → sli
 covered_by-dropped cs first n c is = ap (option_map Covered) (slice_get-dropped cs first n ∙ is)
 
 -- a context that is not chained
-plain_missed : (s : Sides) (cs : List Coverage) (first : ℕ) (table : List ℕ) (next : NextAsked) (o r : Option ℕ)
+plain_missed : (s : ApplyContext) (cs : List Coverage) (first : ℕ) (table : List ℕ) (next : NextAsked) (o r : Option ℕ)
     → number_16 table 2 ≡ o → number_16 table 4 ≡ r → IsNextAt cs first false table next → IsMissed next s
     → rule_fits s (plain_covered_pattern (drop first cs) table) ≡ false
 plain_missed s cs first table next None r e f is missed = rw e refl
@@ -56,12 +56,12 @@ plain_missed s cs first table next (Some n) (Some r) e f is missed =
           let more = rw e at two in
           missed_input s (plain_covered_of (drop first cs) table n r) next input (omega (arith, more))
           (covered_by-dropped cs first 1 next.coverage (is.second input)) missed
-      | inr behind ↦ let some = is.some behind in absurd (omega (arith, some))
+      | inr backtrack ↦ let some = is.some backtrack in absurd (omega (arith, some))
     ]))
 
 -- one that is
-chained_missed : (s : Sides) (cs : List Coverage) (first : ℕ) (table : List ℕ) (next : NextAsked) (b i a r : ℕ)
-    → behind_number true table ≡ b → input_number true table ≡ i → ahead_number true table ≡ a
+chained_missed : (s : ApplyContext) (cs : List Coverage) (first : ℕ) (table : List ℕ) (next : NextAsked) (b i a r : ℕ)
+    → backtrack_number true table ≡ b → input_number true table ≡ i → lookahead_number true table ≡ a
     → IsNextAt cs first true table next → IsMissed next s
     → pattern_fits s (chained_covered_of (drop first cs) table b i a r) ≡ false
 chained_missed s cs first table next b i a r e f g is missed =
@@ -71,16 +71,16 @@ chained_missed s cs first table next b i a r e f g is missed =
           let at = subst (λ n. slice_get cs (first + (n + 1)) ≡ Some next.coverage) e (is.second input) in
           missed_input s (chained_covered_of (drop first cs) table b i a r) next input (omega (arith, more))
           (covered_by-dropped cs first (b + 1) next.coverage at) missed
-      | inr behind ↦
-          let less = subst (λ n. n < 2) f (is.few behind) in
-          let some = subst (λ n. 0 < n) g (is.some behind) in
-          let half = subst (λ n. slice_get cs (first + (n + input_number true table)) ≡ Some next.coverage) e (is.ahead behind) in
+      | inr backtrack ↦
+          let less = subst (λ n. n < 2) f (is.few backtrack) in
+          let some = subst (λ n. 0 < n) g (is.some backtrack) in
+          let half = subst (λ n. slice_get cs (first + (n + input_number true table)) ≡ Some next.coverage) e (is.lookahead backtrack) in
           let at = subst (λ n. slice_get cs (first + (b + n)) ≡ Some next.coverage) f half in
-          missed_ahead s (chained_covered_of (drop first cs) table b i a r) next behind (omega (arith, less)) some
+          missed_lookahead s (chained_covered_of (drop first cs) table b i a r) next backtrack (omega (arith, less)) some
           (covered_by-dropped cs first (b + i) next.coverage at) missed
     ]
 
-chained_missed_by : (s : Sides) (cs : List Coverage) (first : ℕ) (table : List ℕ) (next : NextAsked) (b i a r : Option ℕ)
+chained_missed_by : (s : ApplyContext) (cs : List Coverage) (first : ℕ) (table : List ℕ) (next : NextAsked) (b i a r : Option ℕ)
     → number_16 table 2 ≡ b → number_16 table (4 + 2 * unwrap_or b 0) ≡ i
     → number_16 table (4 + 2 * unwrap_or b 0 + 2 + 2 * unwrap_or i 0) ≡ a
     → number_16 table (4 + 2 * unwrap_or b 0 + 2 + 2 * unwrap_or i 0 + 2 + 2 * unwrap_or a 0) ≡ r
@@ -91,13 +91,13 @@ chained_missed_by s cs first table next (Some b) None a r e f g h is missed = rw
 chained_missed_by s cs first table next (Some b) (Some i) None r e f g h is missed = rw e (rw f (rw g refl))
 chained_missed_by s cs first table next (Some b) (Some i) (Some a) None e f g h is missed = rw e (rw f (rw g (rw h refl)))
 chained_missed_by s cs first table next (Some b) (Some i) (Some a) (Some r) e f g h is missed =
-    let bn : behind_number true table ≡ b = rw e refl in
+    let bn : backtrack_number true table ≡ b = rw e refl in
     let im : input_number true table ≡ i = rw e (rw f refl) in
-    let an : ahead_number true table ≡ a = rw e (rw f (rw g refl)) in
+    let an : lookahead_number true table ≡ a = rw e (rw f (rw g refl)) in
     rw e (rw f (rw g (rw h (chained_missed s cs first table next b i a r bn im an is missed))))
 
 -- the rule does not fit
-pub rule_fits-missed : (s : Sides) (cs : List Coverage) (first : ℕ) (chained : Bool) (table : List ℕ) (next : NextAsked)
+pub rule_fits-missed : (s : ApplyContext) (cs : List Coverage) (first : ℕ) (chained : Bool) (table : List ℕ) (next : NextAsked)
     → IsNextAt cs first chained table next → IsMissed next s
     → rule_fits s (covered_pattern chained (drop first cs) table) ≡ false
 rule_fits-missed s cs first true table next is missed =

@@ -1,4 +1,4 @@
--- What the next glyph that counts says of whatever is asked for behind a place.
+-- What the next glyph that counts says of whatever is asked for after a place.
 use Rattle.std.proofs.Common.{◌≡◌, ◌≢◌, ℕ, zero, suc, ◌+◌, ◌<◌, ◌≤◌, ◌&&◌, ◌||◌, Bool, true, false, not, List, length, [], ◌∷◌, drop, Option, Some, None, refl, arith, subst, sym, ap, nat_lt, inl, inr}
 use Rattle.std.proofs.Common.{if◌then◌else◌}
 use Rattle.std.proofs.lemmas.Bool.{cases_Bool}
@@ -6,17 +6,17 @@ use Rattle.std.proofs.lemmas.Grind.{common_steps}
 use Rattle.rb_glyph.specs.declared.info.hb_glyph_info_t.{hb_glyph_info_t}
 use Rattle.glyph_layout.specs.Match.{place_of}
 use Rattle.glyph_layout.specs.Pattern.{Pattern}
-use Rattle.glyph_layout.specs.Rule.{input_walk}
+use Rattle.glyph_layout.specs.Rule.{input_iterator}
 use Rattle.glyph_layout.specs.RuleSet.{asks_nothing, counted, counts, fits_at, fits_next, fits_second, looks_first, next_counted}
-use Rattle.glyph_layout.specs.Walk.{first_kept, fits, found_at, glyph_at, is_shown, is_within, matches, next_found, passed_over, passes, skip_of}
+use Rattle.glyph_layout.specs.SkippingIterator.{first_kept, fits, found_at, glyph_at, is_shown, is_within, matches, next_found, passed_over, passes, skip_of}
 use Rattle.glyph_layout.specs.declared.neighbours.Next.{Next}
-use Rattle.glyph_layout.specs.declared.search.Sides.{Sides}
-use Rattle.glyph_layout.specs.declared.walk.Found.TheVariants.{At, Other, End}
-use Rattle.glyph_layout.specs.declared.walk.Skip.TheVariants.{No}
-use Rattle.glyph_layout.specs.declared.walk.Walk.{Walk}
-use Rattle.glyph_layout.specs.declared.wanted.Wanted.{Wanted}
-use Rattle.glyph_layout.specs.declared.wanted.Wanted.TheVariants.{Any, Glyph}
-use Rattle.glyph_layout.proofs.WalkLemmas.{first_kept-here}
+use Rattle.glyph_layout.specs.declared.search.ApplyContext.{ApplyContext}
+use Rattle.glyph_layout.specs.declared.skipping_iterator.Found.TheVariants.{At, Other, End}
+use Rattle.glyph_layout.specs.declared.skipping_iterator.Skip.TheVariants.{No}
+use Rattle.glyph_layout.specs.declared.skipping_iterator.SkippingIterator.{SkippingIterator}
+use Rattle.glyph_layout.specs.declared.matcher.Matcher.{Matcher}
+use Rattle.glyph_layout.specs.declared.matcher.Matcher.TheVariants.{Any, Glyph}
+use Rattle.glyph_layout.proofs.SkippingIteratorLemmas.{first_kept-here}
 
 -- where one walk passes over all that another does, and stays where that one stays, they stay at the same place
 passed_over-same : (p q : hb_glyph_info_t → Bool) (gs : List hb_glyph_info_t)
@@ -83,41 +83,41 @@ first_kept-stays p (g ∷ gs) (suc i) less =
     rw e (first_kept-stays p gs i within)
 
 -- a walk that asks for something passes over all that one passes over that asks for nothing
-passes-any : (w : Walk) (x : Wanted) (g : hb_glyph_info_t) → passes w Any g ≡ true → passes w x g ≡ true
+passes-any : (w : SkippingIterator) (x : Matcher) (g : hb_glyph_info_t) → passes w Any g ≡ true → passes w x g ≡ true
 unfolding passes
 passes-any w x g passes = grind (arith, common_steps)
 
 -- each walk stays at a glyph that counts
-passes-counting : (w : Walk) (x : Wanted) (g : hb_glyph_info_t) → counts w g ≡ true → passes w x g ≡ false
+passes-counting : (w : SkippingIterator) (x : Matcher) (g : hb_glyph_info_t) → counts w g ≡ true → passes w x g ≡ false
 unfolding passes
 passes-counting w x g here = grind (arith, common_steps)
 
--- so it does at a glyph that the walk is not for, where one that asks for nothing stays there
-passes-without : (w : Walk) (x : Wanted) (g : hb_glyph_info_t) → is_within w g ≡ false → passes w Any g ≡ false
+-- so it does at a glyph that the iterator is not for, where one that asks for nothing stays there
+passes-without : (w : SkippingIterator) (x : Matcher) (g : hb_glyph_info_t) → is_within w g ≡ false → passes w Any g ≡ false
     → passes w x g ≡ false
 unfolding passes
 passes-without w x g without stays = grind (arith, common_steps)
 
 -- another glyph than is asked for
-pub matches-other : (w : Walk) (x : Wanted) (g : hb_glyph_info_t) → is_shown x ≡ false → fits x g.glyph_id ≡ false
+pub matches-other : (w : SkippingIterator) (x : Matcher) (g : hb_glyph_info_t) → is_shown x ≡ false → fits x g.glyph_id ≡ false
     → matches w x g ≡ false
 unfolding matches
 matches-other w x g asks other = grind (arith, common_steps)
 
--- a glyph that the walk is not for
-pub matches-without : (w : Walk) (x : Wanted) (g : hb_glyph_info_t) → is_within w g ≡ false → matches w x g ≡ false
+-- a glyph that the iterator is not for
+pub matches-without : (w : SkippingIterator) (x : Matcher) (g : hb_glyph_info_t) → is_within w g ≡ false → matches w x g ≡ false
 unfolding matches
 matches-without w x g without = rw without refl
 
-matches-any : (w : Walk) (g : hb_glyph_info_t) → matches w Any g ≡ false → is_within w g ≡ false
+matches-any : (w : SkippingIterator) (g : hb_glyph_info_t) → matches w Any g ≡ false → is_within w g ≡ false
 unfolding matches
 matches-any w g misses = grind (arith, common_steps)
 
 -- a glyph that counts
-pub counts-no : (w : Walk) (g : hb_glyph_info_t) → skip_of w g ≡ No → counts w g ≡ true
+pub counts-no : (w : SkippingIterator) (g : hb_glyph_info_t) → skip_of w g ≡ No → counts w g ≡ true
 counts-no w g stays = grind (arith, common_steps)
 
-pub counts-yes : (w : Walk) (g : hb_glyph_info_t) → skip_of w g ≢ No → counts w g ≡ false
+pub counts-yes : (w : SkippingIterator) (g : hb_glyph_info_t) → skip_of w g ≢ No → counts w g ≡ false
 counts-yes w g passes = grind (arith, common_steps)
 
 at_is : (b m : Bool) (n p : ℕ) → (if b then (if m then At n else Other n) else End) ≡ At p → n ≡ p
@@ -144,14 +144,14 @@ place_of-here : (m : Bool) (n q : ℕ) → place_of (if m then At n else Other n
 place_of-here true n q some = cc
 place_of-here false n q some = cc
 
--- no glyph stands behind the last one
-pub place_of-last : (w : Walk) (x : Wanted) (gs : List hb_glyph_info_t) (i : ℕ) → i + 1 ≡ length gs
+-- no glyph stands after the last one
+pub place_of-last : (w : SkippingIterator) (x : Matcher) (gs : List hb_glyph_info_t) (i : ℕ) → i + 1 ≡ length gs
     → place_of (next_found w x gs i) ≡ None
 unfolding next_found
 place_of-last w x gs i end = place_of-end _ _ _ (grind (arith, end))
 
--- the glyph right behind a place counts, and is not what is asked for
-pub place_of-beside : (w : Walk) (x : Wanted) (gs : List hb_glyph_info_t) (i : ℕ) → i + 1 < length gs
+-- the glyph right after a place counts, and is not what is asked for
+pub place_of-beside : (w : SkippingIterator) (x : Matcher) (gs : List hb_glyph_info_t) (i : ℕ) → i + 1 < length gs
     → counts w (glyph_at gs (i + 1)) ≡ true → matches w x (glyph_at gs (i + 1)) ≡ false
     → place_of (next_found w x gs i) ≡ None
 unfolding next_found
@@ -161,7 +161,7 @@ place_of-beside w x gs i more here misses =
     place_of-not_at _ _ _ (subst (λ n. matches w x (glyph_at gs n) ≡ false) (sym stays) misses)
 
 -- each walk stays at the glyph that counts where one stays that asks for nothing
-next_found-counted : (w : Walk) (x : Wanted) (gs : List hb_glyph_info_t) (i p : ℕ) → next_found w Any gs i ≡ At p
+next_found-counted : (w : SkippingIterator) (x : Matcher) (gs : List hb_glyph_info_t) (i p : ℕ) → next_found w Any gs i ≡ At p
     → counts w (glyph_at gs p) ≡ true → next_found w x gs i ≡ found_at w x gs p
 unfolding next_found
 next_found-counted w x gs i p found here =
@@ -171,19 +171,19 @@ next_found-counted w x gs i p found here =
     let same = first_kept-same (passes w Any) (passes w x) gs (i + 1) (passes-any w x) stays in
     rw (same, within, at) refl
 
-pub place_of-counted_other : (w : Walk) (x : Wanted) (gs : List hb_glyph_info_t) (i p : ℕ) → next_found w Any gs i ≡ At p
+pub place_of-counted_other : (w : SkippingIterator) (x : Matcher) (gs : List hb_glyph_info_t) (i p : ℕ) → next_found w Any gs i ≡ At p
     → counts w (glyph_at gs p) ≡ true → is_shown x ≡ false → fits x (glyph_at gs p).glyph_id ≡ false
     → place_of (next_found w x gs i) ≡ None
 place_of-counted_other w x gs i p found here asks other =
     rw (next_found-counted w x gs i p found here, matches-other w x (glyph_at gs p) asks other) refl
 
-pub place_of-counted_same : (w : Walk) (x : Wanted) (gs : List hb_glyph_info_t) (i p q : ℕ) → next_found w Any gs i ≡ At p
+pub place_of-counted_same : (w : SkippingIterator) (x : Matcher) (gs : List hb_glyph_info_t) (i p q : ℕ) → next_found w Any gs i ≡ At p
     → counts w (glyph_at gs p) ≡ true → place_of (next_found w x gs i) ≡ Some q → q ≡ p
 place_of-counted_same w x gs i p q found here some =
     place_of-here (matches w x (glyph_at gs p)) p q (rw (next_found-counted w x gs i p found here) at some)
 
 -- where nothing is found by one that asks for nothing, nothing is found
-pub place_of-absent : (w : Walk) (x : Wanted) (gs : List hb_glyph_info_t) (i : ℕ) → place_of (next_found w Any gs i) ≡ None
+pub place_of-absent : (w : SkippingIterator) (x : Matcher) (gs : List hb_glyph_info_t) (i : ℕ) → place_of (next_found w Any gs i) ≡ None
     → place_of (next_found w x gs i) ≡ None
 unfolding next_found
 place_of-absent w x gs i none =
@@ -202,14 +202,14 @@ place_of-absent w x gs i none =
     ]
 
 -- a glyph that counts and is another than one asks for
-pub place_of_kept_other : (w : Walk) (gs : List hb_glyph_info_t) (i p asked : ℕ) → next_found w Any gs i ≡ At p
+pub place_of_kept_other : (w : SkippingIterator) (gs : List hb_glyph_info_t) (i p asked : ℕ) → next_found w Any gs i ≡ At p
     → skip_of w (glyph_at gs p) ≡ No → asked ≢ (glyph_at gs p).glyph_id
     → place_of (next_found w (Glyph asked) gs i) ≡ None
 place_of_kept_other w gs i p asked found stays other =
     place_of-counted_other w (Glyph asked) gs i p found (counts-no w _ stays) refl (grind (arith, common_steps))
 
--- a glyph right behind a place that counts and is another than one asks for
-pub place_of_beside_other : (w : Walk) (gs : List hb_glyph_info_t) (i asked : ℕ) → i + 1 < length gs
+-- a glyph right after a place that counts and is another than one asks for
+pub place_of_beside_other : (w : SkippingIterator) (gs : List hb_glyph_info_t) (i asked : ℕ) → i + 1 < length gs
     → skip_of w (glyph_at gs (i + 1)) ≡ No → asked ≢ (glyph_at gs (i + 1)).glyph_id
     → place_of (next_found w (Glyph asked) gs i) ≡ None
 place_of_beside_other w gs i asked more stays other =
@@ -217,28 +217,28 @@ place_of_beside_other w gs i asked more stays other =
     (matches-other w (Glyph asked) _ refl (grind (arith, common_steps)))
 
 -- the next glyph that counts
-counted-some : (w : Walk) (gs : List hb_glyph_info_t) (p : ℕ) → counts w (glyph_at gs p) ≡ true
+counted-some : (w : SkippingIterator) (gs : List hb_glyph_info_t) (p : ℕ) → counts w (glyph_at gs p) ≡ true
     → counted w gs (At p) ≡ Some (record { glyph = (glyph_at gs p).glyph_id; end = p + 1 })
 counted-some w gs p here = rw here refl
 
-pub next_counted-here : (w : Walk) (gs : List hb_glyph_info_t) (i p : ℕ) → next_found w Any gs i ≡ At p
+pub next_counted-here : (w : SkippingIterator) (gs : List hb_glyph_info_t) (i p : ℕ) → next_found w Any gs i ≡ At p
     → skip_of w (glyph_at gs p) ≡ No
     → next_counted w gs i ≡ Some (record { glyph = (glyph_at gs p).glyph_id; end = p + 1 })
 next_counted-here w gs i p found stays = rw found (counted-some w gs p (counts-no w _ stays))
 
-pub next_counted-passed : (w : Walk) (gs : List hb_glyph_info_t) (i p : ℕ) → next_found w Any gs i ≡ At p
+pub next_counted-passed : (w : SkippingIterator) (gs : List hb_glyph_info_t) (i p : ℕ) → next_found w Any gs i ≡ At p
     → skip_of w (glyph_at gs p) ≢ No → next_counted w gs i ≡ None
 next_counted-passed w gs i p found passes = rw found (rw (counts-yes w _ passes) refl)
 
-pub next_counted-other : (w : Walk) (gs : List hb_glyph_info_t) (i p : ℕ) → next_found w Any gs i ≡ Other p
+pub next_counted-other : (w : SkippingIterator) (gs : List hb_glyph_info_t) (i p : ℕ) → next_found w Any gs i ≡ Other p
     → next_counted w gs i ≡ None
 next_counted-other w gs i p found = rw found refl
 
-pub next_counted-end : (w : Walk) (gs : List hb_glyph_info_t) (i : ℕ) → next_found w Any gs i ≡ End
+pub next_counted-end : (w : SkippingIterator) (gs : List hb_glyph_info_t) (i : ℕ) → next_found w Any gs i ≡ End
     → next_counted w gs i ≡ None
 next_counted-end w gs i found = rw found refl
 
-next_found-beside : (w : Walk) (gs : List hb_glyph_info_t) (i : ℕ) → i + 1 < length gs
+next_found-beside : (w : SkippingIterator) (gs : List hb_glyph_info_t) (i : ℕ) → i + 1 < length gs
     → counts w (glyph_at gs (i + 1)) ≡ true → is_within w (glyph_at gs (i + 1)) ≡ true
     → next_found w Any gs i ≡ At (i + 1)
 unfolding next_found matches
@@ -248,8 +248,8 @@ next_found-beside w gs i more here within =
     let inside : nat_lt (i + 1) (length gs) ≡ true = grind (arith, more) in
     rw (stays, inside, within) refl
 
--- the glyph right behind a place
-pub next_counted-beside : (w : Walk) (gs : List hb_glyph_info_t) (i n : ℕ) → i + 1 < length gs
+-- the glyph right after a place
+pub next_counted-beside : (w : SkippingIterator) (gs : List hb_glyph_info_t) (i n : ℕ) → i + 1 < length gs
     → skip_of w (glyph_at gs (i + 1)) ≡ No → is_within w (glyph_at gs (i + 1)) ≡ true → n ≡ i + 2
     → next_counted w gs i ≡ Some (record { glyph = (glyph_at gs (i + 1)).glyph_id; end = n })
 next_counted-beside w gs i n more stays within end =
@@ -263,35 +263,35 @@ pub ruleset kept =
 pub ruleset beside = (place_of_beside_other, next_counted-beside)
 
 -- what the next two glyphs of the input say of a rule
-fits_next-seen : (s : Sides) (p : Pattern) (place : ℕ) (next : Next) (second : Option Next)
-    → next_found (input_walk s) Any s.input.now 0 ≡ At place → skip_of (input_walk s) (glyph_at s.input.now place) ≡ No
-    → next.glyph ≡ (glyph_at s.input.now place).glyph_id → second ≡ next_counted (input_walk s) s.input.now place
+fits_next-seen : (s : ApplyContext) (p : Pattern) (place : ℕ) (next : Next) (second : Option Next)
+    → next_found (input_iterator s) Any s.input.now 0 ≡ At place → skip_of (input_iterator s) (glyph_at s.input.now place) ≡ No
+    → next.glyph ≡ (glyph_at s.input.now place).glyph_id → second ≡ next_counted (input_iterator s) s.input.now place
     → fits_next s p ≡ (fits_at p 0 next.glyph && fits_second p second)
 unfolding fits_next
 fits_next-seen s p place next second found stays glyph is =
-    rw (glyph, is, found, counts-no (input_walk s) _ stays) refl
+    rw (glyph, is, found, counts-no (input_iterator s) _ stays) refl
 
-pub and-seen : (s : Sides) (p : Pattern) (place : ℕ) (chained : Bool) (count : ℕ) (next : Next) (second : Option Next)
-    → looks_first s chained count ≡ true → next_found (input_walk s) Any s.input.now 0 ≡ At place
-    → skip_of (input_walk s) (glyph_at s.input.now place) ≡ No → next.glyph ≡ (glyph_at s.input.now place).glyph_id
-    → second ≡ next_counted (input_walk s) s.input.now place
+pub and-seen : (s : ApplyContext) (p : Pattern) (place : ℕ) (chained : Bool) (count : ℕ) (next : Next) (second : Option Next)
+    → looks_first s chained count ≡ true → next_found (input_iterator s) Any s.input.now 0 ≡ At place
+    → skip_of (input_iterator s) (glyph_at s.input.now place) ≡ No → next.glyph ≡ (glyph_at s.input.now place).glyph_id
+    → second ≡ next_counted (input_iterator s) s.input.now place
     → (fits_at p 0 next.glyph && fits_second p second) ≡ (not (looks_first s chained count) || fits_next s p)
 and-seen s p place chained count next second looks found stays glyph is =
     rw looks (sym (fits_next-seen s p place next second found stays glyph is))
 
 -- one that may be passed over says nothing
-pub fits_next-passed : (s : Sides) (p : Pattern) (place : ℕ) → next_found (input_walk s) Any s.input.now 0 ≡ At place
-    → skip_of (input_walk s) (glyph_at s.input.now place) ≢ No → fits_next s p ≡ true
+pub fits_next-passed : (s : ApplyContext) (p : Pattern) (place : ℕ) → next_found (input_iterator s) Any s.input.now 0 ≡ At place
+    → skip_of (input_iterator s) (glyph_at s.input.now place) ≢ No → fits_next s p ≡ true
 unfolding fits_next
-fits_next-passed s p place found passes = rw (found, counts-yes (input_walk s) _ passes) refl
+fits_next-passed s p place found passes = rw (found, counts-yes (input_iterator s) _ passes) refl
 
 -- there is none
-pub fits_next-other : (s : Sides) (p : Pattern) (place : ℕ) → next_found (input_walk s) Any s.input.now 0 ≡ Other place
+pub fits_next-other : (s : ApplyContext) (p : Pattern) (place : ℕ) → next_found (input_iterator s) Any s.input.now 0 ≡ Other place
     → fits_next s p ≡ asks_nothing p
 unfolding fits_next
 fits_next-other s p place found = rw found refl
 
-pub fits_next-end : (s : Sides) (p : Pattern) → next_found (input_walk s) Any s.input.now 0 ≡ End
+pub fits_next-end : (s : ApplyContext) (p : Pattern) → next_found (input_iterator s) Any s.input.now 0 ≡ End
     → fits_next s p ≡ asks_nothing p
 unfolding fits_next
 fits_next-end s p found = rw found refl

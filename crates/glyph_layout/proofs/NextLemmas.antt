@@ -1,12 +1,12 @@
--- The glyph that a context by coverages asks for behind the cursor is the one that its rule asks for there.
+-- The glyph that a context by coverages asks for after the cursor is the one that its rule asks for there.
 use Rattle.std.proofs.Common.{◌≡◌, ℕ, zero, suc, ◌+◌, ◌<◌, Bool, true, false, List, [], ◌∷◌, ◌++◌, All, get_or, length, Option, Some, None, refl, arith, subst, sym, min, nat_lt, slice_get, if◌then◌else◌}
 use Rattle.std.proofs.lemmas.Grind.{common_steps}
 use Rattle.std.proofs.lemmas.Option.{slice_get_read}
 use Rattle.std.proofs.lemmas.List.Elements.{All-push, All-weaker}
 use Rattle.font_tables.specs.declared.coverage.Coverage.{Coverage}
 use Rattle.std.specs.Prelude.{IfSome, is_some}
-use Rattle.glyph_layout.specs.Forms.{is_chained_form, is_chained_kind, is_covered_form}
-use Rattle.glyph_layout.specs.NextAsked.{IsNextAt, IsNextOf, ahead_number, behind_number, input_number}
+use Rattle.glyph_layout.specs.Forms.{is_chained_form, is_chained_type, is_covered_form}
+use Rattle.glyph_layout.specs.NextAsked.{IsNextAt, IsNextOf, lookahead_number, backtrack_number, input_number}
 use Rattle.glyph_layout.specs.declared.subtable.Form.{Form}
 use Rattle.glyph_layout.specs.declared.subtable.NextAsked.{NextAsked}
 use Rattle.glyph_layout.specs.declared.subtable.Subtable.{Subtable}
@@ -24,14 +24,14 @@ next_at_more cs c first chained table next is = record {
   second = λ input. slice_get-more cs c next.coverage _ (is.second input);
   few = is.few;
   some = is.some;
-  ahead = λ input. slice_get-more cs c next.coverage _ (is.ahead input);
+  lookahead = λ input. slice_get-more cs c next.coverage _ (is.lookahead input);
 }
 
 pub nexts_more : (cs : List Coverage) (c : Coverage) (ts : List Subtable) → All (IsNextOf cs) ts
     → All (IsNextOf (cs ++ (c ∷ []))) ts
 nexts_more cs c ts are =
     All-weaker (IsNextOf cs) (IsNextOf (cs ++ (c ∷ [])))
-    (λ t is next has. next_at_more cs c t.first_coverage (is_chained_kind t.kind) t.table.now next (is next has)) ts are
+    (λ t is next has. next_at_more cs c t.first_coverage (is_chained_type t.lookup_type) t.table.now next (is next has)) ts are
 
 two_or_more : (i : ℕ) (x : Bool) → x ≡ nat_lt 1 i → x ≡ true → 1 < i
 two_or_more i x is so = grind (arith, common_steps)
@@ -41,22 +41,22 @@ one_at_most i x is so = grind (arith, common_steps)
 
 -- the coverage of a number that is told by the numbers of the table
 pub next_at : (cs : List Coverage) (first : ℕ) (chained : Bool) (table : List ℕ) (next : NextAsked) (b i a at : ℕ)
-    → b ≡ behind_number chained table → i ≡ input_number chained table → a ≡ ahead_number chained table
+    → b ≡ backtrack_number chained table → i ≡ input_number chained table → a ≡ lookahead_number chained table
     → (i < 2 → 0 < a) → slice_get cs at ≡ Some next.coverage → at ≡ first + (b + min i 1) → next.is_input ≡ nat_lt 1 i
     → IsNextAt cs first chained table next
-next_at cs first chained table next b i a at behind input ahead some is place kind = record {
-  two = λ two. subst (λ n. 1 < n) input (two_or_more i next.is_input kind two);
+next_at cs first chained table next b i a at backtrack input lookahead some is place lookup_type = record {
+  two = λ two. subst (λ n. 1 < n) input (two_or_more i next.is_input lookup_type two);
   second = λ two.
-      let more = two_or_more i next.is_input kind two in
+      let more = two_or_more i next.is_input lookup_type two in
       let here : at ≡ first + (b + 1) = omega (arith, place, more) in
-      subst (λ n. slice_get cs (first + (n + 1)) ≡ Some next.coverage) behind
+      subst (λ n. slice_get cs (first + (n + 1)) ≡ Some next.coverage) backtrack
       (subst (λ n. slice_get cs n ≡ Some next.coverage) here is);
-  few = λ one. subst (λ n. n < 2) input (one_at_most i next.is_input kind one);
-  some = λ one. subst (λ n. 0 < n) ahead (some (one_at_most i next.is_input kind one));
-  ahead = λ one.
-      let less = one_at_most i next.is_input kind one in
+  few = λ one. subst (λ n. n < 2) input (one_at_most i next.is_input lookup_type one);
+  some = λ one. subst (λ n. 0 < n) lookahead (some (one_at_most i next.is_input lookup_type one));
+  lookahead = λ one.
+      let less = one_at_most i next.is_input lookup_type one in
       let here : at ≡ first + (b + i) = omega (arith, place, less) in
-      subst (λ n. slice_get cs (first + (n + input_number chained table)) ≡ Some next.coverage) behind
+      subst (λ n. slice_get cs (first + (n + input_number chained table)) ≡ Some next.coverage) backtrack
       (subst (λ n. slice_get cs (first + (b + n)) ≡ Some next.coverage) input
       (subst (λ n. slice_get cs n ≡ Some next.coverage) here is));
 }
@@ -90,9 +90,9 @@ pub next_of_asked : (cs after : List Coverage) (first : ℕ) (chained : Bool) (t
     → (is_covered_form form ≡ true → chained ≡ is_chained_form form)
     → IfSome asked (IsNextAt cs first (is_chained_form form) table)
     → (next : NextAsked) → asked ≡ Some next → IsNextAt after first chained table next
-next_of_asked cs after first chained table form None same covered kind is next has = cc
-next_of_asked cs after first chained table form (Some n) same covered kind is next has =
+next_of_asked cs after first chained table form None same covered lookup_type is next has = cc
+next_of_asked cs after first chained table form (Some n) same covered lookup_type is next has =
     let e : n ≡ next = cc in
     subst (λ x. IsNextAt x first chained table next) (sym same)
-    (subst (λ b. IsNextAt cs first b table next) (sym (kind (covered refl)))
+    (subst (λ b. IsNextAt cs first b table next) (sym (lookup_type (covered refl)))
     (subst (λ x. IsNextAt cs first (is_chained_form form) table x) e is))

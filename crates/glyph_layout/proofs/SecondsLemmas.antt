@@ -7,15 +7,15 @@ use Rattle.font_tables.specs.Bytes.{number_16, table_at_16}
 use Rattle.rb_glyph.specs.declared.info.hb_glyph_info_t.{hb_glyph_info_t}
 use Rattle.glyph_layout.specs.Digest.{HasMore, may_have}
 use Rattle.glyph_layout.specs.Match.{IsNext, first_of, ligature_at, place_of}
-use Rattle.glyph_layout.specs.Rule.{input_walk}
+use Rattle.glyph_layout.specs.Rule.{input_iterator}
 use Rattle.glyph_layout.specs.Seconds.{HasSecond, HasSecondAt, HasSecondOfEach}
 use Rattle.glyph_layout.specs.Sets.{set_at}
-use Rattle.glyph_layout.specs.Walk.{next_found}
+use Rattle.glyph_layout.specs.SkippingIterator.{next_found}
 use Rattle.glyph_layout.specs.declared.digest.Digest.{Digest}
 use Rattle.glyph_layout.specs.declared.neighbours.Next.{Next}
-use Rattle.glyph_layout.specs.declared.search.Sides.{Sides}
-use Rattle.glyph_layout.specs.declared.walk.Walk.{Walk}
-use Rattle.glyph_layout.specs.declared.wanted.Wanted.TheVariants.{Glyph}
+use Rattle.glyph_layout.specs.declared.search.ApplyContext.{ApplyContext}
+use Rattle.glyph_layout.specs.declared.skipping_iterator.SkippingIterator.{SkippingIterator}
+use Rattle.glyph_layout.specs.declared.matcher.Matcher.TheVariants.{Glyph}
 use Rattle.glyph_layout.proofs.MatchLemmas.{first_of-nowhere, first_of-later, ligature_at-none, ligature_at-other}
 use Rattle.glyph_layout.proofs.NeighbourLemmas.{place_of-last}
 
@@ -73,17 +73,17 @@ sets_end table d k beyond =
     subst (λ set. HasSecondOfEach set d) (sym (if-empty _ _ out)) (none_there d)
 
 -- the ligature of a number
-ligature_at-missed : (s : Sides) (set : List ℕ) (d : Digest) (next : Next) (k : ℕ) (o : Option (List ℕ))
+ligature_at-missed : (s : ApplyContext) (set : List ℕ) (d : Digest) (next : Next) (k : ℕ) (o : Option (List ℕ))
     → table_at_16 set (2 + 2 * k) ≡ o
-    → HasSecondAt set k d → IsNext (input_walk s) s.input.now 0 next → may_have d next.glyph ≡ false
+    → HasSecondAt set k d → IsNext (input_iterator s) s.input.now 0 next → may_have d next.glyph ≡ false
     → ligature_at s set k ≡ None
 ligature_at-missed s set d next k None e has is none = ligature_at-none s set k e
 ligature_at-missed s set d next k (Some t) e has is none =
     ligature_at-other s set t k next e (has t e next.glyph none) is
 
 -- none of so many ligatures
-pub first_of-missed : (s : Sides) (set : List ℕ) (d : Digest) (next : Next) (n : ℕ) → HasSecondOfEach set d
-    → IsNext (input_walk s) s.input.now 0 next → may_have d next.glyph ≡ false → n < unwrap_or (number_16 set 0) 0 + 1
+pub first_of-missed : (s : ApplyContext) (set : List ℕ) (d : Digest) (next : Next) (n : ℕ) → HasSecondOfEach set d
+    → IsNext (input_iterator s) s.input.now 0 next → may_have d next.glyph ≡ false → n < unwrap_or (number_16 set 0) 0 + 1
     → first_of s set n ≡ None
 first_of-missed s set d next zero has is none within = first_of-nowhere s set
 first_of-missed s set d next (suc k) has is none within =
@@ -92,8 +92,8 @@ first_of-missed s set d next (suc k) has is none within =
     subst (λ n. first_of s set n ≡ None) e
     (first_of-later s set k so_far (ligature_at-missed s set d next k _ refl (has k (omega (arith, within))) is none))
 
--- whoever asks for a glyph behind the last one does not find it
-pub place_of-past_end : (w : Walk) (gs : List hb_glyph_info_t) (i asked : ℕ) → i + 1 ≡ length gs
+-- whoever asks for a glyph after the last one does not find it
+pub place_of-past_end : (w : SkippingIterator) (gs : List hb_glyph_info_t) (i asked : ℕ) → i + 1 ≡ length gs
     → place_of (next_found w (Glyph asked) gs i) ≡ None
 place_of-past_end w gs i asked end = place_of-last w (Glyph asked) gs i end
 

@@ -12,24 +12,24 @@ context_form format is_chained =
 
 -- the form of a subtable of `GSUB`, where contexts have the kinds 5 and 6, and reverse substitutions 8
 unfoldable pub substitution_form : ℕ → ℕ → Form
-substitution_form kind format =
-    if kind == 5 then context_form format false
-    else if kind == 6 then context_form format true
-    else if kind == 8 then Reverse
+substitution_form lookup_type format =
+    if lookup_type == 5 then context_form format false
+    else if lookup_type == 6 then context_form format true
+    else if lookup_type == 8 then Reverse
     else Plain
 
 -- the form of a subtable of `GPOS`, where contexts have the kinds 7 and 8, pairs 2, and marks 4 to 6
 unfoldable pub positioning_form : ℕ → ℕ → Form
-positioning_form kind format =
-    if (kind == 2) && (format == 2) then PairClasses
-    else if (kind == 4) || (kind == 5) || (kind == 6) then Marks
-    else if kind == 7 then context_form format false
-    else if kind == 8 then context_form format true
+positioning_form lookup_type format =
+    if (lookup_type == 2) && (format == 2) then PairClasses
+    else if (lookup_type == 4) || (lookup_type == 5) || (lookup_type == 6) then Marks
+    else if lookup_type == 7 then context_form format false
+    else if lookup_type == 8 then context_form format true
     else Plain
 
 -- whether contexts of this kind are chained: those of kind 6 of `GSUB` and 8 of `GPOS` are, those of the kinds 5 and 7 are not
-abbrev pub is_chained_kind : ℕ → Bool
-is_chained_kind kind = (kind == 6) || (kind == 8)
+abbrev pub is_chained_type : ℕ → Bool
+is_chained_type lookup_type = (lookup_type == 6) || (lookup_type == 8)
 
 -- whether a form is a chained context by coverages
 abbrev pub is_chained_form : Form → Bool

@@ -18,4 +18,4 @@ pub mod Seconds
 pub mod Sets
 pub mod Substitution
 pub mod Subtables
-pub mod Walk
+pub mod SkippingIterator

@@ -3,7 +3,7 @@ use Rattle.std.specs.Prelude.{ℕ, ◌≡◌, ◌&&◌, Bool, not, true, false}
 use Rattle.rb_glyph.specs.declared.info.hb_glyph_info_t.{hb_glyph_info_t}
 use Rattle.glyph_layout.specs.Digest.{may_have}
 use Rattle.glyph_layout.specs.FirstGlyphs.{may_have_first}
-use Rattle.glyph_layout.specs.Walk.{passes_over, share}
+use Rattle.glyph_layout.specs.SkippingIterator.{passes_over, share}
 use Rattle.glyph_layout.specs.declared.digest.Digest.{Digest}
 use Rattle.glyph_layout.specs.declared.lookup_list.Lookup.{Lookup}
 
@@ -11,7 +11,7 @@ use Rattle.glyph_layout.specs.declared.lookup_list.Lookup.{Lookup}
 -- does not pass over it, and where it is one of the first 256 glyphs, a subtable is for it
 abbrev pub is_for : Lookup → ℕ → hb_glyph_info_t → Bool
 is_for lookup mask g =
-    may_have lookup.digest g.glyph_id && share g.mask mask && not (passes_over lookup.filter g)
+    may_have lookup.digest g.glyph_id && share g.mask mask && not (passes_over lookup.lookup_props g)
     && may_have_first lookup.firsts g.glyph_id
 
 -- a lookup is for no glyph that a digest may have

@@ -1,4 +1,4 @@
--- What the glyphs behind the cursor, looked at once for many rules, say of a rule.
+-- What the glyphs after the cursor, looked at once for many rules, say of a rule.
 use Rattle.std.specs.Prelude.{◌&&◌, Bool, true}
 use Rattle.glyph_layout.specs.Pattern.{Pattern}
 use Rattle.glyph_layout.specs.RuleSet.{asks_nothing, fits_at, fits_second}

@@ -4,12 +4,12 @@ use Rattle.std.specs.List.{list_any}
 use Rattle.std.specs.Int.{trailing_zeros, w32}
 use Rattle.font_tables.specs.Bytes.{number_16}
 use Rattle.rb_glyph.specs.declared.info.hb_glyph_info_t.{hb_glyph_info_t}
-use Rattle.glyph_layout.specs.Walk.{glyph_at, covered_index}
+use Rattle.glyph_layout.specs.SkippingIterator.{glyph_at, covered_index}
 use Rattle.glyph_layout.specs.GlyphTable.{listed, listed_glyph}
 use Rattle.glyph_layout.specs.Sets.{set_at}
-use Rattle.glyph_layout.specs.Rule.{ArePlaces, input_walk, wanted_by}
-use Rattle.glyph_layout.specs.declared.rule.Meaning.TheVariants as rule
-use Rattle.glyph_layout.specs.declared.search.Sides.{Sides}
+use Rattle.glyph_layout.specs.Rule.{AreMatchPositions, input_iterator, matcher_by}
+use Rattle.glyph_layout.specs.declared.rule.MatchFunction.TheVariants as rule
+use Rattle.glyph_layout.specs.declared.search.ApplyContext.{ApplyContext}
 use Rattle.glyph_layout.specs.declared.subtable.Subtable.{Subtable}
 use Rattle.glyph_layout.specs.declared.substitution.Edit.{Edit}
 use Rattle.glyph_layout.specs.declared.substitution.Edit.TheVariants.{Replace, Choose, Multiply, Ligate, Apply, ReplaceInPlace}
@@ -53,20 +53,20 @@ IsMultiple table (Some index) (Some edit) = IsSequence (set_at table index) edit
 
 -- The edit is that of this ligature: its glyph stands for the components, each of which is the next glyph that counts. One
 -- of a single component replaces it.
-abbrev pub IsLigature : List ℕ → Sides → List ℕ → Edit → Type 0
-IsLigature table sides places (Replace glyph) = (number_16 table 2 ≡ Some 1) × (number_16 table 0 ≡ Some glyph)
-IsLigature table sides places (Ligate ligation) =
+abbrev pub IsLigature : List ℕ → ApplyContext → List ℕ → Edit → Type 0
+IsLigature table ctx places (Replace glyph) = (number_16 table 2 ≡ Some 1) × (number_16 table 0 ≡ Some glyph)
+IsLigature table ctx places (Ligate ligation) =
     (number_16 table 0 ≡ Some ligation.ligature)
-    × ArePlaces (input_walk sides) (wanted_by rule.Glyphs (drop 4 table)) sides.input.now (unwrap_or (number_16 table 2) 0 - 1) places
+    × AreMatchPositions (input_iterator ctx) (matcher_by rule.Glyphs (drop 4 table)) ctx.input.now (unwrap_or (number_16 table 2) 0 - 1) places
     × (ligation.end ≡ slice_index places (unwrap_or (number_16 table 2) 0 - 1) + 1)
-IsLigature table sides places (Choose glyphs) = IsTrue false
-IsLigature table sides places (Multiply glyphs) = IsTrue false
-IsLigature table sides places (Apply fit) = IsTrue false
-IsLigature table sides places (ReplaceInPlace change) = IsTrue false
+IsLigature table ctx places (Choose glyphs) = IsTrue false
+IsLigature table ctx places (Multiply glyphs) = IsTrue false
+IsLigature table ctx places (Apply fit) = IsTrue false
+IsLigature table ctx places (ReplaceInPlace change) = IsTrue false
 
 -- the glyph at the cursor
-abbrev pub cursor_glyph : Sides → hb_glyph_info_t
-cursor_glyph sides = glyph_at sides.input.now 0
+abbrev pub cursor_glyph : ApplyContext → hb_glyph_info_t
+cursor_glyph ctx = glyph_at ctx.input.now 0
 
 -- whether one of these subtables has something to do at a glyph: its coverage has it
 abbrev pub begins_with : List Subtable → ℕ → Bool

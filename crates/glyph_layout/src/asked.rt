@@ -1,7 +1,7 @@
-//! What a rule asks of the next glyphs behind the cursor, read from its bytes without the rest of it.
+//! What a rule asks of the next glyphs after the cursor, read from its bytes without the rest of it.
 
 ghost use Rattle.std.specs.Prelude.{◌≡◌, ◌<◌};
-ghost use Rattle.glyph_layout.specs.Asked.{asked_ahead, asked_at, chained_asked, plain_asked};
+ghost use Rattle.glyph_layout.specs.Asked.{asked_lookahead, asked_at, chained_asked, plain_asked};
 
 use crate::search::MAX_CONTEXT_LENGTH;
 use font_tables::bytes::u16_at;
@@ -11,11 +11,11 @@ use font_tables::bytes::u16_at;
 pub(crate) enum Asked {
     /// That of a glyph of its input.
     Input(u16),
-    /// That of a glyph behind its input.
-    Ahead(u16),
+    /// That of a glyph after its input.
+    Lookahead(u16),
 }
 
-/// What the rule in these bytes asks of the glyph of this number behind the cursor; `None` where it asks for nothing there, its input is
+/// What the rule in these bytes asks of the glyph of this number after the cursor; `None` where it asks for nothing there, its input is
 /// too long for a match, or it is cut short.
 #[inline(always)]
 pub(crate) fn asked_at(table: &[u8], is_chained: bool, number: usize) -> Option<Asked>
@@ -52,7 +52,7 @@ fn chained_asked(table: &[u8], number: usize) -> Option<Asked>
     let input_at = 2 + 2 * usize::from(u16_at(table, 0)?);
     let input = usize::from(u16_at(table, input_at)?.saturating_sub(1));
     if number >= input {
-        return asked_ahead(table, input_at + 2 + 2 * input, number - input);
+        return asked_lookahead(table, input_at + 2 + 2 * input, number - input);
     }
     if input < MAX_CONTEXT_LENGTH {
         Some(Asked::Input(u16_at(table, input_at + 2 + 2 * number)?))
@@ -61,15 +61,15 @@ fn chained_asked(table: &[u8], number: usize) -> Option<Asked>
     }
 }
 
-/// What it asks for behind its input, where the count of that stands at this place.
+/// What it asks for after its input, where the count of that stands at this place.
 #[inline(always)]
-fn asked_ahead(table: &[u8], at: usize, number: usize) -> Option<Asked>
+fn asked_lookahead(table: &[u8], at: usize, number: usize) -> Option<Asked>
     requires near { at < 1000000 }
     requires few { number < 2 }
-    ensures { result ≡ asked_ahead table.now at number }
+    ensures { result ≡ asked_lookahead table.now at number }
 {
     if number < usize::from(u16_at(table, at)?) {
-        Some(Asked::Ahead(u16_at(table, at + 2 + 2 * number)?))
+        Some(Asked::Lookahead(u16_at(table, at + 2 + 2 * number)?))
     } else {
         None
     }

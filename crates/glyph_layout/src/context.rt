@@ -1,23 +1,23 @@
-//! Contexts: rules of glyphs at the cursor, before them and behind them, as the kinds 5 and 6 of `GSUB` have them, and the
+//! Contexts: rules of glyphs at the cursor, before them and after them, as the kinds 5 and 6 of `GSUB` have them, and the
 //! kinds 7 and 8 of `GPOS` (OpenType specification, "OpenType Layout Common Table Formats", "Sequence Context").
 
 ghost use Rattle.std.specs.Prelude.{◌≡◌, ◌<◌, ◌≤◌, length, IfSome, IsTrue, Some, is_some, option_copied};
 ghost use Rattle.glyph_layout.specs.Budget.{IsNotMore};
 ghost use Rattle.glyph_layout.specs.Context.{IsFitWithin, IsMissed, class_meanings, context_rule, covered_rule, next_walk, record_at};
-ghost use Rattle.glyph_layout.specs.Context.{numbered_set, same_meaning};
-ghost use Rattle.glyph_layout.specs.Forms.{is_chained_kind};
+ghost use Rattle.glyph_layout.specs.Context.{numbered_set, same_match_function};
+ghost use Rattle.glyph_layout.specs.Forms.{is_chained_type};
 ghost use Rattle.glyph_layout.specs.NextAsked.{IsNextOf};
 ghost use Rattle.glyph_layout.specs.Pattern.{IsFitBy, rule_fits};
-ghost use Rattle.glyph_layout.specs.Walk.{skip_of};
-ghost use Rattle.glyph_layout.specs.declared.walk.Skip.TheVariants.{No};
+ghost use Rattle.glyph_layout.specs.SkippingIterator.{skip_of};
+ghost use Rattle.glyph_layout.specs.declared.skipping_iterator.Skip.TheVariants.{No};
 
 use crate::lookup_list::LookupList;
-use crate::rule::{Meaning, Meanings, coverage_rule};
+use crate::matcher::class_of;
+use crate::rule::{MatchFunction, MatchFunctions, coverage_rule};
 use crate::rule_set::{RuleSet, counts_around, first_fit, fit};
-use crate::search::{Search, Sides};
+use crate::search::{ApplyContext, Search};
+use crate::skipping_iterator::Skip;
 use crate::subtable::{NextAsked, Subtable};
-use crate::walk::Skip;
-use crate::wanted::class_of;
 use font_tables::bytes::{table_at_16, u16_at};
 use rb_glyph::hb_glyph_info_t;
 
@@ -40,21 +40,21 @@ pub struct Fit<'a> {
 
 /// A lookup that a rule applies.
 #[derive(Clone, Copy, Debug)]
-pub struct Record {
+pub struct SequenceLookupRecord {
     /// The number of the glyph at which it is applied, of those of the input.
-    pub sequence: usize,
+    pub sequence_index: usize,
     /// The index of the lookup.
     pub lookup: u16,
 }
 
 impl<'a> Fit<'a> {
     /// The record of this number; `None` where the table is cut short before it.
-    pub fn record(&self, index: usize) -> Option<Record>
+    pub fn record(&self, index: usize) -> Option<SequenceLookupRecord>
         ensures { index < 65536 → result ≡ record_at self.now.records.now index }
     {
         let at = index.saturating_mul(4);
-        Some(Record {
-            sequence: usize::from(u16_at(self.records, at)?),
+        Some(SequenceLookupRecord {
+            sequence_index: usize::from(u16_at(self.records, at)?),
             lookup: u16_at(self.records, at.saturating_add(2))?,
         })
     }
@@ -68,35 +68,38 @@ pub fn fitting_rule<'a>(
     subtable: &Subtable<'a>,
     index: u32,
     is_chained: bool,
-    sides: &Sides,
+    ctx: &ApplyContext,
     search: &mut Search,
 ) -> Option<Fit<'a>>
-    requires { 0 < length sides.now.input.now }
+    requires { 0 < length ctx.now.input.now }
     ensures spent { IsNotMore search.old.budget search.new.budget }
-    ensures fits { IfSome result (IsFitWithin (length sides.now.out.now) (length sides.now.input.now)) }
+    ensures fits { IfSome result (IsFitWithin (length ctx.now.out.now) (length ctx.now.input.now)) }
     ensures rule { IfSome result
-        (IsFitBy sides.now (context_rule list.now.coverages.items subtable.now index is_chained sides.now)) }
-    ensures exact { is_chained ≡ is_chained_kind subtable.now.kind
+        (IsFitBy ctx.now (context_rule list.now.coverages.items subtable.now index is_chained ctx.now)) }
+    ensures exact { is_chained ≡ is_chained_type subtable.now.lookup_type
         → IsNextOf list.now.coverages.items subtable.now → 0 < search.new.budget.steps
-        → is_some result ≡ is_some (context_rule list.now.coverages.items subtable.now index is_chained sides.now) }
+        → is_some result ≡ is_some (context_rule list.now.coverages.items subtable.now index is_chained ctx.now) }
 {
     let table = subtable.table;
-    let (set, meanings) = match subtable.format {
-        1 => (set_at(table, 4, index)?, same_meaning(Meaning::Glyphs)),
+    let (set, match_functions) = match subtable.format {
+        1 => (
+            set_at(table, 4, index)?,
+            same_match_function(MatchFunction::Glyphs),
+        ),
         2 => {
-            let class = class_of(&subtable.classes, sides.input[0].glyph_id);
+            let class = class_of(&subtable.classes, ctx.input[0].glyph_id);
             let set = set_at(table, if is_chained { 10 } else { 6 }, u32::from(class))?;
             (set, class_meanings(subtable))
         }
-        3 => return covered_fit(list, subtable, is_chained, sides, search),
+        3 => return covered_fit(list, subtable, is_chained, ctx, search),
         _ => return None,
     };
     let rules = RuleSet {
         table: set,
-        meanings,
+        match_functions,
         is_chained,
     };
-    first_fit(&rules, sides, search)
+    first_fit(&rules, ctx, search)
 }
 
 /// The rule of a context by coverages, if it fits at the cursor. Mostly the next glyph shows at once that it does not.
@@ -104,60 +107,60 @@ fn covered_fit<'a>(
     list: &'a LookupList<'a>,
     subtable: &Subtable<'a>,
     is_chained: bool,
-    sides: &Sides,
+    ctx: &ApplyContext,
     search: &mut Search,
 ) -> Option<Fit<'a>>
-    requires { 0 < length sides.now.input.now }
+    requires { 0 < length ctx.now.input.now }
     ensures spent { IsNotMore search.old.budget search.new.budget }
-    ensures fits { IfSome result (IsFitWithin (length sides.now.out.now) (length sides.now.input.now)) }
-    ensures rule { IfSome result (IsFitBy sides.now (covered_rule list.now.coverages.items subtable.now is_chained)) }
-    ensures exact { is_chained ≡ is_chained_kind subtable.now.kind → IsNextOf list.now.coverages.items subtable.now
+    ensures fits { IfSome result (IsFitWithin (length ctx.now.out.now) (length ctx.now.input.now)) }
+    ensures rule { IfSome result (IsFitBy ctx.now (covered_rule list.now.coverages.items subtable.now is_chained)) }
+    ensures exact { is_chained ≡ is_chained_type subtable.now.lookup_type → IsNextOf list.now.coverages.items subtable.now
         → 0 < search.new.budget.steps
-        → is_some result ≡ rule_fits sides.now (covered_rule list.now.coverages.items subtable.now is_chained) }
+        → is_some result ≡ rule_fits ctx.now (covered_rule list.now.coverages.items subtable.now is_chained) }
 {
     if let Some(next) = &subtable.next
-        && let Some(to) = missed_next(next, sides)
+        && let Some(to) = missed_next(next, ctx)
     {
         search.budget.pay(1);
         if !is_chained || !next.is_input {
-            search.reach.extend(sides.out.len(), to);
+            search.reach.extend(ctx.out.len(), to);
         }
         return None;
     }
     let coverages = list.coverages_from(subtable, 0);
     fit(
         &coverage_rule(subtable.table, coverages, is_chained)?,
-        sides,
+        ctx,
         search,
     )
 }
 
-/// Whether the glyph behind the one at the cursor counts for a context by coverages, whatever is asked for.
+/// Whether the glyph after the one at the cursor counts for a context by coverages, whatever is asked for.
 #[tactic(auto, using(crate::proofs::ContextLemmas::counting))]
-fn counts_next(next: &NextAsked, sides: &Sides, glyph: &hb_glyph_info_t) -> bool
-    ensures { IsTrue result → skip_of (next_walk next.now sides.now) glyph.now ≡ No }
+fn counts_next(next: &NextAsked, ctx: &ApplyContext, glyph: &hb_glyph_info_t) -> bool
+    ensures { IsTrue result → skip_of (next_walk next.now ctx.now) glyph.now ≡ No }
 {
     if next.is_input {
-        sides.walk.skip(glyph) == Skip::No
+        ctx.iterator.skip(glyph) == Skip::No
     } else {
-        counts_around(sides, glyph)
+        counts_around(ctx, glyph)
     }
 }
 
-/// How far glyphs were looked at, where the glyph behind the one at the cursor counts and is not what is asked for, or where there is none.
+/// How far glyphs were looked at, where the glyph after the one at the cursor counts and is not what is asked for, or where there is none.
 #[tactic(auto, using(crate::proofs::ContextLemmas::missed))]
-fn missed_next(next: &NextAsked, sides: &Sides) -> Option<usize>
-    requires { 0 < length sides.now.input.now }
-    ensures { IfSome result (λ to. IsMissed next.now sides.now) }
+fn missed_next(next: &NextAsked, ctx: &ApplyContext) -> Option<usize>
+    requires { 0 < length ctx.now.input.now }
+    ensures { IfSome result (λ to. IsMissed next.now ctx.now) }
 {
-    if sides.input.len() == 1 {
+    if ctx.input.len() == 1 {
         return Some(1);
     }
-    let glyph = &sides.input[1];
+    let glyph = &ctx.input[1];
     if next.digest.may_have(glyph.glyph_id) {
         return None;
     }
-    if counts_next(next, sides, glyph) {
+    if counts_next(next, ctx, glyph) {
         Some(2)
     } else {
         None
@@ -177,23 +180,23 @@ pub(crate) fn set_at(table: &[u8], at: usize, number: u32) -> Option<&[u8]>
 }
 
 /// The same meaning in all three parts.
-pub(crate) fn same_meaning<'a>(meaning: Meaning<'a>) -> Meanings<'a>
-    ensures { result ≡ same_meaning meaning.entry }
+pub(crate) fn same_match_function<'a>(match_function: MatchFunction<'a>) -> MatchFunctions<'a>
+    ensures { result ≡ same_match_function match_function.entry }
 {
-    Meanings {
-        behind: meaning,
-        input: meaning,
-        ahead: meaning,
+    MatchFunctions {
+        backtrack: match_function,
+        input: match_function,
+        lookahead: match_function,
     }
 }
 
 /// The classes of the three parts.
-pub(crate) fn class_meanings<'a>(subtable: &Subtable<'a>) -> Meanings<'a>
+pub(crate) fn class_meanings<'a>(subtable: &Subtable<'a>) -> MatchFunctions<'a>
     ensures { result ≡ class_meanings subtable.now }
 {
-    Meanings {
-        behind: Meaning::Classes(subtable.classes_behind),
-        input: Meaning::Classes(subtable.classes),
-        ahead: Meaning::Classes(subtable.classes_ahead),
+    MatchFunctions {
+        backtrack: MatchFunction::Classes(subtable.backtrack_classes),
+        input: MatchFunction::Classes(subtable.classes),
+        lookahead: MatchFunction::Classes(subtable.lookahead_classes),
     }
 }

@@ -6,7 +6,7 @@
 ghost use Rattle.std.specs.Prelude.{ℕ, ◌≡◌, ◌<◌, ◌≤◌, IsTrue, is_some, true};
 ghost use Rattle.std.specs.Int.{bit_at};
 ghost use Rattle.glyph_layout.specs.Digest.{HasAll, HasGlyphs, HasMore, has_row, may_have};
-ghost use Rattle.glyph_layout.specs.Walk.{covered_index};
+ghost use Rattle.glyph_layout.specs.SkippingIterator.{covered_index};
 
 use crate::summary::{Summary, summary_of};
 use font_tables::coverage::Coverage;

@@ -3,7 +3,7 @@
 ghost use Rattle.std.specs.Prelude.{ℕ, ◌≡◌, ◌<◌, ◌≤◌, ◌+◌, is_some, true};
 ghost use Rattle.glyph_layout.specs.Digest.{HasAll, has_row};
 ghost use Rattle.glyph_layout.specs.FirstGlyphs.{HasMoreFirst, may_have_both, may_have_first};
-ghost use Rattle.glyph_layout.specs.Walk.{covered_index};
+ghost use Rattle.glyph_layout.specs.SkippingIterator.{covered_index};
 
 use crate::digest::{Digest, has_row, with_all, with_rows};
 use crate::summary::{Summary, summary_of};

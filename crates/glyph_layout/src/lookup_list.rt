@@ -5,15 +5,15 @@ ghost use Rattle.glyph_layout.specs.Digest.{HasMore};
 ghost use Rattle.glyph_layout.specs.FirstGlyphs.{HasMoreFirst};
 ghost use Rattle.glyph_layout.specs.Lookup.{IsForNone, is_for};
 ghost use Rattle.glyph_layout.specs.declared.lookup_list.Lookup.{Lookup};
-ghost use Rattle.glyph_layout.specs.Forms.{is_chained_form, is_chained_kind, is_covered_form};
-ghost use Rattle.glyph_layout.specs.NextAsked.{IsNextAt, IsNextOf, ahead_number, behind_number, input_number};
+ghost use Rattle.glyph_layout.specs.Forms.{is_chained_form, is_chained_type, is_covered_form};
+ghost use Rattle.glyph_layout.specs.NextAsked.{IsNextAt, IsNextOf, lookahead_number, backtrack_number, input_number};
 ghost use Rattle.glyph_layout.specs.Seconds.{AreSeconds};
 ghost use Rattle.glyph_layout.specs.Subtables.{subtables_of};
-ghost use Rattle.glyph_layout.specs.Walk.{glyph_at};
+ghost use Rattle.glyph_layout.specs.SkippingIterator.{glyph_at};
 
 use crate::digest::Digest;
-use crate::filter::Filter;
 use crate::first_glyphs::{FirstGlyphs, summaries_of};
+use crate::lookup_props::LookupProps;
 use crate::search::MAX_CONTEXT_LENGTH;
 use crate::seconds::seconds_of;
 use crate::subtable::{
@@ -46,10 +46,10 @@ const USE_MARK_FILTERING_SET: u16 = 0x0010;
 /// A lookup.
 #[derive(Clone, Copy, Debug)]
 pub struct Lookup<'a> {
-    /// The kind of its subtables. Where they are extensions, each subtable has the kind behind it.
-    pub kind: u16,
+    /// The kind of its subtables. Where they are extensions, each subtable has the kind after it.
+    pub lookup_type: u16,
     /// What it passes over.
-    pub filter: Filter<'a>,
+    pub lookup_props: LookupProps<'a>,
     /// The digest of the glyphs that its subtables are for.
     pub digest: Digest,
     /// Those of the first 256 glyphs that its subtables are for.
@@ -68,7 +68,7 @@ impl<'a> Lookup<'a> {
     {
         self.digest.may_have(glyph.glyph_id)
             && glyph.mask & mask != 0
-            && !self.filter.passes_over(glyph)
+            && !self.lookup_props.passes_over(glyph)
             && self.firsts.may_have(glyph.glyph_id)
     }
 
@@ -180,11 +180,11 @@ impl<'a> LookupList<'a> {
     }
 
     /// The second glyphs of the ligatures of a subtable, if it has ligatures, each with a second glyph.
-    fn seconds(&mut self, kind: u16, table: &[u8]) -> Option<Digest>
+    fn seconds(&mut self, lookup_type: u16, table: &[u8]) -> Option<Digest>
         ensures seconds { AreSeconds table.now result }
         ensures same { self.new.coverages.items ≡ self.old.coverages.items }
     {
-        if self.is_positioning() || kind != LIGATURES {
+        if self.is_positioning() || lookup_type != LIGATURES {
             return None;
         }
         seconds_of(table, &mut self.second_room)
@@ -226,7 +226,7 @@ impl<'a> LookupList<'a> {
 
     /// Reads a lookup.
     fn read_lookup(&mut self, table: &'a [u8], gdef: &Gdef<'a>) -> Result<(), AllocError> {
-        let kind = u16_at(table, 0).unwrap_or(0);
+        let lookup_type = u16_at(table, 0).unwrap_or(0);
         let flags = u16_at(table, 2).unwrap_or(0);
         let count = usize::from(u16_at(table, 4).unwrap_or(0));
         let marks = if flags & USE_MARK_FILTERING_SET != 0 {
@@ -240,14 +240,14 @@ impl<'a> LookupList<'a> {
                 break;
             }
             if let Some(subtable) = table_at_16(table, 6 + 2 * index) {
-                self.read_subtable(kind, subtable)?;
+                self.read_subtable(lookup_type, subtable)?;
             }
         }
         let subtables = self.subtables_from(first);
         let (digest, firsts) = (digest_of(subtables), firsts_of(subtables));
         self.lookups.push(Lookup {
-            kind,
-            filter: Filter { flags, marks },
+            lookup_type,
+            lookup_props: LookupProps { flags, marks },
             digest,
             firsts,
             first,
@@ -256,24 +256,24 @@ impl<'a> LookupList<'a> {
         Ok(())
     }
 
-    /// Reads a subtable, or that behind an extension, if there is room.
-    fn read_subtable(&mut self, kind: u16, table: &'a [u8]) -> Result<(), AllocError> {
-        let (kind, table) = if kind == self.extension {
+    /// Reads a subtable, or that after an extension, if there is room.
+    fn read_subtable(&mut self, lookup_type: u16, table: &'a [u8]) -> Result<(), AllocError> {
+        let (lookup_type, table) = if lookup_type == self.extension {
             behind_extension(table)
         } else {
-            (kind, table)
+            (lookup_type, table)
         };
-        if kind == self.extension || !self.pay(64) {
+        if lookup_type == self.extension || !self.pay(64) {
             return Ok(());
         }
         let format = u16_at(table, 0).unwrap_or(0);
-        let form = self.form_of(kind, format);
+        let form = self.form_of(lookup_type, format);
         let first_coverage = self.coverages.len();
         self.read_coverages(form, table)?;
         let coverage = self.first_of(form, table, first_coverage);
         let summaries = summaries_of(&coverage);
         let subtable = Subtable {
-            kind,
+            lookup_type,
             format,
             table,
             coverage,
@@ -281,11 +281,11 @@ impl<'a> LookupList<'a> {
             firsts: summaries.firsts,
             bases: self.coverage_if(form == Form::Marks, table, 4),
             classes: self.input_classes(form, table),
-            classes_behind: self.classes_if(form == Form::ChainedClasses, table, 4),
-            classes_ahead: self.ahead_classes(form, table),
+            backtrack_classes: self.classes_if(form == Form::ChainedClasses, table, 4),
+            lookahead_classes: self.ahead_classes(form, table),
             next: self.next_asked(form, table, first_coverage),
             first_coverage,
-            seconds: self.seconds(kind, table),
+            seconds: self.seconds(lookup_type, table),
         };
         self.add_subtable(subtable)
     }
@@ -299,13 +299,13 @@ impl<'a> LookupList<'a> {
     }
 
     /// The form of a subtable.
-    fn form_of(&self, kind: u16, format: u16) -> Form
-        ensures { is_covered_form result ≡ true → is_chained_kind kind ≡ is_chained_form result }
+    fn form_of(&self, lookup_type: u16, format: u16) -> Form
+        ensures { is_covered_form result ≡ true → is_chained_type lookup_type ≡ is_chained_form result }
     {
         if self.is_positioning() {
-            positioning_form(kind, format)
+            positioning_form(lookup_type, format)
         } else {
-            substitution_form(kind, format)
+            substitution_form(lookup_type, format)
         }
     }
 
@@ -318,13 +318,13 @@ impl<'a> LookupList<'a> {
             }
             Form::ChainedCoverages => {
                 let input = self.read_list(table, 2)?;
-                let ahead = self.read_list(table, input)?;
-                let _records = self.read_list(table, ahead)?;
+                let lookahead = self.read_list(table, input)?;
+                let _records = self.read_list(table, lookahead)?;
                 Ok(())
             }
             Form::Reverse => {
-                let ahead = self.read_list(table, 4)?;
-                let _substitutes = self.read_list(table, ahead)?;
+                let lookahead = self.read_list(table, 4)?;
+                let _substitutes = self.read_list(table, lookahead)?;
                 Ok(())
             }
             _ => Ok(()),
@@ -365,17 +365,17 @@ impl<'a> LookupList<'a> {
         }
     }
 
-    /// What a context by coverages asks of the glyph behind the one at the cursor: the second coverage of the input, or where the
-    /// input has one, the first behind it.
+    /// What a context by coverages asks of the glyph after the one at the cursor: the second coverage of the input, or where the
+    /// input has one, the first after it.
     fn next_asked(&self, form: Form, table: &'a [u8], first: usize) -> Option<NextAsked<'a>>
         ensures covered { is_some result ≡ true → is_covered_form form ≡ true }
         ensures is { IfSome result (IsNextAt self.now.coverages.items first (is_chained_form form) table.now) }
     {
-        let (behind, input, ahead) = coverage_numbers(form, table)?;
-        if usize::from(input) > MAX_CONTEXT_LENGTH || !has_next(input, ahead) {
+        let (backtrack, input, lookahead) = coverage_numbers(form, table)?;
+        if usize::from(input) > MAX_CONTEXT_LENGTH || !has_next(input, lookahead) {
             return None;
         }
-        let number = usize::from(behind) + usize::from(input.min(1));
+        let number = usize::from(backtrack) + usize::from(input.min(1));
         let coverage = self.coverages.get(first.saturating_add(number))?;
         Some(NextAsked::new(*coverage, input > 1))
     }
@@ -390,7 +390,7 @@ impl<'a> LookupList<'a> {
         }
     }
 
-    /// The classes of what stands behind the input.
+    /// The classes of what stands after the input.
     fn ahead_classes(&mut self, form: Form, table: &'a [u8]) -> ClassDefinition<'a> {
         match form {
             Form::ChainedClasses => self.classes(table_or_empty(table, 8)),
@@ -464,31 +464,31 @@ fn subtable_count(list: &[u8], count: usize) -> usize
     subtables
 }
 
-/// How many coverages a context by coverages has before the cursor, for its input and behind it.
+/// How many coverages a context by coverages has before the cursor, for its input and after it.
 fn coverage_numbers(form: Form, table: &[u8]) -> Option<(u16, u16, u16)>
     ensures covered { is_some result ≡ true → is_covered_form form ≡ true }
-    ensures behind { IfSome result (λ numbers. numbers.0 ≡ behind_number (is_chained_form form) table.now) }
+    ensures behind { IfSome result (λ numbers. numbers.0 ≡ backtrack_number (is_chained_form form) table.now) }
     ensures input { IfSome result (λ numbers. numbers.1 ≡ input_number (is_chained_form form) table.now) }
-    ensures ahead { IfSome result (λ numbers. numbers.2 ≡ ahead_number (is_chained_form form) table.now) }
+    ensures ahead { IfSome result (λ numbers. numbers.2 ≡ lookahead_number (is_chained_form form) table.now) }
 {
     match form {
         Form::Coverages => Some((0, u16_at(table, 2)?, 0)),
         Form::ChainedCoverages => {
-            let behind = u16_at(table, 2)?;
-            let input_at = 4 + 2 * usize::from(behind);
+            let backtrack = u16_at(table, 2)?;
+            let input_at = 4 + 2 * usize::from(backtrack);
             let input = u16_at(table, input_at)?;
-            let ahead = u16_at(table, input_at + 2 + 2 * usize::from(input))?;
-            Some((behind, input, ahead))
+            let lookahead = u16_at(table, input_at + 2 + 2 * usize::from(input))?;
+            Some((backtrack, input, lookahead))
         }
         _ => None,
     }
 }
 
-/// Whether a context with so many glyphs in its input and behind it asks for one behind the cursor.
-fn has_next(input: u16, ahead: u16) -> bool
-    ensures { IsTrue result → input < 2 → 0 < ahead }
+/// Whether a context with so many glyphs in its input and after it asks for one after the cursor.
+fn has_next(input: u16, lookahead: u16) -> bool
+    ensures { IsTrue result → input < 2 → 0 < lookahead }
 {
-    input > 1 || ahead > 0
+    input > 1 || lookahead > 0
 }
 
 /// The digest of the glyphs that any of these subtables is for.

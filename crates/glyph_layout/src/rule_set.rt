@@ -1,58 +1,58 @@
 //! The rules of a set, of which the first that fits is taken.
 
 ghost use Rattle.std.specs.Prelude.{◌≡◌, ◌<◌, ◌≤◌, ◌||◌, not, Bool, true, false, length, IfSome, IsTrue, Some, is_some};
-ghost use Rattle.glyph_layout.specs.Asked.{IsBehind, IsInput, IsTold};
+ghost use Rattle.glyph_layout.specs.Asked.{IsLookahead, IsInput, IsTold};
 ghost use Rattle.glyph_layout.specs.Budget.{IsNotMore};
 ghost use Rattle.glyph_layout.specs.Context.{IsFitWithin};
 ghost use Rattle.glyph_layout.specs.Neighbours.{may_fit};
 ghost use Rattle.glyph_layout.specs.Pattern.{IsFitBy, IsFitOf, Pattern, pattern_fits, pattern_of, rule_fits, rule_pattern};
-ghost use Rattle.glyph_layout.specs.Rule.{ArePlaces, context_walk, input_walk, part_wanted};
+ghost use Rattle.glyph_layout.specs.Rule.{AreMatchPositions, context_iterator, input_iterator, sequence_matcher};
 ghost use Rattle.glyph_layout.specs.RuleSet.{fits_next, looks_first, rule_at, rule_count, rule_of_set};
-ghost use Rattle.glyph_layout.specs.Walk.{skip_of};
-ghost use Rattle.glyph_layout.specs.declared.rule.Meanings.{Meanings};
-ghost use Rattle.glyph_layout.specs.declared.search.Sides.{Sides};
-ghost use Rattle.glyph_layout.specs.declared.walk.Skip.TheVariants.{No};
+ghost use Rattle.glyph_layout.specs.SkippingIterator.{skip_of};
+ghost use Rattle.glyph_layout.specs.declared.rule.MatchFunctions.{MatchFunctions};
+ghost use Rattle.glyph_layout.specs.declared.search.ApplyContext.{ApplyContext};
+ghost use Rattle.glyph_layout.specs.declared.skipping_iterator.Skip.TheVariants.{No};
 
 use crate::asked::{Asked, asked_at};
 use crate::context::Fit;
-use crate::matching::{match_ahead, match_behind, match_input};
+use crate::matching::{match_backtrack, match_input, match_lookahead};
 use crate::neighbours::{Beyond, Neighbours, looks_first, may_fit, seen_ahead};
-use crate::rule::{Meanings, Rule, rule_in};
-use crate::search::{Search, Sides};
+use crate::rule::{MatchFunctions, Rule, rule_in};
+use crate::search::{ApplyContext, Search};
+use crate::skipping_iterator::Skip;
 use crate::told::{Beside, Told};
-use crate::walk::Skip;
 use font_tables::bytes::{table_at_16, u16_at};
 use rb_glyph::hb_glyph_info_t;
 
 /// The rule, if it fits at the cursor.
 #[tactic(auto, using(crate::proofs::PatternLemmas::fitting))]
-pub(crate) fn fit<'a>(rule: &Rule<'a>, sides: &Sides, search: &mut Search) -> Option<Fit<'a>>
-    requires { 0 < length sides.now.input.now }
+pub(crate) fn fit<'a>(rule: &Rule<'a>, ctx: &ApplyContext, search: &mut Search) -> Option<Fit<'a>>
+    requires { 0 < length ctx.now.input.now }
     ensures spent { IsNotMore search.old.budget search.new.budget }
-    ensures fits { IfSome result (IsFitWithin (length sides.now.out.now) (length sides.now.input.now)) }
-    ensures places { IfSome result (λ found. ArePlaces (input_walk sides.now) (part_wanted rule.now.input)
-        sides.now.input.now rule.now.input.count search.new.places.items) }
+    ensures fits { IfSome result (IsFitWithin (length ctx.now.out.now) (length ctx.now.input.now)) }
+    ensures places { IfSome result (λ found. AreMatchPositions (input_iterator ctx.now) (sequence_matcher rule.now.input)
+        ctx.now.input.now rule.now.input.count search.new.places.items) }
     ensures records { IfSome result (λ found. found.records.now ≡ rule.now.records.now) }
-    ensures is { IfSome result (IsFitOf sides.now (pattern_of rule.now)) }
-    ensures exact { 0 < search.new.budget.steps → is_some result ≡ pattern_fits sides.now (pattern_of rule.now) }
+    ensures is { IfSome result (IsFitOf ctx.now (pattern_of rule.now)) }
+    ensures exact { 0 < search.new.budget.steps → is_some result ≡ pattern_fits ctx.now (pattern_of rule.now) }
 {
-    let end = match match_input(sides, &rule.input, search) {
+    let end = match match_input(ctx, &rule.input, search) {
         Ok(end) => end,
         Err(to) => {
             if !rule.is_chained {
-                search.reach.extend(sides.out.len(), to);
+                search.reach.extend(ctx.out.len(), to);
             }
             return None;
         }
     };
-    let to = match match_ahead(sides, &rule.ahead, end, search) {
+    let to = match match_lookahead(ctx, &rule.lookahead, end, search) {
         Ok(to) => to,
         Err(to) => {
-            search.reach.extend(sides.out.len(), to);
+            search.reach.extend(ctx.out.len(), to);
             return None;
         }
     };
-    match match_behind(sides, &rule.behind, search) {
+    match match_backtrack(ctx, &rule.backtrack, search) {
         Ok(from) => {
             Some(Fit {
                 end,
@@ -76,74 +76,78 @@ pub(crate) struct RuleSet<'a> {
     /// Its table.
     pub(crate) table: &'a [u8],
     /// What the numbers of its rules mean.
-    pub(crate) meanings: Meanings<'a>,
-    /// Whether its rules have parts before and behind the input.
+    pub(crate) match_functions: MatchFunctions<'a>,
+    /// Whether its rules have parts before and after the input.
     pub(crate) is_chained: bool,
 }
 
-/// What stands behind the cursor, looked at once for all rules of a set.
+/// What stands after the cursor, looked at once for all rules of a set.
 #[derive(Clone, Copy, Debug)]
 struct Seen {
     /// The next two glyphs of the input, where HarfBuzz looks at them first.
-    ahead: Neighbours,
+    neighbours: Neighbours,
     /// These in the numbers of the rules.
     told: Option<Told>,
     /// Where they were not looked at, the next glyph of the input.
     input: Option<Beside>,
-    /// And the next glyph behind an input of a single glyph, for chained rules.
-    behind: Option<Beside>,
+    /// And the next glyph after an input of a single glyph, for chained rules.
+    lookahead: Option<Beside>,
 }
 
-/// What stands behind the cursor for the rules of a set, of which there are so many.
-fn seen_by(rules: &RuleSet, count: usize, sides: &Sides) -> Seen
-    requires { 0 < length sides.now.input.now }
-    ensures ahead { (p : Pattern) → may_fit result.ahead p
-        ≡ (not (looks_first sides.now rules.now.is_chained count) || fits_next sides.now p) }
-    ensures told { IfSome result.told (IsTold result.ahead rules.now.meanings) }
-    ensures input { IfSome result.input (IsInput sides.now rules.now.meanings) }
-    ensures behind { IfSome result.behind (IsBehind sides.now rules.now.meanings) }
+/// What stands after the cursor for the rules of a set, of which there are so many.
+fn seen_by(rules: &RuleSet, count: usize, ctx: &ApplyContext) -> Seen
+    requires { 0 < length ctx.now.input.now }
+    ensures ahead { (p : Pattern) → may_fit result.neighbours p
+        ≡ (not (looks_first ctx.now rules.now.is_chained count) || fits_next ctx.now p) }
+    ensures told { IfSome result.told (IsTold result.neighbours rules.now.match_functions) }
+    ensures input { IfSome result.input (IsInput ctx.now rules.now.match_functions) }
+    ensures behind { IfSome result.lookahead (IsLookahead ctx.now rules.now.match_functions) }
 {
-    let ahead = seen_ahead(count, rules.is_chained, sides);
-    match Told::new(&ahead, &rules.meanings) {
+    let neighbours = seen_ahead(count, rules.is_chained, ctx);
+    match Told::new(&neighbours, &rules.match_functions) {
         Some(told) => Seen {
-            ahead,
+            neighbours,
             told: Some(told),
             input: None,
-            behind: None,
+            lookahead: None,
         },
         None => Seen {
-            ahead,
+            neighbours,
             told: None,
-            input: input_beside(rules, sides),
-            behind: ahead_beside(rules, count, sides),
+            input: input_beside(rules, ctx),
+            lookahead: lookahead_beside(rules, count, ctx),
         },
     }
 }
 
 /// The next glyph of the input. How far a chained rule looked at it is not told of.
-fn input_beside(rules: &RuleSet, sides: &Sides) -> Option<Beside>
-    requires { 0 < length sides.now.input.now }
-    ensures { IfSome result (IsInput sides.now rules.now.meanings) }
+fn input_beside(rules: &RuleSet, ctx: &ApplyContext) -> Option<Beside>
+    requires { 0 < length ctx.now.input.now }
+    ensures { IfSome result (IsInput ctx.now rules.now.match_functions) }
 {
-    let beside = Beside::new(&sides.input_walk(), &rules.meanings.input, sides.input)?;
+    let beside = Beside::new(
+        &ctx.input_iterator(),
+        &rules.match_functions.input,
+        ctx.input,
+    )?;
     Some(Beside {
         end: if rules.is_chained { 0 } else { beside.end },
         ..beside
     })
 }
 
-/// The next glyph behind an input of a single glyph, for chained rules that are all tried.
-fn ahead_beside(rules: &RuleSet, count: usize, sides: &Sides) -> Option<Beside>
-    requires { 0 < length sides.now.input.now }
-    ensures { IfSome result (IsBehind sides.now rules.now.meanings) }
+/// The next glyph after an input of a single glyph, for chained rules that are all tried.
+fn lookahead_beside(rules: &RuleSet, count: usize, ctx: &ApplyContext) -> Option<Beside>
+    requires { 0 < length ctx.now.input.now }
+    ensures { IfSome result (IsLookahead ctx.now rules.now.match_functions) }
 {
-    if !rules.is_chained || looks_first(count, true, sides) {
+    if !rules.is_chained || looks_first(count, true, ctx) {
         return None;
     }
     Beside::new(
-        &sides.context_walk(true),
-        &rules.meanings.ahead,
-        sides.input,
+        &ctx.context_iterator(true),
+        &rules.match_functions.lookahead,
+        ctx.input,
     )
 }
 
@@ -151,58 +155,58 @@ fn ahead_beside(rules: &RuleSet, count: usize, sides: &Sides) -> Option<Beside>
 #[tactic(auto, using(crate::proofs::RuleSetLemmas::first_steps))]
 pub(crate) fn first_fit<'a>(
     rules: &RuleSet<'a>,
-    sides: &Sides,
+    ctx: &ApplyContext,
     search: &mut Search,
 ) -> Option<Fit<'a>>
-    requires { 0 < length sides.now.input.now }
+    requires { 0 < length ctx.now.input.now }
     ensures spent { IsNotMore search.old.budget search.new.budget }
-    ensures fits { IfSome result (IsFitWithin (length sides.now.out.now) (length sides.now.input.now)) }
+    ensures fits { IfSome result (IsFitWithin (length ctx.now.out.now) (length ctx.now.input.now)) }
     ensures rule { IfSome result
-        (IsFitBy sides.now (rule_of_set sides.now rules.now.is_chained rules.now.meanings (Some rules.now.table.now))) }
+        (IsFitBy ctx.now (rule_of_set ctx.now rules.now.is_chained rules.now.match_functions (Some rules.now.table.now))) }
     ensures exact { 0 < search.new.budget.steps → is_some result
-        ≡ is_some (rule_of_set sides.now rules.now.is_chained rules.now.meanings (Some rules.now.table.now)) }
+        ≡ is_some (rule_of_set ctx.now rules.now.is_chained rules.now.match_functions (Some rules.now.table.now)) }
 {
     let count = usize::from(u16_at(rules.table, 0)?);
-    let seen = seen_by(rules, count, sides);
-    let mut beyond = Beyond::new(&seen.ahead, rules.is_chained);
+    let seen = seen_by(rules, count, ctx);
+    let mut beyond = Beyond::new(&seen.neighbours, rules.is_chained);
     for index in 0..count {
         if !search.budget.pay(1) {
             return None;
         }
-        if let Some(found) = fit_at(rules, index, &seen, &mut beyond, sides, search) {
+        if let Some(found) = fit_at(rules, index, &seen, &mut beyond, ctx, search) {
             return Some(Fit {
                 beyond: beyond.to,
                 ..found
             });
         }
     }
-    search.reach.extend(sides.out.len(), beyond.to);
+    search.reach.extend(ctx.out.len(), beyond.to);
     None
 }
 
-/// The rule of this number in a set, if it fits. One that asks for other glyphs behind the cursor is not made.
+/// The rule of this number in a set, if it fits. One that asks for other glyphs after the cursor is not made.
 #[tactic(auto, using(crate::proofs::RuleSetLemmas::at_steps))]
 fn fit_at<'a>(
     rules: &RuleSet<'a>,
     index: usize,
     seen: &Seen,
     beyond: &mut Beyond,
-    sides: &Sides,
+    ctx: &ApplyContext,
     search: &mut Search,
 ) -> Option<Fit<'a>>
-    requires some { 0 < length sides.now.input.now }
+    requires some { 0 < length ctx.now.input.now }
     requires few { index < 65536 }
-    requires ahead { (p : Pattern) → may_fit seen.now.ahead p
-        ≡ (not (looks_first sides.now rules.now.is_chained (rule_count rules.now.table.now)) || fits_next sides.now p) }
-    requires told { IfSome seen.now.told (IsTold seen.now.ahead rules.now.meanings) }
-    requires input { IfSome seen.now.input (IsInput sides.now rules.now.meanings) }
-    requires behind { IfSome seen.now.behind (IsBehind sides.now rules.now.meanings) }
+    requires ahead { (p : Pattern) → may_fit seen.now.neighbours p
+        ≡ (not (looks_first ctx.now rules.now.is_chained (rule_count rules.now.table.now)) || fits_next ctx.now p) }
+    requires told { IfSome seen.now.told (IsTold seen.now.neighbours rules.now.match_functions) }
+    requires input { IfSome seen.now.input (IsInput ctx.now rules.now.match_functions) }
+    requires behind { IfSome seen.now.lookahead (IsLookahead ctx.now rules.now.match_functions) }
     ensures spent { IsNotMore search.old.budget search.new.budget }
-    ensures fits { IfSome result (IsFitWithin (length sides.now.out.now) (length sides.now.input.now)) }
+    ensures fits { IfSome result (IsFitWithin (length ctx.now.out.now) (length ctx.now.input.now)) }
     ensures rule { IfSome result
-        (IsFitBy sides.now (rule_at sides.now rules.now.is_chained rules.now.meanings rules.now.table.now index)) }
+        (IsFitBy ctx.now (rule_at ctx.now rules.now.is_chained rules.now.match_functions rules.now.table.now index)) }
     ensures exact { 0 < search.new.budget.steps → is_some result
-        ≡ is_some (rule_at sides.now rules.now.is_chained rules.now.meanings rules.now.table.now index) }
+        ≡ is_some (rule_at ctx.now rules.now.is_chained rules.now.match_functions rules.now.table.now index) }
 {
     let table = table_at_16(rules.table, 2 + 2 * index)?;
     if is_told_apart(table, rules.is_chained, seen, beyond) {
@@ -210,28 +214,28 @@ fn fit_at<'a>(
     }
     if let Some(missed) = missed_by(table, rules.is_chained, seen) {
         search.budget.pay_for(missed.steps);
-        search.reach.extend(sides.out.len(), missed.end);
+        search.reach.extend(ctx.out.len(), missed.end);
         return None;
     }
-    let rule = rule_in(table, &rules.meanings, rules.is_chained)?;
-    if !may_fit(&rule, &seen.ahead, beyond) {
+    let rule = rule_in(table, &rules.match_functions, rules.is_chained)?;
+    if !may_fit(&rule, &seen.neighbours, beyond) {
         return None;
     }
-    fit(&rule, sides, search)
+    fit(&rule, ctx, search)
 }
 
-/// Whether a glyph counts for the walk over the glyphs around a match, whatever is asked for.
+/// Whether a glyph counts for the iterator over the glyphs around a match, whatever is asked for.
 #[tactic(auto, using(crate::proofs::ContextLemmas::skip_of_around))]
-pub(crate) fn counts_around(sides: &Sides, glyph: &hb_glyph_info_t) -> bool
-    ensures { IsTrue result → skip_of (context_walk sides.now true) glyph.now ≡ No }
+pub(crate) fn counts_around(ctx: &ApplyContext, glyph: &hb_glyph_info_t) -> bool
+    ensures { IsTrue result → skip_of (context_iterator ctx.now true) glyph.now ≡ No }
 {
-    sides.context.skip(glyph) == Skip::No
+    ctx.context.skip(glyph) == Skip::No
 }
 
 /// Whether the rule in these bytes asks for other glyphs than the next two, and that is known to be looked at so far.
 fn is_told_apart(table: &[u8], is_chained: bool, seen: &Seen, beyond: &Beyond) -> bool
-    ensures { IsTrue result → (m : Meanings) → (p : Pattern) → IfSome seen.now.told (IsTold seen.now.ahead m)
-        → rule_pattern is_chained m table.now ≡ Some p → may_fit seen.now.ahead p ≡ false }
+    ensures { IsTrue result → (m : MatchFunctions) → (p : Pattern) → IfSome seen.now.told (IsTold seen.now.neighbours m)
+        → rule_pattern is_chained m table.now ≡ Some p → may_fit seen.now.neighbours p ≡ false }
 {
     match &seen.told {
         Some(told) => told.is_passed(table, is_chained, beyond),
@@ -239,13 +243,13 @@ fn is_told_apart(table: &[u8], is_chained: bool, seen: &Seen, beyond: &Beyond) -
     }
 }
 
-/// What stands right behind the cursor, where the rule in these bytes asks for something else there.
+/// What stands right after the cursor, where the rule in these bytes asks for something else there.
 fn missed_by(table: &[u8], is_chained: bool, seen: &Seen) -> Option<Beside>
-    ensures { IfSome result (λ beside. (s : Sides) → (m : Meanings) → IfSome seen.now.input (IsInput s m)
-        → IfSome seen.now.behind (IsBehind s m) → rule_fits s (rule_pattern is_chained m table.now) ≡ false) }
+    ensures { IfSome result (λ beside. (s : ApplyContext) → (m : MatchFunctions) → IfSome seen.now.input (IsInput s m)
+        → IfSome seen.now.lookahead (IsLookahead s m) → rule_fits s (rule_pattern is_chained m table.now) ≡ false) }
 {
     match asked_at(table, is_chained, 0)? {
         Asked::Input(asked) => seen.input?.other_than(asked),
-        Asked::Ahead(asked) => seen.behind?.other_than(asked),
+        Asked::Lookahead(asked) => seen.lookahead?.other_than(asked),
     }
 }

@@ -1,10 +1,10 @@
 //! What a search for a match is given, and what it leaves behind.
 
 ghost use Rattle.std.specs.Prelude.{◌≡◌, ◌≤◌, min, max};
-ghost use Rattle.glyph_layout.specs.Rule.{context_walk, input_walk};
+ghost use Rattle.glyph_layout.specs.Rule.{context_iterator, input_iterator};
 
 use crate::budget::Budget;
-use crate::walk::Walk;
+use crate::skipping_iterator::SkippingIterator;
 use arrayvec::ArrayVec;
 use rb_glyph::hb_glyph_info_t;
 
@@ -12,42 +12,42 @@ use rb_glyph::hb_glyph_info_t;
 pub const MAX_CONTEXT_LENGTH: usize = 64;
 
 /// The places of the glyphs of a match, counted from the cursor: the first is 0.
-pub type Places = ArrayVec<usize, 64>;
+pub type MatchPositions = ArrayVec<usize, 64>;
 
 /// The glyphs on both sides of the cursor.
 #[derive(Clone, Copy, Debug)]
-pub struct Sides<'a> {
+pub struct ApplyContext<'a> {
     /// What stands before the cursor: what was put out, or in a pass in place the glyphs before it.
     pub out: &'a [hb_glyph_info_t],
     /// What is left, the glyph at the cursor first.
     pub input: &'a [hb_glyph_info_t],
-    /// The walk over the glyphs of a match.
-    pub walk: Walk<'a>,
-    /// The walk over the glyphs before and behind a match.
-    pub context: Walk<'a>,
+    /// The iterator over the glyphs of a match.
+    pub iterator: SkippingIterator<'a>,
+    /// The iterator over the glyphs before and after a match.
+    pub context: SkippingIterator<'a>,
     /// The syllable of which the glyphs have to be, or 0 for any.
     pub syllable: u8,
     /// Whether as many glyphs were put out as were read: then glyphs before the cursor have to be of the syllable too.
     pub is_level: bool,
 }
 
-impl<'a> Sides<'a> {
-    /// The walk over the glyphs of a match.
-    pub fn input_walk(&self) -> Walk<'a>
-        ensures { result ≡ input_walk self.now }
+impl<'a> ApplyContext<'a> {
+    /// The iterator over the glyphs of a match.
+    pub fn input_iterator(&self) -> SkippingIterator<'a>
+        ensures { result ≡ input_iterator self.now }
     {
-        Walk {
+        SkippingIterator {
             syllable: self.syllable,
-            ..self.walk
+            ..self.iterator
         }
     }
 
-    /// The walk over the glyphs around a match, within the syllable or not.
-    pub fn context_walk(&self, is_within: bool) -> Walk<'a>
-        ensures { result ≡ context_walk self.now is_within }
+    /// The iterator over the glyphs around a match, within the syllable or not.
+    pub fn context_iterator(&self, is_within: bool) -> SkippingIterator<'a>
+        ensures { result ≡ context_iterator self.now is_within }
     {
         let syllable = if is_within { self.syllable } else { 0 };
-        Walk {
+        SkippingIterator {
             syllable,
             ..self.context
         }
@@ -91,7 +91,7 @@ pub struct Search {
     /// How far rules that did not fit had looked.
     pub reach: Reach,
     /// The places of the glyphs of the match.
-    pub places: Places,
+    pub places: MatchPositions,
 }
 
 impl Search {
@@ -102,7 +102,7 @@ impl Search {
         Search {
             budget,
             reach: Reach::none(0),
-            places: Places::new(),
+            places: MatchPositions::new(),
         }
     }
 }

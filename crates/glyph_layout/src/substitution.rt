@@ -6,7 +6,7 @@ ghost use Rattle.glyph_layout.specs.Budget.{IsNotMore};
 ghost use Rattle.glyph_layout.specs.FirstEdit.{IsEditOf, IsFirstEdit, alternate_edit, cursor_index, is_of_use, ligature_edit, single_edit};
 ghost use Rattle.glyph_layout.specs.Match.{AsksForOther, IsNext, first_ligature, ligated, ligature_at, ligature_of};
 ghost use Rattle.glyph_layout.specs.NextAsked.{IsNextOf};
-ghost use Rattle.glyph_layout.specs.Rule.{input_walk};
+ghost use Rattle.glyph_layout.specs.Rule.{input_iterator};
 ghost use Rattle.glyph_layout.specs.Sets.{set_at};
 ghost use Rattle.glyph_layout.specs.Substitution.{IsSequence, alternate_of, feature_value, single};
 ghost use Rattle.glyph_layout.specs.Substitution.{IsMultiple, IsLigature};
@@ -15,15 +15,15 @@ ghost use Rattle.glyph_layout.specs.declared.substitution.Edit.TheVariants.{Repl
 
 use crate::budget::{PASSED_A_STEP, SUBTABLE_STEPS};
 use crate::context::{Fit, fitting_rule};
-use crate::filter::covered_index;
 use crate::glyph_table::Glyphs;
 use crate::lookup_list::{Lookup, LookupList};
-use crate::matching::{match_ahead, match_behind, match_input};
+use crate::lookup_props::covered_index;
+use crate::matching::{match_backtrack, match_input, match_lookahead};
 use crate::neighbours::{Next, next_seen};
-use crate::rule::{Meaning, Part};
-use crate::search::{Search, Sides};
+use crate::rule::{MatchFunction, Sequence};
+use crate::search::{ApplyContext, Search};
+use crate::skipping_iterator::LookupOptions;
 use crate::subtable::Subtable;
-use crate::walk::LookupOptions;
 use font_tables::bytes::{table_at_16, tail, u16_at};
 
 /// The value of a feature that stands for any of its alternates, where it is `rand` (HarfBuzz, `HB_OT_MAP_MAX_VALUE`).
@@ -76,16 +76,16 @@ pub fn edit_at<'a>(
     lookup: &Lookup,
     options: &LookupOptions,
     is_nested: bool,
-    sides: &Sides,
+    ctx: &ApplyContext,
     search: &mut Search,
 ) -> Option<Edit<'a>>
-    requires { 0 < length sides.now.input.now }
+    requires { 0 < length ctx.now.input.now }
     ensures spent { IsNotMore search.old.budget search.new.budget }
     ensures first { 0 < search.new.budget.steps
-        → IsFirstEdit list.now.coverages.items options.now sides.now is_nested
+        → IsFirstEdit list.now.coverages.items options.now ctx.now is_nested
         (subtables_of list.now.subtables.items lookup.now) result }
 {
-    let glyph = sides.input[0].glyph_id;
+    let glyph = ctx.input[0].glyph_id;
     let subtables = list.subtables_of(lookup);
     search.budget.pay_for(subtables.len() / PASSED_A_STEP);
     for subtable in subtables {
@@ -93,7 +93,7 @@ pub fn edit_at<'a>(
             if !search.budget.pay(SUBTABLE_STEPS) {
                 return None;
             }
-            let edit = edit_of(list, subtable, options, is_nested, sides, search);
+            let edit = edit_of(list, subtable, options, is_nested, ctx, search);
             if edit.is_some() {
                 return edit;
             }
@@ -108,33 +108,33 @@ fn edit_of<'a>(
     subtable: &Subtable<'a>,
     options: &LookupOptions,
     is_nested: bool,
-    sides: &Sides,
+    ctx: &ApplyContext,
     search: &mut Search,
 ) -> Option<Edit<'a>>
-    requires some { 0 < length sides.now.input.now }
+    requires some { 0 < length ctx.now.input.now }
     requires next { IsNextOf list.now.coverages.items subtable.now }
     ensures spent { IsNotMore search.old.budget search.new.budget }
-    ensures single { subtable.now.kind ≡ 1 → result ≡ single_edit subtable.now sides.now }
-    ensures multiple { subtable.now.kind ≡ 2
-        → IsMultiple subtable.now.table.now (cursor_index subtable.now sides.now) result }
-    ensures alternate { subtable.now.kind ≡ 3 → options.now.random ≡ false
-        → result ≡ alternate_edit options.now subtable.now sides.now }
-    ensures ligature { subtable.now.kind ≡ 4 → 0 < search.new.budget.steps
-        → ligated result ≡ ligature_edit subtable.now sides.now }
-    ensures other { is_of_use subtable.now.kind is_nested ≡ false → result ≡ None }
+    ensures single { subtable.now.lookup_type ≡ 1 → result ≡ single_edit subtable.now ctx.now }
+    ensures multiple { subtable.now.lookup_type ≡ 2
+        → IsMultiple subtable.now.table.now (cursor_index subtable.now ctx.now) result }
+    ensures alternate { subtable.now.lookup_type ≡ 3 → options.now.random ≡ false
+        → result ≡ alternate_edit options.now subtable.now ctx.now }
+    ensures ligature { subtable.now.lookup_type ≡ 4 → 0 < search.new.budget.steps
+        → ligated result ≡ ligature_edit subtable.now ctx.now }
+    ensures other { is_of_use subtable.now.lookup_type is_nested ≡ false → result ≡ None }
     ensures is { 0 < search.new.budget.steps
-        → IsEditOf list.now.coverages.items options.now sides.now is_nested subtable.now result }
+        → IsEditOf list.now.coverages.items options.now ctx.now is_nested subtable.now result }
 {
-    let glyph = &sides.input[0];
+    let glyph = &ctx.input[0];
     let index = covered_index(&subtable.coverage, glyph.glyph_id)?;
-    match subtable.kind {
+    match subtable.lookup_type {
         1 => Some(Edit::Replace(single(subtable, glyph.glyph_id, index)?)),
         2 => Some(multiple(subtable.table, index)),
         3 => alternate(subtable.table, index, glyph.mask, options),
-        4 => ligature_by(subtable, index, sides, search),
-        5 => Some(Edit::Apply(fitting_rule(list, subtable, index, false, sides, search)?)),
-        6 => Some(Edit::Apply(fitting_rule(list, subtable, index, true, sides, search)?)),
-        8 if !is_nested => reverse(list, subtable, index, sides, search),
+        4 => ligature_by(subtable, index, ctx, search),
+        5 => Some(Edit::Apply(fitting_rule(list, subtable, index, false, ctx, search)?)),
+        6 => Some(Edit::Apply(fitting_rule(list, subtable, index, true, ctx, search)?)),
+        8 if !is_nested => reverse(list, subtable, index, ctx, search),
         _ => None,
     }
 }
@@ -225,28 +225,28 @@ fn feature_value(feature: u32, mask: u32) -> u32
 fn ligature_by<'a>(
     subtable: &Subtable<'a>,
     index: u32,
-    sides: &Sides,
+    ctx: &ApplyContext,
     search: &mut Search,
 ) -> Option<Edit<'a>>
-    requires { 0 < length sides.now.input.now }
+    requires { 0 < length ctx.now.input.now }
     ensures spent { IsNotMore search.old.budget search.new.budget }
     ensures is { 0 < search.new.budget.steps
-        → ligated result ≡ first_ligature sides.now (set_at subtable.now.table.now index) }
+        → ligated result ≡ first_ligature ctx.now (set_at subtable.now.table.now index) }
 {
     let set = set_at(subtable.table, index);
-    let next = next_seen(&sides.input_walk(), sides.input, 0);
-    if let Some(end) = missed_second(subtable, &next, sides) {
+    let next = next_seen(&ctx.input_iterator(), ctx.input, 0);
+    if let Some(end) = missed_second(subtable, &next, ctx) {
         if u16_at(set, 0).unwrap_or(0) > 0 {
-            search.reach.extend(sides.out.len(), end);
+            search.reach.extend(ctx.out.len(), end);
         }
         return None;
     }
-    ligature_in(set, &next, sides, search)
+    ligature_in(set, &next, ctx, search)
 }
 
 /// How far glyphs were looked at, where the next glyph is the second one of no ligature of a subtable.
-fn missed_second(subtable: &Subtable, next: &Option<Next>, _sides: &Sides) -> Option<usize>
-    requires next { IfSome next.now (IsNext (input_walk _sides.now) _sides.now.input.now 0) }
+fn missed_second(subtable: &Subtable, next: &Option<Next>, _sides: &ApplyContext) -> Option<usize>
+    requires next { IfSome next.now (IsNext (input_iterator _sides.now) _sides.now.input.now 0) }
     ensures { IfSome result (λ end. (index : ℕ)
         → first_ligature _sides.now (set_at subtable.now.table.now index) ≡ None) }
 {
@@ -264,13 +264,13 @@ fn missed_second(subtable: &Subtable, next: &Option<Next>, _sides: &Sides) -> Op
 fn ligature_in<'a>(
     set: &'a [u8],
     next: &Option<Next>,
-    sides: &Sides,
+    ctx: &ApplyContext,
     search: &mut Search,
 ) -> Option<Edit<'a>>
-    requires some { 0 < length sides.now.input.now }
-    requires next { IfSome next.now (IsNext (input_walk sides.now) sides.now.input.now 0) }
+    requires some { 0 < length ctx.now.input.now }
+    requires next { IfSome next.now (IsNext (input_iterator ctx.now) ctx.now.input.now 0) }
     ensures spent { IsNotMore search.old.budget search.new.budget }
-    ensures is { 0 < search.new.budget.steps → ligated result ≡ first_ligature sides.now set.now }
+    ensures is { 0 < search.new.budget.steps → ligated result ≡ first_ligature ctx.now set.now }
 {
     let count = usize::from(u16_at(set, 0)?);
     let is_told_at_end = count > 4 && matches!(*next, Some(next) if next.is_there());
@@ -279,15 +279,15 @@ fn ligature_in<'a>(
         if !search.budget.pay(1) {
             return None;
         }
-        if let Some(edit) = ligature_at(set, index, next, &mut beyond, sides, search) {
+        if let Some(edit) = ligature_at(set, index, next, &mut beyond, ctx, search) {
             return Some(edit);
         }
         if !is_told_at_end {
-            search.reach.extend(sides.out.len(), beyond);
+            search.reach.extend(ctx.out.len(), beyond);
             beyond = 0;
         }
     }
-    search.reach.extend(sides.out.len(), beyond);
+    search.reach.extend(ctx.out.len(), beyond);
     None
 }
 
@@ -299,14 +299,14 @@ fn ligature_at<'a>(
     index: usize,
     next: &Option<Next>,
     beyond: &mut usize,
-    sides: &Sides,
+    ctx: &ApplyContext,
     search: &mut Search,
 ) -> Option<Edit<'a>>
-    requires some { 0 < length sides.now.input.now }
+    requires some { 0 < length ctx.now.input.now }
     requires few { index < 65536 }
-    requires next { IfSome next.now (IsNext (input_walk sides.now) sides.now.input.now 0) }
+    requires next { IfSome next.now (IsNext (input_iterator ctx.now) ctx.now.input.now 0) }
     ensures spent { IsNotMore search.old.budget search.new.budget }
-    ensures is { 0 < search.new.budget.steps → ligated result ≡ ligature_at sides.now set.now index }
+    ensures is { 0 < search.new.budget.steps → ligated result ≡ ligature_at ctx.now set.now index }
     ensures ligates { IfSome result (λ edit. is_some (ligated (Some edit)) ≡ true) }
 {
     let table = table_at_16(set, 2 + 2 * index)?;
@@ -315,7 +315,7 @@ fn ligature_at<'a>(
             *beyond = next.end;
             None
         }
-        _ => ligature(table, *beyond, sides, search),
+        _ => ligature(table, *beyond, ctx, search),
     }
 }
 
@@ -335,13 +335,13 @@ fn is_other(table: &[u8], glyph: u32) -> bool
 fn ligature<'a>(
     table: &'a [u8],
     beyond: usize,
-    sides: &Sides,
+    ctx: &ApplyContext,
     search: &mut Search,
 ) -> Option<Edit<'a>>
-    requires { 0 < length sides.now.input.now }
+    requires { 0 < length ctx.now.input.now }
     ensures spent { IsNotMore search.old.budget search.new.budget }
-    ensures is { IfSome result (IsLigature table.now sides.now search.new.places.items) }
-    ensures exact { 0 < search.new.budget.steps → ligated result ≡ ligature_of sides.now table.now }
+    ensures is { IfSome result (IsLigature table.now ctx.now search.new.places.items) }
+    ensures exact { 0 < search.new.budget.steps → ligated result ≡ ligature_of ctx.now table.now }
     ensures ligates { IfSome result (λ edit. is_some (ligated (Some edit)) ≡ true) }
 {
     let glyph = u16_at(table, 0)?;
@@ -353,12 +353,12 @@ fn ligature<'a>(
             None
         };
     }
-    let components = Part {
-        meaning: Meaning::Glyphs,
+    let components = Sequence {
+        match_function: MatchFunction::Glyphs,
         numbers: tail(table, 4),
         count: count - 1,
     };
-    match match_input(sides, &components, search) {
+    match match_input(ctx, &components, search) {
         Ok(end) => {
             Some(Edit::Ligate(Ligation {
                 ligature: glyph,
@@ -367,38 +367,38 @@ fn ligature<'a>(
             }))
         }
         Err(to) => {
-            search.reach.extend(sides.out.len(), to);
+            search.reach.extend(ctx.out.len(), to);
             None
         }
     }
 }
 
-/// The reverse substitution of a glyph with this coverage index, if the glyphs before it and behind it are covered.
+/// The reverse substitution of a glyph with this coverage index, if the glyphs before it and after it are covered.
 fn reverse<'a>(
     list: &'a LookupList<'a>,
     subtable: &Subtable<'a>,
     index: u32,
-    sides: &Sides,
+    ctx: &ApplyContext,
     search: &mut Search,
 ) -> Option<Edit<'a>>
-    requires { 0 < length sides.now.input.now }
+    requires { 0 < length ctx.now.input.now }
     ensures spent { IsNotMore search.old.budget search.new.budget }
 {
     let table = subtable.table;
-    let behind = u16_at(table, 4)?;
-    let ahead_at = 6 + 2 * usize::from(behind);
-    let ahead = u16_at(table, ahead_at)?;
-    let substitutes_at = ahead_at + 2 + 2 * usize::from(ahead);
+    let backtrack = u16_at(table, 4)?;
+    let lookahead_at = 6 + 2 * usize::from(backtrack);
+    let lookahead = u16_at(table, lookahead_at)?;
+    let substitutes_at = lookahead_at + 2 + 2 * usize::from(lookahead);
     if index >= u32::from(u16_at(table, substitutes_at)?) {
         return None;
     }
     let glyph = u16_at(table, substitutes_at + 2 + 2 * index as usize)?;
-    let parts = covered_part(list, subtable, 0, behind);
-    let Ok(from) = match_behind(sides, &parts, search) else {
+    let parts = covered_sequence(list, subtable, 0, backtrack);
+    let Ok(from) = match_backtrack(ctx, &parts, search) else {
         return None;
     };
-    let parts = covered_part(list, subtable, usize::from(behind), ahead);
-    match match_ahead(sides, &parts, 1, search) {
+    let parts = covered_sequence(list, subtable, usize::from(backtrack), lookahead);
+    match match_lookahead(ctx, &parts, 1, search) {
         Ok(to) => Some(Edit::ReplaceInPlace(InPlace { glyph, from, to })),
         Err(to) => {
             search.reach.extend(from, to);
@@ -408,14 +408,14 @@ fn reverse<'a>(
 }
 
 /// So many of the coverages of a subtable, from the one of this number on.
-fn covered_part<'a>(
+fn covered_sequence<'a>(
     list: &'a LookupList<'a>,
     subtable: &Subtable<'a>,
     first: usize,
     count: u16,
-) -> Part<'a> {
-    Part {
-        meaning: Meaning::Coverages(list.coverages_from(subtable, first)),
+) -> Sequence<'a> {
+    Sequence {
+        match_function: MatchFunction::Coverages(list.coverages_from(subtable, first)),
         numbers: &[],
         count,
     }

@@ -5,7 +5,7 @@ ghost use Rattle.font_tables.specs.Bytes.{number_16};
 ghost use Rattle.font_tables.specs.Coverage.{listed_index, ranged_index};
 ghost use Rattle.font_tables.specs.GlyphRanges.{range_first, range_last};
 ghost use Rattle.font_tables.specs.Rows.{rows_within};
-ghost use Rattle.glyph_layout.specs.Walk.{covered_index};
+ghost use Rattle.glyph_layout.specs.SkippingIterator.{covered_index};
 
 use font_tables::bytes::u16_at;
 use font_tables::coverage::Coverage;

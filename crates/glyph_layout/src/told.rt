@@ -6,23 +6,23 @@ ghost use Rattle.glyph_layout.specs.Neighbours.{may_fit};
 ghost use Rattle.glyph_layout.specs.Pattern.{Pattern, rule_pattern};
 ghost use Rattle.glyph_layout.specs.declared.neighbours.Neighbours.{Neighbours};
 ghost use Rattle.glyph_layout.specs.declared.neighbours.Neighbours.TheVariants.{Seen};
-ghost use Rattle.glyph_layout.specs.declared.rule.Meanings.{Meanings};
+ghost use Rattle.glyph_layout.specs.declared.rule.MatchFunctions.{MatchFunctions};
 
 use crate::asked::{Asked, asked_at};
+use crate::matcher::{Matcher, class_of};
 use crate::neighbours::{Beyond, NO_GLYPH, Neighbours, Next};
-use crate::rule::{Meaning, Meanings};
-use crate::walk::{Found, Skip, Walk};
-use crate::wanted::{Wanted, class_of};
+use crate::rule::{MatchFunction, MatchFunctions};
+use crate::skipping_iterator::{Found, Skip, SkippingIterator};
 use rb_glyph::hb_glyph_info_t;
 
 /// The number by which rules ask for a glyph; `None` where they ask by coverages.
-fn number_of(meaning: &Meaning, glyph: u32) -> Option<u32>
-    ensures { IfSome result (IsNumberOf meaning.now glyph) }
+fn number_of(match_function: &MatchFunction, glyph: u32) -> Option<u32>
+    ensures { IfSome result (IsNumberOf match_function.now glyph) }
 {
-    match *meaning {
-        Meaning::Glyphs => Some(glyph),
-        Meaning::Classes(classes) => Some(u32::from(class_of(&classes, glyph))),
-        Meaning::Coverages(_) => None,
+    match *match_function {
+        MatchFunction::Glyphs => Some(glyph),
+        MatchFunction::Classes(classes) => Some(u32::from(class_of(&classes, glyph))),
+        MatchFunction::Coverages(_) => None,
     }
 }
 
@@ -31,20 +31,20 @@ fn number_of(meaning: &Meaning, glyph: u32) -> Option<u32>
 pub(crate) struct Numbers {
     /// As one of their input.
     input: u32,
-    /// As one behind it.
-    ahead: u32,
-    /// The place behind the glyph; 0 where there is none.
+    /// As one after it.
+    lookahead: u32,
+    /// The place after the glyph; 0 where there is none.
     end: usize,
 }
 
 impl Numbers {
     /// The numbers of a glyph; `None` where rules ask by coverages.
-    fn of(meanings: &Meanings, glyph: u32, end: usize) -> Option<Self>
-        ensures { IfSome result (AreNumbersOf meanings.now glyph) }
+    fn of(match_functions: &MatchFunctions, glyph: u32, end: usize) -> Option<Self>
+        ensures { IfSome result (AreNumbersOf match_functions.now glyph) }
     {
         Some(Numbers {
-            input: number_of(&meanings.input, glyph)?,
-            ahead: number_of(&meanings.ahead, glyph)?,
+            input: number_of(&match_functions.input, glyph)?,
+            lookahead: number_of(&match_functions.lookahead, glyph)?,
             end,
         })
     }
@@ -53,17 +53,17 @@ impl Numbers {
     fn none() -> Self {
         Numbers {
             input: NO_GLYPH,
-            ahead: NO_GLYPH,
+            lookahead: NO_GLYPH,
             end: 0,
         }
     }
 
-    /// Whether the rule in these bytes asks for something else at this number behind the cursor.
+    /// Whether the rule in these bytes asks for something else at this number after the cursor.
     #[inline(always)]
     fn is_apart(&self, table: &[u8], is_chained: bool, number: usize) -> bool
         requires { number < 2 }
-        ensures { IsTrue result → (ahead : Neighbours) → (m : Meanings) → (p : Pattern) → IsApart ahead m number self.now
-            → rule_pattern is_chained m table.now ≡ Some p → may_fit ahead p ≡ false }
+        ensures { IsTrue result → (neighbours : Neighbours) → (m : MatchFunctions) → (p : Pattern) → IsApart neighbours m number self.now
+            → rule_pattern is_chained m table.now ≡ Some p → may_fit neighbours p ≡ false }
     {
         match asked_at(table, is_chained, number) {
             Some(asked) => self.is_other(&asked),
@@ -77,7 +77,7 @@ impl Numbers {
     {
         match *asked {
             Asked::Input(number) => u32::from(number) != self.input,
-            Asked::Ahead(number) => u32::from(number) != self.ahead,
+            Asked::Lookahead(number) => u32::from(number) != self.lookahead,
         }
     }
 }
@@ -91,27 +91,27 @@ pub(crate) struct Told {
 
 impl Told {
     /// The next two glyphs, if they were looked at.
-    pub(crate) fn new(ahead: &Neighbours, meanings: &Meanings) -> Option<Self>
-        ensures { IfSome result (IsTold ahead.now meanings.now) }
+    pub(crate) fn new(neighbours: &Neighbours, match_functions: &MatchFunctions) -> Option<Self>
+        ensures { IfSome result (IsTold neighbours.now match_functions.now) }
     {
-        match *ahead {
+        match *neighbours {
             Neighbours::Unseen => None,
             Neighbours::Absent => Some(Told {
                 first: Numbers::none(),
                 second: None,
             }),
-            Neighbours::Seen(first, second) => Told::seen(meanings, first, second),
+            Neighbours::Seen(first, second) => Told::seen(match_functions, first, second),
         }
     }
 
-    /// A glyph, and the one behind it, if it counts.
-    fn seen(meanings: &Meanings, first: Next, second: Option<Next>) -> Option<Self>
-        ensures { IfSome result (IsTold (Seen first second) meanings.now) }
+    /// A glyph, and the one after it, if it counts.
+    fn seen(match_functions: &MatchFunctions, first: Next, second: Option<Next>) -> Option<Self>
+        ensures { IfSome result (IsTold (Seen first second) match_functions.now) }
     {
-        let first = Numbers::of(meanings, first.glyph, first.end)?;
+        let first = Numbers::of(match_functions, first.glyph, first.end)?;
         match second {
             Some(second) => {
-                let second = Numbers::of(meanings, second.glyph, second.end)?;
+                let second = Numbers::of(match_functions, second.glyph, second.end)?;
                 Some(Told {
                     first,
                     second: Some(second),
@@ -126,8 +126,8 @@ impl Told {
 
     /// Whether the rule in these bytes asks for other glyphs, and that is known to be looked at so far.
     pub(crate) fn is_passed(&self, table: &[u8], is_chained: bool, beyond: &Beyond) -> bool
-        ensures { IsTrue result → (ahead : Neighbours) → (m : Meanings) → (p : Pattern) → IsTold ahead m self.now
-            → rule_pattern is_chained m table.now ≡ Some p → may_fit ahead p ≡ false }
+        ensures { IsTrue result → (neighbours : Neighbours) → (m : MatchFunctions) → (p : Pattern) → IsTold neighbours m self.now
+            → rule_pattern is_chained m table.now ≡ Some p → may_fit neighbours p ≡ false }
     {
         if self.first.is_apart(table, is_chained, 0) {
             return beyond.to != 0 || self.first.end == 0;
@@ -146,26 +146,30 @@ pub(crate) struct Beside {
     pub(crate) number: u32,
     /// How far glyphs were looked at.
     pub(crate) end: usize,
-    /// How many glyphs behind the cursor these were.
+    /// How many glyphs after the cursor these were.
     pub(crate) steps: usize,
 }
 
 impl Beside {
     /// The next glyph that a walk comes to, if it counts whatever is asked for.
-    pub(crate) fn new(walk: &Walk, meaning: &Meaning, glyphs: &[hb_glyph_info_t]) -> Option<Self>
+    pub(crate) fn new(
+        iterator: &SkippingIterator,
+        match_function: &MatchFunction,
+        glyphs: &[hb_glyph_info_t],
+    ) -> Option<Self>
         requires { 0 < length glyphs.now }
-        ensures { IfSome result (IsBeside walk.now glyphs.now meaning.now) }
+        ensures { IfSome result (IsBeside iterator.now glyphs.now match_function.now) }
     {
-        let place = match walk.next(&Wanted::Any, glyphs, 0) {
+        let place = match iterator.next(&Matcher::Any, glyphs, 0) {
             Found::At(place) => place,
             Found::Other(place) => return Some(Beside::none(place + 1, place)),
             Found::End => return Some(Beside::none(glyphs.len(), glyphs.len())),
         };
-        if walk.skip(&glyphs[place]) != Skip::No {
+        if iterator.skip(&glyphs[place]) != Skip::No {
             return None;
         }
         Some(Beside {
-            number: number_of(meaning, glyphs[place].glyph_id)?,
+            number: number_of(match_function, glyphs[place].glyph_id)?,
             end: place + 1,
             steps: place,
         })

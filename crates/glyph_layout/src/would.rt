@@ -5,17 +5,17 @@ ghost use Rattle.glyph_layout.specs.Budget.{IsNotMore};
 ghost use Rattle.glyph_layout.specs.Substitution.{begins_with};
 
 use crate::budget::Budget;
-use crate::context::{class_meanings, same_meaning, set_at};
-use crate::filter::covered_index;
+use crate::context::{class_meanings, same_match_function, set_at};
 use crate::lookup_list::{Lookup, LookupList};
-use crate::rule::{Meaning, Meanings, Rule, coverage_rule, rule_in};
+use crate::lookup_props::covered_index;
+use crate::matcher::class_of;
+use crate::rule::{MatchFunction, MatchFunctions, Rule, coverage_rule, rule_in};
 use crate::substitution;
 use crate::subtable::Subtable;
-use crate::wanted::class_of;
 use font_tables::bytes::{table_at_16, tail, u16_at};
 
 /// Whether a lookup has a rule for just these glyphs, one after the other (HarfBuzz, `hb_ot_layout_lookup_would_substitute`). Where
-/// `wants_no_context` holds, a rule that asks for glyphs before them or behind them is none. Where the budget is spent there is no rule,
+/// `wants_no_context` holds, a rule that asks for glyphs before them or after them is none. Where the budget is spent there is no rule,
 /// and none for no glyphs.
 pub fn would_substitute<'a>(
     list: &'a LookupList<'a>,
@@ -59,7 +59,7 @@ fn subtable_would<'a>(
     requires { 0 < length glyphs.now }
     ensures { IsNotMore budget.old budget.new }
 {
-    match subtable.kind {
+    match subtable.lookup_type {
         1 | 2 | 3 | 8 => {
             glyphs.len() == 1 && covered_index(&subtable.coverage, glyphs[0]).is_some()
         }
@@ -118,18 +118,32 @@ fn context_would<'a>(
     let table = subtable.table;
     match subtable.format {
         1 => {
-            let meanings = same_meaning(Meaning::Glyphs);
+            let match_functions = same_match_function(MatchFunction::Glyphs);
             let set = covered_index(&subtable.coverage, glyphs[0]).and_then(|index| set_at(
                 table, 4, index,
             ));
-            set_would(set, &meanings, is_chained, glyphs, wants_no_context, budget)
+            set_would(
+                set,
+                &match_functions,
+                is_chained,
+                glyphs,
+                wants_no_context,
+                budget,
+            )
         }
         2 => {
             let class = class_of(&subtable.classes, glyphs[0]);
             let at = if is_chained { 10 } else { 6 };
             let set = set_at(table, at, u32::from(class));
-            let meanings = class_meanings(subtable);
-            set_would(set, &meanings, is_chained, glyphs, wants_no_context, budget)
+            let match_functions = class_meanings(subtable);
+            set_would(
+                set,
+                &match_functions,
+                is_chained,
+                glyphs,
+                wants_no_context,
+                budget,
+            )
         }
         3 => {
             let coverages = list.coverages_from(subtable, 0);
@@ -146,7 +160,7 @@ fn context_would<'a>(
 /// Whether a set has a rule for these glyphs.
 fn set_would<'a>(
     set: Option<&'a [u8]>,
-    meanings: &Meanings<'a>,
+    match_functions: &MatchFunctions<'a>,
     is_chained: bool,
     glyphs: &[u32],
     wants_no_context: bool,
@@ -162,7 +176,7 @@ fn set_would<'a>(
             return false;
         }
         if let Some(table) = table_at_16(set, 2 + 2 * number)
-            && let Some(rule) = rule_in(table, meanings, is_chained)
+            && let Some(rule) = rule_in(table, match_functions, is_chained)
             && is_for(&rule, glyphs, wants_no_context)
         {
             return true;
@@ -173,7 +187,7 @@ fn set_would<'a>(
 
 /// Whether the input of a rule is these glyphs.
 fn is_for(rule: &Rule, glyphs: &[u32], wants_no_context: bool) -> bool {
-    if wants_no_context && (rule.behind.count != 0 || rule.ahead.count != 0) {
+    if wants_no_context && (rule.backtrack.count != 0 || rule.lookahead.count != 0) {
         return false;
     }
     if usize::from(rule.input.count) + 1 != glyphs.len() {
@@ -181,10 +195,10 @@ fn is_for(rule: &Rule, glyphs: &[u32], wants_no_context: bool) -> bool {
     }
     for number in 0..rule.input.count {
         let fits = match (
-            rule.input.wanted(number),
+            rule.input.matcher(number),
             glyphs.get(usize::from(number) + 1),
         ) {
-            (Some(wanted), Some(glyph)) => wanted.fits(*glyph),
+            (Some(matcher), Some(glyph)) => matcher.fits(*glyph),
             _ => false,
         };
         if !fits {

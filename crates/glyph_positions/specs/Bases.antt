@@ -2,17 +2,17 @@
 use Rattle.std.specs.Prelude.{◌≡◌, ℕ, ◌<◌, ◌≤◌, ◌&&◌, List, Bool, false, not, nat_lt, length, if◌then◌else◌, slice_index_or}
 use Rattle.rb_glyph.specs.declared.info.hb_glyph_info_t.{hb_glyph_info_t}
 use Rattle.rb_glyph.specs.Fields.{field}
-use Rattle.glyph_layout.specs.Walk.{is_within, passes_over, may_ignore, props, zero_glyph}
-use Rattle.glyph_layout.specs.declared.walk.Walk.{Walk}
+use Rattle.glyph_layout.specs.SkippingIterator.{is_within, passes_over, may_ignore, props, zero_glyph}
+use Rattle.glyph_layout.specs.declared.skipping_iterator.SkippingIterator.{SkippingIterator}
 
 -- whether a glyph counts in a walk, whatever is asked for: it is not passed over, is not invisible, and has the features' bits
-unfoldable pub counts : Walk → hb_glyph_info_t → Bool
-counts w g = not (passes_over w.filter g) && not (may_ignore w (field g.var2 0 16) (props g)) && is_within w g
+unfoldable pub counts : SkippingIterator → hb_glyph_info_t → Bool
+counts w g = not (passes_over w.lookup_props g) && not (may_ignore w (field g.var2 0 16) (props g)) && is_within w g
 
 -- whether the glyph at a place counts
-abbrev pub counts_at : Walk → List hb_glyph_info_t → ℕ → Bool
+abbrev pub counts_at : SkippingIterator → List hb_glyph_info_t → ℕ → Bool
 counts_at w gs k = if nat_lt k (length gs) then counts w (slice_index_or gs k zero_glyph) else false
 
 -- no glyph from a place up to another counts
-abbrev pub NoneCounts : Walk → List hb_glyph_info_t → ℕ → ℕ → Type 0
+abbrev pub NoneCounts : SkippingIterator → List hb_glyph_info_t → ℕ → ℕ → Type 0
 NoneCounts w gs from to = (k : ℕ) → from ≤ k → k < to → counts_at w gs k ≡ false

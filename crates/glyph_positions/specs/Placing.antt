@@ -18,7 +18,7 @@ pair_moved base instance is_horizontal values first second ps =
     changed_at (moved base instance is_horizontal values.second) second
     (changed_at (moved base instance is_horizontal values.first) first ps)
 
--- how many places away a glyph stands: negative before, positive behind; 0 where it is farther away than a chain reaches
+-- how many places away a glyph stands: negative before, positive after; 0 where it is farther away than a chain reaches
 abbrev pub chain_between : ℕ → ℕ → ℤ
 chain_between place to =
     if nat_le place to && nat_le (to - place) 32767 then pos (to - place)

@@ -61,7 +61,7 @@ fn offsets_of(turn: &Turn, matrix: &[u8], row: u32) -> Option<(i32, i32)> {
     }
 }
 
-/// Attaches the mark, and says where the walk goes on; `None` where the subtable does not attach it.
+/// Attaches the mark, and says where the iterator goes on; `None` where the subtable does not attach it.
 pub(crate) fn attach_mark(
     buffer: &mut hb_buffer_t,
     place: usize,

@@ -5,8 +5,8 @@ ghost use Rattle.glyph_layout.specs.Budget.{IsNotMore};
 
 use crate::turn::{Setting, Turn};
 use glyph_layout::context::{Fit, fitting_rule};
-use glyph_layout::search::{Reach, Search, Sides};
-use glyph_layout::walk::Walk;
+use glyph_layout::search::{ApplyContext, Reach, Search};
+use glyph_layout::skipping_iterator::SkippingIterator;
 use rb_glyph::hb_glyph_info_t;
 
 /// The kind of chained contexts.
@@ -18,7 +18,7 @@ pub(crate) fn fit_at<'a>(
     glyphs: &[hb_glyph_info_t],
     setting: &Setting<'a>,
     turn: &Turn<'a>,
-    context: &Walk<'a>,
+    context: &SkippingIterator<'a>,
     search: &mut Search,
 ) -> Option<Fit<'a>>
     ensures { IsNotMore search.old.budget search.new.budget }
@@ -27,21 +27,21 @@ pub(crate) fn fit_at<'a>(
     if turn.place >= glyphs.len() {
         return None;
     }
-    let sides = Sides {
+    let ctx = ApplyContext {
         out: &glyphs[..turn.place],
         input: &glyphs[turn.place..],
-        walk: turn.walk,
+        iterator: turn.iterator,
         context: *context,
         syllable: 0,
         is_level: true,
     };
-    let is_chained = turn.subtable.kind == CHAINED_CONTEXT;
+    let is_chained = turn.subtable.lookup_type == CHAINED_CONTEXT;
     fitting_rule(
         setting.list,
         turn.subtable,
         turn.index,
         is_chained,
-        &sides,
+        &ctx,
         search,
     )
 }

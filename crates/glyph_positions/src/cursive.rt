@@ -8,9 +8,9 @@ use crate::flags::{mark_attached, mark_break, mark_concat};
 use crate::turn::Turn;
 use font_tables::bytes::{table_at_16, u16_at};
 use font_tables::scale::Scale;
-use glyph_layout::filter::covered_index;
-use glyph_layout::walk::Found;
-use glyph_layout::wanted::Wanted;
+use glyph_layout::lookup_props::covered_index;
+use glyph_layout::matcher::Matcher;
+use glyph_layout::skipping_iterator::Found;
 use position_tables::anchors::Anchor;
 use rb_common::Direction;
 use rb_glyph::{GlyphPosition, hb_glyph_info_t};
@@ -45,7 +45,7 @@ struct Join {
     is_right_to_left: bool,
 }
 
-/// Joins the glyph to the one before it, and says where the walk goes on; `None` where the subtable does not join them.
+/// Joins the glyph to the one before it, and says where the iterator goes on; `None` where the subtable does not join them.
 pub(crate) fn place_cursive(buffer: &mut hb_buffer_t, turn: &Turn) -> Option<usize>
     requires closed { buffer.old.have_output ≡ false }
     requires placed { IsSome buffer.old.positions }
@@ -79,14 +79,14 @@ fn join_of(glyphs: &[hb_glyph_info_t], turn: &Turn) -> JoinFound {
     if turn.place > glyphs.len() {
         return JoinFound::Nothing;
     }
-    match turn.walk.previous(&Wanted::Shown, glyphs, turn.place) {
+    match turn.iterator.previous(&Matcher::Shown, glyphs, turn.place) {
         Found::At(before) => match exit_of(glyphs, turn, before) {
             Some(exit) => JoinFound::Joined(Join {
                 before,
                 place: turn.place,
                 exit,
                 entry,
-                is_right_to_left: turn.walk.filter.flags & RIGHT_TO_LEFT != 0,
+                is_right_to_left: turn.iterator.lookup_props.flags & RIGHT_TO_LEFT != 0,
             }),
             None => JoinFound::NoExit(before),
         },

@@ -1,4 +1,4 @@
-//! What stands before the lookups of `GPOS`, and behind them (HarfBuzz, `GPOS::position_start`, `GPOS::position_finish_offsets`).
+//! What stands before the lookups of `GPOS`, and after them (HarfBuzz, `GPOS::position_start`, `GPOS::position_finish_offsets`).
 
 ghost use Rattle.std.specs.Prelude.{◌≡◌, ◌<◌, ◌≤◌, false, IsSome, length};
 ghost use Rattle.glyph_lists.specs.Masks.{reset_masks};
@@ -174,7 +174,7 @@ fn move_across(position: &mut GlyphPosition, x: i32, y: i32, direction: Directio
 }
 
 /// How far a mark goes back to the glyph before it that it is attached to. In lines that run forward these are the advances from that
-/// glyph up to the mark; else the mark goes forward over the advances behind that glyph, its own among them.
+/// glyph up to the mark; else the mark goes forward over the advances after that glyph, its own among them.
 fn advances_between(
     positions: &[GlyphPosition],
     link: &Link,

@@ -9,9 +9,9 @@ use crate::chains::ATTACH_TYPE_CURSIVE;
 use crate::flags::{mark_attached, mark_break, mark_concat};
 use font_tables::coverage::Coverage;
 use font_tables::scale::Scale;
-use glyph_layout::filter::Filter;
-use glyph_layout::walk::{Found, LookupOptions, Walk};
-use glyph_layout::wanted::Wanted;
+use glyph_layout::lookup_props::LookupProps;
+use glyph_layout::matcher::Matcher;
+use glyph_layout::skipping_iterator::{Found, LookupOptions, SkippingIterator};
 use position_tables::kern_table::{KernSubtable, KernTable};
 use rb_common::Direction;
 use rb_glyph::{GlyphPosition, hb_glyph_info_t};
@@ -59,11 +59,11 @@ fn kern_by_all(buffer: &mut hb_buffer_t, table: &KernTable, scale: &Scale, optio
     ensures glyphs { reset_masks 0 buffer.new.input ≡ reset_masks 0 buffer.old.input }
 {
     mark_concat(buffer, 0, usize::MAX);
-    let filter = Filter {
+    let lookup_props = LookupProps {
         flags: IGNORE_MARKS,
         marks: Coverage::new(&[]),
     };
-    let walk = Walk::over_input(filter, options, true);
+    let iterator = SkippingIterator::over_input(lookup_props, options, true);
     let mut is_chained = false;
     let mut at = table.start();
     for number in 0..table.count {
@@ -77,7 +77,7 @@ fn kern_by_all(buffer: &mut hb_buffer_t, table: &KernTable, scale: &Scale, optio
                 let direction = buffer.direction;
                 chain_all(buffer.pos_mut(), direction);
             }
-            kern_by(buffer, &subtable, &walk, scale);
+            kern_by(buffer, &subtable, &iterator, scale);
         }
     }
 }
@@ -96,8 +96,13 @@ fn chain_all(positions: &mut [GlyphPosition], direction: Direction) {
     }
 }
 
-/// Moves pairs of glyphs by a subtable. In lines that run backward the walk begins at the end, as the left glyph of a pair stands there.
-fn kern_by(buffer: &mut hb_buffer_t, subtable: &KernSubtable, walk: &Walk, scale: &Scale)
+/// Moves pairs of glyphs by a subtable. In lines that run backward the iterator begins at the end, as the left glyph of a pair stands there.
+fn kern_by(
+    buffer: &mut hb_buffer_t,
+    subtable: &KernSubtable,
+    iterator: &SkippingIterator,
+    scale: &Scale,
+)
     requires closed { buffer.old.have_output ≡ false }
     requires placed { IsSome buffer.old.positions }
     ensures closed { buffer.new.have_output ≡ false }
@@ -112,7 +117,7 @@ fn kern_by(buffer: &mut hb_buffer_t, subtable: &KernSubtable, walk: &Walk, scale
     for turn in 0..len {
         let left = if is_backward { len - 1 - turn } else { turn };
         if next <= turn
-            && let Some(pair) = pair_of(buffer.info(), subtable, walk, left, is_backward)
+            && let Some(pair) = pair_of(buffer.info(), subtable, iterator, left, is_backward)
         {
             next = if is_backward {
                 len.saturating_sub(1).saturating_sub(pair.right)
@@ -156,15 +161,15 @@ fn mark_rest(buffer: &mut hb_buffer_t, left: usize, is_backward: bool)
 fn pair_of(
     glyphs: &[hb_glyph_info_t],
     subtable: &KernSubtable,
-    walk: &Walk,
+    iterator: &SkippingIterator,
     left: usize,
     is_backward: bool,
 ) -> Option<KernPair> {
     let glyph = glyphs.get(left)?;
-    if glyph.mask & walk.mask == 0 {
+    if glyph.mask & iterator.mask == 0 {
         return None;
     }
-    let Found::At(right) = neighbour(glyphs, walk, left, is_backward) else {
+    let Found::At(right) = neighbour(glyphs, iterator, left, is_backward) else {
         return None;
     };
     Some(KernPair {
@@ -176,13 +181,18 @@ fn pair_of(
 }
 
 /// The next glyph in the line.
-fn neighbour(glyphs: &[hb_glyph_info_t], walk: &Walk, left: usize, is_backward: bool) -> Found {
+fn neighbour(
+    glyphs: &[hb_glyph_info_t],
+    iterator: &SkippingIterator,
+    left: usize,
+    is_backward: bool,
+) -> Found {
     if left >= glyphs.len() {
         Found::End
     } else if is_backward {
-        walk.previous(&Wanted::Shown, glyphs, left)
+        iterator.previous(&Matcher::Shown, glyphs, left)
     } else {
-        walk.next(&Wanted::Shown, glyphs, left)
+        iterator.next(&Matcher::Shown, glyphs, left)
     }
 }
 

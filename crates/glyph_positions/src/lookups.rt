@@ -3,7 +3,7 @@
 
 ghost use Rattle.std.specs.Prelude.{◌≡◌, ◌≤◌, ◌-◌, true, false, length, IsSome, IfSome};
 ghost use Rattle.glyph_layout.specs.Budget.{IsNotMore};
-ghost use Rattle.glyph_layout.specs.Walk.{covered_index};
+ghost use Rattle.glyph_layout.specs.SkippingIterator.{covered_index};
 ghost use Rattle.glyph_lists.specs.Masks.{reset_masks};
 ghost use Rattle.shaping_buffer.specs.KeepsClusters.{KeepsClusters};
 
@@ -15,11 +15,11 @@ use crate::pairs::{place_pair, place_single};
 use crate::turn::{Setting, Turn};
 use glyph_layout::budget::{PASSED_A_STEP, SUBTABLE_STEPS};
 use glyph_layout::context::Fit;
-use glyph_layout::filter::covered_index;
 use glyph_layout::lookup_list::Lookup;
-use glyph_layout::search::{Places, Search};
+use glyph_layout::lookup_props::covered_index;
+use glyph_layout::search::{MatchPositions, Search};
+use glyph_layout::skipping_iterator::{LookupOptions, SkippingIterator};
 use glyph_layout::subtable::Subtable;
-use glyph_layout::walk::{LookupOptions, Walk};
 use rb_glyph::hb_glyph_info_t;
 use shaping_buffer::hb_buffer_t;
 use std::mem;
@@ -43,7 +43,7 @@ struct Task<'a> {
 }
 
 /// Positions the glyphs by the lookup of this index, where the buffer's glyphs have one of the options' bits. A budget that is spent
-/// ends the walk, and `buffer.shaping_failed` says so.
+/// ends the iterator, and `buffer.shaping_failed` says so.
 #[tactic(auto, using(crate::proofs::FlagLemmas::keeps_by))]
 pub fn position(
     buffer: &mut hb_buffer_t,
@@ -116,7 +116,7 @@ fn next_place(glyphs: &[hb_glyph_info_t], lookup: &Lookup, mask: u32, from: usiz
     lookup.first_place(mask, glyphs, from.min(glyphs.len()))
 }
 
-/// Positions the glyph by the first subtable that does, and says where the walk goes on.
+/// Positions the glyph by the first subtable that does, and says where the iterator goes on.
 #[cycle(nested)]
 fn place_by_lookup<'a>(
     buffer: &mut hb_buffer_t,
@@ -157,7 +157,7 @@ fn index_in(subtable: &Subtable, glyph: u32) -> Option<u32>
     covered_index(&subtable.coverage, glyph)
 }
 
-/// Positions the glyph, which has this coverage index in a subtable, by the subtable, and says where the walk goes on; `None` where the subtable does not fit.
+/// Positions the glyph, which has this coverage index in a subtable, by the subtable, and says where the iterator goes on; `None` where the subtable does not fit.
 #[cycle(nested)]
 #[inline(never)]
 fn place_by_subtable<'a>(
@@ -178,12 +178,12 @@ fn place_by_subtable<'a>(
 {
     let turn = Turn {
         subtable,
-        walk: Walk::over_input(task.lookup.filter, task.options, true),
+        iterator: SkippingIterator::over_input(task.lookup.lookup_props, task.options, true),
         instance: &task.setting.instance,
         place: task.place,
         index,
     };
-    match subtable.kind {
+    match subtable.lookup_type {
         1 => place_single(buffer, &turn),
         2 => place_pair(buffer, &turn),
         3 => place_cursive(buffer, &turn),
@@ -195,7 +195,7 @@ fn place_by_subtable<'a>(
     }
 }
 
-/// Applies the lookups of the rule that fits at the glyph, and says where the walk goes on.
+/// Applies the lookups of the rule that fits at the glyph, and says where the iterator goes on.
 #[cycle(nested)]
 fn place_by_context<'a>(
     buffer: &mut hb_buffer_t,
@@ -212,13 +212,13 @@ fn place_by_context<'a>(
     ensures glyphs { reset_masks 0 buffer.new.input ≡ reset_masks 0 buffer.old.input }
     ensures spent { IsNotMore search.old.budget search.new.budget }
 {
-    let context = Walk::over_context(task.lookup.filter, task.options, true);
+    let context = SkippingIterator::over_context(task.lookup.lookup_props, task.options, true);
     let fit = fit_at(buffer.info(), task.setting, turn, &context, search);
     let reached = turn.place.saturating_add(search.reach.to);
     mark_concat(buffer, search.reach.from, reached);
     let fit = fit?;
     mark_break(buffer, fit.from, turn.place.saturating_add(fit.to));
-    let places = mem::replace(&mut search.places, Places::new());
+    let places = mem::replace(&mut search.places, MatchPositions::new());
     apply_records(buffer, task, &fit, &places, search, last);
     let end = turn.place.saturating_add(fit.end);
     mark_concat(buffer, end, turn.place.saturating_add(fit.beyond));
@@ -231,7 +231,7 @@ fn apply_records<'a>(
     buffer: &mut hb_buffer_t,
     task: &Task<'a>,
     fit: &Fit<'a>,
-    places: &Places,
+    places: &MatchPositions,
     search: &mut Search,
     last: &mut LastBase,
 )
@@ -255,11 +255,16 @@ fn apply_records<'a>(
 }
 
 /// The lookup of a record, at the glyph that the record names; `None` where there is no such lookup or glyph.
-fn nested_task<'a>(task: &Task<'a>, fit: &Fit, places: &Places, index: usize) -> Option<Task<'a>>
+fn nested_task<'a>(
+    task: &Task<'a>,
+    fit: &Fit,
+    places: &MatchPositions,
+    index: usize,
+) -> Option<Task<'a>>
     ensures { IfSome result (λ nested. nested.depth ≡ task.now.depth - 1) }
 {
     let record = fit.record(index)?;
-    let at = *places.as_slice().get(record.sequence)?;
+    let at = *places.as_slice().get(record.sequence_index)?;
     let lookup = task.setting.list.lookup(record.lookup)?;
     Some(Task {
         setting: task.setting,

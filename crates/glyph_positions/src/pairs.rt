@@ -1,16 +1,16 @@
 //! Single glyphs and pairs that are moved (HarfBuzz, `SinglePos`, `PairPos`).
 
 ghost use Rattle.std.specs.Prelude.{◌≡◌, ◌<◌, ℕ, List, true, false, length, IsSome};
-ghost use Rattle.glyph_layout.specs.Walk.{next_found};
-ghost use Rattle.glyph_layout.specs.declared.wanted.Wanted.TheVariants.{Shown};
+ghost use Rattle.glyph_layout.specs.SkippingIterator.{next_found};
+ghost use Rattle.glyph_layout.specs.declared.matcher.Matcher.TheVariants.{Shown};
 ghost use Rattle.glyph_lists.specs.Masks.{reset_masks};
 ghost use Rattle.position_tables.specs.Values.{across, moved};
 ghost use Rattle.glyph_positions.specs.Placing.{changed_at, pair_moved};
 
 use crate::flags::{mark_break, mark_concat};
 use crate::turn::Turn;
-use glyph_layout::walk::{Found, Walk};
-use glyph_layout::wanted::{Wanted, class_of};
+use glyph_layout::matcher::{Matcher, class_of};
+use glyph_layout::skipping_iterator::{Found, SkippingIterator};
 use position_tables::instance::Instance;
 use position_tables::pairs::{
     PairValues, classed_advance, classed_pair, is_kerning, listed_advance, listed_pair,
@@ -37,7 +37,7 @@ struct Pair<'a> {
     is_classed: bool,
 }
 
-/// Moves the glyph, and says where the walk goes on; `None` where the subtable is not for it.
+/// Moves the glyph, and says where the iterator goes on; `None` where the subtable is not for it.
 pub(crate) fn place_single(buffer: &mut hb_buffer_t, turn: &Turn) -> Option<usize>
     requires closed { buffer.old.have_output ≡ false }
     requires placed { IsSome buffer.old.positions }
@@ -78,7 +78,7 @@ fn move_at(
     }
 }
 
-/// Moves the glyph and the next one, and says where the walk goes on; `None` where the subtable has no such pair.
+/// Moves the glyph and the next one, and says where the iterator goes on; `None` where the subtable has no such pair.
 pub(crate) fn place_pair(buffer: &mut hb_buffer_t, turn: &Turn) -> Option<usize>
     requires closed { buffer.old.have_output ≡ false }
     requires placed { IsSome buffer.old.positions }
@@ -89,7 +89,7 @@ pub(crate) fn place_pair(buffer: &mut hb_buffer_t, turn: &Turn) -> Option<usize>
 {
     let glyphs = buffer.info();
     let first = glyphs.get(turn.place)?.glyph_id;
-    let (second, end) = match next_shown(&turn.walk, glyphs, turn.place) {
+    let (second, end) = match next_shown(&turn.iterator, glyphs, turn.place) {
         Found::At(place) => (Some(place), place.saturating_add(1)),
         Found::Other(place) => (None, place.saturating_add(1)),
         Found::End => (None, glyphs.len()),
@@ -126,7 +126,7 @@ fn advance_of(turn: &Turn, glyphs: (u32, u32)) -> Option<i16> {
             classed_advance(
                 turn.subtable.table,
                 first,
-                class_of(&turn.subtable.classes_ahead, second),
+                class_of(&turn.subtable.lookahead_classes, second),
             )
         }
         _ => None,
@@ -180,21 +180,21 @@ fn advance_at(positions: &mut [GlyphPosition], place: usize, advance: i16, insta
     }
 }
 
-/// The next glyph that is not passed over, which most often is the one behind.
+/// The next glyph that is not passed over, which most often is the one after.
 #[inline]
 #[tactic(auto, using(crate::proofs::PairLemmas::next_is_behind))]
-fn next_shown(walk: &Walk, glyphs: &[hb_glyph_info_t], place: usize) -> Found
+fn next_shown(iterator: &SkippingIterator, glyphs: &[hb_glyph_info_t], place: usize) -> Found
     requires { place < length glyphs.now }
-    ensures { result ≡ next_found walk.now Shown glyphs.now place }
+    ensures { result ≡ next_found iterator.now Shown glyphs.now place }
 {
     let behind = place + 1;
     if behind < glyphs.len()
-        && !walk.passes(&Wanted::Shown, &glyphs[behind])
-        && walk.matches(&Wanted::Shown, &glyphs[behind])
+        && !iterator.passes(&Matcher::Shown, &glyphs[behind])
+        && iterator.matches(&Matcher::Shown, &glyphs[behind])
     {
         Found::At(behind)
     } else {
-        walk.next(&Wanted::Shown, glyphs, place)
+        iterator.next(&Matcher::Shown, glyphs, place)
     }
 }
 
@@ -230,7 +230,11 @@ fn values_of(turn: &Turn, base: &[u8], glyphs: (u32, u32)) -> Option<PairValues>
         }
         2 => {
             let first = class_of(&turn.subtable.classes, first);
-            classed_pair(base, first, class_of(&turn.subtable.classes_ahead, second))
+            classed_pair(
+                base,
+                first,
+                class_of(&turn.subtable.lookahead_classes, second),
+            )
         }
         _ => None,
     }

@@ -1,8 +1,8 @@
 //! What a subtable is given at a glyph.
 
 use glyph_layout::lookup_list::LookupList;
+use glyph_layout::skipping_iterator::SkippingIterator;
 use glyph_layout::subtable::Subtable;
-use glyph_layout::walk::Walk;
 use position_tables::instance::Instance;
 
 /// A font's lookups of `GPOS`, and the size and the variations at which it is used.
@@ -19,8 +19,8 @@ pub struct Setting<'a> {
 pub(crate) struct Turn<'a> {
     /// The subtable.
     pub subtable: &'a Subtable<'a>,
-    /// The walk over the glyphs that the lookup does not pass over.
-    pub walk: Walk<'a>,
+    /// The iterator over the glyphs that the lookup does not pass over.
+    pub iterator: SkippingIterator<'a>,
     /// The size and the variations of the font.
     pub instance: &'a Instance<'a>,
     /// The place of the glyph.

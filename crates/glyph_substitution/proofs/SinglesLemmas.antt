@@ -17,14 +17,14 @@ use Rattle.glyph_layout.specs.Lookup.{is_for}
 use Rattle.glyph_layout.specs.Substitution.{cursor_glyph}
 use Rattle.glyph_layout.specs.Digest.{may_have}
 use Rattle.glyph_layout.specs.FirstGlyphs.{may_have_first}
-use Rattle.glyph_layout.specs.Walk.{glyph_at, passes_over, share}
+use Rattle.glyph_layout.specs.SkippingIterator.{glyph_at, passes_over, share}
 use Rattle.glyph_layout.specs.declared.lookup_list.Lookup.{Lookup}
 use Rattle.glyph_layout.specs.declared.search.Reach.{Reach}
-use Rattle.glyph_layout.specs.declared.search.Sides.{Sides}
+use Rattle.glyph_layout.specs.declared.search.ApplyContext.{ApplyContext}
 use Rattle.glyph_layout.specs.declared.subtable.Subtable.{Subtable}
 use Rattle.glyph_layout.specs.declared.substitution.Edit.{Edit}
 use Rattle.glyph_layout.specs.declared.substitution.Edit.TheVariants.{Replace}
-use Rattle.glyph_layout.specs.declared.walk.LookupOptions.{LookupOptions}
+use Rattle.glyph_layout.specs.declared.skipping_iterator.LookupOptions.{LookupOptions}
 use Rattle.shaping_buffer.specs.State.{State, len}
 use Rattle.shaping_buffer.specs.ClusterStep.{asks}
 use Rattle.shaping_buffer.specs.Step.{Meets, Outcome, limited, next_glyphs, settled, sync, unlimited, with_id}
@@ -48,18 +48,18 @@ first_of_two : (o p : Option ℕ) (edit : Option Edit) → is_some edit ≡ true
 first_of_two None p edit some is = absurd (false≢true (sym (ap is_some is) ∙ some))
 first_of_two (Some x) p edit some is = is
 
-first_is : (coverages : List Coverage) (options : LookupOptions) (sides : Sides) (nested : Bool) (l : List Subtable)
-    (edit : Option Edit) → All (λ (t : Subtable). t.kind ≡ 1) l → IsFirstEdit coverages options sides nested l edit
-    → edit ≡ option_map Replace (first_single l (cursor_glyph sides).glyph_id)
-first_is coverages options sides nested [] edit all is = is
-first_is coverages options sides nested (t ∷ l) edit all is =
-    let glyph = (cursor_glyph sides).glyph_id in
+first_is : (coverages : List Coverage) (options : LookupOptions) (ctx : ApplyContext) (nested : Bool) (l : List Subtable)
+    (edit : Option Edit) → All (λ (t : Subtable). t.kind ≡ 1) l → IsFirstEdit coverages options ctx nested l edit
+    → edit ≡ option_map Replace (first_single l (cursor_glyph ctx).glyph_id)
+first_is coverages options ctx nested [] edit all is = is
+first_is coverages options ctx nested (t ∷ l) edit all is =
+    let glyph = (cursor_glyph ctx).glyph_id in
     let kind = All-head (λ (x : Subtable). x.kind ≡ 1) t l all in
     elim is [
       | inl w ↦ first_of_two (single_of t glyph) (first_single l glyph) edit w.0 (w.1.singles kind)
       | inr w ↦
           let none : single_of t glyph ≡ None = none_from (single_of t glyph) (w.0.singles kind) in
-          first_is coverages options sides nested l edit (All-tail (λ (x : Subtable). x.kind ≡ 1) t l all) w.1
+          first_is coverages options ctx nested l edit (All-tail (λ (x : Subtable). x.kind ≡ 1) t l all) w.1
           ∙ ap (λ o. option_map Replace (option_or o (first_single l glyph))) (sym none)
     ]
 
@@ -69,7 +69,7 @@ edit_is : (substitutions : Substitutions) (lookup : Lookup) (nested : Bool) (s :
     → IsDecided substitutions lookup nested s edit
     → edit ≡ option_map Replace (first_single (subtables substitutions lookup) (glyph_at s.input 0).glyph_id)
 edit_is substitutions lookup nested s edit all d =
-    first_is _ _ d.sides nested (subtables substitutions lookup) edit all d.first
+    first_is _ _ d.ctx nested (subtables substitutions lookup) edit all d.first
     ∙ ap (λ (l : List hb_glyph_info_t). option_map Replace
     (first_single (subtables substitutions lookup) (glyph_at l 0).glyph_id)) d.are.input
 
@@ -240,9 +240,9 @@ pub is_for-no_mask : (lookup : Lookup) (mask : ℕ) (g : hb_glyph_info_t) → ma
 is_for-no_mask lookup mask g none =
     let apart : share g.mask mask ≡ false =
     ap (λ k. share g.mask k) none ∙ ap (λ k. not (k == 0)) (and_zero_r g.mask) in
-    ap (λ b. may_have lookup.digest g.glyph_id && b && not (passes_over lookup.filter g)
+    ap (λ b. may_have lookup.digest g.glyph_id && b && not (passes_over lookup.lookup_props g)
     && may_have_first lookup.firsts g.glyph_id) apart
-    ∙ ap (λ b. b && not (passes_over lookup.filter g) && may_have_first lookup.firsts g.glyph_id)
+    ∙ ap (λ b. b && not (passes_over lookup.lookup_props g) && may_have_first lookup.firsts g.glyph_id)
     (and_false (may_have lookup.digest g.glyph_id))
 
 pub err_is_no_answer : (r : Result Bool AllocError) (e : AllocError) → r ≡ Ok true → r ≡ Err e → ⊥
@@ -251,7 +251,7 @@ err_is_no_answer r e is was = cc
 pub false_is_no_answer : (r : Result Bool AllocError) → r ≡ Ok true → r ≡ Ok false → ⊥
 false_is_no_answer r is was = cc
 
--- ---- a turn, and what is passed over behind it
+-- ---- a turn, and what is passed over after it
 
 module _ (substitutions : Substitutions) (lookup : Lookup) where
   abbrev of : hb_glyph_info_t → hb_glyph_info_t
@@ -492,7 +492,7 @@ module _ (substitutions : Substitutions) (lookup : Lookup) where
       ∙ ap (λ (z : List hb_glyph_info_t). z ++ map of r) (sym first)
       ∙ sym (map-append of (take n l) r) ∙ ap (map of) (take-append-drop n l)
 
-  -- the output is closed behind the last turn
+  -- the output is closed after the last turn
   pub synced : (n : ℕ) (s b : State) (new : State) (result : Result Bool AllocError)
       → ((k : ℕ) → k < n → is_taken (glyph_at s.input k) ≡ false)
       → s.have_output ≡ false → s.have_separate_output ≡ false → s.out ≡ [] → s.successful ≡ true

@@ -1,6 +1,6 @@
 pub mod Edits
 pub mod Open
-pub mod Places
+pub mod MatchPositions
 pub mod Properties
 pub mod Singles
 pub mod Turn

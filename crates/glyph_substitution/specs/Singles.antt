@@ -7,7 +7,7 @@ use Rattle.rb_glyph.specs.declared.flag_sets.TheConstants.BufferFlags.{PRODUCE_U
 use Rattle.rb_glyph.specs.declared.info.hb_glyph_info_t.{hb_glyph_info_t}
 use Rattle.glyph_layout.specs.Lookup.{is_for}
 use Rattle.glyph_layout.specs.Substitution.{single}
-use Rattle.glyph_layout.specs.Walk.{covered_index, glyph_at}
+use Rattle.glyph_layout.specs.SkippingIterator.{covered_index, glyph_at}
 use Rattle.glyph_layout.specs.declared.lookup_list.Lookup.{Lookup}
 use Rattle.glyph_layout.specs.declared.subtable.Subtable.{Subtable}
 use Rattle.shaping_buffer.specs.State.{State, len}
@@ -45,7 +45,7 @@ substituted substitutions lookup g =
 
 -- the lookup has single substitutions alone, and nothing is marked: what was looked at is no more than the glyph
 pub record IsSingle (substitutions : Substitutions) (lookup : Lookup) (s : State) : Type 0 where
-  pub kinds : All (λ (subtable : Subtable). subtable.kind ≡ 1) (subtables substitutions lookup)
+  pub kinds : All (λ (subtable : Subtable). subtable.lookup_type ≡ 1) (subtables substitutions lookup)
   pub unmarked : asks PRODUCE_UNSAFE_TO_CONCAT s ≡ false
 
 -- the same of a lookup that may be none
@@ -97,9 +97,9 @@ IsForNext substitutions lookup s =
 -- the first of the subtables of a lookup that is applied from the end has reverse substitutions
 abbrev pub starts_reverse : List Subtable → Bool
 starts_reverse [] = false
-starts_reverse (subtable ∷ rest) = subtable.kind == 8
+starts_reverse (subtable ∷ rest) = subtable.lookup_type == 8
 
--- so many glyphs were passed over that a lookup is not for, and it is for the one behind them
+-- so many glyphs were passed over that a lookup is not for, and it is for the one after them
 pub record GoesOn (lookup : Lookup) (mask start : ℕ) (old : State) (done : Bool) (new : State) : Type 0 where
   pub count : ℕ
   pub from : min start (length old.input) ≤ count
@@ -108,7 +108,7 @@ pub record GoesOn (lookup : Lookup) (mask start : ℕ) (old : State) (done : Boo
   pub at : count < length old.input → is_for lookup mask (glyph_at old.input count) ≡ true
   pub gives : Gives (if count == 0 then unlimited old else next_glyphs count old) done new
 
--- at least so many glyphs have become what the lookup makes of them, and it is for the one behind them
+-- at least so many glyphs have become what the lookup makes of them, and it is for the one after them
 pub record HasMoved (substitutions : Substitutions) (lookup : Lookup) (least : ℕ) (old new : State) : Type 0 where
   pub count : ℕ
   pub from : least ≤ count

@@ -5,14 +5,14 @@ use Rattle.std.specs.declared.alloc.AllocError.{AllocError}
 use Rattle.rb_glyph.specs.Fields.{field}
 use Rattle.glyph_layout.specs.FirstEdit.{IsFirstEdit}
 use Rattle.glyph_layout.specs.Subtables.{subtables_of}
-use Rattle.glyph_layout.specs.Walk.{over_context, over_input}
+use Rattle.glyph_layout.specs.SkippingIterator.{over_context, over_input}
 use Rattle.glyph_layout.specs.declared.lookup_list.Lookup.{Lookup}
 use Rattle.glyph_layout.specs.declared.search.Reach.{Reach}
-use Rattle.glyph_layout.specs.declared.search.Sides.{Sides}
+use Rattle.glyph_layout.specs.declared.search.ApplyContext.{ApplyContext}
 use Rattle.glyph_layout.specs.declared.subtable.Subtable.{Subtable}
 use Rattle.glyph_layout.specs.declared.substitution.Edit.{Edit}
 use Rattle.glyph_layout.specs.declared.substitution.Edit.TheVariants.{Replace, Choose, Multiply, Ligate, Apply, ReplaceInPlace}
-use Rattle.glyph_layout.specs.declared.walk.LookupOptions.{LookupOptions}
+use Rattle.glyph_layout.specs.declared.skipping_iterator.LookupOptions.{LookupOptions}
 use Rattle.shaping_buffer.specs.State.{State, len, lookahead_len}
 use Rattle.shaping_buffer.specs.ClusterStep.{unsafe_to_concat, unsafe_to_concat_from_outbuffer}
 use Rattle.shaping_buffer.specs.Step.{Outcome, unlimited}
@@ -33,19 +33,19 @@ abbrev pub syllable_at : LookupOptions → State → ℕ
 syllable_at options s = if options.per_syllable then field (glyph_ahead 0 s).var1 24 8 else 0
 
 -- the glyphs on both sides of the cursor, and the walks of the lookup over them
-pub record AreSides (substitutions : Substitutions) (lookup : Lookup) (s : State) (sides : Sides) : Type 0 where
-  pub out : sides.out.now ≡ s.out
-  pub input : sides.input.now ≡ s.input
-  pub walk : sides.walk ≡ over_input lookup.filter substitutions.options false
-  pub context : sides.context ≡ over_context lookup.filter substitutions.options false
-  pub syllable : sides.syllable ≡ syllable_at substitutions.options s
-  pub level : sides.is_level ≡ (length s.out == s.idx)
+pub record IsApplyContext (substitutions : Substitutions) (lookup : Lookup) (s : State) (ctx : ApplyContext) : Type 0 where
+  pub out : ctx.out.now ≡ s.out
+  pub input : ctx.input.now ≡ s.input
+  pub iterator : ctx.iterator ≡ over_input lookup.lookup_props substitutions.options false
+  pub context : ctx.context ≡ over_context lookup.lookup_props substitutions.options false
+  pub syllable : ctx.syllable ≡ syllable_at substitutions.options s
+  pub level : ctx.is_level ≡ (length s.out == s.idx)
 
 -- the edit of the first subtable of a lookup that has one at the cursor
 pub record IsDecided (substitutions : Substitutions) (lookup : Lookup) (is_nested : Bool) (s : State) (edit : Option Edit) : Type 0 where
-  pub sides : Sides
-  pub are : AreSides substitutions lookup s sides
-  pub first : IsFirstEdit substitutions.list.now.coverages.items substitutions.options sides is_nested
+  pub ctx : ApplyContext
+  pub are : IsApplyContext substitutions lookup s ctx
+  pub first : IsFirstEdit substitutions.list.now.coverages.items substitutions.options ctx is_nested
       (subtables substitutions lookup) edit
 
 -- ---- what is marked besides

@@ -5,9 +5,9 @@
 #![tactic(auto, using(shaping_buffer::proofs::ClosedKeepsLemmas::kept))]
 
 mod ligation;
+mod match_positions;
 mod multiplication;
 mod nested;
-mod places;
 mod properties;
 mod reverse;
 mod start;

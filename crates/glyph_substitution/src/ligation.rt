@@ -1,4 +1,4 @@
-//! Ligatures: several glyphs become one, and what was passed over between them stays behind it.
+//! Ligatures: several glyphs become one, and what was passed over between them stays after it.
 
 ghost use Rattle.std.specs.Prelude.{◌≡◌, ◌+◌, ◌<◌, ◌≤◌, true, length, IfOk};
 ghost use Rattle.glyph_substitution.specs.Open.{IsLeftOpen, IsPutOut};
@@ -8,7 +8,7 @@ use crate::multiplication::set_class;
 use crate::properties::{BASE, LIGATURE, MARK, Way};
 use crate::writing::{drop_behind, write_properties};
 use font_tables::gdef::Gdef;
-use glyph_layout::Places;
+use glyph_layout::MatchPositions;
 use glyph_layout::ligature_parts::{
     component_count, ligature_component, ligature_id, ligature_properties, mark_properties,
 };
@@ -77,12 +77,12 @@ impl Components {
 }
 
 /// Puts a ligature in the place of its components, whose places from the cursor on are given, in one cluster. What was
-/// passed over between them stands behind it, and belongs to the component before it.
+/// passed over between them stands after it, and belongs to the component before it.
 pub(crate) fn ligate(
     buffer: &mut hb_buffer_t,
     gdef: &Gdef,
     ligation: &Ligation,
-    places: &Places,
+    places: &MatchPositions,
 ) -> Result<bool, AllocError>
     requires opened { buffer.old.have_output ≡ true }
     requires glyph { 0 < length buffer.old.input }
@@ -121,7 +121,7 @@ fn put_ligature(
     buffer.replace_glyph(u32::from(ligature))
 }
 
-/// Goes over so many glyphs that are passed over, and drops the component behind them.
+/// Goes over so many glyphs that are passed over, and drops the component after them.
 fn take_component(
     buffer: &mut hb_buffer_t,
     components: &mut Components,
@@ -155,7 +155,7 @@ fn merge(buffer: &mut hb_buffer_t, end: usize)
 }
 
 /// What the glyphs at these places make.
-fn made_of(glyphs: &[hb_glyph_info_t], places: &Places) -> Made {
+fn made_of(glyphs: &[hb_glyph_info_t], places: &MatchPositions) -> Made {
     for place in places.iter().skip(1) {
         if *place < glyphs.len() && glyphs[*place].glyph_props() & MARK == 0 {
             return Made::Ligature;
@@ -169,7 +169,7 @@ fn made_of(glyphs: &[hb_glyph_info_t], places: &Places) -> Made {
 }
 
 /// How many components the glyphs at these places have together.
-fn total_count(glyphs: &[hb_glyph_info_t], places: &Places) -> u32 {
+fn total_count(glyphs: &[hb_glyph_info_t], places: &MatchPositions) -> u32 {
     let mut total: u32 = 0;
     for place in places.iter() {
         if *place < glyphs.len() {
@@ -180,7 +180,7 @@ fn total_count(glyphs: &[hb_glyph_info_t], places: &Places) -> u32 {
 }
 
 /// Begins a ligature: makes its glyphs one cluster, and numbers it.
-fn begin(buffer: &mut hb_buffer_t, end: usize, places: &Places) -> Components
+fn begin(buffer: &mut hb_buffer_t, end: usize, places: &MatchPositions) -> Components
     requires opened { buffer.old.have_output ≡ true }
     requires glyph { 0 < length buffer.old.input }
     ensures opened { buffer.new.have_output ≡ true }
@@ -192,7 +192,7 @@ fn begin(buffer: &mut hb_buffer_t, end: usize, places: &Places) -> Components
 }
 
 /// Gives a ligature a number, if it has one of its own, and sets its properties at the current glyph.
-fn number(buffer: &mut hb_buffer_t, places: &Places) -> Components
+fn number(buffer: &mut hb_buffer_t, places: &MatchPositions) -> Components
     requires opened { buffer.old.have_output ≡ true }
     requires glyph { 0 < length buffer.old.input }
     ensures opened { buffer.new.have_output ≡ true }
@@ -271,7 +271,7 @@ fn drop_component(buffer: &mut hb_buffer_t, components: &mut Components)
     }
 }
 
-/// Lets the marks behind the last component follow it, if they belonged to it.
+/// Lets the marks after the last component follow it, if they belonged to it.
 fn follow_marks(buffer: &mut hb_buffer_t, components: &Components)
     requires { buffer.old.have_output ≡ true }
     ensures opened { buffer.new.have_output ≡ true }

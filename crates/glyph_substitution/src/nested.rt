@@ -8,13 +8,13 @@ ghost use Rattle.glyph_substitution.specs.Turn.{IsDecided, IsTurn, edited};
 ghost use Rattle.shaping_buffer.specs.KeepsClusters.{KeepsClusters};
 
 use crate::ligation::ligate;
+use crate::match_positions::Matched;
 use crate::multiplication::{choose, multiply, replace};
-use crate::places::Matched;
 use crate::substitution::{Progress, Substitutions};
 use crate::writing::{fail, glyph_ahead};
-use glyph_layout::context::{Fit, Record};
+use glyph_layout::context::{Fit, SequenceLookupRecord};
 use glyph_layout::substitution::{Edit, edit_at};
-use glyph_layout::{Lookup, LookupOptions, Reach, Sides, Walk};
+use glyph_layout::{ApplyContext, Lookup, LookupOptions, Reach, SkippingIterator};
 use shaping_buffer::hb_buffer_t;
 use std::alloc::AllocError;
 
@@ -24,7 +24,7 @@ pub(crate) const MAX_NESTING_LEVEL: u32 = 64;
 /// What became of a lookup at the cursor.
 #[derive(Clone, Copy, PartialEq, Eq, Debug)]
 pub(crate) enum Step {
-    /// It was applied, and the cursor is behind what it took.
+    /// It was applied, and the cursor is after what it took.
     Applied,
     /// It does nothing there.
     Passed,
@@ -80,22 +80,22 @@ fn decide<'a>(
     ensures spent { IsNotMore progress.old.search.budget progress.new.search.budget }
 {
     let options = &substitutions.options;
-    let sides = Sides {
+    let ctx = ApplyContext {
         out: buffer.out_info(),
         input: buffer.info(),
-        walk: Walk::over_input(lookup.filter, options, false),
-        context: Walk::over_context(lookup.filter, options, false),
+        iterator: SkippingIterator::over_input(lookup.lookup_props, options, false),
+        context: SkippingIterator::over_context(lookup.lookup_props, options, false),
         syllable: syllable_at(buffer, options),
         is_level: buffer.out_len() == buffer.idx(),
     };
-    progress.search.reach = Reach::none(sides.out.len());
+    progress.search.reach = Reach::none(ctx.out.len());
     let is_nested = depth < MAX_NESTING_LEVEL;
     edit_at(
         substitutions.list,
         lookup,
         options,
         is_nested,
-        &sides,
+        &ctx,
         &mut progress.search,
     )
 }
@@ -184,7 +184,7 @@ fn make(
     }
 }
 
-/// Applies the lookups of a rule that fits at the cursor, and leaves the cursor behind its input.
+/// Applies the lookups of a rule that fits at the cursor, and leaves the cursor after its input.
 #[cycle(nested)]
 fn apply_fit(
     buffer: &mut hb_buffer_t,
@@ -266,7 +266,7 @@ enum Turn {
 fn apply_record(
     buffer: &mut hb_buffer_t,
     substitutions: &Substitutions,
-    record: &Record,
+    record: &SequenceLookupRecord,
     matched: &mut Matched,
     progress: &mut Progress,
     depth: u32,
@@ -280,7 +280,7 @@ fn apply_record(
     if !progress.search.budget.pay(1) {
         return Ok(Turn::Enough);
     }
-    let Some(place) = matched.place(record.sequence) else {
+    let Some(place) = matched.place(record.sequence_index) else {
         return Ok(Turn::On);
     };
     if place >= before {
@@ -299,7 +299,7 @@ fn apply_record(
         Step::Applied => {}
     }
     let after = both_len(buffer);
-    Ok(if matched.follow(record.sequence, before, after) {
+    Ok(if matched.follow(record.sequence_index, before, after) {
         Turn::On
     } else {
         Turn::Enough

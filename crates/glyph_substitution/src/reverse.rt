@@ -1,5 +1,5 @@
 //! Reverse substitutions: glyphs are replaced in place, from the last one to the first, so that each sees what became of
-//! those behind it.
+//! those after it.
 
 ghost use Rattle.std.specs.Prelude.{◌≡◌, ◌<◌, ◌+◌, false, length};
 ghost use Rattle.glyph_layout.specs.Budget.{IsNotMore};
@@ -10,7 +10,7 @@ use crate::properties::{Way, substituted_props};
 use crate::substitution::{Progress, Substitutions};
 use font_tables::gdef::Gdef;
 use glyph_layout::substitution::{Edit, edit_at};
-use glyph_layout::{Lookup, Reach, Sides, Walk};
+use glyph_layout::{ApplyContext, Lookup, Reach, SkippingIterator};
 use rb_glyph::hb_glyph_info_t;
 use shaping_buffer::hb_buffer_t;
 
@@ -81,11 +81,11 @@ fn decide<'a>(
     if place >= glyphs.len() || !lookup.is_for(options.mask, &glyphs[place]) {
         return None;
     }
-    let sides = Sides {
+    let ctx = ApplyContext {
         out: &glyphs[..place],
         input: &glyphs[place..],
-        walk: Walk::over_input(lookup.filter, options, false),
-        context: Walk::over_context(lookup.filter, options, false),
+        iterator: SkippingIterator::over_input(lookup.lookup_props, options, false),
+        context: SkippingIterator::over_context(lookup.lookup_props, options, false),
         syllable: if options.per_syllable {
             glyphs[place].syllable()
         } else {
@@ -99,7 +99,7 @@ fn decide<'a>(
         lookup,
         options,
         false,
-        &sides,
+        &ctx,
         &mut progress.search,
     )
 }

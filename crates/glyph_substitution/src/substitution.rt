@@ -4,7 +4,7 @@ ghost use Rattle.std.specs.Prelude.{ℕ, ◌≡◌, ◌+◌, ◌<◌, ◌≤◌,
 ghost use Rattle.glyph_layout.specs.Budget.{IsNotMore};
 ghost use Rattle.glyph_layout.specs.Lookup.{is_for};
 ghost use Rattle.glyph_layout.specs.Subtables.{subtables_of};
-ghost use Rattle.glyph_layout.specs.Walk.{glyph_at};
+ghost use Rattle.glyph_layout.specs.SkippingIterator.{glyph_at};
 ghost use Rattle.glyph_substitution.specs.Open.{IsLeftOpen, IsLeftClosed};
 ghost use Rattle.glyph_substitution.specs.Singles.{GoesOn, HasMoved, IsForNext, IsLevel, IsSingle, IsSingleIf, IsSubstituted, moved, opened_at, starts_reverse, substituted};
 ghost use Rattle.shaping_buffer.specs.KeepsClusters.{KeepsClusters};
@@ -145,7 +145,7 @@ fn is_reverse(list: &LookupList, lookup: &Lookup) -> bool
     ensures { result ≡ starts_reverse (subtables_of list.now.subtables.items lookup.now) }
 {
     match list.subtables_of(lookup).first() {
-        Some(subtable) => subtable.kind == REVERSE,
+        Some(subtable) => subtable.lookup_type == REVERSE,
         None => false,
     }
 }
@@ -223,7 +223,7 @@ fn substitute_rest(
     Ok(true)
 }
 
-/// Applies the lookup at the cursor, and puts out the glyphs behind that it is not for.
+/// Applies the lookup at the cursor, and puts out the glyphs after that it is not for.
 fn substitute_next(
     buffer: &mut hb_buffer_t,
     substitutions: &Substitutions,
@@ -246,7 +246,7 @@ fn substitute_next(
     }
 }
 
-/// Puts out so many glyphs, if there are as many, and those behind them that the lookup is not for.
+/// Puts out so many glyphs, if there are as many, and those after them that the lookup is not for.
 fn go_on(
     buffer: &mut hb_buffer_t,
     substitutions: &Substitutions,

@@ -11,7 +11,7 @@ use font_variations::Deltas;
 use glyph_layout::budget::Budget;
 use glyph_layout::lookup_list::LookupList;
 use glyph_layout::search::Search;
-use glyph_layout::walk::LookupOptions;
+use glyph_layout::skipping_iterator::LookupOptions;
 use glyph_positions::{Setting, kern, position, position_finish_offsets, position_start};
 use position_tables::instance::Instance;
 use position_tables::kern_table::KernTable;
@@ -173,10 +173,10 @@ fn a_spent_budget_is_told(rt: HostRuntime) -> Result<(), AllocError> {
     let gpos = gpos_of(rt.alloc(), 2, 0, &pairs)?;
     let gdef = no_definitions(&gpos);
     let list = LookupList::new(rt.alloc(), &gpos, 9, &gdef)?;
-    for (steps, wanted) in [(3, (600, true)), (1000, (550, false))] {
+    for (steps, matcher) in [(3, (600, true)), (1000, (550, false))] {
         let mut buffer = line_of(rt.alloc(), Direction::LeftToRight, &[10, 11])?;
         position_all(&mut buffer, &list, Budget { nested: 1, steps });
-        assert_eq!(rt; (at(&buffer, 0).0, buffer.shaping_failed), wanted);
+        assert_eq!(rt; (at(&buffer, 0).0, buffer.shaping_failed), matcher);
     }
     Ok(())
 }

@@ -113,11 +113,11 @@ mode_of Arabic = mode.Auto
 mode_of Hebrew = mode.Auto
 mode_of Hangul = mode.Nothing
 mode_of Thai = mode.Auto
-mode_of Indic = mode.TakenApart
-mode_of Khmer = mode.TakenApart
-mode_of Myanmar = mode.TakenApart
-mode_of Universal = mode.TakenApart
-mode_of UniversalJoining = mode.TakenApart
+mode_of Indic = mode.Decomposed
+mode_of Khmer = mode.Decomposed
+mode_of Myanmar = mode.Decomposed
+mode_of Universal = mode.Decomposed
+mode_of UniversalJoining = mode.Decomposed
 mode_of Zawgyi = mode.Nothing
 mode_of Plain = mode.Auto
 

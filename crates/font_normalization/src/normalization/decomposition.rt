@@ -5,7 +5,7 @@ ghost use Rattle.shaping_buffer.specs.Clusters.{clusters};
 ghost use Rattle.shaping_buffer.specs.KeepsClusters.{KeepsClusters};
 
 use super::drop_behind;
-use super::parts::Taking;
+use super::parts::Decomposer;
 use super::variations::read_variations;
 use crate::glyph_info::{is_unicode_mark, is_unicode_space, set_space_fallback, set_unicode_props};
 use font_face::Face;
@@ -81,24 +81,24 @@ fn decompose_next(
     ensures keeps { KeepsClusters buffer.old buffer.new }
 {
     let mode = shaper.normalization_mode();
-    let taking = Taking {
+    let decomposer = Decomposer {
         face,
         shaper,
-        shortest: mode != NormalizationMode::TakenApart,
+        short_circuit: mode != NormalizationMode::Decomposed,
     };
     let simple = simple_length(buffer.info());
-    if !decompose_characters(buffer, &taking, simple)? {
+    if !decompose_characters(buffer, &decomposer, simple)? {
         return Ok(false);
     }
     let cluster = cluster_length(buffer.info());
     if has_variation_selector(buffer.info(), cluster) {
         read_variations(buffer, face, cluster)
     } else {
-        let taking = Taking {
-            shortest: mode == NormalizationMode::Nothing,
-            ..taking
+        let decomposer = Decomposer {
+            short_circuit: mode == NormalizationMode::Nothing,
+            ..decomposer
         };
-        decompose_characters(buffer, &taking, cluster)
+        decompose_characters(buffer, &decomposer, cluster)
     }
 }
 
@@ -143,7 +143,7 @@ pub(crate) fn is_variation_selector(character: u32) -> bool {
 #[tactic(auto, using(shaping_buffer::proofs::ClosedKeepsLemmas::kept))]
 fn decompose_characters(
     buffer: &mut hb_buffer_t,
-    taking: &Taking,
+    decomposer: &Decomposer,
     count: usize,
 ) -> Result<bool, AllocError>
     requires { buffer.old.have_output ≡ true }
@@ -152,7 +152,7 @@ fn decompose_characters(
 {
     let mut left = count;
     for _turn in 0..count {
-        let ready = ready_length(buffer.info(), left, taking.shortest);
+        let ready = ready_length(buffer.info(), left, decomposer.short_circuit);
         if !buffer.next_glyphs(ready)? {
             return Ok(false);
         }
@@ -160,7 +160,7 @@ fn decompose_characters(
         if left == 0 || buffer.lookahead_len() == 0 {
             break;
         }
-        if !decompose_current(buffer, taking)? {
+        if !decompose_current(buffer, decomposer)? {
             return Ok(false);
         }
         left -= 1;
@@ -169,11 +169,11 @@ fn decompose_characters(
 }
 
 /// How many of the first characters are kept as they are.
-fn ready_length(infos: &[hb_glyph_info_t], count: usize, shortest: bool) -> usize
+fn ready_length(infos: &[hb_glyph_info_t], count: usize, short_circuit: bool) -> usize
     ensures within { result ≤ length infos.now }
     ensures few { result ≤ count }
 {
-    if !shortest {
+    if !short_circuit {
         return 0;
     }
     let mut ready = 0;
@@ -185,18 +185,18 @@ fn ready_length(infos: &[hb_glyph_info_t], count: usize, shortest: bool) -> usiz
 
 /// Reads one character: puts its parts out in its place, or itself with a glyph.
 #[tactic(auto, using(shaping_buffer::proofs::ClosedKeepsLemmas::kept))]
-fn decompose_current(buffer: &mut hb_buffer_t, taking: &Taking) -> Result<bool, AllocError>
+fn decompose_current(buffer: &mut hb_buffer_t, decomposer: &Decomposer) -> Result<bool, AllocError>
     requires opened { buffer.old.have_output ≡ true }
     requires glyph { 0 < length buffer.old.input }
     ensures opened { IfOk result (λ _. buffer.new.have_output ≡ true) }
     ensures keeps { KeepsClusters buffer.old buffer.new }
 {
     let mut parts = Parts::new();
-    if add_font_parts(&mut parts, taking, buffer.cur(0).glyph_id) {
-        return put_parts(buffer, taking.face, &parts);
+    if add_font_parts(&mut parts, decomposer, buffer.cur(0).glyph_id) {
+        return put_parts(buffer, decomposer.face, &parts);
     }
     if buffer.cur(0).glyph_index() == 0 {
-        find_fallback(buffer, taking.face);
+        find_fallback(buffer, decomposer.face);
     }
     buffer.next_glyph()
 }

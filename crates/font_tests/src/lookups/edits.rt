@@ -3,7 +3,9 @@
 use crate::lookups::{JOINER, OPTIONS, bytes_of, fill, list_of};
 use glyph_layout::substitution::{Edit, edit_at};
 use glyph_layout::subtable::{Form, positioning_form, substitution_form};
-use glyph_layout::{Budget, Digest, LookupList, Search, Sides, Walk, would_substitute};
+use glyph_layout::{
+    ApplyContext, Budget, Digest, LookupList, Search, SkippingIterator, would_substitute,
+};
 use rb_glyph::hb_glyph_info_t;
 use std::alloc::{AllocError, Global};
 
@@ -22,16 +24,16 @@ fn ligature_at(list: &LookupList, ids: &[u32]) -> Option<(u16, usize)> {
     let mut glyphs = [hb_glyph_info_t::default(); 5];
     fill(&mut glyphs, ids);
     let lookup = list.lookup(0)?;
-    let sides = Sides {
+    let ctx = ApplyContext {
         out: &[],
         input: &glyphs,
-        walk: Walk::over_input(lookup.filter, &OPTIONS, false),
-        context: Walk::over_context(lookup.filter, &OPTIONS, false),
+        iterator: SkippingIterator::over_input(lookup.lookup_props, &OPTIONS, false),
+        context: SkippingIterator::over_context(lookup.lookup_props, &OPTIONS, false),
         syllable: 0,
         is_level: true,
     };
     let mut search = Search::new(Budget::new(1000, 5));
-    match edit_at(&*list, lookup, &OPTIONS, false, &sides, &mut search)? {
+    match edit_at(&*list, lookup, &OPTIONS, false, &ctx, &mut search)? {
         Edit::Ligate(ligation) => Some((ligation.ligature, ligation.end)),
         Edit::Replace(glyph) => Some((glyph, 1)),
         _ => None,

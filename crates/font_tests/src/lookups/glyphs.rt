@@ -2,15 +2,15 @@
 
 use crate::lookups::bytes_of;
 use font_tables::coverage::Coverage;
-use glyph_layout::filter::covered_index;
 use glyph_layout::first_glyphs::FirstGlyphs;
 use glyph_layout::glyph_table::Glyphs;
 use glyph_layout::ligature_parts::{
     component_count, ligature_component, ligature_id, ligature_properties, mark_properties,
 };
+use glyph_layout::lookup_props::covered_index;
 use glyph_layout::subtable::{behind_list, table_or_empty};
 use glyph_layout::summary::{Summary, summary_of};
-use glyph_layout::{Budget, Digest, Filter, LookupOptions, Reach, Walk};
+use glyph_layout::{Budget, Digest, LookupOptions, LookupProps, Reach, SkippingIterator};
 use rb_glyph::hb_glyph_info_t;
 use std::alloc::AllocError;
 
@@ -122,17 +122,17 @@ static PASSED: [(u16, u16, bool); 9] = [
 fn flags_say_what_is_passed_over(rt: HostRuntime) -> Result<(), AllocError> {
     let marks = bytes_of(rt.alloc(), &[1, 1, 5])?;
     for (flags, properties, is_passed) in &PASSED {
-        let filter = Filter {
+        let lookup_props = LookupProps {
             flags: *flags,
             marks: Coverage::new(&marks),
         };
         let glyph = glyph_of(9, *properties, 0);
         assert!(rt;
-            filter.passes_over(&glyph) == *is_passed,
+            lookup_props.passes_over(&glyph) == *is_passed,
             "{flags} {properties}"
         );
     }
-    let of_set = Filter {
+    let of_set = LookupProps {
         flags: 0x0010,
         marks: Coverage::new(&marks),
     };
@@ -200,7 +200,7 @@ fn budgets_are_spent(rt: HostRuntime) {
 /// What a walk passes over, by the options of its feature.
 #[test]
 fn walks_go_by_their_options(rt: HostRuntime) {
-    let filter = Filter {
+    let lookup_props = LookupProps {
         flags: 0,
         marks: Coverage::new(&[]),
     };
@@ -211,13 +211,13 @@ fn walks_go_by_their_options(rt: HostRuntime) {
         per_syllable: false,
         random: false,
     };
-    let input = Walk::over_input(filter, &options, false);
+    let input = SkippingIterator::over_input(lookup_props, &options, false);
     assert!(rt; (input.mask, input.syllable) == (8, 0));
     assert!(rt; !input.ignores_zwnj && !input.ignores_zwj && !input.ignores_hidden);
-    let context = Walk::over_context(filter, &options, false);
+    let context = SkippingIterator::over_context(lookup_props, &options, false);
     assert!(rt; (context.mask, context.syllable) == (u32::MAX, 0));
     assert!(rt; context.ignores_zwnj && context.ignores_zwj && !context.ignores_hidden);
-    let positioning = Walk::over_input(filter, &options, true);
+    let positioning = SkippingIterator::over_input(lookup_props, &options, true);
     assert!(rt; positioning.ignores_zwnj && !positioning.ignores_zwj);
     assert!(rt; positioning.ignores_hidden);
 }

@@ -10,5 +10,5 @@ returns-clause-exact c chained has some =
     let next = c.in-Some.next in
     let asks = has next c.in-Some.is in
     let at = subst (λ (b : Bool). IsNextAt cs t.first_coverage b t.table.now next) (sym chained) asks in
-    sym (rule_fits-missed c.args.sides.now cs t.first_coverage c.args.is_chained t.table.now next at
+    sym (rule_fits-missed c.args.ctx.now cs t.first_coverage c.args.is_chained t.table.now next at
     c.in-Some-missed_next.ensures)

@@ -3,20 +3,20 @@ use Rattle.arrayvec.specs.ArrayVec.{array_vec_len}
 use Rattle.std.specs.Prelude.{slice_index, Some, true}
 use Rattle.glyph_layout.specs.Budget.{IsNotMore}
 use Rattle.glyph_layout.specs.Match.{last_place, may_leave}
-use Rattle.glyph_layout.specs.Walk.{glyph_at}
-use Rattle.glyph_layout.specs.Rule.{ArePlaces, input_walk, part_wanted}
+use Rattle.glyph_layout.specs.SkippingIterator.{glyph_at}
+use Rattle.glyph_layout.specs.Rule.{AreMatchPositions, input_iterator, sequence_matcher}
 use Rattle.glyph_layout.proofs.matching.match_input.Given as goal
 
 abbrev pub invariant-loop-index : goal.invariant-loop-index
 invariant-loop-index l = record {
-  within : l.place < length l.sides.input.now;
+  within : l.place < length l.ctx.input.now;
   spent : IsNotMore l.fn.search.budget l.search.budget;
   reach : l.search.reach ≡ l.fn.search.reach;
-  inside : All (λ place. place < length l.sides.input.now) l.search.places.items;
+  inside : All (λ place. place < length l.ctx.input.now) l.search.places.items;
   count : array_vec_len l.search.places ≡ l.index + 1;
-  places : ArePlaces (input_walk l.sides) (part_wanted l.part) l.sides.input.now l.index l.search.places.items;
-  last : last_place l.sides (part_wanted l.part) l.index ≡ Some l.place;
-  leaves : l.may_leave ≡ true → may_leave l.sides (glyph_at l.sides.input.now 0) ≡ true;
+  places : AreMatchPositions (input_iterator l.ctx) (sequence_matcher l.part) l.ctx.input.now l.index l.search.places.items;
+  last : last_place l.ctx (sequence_matcher l.part) l.index ≡ Some l.place;
+  leaves : l.may_leave ≡ true → may_leave l.ctx (glyph_at l.ctx.input.now 0) ≡ true;
   first : slice_index l.search.places.items 0 ≡ 0;
   place : slice_index l.search.places.items l.index ≡ l.place;
 }

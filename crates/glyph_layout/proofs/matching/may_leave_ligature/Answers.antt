@@ -4,7 +4,7 @@ use Rattle.glyph_layout.proofs.matching.may_leave_ligature.Goals as goal
 
 pub loop-turn-preserved : goal.loop-turn-preserved
 loop-turn-preserved c =
-    let n = length c.args.sides.now.out.now in
+    let n = length c.args.ctx.now.out.now in
     let e : n - c.loop-turn.turn ≡ n - (c.loop-turn.turn + 1) + 1 = omega arith in
     let same = sym c.ligature_id.ensures ∙ c.if-ligature_id-id.false ∙ c.ligature_id-id.ensures in (
       search rules,

@@ -7,5 +7,5 @@ use Rattle.glyph_layout.proofs.matching.may_leave_ligature.Given as goal
 abbrev pub invariant-loop-turn : goal.invariant-loop-turn
 invariant-loop-turn l =
     IsNotMore l.fn.budget l.budget
-    × (is_hidden_before l.sides.walk.filter (ligature_id l.first) l.sides.out.now (length l.sides.out.now)
-    ≡ is_hidden_before l.sides.walk.filter (ligature_id l.first) l.sides.out.now (length l.sides.out.now - l.turn))
+    × (is_hidden_before l.ctx.iterator.lookup_props (ligature_id l.first) l.ctx.out.now (length l.ctx.out.now)
+    ≡ is_hidden_before l.ctx.iterator.lookup_props (ligature_id l.first) l.ctx.out.now (length l.ctx.out.now - l.turn))

@@ -6,4 +6,4 @@ use Rattle.glyph_layout.proofs.rule_set.first_fit.Given as goal
 abbrev pub invariant-loop-index : goal.invariant-loop-index
 invariant-loop-index l =
     IsNotMore l.fn.search.budget l.search.budget
-    × (0 < l.search.budget.steps → first_rule l.sides l.rules.is_chained l.rules.meanings l.rules.table.now l.index ≡ None)
+    × (0 < l.search.budget.steps → first_rule l.ctx l.rules.is_chained l.rules.match_functions l.rules.table.now l.index ≡ None)

@@ -1,21 +1,21 @@
 use Rattle.std.proofs.Common.{◌≡◌, ◌∙◌, ap, sym, Some}
 use Rattle.glyph_layout.specs.Asked.{asked_at}
-use Rattle.glyph_layout.specs.declared.asked.Asked.TheVariants.{Input, Ahead}
-use Rattle.glyph_layout.proofs.AskedLemmas.{if_some-more, rule_fits-input, rule_fits-ahead}
+use Rattle.glyph_layout.specs.declared.asked.Asked.TheVariants.{Input, Lookahead}
+use Rattle.glyph_layout.proofs.AskedLemmas.{if_some-more, rule_fits-input, rule_fits-neighbours}
 use Rattle.glyph_layout.proofs.rule_set.missed_by.Goals as goal
 
 pub returns-in_ok-seen-in-Input : goal.returns-in_ok-seen-in-Input
 returns-in_ok-seen-in-Input c =
     let asked : asked_at c.args.is_chained c.args.table.now 0 ≡ Some (Input c.in-Input.asked) =
     sym c.asked_at.ensures ∙ (c.in_ok-asked.was ∙ ap Some c.in-Input.is) in
-    if_some-more c.other_than.result c.other_than.ensures (λ beside both. λ s m input behind.
+    if_some-more c.other_than.result c.other_than.ensures (λ beside both. λ s m input backtrack.
     rule_fits-input s c.args.is_chained m c.args.table.now c.in-Input.asked c.in_ok-seen-in-Input.field-0 asked
     (rw c.in_ok-seen-in-Input.was at input) both.1)
 
 pub returns-in_ok-seen-in-Ahead : goal.returns-in_ok-seen-in-Ahead
 returns-in_ok-seen-in-Ahead c =
-    let asked : asked_at c.args.is_chained c.args.table.now 0 ≡ Some (Ahead c.in-Ahead.asked) =
+    let asked : asked_at c.args.is_chained c.args.table.now 0 ≡ Some (Lookahead c.in-Ahead.asked) =
     sym c.asked_at.ensures ∙ (c.in_ok-asked.was ∙ ap Some c.in-Ahead.is) in
-    if_some-more c.other_than-in-Ahead.result c.other_than-in-Ahead.ensures (λ beside both. λ s m input behind.
-    rule_fits-ahead s c.args.is_chained m c.args.table.now c.in-Ahead.asked c.in_ok-seen-in-Ahead.field-0 asked
-    (rw c.in_ok-seen-in-Ahead.was at behind) both.1)
+    if_some-more c.other_than-in-Ahead.result c.other_than-in-Ahead.ensures (λ beside both. λ s m input backtrack.
+    rule_fits-neighbours s c.args.is_chained m c.args.table.now c.in-Ahead.asked c.in_ok-seen-in-Ahead.field-0 asked
+    (rw c.in_ok-seen-in-Ahead.was at backtrack) both.1)

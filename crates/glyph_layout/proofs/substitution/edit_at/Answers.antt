@@ -6,7 +6,7 @@ use Rattle.glyph_layout.proofs.substitution.edit_at.Goals.{then-may_be_for+else-
 
 pub loop-subtable-preserved : goal.loop-subtable-preserved
 loop-subtable-preserved c =
-    let next = first_later c.args.list.now.coverages.items c.args.options.now c.args.sides.now c.args.is_nested c.subtables_of-subtables.result.now
+    let next = first_later c.args.list.now.coverages.items c.args.options.now c.args.ctx.now c.args.is_nested c.subtables_of-subtables.result.now
     c.loop-subtable.subtable-index c.subtable-item.result in
     elim c.if-may_be_for.branch [
       | then-may_be_for+else-not-pay+else-is_some w ↦ record {
@@ -22,7 +22,7 @@ loop-subtable-preserved c =
         spent = search rules;
         first = λ some edit rest.
             let left = subst (λ (x : Search). 0 < x.budget.steps) w.search-is some in
-            let none = uncovered_by c.args.list.now.coverages.items c.args.options.now c.args.sides.now c.args.is_nested c.subtable-item.result
+            let none = uncovered_by c.args.list.now.coverages.items c.args.options.now c.args.ctx.now c.args.is_nested c.subtable-item.result
             (λ has. let may = c.may_be_for.ensures has in let not = w.if-may_be_for.false in cc) in
             c.loop-subtable.invariant.first left edit
             (next edit c.loop-subtable-test.true c.subtable-item.is none rest);

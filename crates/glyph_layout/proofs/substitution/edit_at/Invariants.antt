@@ -9,6 +9,6 @@ abbrev pub invariant-loop-subtable : goal.invariant-loop-subtable
 invariant-loop-subtable l = record {
   spent : IsNotMore l.fn.search.budget l.search.budget;
   first : 0 < l.search.budget.steps → (edit : Option Edit)
-      → IsFirstEdit l.list.coverages.items l.options l.sides l.is_nested (drop l.subtable-index l.subtables) edit
-      → IsFirstEdit l.list.coverages.items l.options l.sides l.is_nested l.subtables edit;
+      → IsFirstEdit l.list.coverages.items l.options l.ctx l.is_nested (drop l.subtable-index l.subtables) edit
+      → IsFirstEdit l.list.coverages.items l.options l.ctx l.is_nested l.subtables edit;
 }

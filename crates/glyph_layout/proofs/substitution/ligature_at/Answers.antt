@@ -7,5 +7,5 @@ pub returns-in-Some-clause-is : goal.returns-in-Some-clause-is
 returns-in-Some-clause-is c some =
     let table = sym c.table_at_16.ensures ∙ ap option_copied c.in_ok-table.was in
     let asks = c.is_other.ensures c.if-is_other.true in
-    sym (ligature_at-other c.args.sides.now c.args.set.now _ c.args.index c.in-Some.next table asks
+    sym (ligature_at-other c.args.ctx.now c.args.set.now _ c.args.index c.in-Some.next table asks
     (rw c.in-Some.is at c.requires.next))

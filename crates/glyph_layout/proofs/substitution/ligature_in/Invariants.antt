@@ -6,4 +6,4 @@ use Rattle.glyph_layout.proofs.substitution.ligature_in.Given as goal
 abbrev pub invariant-loop-index : goal.invariant-loop-index
 invariant-loop-index l =
     IsNotMore l.fn.search.budget l.search.budget
-    × (0 < l.search.budget.steps → first_of l.sides l.set l.index ≡ None)
+    × (0 < l.search.budget.steps → first_of l.ctx l.set l.index ≡ None)

@@ -1,7 +1,7 @@
 use Rattle.std.proofs.Common.{◌≡◌, false, arith, sym, ◌∙◌}
 use Rattle.glyph_layout.specs.Digest.{may_have}
 use Rattle.glyph_layout.specs.Match.{IsNext}
-use Rattle.glyph_layout.specs.Rule.{input_walk}
+use Rattle.glyph_layout.specs.Rule.{input_iterator}
 use Rattle.glyph_layout.specs.Sets.{set_at}
 use Rattle.glyph_layout.proofs.SecondsLemmas.{first_of-missed}
 use Rattle.glyph_layout.proofs.substitution.missed_second.Goals as goal
@@ -11,7 +11,7 @@ returns-in-Some-seconds c = λ index.
     let seconds = c.in-Some-seconds.seconds in
     let next = c.in-Some.next in
     let has = c.args.subtable.now.ligatures seconds c.in-Some-seconds.is index in
-    let is : IsNext (input_walk c.args._sides.now) c.args._sides.now.input.now 0 next = rw c.in-Some.is at c.requires.next in
+    let is : IsNext (input_iterator c.args._sides.now) c.args._sides.now.input.now 0 next = rw c.in-Some.is at c.requires.next in
     let out = sym c.may_have.ensures ∙ c.if-not-may_have.true in
     let none : may_have seconds next.glyph ≡ false = rw c.in-Some-seconds.is at out in
     first_of-missed c.args._sides.now (set_at c.args.subtable.now.table.now index) seconds next _ has is none

@@ -1,23 +1,23 @@
 use Rattle.std.proofs.Common.{ap, ◌∙◌, length, ◌==◌}
-use Rattle.glyph_layout.specs.declared.search.Sides.{Sides}
+use Rattle.glyph_layout.specs.declared.search.ApplyContext.{ApplyContext}
 use Rattle.glyph_substitution.proofs.nested.decide.Goals as goal
 
 pub returns-clause-decided : goal.returns-clause-decided
 returns-clause-decided c = λ steps.
-    let sides : Sides = record {
+    let ctx : ApplyContext = record {
       out = c.out_info.result;
       input = c.info.result;
-      walk = c.over_input.result;
+      iterator = c.over_input.result;
       context = c.over_context.result;
       syllable = c.syllable_at.result;
       is_level = c.out_len.result == c.idx.result;
     } in
     record {
-      sides = sides;
+      ctx = ctx;
       are = record {
         out = c.out_info.ensures;
         input = c.info.ensures;
-        walk = c.over_input.ensures;
+        iterator = c.over_input.ensures;
         context = c.over_context.ensures;
         syllable = c.syllable_at.ensures;
         level = ap (λ k. k == c.idx.result) c.out_len.ensures.out_len

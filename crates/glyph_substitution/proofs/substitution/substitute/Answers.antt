@@ -1,7 +1,7 @@
 use Rattle.std.proofs.Common.{Ok, Option, List, arith, ap, sym, subst, ◌∙◌, true, ◌<◌}
 use Rattle.rb_glyph.specs.declared.info.hb_glyph_info_t.{hb_glyph_info_t}
 use Rattle.glyph_layout.specs.Lookup.{is_for}
-use Rattle.glyph_layout.specs.Walk.{glyph_at}
+use Rattle.glyph_layout.specs.SkippingIterator.{glyph_at}
 use Rattle.glyph_layout.specs.declared.lookup_list.Lookup.{Lookup}
 use Rattle.glyph_substitution.specs.Singles.{IsSubstituted}
 use Rattle.glyph_substitution.proofs.SinglesLemmas.{for_none, is_for-no_mask, len_closed}

@@ -1,6 +1,6 @@
 use Rattle.std.proofs.Common.{ℕ, ◌≡◌, ◌<◌, ◌≤◌, false}
 use Rattle.glyph_layout.specs.Lookup.{is_for}
-use Rattle.glyph_layout.specs.Walk.{glyph_at}
+use Rattle.glyph_layout.specs.SkippingIterator.{glyph_at}
 use Rattle.glyph_layout.proofs.lookup_list.Lookup.first_place.Given as goal
 
 -- the lookup does nothing at the places so far

@@ -6,7 +6,7 @@ use Rattle.glyph_layout.proofs.told.Told.seen.Goals as goal
 
 pub returns-in_ok-second-in-Some : goal.returns-in_ok-second-in-Some
 returns-in_ok-second-in-Some c =
-    let m = c.args.meanings.now in
+    let m = c.args.match_functions.now in
     let second = c.in_ok-second-in-Some.second in (
       apart_first m c.args.first c.args.second c.in_ok-first.first c.in_ok-first.ensures,
       subst (λ next. IsApart (Seen c.args.first next) m 1 second) (sym c.in-Some.is)
@@ -15,4 +15,4 @@ returns-in_ok-second-in-Some c =
 
 pub returns-in-None : goal.returns-in-None
 returns-in-None c =
-    (apart_first c.args.meanings.now c.args.first c.args.second c.in_ok-first.first c.in_ok-first.ensures, tt)
+    (apart_first c.args.match_functions.now c.args.first c.args.second c.in_ok-first.first c.in_ok-first.ensures, tt)

@@ -1,13 +1,13 @@
 //! The glyphs of a match while lookups are applied to them: their places follow glyphs that are put in or taken out.
 
 ghost use Rattle.std.specs.Prelude.{◌≡◌, ◌+◌, ◌-◌, ◌<◌, ◌≤◌, length, slice_index};
-ghost use Rattle.glyph_substitution.specs.Places.{AreAll, grown_place, moved_up, shrunk_place};
+ghost use Rattle.glyph_substitution.specs.MatchPositions.{AreAll, grown_place, moved_up, shrunk_place};
 
-use glyph_layout::Places;
+use glyph_layout::MatchPositions;
 
-/// The place of this number after so many glyphs were put in behind the glyph `number`: they are the next glyphs of the
-/// match, and those behind them move up.
-#[tactic(auto, unfolding(crate::specs::Places::grown_place))]
+/// The place of this number after so many glyphs were put in after the glyph `number`: they are the next glyphs of the
+/// match, and those after them move up.
+#[tactic(auto, unfolding(crate::specs::MatchPositions::grown_place))]
 fn grown_place(places: &[usize], number: usize, added: usize, index: usize) -> usize
     requires number { number < length places.now }
     requires few { length places.now + added ≤ 64 }
@@ -23,22 +23,22 @@ fn grown_place(places: &[usize], number: usize, added: usize, index: usize) -> u
     }
 }
 
-/// The places after so many glyphs were put in behind the glyph `number`.
-fn grown(places: &[usize], number: usize, added: usize) -> Places
+/// The places after so many glyphs were put in after the glyph `number`.
+fn grown(places: &[usize], number: usize, added: usize) -> MatchPositions
     requires number { number < length places.now }
     requires few { length places.now + added ≤ 64 }
     ensures { AreAll (grown_place places.now number added) (length places.now + added) result.items }
 {
-    let mut grown = Places::new();
+    let mut grown = MatchPositions::new();
     for index in 0..places.len() + added {
         grown.push(grown_place(places, number, added, index));
     }
     grown
 }
 
-/// The place of this number after so many glyphs of the match were taken out behind the glyph `number`: those behind them
+/// The place of this number after so many glyphs of the match were taken out after the glyph `number`: those after them
 /// move down.
-#[tactic(auto, unfolding(crate::specs::Places::shrunk_place))]
+#[tactic(auto, unfolding(crate::specs::MatchPositions::shrunk_place))]
 fn shrunk_place(places: &[usize], number: usize, removed: usize, index: usize) -> usize
     requires { index + removed < length places.now }
     ensures { result ≡ shrunk_place places.now number removed index }
@@ -50,13 +50,13 @@ fn shrunk_place(places: &[usize], number: usize, removed: usize, index: usize) -
     }
 }
 
-/// The places after so many glyphs of the match were taken out behind the glyph `number`.
-fn shrunk(places: &[usize], number: usize, removed: usize) -> Places
+/// The places after so many glyphs of the match were taken out after the glyph `number`.
+fn shrunk(places: &[usize], number: usize, removed: usize) -> MatchPositions
     requires removed { removed ≤ length places.now }
     requires few { length places.now ≤ 64 }
     ensures { AreAll (shrunk_place places.now number removed) (length places.now - removed) result.items }
 {
-    let mut shrunk = Places::new();
+    let mut shrunk = MatchPositions::new();
     for index in 0..places.len() - removed {
         shrunk.push(shrunk_place(places, number, removed, index));
     }
@@ -64,11 +64,11 @@ fn shrunk(places: &[usize], number: usize, removed: usize) -> Places
 }
 
 /// The places, counted from so many glyphs before them.
-fn all_moved_up(places: &[usize], by: usize) -> Places
+fn all_moved_up(places: &[usize], by: usize) -> MatchPositions
     requires { length places.now ≤ 64 }
     ensures { AreAll (λ k. moved_up (slice_index places.now k) by) (length places.now) result.items }
 {
-    let mut moved = Places::new();
+    let mut moved = MatchPositions::new();
     for index in 0..places.len() {
         moved.push(places[index].saturating_add(by));
     }
@@ -79,14 +79,14 @@ fn all_moved_up(places: &[usize], by: usize) -> Places
 #[derive(Drop, Debug)]
 pub(crate) struct Matched {
     /// The places of the glyphs.
-    places: Places,
+    places: MatchPositions,
     /// Where the match ends.
     pub(crate) end: usize,
 }
 
 impl Matched {
     /// The match with these places and this end, counted from a cursor that so many glyphs stand before.
-    pub(crate) fn new(places: &Places, end: usize, before: usize) -> Self {
+    pub(crate) fn new(places: &MatchPositions, end: usize, before: usize) -> Self {
         Matched {
             places: all_moved_up(places.as_slice(), before),
             end: before.saturating_add(end),
@@ -101,7 +101,7 @@ impl Matched {
     /// Lets the places follow a lookup that was applied to the glyph of this number, where both sides had so many glyphs
     /// before and have so many after it. Where there would be more places than a match has, the answer is false.
     ///
-    /// HarfBuzz takes it that glyphs were put in, or taken out, right behind the one that the lookup was applied to.
+    /// HarfBuzz takes it that glyphs were put in, or taken out, right after the one that the lookup was applied to.
     pub(crate) fn follow(&mut self, number: usize, before: usize, after: usize) -> bool {
         if after >= before {
             return self.grow(number, after - before);

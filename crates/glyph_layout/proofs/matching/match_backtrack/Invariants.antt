@@ -1,16 +1,16 @@
 use Rattle.std.proofs.Common.{◌≡◌, ◌≤◌, length, Some}
 use Rattle.glyph_layout.specs.Budget.{IsNotMore}
 use Rattle.glyph_layout.specs.Match.{previous_place, steps_from}
-use Rattle.glyph_layout.specs.Rule.{context_walk, part_wanted}
-use Rattle.glyph_layout.proofs.matching.match_behind.Given as goal
+use Rattle.glyph_layout.specs.Rule.{context_iterator, sequence_matcher}
+use Rattle.glyph_layout.proofs.matching.match_backtrack.Given as goal
 
 abbrev pub invariant-loop-index : goal.invariant-loop-index
 invariant-loop-index l = record {
-  within : l.place ≤ length l.sides.out.now;
+  within : l.place ≤ length l.ctx.out.now;
   spent : IsNotMore l.fn.search.budget l.search.budget;
   reach : l.search.reach ≡ l.fn.search.reach;
   places : l.search.places ≡ l.fn.search.places;
-  steps : steps_from (λ wanted place. previous_place (context_walk l.sides l.sides.is_level) wanted l.sides.out.now place)
-      (part_wanted l.part) (length l.sides.out.now) l.index
+  steps : steps_from (λ matcher place. previous_place (context_iterator l.ctx l.ctx.is_level) matcher l.ctx.out.now place)
+      (sequence_matcher l.part) (length l.ctx.out.now) l.index
       ≡ Some l.place;
 }

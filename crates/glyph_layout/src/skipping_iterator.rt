@@ -1,13 +1,13 @@
-//! The walk of a lookup over glyphs: which it passes over, and which it may pass over, as HarfBuzz's iterator
+//! The iterator of a lookup over glyphs: which it passes over, and which it may pass over, as HarfBuzz's iterator
 //! `skipping_iterator_t` decides it.
 
 ghost use Rattle.std.specs.Prelude.{◌≡◌, ◌<◌, ◌≤◌, length};
-ghost use Rattle.glyph_layout.specs.Walk.{over_context, over_input};
-ghost use Rattle.glyph_layout.specs.Walk.{is_format_with, may_ignore, skip_of, is_within, passes, matches, found_at};
-ghost use Rattle.glyph_layout.specs.Walk.{next_found, previous_found, first_kept, kept_before, IsBehind, IsBefore};
+ghost use Rattle.glyph_layout.specs.SkippingIterator.{over_context, over_input};
+ghost use Rattle.glyph_layout.specs.SkippingIterator.{is_format_with, may_ignore, skip_of, is_within, passes, matches, found_at};
+ghost use Rattle.glyph_layout.specs.SkippingIterator.{next_found, previous_found, first_kept, kept_before, IsBehind, IsBefore};
 
-use crate::filter::Filter;
-use crate::wanted::Wanted;
+use crate::lookup_props::LookupProps;
+use crate::matcher::Matcher;
 use rb_glyph::hb_glyph_info_t;
 
 /// The bits of the Unicode properties that hold the general category.
@@ -68,11 +68,11 @@ pub enum Found {
     End,
 }
 
-/// A walk over glyphs.
+/// An iterator over glyphs.
 #[derive(Clone, Copy, Debug)]
-pub struct Walk<'a> {
+pub struct SkippingIterator<'a> {
     /// What is passed over by the lookup's flag.
-    pub filter: Filter<'a>,
+    pub lookup_props: LookupProps<'a>,
     /// The features' bits: a glyph whose mask has none of them is not what is asked for.
     pub mask: u32,
     /// Whether a zero width non-joiner may be passed over.
@@ -85,13 +85,17 @@ pub struct Walk<'a> {
     pub syllable: u8,
 }
 
-impl<'a> Walk<'a> {
-    /// The walk over the glyphs that a lookup changes or positions.
-    pub fn over_input(filter: Filter<'a>, options: &LookupOptions, is_positioning: bool) -> Self
-        ensures { result ≡ over_input filter.entry options.now is_positioning }
+impl<'a> SkippingIterator<'a> {
+    /// The iterator over the glyphs that a lookup changes or positions.
+    pub fn over_input(
+        lookup_props: LookupProps<'a>,
+        options: &LookupOptions,
+        is_positioning: bool,
+    ) -> Self
+        ensures { result ≡ over_input lookup_props.entry options.now is_positioning }
     {
-        Walk {
-            filter,
+        SkippingIterator {
+            lookup_props,
             mask: options.mask,
             ignores_zwnj: is_positioning,
             ignores_zwj: options.auto_zwj,
@@ -100,12 +104,16 @@ impl<'a> Walk<'a> {
         }
     }
 
-    /// The walk over the glyphs around them.
-    pub fn over_context(filter: Filter<'a>, options: &LookupOptions, is_positioning: bool) -> Self
-        ensures { result ≡ over_context filter.entry options.now is_positioning }
+    /// The iterator over the glyphs around them.
+    pub fn over_context(
+        lookup_props: LookupProps<'a>,
+        options: &LookupOptions,
+        is_positioning: bool,
+    ) -> Self
+        ensures { result ≡ over_context lookup_props.entry options.now is_positioning }
     {
-        Walk {
-            filter,
+        SkippingIterator {
+            lookup_props,
             mask: u32::MAX,
             ignores_zwnj: is_positioning || options.auto_zwnj,
             ignores_zwj: true,
@@ -114,11 +122,11 @@ impl<'a> Walk<'a> {
         }
     }
 
-    /// What the walk does at a glyph (HarfBuzz, `may_skip`).
+    /// What the iterator does at a glyph (HarfBuzz, `may_skip`).
     pub fn skip(&self, glyph: &hb_glyph_info_t) -> Skip
         ensures { result ≡ skip_of self.now glyph.now }
     {
-        if self.filter.passes_over(glyph) {
+        if self.lookup_props.passes_over(glyph) {
             Skip::Yes
         } else if self.may_ignore(glyph.unicode_props(), glyph.glyph_props()) {
             Skip::Maybe
@@ -127,9 +135,9 @@ impl<'a> Walk<'a> {
         }
     }
 
-    /// Whether a glyph with these properties is invisible, and of a kind that this walk may pass over. One that was
+    /// Whether a glyph with these properties is invisible, and of a kind that this iterator may pass over. One that was
     /// substituted is not invisible.
-    #[tactic(auto, unfolding(crate::specs::Walk::may_ignore))]
+    #[tactic(auto, unfolding(crate::specs::SkippingIterator::may_ignore))]
     fn may_ignore(&self, unicode: u16, glyph: u16) -> bool
         ensures { result ≡ may_ignore self.now unicode glyph }
     {
@@ -141,67 +149,67 @@ impl<'a> Walk<'a> {
     }
 
     /// Whether a glyph has one of the features' bits, and is of the syllable.
-    #[tactic(auto, unfolding(crate::specs::Walk::is_within))]
+    #[tactic(auto, unfolding(crate::specs::SkippingIterator::is_within))]
     pub fn is_within(&self, glyph: &hb_glyph_info_t) -> bool
         ensures { result ≡ is_within self.now glyph.now }
     {
         glyph.mask & self.mask != 0 && (self.syllable == 0 || self.syllable == glyph.syllable())
     }
 
-    /// Whether the walk goes on behind a glyph when it looks for another one.
-    #[tactic(auto, unfolding(crate::specs::Walk::passes))]
-    pub fn passes(&self, wanted: &Wanted, glyph: &hb_glyph_info_t) -> bool
-        ensures { result ≡ passes self.now wanted.now glyph.now }
+    /// Whether the iterator goes on after a glyph when it looks for another one.
+    #[tactic(auto, unfolding(crate::specs::SkippingIterator::passes))]
+    pub fn passes(&self, matcher: &Matcher, glyph: &hb_glyph_info_t) -> bool
+        ensures { result ≡ passes self.now matcher.now glyph.now }
     {
-        self.filter.passes_over(glyph)
+        self.lookup_props.passes_over(glyph)
             || self.may_ignore(glyph.unicode_props(), glyph.glyph_props())
-                && !(self.is_within(glyph) && wanted.fits(glyph.glyph_id))
+                && !(self.is_within(glyph) && matcher.fits(glyph.glyph_id))
     }
 
-    /// Whether a glyph at which the walk stays is what is asked for.
-    #[tactic(auto, unfolding(crate::specs::Walk::matches))]
-    pub fn matches(&self, wanted: &Wanted, glyph: &hb_glyph_info_t) -> bool
-        ensures { result ≡ matches self.now wanted.now glyph.now }
+    /// Whether a glyph at which the iterator stays is what is asked for.
+    #[tactic(auto, unfolding(crate::specs::SkippingIterator::matches))]
+    pub fn matches(&self, matcher: &Matcher, glyph: &hb_glyph_info_t) -> bool
+        ensures { result ≡ matches self.now matcher.now glyph.now }
     {
-        self.is_within(glyph) && (wanted.is_shown() || wanted.fits(glyph.glyph_id))
+        self.is_within(glyph) && (matcher.is_shown() || matcher.fits(glyph.glyph_id))
     }
 
-    /// The next glyph behind a place.
-    #[tactic(auto, unfolding(crate::specs::Walk::next_found))]
-    pub fn next(&self, wanted: &Wanted, glyphs: &[hb_glyph_info_t], place: usize) -> Found
+    /// The next glyph after a place.
+    #[tactic(auto, unfolding(crate::specs::SkippingIterator::next_found))]
+    pub fn next(&self, matcher: &Matcher, glyphs: &[hb_glyph_info_t], place: usize) -> Found
         requires { place < length glyphs.now }
-        ensures is { result ≡ next_found self.now wanted.now glyphs.now place }
+        ensures is { result ≡ next_found self.now matcher.now glyphs.now place }
         ensures behind { IsBehind result place (length glyphs.now) }
     {
-        let next = self.first_kept(wanted, glyphs, place + 1);
+        let next = self.first_kept(matcher, glyphs, place + 1);
         if next < glyphs.len() {
-            self.found_at(wanted, glyphs, next)
+            self.found_at(matcher, glyphs, next)
         } else {
             Found::End
         }
     }
 
     /// The last glyph before a place.
-    #[tactic(auto, unfolding(crate::specs::Walk::previous_found))]
-    pub fn previous(&self, wanted: &Wanted, glyphs: &[hb_glyph_info_t], place: usize) -> Found
+    #[tactic(auto, unfolding(crate::specs::SkippingIterator::previous_found))]
+    pub fn previous(&self, matcher: &Matcher, glyphs: &[hb_glyph_info_t], place: usize) -> Found
         requires { place ≤ length glyphs.now }
-        ensures is { result ≡ previous_found self.now wanted.now glyphs.now place }
+        ensures is { result ≡ previous_found self.now matcher.now glyphs.now place }
         ensures before { IsBefore result place }
     {
-        let end = self.kept_before(wanted, glyphs, place);
+        let end = self.kept_before(matcher, glyphs, place);
         if end == 0 {
             Found::End
         } else {
-            self.found_at(wanted, glyphs, end - 1)
+            self.found_at(matcher, glyphs, end - 1)
         }
     }
 
     /// The answer of a walk that stays at a place.
-    fn found_at(&self, wanted: &Wanted, glyphs: &[hb_glyph_info_t], place: usize) -> Found
+    fn found_at(&self, matcher: &Matcher, glyphs: &[hb_glyph_info_t], place: usize) -> Found
         requires { place < length glyphs.now }
-        ensures { result ≡ found_at self.now wanted.now glyphs.now place }
+        ensures { result ≡ found_at self.now matcher.now glyphs.now place }
     {
-        if self.matches(wanted, &glyphs[place]) {
+        if self.matches(matcher, &glyphs[place]) {
             Found::At(place)
         } else {
             Found::Other(place)
@@ -209,31 +217,31 @@ impl<'a> Walk<'a> {
     }
 
     /// The first place from this one on whose glyph is not passed over, or the number of glyphs.
-    #[tactic(auto, using(crate::proofs::WalkLemmas::walk_steps))]
-    fn first_kept(&self, wanted: &Wanted, glyphs: &[hb_glyph_info_t], start: usize) -> usize
+    #[tactic(auto, using(crate::proofs::SkippingIteratorLemmas::walk_steps))]
+    fn first_kept(&self, matcher: &Matcher, glyphs: &[hb_glyph_info_t], start: usize) -> usize
         requires { start ≤ length glyphs.now }
-        ensures is { result ≡ first_kept (passes self.now wanted.now) glyphs.now start }
+        ensures is { result ≡ first_kept (passes self.now matcher.now) glyphs.now start }
         ensures from { start ≤ result }
     {
         for place in start..glyphs.len() {
-            if !self.passes(wanted, &glyphs[place]) {
+            if !self.passes(matcher, &glyphs[place]) {
                 return place;
             }
         }
         glyphs.len()
     }
 
-    /// Where one comes to going back from a place over the glyphs that are passed over: behind one that is not, or to the
+    /// Where one comes to going back from a place over the glyphs that are passed over: after one that is not, or to the
     /// start.
-    #[tactic(auto, using(crate::proofs::WalkLemmas::walk_steps))]
-    fn kept_before(&self, wanted: &Wanted, glyphs: &[hb_glyph_info_t], place: usize) -> usize
+    #[tactic(auto, using(crate::proofs::SkippingIteratorLemmas::walk_steps))]
+    fn kept_before(&self, matcher: &Matcher, glyphs: &[hb_glyph_info_t], place: usize) -> usize
         requires { place ≤ length glyphs.now }
-        ensures is { result ≡ kept_before (passes self.now wanted.now) glyphs.now place }
+        ensures is { result ≡ kept_before (passes self.now matcher.now) glyphs.now place }
         ensures within { result ≤ place }
     {
         let mut end = place;
         for _turn in 0..place {
-            if end == 0 || !self.passes(wanted, &glyphs[end - 1]) {
+            if end == 0 || !self.passes(matcher, &glyphs[end - 1]) {
                 return end;
             }
             end -= 1;

@@ -2,7 +2,7 @@
 //! table").
 
 ghost use Rattle.std.specs.Prelude.{◌≡◌};
-ghost use Rattle.glyph_layout.specs.Walk.{covered_index, passes_over, passes_over_mark, props};
+ghost use Rattle.glyph_layout.specs.SkippingIterator.{covered_index, passes_over, passes_over_mark, props};
 
 use font_tables::coverage::Coverage;
 use rb_common::GlyphId;
@@ -22,16 +22,16 @@ const MARK_ATTACHMENT_CLASS: u16 = 0xFF00;
 
 /// The glyphs that a lookup passes over.
 #[derive(Clone, Copy, Debug)]
-pub struct Filter<'a> {
+pub struct LookupProps<'a> {
     /// The lookup's flag.
     pub flags: u16,
     /// The marks that are not passed over, where the flag asks for a set of them.
     pub marks: Coverage<'a>,
 }
 
-impl<'a> Filter<'a> {
+impl<'a> LookupProps<'a> {
     /// Whether the lookup passes over the glyph, by its properties.
-    #[tactic(auto, unfolding(crate::specs::Walk::passes_over))]
+    #[tactic(auto, unfolding(crate::specs::SkippingIterator::passes_over))]
     pub fn passes_over(&self, glyph: &hb_glyph_info_t) -> bool
         ensures { result ≡ passes_over self.now glyph.now }
     {
@@ -43,7 +43,7 @@ impl<'a> Filter<'a> {
     }
 
     /// Whether the lookup passes over a mark.
-    #[tactic(auto, unfolding(crate::specs::Walk::passes_over_mark))]
+    #[tactic(auto, unfolding(crate::specs::SkippingIterator::passes_over_mark))]
     fn passes_over_mark(&self, properties: u16, glyph: u32) -> bool
         ensures { result ≡ passes_over_mark self.now properties glyph }
     {

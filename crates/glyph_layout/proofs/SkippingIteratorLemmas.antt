@@ -1,9 +1,9 @@
--- One step of a walk over glyphs.
+-- One step of an iterator over glyphs.
 use Rattle.std.proofs.Common.{◌≡◌, ℕ, ◌+◌, ◌<◌, Bool, true, false, List, length, refl, suc, arith}
 use Rattle.std.proofs.Math.Seq.{drop-length}
 use Rattle.std.proofs.lemmas.List.{drop_more}
 use Rattle.rb_glyph.specs.declared.info.hb_glyph_info_t.{hb_glyph_info_t}
-use Rattle.glyph_layout.specs.Walk.{glyph_at, zero_glyph, first_kept, kept_before}
+use Rattle.glyph_layout.specs.SkippingIterator.{glyph_at, zero_glyph, first_kept, kept_before}
 
 -- a glyph that is passed over
 pub first_kept-later : (pass : hb_glyph_info_t → Bool) (gs : List hb_glyph_info_t) (i : ℕ) → i < length gs

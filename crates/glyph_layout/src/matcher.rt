@@ -1,16 +1,16 @@
 //! What a rule asks of a glyph.
 
 ghost use Rattle.std.specs.Prelude.{◌≡◌};
-ghost use Rattle.glyph_layout.specs.Walk.{class_in, fits, is_shown};
+ghost use Rattle.glyph_layout.specs.SkippingIterator.{class_in, fits, is_shown};
 
-use crate::filter::covered_index;
+use crate::lookup_props::covered_index;
 use font_tables::class_definition::ClassDefinition;
 use font_tables::coverage::Coverage;
 use rb_common::GlyphId;
 
 /// What is asked of a glyph.
 #[derive(Clone, Copy, Debug)]
-pub enum Wanted<'a> {
+pub enum Matcher<'a> {
     /// Nothing, and a glyph that may be passed over is passed over.
     Shown,
     /// Nothing, and a glyph that may be passed over is taken.
@@ -23,12 +23,12 @@ pub enum Wanted<'a> {
     Covered(Coverage<'a>),
 }
 
-impl<'a> Wanted<'a> {
+impl<'a> Matcher<'a> {
     /// Whether nothing is asked, and a glyph that may be passed over is passed over.
     pub fn is_shown(&self) -> bool
         ensures { result ≡ is_shown self.now }
     {
-        matches!(*self, Wanted::Shown)
+        matches!(*self, Matcher::Shown)
     }
 
     /// Whether a glyph is what is asked for. Of `Shown` this says whether one is that may be passed over: none is.
@@ -36,11 +36,11 @@ impl<'a> Wanted<'a> {
         ensures { result ≡ fits self.now glyph }
     {
         match *self {
-            Wanted::Shown => false,
-            Wanted::Any => true,
-            Wanted::Glyph(number) => u32::from(number) == glyph,
-            Wanted::Class(classes, class) => class_of(&classes, glyph) == class,
-            Wanted::Covered(coverage) => covered_index(&coverage, glyph).is_some(),
+            Matcher::Shown => false,
+            Matcher::Any => true,
+            Matcher::Glyph(number) => u32::from(number) == glyph,
+            Matcher::Class(classes, class) => class_of(&classes, glyph) == class,
+            Matcher::Covered(coverage) => covered_index(&coverage, glyph).is_some(),
         }
     }
 }

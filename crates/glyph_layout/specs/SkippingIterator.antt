@@ -4,15 +4,15 @@ use Rattle.rb_glyph.specs.declared.info.hb_glyph_info_t.{hb_glyph_info_t}
 use Rattle.rb_glyph.specs.Fields.{field}
 use Rattle.font_tables.specs.Coverage.{coverage_index}
 use Rattle.font_tables.specs.ClassDefinition.{class_of}
-use Rattle.glyph_layout.specs.declared.filter.Filter.{Filter}
-use Rattle.glyph_layout.specs.declared.walk.LookupOptions.{LookupOptions}
-use Rattle.glyph_layout.specs.declared.walk.Walk.{Walk}
-use Rattle.glyph_layout.specs.declared.walk.Found.{Found}
-use Rattle.glyph_layout.specs.declared.walk.Found.TheVariants.{At, Other, End}
-use Rattle.glyph_layout.specs.declared.walk.Skip.{Skip}
-use Rattle.glyph_layout.specs.declared.walk.Skip.TheVariants.{No, Maybe, Yes}
-use Rattle.glyph_layout.specs.declared.wanted.Wanted.{Wanted}
-use Rattle.glyph_layout.specs.declared.wanted.Wanted.TheVariants.{Shown, Any, Glyph, Class, Covered}
+use Rattle.glyph_layout.specs.declared.lookup_props.LookupProps.{LookupProps}
+use Rattle.glyph_layout.specs.declared.skipping_iterator.LookupOptions.{LookupOptions}
+use Rattle.glyph_layout.specs.declared.skipping_iterator.SkippingIterator.{SkippingIterator}
+use Rattle.glyph_layout.specs.declared.skipping_iterator.Found.{Found}
+use Rattle.glyph_layout.specs.declared.skipping_iterator.Found.TheVariants.{At, Other, End}
+use Rattle.glyph_layout.specs.declared.skipping_iterator.Skip.{Skip}
+use Rattle.glyph_layout.specs.declared.skipping_iterator.Skip.TheVariants.{No, Maybe, Yes}
+use Rattle.glyph_layout.specs.declared.matcher.Matcher.{Matcher}
+use Rattle.glyph_layout.specs.declared.matcher.Matcher.TheVariants.{Shown, Any, Glyph, Class, Covered}
 
 -- the glyph whose fields are all 0
 abbrev pub zero_glyph : hb_glyph_info_t
@@ -41,13 +41,13 @@ props g = field g.var1 0 16
 
 -- whether the mark is passed over: it is not in the set that the flag asks for (bit 4), or else it is of another
 -- attachment class than the flag names (bits 8 to 15)
-unfoldable pub passes_over_mark : Filter → ℕ → ℕ → Bool
+unfoldable pub passes_over_mark : LookupProps → ℕ → ℕ → Bool
 passes_over_mark f props glyph =
     if share f.flags 16 then not (is_some (covered_index f.marks.table.now glyph))
     else share f.flags 65280 && not (bit_and f.flags 65280 == bit_and props 65280)
 
 -- whether a lookup passes over a glyph: its flag names the glyph's class (bits 1 to 3), or it is a mark that is passed over
-unfoldable pub passes_over : Filter → hb_glyph_info_t → Bool
+unfoldable pub passes_over : LookupProps → hb_glyph_info_t → Bool
 passes_over f g =
     share (bit_and (props g) f.flags) 14 || (share (props g) 8 && passes_over_mark f (props g) g.glyph_id)
 
@@ -55,19 +55,19 @@ passes_over f g =
 abbrev pub is_format_with : ℕ → ℕ → Bool
 is_format_with unicode property = (bit_and unicode 31 == 1) && share unicode property
 
--- whether a glyph is invisible by default (bit 5), was not substituted, and is of a kind that the walk may pass over: the
--- zero width non-joiner (bit 9) and joiner (bit 8), and what stays hidden (bit 6), are so only where the walk says it
-unfoldable pub may_ignore : Walk → ℕ → ℕ → Bool
+-- whether a glyph is invisible by default (bit 5), was not substituted, and is of a kind that the iterator may pass over: the
+-- zero width non-joiner (bit 9) and joiner (bit 8), and what stays hidden (bit 6), are so only where the iterator says it
+unfoldable pub may_ignore : SkippingIterator → ℕ → ℕ → Bool
 may_ignore w unicode props =
     share unicode 32 && not (share props 16) && (w.ignores_zwnj || not (is_format_with unicode 512))
     && (w.ignores_zwj || not (is_format_with unicode 256)) && (w.ignores_hidden || not (share unicode 64))
 
 -- whether a glyph has one of the features' bits, and is of the syllable
-unfoldable pub is_within : Walk → hb_glyph_info_t → Bool
+unfoldable pub is_within : SkippingIterator → hb_glyph_info_t → Bool
 is_within w g = share g.mask w.mask && ((w.syllable == 0) || (w.syllable == field g.var1 24 8))
 
 -- whether a glyph is what is asked for
-abbrev pub fits : Wanted → ℕ → Bool
+abbrev pub fits : Matcher → ℕ → Bool
 fits Shown glyph = false
 fits Any glyph = true
 fits (Glyph number) glyph = number == glyph
@@ -75,22 +75,22 @@ fits (Class classes class) glyph = class_in classes.table.now glyph == class
 fits (Covered coverage) glyph = is_some (covered_index coverage.table.now glyph)
 
 -- whether nothing is asked
-abbrev pub is_shown : Wanted → Bool
+abbrev pub is_shown : Matcher → Bool
 is_shown Shown = true
 is_shown Any = false
 is_shown (Glyph number) = false
 is_shown (Class classes class) = false
 is_shown (Covered coverage) = false
 
--- whether a walk goes on behind a glyph: one that may be passed over is passed over unless it is what is asked for
-unfoldable pub passes : Walk → Wanted → hb_glyph_info_t → Bool
-passes w wanted g =
-    passes_over w.filter g
-    || (may_ignore w (field g.var2 0 16) (props g) && not (is_within w g && fits wanted g.glyph_id))
+-- whether a walk goes on after a glyph: one that may be passed over is passed over unless it is what is asked for
+unfoldable pub passes : SkippingIterator → Matcher → hb_glyph_info_t → Bool
+passes w matcher g =
+    passes_over w.lookup_props g
+    || (may_ignore w (field g.var2 0 16) (props g) && not (is_within w g && fits matcher g.glyph_id))
 
 -- whether a glyph at which a walk stays is what is asked for
-unfoldable pub matches : Walk → Wanted → hb_glyph_info_t → Bool
-matches w wanted g = is_within w g && (is_shown wanted || fits wanted g.glyph_id)
+unfoldable pub matches : SkippingIterator → Matcher → hb_glyph_info_t → Bool
+matches w matcher g = is_within w g && (is_shown matcher || fits matcher g.glyph_id)
 
 -- how many glyphs at the head of a list are passed over
 abbrev pub passed_over : (hb_glyph_info_t → Bool) → List hb_glyph_info_t → ℕ
@@ -101,32 +101,32 @@ passed_over pass (g ∷ gs) = if pass g then suc (passed_over pass gs) else 0
 abbrev pub first_kept : (hb_glyph_info_t → Bool) → List hb_glyph_info_t → ℕ → ℕ
 first_kept pass gs i = i + passed_over pass (drop i gs)
 
--- where one comes to going back from a place over the glyphs that are passed over: behind one that is not, or to the start
+-- where one comes to going back from a place over the glyphs that are passed over: after one that is not, or to the start
 abbrev pub kept_before : (hb_glyph_info_t → Bool) → List hb_glyph_info_t → ℕ → ℕ
 kept_before pass gs zero = 0
 kept_before pass gs (suc i) = if pass (glyph_at gs i) then kept_before pass gs i else suc i
 
 -- the answer of a walk that stays at a place
-abbrev pub found_at : Walk → Wanted → List hb_glyph_info_t → ℕ → Found
-found_at w wanted gs i = if matches w wanted (glyph_at gs i) then At i else Other i
+abbrev pub found_at : SkippingIterator → Matcher → List hb_glyph_info_t → ℕ → Found
+found_at w matcher gs i = if matches w matcher (glyph_at gs i) then At i else Other i
 
--- the next glyph behind a place
-unfoldable pub next_found : Walk → Wanted → List hb_glyph_info_t → ℕ → Found
-next_found w wanted gs i =
-    let next = first_kept (passes w wanted) gs (i + 1) in
-    if nat_lt next (length gs) then found_at w wanted gs next else End
+-- the next glyph after a place
+unfoldable pub next_found : SkippingIterator → Matcher → List hb_glyph_info_t → ℕ → Found
+next_found w matcher gs i =
+    let next = first_kept (passes w matcher) gs (i + 1) in
+    if nat_lt next (length gs) then found_at w matcher gs next else End
 
 -- the last glyph before a place
-unfoldable pub previous_found : Walk → Wanted → List hb_glyph_info_t → ℕ → Found
-previous_found w wanted gs i =
-    let end = kept_before (passes w wanted) gs i in
-    if end == 0 then End else found_at w wanted gs (end - 1)
+unfoldable pub previous_found : SkippingIterator → Matcher → List hb_glyph_info_t → ℕ → Found
+previous_found w matcher gs i =
+    let end = kept_before (passes w matcher) gs i in
+    if end == 0 then End else found_at w matcher gs (end - 1)
 
--- the walk over the glyphs that a lookup changes or positions: those with a bit of the feature; joiners may be passed over where the
+-- the iterator over the glyphs that a lookup changes or positions: those with a bit of the feature; joiners may be passed over where the
 -- feature says so, non-joiners and what is hidden where glyphs are positioned
-abbrev pub over_input : Filter → LookupOptions → Bool → Walk
-over_input filter options is_positioning = record {
-  filter = filter;
+abbrev pub over_input : LookupProps → LookupOptions → Bool → SkippingIterator
+over_input lookup_props options is_positioning = record {
+  lookup_props = lookup_props;
   mask = options.mask;
   ignores_zwnj = is_positioning;
   ignores_zwj = options.auto_zwj;
@@ -134,10 +134,10 @@ over_input filter options is_positioning = record {
   syllable = 0;
 }
 
--- the walk over the glyphs around them, whatever their features: joiners may be passed over, and non-joiners where the feature says so
-abbrev pub over_context : Filter → LookupOptions → Bool → Walk
-over_context filter options is_positioning = record {
-  filter = filter;
+-- the iterator over the glyphs around them, whatever their features: joiners may be passed over, and non-joiners where the feature says so
+abbrev pub over_context : LookupProps → LookupOptions → Bool → SkippingIterator
+over_context lookup_props options is_positioning = record {
+  lookup_props = lookup_props;
   mask = 2 ^ 32 - 1;
   ignores_zwnj = is_positioning || options.auto_zwnj;
   ignores_zwj = true;
@@ -146,11 +146,11 @@ over_context filter options is_positioning = record {
 }
 
 -- what a walk does at a glyph, before it asks what is wanted
-abbrev pub skip_of : Walk → hb_glyph_info_t → Skip
+abbrev pub skip_of : SkippingIterator → hb_glyph_info_t → Skip
 skip_of w g =
-    if passes_over w.filter g then Yes else if may_ignore w (field g.var2 0 16) (props g) then Maybe else No
+    if passes_over w.lookup_props g then Yes else if may_ignore w (field g.var2 0 16) (props g) then Maybe else No
 
--- the place of an answer is behind a place, and in a list of this length
+-- the place of an answer is after a place, and in a list of this length
 abbrev pub IsBehind : Found → ℕ → ℕ → Type 0
 IsBehind (At next) i n = (i < next) × (next < n)
 IsBehind (Other next) i n = (i < next) × (next < n)

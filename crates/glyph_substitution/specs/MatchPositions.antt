@@ -5,14 +5,14 @@ use Rattle.std.specs.Prelude.{◌≡◌, ℕ, ◌+◌, ◌-◌, ◌^◌, ◌<◌
 abbrev pub moved_up : ℕ → ℕ → ℕ
 moved_up place by = min (place + by) (2 ^ 64 - 1)
 
--- Behind the glyph `number` so many were put in: they are the next glyphs of the match, and those behind move up.
+-- Behind the glyph `number` so many were put in: they are the next glyphs of the match, and those after move up.
 unfoldable pub grown_place : List ℕ → ℕ → ℕ → ℕ → ℕ
 grown_place places number added k =
     if nat_le k number then slice_index places k
     else if nat_le k (number + added) then moved_up (slice_index places number) (k - number)
     else moved_up (slice_index places (k - added)) added
 
--- Behind the glyph `number` so many of the match were taken out, and those behind move down.
+-- Behind the glyph `number` so many of the match were taken out, and those after move down.
 unfoldable pub shrunk_place : List ℕ → ℕ → ℕ → ℕ → ℕ
 shrunk_place places number removed k =
     if nat_le k number then slice_index places k else slice_index places (k + removed) - removed
