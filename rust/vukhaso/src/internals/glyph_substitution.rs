@@ -6,9 +6,9 @@
 //! What a lookup does at a glyph is decided by `glyph_layout`; here it is done, by the calls of the buffer alone.
 
 mod ligation;
+mod match_positions;
 mod multiplication;
 mod nested;
-mod places;
 mod properties;
 mod reverse;
 mod start;

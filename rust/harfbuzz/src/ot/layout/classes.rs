@@ -21,7 +21,7 @@ use vukhaso::internals::font_variations::VariationStore;
 unsafe fn with_classes<T>(face: *mut hb_face_t, ask: impl FnOnce(&Gdef<'_>) -> T) -> T {
     // SAFETY: the caller's word.
     let face = unsafe { &*face };
-    face.with_shaper(&face.plain_settings(), |face, _| ask(&face.definitions))
+    face.with_shaper(&face.plain_settings(), |face, _| ask(&face.gdef))
 }
 
 #[unsafe(no_mangle)]

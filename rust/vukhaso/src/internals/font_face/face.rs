@@ -30,7 +30,7 @@ pub struct Lookups<'a> {
     /// Those of `GPOS`.
     pub positions: LookupList<'a>,
     /// The chains of Apple's table `morx`.
-    pub metamorphosis: Metamorphosis<'a>,
+    pub morx: Metamorphosis<'a>,
 }
 
 /// A font of a file: what shaping asks of it, found once.
@@ -49,11 +49,11 @@ pub struct Face<'a> {
     /// Advances and side bearings in vertical lines.
     pub vertical: Metrics<'a>,
     /// Where glyphs stand in vertical lines.
-    pub origins: VerticalOrigins<'a>,
+    pub vorg: VerticalOrigins<'a>,
     /// How far horizontal lines reach up and down, in font units, where the font says it.
     pub extents: Option<FontExtents>,
     /// The classes of the glyphs.
-    pub definitions: Gdef<'a>,
+    pub gdef: Gdef<'a>,
     /// The outlines of the glyphs.
     pub outlines: Outlines<'a>,
     /// Its bitmaps, and what it says of glyphs that are drawn in colours.
@@ -105,14 +105,14 @@ impl<'a> Face<'a> {
             return Ok(None);
         };
         let layout = Layout::new(&tables);
-        let definitions = definitions_of(tables.table(Tag::from_bytes(b"GDEF")), &layout);
-        let substitutions = LookupList::new(layout.gsub, SUBSTITUTION_EXTENSION, &definitions)?;
-        let positions = LookupList::new(layout.gpos, POSITIONING_EXTENSION, &definitions)?;
+        let gdef = definitions_of(tables.table(Tag::from_bytes(b"GDEF")), &layout);
+        let substitutions = LookupList::new(layout.gsub, SUBSTITUTION_EXTENSION, &gdef)?;
+        let positions = LookupList::new(layout.gpos, POSITIONING_EXTENSION, &gdef)?;
         let glyphs = glyph_count(tables.table(Tag::from_bytes(b"maxp")));
         let lookups = Lookups {
             substitutions,
             positions,
-            metamorphosis: Metamorphosis::new(layout.morx, glyphs)?,
+            morx: Metamorphosis::new(layout.morx, glyphs)?,
         };
         Ok(Some(face_of(tables, layout, lookups)))
     }
@@ -241,7 +241,7 @@ impl<'a> Face<'a> {
 /// - `IsLayoutOf layout tables`
 fn face_of<'a>(tables: Tables<'a>, layout: Layout<'a>, lookups: Lookups<'a>) -> Face<'a> {
     let head = tables.table(Tag::from_bytes(b"head"));
-    let definitions = definitions_of(tables.table(Tag::from_bytes(b"GDEF")), &layout);
+    let gdef = definitions_of(tables.table(Tag::from_bytes(b"GDEF")), &layout);
     let units_per_em = units_per_em(head);
     let glyph_count = glyph_count(tables.table(Tag::from_bytes(b"maxp")));
     let os2 = tables.table(Tag::from_bytes(b"OS/2"));
@@ -260,9 +260,9 @@ fn face_of<'a>(tables: Tables<'a>, layout: Layout<'a>, lookups: Lookups<'a>) -> 
             units_per_em / 2,
         ),
         vertical: Metrics::new(vmtx, long_metric_count(vhea), glyph_count, units_per_em),
-        origins: VerticalOrigins::new(tables.table(Tag::from_bytes(b"VORG"))),
+        vorg: VerticalOrigins::new(tables.table(Tag::from_bytes(b"VORG"))),
         extents: horizontal_extents(os2, hhea),
-        definitions,
+        gdef,
         outlines: outlines_of(&tables, head, glyph_count),
         color: ColorTables::new(&tables, glyph_count, 0, 0),
         has_gpos: is_positioning(layout.gpos),
@@ -271,7 +271,7 @@ fn face_of<'a>(tables: Tables<'a>, layout: Layout<'a>, lookups: Lookups<'a>) -> 
 
         scale: Scale::of_em(units_per_em),
         points_per_em: 0.0,
-        variations: FaceVariations::new(&tables, definitions.table, glyph_count),
+        variations: FaceVariations::new(&tables, gdef.table, glyph_count),
     }
 }
 

@@ -105,7 +105,7 @@ impl Face<'_> {
     /// outline and its top side bearing, or so that the outline stands in the middle of the line, else at
     /// the font's ascender.
     fn vertical_origin_y(&self, glyph: GlyphId) -> Result<i32, AllocError> {
-        if let Some(y) = self.origins.y_origin(glyph) {
+        if let Some(y) = self.vorg.y_origin(glyph) {
             let delta = match &self.variations.vertical {
                 Some(table) if !self.coordinates().is_empty() => {
                     table.origin_delta(glyph, self.coordinates())

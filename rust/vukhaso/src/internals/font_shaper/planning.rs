@@ -145,15 +145,14 @@ fn plan_of(
 /// Whether Apple's table `morx` substitutes glyphs in place of the lookups of `GSUB`: in horizontal
 /// lines, and where the font has no lookups of `GSUB`.
 fn substitutes_by_morx(face: &Face, direction: Direction) -> bool {
-    face.lookups.metamorphosis.is_there()
-        && (direction.is_horizontal() || face.layout.gsub.is_empty())
+    face.lookups.morx.is_there() && (direction.is_horizontal() || face.layout.gsub.is_empty())
 }
 
 /// The flags of the chains of `morx`, where these features are asked for.
 fn chain_flags_of(face: &Face, features: &[Feature]) -> Result<ChainFlags, AllocError> {
     let names = FeatureNames::new(face.layout.feat);
     let selected = selected_features(&names, features)?;
-    ChainFlags::new(&face.lookups.metamorphosis, selected.as_slice())
+    ChainFlags::new(&face.lookups.morx, selected.as_slice())
 }
 
 /// The lookups that join Arabic letters, where the shaper of the script makes them.

@@ -415,7 +415,7 @@ fn prepare_characters(
 fn map_glyphs(buffer: &mut hb_buffer_t, face: &Face) {
     debug_assert!(!buffer.have_output());
     put_glyphs(buffer);
-    substitute_start(buffer, &face.definitions);
+    substitute_start(buffer, &face.gdef);
 }
 
 /// Puts the glyph of each character in its place.

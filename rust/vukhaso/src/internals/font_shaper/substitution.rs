@@ -60,9 +60,9 @@ fn substitute_by_morx(
 ) -> Result<bool, AllocError> {
     debug_assert!(!buffer.have_output());
     let substitution = Substitution {
-        table: &face.lookups.metamorphosis,
+        table: &face.lookups.morx,
         flags,
-        gdef: &face.definitions,
+        gdef: &face.gdef,
     };
     if !crate::apple_substitution::substitute(buffer, &substitution)? {
         return Ok(false);
@@ -197,7 +197,7 @@ fn apply_planned(
     }
     let substitutions = Substitutions {
         list: &face.lookups.substitutions,
-        gdef: &face.definitions,
+        gdef: &face.gdef,
         options: options_of(planned),
     };
     if !crate::glyph_substitution::substitute(buffer, &substitutions, planned.index, progress)? {
@@ -290,12 +290,12 @@ fn apply_fallback(
     let list = LookupList::new(
         fallback.table.as_slice(),
         SUBSTITUTION_EXTENSION,
-        &face.definitions,
+        &face.gdef,
     )?;
     apply_each(
         buffer,
         &list,
-        &face.definitions,
+        &face.gdef,
         fallback.masks.as_slice(),
         progress,
     )

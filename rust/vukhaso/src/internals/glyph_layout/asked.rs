@@ -1,6 +1,6 @@
 // Written by tools/plain_rust from crates/glyph_layout. Do not edit.
 
-//! What a rule asks of the next glyphs behind the cursor, read from its bytes without the rest of it.
+//! What a rule asks of the next glyphs after the cursor, read from its bytes without the rest of it.
 
 use crate::font_tables::bytes::u16_at;
 use crate::glyph_layout::search::MAX_CONTEXT_LENGTH;
@@ -10,12 +10,12 @@ use crate::glyph_layout::search::MAX_CONTEXT_LENGTH;
 pub(crate) enum Asked {
     /// That of a glyph of its input.
     Input(u16),
-    /// That of a glyph behind its input.
-    Ahead(u16),
+    /// That of a glyph after its input.
+    Lookahead(u16),
 }
 
-/// What the rule in these bytes asks of the glyph of this number behind the cursor; `None` where it
-/// asks for nothing there, its input is too long for a match, or it is cut short.
+/// What the rule in these bytes asks of the glyph of this number after the cursor; `None` where it asks
+/// for nothing there, its input is too long for a match, or it is cut short.
 ///
 /// # Requires
 ///
@@ -57,7 +57,7 @@ fn chained_asked(table: &[u8], number: usize) -> Option<Asked> {
     let input_at = 2 + 2 * usize::from(u16_at(table, 0)?);
     let input = usize::from(u16_at(table, input_at)?.saturating_sub(1));
     if number >= input {
-        return asked_ahead(table, input_at + 2 + 2 * input, number - input);
+        return asked_lookahead(table, input_at + 2 + 2 * input, number - input);
     }
     if input < MAX_CONTEXT_LENGTH {
         Some(Asked::Input(u16_at(table, input_at + 2 + 2 * number)?))
@@ -66,18 +66,18 @@ fn chained_asked(table: &[u8], number: usize) -> Option<Asked> {
     }
 }
 
-/// What it asks for behind its input, where the count of that stands at this place.
+/// What it asks for after its input, where the count of that stands at this place.
 ///
 /// # Requires
 ///
 /// - `near: at < 1000000`
 /// - `few: number < 2`
 #[inline(always)]
-fn asked_ahead(table: &[u8], at: usize, number: usize) -> Option<Asked> {
+fn asked_lookahead(table: &[u8], at: usize, number: usize) -> Option<Asked> {
     debug_assert!(at < 1000000);
     debug_assert!(number < 2);
     if number < usize::from(u16_at(table, at)?) {
-        Some(Asked::Ahead(u16_at(table, at + 2 + 2 * number)?))
+        Some(Asked::Lookahead(u16_at(table, at + 2 + 2 * number)?))
     } else {
         None
     }

@@ -1,17 +1,17 @@
 // Written by tools/plain_rust from crates/glyph_layout. Do not edit.
 
-//! Contexts: rules of glyphs at the cursor, before them and behind them, as the kinds 5 and 6 of `GSUB` have them, and the
+//! Contexts: rules of glyphs at the cursor, before them and after them, as the kinds 5 and 6 of `GSUB` have them, and the
 //! kinds 7 and 8 of `GPOS` (OpenType specification, "OpenType Layout Common Table Formats", "Sequence Context").
 
 use crate::font_tables::bytes::{table_at_16, u16_at};
 use crate::glyph::hb_glyph_info_t;
 use crate::glyph_layout::lookup_list::LookupList;
-use crate::glyph_layout::rule::{Meaning, Meanings, coverage_rule};
+use crate::glyph_layout::matcher::class_of;
+use crate::glyph_layout::rule::{MatchFunction, MatchFunctions, coverage_rule};
 use crate::glyph_layout::rule_set::{RuleSet, counts_around, first_fit, fit};
-use crate::glyph_layout::search::{Search, Sides};
+use crate::glyph_layout::search::{ApplyContext, Search};
+use crate::glyph_layout::skipping_iterator::Skip;
 use crate::glyph_layout::subtable::{NextAsked, Subtable};
-use crate::glyph_layout::walk::Skip;
-use crate::glyph_layout::wanted::class_of;
 
 /// A rule that fits at the cursor. The places of its glyphs are in `Search::places`.
 #[derive(Clone, Copy, Debug)]
@@ -32,9 +32,9 @@ pub struct Fit<'a> {
 
 /// A lookup that a rule applies.
 #[derive(Clone, Copy, Debug)]
-pub struct Record {
+pub struct SequenceLookupRecord {
     /// The number of the glyph at which it is applied, of those of the input.
-    pub sequence: usize,
+    pub sequence_index: usize,
     /// The index of the lookup.
     pub lookup: u16,
 }
@@ -48,10 +48,10 @@ impl<'a> Fit<'a> {
     /// ensures { index < 65536 → result ≡ record_at self.now.records.now index }
     /// ```
     #[inline]
-    pub fn record(&self, index: usize) -> Option<Record> {
+    pub fn record(&self, index: usize) -> Option<SequenceLookupRecord> {
         let at = index.saturating_mul(4);
-        Some(Record {
-            sequence: usize::from(u16_at(self.records, at)?),
+        Some(SequenceLookupRecord {
+            sequence_index: usize::from(u16_at(self.records, at)?),
             lookup: u16_at(self.records, at.saturating_add(2))?,
         })
     }
@@ -63,18 +63,18 @@ impl<'a> Fit<'a> {
 ///
 /// # Requires
 ///
-/// - `0 < length sides.now.input.now`
+/// - `0 < length ctx.now.input.now`
 ///
 /// # Proved
 ///
 /// ```text
 /// ensures spent { IsNotMore search.old.budget search.new.budget }
-/// ensures fits { IfSome result (IsFitWithin (length sides.now.out.now) (length sides.now.input.now)) }
+/// ensures fits { IfSome result (IsFitWithin (length ctx.now.out.now) (length ctx.now.input.now)) }
 /// ensures rule { IfSome result
-///     (IsFitBy sides.now (context_rule list.now.coverages.items subtable.now index is_chained sides.now)) }
-/// ensures exact { is_chained ≡ is_chained_kind subtable.now.kind
+///     (IsFitBy ctx.now (context_rule list.now.coverages.items subtable.now index is_chained ctx.now)) }
+/// ensures exact { is_chained ≡ is_chained_type subtable.now.lookup_type
 ///     → IsNextOf list.now.coverages.items subtable.now → 0 < search.new.budget.steps
-///     → is_some result ≡ is_some (context_rule list.now.coverages.items subtable.now index is_chained sides.now) }
+///     → is_some result ≡ is_some (context_rule list.now.coverages.items subtable.now index is_chained ctx.now) }
 /// ```
 #[inline]
 pub fn fitting_rule<'a>(
@@ -82,26 +82,29 @@ pub fn fitting_rule<'a>(
     subtable: &Subtable<'a>,
     index: u32,
     is_chained: bool,
-    sides: &Sides,
+    ctx: &ApplyContext,
     search: &mut Search,
 ) -> Option<Fit<'a>> {
     let table = subtable.table;
-    let (set, meanings) = match subtable.format {
-        1 => (set_at(table, 4, index)?, same_meaning(Meaning::Glyphs)),
+    let (set, match_functions) = match subtable.format {
+        1 => (
+            set_at(table, 4, index)?,
+            same_match_function(MatchFunction::Glyphs),
+        ),
         2 => {
-            let class = class_of(&subtable.classes, sides.input[0].glyph_id);
+            let class = class_of(&subtable.classes, ctx.input[0].glyph_id);
             let set = set_at(table, if is_chained { 10 } else { 6 }, u32::from(class))?;
             (set, class_meanings(subtable))
         }
-        3 => return covered_fit(list, subtable, is_chained, sides, search),
+        3 => return covered_fit(list, subtable, is_chained, ctx, search),
         _ => return None,
     };
     let rules = RuleSet {
         table: set,
-        meanings,
+        match_functions,
         is_chained,
     };
-    first_fit(&rules, sides, search)
+    first_fit(&rules, ctx, search)
 }
 
 /// The rule of a context by coverages, if it fits at the cursor. Mostly the next glyph shows at once
@@ -109,19 +112,19 @@ pub fn fitting_rule<'a>(
 ///
 /// # Requires
 ///
-/// - `0 < length sides.now.input.now`
+/// - `0 < length ctx.now.input.now`
 fn covered_fit<'a>(
     list: &'a LookupList<'a>,
     subtable: &Subtable<'a>,
     is_chained: bool,
-    sides: &Sides,
+    ctx: &ApplyContext,
     search: &mut Search,
 ) -> Option<Fit<'a>> {
     if let Some(next) = &subtable.next {
-        if let Some(to) = missed_next(next, sides) {
+        if let Some(to) = missed_next(next, ctx) {
             search.budget.pay(1);
             if !is_chained || !next.is_input {
-                search.reach.extend(sides.out.len(), to);
+                search.reach.extend(ctx.out.len(), to);
             }
             return None;
         }
@@ -129,36 +132,36 @@ fn covered_fit<'a>(
     let coverages = list.coverages_from(subtable, 0);
     fit(
         &coverage_rule(subtable.table, coverages, is_chained)?,
-        sides,
+        ctx,
         search,
     )
 }
 
-/// Whether the glyph behind the one at the cursor counts for a context by coverages, whatever is asked
+/// Whether the glyph after the one at the cursor counts for a context by coverages, whatever is asked
 /// for.
-fn counts_next(next: &NextAsked, sides: &Sides, glyph: &hb_glyph_info_t) -> bool {
+fn counts_next(next: &NextAsked, ctx: &ApplyContext, glyph: &hb_glyph_info_t) -> bool {
     if next.is_input {
-        sides.walk.skip(glyph) == Skip::No
+        ctx.iterator.skip(glyph) == Skip::No
     } else {
-        counts_around(sides, glyph)
+        counts_around(ctx, glyph)
     }
 }
 
-/// How far glyphs were looked at, where the glyph behind the one at the cursor counts and is not what
-/// is asked for, or where there is none.
+/// How far glyphs were looked at, where the glyph after the one at the cursor counts and is not what is
+/// asked for, or where there is none.
 ///
 /// # Requires
 ///
-/// - `0 < length sides.now.input.now`
-fn missed_next(next: &NextAsked, sides: &Sides) -> Option<usize> {
-    if sides.input.len() == 1 {
+/// - `0 < length ctx.now.input.now`
+fn missed_next(next: &NextAsked, ctx: &ApplyContext) -> Option<usize> {
+    if ctx.input.len() == 1 {
         return Some(1);
     }
-    let glyph = &sides.input[1];
+    let glyph = &ctx.input[1];
     if next.digest.may_have(glyph.glyph_id) {
         return None;
     }
-    if counts_next(next, sides, glyph) {
+    if counts_next(next, ctx, glyph) {
         Some(2)
     } else {
         None
@@ -180,19 +183,19 @@ pub(crate) fn set_at(table: &[u8], at: usize, number: u32) -> Option<&[u8]> {
 }
 
 /// The same meaning in all three parts.
-pub(crate) fn same_meaning<'a>(meaning: Meaning<'a>) -> Meanings<'a> {
-    Meanings {
-        behind: meaning,
-        input: meaning,
-        ahead: meaning,
+pub(crate) fn same_match_function<'a>(match_function: MatchFunction<'a>) -> MatchFunctions<'a> {
+    MatchFunctions {
+        backtrack: match_function,
+        input: match_function,
+        lookahead: match_function,
     }
 }
 
 /// The classes of the three parts.
-pub(crate) fn class_meanings<'a>(subtable: &Subtable<'a>) -> Meanings<'a> {
-    Meanings {
-        behind: Meaning::Classes(subtable.classes_behind),
-        input: Meaning::Classes(subtable.classes),
-        ahead: Meaning::Classes(subtable.classes_ahead),
+pub(crate) fn class_meanings<'a>(subtable: &Subtable<'a>) -> MatchFunctions<'a> {
+    MatchFunctions {
+        backtrack: MatchFunction::Classes(subtable.backtrack_classes),
+        input: MatchFunction::Classes(subtable.classes),
+        lookahead: MatchFunction::Classes(subtable.lookahead_classes),
     }
 }

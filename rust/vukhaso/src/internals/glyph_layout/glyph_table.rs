@@ -13,7 +13,7 @@ use crate::font_tables::bytes::u16_at;
 /// ```
 #[derive(Clone, Copy, Debug)]
 pub struct Glyphs<'a> {
-    /// The table, with their number at its start, and two bytes for each behind it.
+    /// The table, with their number at its start, and two bytes for each after it.
     pub table: &'a [u8],
     /// How many there are: none where they do not all lie in the table.
     count: u16,

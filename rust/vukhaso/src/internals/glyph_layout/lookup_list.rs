@@ -8,8 +8,8 @@ use crate::font_tables::coverage::Coverage;
 use crate::font_tables::gdef::Gdef;
 use crate::glyph::hb_glyph_info_t;
 use crate::glyph_layout::digest::Digest;
-use crate::glyph_layout::filter::Filter;
 use crate::glyph_layout::first_glyphs::{FirstGlyphs, summaries_of};
+use crate::glyph_layout::lookup_props::LookupProps;
 use crate::glyph_layout::search::MAX_CONTEXT_LENGTH;
 use crate::glyph_layout::seconds::seconds_of;
 use crate::glyph_layout::subtable::{
@@ -37,10 +37,10 @@ const USE_MARK_FILTERING_SET: u16 = 0x0010;
 /// A lookup.
 #[derive(Clone, Copy, Debug)]
 pub struct Lookup<'a> {
-    /// The kind of its subtables. Where they are extensions, each subtable has the kind behind it.
-    pub kind: u16,
+    /// The kind of its subtables. Where they are extensions, each subtable has the kind after it.
+    pub lookup_type: u16,
     /// What it passes over.
-    pub filter: Filter<'a>,
+    pub lookup_props: LookupProps<'a>,
     /// The digest of the glyphs that its subtables are for.
     pub digest: Digest,
     /// Those of the first 256 glyphs that its subtables are for.
@@ -64,7 +64,7 @@ impl<'a> Lookup<'a> {
     pub fn is_for(&self, mask: u32, glyph: &hb_glyph_info_t) -> bool {
         self.digest.may_have(glyph.glyph_id)
             && glyph.mask & mask != 0
-            && !self.filter.passes_over(glyph)
+            && !self.lookup_props.passes_over(glyph)
             && self.firsts.may_have(glyph.glyph_id)
     }
 
@@ -214,8 +214,8 @@ impl<'a> LookupList<'a> {
     }
 
     /// The second glyphs of the ligatures of a subtable, if it has ligatures, each with a second glyph.
-    fn seconds(&mut self, kind: u16, table: &[u8]) -> Option<Digest> {
-        if self.is_positioning() || kind != LIGATURES {
+    fn seconds(&mut self, lookup_type: u16, table: &[u8]) -> Option<Digest> {
+        if self.is_positioning() || lookup_type != LIGATURES {
             return None;
         }
         seconds_of(table, &mut self.second_room)
@@ -266,7 +266,7 @@ impl<'a> LookupList<'a> {
 
     /// Reads a lookup.
     fn read_lookup(&mut self, table: &'a [u8], gdef: &Gdef<'a>) -> Result<(), AllocError> {
-        let kind = u16_at(table, 0).unwrap_or(0);
+        let lookup_type = u16_at(table, 0).unwrap_or(0);
         let flags = u16_at(table, 2).unwrap_or(0);
         let count = usize::from(u16_at(table, 4).unwrap_or(0));
         let marks = if flags & USE_MARK_FILTERING_SET != 0 {
@@ -280,14 +280,14 @@ impl<'a> LookupList<'a> {
                 break;
             }
             if let Some(subtable) = table_at_16(table, 6 + 2 * index) {
-                self.read_subtable(kind, subtable)?;
+                self.read_subtable(lookup_type, subtable)?;
             }
         }
         let subtables = self.subtables_from(first);
         let (digest, firsts) = (digest_of(subtables), firsts_of(subtables));
         self.lookups.push(Lookup {
-            kind,
-            filter: Filter { flags, marks },
+            lookup_type,
+            lookup_props: LookupProps { flags, marks },
             digest,
             firsts,
             first,
@@ -296,24 +296,24 @@ impl<'a> LookupList<'a> {
         Ok(())
     }
 
-    /// Reads a subtable, or that behind an extension, if there is room.
-    fn read_subtable(&mut self, kind: u16, table: &'a [u8]) -> Result<(), AllocError> {
-        let (kind, table) = if kind == self.extension {
+    /// Reads a subtable, or that after an extension, if there is room.
+    fn read_subtable(&mut self, lookup_type: u16, table: &'a [u8]) -> Result<(), AllocError> {
+        let (lookup_type, table) = if lookup_type == self.extension {
             behind_extension(table)
         } else {
-            (kind, table)
+            (lookup_type, table)
         };
-        if kind == self.extension || !self.pay(64) {
+        if lookup_type == self.extension || !self.pay(64) {
             return Ok(());
         }
         let format = u16_at(table, 0).unwrap_or(0);
-        let form = self.form_of(kind, format);
+        let form = self.form_of(lookup_type, format);
         let first_coverage = self.coverages.len();
         self.read_coverages(form, table)?;
         let coverage = self.first_of(form, table, first_coverage);
         let summaries = summaries_of(&coverage);
         let subtable = Subtable {
-            kind,
+            lookup_type,
             format,
             table,
             coverage,
@@ -321,11 +321,11 @@ impl<'a> LookupList<'a> {
             firsts: summaries.firsts,
             bases: self.coverage_if(form == Form::Marks, table, 4),
             classes: self.input_classes(form, table),
-            classes_behind: self.classes_if(form == Form::ChainedClasses, table, 4),
-            classes_ahead: self.ahead_classes(form, table),
+            backtrack_classes: self.classes_if(form == Form::ChainedClasses, table, 4),
+            lookahead_classes: self.ahead_classes(form, table),
             next: self.next_asked(form, table, first_coverage),
             first_coverage,
-            seconds: self.seconds(kind, table),
+            seconds: self.seconds(lookup_type, table),
         };
         self.add_subtable(subtable)
     }
@@ -341,11 +341,11 @@ impl<'a> LookupList<'a> {
     }
 
     /// The form of a subtable.
-    fn form_of(&self, kind: u16, format: u16) -> Form {
+    fn form_of(&self, lookup_type: u16, format: u16) -> Form {
         if self.is_positioning() {
-            positioning_form(kind, format)
+            positioning_form(lookup_type, format)
         } else {
-            substitution_form(kind, format)
+            substitution_form(lookup_type, format)
         }
     }
 
@@ -358,13 +358,13 @@ impl<'a> LookupList<'a> {
             }
             Form::ChainedCoverages => {
                 let input = self.read_list(table, 2)?;
-                let ahead = self.read_list(table, input)?;
-                let _records = self.read_list(table, ahead)?;
+                let lookahead = self.read_list(table, input)?;
+                let _records = self.read_list(table, lookahead)?;
                 Ok(())
             }
             Form::Reverse => {
-                let ahead = self.read_list(table, 4)?;
-                let _substitutes = self.read_list(table, ahead)?;
+                let lookahead = self.read_list(table, 4)?;
+                let _substitutes = self.read_list(table, lookahead)?;
                 Ok(())
             }
             _ => Ok(()),
@@ -405,14 +405,14 @@ impl<'a> LookupList<'a> {
         }
     }
 
-    /// What a context by coverages asks of the glyph behind the one at the cursor: the second coverage of
-    /// the input, or where the input has one, the first behind it.
+    /// What a context by coverages asks of the glyph after the one at the cursor: the second coverage of
+    /// the input, or where the input has one, the first after it.
     fn next_asked(&self, form: Form, table: &'a [u8], first: usize) -> Option<NextAsked<'a>> {
-        let (behind, input, ahead) = coverage_numbers(form, table)?;
-        if usize::from(input) > MAX_CONTEXT_LENGTH || !has_next(input, ahead) {
+        let (backtrack, input, lookahead) = coverage_numbers(form, table)?;
+        if usize::from(input) > MAX_CONTEXT_LENGTH || !has_next(input, lookahead) {
             return None;
         }
-        let number = usize::from(behind) + usize::from(input.min(1));
+        let number = usize::from(backtrack) + usize::from(input.min(1));
         let coverage = self.coverages.get(first.saturating_add(number))?;
         Some(NextAsked::new(*coverage, input > 1))
     }
@@ -427,7 +427,7 @@ impl<'a> LookupList<'a> {
         }
     }
 
-    /// The classes of what stands behind the input.
+    /// The classes of what stands after the input.
     fn ahead_classes(&mut self, form: Form, table: &'a [u8]) -> ClassDefinition<'a> {
         match form {
             Form::ChainedClasses => self.classes(table_or_empty(table, 8)),
@@ -505,24 +505,24 @@ fn subtable_count(list: &[u8], count: usize) -> usize {
     subtables
 }
 
-/// How many coverages a context by coverages has before the cursor, for its input and behind it.
+/// How many coverages a context by coverages has before the cursor, for its input and after it.
 fn coverage_numbers(form: Form, table: &[u8]) -> Option<(u16, u16, u16)> {
     match form {
         Form::Coverages => Some((0, u16_at(table, 2)?, 0)),
         Form::ChainedCoverages => {
-            let behind = u16_at(table, 2)?;
-            let input_at = 4 + 2 * usize::from(behind);
+            let backtrack = u16_at(table, 2)?;
+            let input_at = 4 + 2 * usize::from(backtrack);
             let input = u16_at(table, input_at)?;
-            let ahead = u16_at(table, input_at + 2 + 2 * usize::from(input))?;
-            Some((behind, input, ahead))
+            let lookahead = u16_at(table, input_at + 2 + 2 * usize::from(input))?;
+            Some((backtrack, input, lookahead))
         }
         _ => None,
     }
 }
 
-/// Whether a context with so many glyphs in its input and behind it asks for one behind the cursor.
-fn has_next(input: u16, ahead: u16) -> bool {
-    input > 1 || ahead > 0
+/// Whether a context with so many glyphs in its input and after it asks for one after the cursor.
+fn has_next(input: u16, lookahead: u16) -> bool {
+    input > 1 || lookahead > 0
 }
 
 /// The digest of the glyphs that any of these subtables is for.

@@ -5,11 +5,11 @@
 use crate::glyph::hb_glyph_info_t;
 use crate::glyph_layout::budget::Budget;
 use crate::glyph_layout::ligature_parts::{ligature_component, ligature_id};
-use crate::glyph_layout::rule::Part;
-use crate::glyph_layout::search::{MAX_CONTEXT_LENGTH, Search, Sides};
-use crate::glyph_layout::walk::{Found, Walk};
+use crate::glyph_layout::rule::Sequence;
+use crate::glyph_layout::search::{ApplyContext, MAX_CONTEXT_LENGTH, Search};
+use crate::glyph_layout::skipping_iterator::{Found, SkippingIterator};
 
-/// The next glyph behind a place, if it is what a part asks for at this number.
+/// The next glyph after a place, if it is what a part asks for at this number.
 ///
 /// # Requires
 ///
@@ -19,18 +19,18 @@ use crate::glyph_layout::walk::{Found, Walk};
 ///
 /// `Err` says how far glyphs were looked at.
 fn step_ahead(
-    walk: &Walk,
-    part: &Part,
+    iterator: &SkippingIterator,
+    part: &Sequence,
     index: u16,
     glyphs: &[hb_glyph_info_t],
     place: usize,
     budget: &mut Budget,
 ) -> Result<usize, usize> {
     debug_assert!(place < glyphs.len());
-    let Some(wanted) = part.wanted(index) else {
+    let Some(matcher) = part.matcher(index) else {
         return Err(0);
     };
-    match walk.next(&wanted, glyphs, place) {
+    match iterator.next(&matcher, glyphs, place) {
         Found::At(next) => {
             if budget.pay_for(next - place) {
                 Ok(next)
@@ -59,18 +59,18 @@ fn step_ahead(
 ///
 /// `Err` says how far glyphs were looked at.
 fn step_behind(
-    walk: &Walk,
-    part: &Part,
+    iterator: &SkippingIterator,
+    part: &Sequence,
     index: u16,
     glyphs: &[hb_glyph_info_t],
     place: usize,
     budget: &mut Budget,
 ) -> Result<usize, usize> {
     debug_assert!(place <= glyphs.len());
-    let Some(wanted) = part.wanted(index) else {
+    let Some(matcher) = part.matcher(index) else {
         return Err(place);
     };
-    match walk.previous(&wanted, glyphs, place) {
+    match iterator.previous(&matcher, glyphs, place) {
         Found::At(before) => {
             if budget.pay_for(place - before) {
                 Ok(before)
@@ -89,31 +89,35 @@ fn step_behind(
     }
 }
 
-/// Looks for the glyphs of the input behind the first, and leaves their places in `search`.
+/// Looks for the glyphs of the input after the first, and leaves their places in `search`.
 ///
 /// # Requires
 ///
-/// - `0 < length sides.now.input.now`
+/// - `0 < length ctx.now.input.now`
 ///
 /// # Errors
 ///
 /// `Ok` says where they end, and `Err` how far glyphs were looked at: 0 where nothing was seen that
 /// could be told of.
-pub(crate) fn match_input(sides: &Sides, part: &Part, search: &mut Search) -> Result<usize, usize> {
+pub(crate) fn match_input(
+    ctx: &ApplyContext,
+    part: &Sequence,
+    search: &mut Search,
+) -> Result<usize, usize> {
     search.places.clear();
     search.places.push(0);
     if usize::from(part.count) >= MAX_CONTEXT_LENGTH {
         return Err(0);
     }
-    let walk = sides.input_walk();
+    let iterator = ctx.input_iterator();
     let mut place = 0;
     let mut may_leave = false;
     for index in 0..part.count {
-        match step_ahead(&walk, part, index, sides.input, place, &mut search.budget) {
+        match step_ahead(&iterator, part, index, ctx.input, place, &mut search.budget) {
             Ok(next) => place = next,
             Err(to) => return Err(to),
         }
-        if !may_stand(sides, place, &mut may_leave, &mut search.budget) {
+        if !may_stand(ctx, place, &mut may_leave, &mut search.budget) {
             return Err(0);
         }
         search.places.push(place);
@@ -126,13 +130,13 @@ pub(crate) fn match_input(sides: &Sides, part: &Part, search: &mut Search) -> Re
 ///
 /// # Requires
 ///
-/// - `inside: place < length sides.now.input.now`
-/// - `leaves: is_free.old ≡ true → may_leave sides.now (glyph_at sides.now.input.now 0) ≡ true`
-fn may_stand(sides: &Sides, place: usize, is_free: &mut bool, budget: &mut Budget) -> bool {
-    if *is_free || may_join(&sides.input[0], &sides.input[place]) {
+/// - `inside: place < length ctx.now.input.now`
+/// - `leaves: is_free.old ≡ true → may_leave ctx.now (glyph_at ctx.now.input.now 0) ≡ true`
+fn may_stand(ctx: &ApplyContext, place: usize, is_free: &mut bool, budget: &mut Budget) -> bool {
+    if *is_free || may_join(&ctx.input[0], &ctx.input[place]) {
         return true;
     }
-    *is_free = may_leave_ligature(sides, &sides.input[0], budget);
+    *is_free = may_leave_ligature(ctx, &ctx.input[0], budget);
     *is_free
 }
 
@@ -149,41 +153,41 @@ fn may_join(first: &hb_glyph_info_t, glyph: &hb_glyph_info_t) -> bool {
 
 /// Whether glyphs of other components than that of the first one may join it all the same: it belongs
 /// to a ligature before it that the lookup passes over.
-fn may_leave_ligature(sides: &Sides, first: &hb_glyph_info_t, budget: &mut Budget) -> bool {
+fn may_leave_ligature(ctx: &ApplyContext, first: &hb_glyph_info_t, budget: &mut Budget) -> bool {
     let id = ligature_id(first);
     if id == 0 || ligature_component(first) == 0 {
         return false;
     }
-    for turn in 0..sides.out.len() {
-        let glyph = &sides.out[sides.out.len() - (turn + 1)];
+    for turn in 0..ctx.out.len() {
+        let glyph = &ctx.out[ctx.out.len() - (turn + 1)];
         if !budget.pay(1) || ligature_id(glyph) != id {
             return false;
         }
         if ligature_component(glyph) == 0 {
-            return sides.walk.filter.passes_over(glyph);
+            return ctx.iterator.lookup_props.passes_over(glyph);
         }
     }
     false
 }
 
-/// Looks for glyphs behind the input, which ends at a place. The answer says how far glyphs were looked
+/// Looks for glyphs after the input, which ends at a place. The answer says how far glyphs were looked
 /// at.
 ///
 /// # Requires
 ///
 /// - `some: 0 < end`
-/// - `within: end ≤ length sides.now.input.now`
-pub(crate) fn match_ahead(
-    sides: &Sides,
-    part: &Part,
+/// - `within: end ≤ length ctx.now.input.now`
+pub(crate) fn match_lookahead(
+    ctx: &ApplyContext,
+    part: &Sequence,
     end: usize,
     search: &mut Search,
 ) -> Result<usize, usize> {
     debug_assert!(0 < end);
-    let walk = sides.context_walk(end == 1);
+    let iterator = ctx.context_iterator(end == 1);
     let mut place = end - 1;
     for index in 0..part.count {
-        match step_ahead(&walk, part, index, sides.input, place, &mut search.budget) {
+        match step_ahead(&iterator, part, index, ctx.input, place, &mut search.budget) {
             Ok(next) => place = next,
             Err(to) => return Err(to),
         }
@@ -193,15 +197,15 @@ pub(crate) fn match_ahead(
 
 /// Looks for glyphs before the cursor, the nearest first. The answer says how far glyphs were looked
 /// at.
-pub(crate) fn match_behind(
-    sides: &Sides,
-    part: &Part,
+pub(crate) fn match_backtrack(
+    ctx: &ApplyContext,
+    part: &Sequence,
     search: &mut Search,
 ) -> Result<usize, usize> {
-    let walk = sides.context_walk(sides.is_level);
-    let mut place = sides.out.len();
+    let iterator = ctx.context_iterator(ctx.is_level);
+    let mut place = ctx.out.len();
     for index in 0..part.count {
-        match step_behind(&walk, part, index, sides.out, place, &mut search.budget) {
+        match step_behind(&iterator, part, index, ctx.out, place, &mut search.budget) {
             Ok(before) => place = before,
             Err(from) => return Err(from),
         }

@@ -1,19 +1,19 @@
 // Written by tools/plain_rust from crates/glyph_layout. Do not edit.
 
-//! The glyphs behind the cursor, looked at once for many rules (HarfBuzz, `RuleSet`, `ChainRuleSet`, `LigatureSet`).
+//! The glyphs after the cursor, looked at once for many rules (HarfBuzz, `RuleSet`, `ChainRuleSet`, `LigatureSet`).
 
 use crate::glyph::hb_glyph_info_t;
-use crate::glyph_layout::rule::{Part, Rule};
-use crate::glyph_layout::search::Sides;
-use crate::glyph_layout::walk::{Found, Skip, Walk};
-use crate::glyph_layout::wanted::Wanted;
+use crate::glyph_layout::matcher::Matcher;
+use crate::glyph_layout::rule::{Rule, Sequence};
+use crate::glyph_layout::search::ApplyContext;
+use crate::glyph_layout::skipping_iterator::{Found, Skip, SkippingIterator};
 
-/// A glyph behind the cursor.
+/// A glyph after the cursor.
 #[derive(Clone, Copy, Debug)]
 pub(crate) struct Next {
     /// The glyph.
     pub(crate) glyph: u32,
-    /// The place behind it.
+    /// The place after it.
     pub(crate) end: usize,
 }
 
@@ -24,14 +24,14 @@ impl Next {
     }
 }
 
-/// The glyphs behind the cursor, looked at once for many rules.
+/// The glyphs after the cursor, looked at once for many rules.
 #[derive(Clone, Copy, Debug)]
 pub(crate) enum Neighbours {
     /// They were not looked at.
     Unseen,
     /// There is none.
     Absent,
-    /// The next glyph, and the one behind it, if it counts.
+    /// The next glyph, and the one after it, if it counts.
     Seen(Next, Option<Next>),
 }
 
@@ -44,8 +44,8 @@ pub(crate) struct Beyond {
 
 impl Beyond {
     /// Before the first rule. HarfBuzz has seen the next glyph by then, where the rules have no context.
-    pub(crate) fn new(ahead: &Neighbours, is_chained: bool) -> Self {
-        match *ahead {
+    pub(crate) fn new(neighbours: &Neighbours, is_chained: bool) -> Self {
+        match *neighbours {
             Neighbours::Seen(next, _) if !is_chained => Beyond { to: next.end },
             _ => Beyond { to: 0 },
         }
@@ -54,47 +54,51 @@ impl Beyond {
 
 /// Whether HarfBuzz looks at the next two glyphs before it tries the rules of a set of so many: of more
 /// than four, and of chained rules where joiners are passed over both in the input and around it.
-pub(crate) fn looks_first(count: usize, is_chained: bool, sides: &Sides) -> bool {
-    count > 4 && (!is_chained || sides.context.ignores_zwnj && sides.walk.ignores_zwj)
+pub(crate) fn looks_first(count: usize, is_chained: bool, ctx: &ApplyContext) -> bool {
+    count > 4 && (!is_chained || ctx.context.ignores_zwnj && ctx.iterator.ignores_zwj)
 }
 
-/// The glyphs behind the cursor, looked at for a set of so many rules.
+/// The glyphs after the cursor, looked at for a set of so many rules.
 ///
 /// # Requires
 ///
-/// - `0 < length sides.now.input.now`
-pub(crate) fn seen_ahead(count: usize, is_chained: bool, sides: &Sides) -> Neighbours {
-    if !looks_first(count, is_chained, sides) {
+/// - `0 < length ctx.now.input.now`
+pub(crate) fn seen_ahead(count: usize, is_chained: bool, ctx: &ApplyContext) -> Neighbours {
+    if !looks_first(count, is_chained, ctx) {
         return Neighbours::Unseen;
     }
-    let walk = sides.input_walk();
-    let Found::At(first) = walk.next(&Wanted::Any, sides.input, 0) else {
+    let iterator = ctx.input_iterator();
+    let Found::At(first) = iterator.next(&Matcher::Any, ctx.input, 0) else {
         return Neighbours::Absent;
     };
-    if walk.skip(&sides.input[first]) != Skip::No {
+    if iterator.skip(&ctx.input[first]) != Skip::No {
         return Neighbours::Unseen;
     }
     let next = Next {
-        glyph: sides.input[first].glyph_id,
+        glyph: ctx.input[first].glyph_id,
         end: first + 1,
     };
-    Neighbours::Seen(next, next_kept(&walk, sides.input, first))
+    Neighbours::Seen(next, next_kept(&iterator, ctx.input, first))
 }
 
-/// The next glyph behind a place, if it counts whatever is asked for.
+/// The next glyph after a place, if it counts whatever is asked for.
 ///
 /// # Requires
 ///
 /// - `place < length glyphs.now`
-pub(crate) fn next_kept(walk: &Walk, glyphs: &[hb_glyph_info_t], place: usize) -> Option<Next> {
+pub(crate) fn next_kept(
+    iterator: &SkippingIterator,
+    glyphs: &[hb_glyph_info_t],
+    place: usize,
+) -> Option<Next> {
     debug_assert!(place < glyphs.len());
-    if let Some(next) = next_beside(walk, glyphs, place) {
+    if let Some(next) = next_beside(iterator, glyphs, place) {
         return Some(next);
     }
-    let Found::At(next) = walk.next(&Wanted::Any, glyphs, place) else {
+    let Found::At(next) = iterator.next(&Matcher::Any, glyphs, place) else {
         return None;
     };
-    if walk.skip(&glyphs[next]) != Skip::No {
+    if iterator.skip(&glyphs[next]) != Skip::No {
         return None;
     }
     Some(Next {
@@ -103,18 +107,22 @@ pub(crate) fn next_kept(walk: &Walk, glyphs: &[hb_glyph_info_t], place: usize) -
     })
 }
 
-/// The glyph right behind a place, if it counts whatever is asked for.
+/// The glyph right after a place, if it counts whatever is asked for.
 ///
 /// # Requires
 ///
 /// - `place < length glyphs.now`
-fn next_beside(walk: &Walk, glyphs: &[hb_glyph_info_t], place: usize) -> Option<Next> {
+fn next_beside(
+    iterator: &SkippingIterator,
+    glyphs: &[hb_glyph_info_t],
+    place: usize,
+) -> Option<Next> {
     debug_assert!(place < glyphs.len());
     if place + 1 >= glyphs.len() {
         return None;
     }
     let beside = &glyphs[place + 1];
-    if walk.skip(beside) != Skip::No || !walk.is_within(beside) {
+    if iterator.skip(beside) != Skip::No || !iterator.is_within(beside) {
         return None;
     }
     Some(Next {
@@ -126,13 +134,17 @@ fn next_beside(walk: &Walk, glyphs: &[hb_glyph_info_t], place: usize) -> Option<
 /// No glyph of a font has this number.
 pub(crate) const NO_GLYPH: u32 = u32::MAX;
 
-/// The next glyph behind a place, if it counts whatever is asked for; behind the last place a glyph
-/// that nobody asks for.
+/// The next glyph after a place, if it counts whatever is asked for; after the last place a glyph that
+/// nobody asks for.
 ///
 /// # Requires
 ///
 /// - `place < length glyphs.now`
-pub(crate) fn next_seen(walk: &Walk, glyphs: &[hb_glyph_info_t], place: usize) -> Option<Next> {
+pub(crate) fn next_seen(
+    iterator: &SkippingIterator,
+    glyphs: &[hb_glyph_info_t],
+    place: usize,
+) -> Option<Next> {
     debug_assert!(place < glyphs.len());
     if place + 1 == glyphs.len() {
         return Some(Next {
@@ -140,14 +152,14 @@ pub(crate) fn next_seen(walk: &Walk, glyphs: &[hb_glyph_info_t], place: usize) -
             end: glyphs.len(),
         });
     }
-    next_kept(walk, glyphs, place)
+    next_kept(iterator, glyphs, place)
 }
 
 /// Whether a rule may fit, by the next two glyphs.
-pub(crate) fn may_fit(rule: &Rule, ahead: &Neighbours, beyond: &mut Beyond) -> bool {
-    match *ahead {
+pub(crate) fn may_fit(rule: &Rule, neighbours: &Neighbours, beyond: &mut Beyond) -> bool {
+    match *neighbours {
         Neighbours::Unseen => true,
-        Neighbours::Absent => rule.input.count == 0 && rule.ahead.count == 0,
+        Neighbours::Absent => rule.input.count == 0 && rule.lookahead.count == 0,
         Neighbours::Seen(first, second) => {
             if !fits_at(rule, 0, first.glyph) {
                 if beyond.to == 0 {
@@ -167,20 +179,20 @@ pub(crate) fn may_fit(rule: &Rule, ahead: &Neighbours, beyond: &mut Beyond) -> b
     }
 }
 
-/// Whether a glyph is what a rule asks for at this number behind the cursor, if it asks for anything
+/// Whether a glyph is what a rule asks for at this number after the cursor, if it asks for anything
 /// there.
 fn fits_at(rule: &Rule, number: u16, glyph: u32) -> bool {
     if number < rule.input.count {
         return asks_for(&rule.input, number, glyph);
     }
     let number = number - rule.input.count;
-    number >= rule.ahead.count || asks_for(&rule.ahead, number, glyph)
+    number >= rule.lookahead.count || asks_for(&rule.lookahead, number, glyph)
 }
 
 /// Whether a glyph is what a part asks for.
-fn asks_for(part: &Part, number: u16, glyph: u32) -> bool {
-    match part.wanted(number) {
-        Some(wanted) => wanted.fits(glyph),
+fn asks_for(part: &Sequence, number: u16, glyph: u32) -> bool {
+    match part.matcher(number) {
+        Some(matcher) => matcher.fits(glyph),
         None => false,
     }
 }

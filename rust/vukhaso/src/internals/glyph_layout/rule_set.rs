@@ -6,36 +6,36 @@ use crate::font_tables::bytes::{table_at_16, u16_at};
 use crate::glyph::hb_glyph_info_t;
 use crate::glyph_layout::asked::{Asked, asked_at};
 use crate::glyph_layout::context::Fit;
-use crate::glyph_layout::matching::{match_ahead, match_behind, match_input};
+use crate::glyph_layout::matching::{match_backtrack, match_input, match_lookahead};
 use crate::glyph_layout::neighbours::{Beyond, Neighbours, looks_first, may_fit, seen_ahead};
-use crate::glyph_layout::rule::{Meanings, Rule, rule_in};
-use crate::glyph_layout::search::{Search, Sides};
+use crate::glyph_layout::rule::{MatchFunctions, Rule, rule_in};
+use crate::glyph_layout::search::{ApplyContext, Search};
+use crate::glyph_layout::skipping_iterator::Skip;
 use crate::glyph_layout::told::{Beside, Told};
-use crate::glyph_layout::walk::Skip;
 
 /// The rule, if it fits at the cursor.
 ///
 /// # Requires
 ///
-/// - `0 < length sides.now.input.now`
-pub(crate) fn fit<'a>(rule: &Rule<'a>, sides: &Sides, search: &mut Search) -> Option<Fit<'a>> {
-    let end = match match_input(sides, &rule.input, search) {
+/// - `0 < length ctx.now.input.now`
+pub(crate) fn fit<'a>(rule: &Rule<'a>, ctx: &ApplyContext, search: &mut Search) -> Option<Fit<'a>> {
+    let end = match match_input(ctx, &rule.input, search) {
         Ok(end) => end,
         Err(to) => {
             if !rule.is_chained {
-                search.reach.extend(sides.out.len(), to);
+                search.reach.extend(ctx.out.len(), to);
             }
             return None;
         }
     };
-    let to = match match_ahead(sides, &rule.ahead, end, search) {
+    let to = match match_lookahead(ctx, &rule.lookahead, end, search) {
         Ok(to) => to,
         Err(to) => {
-            search.reach.extend(sides.out.len(), to);
+            search.reach.extend(ctx.out.len(), to);
             return None;
         }
     };
-    match match_behind(sides, &rule.behind, search) {
+    match match_backtrack(ctx, &rule.backtrack, search) {
         Ok(from) => Some(Fit {
             end,
             from,
@@ -57,43 +57,43 @@ pub(crate) struct RuleSet<'a> {
     /// Its table.
     pub(crate) table: &'a [u8],
     /// What the numbers of its rules mean.
-    pub(crate) meanings: Meanings<'a>,
-    /// Whether its rules have parts before and behind the input.
+    pub(crate) match_functions: MatchFunctions<'a>,
+    /// Whether its rules have parts before and after the input.
     pub(crate) is_chained: bool,
 }
 
-/// What stands behind the cursor, looked at once for all rules of a set.
+/// What stands after the cursor, looked at once for all rules of a set.
 #[derive(Clone, Copy, Debug)]
 struct Seen {
     /// The next two glyphs of the input, where HarfBuzz looks at them first.
-    ahead: Neighbours,
+    neighbours: Neighbours,
     /// These in the numbers of the rules.
     told: Option<Told>,
     /// Where they were not looked at, the next glyph of the input.
     input: Option<Beside>,
-    /// And the next glyph behind an input of a single glyph, for chained rules.
-    behind: Option<Beside>,
+    /// And the next glyph after an input of a single glyph, for chained rules.
+    lookahead: Option<Beside>,
 }
 
-/// What stands behind the cursor for the rules of a set, of which there are so many.
+/// What stands after the cursor for the rules of a set, of which there are so many.
 ///
 /// # Requires
 ///
-/// - `0 < length sides.now.input.now`
-fn seen_by(rules: &RuleSet, count: usize, sides: &Sides) -> Seen {
-    let ahead = seen_ahead(count, rules.is_chained, sides);
-    match Told::new(&ahead, &rules.meanings) {
+/// - `0 < length ctx.now.input.now`
+fn seen_by(rules: &RuleSet, count: usize, ctx: &ApplyContext) -> Seen {
+    let neighbours = seen_ahead(count, rules.is_chained, ctx);
+    match Told::new(&neighbours, &rules.match_functions) {
         Some(told) => Seen {
-            ahead,
+            neighbours,
             told: Some(told),
             input: None,
-            behind: None,
+            lookahead: None,
         },
         None => Seen {
-            ahead,
+            neighbours,
             told: None,
-            input: input_beside(rules, sides),
-            behind: ahead_beside(rules, count, sides),
+            input: input_beside(rules, ctx),
+            lookahead: lookahead_beside(rules, count, ctx),
         },
     }
 }
@@ -102,28 +102,32 @@ fn seen_by(rules: &RuleSet, count: usize, sides: &Sides) -> Seen {
 ///
 /// # Requires
 ///
-/// - `0 < length sides.now.input.now`
-fn input_beside(rules: &RuleSet, sides: &Sides) -> Option<Beside> {
-    let beside = Beside::new(&sides.input_walk(), &rules.meanings.input, sides.input)?;
+/// - `0 < length ctx.now.input.now`
+fn input_beside(rules: &RuleSet, ctx: &ApplyContext) -> Option<Beside> {
+    let beside = Beside::new(
+        &ctx.input_iterator(),
+        &rules.match_functions.input,
+        ctx.input,
+    )?;
     Some(Beside {
         end: if rules.is_chained { 0 } else { beside.end },
         ..beside
     })
 }
 
-/// The next glyph behind an input of a single glyph, for chained rules that are all tried.
+/// The next glyph after an input of a single glyph, for chained rules that are all tried.
 ///
 /// # Requires
 ///
-/// - `0 < length sides.now.input.now`
-fn ahead_beside(rules: &RuleSet, count: usize, sides: &Sides) -> Option<Beside> {
-    if !rules.is_chained || looks_first(count, true, sides) {
+/// - `0 < length ctx.now.input.now`
+fn lookahead_beside(rules: &RuleSet, count: usize, ctx: &ApplyContext) -> Option<Beside> {
+    if !rules.is_chained || looks_first(count, true, ctx) {
         return None;
     }
     Beside::new(
-        &sides.context_walk(true),
-        &rules.meanings.ahead,
-        sides.input,
+        &ctx.context_iterator(true),
+        &rules.match_functions.lookahead,
+        ctx.input,
     )
 }
 
@@ -131,47 +135,47 @@ fn ahead_beside(rules: &RuleSet, count: usize, sides: &Sides) -> Option<Beside> 
 ///
 /// # Requires
 ///
-/// - `0 < length sides.now.input.now`
+/// - `0 < length ctx.now.input.now`
 pub(crate) fn first_fit<'a>(
     rules: &RuleSet<'a>,
-    sides: &Sides,
+    ctx: &ApplyContext,
     search: &mut Search,
 ) -> Option<Fit<'a>> {
     let count = usize::from(u16_at(rules.table, 0)?);
-    let seen = seen_by(rules, count, sides);
-    let mut beyond = Beyond::new(&seen.ahead, rules.is_chained);
+    let seen = seen_by(rules, count, ctx);
+    let mut beyond = Beyond::new(&seen.neighbours, rules.is_chained);
     for index in 0..count {
         if !search.budget.pay(1) {
             return None;
         }
-        if let Some(found) = fit_at(rules, index, &seen, &mut beyond, sides, search) {
+        if let Some(found) = fit_at(rules, index, &seen, &mut beyond, ctx, search) {
             return Some(Fit {
                 beyond: beyond.to,
                 ..found
             });
         }
     }
-    search.reach.extend(sides.out.len(), beyond.to);
+    search.reach.extend(ctx.out.len(), beyond.to);
     None
 }
 
-/// The rule of this number in a set, if it fits. One that asks for other glyphs behind the cursor is
-/// not made.
+/// The rule of this number in a set, if it fits. One that asks for other glyphs after the cursor is not
+/// made.
 ///
 /// # Requires
 ///
-/// - `some: 0 < length sides.now.input.now`
+/// - `some: 0 < length ctx.now.input.now`
 /// - `few: index < 65536`
-/// - `ahead: (p : Pattern) → may_fit seen.now.ahead p ≡ (not (looks_first sides.now rules.now.is_chained (rule_count rules.now.table.now)) || fits_next sides.now p)`
-/// - `told: IfSome seen.now.told (IsTold seen.now.ahead rules.now.meanings)`
-/// - `input: IfSome seen.now.input (IsInput sides.now rules.now.meanings)`
-/// - `behind: IfSome seen.now.behind (IsBehind sides.now rules.now.meanings)`
+/// - `ahead: (p : Pattern) → may_fit seen.now.neighbours p ≡ (not (looks_first ctx.now rules.now.is_chained (rule_count rules.now.table.now)) || fits_next ctx.now p)`
+/// - `told: IfSome seen.now.told (IsTold seen.now.neighbours rules.now.match_functions)`
+/// - `input: IfSome seen.now.input (IsInput ctx.now rules.now.match_functions)`
+/// - `behind: IfSome seen.now.lookahead (IsLookahead ctx.now rules.now.match_functions)`
 fn fit_at<'a>(
     rules: &RuleSet<'a>,
     index: usize,
     seen: &Seen,
     beyond: &mut Beyond,
-    sides: &Sides,
+    ctx: &ApplyContext,
     search: &mut Search,
 ) -> Option<Fit<'a>> {
     debug_assert!(index < 65536);
@@ -181,19 +185,19 @@ fn fit_at<'a>(
     }
     if let Some(missed) = missed_by(table, rules.is_chained, seen) {
         search.budget.pay_for(missed.steps);
-        search.reach.extend(sides.out.len(), missed.end);
+        search.reach.extend(ctx.out.len(), missed.end);
         return None;
     }
-    let rule = rule_in(table, &rules.meanings, rules.is_chained)?;
-    if !may_fit(&rule, &seen.ahead, beyond) {
+    let rule = rule_in(table, &rules.match_functions, rules.is_chained)?;
+    if !may_fit(&rule, &seen.neighbours, beyond) {
         return None;
     }
-    fit(&rule, sides, search)
+    fit(&rule, ctx, search)
 }
 
-/// Whether a glyph counts for the walk over the glyphs around a match, whatever is asked for.
-pub(crate) fn counts_around(sides: &Sides, glyph: &hb_glyph_info_t) -> bool {
-    sides.context.skip(glyph) == Skip::No
+/// Whether a glyph counts for the iterator over the glyphs around a match, whatever is asked for.
+pub(crate) fn counts_around(ctx: &ApplyContext, glyph: &hb_glyph_info_t) -> bool {
+    ctx.context.skip(glyph) == Skip::No
 }
 
 /// Whether the rule in these bytes asks for other glyphs than the next two, and that is known to be
@@ -205,10 +209,10 @@ fn is_told_apart(table: &[u8], is_chained: bool, seen: &Seen, beyond: &Beyond) -
     }
 }
 
-/// What stands right behind the cursor, where the rule in these bytes asks for something else there.
+/// What stands right after the cursor, where the rule in these bytes asks for something else there.
 fn missed_by(table: &[u8], is_chained: bool, seen: &Seen) -> Option<Beside> {
     match asked_at(table, is_chained, 0)? {
         Asked::Input(asked) => seen.input?.other_than(asked),
-        Asked::Ahead(asked) => seen.behind?.other_than(asked),
+        Asked::Lookahead(asked) => seen.lookahead?.other_than(asked),
     }
 }

@@ -5,58 +5,58 @@
 use crate::arrayvec::ArrayVec;
 use crate::glyph::hb_glyph_info_t;
 use crate::glyph_layout::budget::Budget;
-use crate::glyph_layout::walk::Walk;
+use crate::glyph_layout::skipping_iterator::SkippingIterator;
 
 /// The most glyphs that a match takes (HarfBuzz, `HB_MAX_CONTEXT_LENGTH`).
 pub const MAX_CONTEXT_LENGTH: usize = 64;
 
 /// The places of the glyphs of a match, counted from the cursor: the first is 0.
-pub type Places = ArrayVec<usize, 64>;
+pub type MatchPositions = ArrayVec<usize, 64>;
 
 /// The glyphs on both sides of the cursor.
 #[derive(Clone, Copy, Debug)]
-pub struct Sides<'a> {
+pub struct ApplyContext<'a> {
     /// What stands before the cursor: what was put out, or in a pass in place the glyphs before it.
     pub out: &'a [hb_glyph_info_t],
     /// What is left, the glyph at the cursor first.
     pub input: &'a [hb_glyph_info_t],
-    /// The walk over the glyphs of a match.
-    pub walk: Walk<'a>,
-    /// The walk over the glyphs before and behind a match.
-    pub context: Walk<'a>,
+    /// The iterator over the glyphs of a match.
+    pub iterator: SkippingIterator<'a>,
+    /// The iterator over the glyphs before and after a match.
+    pub context: SkippingIterator<'a>,
     /// The syllable of which the glyphs have to be, or 0 for any.
     pub syllable: u8,
     /// Whether as many glyphs were put out as were read: then glyphs before the cursor have to be of the syllable too.
     pub is_level: bool,
 }
 
-impl<'a> Sides<'a> {
-    /// The walk over the glyphs of a match.
+impl<'a> ApplyContext<'a> {
+    /// The iterator over the glyphs of a match.
     ///
     /// # Proved
     ///
     /// ```text
-    /// ensures { result ≡ input_walk self.now }
+    /// ensures { result ≡ input_iterator self.now }
     /// ```
     #[inline]
-    pub fn input_walk(&self) -> Walk<'a> {
-        Walk {
+    pub fn input_iterator(&self) -> SkippingIterator<'a> {
+        SkippingIterator {
             syllable: self.syllable,
-            ..self.walk
+            ..self.iterator
         }
     }
 
-    /// The walk over the glyphs around a match, within the syllable or not.
+    /// The iterator over the glyphs around a match, within the syllable or not.
     ///
     /// # Proved
     ///
     /// ```text
-    /// ensures { result ≡ context_walk self.now is_within }
+    /// ensures { result ≡ context_iterator self.now is_within }
     /// ```
     #[inline]
-    pub fn context_walk(&self, is_within: bool) -> Walk<'a> {
+    pub fn context_iterator(&self, is_within: bool) -> SkippingIterator<'a> {
         let syllable = if is_within { self.syllable } else { 0 };
-        Walk {
+        SkippingIterator {
             syllable,
             ..self.context
         }
@@ -110,7 +110,7 @@ pub struct Search {
     /// How far rules that did not fit had looked.
     pub reach: Reach,
     /// The places of the glyphs of the match.
-    pub places: Places,
+    pub places: MatchPositions,
 }
 
 impl Search {
@@ -126,7 +126,7 @@ impl Search {
         Search {
             budget,
             reach: Reach::none(0),
-            places: Places::new(),
+            places: MatchPositions::new(),
         }
     }
 }

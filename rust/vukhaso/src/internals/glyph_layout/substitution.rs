@@ -5,15 +5,15 @@
 use crate::font_tables::bytes::{table_at_16, tail, u16_at};
 use crate::glyph_layout::budget::{PASSED_A_STEP, SUBTABLE_STEPS};
 use crate::glyph_layout::context::{Fit, fitting_rule};
-use crate::glyph_layout::filter::covered_index;
 use crate::glyph_layout::glyph_table::Glyphs;
 use crate::glyph_layout::lookup_list::{Lookup, LookupList};
-use crate::glyph_layout::matching::{match_ahead, match_behind, match_input};
+use crate::glyph_layout::lookup_props::covered_index;
+use crate::glyph_layout::matching::{match_backtrack, match_input, match_lookahead};
 use crate::glyph_layout::neighbours::{Next, next_seen};
-use crate::glyph_layout::rule::{Meaning, Part};
-use crate::glyph_layout::search::{Search, Sides};
+use crate::glyph_layout::rule::{MatchFunction, Sequence};
+use crate::glyph_layout::search::{ApplyContext, Search};
+use crate::glyph_layout::skipping_iterator::LookupOptions;
 use crate::glyph_layout::subtable::Subtable;
-use crate::glyph_layout::walk::LookupOptions;
 
 /// The value of a feature that stands for any of its alternates, where it is `rand` (HarfBuzz, `HB_OT_MAP_MAX_VALUE`).
 const ANY_ALTERNATE: u32 = 255;
@@ -63,14 +63,14 @@ pub struct Ligation {
 ///
 /// # Requires
 ///
-/// - `0 < length sides.now.input.now`
+/// - `0 < length ctx.now.input.now`
 ///
 /// # Proved
 ///
 /// ```text
 /// ensures spent { IsNotMore search.old.budget search.new.budget }
 /// ensures first { 0 < search.new.budget.steps
-///     → IsFirstEdit list.now.coverages.items options.now sides.now is_nested
+///     → IsFirstEdit list.now.coverages.items options.now ctx.now is_nested
 ///     (subtables_of list.now.subtables.items lookup.now) result }
 /// ```
 #[inline]
@@ -79,10 +79,10 @@ pub fn edit_at<'a>(
     lookup: &Lookup,
     options: &LookupOptions,
     is_nested: bool,
-    sides: &Sides,
+    ctx: &ApplyContext,
     search: &mut Search,
 ) -> Option<Edit<'a>> {
-    let glyph = sides.input[0].glyph_id;
+    let glyph = ctx.input[0].glyph_id;
     let subtables = list.subtables_of(lookup);
     search.budget.pay_for(subtables.len() / PASSED_A_STEP);
     for subtable in subtables {
@@ -90,7 +90,7 @@ pub fn edit_at<'a>(
             if !search.budget.pay(SUBTABLE_STEPS) {
                 return None;
             }
-            let edit = edit_of(list, subtable, options, is_nested, sides, search);
+            let edit = edit_of(list, subtable, options, is_nested, ctx, search);
             if edit.is_some() {
                 return edit;
             }
@@ -103,30 +103,30 @@ pub fn edit_at<'a>(
 ///
 /// # Requires
 ///
-/// - `some: 0 < length sides.now.input.now`
+/// - `some: 0 < length ctx.now.input.now`
 /// - `next: IsNextOf list.now.coverages.items subtable.now`
 fn edit_of<'a>(
     list: &'a LookupList<'a>,
     subtable: &Subtable<'a>,
     options: &LookupOptions,
     is_nested: bool,
-    sides: &Sides,
+    ctx: &ApplyContext,
     search: &mut Search,
 ) -> Option<Edit<'a>> {
-    let glyph = &sides.input[0];
+    let glyph = &ctx.input[0];
     let index = covered_index(&subtable.coverage, glyph.glyph_id)?;
-    match subtable.kind {
+    match subtable.lookup_type {
         1 => Some(Edit::Replace(single(subtable, glyph.glyph_id, index)?)),
         2 => Some(multiple(subtable.table, index)),
         3 => alternate(subtable.table, index, glyph.mask, options),
-        4 => ligature_by(subtable, index, sides, search),
+        4 => ligature_by(subtable, index, ctx, search),
         5 => Some(Edit::Apply(fitting_rule(
-            list, subtable, index, false, sides, search,
+            list, subtable, index, false, ctx, search,
         )?)),
         6 => Some(Edit::Apply(fitting_rule(
-            list, subtable, index, true, sides, search,
+            list, subtable, index, true, ctx, search,
         )?)),
-        8 if !is_nested => reverse(list, subtable, index, sides, search),
+        8 if !is_nested => reverse(list, subtable, index, ctx, search),
         _ => None,
     }
 }
@@ -203,30 +203,30 @@ fn feature_value(feature: u32, mask: u32) -> u32 {
 ///
 /// # Requires
 ///
-/// - `0 < length sides.now.input.now`
+/// - `0 < length ctx.now.input.now`
 fn ligature_by<'a>(
     subtable: &Subtable<'a>,
     index: u32,
-    sides: &Sides,
+    ctx: &ApplyContext,
     search: &mut Search,
 ) -> Option<Edit<'a>> {
     let set = set_at(subtable.table, index);
-    let next = next_seen(&sides.input_walk(), sides.input, 0);
-    if let Some(end) = missed_second(subtable, &next, sides) {
+    let next = next_seen(&ctx.input_iterator(), ctx.input, 0);
+    if let Some(end) = missed_second(subtable, &next, ctx) {
         if u16_at(set, 0).unwrap_or(0) > 0 {
-            search.reach.extend(sides.out.len(), end);
+            search.reach.extend(ctx.out.len(), end);
         }
         return None;
     }
-    ligature_in(set, &next, sides, search)
+    ligature_in(set, &next, ctx, search)
 }
 
 /// How far glyphs were looked at, where the next glyph is the second one of no ligature of a subtable.
 ///
 /// # Requires
 ///
-/// - `next: IfSome next.now (IsNext (input_walk _sides.now) _sides.now.input.now 0)`
-fn missed_second(subtable: &Subtable, next: &Option<Next>, _sides: &Sides) -> Option<usize> {
+/// - `next: IfSome next.now (IsNext (input_iterator _sides.now) _sides.now.input.now 0)`
+fn missed_second(subtable: &Subtable, next: &Option<Next>, _sides: &ApplyContext) -> Option<usize> {
     let Some(next) = *next else {
         return None;
     };
@@ -240,12 +240,12 @@ fn missed_second(subtable: &Subtable, next: &Option<Next>, _sides: &Sides) -> Op
 ///
 /// # Requires
 ///
-/// - `some: 0 < length sides.now.input.now`
-/// - `next: IfSome next.now (IsNext (input_walk sides.now) sides.now.input.now 0)`
+/// - `some: 0 < length ctx.now.input.now`
+/// - `next: IfSome next.now (IsNext (input_iterator ctx.now) ctx.now.input.now 0)`
 fn ligature_in<'a>(
     set: &'a [u8],
     next: &Option<Next>,
-    sides: &Sides,
+    ctx: &ApplyContext,
     search: &mut Search,
 ) -> Option<Edit<'a>> {
     let count = usize::from(u16_at(set, 0)?);
@@ -255,15 +255,15 @@ fn ligature_in<'a>(
         if !search.budget.pay(1) {
             return None;
         }
-        if let Some(edit) = ligature_at(set, index, next, &mut beyond, sides, search) {
+        if let Some(edit) = ligature_at(set, index, next, &mut beyond, ctx, search) {
             return Some(edit);
         }
         if !is_told_at_end {
-            search.reach.extend(sides.out.len(), beyond);
+            search.reach.extend(ctx.out.len(), beyond);
             beyond = 0;
         }
     }
-    search.reach.extend(sides.out.len(), beyond);
+    search.reach.extend(ctx.out.len(), beyond);
     None
 }
 
@@ -272,15 +272,15 @@ fn ligature_in<'a>(
 ///
 /// # Requires
 ///
-/// - `some: 0 < length sides.now.input.now`
+/// - `some: 0 < length ctx.now.input.now`
 /// - `few: index < 65536`
-/// - `next: IfSome next.now (IsNext (input_walk sides.now) sides.now.input.now 0)`
+/// - `next: IfSome next.now (IsNext (input_iterator ctx.now) ctx.now.input.now 0)`
 fn ligature_at<'a>(
     set: &'a [u8],
     index: usize,
     next: &Option<Next>,
     beyond: &mut usize,
-    sides: &Sides,
+    ctx: &ApplyContext,
     search: &mut Search,
 ) -> Option<Edit<'a>> {
     debug_assert!(index < 65536);
@@ -290,7 +290,7 @@ fn ligature_at<'a>(
             *beyond = next.end;
             None
         }
-        _ => ligature(table, *beyond, sides, search),
+        _ => ligature(table, *beyond, ctx, search),
     }
 }
 
@@ -307,11 +307,11 @@ fn is_other(table: &[u8], glyph: u32) -> bool {
 ///
 /// # Requires
 ///
-/// - `0 < length sides.now.input.now`
+/// - `0 < length ctx.now.input.now`
 fn ligature<'a>(
     table: &'a [u8],
     beyond: usize,
-    sides: &Sides,
+    ctx: &ApplyContext,
     search: &mut Search,
 ) -> Option<Edit<'a>> {
     let glyph = u16_at(table, 0)?;
@@ -323,52 +323,52 @@ fn ligature<'a>(
             None
         };
     }
-    let components = Part {
-        meaning: Meaning::Glyphs,
+    let components = Sequence {
+        match_function: MatchFunction::Glyphs,
         numbers: tail(table, 4),
         count: count - 1,
     };
-    match match_input(sides, &components, search) {
+    match match_input(ctx, &components, search) {
         Ok(end) => Some(Edit::Ligate(Ligation {
             ligature: glyph,
             end,
             beyond,
         })),
         Err(to) => {
-            search.reach.extend(sides.out.len(), to);
+            search.reach.extend(ctx.out.len(), to);
             None
         }
     }
 }
 
-/// The reverse substitution of a glyph with this coverage index, if the glyphs before it and behind it
+/// The reverse substitution of a glyph with this coverage index, if the glyphs before it and after it
 /// are covered.
 ///
 /// # Requires
 ///
-/// - `0 < length sides.now.input.now`
+/// - `0 < length ctx.now.input.now`
 fn reverse<'a>(
     list: &'a LookupList<'a>,
     subtable: &Subtable<'a>,
     index: u32,
-    sides: &Sides,
+    ctx: &ApplyContext,
     search: &mut Search,
 ) -> Option<Edit<'a>> {
     let table = subtable.table;
-    let behind = u16_at(table, 4)?;
-    let ahead_at = 6 + 2 * usize::from(behind);
-    let ahead = u16_at(table, ahead_at)?;
-    let substitutes_at = ahead_at + 2 + 2 * usize::from(ahead);
+    let backtrack = u16_at(table, 4)?;
+    let lookahead_at = 6 + 2 * usize::from(backtrack);
+    let lookahead = u16_at(table, lookahead_at)?;
+    let substitutes_at = lookahead_at + 2 + 2 * usize::from(lookahead);
     if index >= u32::from(u16_at(table, substitutes_at)?) {
         return None;
     }
     let glyph = u16_at(table, substitutes_at + 2 + 2 * index as usize)?;
-    let parts = covered_part(list, subtable, 0, behind);
-    let Ok(from) = match_behind(sides, &parts, search) else {
+    let parts = covered_sequence(list, subtable, 0, backtrack);
+    let Ok(from) = match_backtrack(ctx, &parts, search) else {
         return None;
     };
-    let parts = covered_part(list, subtable, usize::from(behind), ahead);
-    match match_ahead(sides, &parts, 1, search) {
+    let parts = covered_sequence(list, subtable, usize::from(backtrack), lookahead);
+    match match_lookahead(ctx, &parts, 1, search) {
         Ok(to) => Some(Edit::ReplaceInPlace(InPlace { glyph, from, to })),
         Err(to) => {
             search.reach.extend(from, to);
@@ -378,14 +378,14 @@ fn reverse<'a>(
 }
 
 /// So many of the coverages of a subtable, from the one of this number on.
-fn covered_part<'a>(
+fn covered_sequence<'a>(
     list: &'a LookupList<'a>,
     subtable: &Subtable<'a>,
     first: usize,
     count: u16,
-) -> Part<'a> {
-    Part {
-        meaning: Meaning::Coverages(list.coverages_from(subtable, first)),
+) -> Sequence<'a> {
+    Sequence {
+        match_function: MatchFunction::Coverages(list.coverages_from(subtable, first)),
         numbers: &[],
         count,
     }

@@ -23,11 +23,11 @@ const FEW_ROWS: usize = 64;
 /// ```
 #[derive(Clone, Copy, Debug)]
 pub struct Subtable<'a> {
-    /// Its kind, that of an extension being the one behind it.
-    pub kind: u16,
+    /// Its kind, that of an extension being the one after it.
+    pub lookup_type: u16,
     /// Its format.
     pub format: u16,
-    /// The bytes of the subtable, and what stands behind it.
+    /// The bytes of the subtable, and what stands after it.
     pub table: &'a [u8],
     /// The glyphs that it is for: those at the cursor.
     pub coverage: Coverage<'a>,
@@ -40,10 +40,10 @@ pub struct Subtable<'a> {
     /// The classes of glyphs, those of the input in a chained context, and of the first glyph in a pair.
     pub classes: ClassDefinition<'a>,
     /// The classes of the glyphs before the input in a chained context.
-    pub classes_behind: ClassDefinition<'a>,
-    /// The classes of the glyphs behind the input in a chained context, and of the second glyph in a pair.
-    pub classes_ahead: ClassDefinition<'a>,
-    /// What a context by coverages asks of the glyph behind the one at the cursor, if it asks for anything there.
+    pub backtrack_classes: ClassDefinition<'a>,
+    /// The classes of the glyphs after the input in a chained context, and of the second glyph in a pair.
+    pub lookahead_classes: ClassDefinition<'a>,
+    /// What a context by coverages asks of the glyph after the one at the cursor, if it asks for anything there.
     pub next: Option<NextAsked<'a>>,
     /// Where the coverages of a context of format 3 begin, or those around a reverse substitution, in
     /// `LookupList::coverages`.
@@ -66,7 +66,7 @@ impl Subtable<'_> {
     }
 }
 
-/// What a context by coverages asks of the glyph behind the one at the cursor.
+/// What a context by coverages asks of the glyph after the one at the cursor.
 ///
 /// # Proved
 ///
@@ -79,7 +79,7 @@ pub struct NextAsked<'a> {
     pub coverage: Coverage<'a>,
     /// The digest of these glyphs.
     pub digest: Digest,
-    /// Whether the glyph is one of the input, and not one behind it.
+    /// Whether the glyph is one of the input, and not one after it.
     pub is_input: bool,
 }
 
@@ -109,15 +109,15 @@ pub enum Form {
     Plain,
     /// A context by glyphs: a coverage at the byte 2.
     Glyphs,
-    /// A context by classes: a coverage at the byte 2, and classes behind it.
+    /// A context by classes: a coverage at the byte 2, and classes after it.
     Classes,
-    /// A chained context by classes: a coverage at the byte 2, and three tables of classes behind it.
+    /// A chained context by classes: a coverage at the byte 2, and three tables of classes after it.
     ChainedClasses,
     /// A context by coverages.
     Coverages,
     /// A chained context by coverages.
     ChainedCoverages,
-    /// A reverse substitution: a coverage at the byte 2, and then coverages before and behind the glyph.
+    /// A reverse substitution: a coverage at the byte 2, and then coverages before and after the glyph.
     Reverse,
     /// Pairs by classes: a coverage at the byte 2, and two tables of classes from the byte 8 on.
     PairClasses,
@@ -130,12 +130,12 @@ pub enum Form {
 /// # Proved
 ///
 /// ```text
-/// ensures is { result ≡ substitution_form kind format }
-/// ensures chained { is_covered_form result ≡ true → is_chained_kind kind ≡ is_chained_form result }
+/// ensures is { result ≡ substitution_form lookup_type format }
+/// ensures chained { is_covered_form result ≡ true → is_chained_type lookup_type ≡ is_chained_form result }
 /// ```
 #[inline]
-pub fn substitution_form(kind: u16, format: u16) -> Form {
-    match kind {
+pub fn substitution_form(lookup_type: u16, format: u16) -> Form {
+    match lookup_type {
         5 => context_form(format, false),
         6 => context_form(format, true),
         8 => Form::Reverse,
@@ -148,12 +148,12 @@ pub fn substitution_form(kind: u16, format: u16) -> Form {
 /// # Proved
 ///
 /// ```text
-/// ensures is { result ≡ positioning_form kind format }
-/// ensures chained { is_covered_form result ≡ true → is_chained_kind kind ≡ is_chained_form result }
+/// ensures is { result ≡ positioning_form lookup_type format }
+/// ensures chained { is_covered_form result ≡ true → is_chained_type lookup_type ≡ is_chained_form result }
 /// ```
 #[inline]
-pub fn positioning_form(kind: u16, format: u16) -> Form {
-    match kind {
+pub fn positioning_form(lookup_type: u16, format: u16) -> Form {
+    match lookup_type {
         2 if format == 2 => Form::PairClasses,
         4 | 5 | 6 => Form::Marks,
         7 => context_form(format, false),
@@ -211,7 +211,7 @@ pub(crate) fn is_quick(table: &[u8], lists_glyphs: bool) -> bool {
     count <= FEW_ROWS || rises(&Keys16 { table, start, size }, count)
 }
 
-/// The kind and the subtable behind an extension.
+/// The kind and the subtable after an extension.
 pub(crate) fn behind_extension(table: &[u8]) -> (u16, &[u8]) {
     match u16_at(table, 0) {
         Some(1) => (

@@ -4,17 +4,17 @@
 
 use crate::glyph::hb_glyph_info_t;
 use crate::glyph_layout::asked::{Asked, asked_at};
+use crate::glyph_layout::matcher::{Matcher, class_of};
 use crate::glyph_layout::neighbours::{Beyond, NO_GLYPH, Neighbours, Next};
-use crate::glyph_layout::rule::{Meaning, Meanings};
-use crate::glyph_layout::walk::{Found, Skip, Walk};
-use crate::glyph_layout::wanted::{Wanted, class_of};
+use crate::glyph_layout::rule::{MatchFunction, MatchFunctions};
+use crate::glyph_layout::skipping_iterator::{Found, Skip, SkippingIterator};
 
 /// The number by which rules ask for a glyph; `None` where they ask by coverages.
-fn number_of(meaning: &Meaning, glyph: u32) -> Option<u32> {
-    match *meaning {
-        Meaning::Glyphs => Some(glyph),
-        Meaning::Classes(classes) => Some(u32::from(class_of(&classes, glyph))),
-        Meaning::Coverages(_) => None,
+fn number_of(match_function: &MatchFunction, glyph: u32) -> Option<u32> {
+    match *match_function {
+        MatchFunction::Glyphs => Some(glyph),
+        MatchFunction::Classes(classes) => Some(u32::from(class_of(&classes, glyph))),
+        MatchFunction::Coverages(_) => None,
     }
 }
 
@@ -23,18 +23,18 @@ fn number_of(meaning: &Meaning, glyph: u32) -> Option<u32> {
 pub(crate) struct Numbers {
     /// As one of their input.
     input: u32,
-    /// As one behind it.
-    ahead: u32,
-    /// The place behind the glyph; 0 where there is none.
+    /// As one after it.
+    lookahead: u32,
+    /// The place after the glyph; 0 where there is none.
     end: usize,
 }
 
 impl Numbers {
     /// The numbers of a glyph; `None` where rules ask by coverages.
-    fn of(meanings: &Meanings, glyph: u32, end: usize) -> Option<Self> {
+    fn of(match_functions: &MatchFunctions, glyph: u32, end: usize) -> Option<Self> {
         Some(Numbers {
-            input: number_of(&meanings.input, glyph)?,
-            ahead: number_of(&meanings.ahead, glyph)?,
+            input: number_of(&match_functions.input, glyph)?,
+            lookahead: number_of(&match_functions.lookahead, glyph)?,
             end,
         })
     }
@@ -43,12 +43,12 @@ impl Numbers {
     fn none() -> Self {
         Numbers {
             input: NO_GLYPH,
-            ahead: NO_GLYPH,
+            lookahead: NO_GLYPH,
             end: 0,
         }
     }
 
-    /// Whether the rule in these bytes asks for something else at this number behind the cursor.
+    /// Whether the rule in these bytes asks for something else at this number after the cursor.
     ///
     /// # Requires
     ///
@@ -66,7 +66,7 @@ impl Numbers {
     fn is_other(&self, asked: &Asked) -> bool {
         match *asked {
             Asked::Input(number) => u32::from(number) != self.input,
-            Asked::Ahead(number) => u32::from(number) != self.ahead,
+            Asked::Lookahead(number) => u32::from(number) != self.lookahead,
         }
     }
 }
@@ -80,23 +80,23 @@ pub(crate) struct Told {
 
 impl Told {
     /// The next two glyphs, if they were looked at.
-    pub(crate) fn new(ahead: &Neighbours, meanings: &Meanings) -> Option<Self> {
-        match *ahead {
+    pub(crate) fn new(neighbours: &Neighbours, match_functions: &MatchFunctions) -> Option<Self> {
+        match *neighbours {
             Neighbours::Unseen => None,
             Neighbours::Absent => Some(Told {
                 first: Numbers::none(),
                 second: None,
             }),
-            Neighbours::Seen(first, second) => Told::seen(meanings, first, second),
+            Neighbours::Seen(first, second) => Told::seen(match_functions, first, second),
         }
     }
 
-    /// A glyph, and the one behind it, if it counts.
-    fn seen(meanings: &Meanings, first: Next, second: Option<Next>) -> Option<Self> {
-        let first = Numbers::of(meanings, first.glyph, first.end)?;
+    /// A glyph, and the one after it, if it counts.
+    fn seen(match_functions: &MatchFunctions, first: Next, second: Option<Next>) -> Option<Self> {
+        let first = Numbers::of(match_functions, first.glyph, first.end)?;
         match second {
             Some(second) => {
-                let second = Numbers::of(meanings, second.glyph, second.end)?;
+                let second = Numbers::of(match_functions, second.glyph, second.end)?;
                 Some(Told {
                     first,
                     second: Some(second),
@@ -128,7 +128,7 @@ pub(crate) struct Beside {
     pub(crate) number: u32,
     /// How far glyphs were looked at.
     pub(crate) end: usize,
-    /// How many glyphs behind the cursor these were.
+    /// How many glyphs after the cursor these were.
     pub(crate) steps: usize,
 }
 
@@ -138,18 +138,22 @@ impl Beside {
     /// # Requires
     ///
     /// - `0 < length glyphs.now`
-    pub(crate) fn new(walk: &Walk, meaning: &Meaning, glyphs: &[hb_glyph_info_t]) -> Option<Self> {
+    pub(crate) fn new(
+        iterator: &SkippingIterator,
+        match_function: &MatchFunction,
+        glyphs: &[hb_glyph_info_t],
+    ) -> Option<Self> {
         debug_assert!(!glyphs.is_empty());
-        let place = match walk.next(&Wanted::Any, glyphs, 0) {
+        let place = match iterator.next(&Matcher::Any, glyphs, 0) {
             Found::At(place) => place,
             Found::Other(place) => return Some(Beside::none(place + 1, place)),
             Found::End => return Some(Beside::none(glyphs.len(), glyphs.len())),
         };
-        if walk.skip(&glyphs[place]) != Skip::No {
+        if iterator.skip(&glyphs[place]) != Skip::No {
             return None;
         }
         Some(Beside {
-            number: number_of(meaning, glyphs[place].glyph_id)?,
+            number: number_of(match_function, glyphs[place].glyph_id)?,
             end: place + 1,
             steps: place,
         })

@@ -4,17 +4,17 @@
 
 use crate::font_tables::bytes::{table_at_16, tail, u16_at};
 use crate::glyph_layout::budget::Budget;
-use crate::glyph_layout::context::{class_meanings, same_meaning, set_at};
-use crate::glyph_layout::filter::covered_index;
+use crate::glyph_layout::context::{class_meanings, same_match_function, set_at};
 use crate::glyph_layout::lookup_list::{Lookup, LookupList};
-use crate::glyph_layout::rule::{Meaning, Meanings, Rule, coverage_rule, rule_in};
+use crate::glyph_layout::lookup_props::covered_index;
+use crate::glyph_layout::matcher::class_of;
+use crate::glyph_layout::rule::{MatchFunction, MatchFunctions, Rule, coverage_rule, rule_in};
 use crate::glyph_layout::substitution;
 use crate::glyph_layout::subtable::Subtable;
-use crate::glyph_layout::wanted::class_of;
 
 /// Whether a lookup has a rule for just these glyphs, one after the other (HarfBuzz,
 /// `hb_ot_layout_lookup_would_substitute`). Where `wants_no_context` holds, a rule that asks for glyphs
-/// before them or behind them is none. Where the budget is spent there is no rule, and none for no
+/// before them or after them is none. Where the budget is spent there is no rule, and none for no
 /// glyphs.
 ///
 /// # Proved
@@ -68,7 +68,7 @@ fn subtable_would<'a>(
     budget: &mut Budget,
 ) -> bool {
     debug_assert!(!glyphs.is_empty());
-    match subtable.kind {
+    match subtable.lookup_type {
         1 | 2 | 3 | 8 => {
             glyphs.len() == 1 && covered_index(&subtable.coverage, glyphs[0]).is_some()
         }
@@ -130,17 +130,31 @@ fn context_would<'a>(
     let table = subtable.table;
     match subtable.format {
         1 => {
-            let meanings = same_meaning(Meaning::Glyphs);
+            let match_functions = same_match_function(MatchFunction::Glyphs);
             let set = covered_index(&subtable.coverage, glyphs[0])
                 .and_then(|index| set_at(table, 4, index));
-            set_would(set, &meanings, is_chained, glyphs, wants_no_context, budget)
+            set_would(
+                set,
+                &match_functions,
+                is_chained,
+                glyphs,
+                wants_no_context,
+                budget,
+            )
         }
         2 => {
             let class = class_of(&subtable.classes, glyphs[0]);
             let at = if is_chained { 10 } else { 6 };
             let set = set_at(table, at, u32::from(class));
-            let meanings = class_meanings(subtable);
-            set_would(set, &meanings, is_chained, glyphs, wants_no_context, budget)
+            let match_functions = class_meanings(subtable);
+            set_would(
+                set,
+                &match_functions,
+                is_chained,
+                glyphs,
+                wants_no_context,
+                budget,
+            )
         }
         3 => {
             let coverages = list.coverages_from(subtable, 0);
@@ -154,7 +168,7 @@ fn context_would<'a>(
 /// Whether a set has a rule for these glyphs.
 fn set_would<'a>(
     set: Option<&'a [u8]>,
-    meanings: &Meanings<'a>,
+    match_functions: &MatchFunctions<'a>,
     is_chained: bool,
     glyphs: &[u32],
     wants_no_context: bool,
@@ -168,7 +182,7 @@ fn set_would<'a>(
             return false;
         }
         if let Some(table) = table_at_16(set, 2 + 2 * number) {
-            if let Some(rule) = rule_in(table, meanings, is_chained) {
+            if let Some(rule) = rule_in(table, match_functions, is_chained) {
                 if is_for(&rule, glyphs, wants_no_context) {
                     return true;
                 }
@@ -180,7 +194,7 @@ fn set_would<'a>(
 
 /// Whether the input of a rule is these glyphs.
 fn is_for(rule: &Rule, glyphs: &[u32], wants_no_context: bool) -> bool {
-    if wants_no_context && (rule.behind.count != 0 || rule.ahead.count != 0) {
+    if wants_no_context && (rule.backtrack.count != 0 || rule.lookahead.count != 0) {
         return false;
     }
     if usize::from(rule.input.count) + 1 != glyphs.len() {
@@ -188,10 +202,10 @@ fn is_for(rule: &Rule, glyphs: &[u32], wants_no_context: bool) -> bool {
     }
     for number in 0..rule.input.count {
         let fits = match (
-            rule.input.wanted(number),
+            rule.input.matcher(number),
             glyphs.get(usize::from(number) + 1),
         ) {
-            (Some(wanted), Some(glyph)) => wanted.fits(*glyph),
+            (Some(matcher), Some(glyph)) => matcher.fits(*glyph),
             _ => false,
         };
         if !fits {

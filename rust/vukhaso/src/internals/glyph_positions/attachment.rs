@@ -60,7 +60,8 @@ fn offsets_of(turn: &Turn, matrix: &[u8], row: u32) -> Option<(i32, i32)> {
     }
 }
 
-/// Attaches the mark, and says where the walk goes on; `None` where the subtable does not attach it.
+/// Attaches the mark, and says where the iterator goes on; `None` where the subtable does not attach
+/// it.
 ///
 /// # Requires
 ///

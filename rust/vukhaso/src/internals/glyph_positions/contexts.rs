@@ -4,8 +4,8 @@
 
 use crate::glyph::hb_glyph_info_t;
 use crate::glyph_layout::context::{Fit, fitting_rule};
-use crate::glyph_layout::search::{Reach, Search, Sides};
-use crate::glyph_layout::walk::Walk;
+use crate::glyph_layout::search::{ApplyContext, Reach, Search};
+use crate::glyph_layout::skipping_iterator::SkippingIterator;
 use crate::glyph_positions::turn::{Setting, Turn};
 
 /// The kind of chained contexts.
@@ -17,28 +17,28 @@ pub(crate) fn fit_at<'a>(
     glyphs: &[hb_glyph_info_t],
     setting: &Setting<'a>,
     turn: &Turn<'a>,
-    context: &Walk<'a>,
+    context: &SkippingIterator<'a>,
     search: &mut Search,
 ) -> Option<Fit<'a>> {
     search.reach = Reach::none(turn.place);
     if turn.place >= glyphs.len() {
         return None;
     }
-    let sides = Sides {
+    let ctx = ApplyContext {
         out: &glyphs[..turn.place],
         input: &glyphs[turn.place..],
-        walk: turn.walk,
+        iterator: turn.iterator,
         context: *context,
         syllable: 0,
         is_level: true,
     };
-    let is_chained = turn.subtable.kind == CHAINED_CONTEXT;
+    let is_chained = turn.subtable.lookup_type == CHAINED_CONTEXT;
     fitting_rule(
         setting.list,
         turn.subtable,
         turn.index,
         is_chained,
-        &sides,
+        &ctx,
         search,
     )
 }

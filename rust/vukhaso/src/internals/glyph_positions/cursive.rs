@@ -7,9 +7,9 @@ use crate::common::Direction;
 use crate::font_tables::bytes::{table_at_16, u16_at};
 use crate::font_tables::scale::Scale;
 use crate::glyph::{GlyphPosition, hb_glyph_info_t};
-use crate::glyph_layout::filter::covered_index;
-use crate::glyph_layout::walk::Found;
-use crate::glyph_layout::wanted::Wanted;
+use crate::glyph_layout::lookup_props::covered_index;
+use crate::glyph_layout::matcher::Matcher;
+use crate::glyph_layout::skipping_iterator::Found;
 use crate::glyph_positions::chains::{ATTACH_TYPE_CURSIVE, attach, reverse_chain};
 use crate::glyph_positions::flags::{mark_attached, mark_break, mark_concat};
 use crate::glyph_positions::turn::Turn;
@@ -44,7 +44,7 @@ struct Join {
     is_right_to_left: bool,
 }
 
-/// Joins the glyph to the one before it, and says where the walk goes on; `None` where the subtable
+/// Joins the glyph to the one before it, and says where the iterator goes on; `None` where the subtable
 /// does not join them.
 ///
 /// # Requires
@@ -79,14 +79,14 @@ fn join_of(glyphs: &[hb_glyph_info_t], turn: &Turn) -> JoinFound {
     if turn.place > glyphs.len() {
         return JoinFound::Nothing;
     }
-    match turn.walk.previous(&Wanted::Shown, glyphs, turn.place) {
+    match turn.iterator.previous(&Matcher::Shown, glyphs, turn.place) {
         Found::At(before) => match exit_of(glyphs, turn, before) {
             Some(exit) => JoinFound::Joined(Join {
                 before,
                 place: turn.place,
                 exit,
                 entry,
-                is_right_to_left: turn.walk.filter.flags & RIGHT_TO_LEFT != 0,
+                is_right_to_left: turn.iterator.lookup_props.flags & RIGHT_TO_LEFT != 0,
             }),
             None => JoinFound::NoExit(before),
         },

@@ -1,6 +1,6 @@
 // Written by tools/plain_rust from crates/glyph_positions. Do not edit.
 
-//! What stands before the lookups of `GPOS`, and behind them (HarfBuzz, `GPOS::position_start`, `GPOS::position_finish_offsets`).
+//! What stands before the lookups of `GPOS`, and after them (HarfBuzz, `GPOS::position_start`, `GPOS::position_finish_offsets`).
 
 use crate::buffer::{HB_BUFFER_SCRATCH_FLAG_HAS_GPOS_ATTACHMENT, hb_buffer_t};
 use crate::common::Direction;
@@ -190,7 +190,7 @@ fn move_across(position: &mut GlyphPosition, x: i32, y: i32, direction: Directio
 
 /// How far a mark goes back to the glyph before it that it is attached to. In lines that run forward
 /// these are the advances from that glyph up to the mark; else the mark goes forward over the advances
-/// behind that glyph, its own among them.
+/// after that glyph, its own among them.
 fn advances_between(
     positions: &[GlyphPosition],
     link: &Link,

@@ -7,9 +7,9 @@ use crate::common::Direction;
 use crate::font_tables::coverage::Coverage;
 use crate::font_tables::scale::Scale;
 use crate::glyph::{GlyphPosition, hb_glyph_info_t};
-use crate::glyph_layout::filter::Filter;
-use crate::glyph_layout::walk::{Found, LookupOptions, Walk};
-use crate::glyph_layout::wanted::Wanted;
+use crate::glyph_layout::lookup_props::LookupProps;
+use crate::glyph_layout::matcher::Matcher;
+use crate::glyph_layout::skipping_iterator::{Found, LookupOptions, SkippingIterator};
 use crate::glyph_positions::chains::ATTACH_TYPE_CURSIVE;
 use crate::glyph_positions::flags::{mark_attached, mark_break, mark_concat};
 use crate::position_tables::kern_table::{KernSubtable, KernTable};
@@ -71,11 +71,11 @@ fn kern_by_all(
     debug_assert!(!buffer.have_output());
     debug_assert!(buffer.have_positions());
     mark_concat(buffer, 0, usize::MAX);
-    let filter = Filter {
+    let lookup_props = LookupProps {
         flags: IGNORE_MARKS,
         marks: Coverage::new(&[]),
     };
-    let walk = Walk::over_input(filter, options, true);
+    let iterator = SkippingIterator::over_input(lookup_props, options, true);
     let mut is_chained = false;
     let mut at = table.start();
     for number in 0..table.count {
@@ -89,7 +89,7 @@ fn kern_by_all(
                 let direction = buffer.direction;
                 chain_all(buffer.pos_mut(), direction);
             }
-            kern_by(buffer, &subtable, &walk, scale);
+            kern_by(buffer, &subtable, &iterator, scale);
         }
     }
 }
@@ -109,14 +109,19 @@ fn chain_all(positions: &mut [GlyphPosition], direction: Direction) {
     }
 }
 
-/// Moves pairs of glyphs by a subtable. In lines that run backward the walk begins at the end, as the
-/// left glyph of a pair stands there.
+/// Moves pairs of glyphs by a subtable. In lines that run backward the iterator begins at the end, as
+/// the left glyph of a pair stands there.
 ///
 /// # Requires
 ///
 /// - `closed: buffer.old.have_output ≡ false`
 /// - `placed: IsSome buffer.old.positions`
-fn kern_by(buffer: &mut hb_buffer_t, subtable: &KernSubtable, walk: &Walk, scale: &Scale) {
+fn kern_by(
+    buffer: &mut hb_buffer_t,
+    subtable: &KernSubtable,
+    iterator: &SkippingIterator,
+    scale: &Scale,
+) {
     debug_assert!(!buffer.have_output());
     debug_assert!(buffer.have_positions());
     let len = buffer.len();
@@ -126,7 +131,7 @@ fn kern_by(buffer: &mut hb_buffer_t, subtable: &KernSubtable, walk: &Walk, scale
     for turn in 0..len {
         let left = if is_backward { len - 1 - turn } else { turn };
         if next <= turn {
-            if let Some(pair) = pair_of(buffer.info(), subtable, walk, left, is_backward) {
+            if let Some(pair) = pair_of(buffer.info(), subtable, iterator, left, is_backward) {
                 next = if is_backward {
                     len.saturating_sub(1).saturating_sub(pair.right)
                 } else {
@@ -170,15 +175,15 @@ fn mark_rest(buffer: &mut hb_buffer_t, left: usize, is_backward: bool) {
 fn pair_of(
     glyphs: &[hb_glyph_info_t],
     subtable: &KernSubtable,
-    walk: &Walk,
+    iterator: &SkippingIterator,
     left: usize,
     is_backward: bool,
 ) -> Option<KernPair> {
     let glyph = glyphs.get(left)?;
-    if glyph.mask & walk.mask == 0 {
+    if glyph.mask & iterator.mask == 0 {
         return None;
     }
-    let Found::At(right) = neighbour(glyphs, walk, left, is_backward) else {
+    let Found::At(right) = neighbour(glyphs, iterator, left, is_backward) else {
         return None;
     };
     Some(KernPair {
@@ -190,13 +195,18 @@ fn pair_of(
 }
 
 /// The next glyph in the line.
-fn neighbour(glyphs: &[hb_glyph_info_t], walk: &Walk, left: usize, is_backward: bool) -> Found {
+fn neighbour(
+    glyphs: &[hb_glyph_info_t],
+    iterator: &SkippingIterator,
+    left: usize,
+    is_backward: bool,
+) -> Found {
     if left >= glyphs.len() {
         Found::End
     } else if is_backward {
-        walk.previous(&Wanted::Shown, glyphs, left)
+        iterator.previous(&Matcher::Shown, glyphs, left)
     } else {
-        walk.next(&Wanted::Shown, glyphs, left)
+        iterator.next(&Matcher::Shown, glyphs, left)
     }
 }
 

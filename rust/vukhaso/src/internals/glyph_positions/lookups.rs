@@ -7,11 +7,11 @@ use crate::buffer::hb_buffer_t;
 use crate::glyph::hb_glyph_info_t;
 use crate::glyph_layout::budget::{PASSED_A_STEP, SUBTABLE_STEPS};
 use crate::glyph_layout::context::Fit;
-use crate::glyph_layout::filter::covered_index;
 use crate::glyph_layout::lookup_list::Lookup;
-use crate::glyph_layout::search::{Places, Search};
+use crate::glyph_layout::lookup_props::covered_index;
+use crate::glyph_layout::search::{MatchPositions, Search};
+use crate::glyph_layout::skipping_iterator::{LookupOptions, SkippingIterator};
 use crate::glyph_layout::subtable::Subtable;
-use crate::glyph_layout::walk::{LookupOptions, Walk};
 use crate::glyph_positions::contexts::fit_at;
 use crate::glyph_positions::cursive::place_cursive;
 use crate::glyph_positions::flags::{mark_break, mark_concat};
@@ -39,7 +39,7 @@ struct Task<'a> {
 }
 
 /// Positions the glyphs by the lookup of this index, where the buffer's glyphs have one of the options'
-/// bits. A budget that is spent ends the walk, and `buffer.shaping_failed` says so.
+/// bits. A budget that is spent ends the iterator, and `buffer.shaping_failed` says so.
 ///
 /// # Requires
 ///
@@ -118,7 +118,7 @@ fn next_place(glyphs: &[hb_glyph_info_t], lookup: &Lookup, mask: u32, from: usiz
     lookup.first_place(mask, glyphs, from.min(glyphs.len()))
 }
 
-/// Positions the glyph by the first subtable that does, and says where the walk goes on.
+/// Positions the glyph by the first subtable that does, and says where the iterator goes on.
 ///
 /// # Requires
 ///
@@ -155,7 +155,7 @@ fn index_in(subtable: &Subtable, glyph: u32) -> Option<u32> {
 }
 
 /// Positions the glyph, which has this coverage index in a subtable, by the subtable, and says where
-/// the walk goes on; `None` where the subtable does not fit.
+/// the iterator goes on; `None` where the subtable does not fit.
 ///
 /// # Requires
 ///
@@ -174,12 +174,12 @@ fn place_by_subtable<'a>(
     debug_assert!(buffer.have_positions());
     let turn = Turn {
         subtable,
-        walk: Walk::over_input(task.lookup.filter, task.options, true),
+        iterator: SkippingIterator::over_input(task.lookup.lookup_props, task.options, true),
         instance: &task.setting.instance,
         place: task.place,
         index,
     };
-    match subtable.kind {
+    match subtable.lookup_type {
         1 => place_single(buffer, &turn),
         2 => place_pair(buffer, &turn),
         3 => place_cursive(buffer, &turn),
@@ -191,7 +191,7 @@ fn place_by_subtable<'a>(
     }
 }
 
-/// Applies the lookups of the rule that fits at the glyph, and says where the walk goes on.
+/// Applies the lookups of the rule that fits at the glyph, and says where the iterator goes on.
 ///
 /// # Requires
 ///
@@ -206,13 +206,13 @@ fn place_by_context<'a>(
 ) -> Option<usize> {
     debug_assert!(!buffer.have_output());
     debug_assert!(buffer.have_positions());
-    let context = Walk::over_context(task.lookup.filter, task.options, true);
+    let context = SkippingIterator::over_context(task.lookup.lookup_props, task.options, true);
     let fit = fit_at(buffer.info(), task.setting, turn, &context, search);
     let reached = turn.place.saturating_add(search.reach.to);
     mark_concat(buffer, search.reach.from, reached);
     let fit = fit?;
     mark_break(buffer, fit.from, turn.place.saturating_add(fit.to));
-    let places = mem::replace(&mut search.places, Places::new());
+    let places = mem::replace(&mut search.places, MatchPositions::new());
     apply_records(buffer, task, &fit, &places, search, last);
     let end = turn.place.saturating_add(fit.end);
     mark_concat(buffer, end, turn.place.saturating_add(fit.beyond));
@@ -230,7 +230,7 @@ fn apply_records<'a>(
     buffer: &mut hb_buffer_t,
     task: &Task<'a>,
     fit: &Fit<'a>,
-    places: &Places,
+    places: &MatchPositions,
     search: &mut Search,
     last: &mut LastBase,
 ) {
@@ -249,9 +249,14 @@ fn apply_records<'a>(
 
 /// The lookup of a record, at the glyph that the record names; `None` where there is no such lookup or
 /// glyph.
-fn nested_task<'a>(task: &Task<'a>, fit: &Fit, places: &Places, index: usize) -> Option<Task<'a>> {
+fn nested_task<'a>(
+    task: &Task<'a>,
+    fit: &Fit,
+    places: &MatchPositions,
+    index: usize,
+) -> Option<Task<'a>> {
     let record = fit.record(index)?;
-    let at = *places.as_slice().get(record.sequence)?;
+    let at = *places.as_slice().get(record.sequence_index)?;
     let lookup = task.setting.list.lookup(record.lookup)?;
     Some(Task {
         setting: task.setting,

@@ -5,9 +5,9 @@
 use crate::buffer::hb_buffer_t;
 use crate::font_tables::bytes::table_at_16;
 use crate::glyph::{GlyphPropsFlags, hb_glyph_info_t};
-use crate::glyph_layout::filter::{Filter, covered_index};
-use crate::glyph_layout::walk::{Found, Skip, Walk};
-use crate::glyph_layout::wanted::Wanted;
+use crate::glyph_layout::lookup_props::{LookupProps, covered_index};
+use crate::glyph_layout::matcher::Matcher;
+use crate::glyph_layout::skipping_iterator::{Found, Skip, SkippingIterator};
 use crate::glyph_positions::attachment::{AttachmentFound, attach_mark, attachment_by};
 use crate::glyph_positions::ligatures::{are_of_one_part, is_first_of_many, ligature_row};
 use crate::glyph_positions::turn::Turn;
@@ -19,7 +19,7 @@ const IGNORED_CLASSES: u16 = 0x000E;
 /// The bit of a lookup's flag that passes over marks.
 const IGNORE_MARKS: u16 = 0x0008;
 
-/// The last base that was found, so that many marks behind one base are not gone over again for each of them.
+/// The last base that was found, so that many marks after one base are not gone over again for each of them.
 #[derive(Clone, Copy, Debug)]
 pub(crate) struct LastBase {
     /// Its place.
@@ -136,15 +136,15 @@ fn mark_before(glyphs: &[hb_glyph_info_t], turn: &Turn) -> Found {
     if turn.place > glyphs.len() {
         return Found::End;
     }
-    let filter = turn.walk.filter;
-    let walk = Walk {
-        filter: Filter {
-            flags: filter.flags & !IGNORED_CLASSES,
-            marks: filter.marks,
+    let lookup_props = turn.iterator.lookup_props;
+    let iterator = SkippingIterator {
+        lookup_props: LookupProps {
+            flags: lookup_props.flags & !IGNORED_CLASSES,
+            marks: lookup_props.marks,
         },
-        ..turn.walk
+        ..turn.iterator
     };
-    walk.previous(&Wanted::Shown, glyphs, turn.place)
+    iterator.previous(&Matcher::Shown, glyphs, turn.place)
 }
 
 /// Whether the glyph at a place is a mark that belongs where the mark belongs.
@@ -179,25 +179,25 @@ fn base_index(
     }
 }
 
-/// Looks for the last glyph before the mark that is no mark, behind the place up to which one was
-/// looked for. With `skips` the glyphs of a multiple substitution are passed over that are not its
-/// first, unless the subtable has them.
+/// Looks for the last glyph before the mark that is no mark, after the place up to which one was looked
+/// for. With `skips` the glyphs of a multiple substitution are passed over that are not its first,
+/// unless the subtable has them.
 fn find_base(glyphs: &[hb_glyph_info_t], turn: &Turn, last: &mut LastBase, skips: bool) {
     if last.until > turn.place {
         *last = LastBase::none();
     }
-    let filter = Filter {
+    let lookup_props = LookupProps {
         flags: IGNORE_MARKS,
-        marks: turn.walk.filter.marks,
+        marks: turn.iterator.lookup_props.marks,
     };
-    let walk = Walk {
-        filter,
-        ..turn.walk
+    let iterator = SkippingIterator {
+        lookup_props,
+        ..turn.iterator
     };
     let found = if skips {
-        last_taken(glyphs, turn, &walk, last.until)
+        last_taken(glyphs, turn, &iterator, last.until)
     } else {
-        last_counted(glyphs, &walk, last.until, turn.place)
+        last_counted(glyphs, &iterator, last.until, turn.place)
     };
     if found.is_some() {
         last.base = found;
@@ -206,10 +206,15 @@ fn find_base(glyphs: &[hb_glyph_info_t], turn: &Turn, last: &mut LastBase, skips
 }
 
 /// The last place from `from` up to the mark's whose glyph counts and is taken for a base.
-fn last_taken(glyphs: &[hb_glyph_info_t], turn: &Turn, walk: &Walk, from: usize) -> Option<usize> {
+fn last_taken(
+    glyphs: &[hb_glyph_info_t],
+    turn: &Turn,
+    iterator: &SkippingIterator,
+    from: usize,
+) -> Option<usize> {
     let mut to = turn.place;
     for _turn in from..turn.place {
-        let base = last_counted(glyphs, walk, from, to)?;
+        let base = last_counted(glyphs, iterator, from, to)?;
         if is_taken(glyphs, base, turn) {
             return Some(base);
         }
@@ -219,14 +224,19 @@ fn last_taken(glyphs: &[hb_glyph_info_t], turn: &Turn, walk: &Walk, from: usize)
 }
 
 /// The last place from `from` up to `to` whose glyph counts.
-fn last_counted(glyphs: &[hb_glyph_info_t], walk: &Walk, from: usize, to: usize) -> Option<usize> {
+fn last_counted(
+    glyphs: &[hb_glyph_info_t],
+    iterator: &SkippingIterator,
+    from: usize,
+    to: usize,
+) -> Option<usize> {
     let mut end = to;
     for _turn in from..to {
         if end == 0 {
             return None;
         }
         end -= 1;
-        if counts_at(glyphs, end, walk) {
+        if counts_at(glyphs, end, iterator) {
             return Some(end);
         }
     }
@@ -234,18 +244,18 @@ fn last_counted(glyphs: &[hb_glyph_info_t], walk: &Walk, from: usize, to: usize)
 }
 
 /// Whether the glyph at a place counts.
-fn counts_at(glyphs: &[hb_glyph_info_t], place: usize, walk: &Walk) -> bool {
+fn counts_at(glyphs: &[hb_glyph_info_t], place: usize, iterator: &SkippingIterator) -> bool {
     if place < glyphs.len() {
-        counts(&glyphs[place], walk)
+        counts(&glyphs[place], iterator)
     } else {
         false
     }
 }
 
 /// Whether a glyph counts.
-fn counts(glyph: &hb_glyph_info_t, walk: &Walk) -> bool {
-    match walk.skip(glyph) {
-        Skip::No => walk.is_within(glyph),
+fn counts(glyph: &hb_glyph_info_t, iterator: &SkippingIterator) -> bool {
+    match iterator.skip(glyph) {
+        Skip::No => iterator.is_within(glyph),
         Skip::Maybe | Skip::Yes => false,
     }
 }

@@ -4,8 +4,8 @@
 
 use crate::buffer::hb_buffer_t;
 use crate::glyph::{GlyphPosition, hb_glyph_info_t};
-use crate::glyph_layout::walk::{Found, Walk};
-use crate::glyph_layout::wanted::{Wanted, class_of};
+use crate::glyph_layout::matcher::{Matcher, class_of};
+use crate::glyph_layout::skipping_iterator::{Found, SkippingIterator};
 use crate::glyph_positions::flags::{mark_break, mark_concat};
 use crate::glyph_positions::turn::Turn;
 use crate::position_tables::instance::Instance;
@@ -32,7 +32,7 @@ struct Pair<'a> {
     is_classed: bool,
 }
 
-/// Moves the glyph, and says where the walk goes on; `None` where the subtable is not for it.
+/// Moves the glyph, and says where the iterator goes on; `None` where the subtable is not for it.
 ///
 /// # Requires
 ///
@@ -69,8 +69,8 @@ fn move_at(
     }
 }
 
-/// Moves the glyph and the next one, and says where the walk goes on; `None` where the subtable has no
-/// such pair.
+/// Moves the glyph and the next one, and says where the iterator goes on; `None` where the subtable has
+/// no such pair.
 ///
 /// # Requires
 ///
@@ -81,7 +81,7 @@ pub(crate) fn place_pair(buffer: &mut hb_buffer_t, turn: &Turn) -> Option<usize>
     debug_assert!(buffer.have_positions());
     let glyphs = buffer.info();
     let first = glyphs.get(turn.place)?.glyph_id;
-    let (second, end) = match next_shown(&turn.walk, glyphs, turn.place) {
+    let (second, end) = match next_shown(&turn.iterator, glyphs, turn.place) {
         Found::At(place) => (Some(place), place.saturating_add(1)),
         Found::Other(place) => (None, place.saturating_add(1)),
         Found::End => (None, glyphs.len()),
@@ -118,7 +118,7 @@ fn advance_of(turn: &Turn, glyphs: (u32, u32)) -> Option<i16> {
             classed_advance(
                 turn.subtable.table,
                 first,
-                class_of(&turn.subtable.classes_ahead, second),
+                class_of(&turn.subtable.lookahead_classes, second),
             )
         }
         _ => None,
@@ -174,22 +174,22 @@ fn advance_at(
     }
 }
 
-/// The next glyph that is not passed over, which most often is the one behind.
+/// The next glyph that is not passed over, which most often is the one after.
 ///
 /// # Requires
 ///
 /// - `place < length glyphs.now`
 #[inline(always)]
-fn next_shown(walk: &Walk, glyphs: &[hb_glyph_info_t], place: usize) -> Found {
+fn next_shown(iterator: &SkippingIterator, glyphs: &[hb_glyph_info_t], place: usize) -> Found {
     debug_assert!(place < glyphs.len());
     let behind = place + 1;
     if behind < glyphs.len()
-        && !walk.passes(&Wanted::Shown, &glyphs[behind])
-        && walk.matches(&Wanted::Shown, &glyphs[behind])
+        && !iterator.passes(&Matcher::Shown, &glyphs[behind])
+        && iterator.matches(&Matcher::Shown, &glyphs[behind])
     {
         Found::At(behind)
     } else {
-        walk.next(&Wanted::Shown, glyphs, place)
+        iterator.next(&Matcher::Shown, glyphs, place)
     }
 }
 
@@ -225,7 +225,11 @@ fn values_of(turn: &Turn, base: &[u8], glyphs: (u32, u32)) -> Option<PairValues>
         }
         2 => {
             let first = class_of(&turn.subtable.classes, first);
-            classed_pair(base, first, class_of(&turn.subtable.classes_ahead, second))
+            classed_pair(
+                base,
+                first,
+                class_of(&turn.subtable.lookahead_classes, second),
+            )
         }
         _ => None,
     }

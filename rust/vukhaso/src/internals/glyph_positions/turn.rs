@@ -3,8 +3,8 @@
 //! What a subtable is given at a glyph.
 
 use crate::glyph_layout::lookup_list::LookupList;
+use crate::glyph_layout::skipping_iterator::SkippingIterator;
 use crate::glyph_layout::subtable::Subtable;
-use crate::glyph_layout::walk::Walk;
 use crate::position_tables::instance::Instance;
 
 /// A font's lookups of `GPOS`, and the size and the variations at which it is used.
@@ -21,8 +21,8 @@ pub struct Setting<'a> {
 pub(crate) struct Turn<'a> {
     /// The subtable.
     pub subtable: &'a Subtable<'a>,
-    /// The walk over the glyphs that the lookup does not pass over.
-    pub walk: Walk<'a>,
+    /// The iterator over the glyphs that the lookup does not pass over.
+    pub iterator: SkippingIterator<'a>,
     /// The size and the variations of the font.
     pub instance: &'a Instance<'a>,
     /// The place of the glyph.

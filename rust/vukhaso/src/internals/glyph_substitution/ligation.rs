@@ -1,11 +1,11 @@
 // Written by tools/plain_rust from crates/glyph_substitution. Do not edit.
 
-//! Ligatures: several glyphs become one, and what was passed over between them stays behind it.
+//! Ligatures: several glyphs become one, and what was passed over between them stays after it.
 
 use crate::buffer::hb_buffer_t;
 use crate::font_tables::gdef::Gdef;
 use crate::glyph::hb_glyph_info_t;
-use crate::glyph_layout::Places;
+use crate::glyph_layout::MatchPositions;
 use crate::glyph_layout::ligature_parts::{
     component_count, ligature_component, ligature_id, ligature_properties, mark_properties,
 };
@@ -75,7 +75,7 @@ impl Components {
 }
 
 /// Puts a ligature in the place of its components, whose places from the cursor on are given, in one
-/// cluster. What was passed over between them stands behind it, and belongs to the component before it.
+/// cluster. What was passed over between them stands after it, and belongs to the component before it.
 ///
 /// # Requires
 ///
@@ -85,7 +85,7 @@ pub(crate) fn ligate(
     buffer: &mut hb_buffer_t,
     gdef: &Gdef,
     ligation: &Ligation,
-    places: &Places,
+    places: &MatchPositions,
 ) -> Result<bool, AllocError> {
     debug_assert!(buffer.have_output());
     debug_assert!(!buffer.info().is_empty());
@@ -123,7 +123,7 @@ fn put_ligature(
     buffer.replace_glyph(u32::from(ligature))
 }
 
-/// Goes over so many glyphs that are passed over, and drops the component behind them.
+/// Goes over so many glyphs that are passed over, and drops the component after them.
 ///
 /// # Requires
 ///
@@ -156,7 +156,7 @@ fn merge(buffer: &mut hb_buffer_t, end: usize) {
 }
 
 /// What the glyphs at these places make.
-fn made_of(glyphs: &[hb_glyph_info_t], places: &Places) -> Made {
+fn made_of(glyphs: &[hb_glyph_info_t], places: &MatchPositions) -> Made {
     for place in places.iter().skip(1) {
         if *place < glyphs.len() && glyphs[*place].glyph_props() & MARK == 0 {
             return Made::Ligature;
@@ -170,7 +170,7 @@ fn made_of(glyphs: &[hb_glyph_info_t], places: &Places) -> Made {
 }
 
 /// How many components the glyphs at these places have together.
-fn total_count(glyphs: &[hb_glyph_info_t], places: &Places) -> u32 {
+fn total_count(glyphs: &[hb_glyph_info_t], places: &MatchPositions) -> u32 {
     let mut total: u32 = 0;
     for place in places.iter() {
         if *place < glyphs.len() {
@@ -186,7 +186,7 @@ fn total_count(glyphs: &[hb_glyph_info_t], places: &Places) -> u32 {
 ///
 /// - `opened: buffer.old.have_output ≡ true`
 /// - `glyph: 0 < length buffer.old.input`
-fn begin(buffer: &mut hb_buffer_t, end: usize, places: &Places) -> Components {
+fn begin(buffer: &mut hb_buffer_t, end: usize, places: &MatchPositions) -> Components {
     debug_assert!(buffer.have_output());
     debug_assert!(!buffer.info().is_empty());
     merge(buffer, end);
@@ -199,7 +199,7 @@ fn begin(buffer: &mut hb_buffer_t, end: usize, places: &Places) -> Components {
 ///
 /// - `opened: buffer.old.have_output ≡ true`
 /// - `glyph: 0 < length buffer.old.input`
-fn number(buffer: &mut hb_buffer_t, places: &Places) -> Components {
+fn number(buffer: &mut hb_buffer_t, places: &MatchPositions) -> Components {
     debug_assert!(buffer.have_output());
     debug_assert!(!buffer.info().is_empty());
     let made = made_of(buffer.info(), places);
@@ -276,7 +276,7 @@ fn drop_component(buffer: &mut hb_buffer_t, components: &mut Components) {
     }
 }
 
-/// Lets the marks behind the last component follow it, if they belonged to it.
+/// Lets the marks after the last component follow it, if they belonged to it.
 ///
 /// # Requires
 ///

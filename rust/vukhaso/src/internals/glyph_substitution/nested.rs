@@ -3,12 +3,12 @@
 //! A lookup at the cursor, and the lookups that it applies.
 
 use crate::buffer::hb_buffer_t;
-use crate::glyph_layout::context::{Fit, Record};
+use crate::glyph_layout::context::{Fit, SequenceLookupRecord};
 use crate::glyph_layout::substitution::{Edit, edit_at};
-use crate::glyph_layout::{Lookup, LookupOptions, Reach, Sides, Walk};
+use crate::glyph_layout::{ApplyContext, Lookup, LookupOptions, Reach, SkippingIterator};
 use crate::glyph_substitution::ligation::ligate;
+use crate::glyph_substitution::match_positions::Matched;
 use crate::glyph_substitution::multiplication::{choose, multiply, replace};
-use crate::glyph_substitution::places::Matched;
 use crate::glyph_substitution::substitution::{Progress, Substitutions};
 use crate::glyph_substitution::writing::{fail, glyph_ahead};
 use crate::memory::AllocError;
@@ -19,7 +19,7 @@ pub(crate) const MAX_NESTING_LEVEL: u32 = 64;
 /// What became of a lookup at the cursor.
 #[derive(Clone, Copy, PartialEq, Eq, Debug)]
 pub(crate) enum Step {
-    /// It was applied, and the cursor is behind what it took.
+    /// It was applied, and the cursor is after what it took.
     Applied,
     /// It does nothing there.
     Passed,
@@ -72,22 +72,22 @@ fn decide<'a>(
     debug_assert!(buffer.have_output());
     debug_assert!(!buffer.info().is_empty());
     let options = &substitutions.options;
-    let sides = Sides {
+    let ctx = ApplyContext {
         out: buffer.out_info(),
         input: buffer.info(),
-        walk: Walk::over_input(lookup.filter, options, false),
-        context: Walk::over_context(lookup.filter, options, false),
+        iterator: SkippingIterator::over_input(lookup.lookup_props, options, false),
+        context: SkippingIterator::over_context(lookup.lookup_props, options, false),
         syllable: syllable_at(buffer, options),
         is_level: buffer.out_len() == buffer.idx(),
     };
-    progress.search.reach = Reach::none(sides.out.len());
+    progress.search.reach = Reach::none(ctx.out.len());
     let is_nested = depth < MAX_NESTING_LEVEL;
     edit_at(
         substitutions.list,
         lookup,
         options,
         is_nested,
-        &sides,
+        &ctx,
         &mut progress.search,
     )
 }
@@ -179,7 +179,7 @@ fn make(
     }
 }
 
-/// Applies the lookups of a rule that fits at the cursor, and leaves the cursor behind its input.
+/// Applies the lookups of a rule that fits at the cursor, and leaves the cursor after its input.
 ///
 /// # Requires
 ///
@@ -267,7 +267,7 @@ enum Turn {
 fn apply_record(
     buffer: &mut hb_buffer_t,
     substitutions: &Substitutions,
-    record: &Record,
+    record: &SequenceLookupRecord,
     matched: &mut Matched,
     progress: &mut Progress,
     depth: u32,
@@ -277,7 +277,7 @@ fn apply_record(
     if !progress.search.budget.pay(1) {
         return Ok(Turn::Enough);
     }
-    let Some(place) = matched.place(record.sequence) else {
+    let Some(place) = matched.place(record.sequence_index) else {
         return Ok(Turn::On);
     };
     if place >= before {
@@ -296,7 +296,7 @@ fn apply_record(
         Step::Applied => {}
     }
     let after = both_len(buffer);
-    Ok(if matched.follow(record.sequence, before, after) {
+    Ok(if matched.follow(record.sequence_index, before, after) {
         Turn::On
     } else {
         Turn::Enough

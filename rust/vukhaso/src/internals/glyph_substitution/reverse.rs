@@ -1,13 +1,13 @@
 // Written by tools/plain_rust from crates/glyph_substitution. Do not edit.
 
 //! Reverse substitutions: glyphs are replaced in place, from the last one to the first, so that each sees what became of
-//! those behind it.
+//! those after it.
 
 use crate::buffer::hb_buffer_t;
 use crate::font_tables::gdef::Gdef;
 use crate::glyph::hb_glyph_info_t;
 use crate::glyph_layout::substitution::{Edit, edit_at};
-use crate::glyph_layout::{Lookup, Reach, Sides, Walk};
+use crate::glyph_layout::{ApplyContext, Lookup, Reach, SkippingIterator};
 use crate::glyph_substitution::properties::{Way, substituted_props};
 use crate::glyph_substitution::substitution::{Progress, Substitutions};
 
@@ -76,11 +76,11 @@ fn decide<'a>(
     if place >= glyphs.len() || !lookup.is_for(options.mask, &glyphs[place]) {
         return None;
     }
-    let sides = Sides {
+    let ctx = ApplyContext {
         out: &glyphs[..place],
         input: &glyphs[place..],
-        walk: Walk::over_input(lookup.filter, options, false),
-        context: Walk::over_context(lookup.filter, options, false),
+        iterator: SkippingIterator::over_input(lookup.lookup_props, options, false),
+        context: SkippingIterator::over_context(lookup.lookup_props, options, false),
         syllable: if options.per_syllable {
             glyphs[place].syllable()
         } else {
@@ -94,7 +94,7 @@ fn decide<'a>(
         lookup,
         options,
         false,
-        &sides,
+        &ctx,
         &mut progress.search,
     )
 }

@@ -144,7 +144,7 @@ fn fail_if_spent(buffer: &mut hb_buffer_t, progress: &Progress) {
 /// Whether a lookup is applied from the end.
 fn is_reverse(list: &LookupList, lookup: &Lookup) -> bool {
     match list.subtables_of(lookup).first() {
-        Some(subtable) => subtable.kind == REVERSE,
+        Some(subtable) => subtable.lookup_type == REVERSE,
         None => false,
     }
 }
@@ -215,7 +215,7 @@ fn substitute_rest(
     Ok(true)
 }
 
-/// Applies the lookup at the cursor, and puts out the glyphs behind that it is not for.
+/// Applies the lookup at the cursor, and puts out the glyphs after that it is not for.
 ///
 /// # Requires
 ///
@@ -236,7 +236,7 @@ fn substitute_next(
     }
 }
 
-/// Puts out so many glyphs, if there are as many, and those behind them that the lookup is not for.
+/// Puts out so many glyphs, if there are as many, and those after them that the lookup is not for.
 ///
 /// # Requires
 ///

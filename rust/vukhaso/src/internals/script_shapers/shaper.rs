@@ -56,7 +56,7 @@ pub enum NormalizationMode {
     Auto,
     /// Every character is taken apart as far as the font has its parts, and then marks are composed where the font has the composed
     /// characters.
-    TakenApart,
+    Decomposed,
 }
 
 /// When marks lose their width: HarfBuzz's `hb_ot_shape_zero_width_marks_type_t`.
@@ -133,7 +133,7 @@ impl ScriptShaper {
         match self {
             Hangul | Zawgyi => NormalizationMode::Nothing,
             Default | Arabic | Hebrew | Thai | Plain => NormalizationMode::Auto,
-            _ => NormalizationMode::TakenApart,
+            _ => NormalizationMode::Decomposed,
         }
     }
 

@@ -44,7 +44,7 @@ impl Strikes for Sizes {
 #[test]
 fn the_strike_is_the_smallest_that_is_large_enough() {
     let sizes = Sizes([20, 128, 40, 128]);
-    for (wanted, strike) in [
+    for (matcher, strike) in [
         (1, 0),
         (20, 0),
         (21, 2),
@@ -53,7 +53,7 @@ fn the_strike_is_the_smallest_that_is_large_enough() {
         (128, 1),
         (129, 1),
     ] {
-        assert_eq!(best_strike(&sizes, 4, wanted), strike, "{wanted}");
+        assert_eq!(best_strike(&sizes, 4, matcher), strike, "{matcher}");
     }
     assert_eq!(best_strike(&sizes, 4, wanted_size(0, 0)), 1);
     assert_eq!(best_strike(&sizes, 0, 20), 0);

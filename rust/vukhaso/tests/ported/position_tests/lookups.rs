@@ -14,7 +14,7 @@ use vukhaso::internals::glyph::GlyphPosition;
 use vukhaso::internals::glyph_layout::budget::Budget;
 use vukhaso::internals::glyph_layout::lookup_list::LookupList;
 use vukhaso::internals::glyph_layout::search::Search;
-use vukhaso::internals::glyph_layout::walk::LookupOptions;
+use vukhaso::internals::glyph_layout::skipping_iterator::LookupOptions;
 use vukhaso::internals::glyph_positions::{
     Setting, kern, position, position_finish_offsets, position_start,
 };
@@ -172,10 +172,10 @@ fn a_spent_budget_is_told() -> Result<(), AllocError> {
     let gpos = gpos_of(2, 0, &pairs)?;
     let gdef = no_definitions(&gpos);
     let list = LookupList::new(&gpos, 9, &gdef)?;
-    for (steps, wanted) in [(3, (600, true)), (1000, (550, false))] {
+    for (steps, matcher) in [(3, (600, true)), (1000, (550, false))] {
         let mut buffer = line_of(Direction::LeftToRight, &[10, 11])?;
         position_all(&mut buffer, &list, Budget { nested: 1, steps });
-        assert_eq!((at(&buffer, 0).0, buffer.shaping_failed), wanted);
+        assert_eq!((at(&buffer, 0).0, buffer.shaping_failed), matcher);
     }
     Ok(())
 }

@@ -3,7 +3,7 @@
 //! The first round of normalization: a glyph is found for each character, or for its parts.
 
 use super::drop_behind;
-use super::parts::Taking;
+use super::parts::Decomposer;
 use super::variations::read_variations;
 use crate::buffer::{
     CharExt, HB_BUFFER_SCRATCH_FLAG_HAS_SPACE_FALLBACK, hb_buffer_t, hb_glyph_info_t,
@@ -79,24 +79,24 @@ fn decompose_next(
 ) -> Result<bool, AllocError> {
     debug_assert!(buffer.have_output());
     let mode = shaper.normalization_mode();
-    let taking = Taking {
+    let decomposer = Decomposer {
         face,
         shaper,
-        shortest: mode != NormalizationMode::TakenApart,
+        short_circuit: mode != NormalizationMode::Decomposed,
     };
     let simple = simple_length(buffer.info());
-    if !decompose_characters(buffer, &taking, simple)? {
+    if !decompose_characters(buffer, &decomposer, simple)? {
         return Ok(false);
     }
     let cluster = cluster_length(buffer.info());
     if has_variation_selector(buffer.info(), cluster) {
         read_variations(buffer, face, cluster)
     } else {
-        let taking = Taking {
-            shortest: mode == NormalizationMode::Nothing,
-            ..taking
+        let decomposer = Decomposer {
+            short_circuit: mode == NormalizationMode::Nothing,
+            ..decomposer
         };
-        decompose_characters(buffer, &taking, cluster)
+        decompose_characters(buffer, &decomposer, cluster)
     }
 }
 
@@ -144,13 +144,13 @@ pub(crate) fn is_variation_selector(character: u32) -> bool {
 /// - `buffer.old.have_output ≡ true`
 fn decompose_characters(
     buffer: &mut hb_buffer_t,
-    taking: &Taking,
+    decomposer: &Decomposer,
     count: usize,
 ) -> Result<bool, AllocError> {
     debug_assert!(buffer.have_output());
     let mut left = count;
     for _turn in 0..count {
-        let ready = ready_length(buffer.info(), left, taking.shortest);
+        let ready = ready_length(buffer.info(), left, decomposer.short_circuit);
         if !buffer.next_glyphs(ready)? {
             return Ok(false);
         }
@@ -158,7 +158,7 @@ fn decompose_characters(
         if left == 0 || buffer.lookahead_len() == 0 {
             break;
         }
-        if !decompose_current(buffer, taking)? {
+        if !decompose_current(buffer, decomposer)? {
             return Ok(false);
         }
         left -= 1;
@@ -167,8 +167,8 @@ fn decompose_characters(
 }
 
 /// How many of the first characters are kept as they are.
-fn ready_length(infos: &[hb_glyph_info_t], count: usize, shortest: bool) -> usize {
-    if !shortest {
+fn ready_length(infos: &[hb_glyph_info_t], count: usize, short_circuit: bool) -> usize {
+    if !short_circuit {
         return 0;
     }
     let mut ready = 0;
@@ -184,15 +184,18 @@ fn ready_length(infos: &[hb_glyph_info_t], count: usize, shortest: bool) -> usiz
 ///
 /// - `opened: buffer.old.have_output ≡ true`
 /// - `glyph: 0 < length buffer.old.input`
-fn decompose_current(buffer: &mut hb_buffer_t, taking: &Taking) -> Result<bool, AllocError> {
+fn decompose_current(
+    buffer: &mut hb_buffer_t,
+    decomposer: &Decomposer,
+) -> Result<bool, AllocError> {
     debug_assert!(buffer.have_output());
     debug_assert!(!buffer.info().is_empty());
     let mut parts = Parts::new();
-    if add_font_parts(&mut parts, taking, buffer.cur(0).glyph_id) {
-        return put_parts(buffer, taking.face, &parts);
+    if add_font_parts(&mut parts, decomposer, buffer.cur(0).glyph_id) {
+        return put_parts(buffer, decomposer.face, &parts);
     }
     if buffer.cur(0).glyph_index() == 0 {
-        find_fallback(buffer, taking.face);
+        find_fallback(buffer, decomposer.face);
     }
     buffer.next_glyph()
 }

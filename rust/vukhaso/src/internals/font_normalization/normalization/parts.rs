@@ -8,22 +8,22 @@ use crate::script_shapers::ScriptShaper;
 
 /// How characters are taken apart.
 #[derive(Clone, Copy, Debug)]
-pub(crate) struct Taking<'a> {
+pub(crate) struct Decomposer<'a> {
     /// The font.
     pub face: &'a Face<'a>,
     /// The shaper of the text, which says what a character decomposes to.
     pub shaper: ScriptShaper,
     /// Whether they are taken apart as little as the font needs, and not as far as it can.
-    pub shortest: bool,
+    pub short_circuit: bool,
 }
 
 ///
 /// # Proved
 ///
 /// ```text
-/// ghost font = { λ taking. font_of taking.face.now taking.shaper taking.shortest }
+/// ghost font = { λ decomposer. font_of decomposer.face.now decomposer.shaper decomposer.short_circuit }
 /// ```
-impl FontCharacters for Taking<'_> {
+impl FontCharacters for Decomposer<'_> {
     fn has_glyph(&self, character: u32) -> bool {
         self.face.glyph_index(character).is_some()
     }
@@ -33,7 +33,7 @@ impl FontCharacters for Taking<'_> {
     }
 
     fn takes_fewest(&self) -> bool {
-        self.shortest
+        self.short_circuit
     }
 }
 

@@ -5,7 +5,9 @@
 use crate::font_tests::lookups::{JOINER, NON_JOINER, OPTIONS, bytes_of, fill, list_of};
 use vukhaso::internals::glyph::hb_glyph_info_t;
 use vukhaso::internals::glyph_layout::context::fitting_rule;
-use vukhaso::internals::glyph_layout::{Budget, LookupList, Search, Sides, Walk};
+use vukhaso::internals::glyph_layout::{
+    ApplyContext, Budget, LookupList, Search, SkippingIterator,
+};
 use vukhaso::memory::AllocError;
 
 /// A table `GSUB` with one lookup, a chained context of glyphs, for the glyph 10. Its four rules ask for 11 behind it, for 12, for 13 as
@@ -34,19 +36,19 @@ fn rule_at(list: &LookupList, ids: &[u32]) -> Option<u16> {
     fill(&mut glyphs, ids);
     let lookup = list.lookup(0)?;
     let subtable = list.subtables_of(lookup).first()?;
-    let sides = Sides {
+    let ctx = ApplyContext {
         out: &[],
         input: &glyphs[..ids.len().min(4)],
-        walk: Walk::over_input(lookup.filter, &OPTIONS, false),
-        context: Walk::over_context(lookup.filter, &OPTIONS, false),
+        iterator: SkippingIterator::over_input(lookup.lookup_props, &OPTIONS, false),
+        context: SkippingIterator::over_context(lookup.lookup_props, &OPTIONS, false),
         syllable: 0,
         is_level: true,
     };
-    if sides.input.is_empty() {
+    if ctx.input.is_empty() {
         return None;
     }
     let mut search = Search::new(Budget::new(1000, 5));
-    let fit = fitting_rule(&*list, subtable, 0, true, &sides, &mut search)?;
+    let fit = fitting_rule(&*list, subtable, 0, true, &ctx, &mut search)?;
     Some(fit.record(0)?.lookup)
 }
 

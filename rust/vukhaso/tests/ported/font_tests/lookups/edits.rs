@@ -7,7 +7,7 @@ use vukhaso::internals::glyph::hb_glyph_info_t;
 use vukhaso::internals::glyph_layout::substitution::{Edit, edit_at};
 use vukhaso::internals::glyph_layout::subtable::{Form, positioning_form, substitution_form};
 use vukhaso::internals::glyph_layout::{
-    Budget, Digest, LookupList, Search, Sides, Walk, would_substitute,
+    ApplyContext, Budget, Digest, LookupList, Search, SkippingIterator, would_substitute,
 };
 use vukhaso::memory::AllocError;
 
@@ -26,16 +26,16 @@ fn ligature_at(list: &LookupList, ids: &[u32]) -> Option<(u16, usize)> {
     let mut glyphs = [hb_glyph_info_t::default(); 5];
     fill(&mut glyphs, ids);
     let lookup = list.lookup(0)?;
-    let sides = Sides {
+    let ctx = ApplyContext {
         out: &[],
         input: &glyphs,
-        walk: Walk::over_input(lookup.filter, &OPTIONS, false),
-        context: Walk::over_context(lookup.filter, &OPTIONS, false),
+        iterator: SkippingIterator::over_input(lookup.lookup_props, &OPTIONS, false),
+        context: SkippingIterator::over_context(lookup.lookup_props, &OPTIONS, false),
         syllable: 0,
         is_level: true,
     };
     let mut search = Search::new(Budget::new(1000, 5));
-    match edit_at(&*list, lookup, &OPTIONS, false, &sides, &mut search)? {
+    match edit_at(&*list, lookup, &OPTIONS, false, &ctx, &mut search)? {
         Edit::Ligate(ligation) => Some((ligation.ligature, ligation.end)),
         Edit::Replace(glyph) => Some((glyph, 1)),
         _ => None,

@@ -5,15 +5,17 @@
 use crate::font_tests::lookups::bytes_of;
 use vukhaso::internals::font_tables::coverage::Coverage;
 use vukhaso::internals::glyph::hb_glyph_info_t;
-use vukhaso::internals::glyph_layout::filter::covered_index;
 use vukhaso::internals::glyph_layout::first_glyphs::FirstGlyphs;
 use vukhaso::internals::glyph_layout::glyph_table::Glyphs;
 use vukhaso::internals::glyph_layout::ligature_parts::{
     component_count, ligature_component, ligature_id, ligature_properties, mark_properties,
 };
+use vukhaso::internals::glyph_layout::lookup_props::covered_index;
 use vukhaso::internals::glyph_layout::subtable::{behind_list, table_or_empty};
 use vukhaso::internals::glyph_layout::summary::{Summary, summary_of};
-use vukhaso::internals::glyph_layout::{Budget, Digest, Filter, LookupOptions, Reach, Walk};
+use vukhaso::internals::glyph_layout::{
+    Budget, Digest, LookupOptions, LookupProps, Reach, SkippingIterator,
+};
 use vukhaso::memory::AllocError;
 
 /// A glyph with these glyph properties and ligature properties.
@@ -125,17 +127,17 @@ static PASSED: [(u16, u16, bool); 9] = [
 fn flags_say_what_is_passed_over() -> Result<(), AllocError> {
     let marks = bytes_of(&[1, 1, 5])?;
     for (flags, properties, is_passed) in &PASSED {
-        let filter = Filter {
+        let lookup_props = LookupProps {
             flags: *flags,
             marks: Coverage::new(&marks),
         };
         let glyph = glyph_of(9, *properties, 0);
         assert!(
-            filter.passes_over(&glyph) == *is_passed,
+            lookup_props.passes_over(&glyph) == *is_passed,
             "{flags} {properties}"
         );
     }
-    let of_set = Filter {
+    let of_set = LookupProps {
         flags: 0x0010,
         marks: Coverage::new(&marks),
     };
@@ -203,7 +205,7 @@ fn budgets_are_spent() {
 /// What a walk passes over, by the options of its feature.
 #[test]
 fn walks_go_by_their_options() {
-    let filter = Filter {
+    let lookup_props = LookupProps {
         flags: 0,
         marks: Coverage::new(&[]),
     };
@@ -214,13 +216,13 @@ fn walks_go_by_their_options() {
         per_syllable: false,
         random: false,
     };
-    let input = Walk::over_input(filter, &options, false);
+    let input = SkippingIterator::over_input(lookup_props, &options, false);
     assert!((input.mask, input.syllable) == (8, 0));
     assert!(!input.ignores_zwnj && !input.ignores_zwj && !input.ignores_hidden);
-    let context = Walk::over_context(filter, &options, false);
+    let context = SkippingIterator::over_context(lookup_props, &options, false);
     assert!((context.mask, context.syllable) == (u32::MAX, 0));
     assert!(context.ignores_zwnj && context.ignores_zwj && !context.ignores_hidden);
-    let positioning = Walk::over_input(filter, &options, true);
+    let positioning = SkippingIterator::over_input(lookup_props, &options, true);
     assert!(positioning.ignores_zwnj && !positioning.ignores_zwj);
     assert!(positioning.ignores_hidden);
 }

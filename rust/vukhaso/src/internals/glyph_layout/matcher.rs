@@ -5,11 +5,11 @@
 use crate::common::GlyphId;
 use crate::font_tables::class_definition::ClassDefinition;
 use crate::font_tables::coverage::Coverage;
-use crate::glyph_layout::filter::covered_index;
+use crate::glyph_layout::lookup_props::covered_index;
 
 /// What is asked of a glyph.
 #[derive(Clone, Copy, Debug)]
-pub enum Wanted<'a> {
+pub enum Matcher<'a> {
     /// Nothing, and a glyph that may be passed over is passed over.
     Shown,
     /// Nothing, and a glyph that may be passed over is taken.
@@ -22,7 +22,7 @@ pub enum Wanted<'a> {
     Covered(Coverage<'a>),
 }
 
-impl<'a> Wanted<'a> {
+impl<'a> Matcher<'a> {
     /// Whether nothing is asked, and a glyph that may be passed over is passed over.
     ///
     /// # Proved
@@ -32,7 +32,7 @@ impl<'a> Wanted<'a> {
     /// ```
     #[inline]
     pub fn is_shown(&self) -> bool {
-        matches!(*self, Wanted::Shown)
+        matches!(*self, Matcher::Shown)
     }
 
     /// Whether a glyph is what is asked for. Of `Shown` this says whether one is that may be passed over:
@@ -46,11 +46,11 @@ impl<'a> Wanted<'a> {
     #[inline]
     pub fn fits(&self, glyph: u32) -> bool {
         match *self {
-            Wanted::Shown => false,
-            Wanted::Any => true,
-            Wanted::Glyph(number) => u32::from(number) == glyph,
-            Wanted::Class(classes, class) => class_of(&classes, glyph) == class,
-            Wanted::Covered(coverage) => covered_index(&coverage, glyph).is_some(),
+            Matcher::Shown => false,
+            Matcher::Any => true,
+            Matcher::Glyph(number) => u32::from(number) == glyph,
+            Matcher::Class(classes, class) => class_of(&classes, glyph) == class,
+            Matcher::Covered(coverage) => covered_index(&coverage, glyph).is_some(),
         }
     }
 }

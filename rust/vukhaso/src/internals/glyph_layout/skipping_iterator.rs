@@ -1,11 +1,11 @@
 // Written by tools/plain_rust from crates/glyph_layout. Do not edit.
 
-//! The walk of a lookup over glyphs: which it passes over, and which it may pass over, as HarfBuzz's iterator
+//! The iterator of a lookup over glyphs: which it passes over, and which it may pass over, as HarfBuzz's iterator
 //! `skipping_iterator_t` decides it.
 
 use crate::glyph::hb_glyph_info_t;
-use crate::glyph_layout::filter::Filter;
-use crate::glyph_layout::wanted::Wanted;
+use crate::glyph_layout::lookup_props::LookupProps;
+use crate::glyph_layout::matcher::Matcher;
 
 /// The bits of the Unicode properties that hold the general category.
 const GENERAL_CATEGORY: u16 = 0x001F;
@@ -65,11 +65,11 @@ pub enum Found {
     End,
 }
 
-/// A walk over glyphs.
+/// An iterator over glyphs.
 #[derive(Clone, Copy, Debug)]
-pub struct Walk<'a> {
+pub struct SkippingIterator<'a> {
     /// What is passed over by the lookup's flag.
-    pub filter: Filter<'a>,
+    pub lookup_props: LookupProps<'a>,
     /// The features' bits: a glyph whose mask has none of them is not what is asked for.
     pub mask: u32,
     /// Whether a zero width non-joiner may be passed over.
@@ -82,18 +82,22 @@ pub struct Walk<'a> {
     pub syllable: u8,
 }
 
-impl<'a> Walk<'a> {
-    /// The walk over the glyphs that a lookup changes or positions.
+impl<'a> SkippingIterator<'a> {
+    /// The iterator over the glyphs that a lookup changes or positions.
     ///
     /// # Proved
     ///
     /// ```text
-    /// ensures { result ≡ over_input filter.entry options.now is_positioning }
+    /// ensures { result ≡ over_input lookup_props.entry options.now is_positioning }
     /// ```
     #[inline]
-    pub fn over_input(filter: Filter<'a>, options: &LookupOptions, is_positioning: bool) -> Self {
-        Walk {
-            filter,
+    pub fn over_input(
+        lookup_props: LookupProps<'a>,
+        options: &LookupOptions,
+        is_positioning: bool,
+    ) -> Self {
+        SkippingIterator {
+            lookup_props,
             mask: options.mask,
             ignores_zwnj: is_positioning,
             ignores_zwj: options.auto_zwj,
@@ -102,17 +106,21 @@ impl<'a> Walk<'a> {
         }
     }
 
-    /// The walk over the glyphs around them.
+    /// The iterator over the glyphs around them.
     ///
     /// # Proved
     ///
     /// ```text
-    /// ensures { result ≡ over_context filter.entry options.now is_positioning }
+    /// ensures { result ≡ over_context lookup_props.entry options.now is_positioning }
     /// ```
     #[inline]
-    pub fn over_context(filter: Filter<'a>, options: &LookupOptions, is_positioning: bool) -> Self {
-        Walk {
-            filter,
+    pub fn over_context(
+        lookup_props: LookupProps<'a>,
+        options: &LookupOptions,
+        is_positioning: bool,
+    ) -> Self {
+        SkippingIterator {
+            lookup_props,
             mask: u32::MAX,
             ignores_zwnj: is_positioning || options.auto_zwnj,
             ignores_zwj: true,
@@ -121,7 +129,7 @@ impl<'a> Walk<'a> {
         }
     }
 
-    /// What the walk does at a glyph (HarfBuzz, `may_skip`).
+    /// What the iterator does at a glyph (HarfBuzz, `may_skip`).
     ///
     /// # Proved
     ///
@@ -130,7 +138,7 @@ impl<'a> Walk<'a> {
     /// ```
     #[inline]
     pub fn skip(&self, glyph: &hb_glyph_info_t) -> Skip {
-        if self.filter.passes_over(glyph) {
+        if self.lookup_props.passes_over(glyph) {
             Skip::Yes
         } else if self.may_ignore(glyph.unicode_props(), glyph.glyph_props()) {
             Skip::Maybe
@@ -139,8 +147,8 @@ impl<'a> Walk<'a> {
         }
     }
 
-    /// Whether a glyph with these properties is invisible, and of a kind that this walk may pass over. One
-    /// that was substituted is not invisible.
+    /// Whether a glyph with these properties is invisible, and of a kind that this iterator may pass over.
+    /// One that was substituted is not invisible.
     fn may_ignore(&self, unicode: u16, glyph: u16) -> bool {
         unicode & IGNORABLE != 0
             && glyph & SUBSTITUTED == 0
@@ -161,33 +169,33 @@ impl<'a> Walk<'a> {
         glyph.mask & self.mask != 0 && (self.syllable == 0 || self.syllable == glyph.syllable())
     }
 
-    /// Whether the walk goes on behind a glyph when it looks for another one.
+    /// Whether the iterator goes on after a glyph when it looks for another one.
     ///
     /// # Proved
     ///
     /// ```text
-    /// ensures { result ≡ passes self.now wanted.now glyph.now }
+    /// ensures { result ≡ passes self.now matcher.now glyph.now }
     /// ```
     #[inline]
-    pub fn passes(&self, wanted: &Wanted, glyph: &hb_glyph_info_t) -> bool {
-        self.filter.passes_over(glyph)
+    pub fn passes(&self, matcher: &Matcher, glyph: &hb_glyph_info_t) -> bool {
+        self.lookup_props.passes_over(glyph)
             || self.may_ignore(glyph.unicode_props(), glyph.glyph_props())
-                && !(self.is_within(glyph) && wanted.fits(glyph.glyph_id))
+                && !(self.is_within(glyph) && matcher.fits(glyph.glyph_id))
     }
 
-    /// Whether a glyph at which the walk stays is what is asked for.
+    /// Whether a glyph at which the iterator stays is what is asked for.
     ///
     /// # Proved
     ///
     /// ```text
-    /// ensures { result ≡ matches self.now wanted.now glyph.now }
+    /// ensures { result ≡ matches self.now matcher.now glyph.now }
     /// ```
     #[inline]
-    pub fn matches(&self, wanted: &Wanted, glyph: &hb_glyph_info_t) -> bool {
-        self.is_within(glyph) && (wanted.is_shown() || wanted.fits(glyph.glyph_id))
+    pub fn matches(&self, matcher: &Matcher, glyph: &hb_glyph_info_t) -> bool {
+        self.is_within(glyph) && (matcher.is_shown() || matcher.fits(glyph.glyph_id))
     }
 
-    /// The next glyph behind a place.
+    /// The next glyph after a place.
     ///
     /// # Requires
     ///
@@ -196,15 +204,15 @@ impl<'a> Walk<'a> {
     /// # Proved
     ///
     /// ```text
-    /// ensures is { result ≡ next_found self.now wanted.now glyphs.now place }
+    /// ensures is { result ≡ next_found self.now matcher.now glyphs.now place }
     /// ensures behind { IsBehind result place (length glyphs.now) }
     /// ```
     #[inline]
-    pub fn next(&self, wanted: &Wanted, glyphs: &[hb_glyph_info_t], place: usize) -> Found {
+    pub fn next(&self, matcher: &Matcher, glyphs: &[hb_glyph_info_t], place: usize) -> Found {
         debug_assert!(place < glyphs.len());
-        let next = self.first_kept(wanted, glyphs, place + 1);
+        let next = self.first_kept(matcher, glyphs, place + 1);
         if next < glyphs.len() {
-            self.found_at(wanted, glyphs, next)
+            self.found_at(matcher, glyphs, next)
         } else {
             Found::End
         }
@@ -219,17 +227,17 @@ impl<'a> Walk<'a> {
     /// # Proved
     ///
     /// ```text
-    /// ensures is { result ≡ previous_found self.now wanted.now glyphs.now place }
+    /// ensures is { result ≡ previous_found self.now matcher.now glyphs.now place }
     /// ensures before { IsBefore result place }
     /// ```
     #[inline]
-    pub fn previous(&self, wanted: &Wanted, glyphs: &[hb_glyph_info_t], place: usize) -> Found {
+    pub fn previous(&self, matcher: &Matcher, glyphs: &[hb_glyph_info_t], place: usize) -> Found {
         debug_assert!(place <= glyphs.len());
-        let end = self.kept_before(wanted, glyphs, place);
+        let end = self.kept_before(matcher, glyphs, place);
         if end == 0 {
             Found::End
         } else {
-            self.found_at(wanted, glyphs, end - 1)
+            self.found_at(matcher, glyphs, end - 1)
         }
     }
 
@@ -238,9 +246,9 @@ impl<'a> Walk<'a> {
     /// # Requires
     ///
     /// - `place < length glyphs.now`
-    fn found_at(&self, wanted: &Wanted, glyphs: &[hb_glyph_info_t], place: usize) -> Found {
+    fn found_at(&self, matcher: &Matcher, glyphs: &[hb_glyph_info_t], place: usize) -> Found {
         debug_assert!(place < glyphs.len());
-        if self.matches(wanted, &glyphs[place]) {
+        if self.matches(matcher, &glyphs[place]) {
             Found::At(place)
         } else {
             Found::Other(place)
@@ -252,27 +260,27 @@ impl<'a> Walk<'a> {
     /// # Requires
     ///
     /// - `start ≤ length glyphs.now`
-    fn first_kept(&self, wanted: &Wanted, glyphs: &[hb_glyph_info_t], start: usize) -> usize {
+    fn first_kept(&self, matcher: &Matcher, glyphs: &[hb_glyph_info_t], start: usize) -> usize {
         debug_assert!(start <= glyphs.len());
         for place in start..glyphs.len() {
-            if !self.passes(wanted, &glyphs[place]) {
+            if !self.passes(matcher, &glyphs[place]) {
                 return place;
             }
         }
         glyphs.len()
     }
 
-    /// Where one comes to going back from a place over the glyphs that are passed over: behind one that is
+    /// Where one comes to going back from a place over the glyphs that are passed over: after one that is
     /// not, or to the start.
     ///
     /// # Requires
     ///
     /// - `place ≤ length glyphs.now`
-    fn kept_before(&self, wanted: &Wanted, glyphs: &[hb_glyph_info_t], place: usize) -> usize {
+    fn kept_before(&self, matcher: &Matcher, glyphs: &[hb_glyph_info_t], place: usize) -> usize {
         debug_assert!(place <= glyphs.len());
         let mut end = place;
         for _turn in 0..place {
-            if end == 0 || !self.passes(wanted, &glyphs[end - 1]) {
+            if end == 0 || !self.passes(matcher, &glyphs[end - 1]) {
                 return end;
             }
             end -= 1;

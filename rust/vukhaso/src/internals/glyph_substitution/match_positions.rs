@@ -2,10 +2,10 @@
 
 //! The glyphs of a match while lookups are applied to them: their places follow glyphs that are put in or taken out.
 
-use crate::glyph_layout::Places;
+use crate::glyph_layout::MatchPositions;
 
-/// The place of this number after so many glyphs were put in behind the glyph `number`: they are the
-/// next glyphs of the match, and those behind them move up.
+/// The place of this number after so many glyphs were put in after the glyph `number`: they are the
+/// next glyphs of the match, and those after them move up.
 ///
 /// # Requires
 ///
@@ -25,24 +25,24 @@ fn grown_place(places: &[usize], number: usize, added: usize, index: usize) -> u
     }
 }
 
-/// The places after so many glyphs were put in behind the glyph `number`.
+/// The places after so many glyphs were put in after the glyph `number`.
 ///
 /// # Requires
 ///
 /// - `number: number < length places.now`
 /// - `few: length places.now + added ≤ 64`
-fn grown(places: &[usize], number: usize, added: usize) -> Places {
+fn grown(places: &[usize], number: usize, added: usize) -> MatchPositions {
     debug_assert!(number < places.len());
     debug_assert!(places.len() + added <= 64);
-    let mut grown = Places::new();
+    let mut grown = MatchPositions::new();
     for index in 0..places.len() + added {
         grown.push(grown_place(places, number, added, index));
     }
     grown
 }
 
-/// The place of this number after so many glyphs of the match were taken out behind the glyph `number`:
-/// those behind them move down.
+/// The place of this number after so many glyphs of the match were taken out after the glyph `number`:
+/// those after them move down.
 ///
 /// # Requires
 ///
@@ -56,16 +56,16 @@ fn shrunk_place(places: &[usize], number: usize, removed: usize, index: usize) -
     }
 }
 
-/// The places after so many glyphs of the match were taken out behind the glyph `number`.
+/// The places after so many glyphs of the match were taken out after the glyph `number`.
 ///
 /// # Requires
 ///
 /// - `removed: removed ≤ length places.now`
 /// - `few: length places.now ≤ 64`
-fn shrunk(places: &[usize], number: usize, removed: usize) -> Places {
+fn shrunk(places: &[usize], number: usize, removed: usize) -> MatchPositions {
     debug_assert!(removed <= places.len());
     debug_assert!(places.len() <= 64);
-    let mut shrunk = Places::new();
+    let mut shrunk = MatchPositions::new();
     for index in 0..places.len() - removed {
         shrunk.push(shrunk_place(places, number, removed, index));
     }
@@ -77,9 +77,9 @@ fn shrunk(places: &[usize], number: usize, removed: usize) -> Places {
 /// # Requires
 ///
 /// - `length places.now ≤ 64`
-fn all_moved_up(places: &[usize], by: usize) -> Places {
+fn all_moved_up(places: &[usize], by: usize) -> MatchPositions {
     debug_assert!(places.len() <= 64);
-    let mut moved = Places::new();
+    let mut moved = MatchPositions::new();
     for index in 0..places.len() {
         moved.push(places[index].saturating_add(by));
     }
@@ -90,14 +90,14 @@ fn all_moved_up(places: &[usize], by: usize) -> Places {
 #[derive(Debug)]
 pub(crate) struct Matched {
     /// The places of the glyphs.
-    places: Places,
+    places: MatchPositions,
     /// Where the match ends.
     pub(crate) end: usize,
 }
 
 impl Matched {
     /// The match with these places and this end, counted from a cursor that so many glyphs stand before.
-    pub(crate) fn new(places: &Places, end: usize, before: usize) -> Self {
+    pub(crate) fn new(places: &MatchPositions, end: usize, before: usize) -> Self {
         Matched {
             places: all_moved_up(places.as_slice(), before),
             end: before.saturating_add(end),
@@ -113,7 +113,7 @@ impl Matched {
     /// so many glyphs before and have so many after it. Where there would be more places than a match has,
     /// the answer is false.
     ///
-    /// HarfBuzz takes it that glyphs were put in, or taken out, right behind the one that the lookup was
+    /// HarfBuzz takes it that glyphs were put in, or taken out, right after the one that the lookup was
     /// applied to.
     pub(crate) fn follow(&mut self, number: usize, before: usize, after: usize) -> bool {
         if after >= before {

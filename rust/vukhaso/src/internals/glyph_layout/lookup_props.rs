@@ -21,14 +21,14 @@ const MARK_ATTACHMENT_CLASS: u16 = 0xFF00;
 
 /// The glyphs that a lookup passes over.
 #[derive(Clone, Copy, Debug)]
-pub struct Filter<'a> {
+pub struct LookupProps<'a> {
     /// The lookup's flag.
     pub flags: u16,
     /// The marks that are not passed over, where the flag asks for a set of them.
     pub marks: Coverage<'a>,
 }
 
-impl<'a> Filter<'a> {
+impl<'a> LookupProps<'a> {
     /// Whether the lookup passes over the glyph, by its properties.
     ///
     /// # Proved
