@@ -28,7 +28,7 @@ use Rattle.glyph_layout.specs.declared.skipping_iterator.SkippingIterator.{Skipp
 use Rattle.glyph_layout.specs.declared.matcher.Matcher.TheVariants.{Any}
 use Rattle.glyph_layout.proofs.NeighbourLemmas.{counts-no}
 use Rattle.glyph_layout.proofs.RuleSetLemmas.{is_shown-wanted, next_place-absent, next_place-other}
-use Rattle.glyph_layout.proofs.PatternLemmas.{pattern_fits-no_ahead, pattern_fits-no_next}
+use Rattle.glyph_layout.proofs.PatternLemmas.{pattern_fits-no_lookahead, pattern_fits-no_next}
 
 -- the number of a part whose numbers stand from a place on
 asks_from : (m : MatchFunction) (t : List ℕ) (at count n a : ℕ) → n < count → number_16 t (at + 2 * n) ≡ Some a
@@ -198,7 +198,7 @@ missed_lookahead s m p number beside asks is other =
     let one : p.input_count ≡ 0 = omega (arith, asks.0) in
     let none : 0 - p.input_count ≡ 0 = omega arith in
     let for = subst (λ n. AsksFor m.lookahead p.lookahead p.lookahead_count n number) none asks.1 in
-    pattern_fits-no_ahead s p one for.less (rw for.is (is for.numbers number for.has other))
+    pattern_fits-no_lookahead s p one for.less (rw for.is (is for.numbers number for.has other))
 
 rule_fits-input_by : (s : ApplyContext) (chained : Bool) (m : MatchFunctions) (t : List ℕ) (number : ℕ) (beside : Beside) (o : Option Pattern)
     → rule_pattern chained m t ≡ o → asked_at chained t 0 ≡ Some (Input number) → IsInput s m beside → number ≢ beside.number
@@ -220,10 +220,10 @@ rule_fits-ahead_by s chained m t number beside None is asked seen other = refl
 rule_fits-ahead_by s chained m t number beside (Some p) is asked seen other =
     missed_lookahead s m p number beside (asks chained m t 0 (Lookahead number) p asked is) seen other
 
-pub rule_fits-neighbours : (s : ApplyContext) (chained : Bool) (m : MatchFunctions) (t : List ℕ) (number : ℕ) (beside : Beside)
+pub rule_fits-lookahead : (s : ApplyContext) (chained : Bool) (m : MatchFunctions) (t : List ℕ) (number : ℕ) (beside : Beside)
     → asked_at chained t 0 ≡ Some (Lookahead number) → IsLookahead s m beside → number ≢ beside.number
     → rule_fits s (rule_pattern chained m t) ≡ false
-rule_fits-neighbours s chained m t number beside asked seen other =
+rule_fits-lookahead s chained m t number beside asked seen other =
     rule_fits-ahead_by s chained m t number beside _ refl asked seen other
 
 -- the next glyph that counts, by its number

@@ -9,7 +9,7 @@ use Rattle.glyph_layout.specs.Pattern.{Pattern, chained_covered_of, chained_cove
 use Rattle.glyph_layout.specs.declared.search.ApplyContext.{ApplyContext}
 use Rattle.glyph_layout.specs.declared.subtable.NextAsked.{NextAsked}
 use Rattle.glyph_layout.specs.declared.matcher.Matcher.TheVariants.{Covered}
-use Rattle.glyph_layout.proofs.PatternLemmas.{pattern_fits-no_ahead, pattern_fits-no_next}
+use Rattle.glyph_layout.proofs.PatternLemmas.{pattern_fits-no_lookahead, pattern_fits-no_next}
 
 -- the second glyph of the input
 missed_input : (s : ApplyContext) (p : Pattern) (next : NextAsked) → next.is_input ≡ true → 0 < p.input_count
@@ -23,7 +23,7 @@ missed_lookahead : (s : ApplyContext) (p : Pattern) (next : NextAsked) → next.
     → p.lookahead 0 ≡ Some (Covered next.coverage) → IsMissed next s → pattern_fits s p ≡ false
 missed_lookahead s p next backtrack one some asks missed =
     let there = rw backtrack at missed in
-    pattern_fits-no_ahead s p one some (rw asks there)
+    pattern_fits-no_lookahead s p one some (rw asks there)
 
 slice_get-head : (cs : List Coverage) (n : ℕ) → slice_get (drop n cs) 0 ≡ slice_get cs n
 slice_get-head [] zero = refl

@@ -50,9 +50,9 @@ match_end-one : (s : ApplyContext) (asked : ℕ → Option Matcher) (n : ℕ) �
 match_end-one s asked n one = rw one (rw (last_place_none s asked) refl)
 
 -- nor is the first one after an input of one
-pub pattern_fits-no_ahead : (s : ApplyContext) (p : Pattern) → p.input_count ≡ 0 → 0 < p.lookahead_count
+pub pattern_fits-no_lookahead : (s : ApplyContext) (p : Pattern) → p.input_count ≡ 0 → 0 < p.lookahead_count
     → next_place (context_iterator s true) (p.lookahead 0) s.input.now 0 ≡ None → pattern_fits s p ≡ false
-pattern_fits-no_ahead s p one some missing =
+pattern_fits-no_lookahead s p one some missing =
     let step = λ (matcher : Option Matcher) (place : ℕ). next_place (context_iterator s (1 == 1)) matcher s.input.now place in
     let none : lookahead_end s p.lookahead 1 p.lookahead_count ≡ None =
     option_map-none _ (steps_from-missing step p.lookahead 0 p.lookahead_count 0 0 (steps_from-none step p.lookahead 0) some missing) in

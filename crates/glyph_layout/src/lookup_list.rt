@@ -467,9 +467,9 @@ fn subtable_count(list: &[u8], count: usize) -> usize
 /// How many coverages a context by coverages has before the cursor, for its input and after it.
 fn coverage_numbers(form: Form, table: &[u8]) -> Option<(u16, u16, u16)>
     ensures covered { is_some result ≡ true → is_covered_form form ≡ true }
-    ensures behind { IfSome result (λ numbers. numbers.0 ≡ backtrack_number (is_chained_form form) table.now) }
+    ensures backtrack { IfSome result (λ numbers. numbers.0 ≡ backtrack_number (is_chained_form form) table.now) }
     ensures input { IfSome result (λ numbers. numbers.1 ≡ input_number (is_chained_form form) table.now) }
-    ensures ahead { IfSome result (λ numbers. numbers.2 ≡ lookahead_number (is_chained_form form) table.now) }
+    ensures lookahead { IfSome result (λ numbers. numbers.2 ≡ lookahead_number (is_chained_form form) table.now) }
 {
     match form {
         Form::Coverages => Some((0, u16_at(table, 2)?, 0)),

@@ -97,11 +97,11 @@ struct Seen {
 /// What stands after the cursor for the rules of a set, of which there are so many.
 fn seen_by(rules: &RuleSet, count: usize, ctx: &ApplyContext) -> Seen
     requires { 0 < length ctx.now.input.now }
-    ensures ahead { (p : Pattern) → may_fit result.neighbours p
+    ensures neighbours { (p : Pattern) → may_fit result.neighbours p
         ≡ (not (looks_first ctx.now rules.now.is_chained count) || fits_next ctx.now p) }
     ensures told { IfSome result.told (IsTold result.neighbours rules.now.match_functions) }
     ensures input { IfSome result.input (IsInput ctx.now rules.now.match_functions) }
-    ensures behind { IfSome result.lookahead (IsLookahead ctx.now rules.now.match_functions) }
+    ensures lookahead { IfSome result.lookahead (IsLookahead ctx.now rules.now.match_functions) }
 {
     let neighbours = seen_ahead(count, rules.is_chained, ctx);
     match Told::new(&neighbours, &rules.match_functions) {
@@ -196,11 +196,11 @@ fn fit_at<'a>(
 ) -> Option<Fit<'a>>
     requires some { 0 < length ctx.now.input.now }
     requires few { index < 65536 }
-    requires ahead { (p : Pattern) → may_fit seen.now.neighbours p
+    requires neighbours { (p : Pattern) → may_fit seen.now.neighbours p
         ≡ (not (looks_first ctx.now rules.now.is_chained (rule_count rules.now.table.now)) || fits_next ctx.now p) }
     requires told { IfSome seen.now.told (IsTold seen.now.neighbours rules.now.match_functions) }
     requires input { IfSome seen.now.input (IsInput ctx.now rules.now.match_functions) }
-    requires behind { IfSome seen.now.lookahead (IsLookahead ctx.now rules.now.match_functions) }
+    requires lookahead { IfSome seen.now.lookahead (IsLookahead ctx.now rules.now.match_functions) }
     ensures spent { IsNotMore search.old.budget search.new.budget }
     ensures fits { IfSome result (IsFitWithin (length ctx.now.out.now) (length ctx.now.input.now)) }
     ensures rule { IfSome result

@@ -1,7 +1,7 @@
 use Rattle.std.proofs.Common.{◌≡◌, ◌∙◌, ap, sym, Some}
 use Rattle.glyph_layout.specs.Asked.{asked_at}
 use Rattle.glyph_layout.specs.declared.asked.Asked.TheVariants.{Input, Lookahead}
-use Rattle.glyph_layout.proofs.AskedLemmas.{if_some-more, rule_fits-input, rule_fits-neighbours}
+use Rattle.glyph_layout.proofs.AskedLemmas.{if_some-more, rule_fits-input, rule_fits-lookahead}
 use Rattle.glyph_layout.proofs.rule_set.missed_by.Goals as goal
 
 pub returns-in_ok-seen-in-Input : goal.returns-in_ok-seen-in-Input
@@ -12,10 +12,10 @@ returns-in_ok-seen-in-Input c =
     rule_fits-input s c.args.is_chained m c.args.table.now c.in-Input.asked c.in_ok-seen-in-Input.field-0 asked
     (rw c.in_ok-seen-in-Input.was at input) both.1)
 
-pub returns-in_ok-seen-in-Ahead : goal.returns-in_ok-seen-in-Ahead
-returns-in_ok-seen-in-Ahead c =
-    let asked : asked_at c.args.is_chained c.args.table.now 0 ≡ Some (Lookahead c.in-Ahead.asked) =
-    sym c.asked_at.ensures ∙ (c.in_ok-asked.was ∙ ap Some c.in-Ahead.is) in
-    if_some-more c.other_than-in-Ahead.result c.other_than-in-Ahead.ensures (λ beside both. λ s m input backtrack.
-    rule_fits-neighbours s c.args.is_chained m c.args.table.now c.in-Ahead.asked c.in_ok-seen-in-Ahead.field-0 asked
-    (rw c.in_ok-seen-in-Ahead.was at backtrack) both.1)
+pub returns-in_ok-seen-in-Lookahead : goal.returns-in_ok-seen-in-Lookahead
+returns-in_ok-seen-in-Lookahead c =
+    let asked : asked_at c.args.is_chained c.args.table.now 0 ≡ Some (Lookahead c.in-Lookahead.asked) =
+    sym c.asked_at.ensures ∙ (c.in_ok-asked.was ∙ ap Some c.in-Lookahead.is) in
+    if_some-more c.other_than-in-Lookahead.result c.other_than-in-Lookahead.ensures (λ beside both. λ s m input backtrack.
+    rule_fits-lookahead s c.args.is_chained m c.args.table.now c.in-Lookahead.asked c.in_ok-seen-in-Lookahead.field-0 asked
+    (rw c.in_ok-seen-in-Lookahead.was at backtrack) both.1)
