@@ -166,10 +166,10 @@ pub(crate) fn first_fit<'a>(
 ///
 /// - `some: 0 < length ctx.now.input.now`
 /// - `few: index < 65536`
-/// - `ahead: (p : Pattern) → may_fit seen.now.neighbours p ≡ (not (looks_first ctx.now rules.now.is_chained (rule_count rules.now.table.now)) || fits_next ctx.now p)`
+/// - `neighbours: (p : Pattern) → may_fit seen.now.neighbours p ≡ (not (looks_first ctx.now rules.now.is_chained (rule_count rules.now.table.now)) || fits_next ctx.now p)`
 /// - `told: IfSome seen.now.told (IsTold seen.now.neighbours rules.now.match_functions)`
 /// - `input: IfSome seen.now.input (IsInput ctx.now rules.now.match_functions)`
-/// - `behind: IfSome seen.now.lookahead (IsLookahead ctx.now rules.now.match_functions)`
+/// - `lookahead: IfSome seen.now.lookahead (IsLookahead ctx.now rules.now.match_functions)`
 fn fit_at<'a>(
     rules: &RuleSet<'a>,
     index: usize,
