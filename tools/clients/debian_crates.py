@@ -30,7 +30,10 @@ def words_of(suite, tool="apt-get"):
     lists = FETCHED / suite
     lists.mkdir(parents=True, exist_ok=True)
     (lists / "debian.sources").write_text(SOURCES.format(suite))
+    # A package that the machine has fetched before is not named.
+    (lists / "archives/partial").mkdir(parents=True, exist_ok=True)
     options = {
+        "Dir::Cache::archives": lists / "archives",
         "Dir::Etc::sourcelist": lists / "debian.sources", "Dir::Etc::sourceparts": "-", "Dir::State::status": "/dev/null",
         "Dir::Cache::pkgcache": lists / "packages.bin", "Dir::Cache::srcpkgcache": lists / "sources.bin",
     }
@@ -44,12 +47,12 @@ def updated(suite):
     return words
 
 
-def needed(suite, packages):
-    """The packages with all that they need, as far as these are crates."""
+def needed(suite, packages, kind="librust-"):
+    """The packages with all that they need, as far as these are of a kind: crates."""
     words = [*updated(suite), "--no-install-recommends", "--print-uris", "install", *packages]
     said = subprocess.run(words, check=True, capture_output=True, text=True).stdout
     files = [unquote(line.split("'")[1]).rsplit("/", 1)[1] for line in said.splitlines() if line.startswith("'")]
-    return sorted({file.split("_")[0] for file in files if file.startswith("librust-")})
+    return sorted({file.split("_")[0] for file in files if file.startswith(kind)})
 
 
 def unpacked(suite, packages, room):

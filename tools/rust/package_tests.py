@@ -13,8 +13,12 @@ PACKAGE = ROOT / "rust/vukhaso"
 PROVED = ROOT / "crates/shaping_cli/out/shaping_cli"
 PROGRAMS, SEED = 20_000, 1
 
+# The most KiB of the package as it is published.
+LARGEST = 600
+
 sys.path.append(str(ROOT / "tools/harfbuzz"))
 
+import jobs_tests  # noqa: E402
 import programs  # noqa: E402
 
 
@@ -102,6 +106,15 @@ def test_program(tally, room):
     told, status = (stored / "stdout").read_text(), int((stored / "status").read_text())
     fault = "" if (ran.stdout, ran.stderr, ran.returncode) == (told, "", status) else f"status {ran.returncode}\n{ran.stderr}{ran.stdout}"
     tally.note("its stored run, which is the proved program's", fault)
+    tally.note("on several threads it answers as on one", jobs_tests.faults(program, room))
+
+
+def test_size(tally):
+    """What `cargo publish` would send."""
+    if tally.run("cargo package", ["cargo", "package", "--offline", "--quiet", "--no-verify", "--allow-dirty"]).returncode:
+        return
+    size = max((PACKAGE / "target/package").glob("*.crate"), key=lambda file: file.stat().st_mtime).stat().st_size
+    tally.note(f"it is under {LARGEST} KiB", "" if size < LARGEST << 10 else f"{size} bytes")
 
 
 def test_front(tally, room):
@@ -137,6 +150,7 @@ def test_all(tally):
     with tempfile.TemporaryDirectory(prefix="plain-rust-") as folder:
         test_rust(tally, Path(folder))
         test_program(tally, Path(folder))
+        test_size(tally)
         test_front(tally, Path(folder))
         test_readme(tally, Path(folder))
         test_c(tally, Path(folder))

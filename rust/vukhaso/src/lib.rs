@@ -60,6 +60,8 @@ pub mod capi;
 mod clap;
 #[cfg(feature = "std")]
 mod host;
+#[cfg(feature = "std")]
+mod jobs;
 
 #[cfg(feature = "std")]
 use internals::command;

@@ -41,8 +41,9 @@ pub(super) fn matches_of<'a, S: AsStr>(
     Ok(reading.matches)
 }
 
-/// The command with the options that each has.
+/// The command with the options that each has, and that of the package's program.
 fn with_help(mut command: Command<'_>) -> Result<Command<'_>, AllocError> {
+    command.args.push(crate::jobs::option())?;
     command.args.push(
         Arg::new("help")
             .long("help")

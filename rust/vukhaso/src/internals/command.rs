@@ -2,7 +2,7 @@
 
 //! The program `vukhaso_shape`, used as HarfBuzz's `hb-shape` is: options, lines of a text, and what is printed.
 
-mod arguments;
+pub(crate) mod arguments;
 pub mod batch;
 mod batch_answers;
 pub mod code_points;
@@ -11,7 +11,7 @@ pub mod ending;
 pub mod features;
 pub mod font_file;
 pub mod lines;
-mod loaded_font;
+pub(crate) mod loaded_font;
 pub mod options;
 mod picture;
 pub mod run;

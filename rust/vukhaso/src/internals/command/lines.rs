@@ -25,7 +25,7 @@ impl From<AllocError> for LinesError {
 }
 
 /// The error of a read.
-fn read_error(error: io::Error) -> LinesError {
+pub(crate) fn read_error(error: io::Error) -> LinesError {
     match error.kind() {
         ErrorKind::OutOfMemory => LinesError::Memory,
         _ => LinesError::Read(error),

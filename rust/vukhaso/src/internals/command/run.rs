@@ -90,7 +90,7 @@ impl<'a> From<OptionsError<'a>> for CommandError<'a> {
 
 impl<'a> CommandError<'a> {
     /// The error of lines that are in this file.
-    fn of_lines(file: &'a str, error: LinesError) -> Self {
+    pub(crate) fn of_lines(file: &'a str, error: LinesError) -> Self {
         match error {
             LinesError::Read(error) => CommandError::Text { file, error },
             LinesError::Write(error) => CommandError::Output(error),
@@ -223,7 +223,7 @@ fn shaper_of<'a>(font: &'a LoadedFont<'_>, options: &'a Options<'_>) -> LineShap
 }
 
 /// Whether names or extents of glyphs are printed.
-fn asks_font(flags: SerializeFlags) -> bool {
+pub(crate) fn asks_font(flags: SerializeFlags) -> bool {
     !flags.contains(SerializeFlags::NO_GLYPH_NAMES) || flags.contains(SerializeFlags::GLYPH_EXTENTS)
 }
 
