@@ -15,6 +15,12 @@ BEYOND_CORE = {"round": "Round", "floor": "Round", "ceil": "Round"}
 # What C sees as it is laid out, as in rustybuzz.
 SEEN_BY_C = {"hb_glyph_info_t", "GlyphPosition"}
 
+# Errors, and values that name calls: more may come, so that a match of a user's has an arm for them.
+OPEN_ENDED = {"Call", "LanguageError", "RenderFault", "ShapeError", "VerifyError"}
+
+# Types whose public fields are for the package's own modules, and no part of its interface.
+OF_MODULES = {"Face"}
+
 # How many words the body of a public function has at most that may be inlined into other crates, as the compiler of
 # Rattle inlines it.
 SHORT = 150
@@ -95,6 +101,8 @@ class Erased(Bodies):
             self.hold_chunk_types(item)
         if item.kind == "struct" and item.name in SEEN_BY_C:
             self.prefix[item.start] = "#[repr(C)]\n"
+        if item.kind == "enum" and item.name in OPEN_ENDED:
+            self.prefix[item.start] = "#[non_exhaustive]\n"
         if item.kind == "struct" and any(other.trait == "Flags" and other.name == item.name for other in self.reader.items):
             self.open_bits(item)
         if item.kind in ("struct", "enum", "trait", "impl"):
@@ -106,6 +114,8 @@ class Erased(Bodies):
                     self.erase_attribute(inner, attribute)
                 if self.source.text(inner.start, inner.last).rstrip(",").endswith("alloc: Global"):
                     self.cut_item(inner)
+                elif item.name in OF_MODULES and inner.is_public:
+                    self.prefix[inner.start] = "#[doc(hidden)]\n"
             elif inner.kind == "ghost" and item.kind in ("struct", "enum"):
                 self.cut_item(inner)
             else:

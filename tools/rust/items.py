@@ -25,9 +25,26 @@ class Items:
         subprocess.run(words, cwd=PACKAGE, check=True, capture_output=True, env={**os.environ, "RUSTC_BOOTSTRAP": "1"})
         self.said = json.loads((PACKAGE / "target/doc/vukhaso.json").read_text())
         self.files, self.lines, self.seen = {}, {}, {}
+        self.named = {}
 
     def item(self, number):
         return self.said["index"].get(str(number))
+
+    def note_types(self, node, name):
+        """Keeps the types of the package that an item names."""
+        if isinstance(node, dict):
+            if "resolved_path" in node:
+                self.named.setdefault(node["resolved_path"]["id"], name)
+            node = list(node.values())
+        for part in node if isinstance(node, list) else []:
+            self.note_types(part, name)
+
+    def unseen(self):
+        """The types of the package that stand in its interface and have no name there, a line each."""
+        for number, name in self.named.items():
+            item = self.item(number)
+            if item and item["crate_id"] == 0 and number not in self.seen:
+                yield f"users cannot name {item['name']}, of {name}"
 
     def text(self, item):
         """The declaration as it stands in its file: a function without its body. One that a macro writes is its name."""
@@ -66,6 +83,7 @@ class Items:
         kind = next(iter(item["inner"]))
         inner = item["inner"][kind]
         before = self.seen.setdefault(item["id"], path)
+        self.note_types({name: part for name, part in inner.items() if name != "impls"}, path)
         if before != path:
             self.lines[path] = [f"{path} is {before}"]
         elif kind == "module":
@@ -75,10 +93,11 @@ class Items:
             self.lines[path] = [f"{path}: {self.text(item)}"]
         elif kind != "constant":
             open_ended = " (non_exhaustive)" if "non_exhaustive" in str(item["attrs"]) else ""
-            self.lines[path] = [f"{kind} {path}{open_ended}", *sorted({*self.members(inner, kind)})]
+            self.lines[path] = [f"{kind} {path}{open_ended}", *sorted({*self.members(item, kind)})]
 
-    def members(self, inner, kind):
+    def members(self, item, kind):
         """The fields, variants and methods of a type, and the traits that it has."""
+        inner = item["inner"][kind]
         parts = inner["variants"] if kind == "enum" else inner["items"] if kind == "trait" else []
         if kind == "struct":
             shape = inner["kind"]
@@ -86,6 +105,7 @@ class Items:
         for number in parts:
             if number is not None and (part := self.item(number)):
                 if (kind != "struct" or part["visibility"] == "public") and "hidden" not in str(part["attrs"]):
+                    self.note_types(part["inner"], item["name"])
                     yield f"    {self.text(part)}"
         traits = set()
         for number in inner.get("impls", []):
@@ -98,6 +118,7 @@ class Items:
             else:
                 for method in map(self.item, made["items"]):
                     if method and method["visibility"] == "public" and "hidden" not in str(method["attrs"]):
+                        self.note_types(method["inner"], item["name"])
                         yield f"    {self.text(method)}"
         if traits - OF_ITSELF:
             yield f"    : {' + '.join(sorted(traits - OF_ITSELF))}"
@@ -112,6 +133,8 @@ def listed():
 
 
 def difference():
-    """The lines of the list that are not as they would be written."""
-    ours, theirs = LIST.read_text().splitlines(), listed().splitlines()
-    return "\n".join(difflib.unified_diff(ours, theirs, "public-items.txt", "the package", lineterm="", n=0))
+    """The lines of the list that are not as they would be written, and the types that have no name there."""
+    items = Items()
+    ours, theirs = LIST.read_text().splitlines(), items.listed().splitlines()
+    differing = difflib.unified_diff(ours, theirs, "public-items.txt", "the package", lineterm="", n=0)
+    return "\n".join([*differing, *items.unseen()])

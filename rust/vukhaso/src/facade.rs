@@ -1,16 +1,19 @@
 //! The names that a user of rustybuzz knows, at the root.
 
-pub use crate::bitflags::Flags;
+pub use crate::arrayvec::{ArrayVec, CapacityError};
+pub use crate::bitflags::{Flag, Flags};
 pub use crate::buffer::{
-    BufferClusterLevel, GlyphBuffer, UnicodeBuffer, hb_buffer_t, hb_glyph_info_t,
+    BufferClusterLevel, GlyphBuffer, UnicodeBuffer, hb_buffer_cluster_level_t, hb_buffer_t,
+    hb_glyph_info_t,
 };
 pub use crate::common::{Direction, GlyphId, Script, Tag, TagExt, script};
 pub use crate::font_shaper::{
-    Face, FaceNames, ShapeError, ShapePlan, Variation, shape, shape_with_plan,
+    Face, FaceNames, ShapeError, ShapePlan, Variation, VerifyError, shape, shape_with_plan,
 };
 pub use crate::glyph::{
-    BufferFlags, CharExt, GlyphExtents, GlyphInfo, GlyphNames, GlyphPosition, GlyphPropsFlags,
-    NoGlyphNames, SerializeFlags, UnicodeProps, glyph_flag,
+    BufferFlags, CharExt, CombiningClasses, Compositions, Decompositions, GlyphExtents, GlyphInfo,
+    GlyphNames, GlyphPosition, GlyphPropsFlags, Mirrors, NoGlyphNames, SerializeFlags,
+    UnicodeProps, glyph_flag, hb_buffer_scratch_flags_t, hb_unicode_general_category_t, space_t,
 };
 pub use crate::memory::AllocError;
 pub use crate::runs::{Answer, Call, RenderFault, Stopped, render, render_at, replay};

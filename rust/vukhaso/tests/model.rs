@@ -245,6 +245,7 @@ impl Model {
             | Call::UnsafeToConcatFromOutbuffer(start, end) => {
                 self.is_sides_range(self.span(start, end))
             }
+            _ => unreachable!("a call that the model lacks"),
         }
     }
 

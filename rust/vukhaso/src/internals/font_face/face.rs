@@ -37,38 +37,55 @@ pub struct Lookups<'a> {
 #[derive(Debug)]
 pub struct Face<'a> {
     /// The tables of the font.
+    #[doc(hidden)]
     pub tables: Tables<'a>,
     /// How many font units make an em.
+    #[doc(hidden)]
     pub units_per_em: u16,
     /// How many glyphs the font has.
+    #[doc(hidden)]
     pub glyph_count: u16,
     /// The map from characters to glyphs.
+    #[doc(hidden)]
     pub characters: CharacterMap<'a>,
     /// Advances and side bearings in horizontal lines.
+    #[doc(hidden)]
     pub horizontal: Metrics<'a>,
     /// Advances and side bearings in vertical lines.
+    #[doc(hidden)]
     pub vertical: Metrics<'a>,
     /// Where glyphs stand in vertical lines.
+    #[doc(hidden)]
     pub vorg: VerticalOrigins<'a>,
     /// How far horizontal lines reach up and down, in font units, where the font says it.
+    #[doc(hidden)]
     pub extents: Option<FontExtents>,
     /// The classes of the glyphs.
+    #[doc(hidden)]
     pub gdef: Gdef<'a>,
     /// The outlines of the glyphs.
+    #[doc(hidden)]
     pub outlines: Outlines<'a>,
     /// Its bitmaps, and what it says of glyphs that are drawn in colours.
+    #[doc(hidden)]
     pub color: ColorTables<'a>,
     /// The tables of the font's lookups.
+    #[doc(hidden)]
     pub layout: Layout<'a>,
     /// The lookups.
+    #[doc(hidden)]
     pub lookups: Lookups<'a>,
     /// Whether the font positions its marks itself: whether it has a table `GPOS`.
+    #[doc(hidden)]
     pub has_gpos: bool,
     /// The size at which the font is used.
+    #[doc(hidden)]
     pub scale: Scale,
     /// The size in points for which glyphs stand closer or farther apart; 0 where none is set.
+    #[doc(hidden)]
     pub points_per_em: f32,
     /// What the font says of its variations, and those that are chosen.
+    #[doc(hidden)]
     pub variations: FaceVariations<'a>,
 }
 

@@ -32,6 +32,7 @@ use crate::script_shapers::ZeroWidthMarks;
 
 /// Why a text was not shaped.
 #[derive(Clone, Copy, PartialEq, Eq, Debug)]
+#[non_exhaustive]
 pub enum ShapeError {
     /// The text would have become longer than the buffer's limit.
     TooLong,

@@ -15,6 +15,7 @@ use crate::memory::{AllocError, Vec};
 
 /// Why glyphs were not what they say of themselves.
 #[derive(Clone, Copy, PartialEq, Eq, Debug)]
+#[non_exhaustive]
 pub enum VerifyError {
     /// Clusters neither rise nor fall along the line.
     NotMonotone,

@@ -6,6 +6,7 @@ use crate::buffer::hb_glyph_info_t;
 
 /// A call of a buffer, by the name of the method that it makes, with the same arguments.
 #[derive(Clone, Copy, Debug)]
+#[non_exhaustive]
 pub enum Call<'a> {
     /// Opens an output. Requires that none is open.
     ClearOutput,

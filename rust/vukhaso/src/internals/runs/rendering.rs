@@ -15,6 +15,7 @@ const FIRST_FEATURE_BIT: u32 = 8;
 
 /// Why a text could not be rendered.
 #[derive(Clone, Copy, PartialEq, Eq, Debug)]
+#[non_exhaustive]
 pub enum RenderFault {
     /// The text is longer than a buffer may be.
     Length,

@@ -19,6 +19,7 @@ pub struct Language(String);
 
 /// Why a text is no language.
 #[derive(Clone, Copy, PartialEq, Eq, Debug)]
+#[non_exhaustive]
 pub enum LanguageError {
     /// The text is empty.
     Invalid = 1,
