@@ -4,6 +4,7 @@ pub mod Context
 pub mod Digest
 pub mod FirstEdit
 pub mod FirstGlyphs
+pub mod Formats
 pub mod Forms
 pub mod GlyphTable
 pub mod LigatureParts

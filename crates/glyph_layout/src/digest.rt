@@ -108,6 +108,10 @@ impl Summary for Digest {
 
     #[tactic(auto, unfolding(crate::specs::Digest::may_have))]
     fn add_range(&mut self, first: u32, last: u32) {
+        if first == last {
+            self.add(first);
+            return;
+        }
         self.singles = with_rows(self.singles, first, last);
         self.sixteens = with_rows(self.sixteens, first / 16, last / 16);
         self.blocks = with_rows(self.blocks, first / 128, last / 128);

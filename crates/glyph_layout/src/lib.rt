@@ -11,6 +11,7 @@ pub mod budget;
 pub mod context;
 pub mod digest;
 pub mod first_glyphs;
+mod formats;
 pub mod glyph_table;
 pub mod ligature_parts;
 pub mod lookup_list;

@@ -13,6 +13,7 @@ ghost use Rattle.glyph_layout.specs.SkippingIterator.{glyph_at};
 
 use crate::digest::Digest;
 use crate::first_glyphs::{FirstGlyphs, summaries_of};
+use crate::formats::has_format;
 use crate::lookup_props::LookupProps;
 use crate::search::MAX_CONTEXT_LENGTH;
 use crate::seconds::seconds_of;
@@ -93,7 +94,8 @@ impl<'a> Lookup<'a> {
 ///
 /// Reading is limited to 64 times the length of the table, as HarfBuzz limits it: what lookups share is read for each of
 /// them, and a font whose lookups share too much has no subtables from there on. A coverage or a table of classes with many
-/// rows that do not rise names no glyph, since it would have to be looked through for each.
+/// rows that do not rise names no glyph, since it would have to be looked through for each. A subtable is left out where its
+/// type has no such format, and all are where the extensions of a lookup are of several types, as in HarfBuzz.
 #[derive(Drop, Debug)]
 pub struct LookupList<'a> {
     /// The bytes of the table.
@@ -235,8 +237,9 @@ impl<'a> LookupList<'a> {
             Coverage::new(&[])
         };
         let first = self.subtables.len();
+        let is_mixed = lookup_type == self.extension && !self.has_one_type(table, count);
         for index in 0..count {
-            if !self.pay(2) {
+            if is_mixed || !self.pay(2) {
                 break;
             }
             if let Some(subtable) = table_at_16(table, 6 + 2 * index) {
@@ -256,17 +259,31 @@ impl<'a> LookupList<'a> {
         Ok(())
     }
 
-    /// Reads a subtable, or that after an extension, if there is room.
+    /// Whether the extensions of a lookup, so many, are of one type.
+    fn has_one_type(&mut self, table: &[u8], count: usize) -> bool
+        requires { count < 65536 }
+    {
+        let (first, _subtable) = behind_extension(table_or_empty(table, 6));
+        for index in 0..count {
+            let (lookup_type, _subtable) = behind_extension(table_or_empty(table, 6 + 2 * index));
+            if lookup_type != first || !self.pay(2) {
+                return false;
+            }
+        }
+        true
+    }
+
+    /// Reads a subtable, or that behind an extension, if there is room, and its type has its format.
     fn read_subtable(&mut self, lookup_type: u16, table: &'a [u8]) -> Result<(), AllocError> {
         let (lookup_type, table) = if lookup_type == self.extension {
             behind_extension(table)
         } else {
             (lookup_type, table)
         };
-        if lookup_type == self.extension || !self.pay(64) {
+        let format = u16_at(table, 0).unwrap_or(0);
+        if !has_format(self.is_positioning(), lookup_type, format) || !self.pay(64) {
             return Ok(());
         }
-        let format = u16_at(table, 0).unwrap_or(0);
         let form = self.form_of(lookup_type, format);
         let first_coverage = self.coverages.len();
         self.read_coverages(form, table)?;

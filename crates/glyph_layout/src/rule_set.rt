@@ -233,6 +233,7 @@ pub(crate) fn counts_around(ctx: &ApplyContext, glyph: &hb_glyph_info_t) -> bool
 }
 
 /// Whether the rule in these bytes asks for other glyphs than the next two, and that is known to be looked at so far.
+#[inline(always)]
 fn is_told_apart(table: &[u8], is_chained: bool, seen: &Seen, beyond: &Beyond) -> bool
     ensures { IsTrue result → (m : MatchFunctions) → (p : Pattern) → IfSome seen.now.told (IsTold seen.now.neighbours m)
         → rule_pattern is_chained m table.now ≡ Some p → may_fit seen.now.neighbours p ≡ false }
@@ -244,6 +245,7 @@ fn is_told_apart(table: &[u8], is_chained: bool, seen: &Seen, beyond: &Beyond) -
 }
 
 /// What stands right after the cursor, where the rule in these bytes asks for something else there.
+#[inline(always)]
 fn missed_by(table: &[u8], is_chained: bool, seen: &Seen) -> Option<Beside>
     ensures { IfSome result (λ beside. (s : ApplyContext) → (m : MatchFunctions) → IfSome seen.now.input (IsInput s m)
         → IfSome seen.now.lookahead (IsLookahead s m) → rule_fits s (rule_pattern is_chained m table.now) ≡ false) }

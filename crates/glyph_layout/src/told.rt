@@ -72,6 +72,7 @@ impl Numbers {
     }
 
     /// Whether something else is asked for.
+    #[inline(always)]
     fn is_other(&self, asked: &Asked) -> bool
         ensures { result ≡ is_other self.now asked.now }
     {
@@ -125,6 +126,7 @@ impl Told {
     }
 
     /// Whether the rule in these bytes asks for other glyphs, and that is known to be looked at so far.
+    #[inline(always)]
     pub(crate) fn is_passed(&self, table: &[u8], is_chained: bool, beyond: &Beyond) -> bool
         ensures { IsTrue result → (neighbours : Neighbours) → (m : MatchFunctions) → (p : Pattern) → IsTold neighbours m self.now
             → rule_pattern is_chained m table.now ≡ Some p → may_fit neighbours p ≡ false }

@@ -9,6 +9,7 @@ use crate::font_tables::gdef::Gdef;
 use crate::glyph::hb_glyph_info_t;
 use crate::glyph_layout::digest::Digest;
 use crate::glyph_layout::first_glyphs::{FirstGlyphs, summaries_of};
+use crate::glyph_layout::formats::has_format;
 use crate::glyph_layout::lookup_props::LookupProps;
 use crate::glyph_layout::search::MAX_CONTEXT_LENGTH;
 use crate::glyph_layout::seconds::seconds_of;
@@ -98,7 +99,8 @@ impl<'a> Lookup<'a> {
 ///
 /// Reading is limited to 64 times the length of the table, as HarfBuzz limits it: what lookups share is read for each of
 /// them, and a font whose lookups share too much has no subtables from there on. A coverage or a table of classes with many
-/// rows that do not rise names no glyph, since it would have to be looked through for each.
+/// rows that do not rise names no glyph, since it would have to be looked through for each. A subtable is left out where its
+/// type has no such format, and all are where the extensions of a lookup are of several types, as in HarfBuzz.
 ///
 /// # Proved
 ///
@@ -275,8 +277,9 @@ impl<'a> LookupList<'a> {
             Coverage::new(&[])
         };
         let first = self.subtables.len();
+        let is_mixed = lookup_type == self.extension && !self.has_one_type(table, count);
         for index in 0..count {
-            if !self.pay(2) {
+            if is_mixed || !self.pay(2) {
                 break;
             }
             if let Some(subtable) = table_at_16(table, 6 + 2 * index) {
@@ -296,17 +299,34 @@ impl<'a> LookupList<'a> {
         Ok(())
     }
 
-    /// Reads a subtable, or that after an extension, if there is room.
+    /// Whether the extensions of a lookup, so many, are of one type.
+    ///
+    /// # Requires
+    ///
+    /// - `count < 65536`
+    fn has_one_type(&mut self, table: &[u8], count: usize) -> bool {
+        debug_assert!(count < 65536);
+        let (first, _subtable) = behind_extension(table_or_empty(table, 6));
+        for index in 0..count {
+            let (lookup_type, _subtable) = behind_extension(table_or_empty(table, 6 + 2 * index));
+            if lookup_type != first || !self.pay(2) {
+                return false;
+            }
+        }
+        true
+    }
+
+    /// Reads a subtable, or that behind an extension, if there is room, and its type has its format.
     fn read_subtable(&mut self, lookup_type: u16, table: &'a [u8]) -> Result<(), AllocError> {
         let (lookup_type, table) = if lookup_type == self.extension {
             behind_extension(table)
         } else {
             (lookup_type, table)
         };
-        if lookup_type == self.extension || !self.pay(64) {
+        let format = u16_at(table, 0).unwrap_or(0);
+        if !has_format(self.is_positioning(), lookup_type, format) || !self.pay(64) {
             return Ok(());
         }
-        let format = u16_at(table, 0).unwrap_or(0);
         let form = self.form_of(lookup_type, format);
         let first_coverage = self.coverages.len();
         self.read_coverages(form, table)?;

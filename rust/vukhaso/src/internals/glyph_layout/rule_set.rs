@@ -202,6 +202,7 @@ pub(crate) fn counts_around(ctx: &ApplyContext, glyph: &hb_glyph_info_t) -> bool
 
 /// Whether the rule in these bytes asks for other glyphs than the next two, and that is known to be
 /// looked at so far.
+#[inline(always)]
 fn is_told_apart(table: &[u8], is_chained: bool, seen: &Seen, beyond: &Beyond) -> bool {
     match &seen.told {
         Some(told) => told.is_passed(table, is_chained, beyond),
@@ -210,6 +211,7 @@ fn is_told_apart(table: &[u8], is_chained: bool, seen: &Seen, beyond: &Beyond) -
 }
 
 /// What stands right after the cursor, where the rule in these bytes asks for something else there.
+#[inline(always)]
 fn missed_by(table: &[u8], is_chained: bool, seen: &Seen) -> Option<Beside> {
     match asked_at(table, is_chained, 0)? {
         Asked::Input(asked) => seen.input?.other_than(asked),

@@ -63,6 +63,7 @@ impl Numbers {
     }
 
     /// Whether something else is asked for.
+    #[inline(always)]
     fn is_other(&self, asked: &Asked) -> bool {
         match *asked {
             Asked::Input(number) => u32::from(number) != self.input,
@@ -110,6 +111,7 @@ impl Told {
     }
 
     /// Whether the rule in these bytes asks for other glyphs, and that is known to be looked at so far.
+    #[inline(always)]
     pub(crate) fn is_passed(&self, table: &[u8], is_chained: bool, beyond: &Beyond) -> bool {
         if self.first.is_apart(table, is_chained, 0) {
             return beyond.to != 0 || self.first.end == 0;
