@@ -1,7 +1,7 @@
 """Fonts that are made to be slow: each asks for more work, or more glyphs, than a text is worth. `FONTS` has a function for each, which
 answers the font, a line of text and the options that it is meant for."""
 
-from . import cff
+from . import apple, cff
 from . import layout as lay
 from . import opentype as ot
 from . import variable
@@ -88,6 +88,13 @@ def grows_in_calls():
     more = lay.lookup(2, 0, lay.sequences({g("a"): [g("a")] * 60}))
     context = lay.lookup(5, 0, lay.context_of_coverage([glyphs("a")], actions(60, 0)))
     return font({"GSUB": layout(listed(more, context), used=[1])}), "a" * 50, []
+
+
+def inserts():
+    """Apple's insertion of 31 letters behind each, again and again."""
+    more = apple.machine({g("a"): 4}, [[0, 0, 0, 0, 1]] * 2, [(0, 0, apple.NO, apple.NO), (0, 31 << 5, 0, apple.NO)], numbers(*[g("a")] * 31))
+    subtables = [(apple.INSERTION, apple.ALL_DIRECTIONS, 1, more)] * 8
+    return font({"morx": apple.morx(apple.chain(1, [(1, 2, 1, 0xFFFF_FFFF)], subtables))}), "a" * 50, []
 
 
 def many_ligatures():
@@ -231,7 +238,7 @@ def many_deltas():
 
 
 FONTS = {make.__name__: make for make in (
-    calls_of_calls, calls_itself, many_calls, many_lookups, many_features, grows, grows_in_calls, many_ligatures, many_rules,
+    calls_of_calls, calls_itself, many_calls, many_lookups, many_features, grows, grows_in_calls, inserts, many_ligatures, many_rules,
     many_subtables, extends_itself, many_marks, long_cursive, many_kern_tables, many_groups, unsorted_groups, swapped_groups, shared_sequences,
     unsorted_classes,
     routines_of_routines, routine_calls_itself, glyph_of_itself, many_regions, many_deltas)}
