@@ -10,13 +10,11 @@ use crate::command::arguments::matches_of;
 use crate::command::ending;
 use crate::command::font_file::FontFile;
 use crate::command::loaded_font::LoadedFont;
-use crate::command::options::{Options, OptionsError, TextSource};
-use crate::command::run::{CommandError, asks_font, read_font_file};
-use crate::command::shaper::LineShaper;
-use crate::font_shaper::FaceNames;
-use crate::glyph::NoGlyphNames;
+use crate::command::options::{Options, TextSource};
+use crate::command::run::{CommandError, options_of, read_font_file, shaper_of};
 use crate::host::io::{BufRead, BufReader, BufWriter};
 use crate::host::{Env, Host, fs};
+use crate::memory::String;
 use core::fmt::Display;
 use rounds::Rounds;
 use std::io::{self, Write};
@@ -24,6 +22,16 @@ use std::process::ExitCode;
 
 /// The most threads that may be asked for.
 const MOST: usize = 256;
+
+/// Options with which lines are not answered each for itself, or elsewhere than on standard output.
+const ALONE: [&str; 6] = [
+    "svg",
+    "single-par",
+    "show-line-num",
+    "verbose",
+    "v",
+    "output-file",
+];
 
 /// The option, which the parser knows beside those of the command.
 pub(crate) fn option() -> Arg<'static> {
@@ -40,17 +48,21 @@ pub(crate) fn run_to_end() -> ExitCode {
         Err(_) => return ending::run_to_end(&Host),
     };
     match matches_of(&words) {
-        Ok(matches) if matches.get_str("jobs").is_some() => conclude(&matches),
+        Ok(matches) if matches.get_flag("jobs") => conclude(&matches, &words),
         _ => ending::run_to_end(&Host),
     }
 }
 
-/// Why a command line was not answered to its end.
+/// Why the lines were not shared out, or not all of them answered.
 enum Stop<'a> {
-    /// As one thread would say it.
+    /// No line is answered, and one thread says why.
+    Words,
+    /// Lines are not shared out with this option.
+    Alone(&'static str),
+    /// This is no number of threads.
+    Number(&'a str),
+    /// What one thread says too.
     Command(CommandError<'a>),
-    /// Nothing is shared out where this option is given.
-    OneText(&'static str),
 }
 
 impl<'a, E: Into<CommandError<'a>>> From<E> for Stop<'a> {
@@ -62,25 +74,25 @@ impl<'a, E: Into<CommandError<'a>>> From<E> for Stop<'a> {
 impl Display for Stop<'_> {
     fn fmt(&self, f: &mut core::fmt::Formatter<'_>) -> core::fmt::Result {
         match self {
+            Stop::Words => f.write_str("no line is answered"),
+            Stop::Alone(option) => write!(f, "--jobs shares out lines, and not with --{option}"),
+            Stop::Number(word) => write!(f, "--jobs is from 1 to {MOST}, and not '{word}'"),
             Stop::Command(error) => write!(f, "{error}"),
-            Stop::OneText(option) => write!(
-                f,
-                "--jobs shares out the lines of a text, and with --{option} it has one"
-            ),
         }
     }
 }
 
 /// Answers a command line, and says on standard error why that ended early. The status is 0 where every line was shaped.
-fn conclude(matches: &ArgMatches<'_>) -> ExitCode {
+fn conclude(matches: &ArgMatches<'_>, words: &[String]) -> ExitCode {
     let answered = BufWriter::new(io::stdout()).and_then(|mut output| {
-        let answered = answer(matches, &mut output);
+        let answered = answer(matches, words, &mut output);
         output.flush()?;
         Ok(answered)
     });
     let why: &dyn Display = match &answered {
         Ok(Ok(true)) => return ExitCode::SUCCESS,
         Ok(Ok(false)) => return ExitCode::FAILURE,
+        Ok(Err(Stop::Words)) => return ending::run_to_end(&Host),
         Ok(Err(stop)) => stop,
         Err(error) => error,
     };
@@ -90,28 +102,29 @@ fn conclude(matches: &ArgMatches<'_>) -> ExitCode {
 }
 
 /// Answers a command line, and says whether each line was shaped.
-fn answer<'a>(matches: &ArgMatches<'a>, output: &mut impl Write) -> Result<bool, Stop<'a>> {
-    let options = Options::from_matches(matches)?;
-    let jobs = number_of_jobs(matches.get_str("jobs").unwrap_or("1"))?;
-    for (option, is_given) in [("svg", options.svg), ("single-par", options.single_par)] {
-        if is_given {
-            return Err(Stop::OneText(option));
-        }
-    }
+fn answer<'a>(
+    matches: &ArgMatches<'a>,
+    words: &'a [String],
+    output: &mut impl Write,
+) -> Result<bool, Stop<'a>> {
+    let options = options_of(words).map_err(|_| Stop::Words)?;
+    let jobs = number_of_jobs(matches)?;
     let mut file = FontFile::new();
-    read_font_file(&Host, &options, &mut file)?;
-    let Some(mut font) = LoadedFont::new(&file, options.font)? else {
-        return Err(CommandError::Face(options.font_file).into());
-    };
+    read_font_file(&Host, &options, &mut file).map_err(|_| Stop::Words)?;
+    let mut font = LoadedFont::new(&file, options.font)?.ok_or(Stop::Words)?;
     font.vary(&options.variations)?;
     answer_text(&font, &options, jobs, output)
 }
 
-/// The number of threads that a word asks for.
-fn number_of_jobs(word: &str) -> Result<usize, CommandError<'_>> {
+/// The number of threads that are asked for.
+fn number_of_jobs<'a>(matches: &ArgMatches<'a>) -> Result<usize, Stop<'a>> {
+    if let Some(option) = ALONE.iter().find(|option| matches.get_flag(option)) {
+        return Err(Stop::Alone(option));
+    }
+    let word = matches.get_str("jobs").unwrap_or("");
     match word.parse() {
         Ok(number) if (1..=MOST).contains(&number) => Ok(number),
-        _ => Err(CommandError::Options(OptionsError::Number("jobs", word))),
+        _ => Err(Stop::Number(word)),
     }
 }
 
@@ -122,20 +135,19 @@ fn answer_text<'a>(
     jobs: usize,
     output: &mut impl Write,
 ) -> Result<bool, Stop<'a>> {
-    match &options.text {
-        TextSource::Given(text) => {
-            answer_lines(font, options, jobs, ("TEXT", text.as_bytes()), output)
+    let (file, given) = match &options.text {
+        TextSource::Given(text) => ("TEXT", text.as_bytes()),
+        TextSource::CodePoints(text) => ("TEXT", text.as_bytes()),
+        TextSource::Input => {
+            return answer_lines(font, options, jobs, ("-", io::stdin().lock()), output);
         }
-        TextSource::CodePoints(text) => {
-            answer_lines(font, options, jobs, ("TEXT", text.as_bytes()), output)
-        }
-        TextSource::Input => answer_lines(font, options, jobs, ("-", io::stdin().lock()), output),
         TextSource::File(file) => {
             let opened = fs::open(&Host, file).and_then(BufReader::new);
-            let reader = opened.map_err(|error| CommandError::Text { file, error })?;
-            answer_lines(font, options, jobs, (file, reader), output)
+            let reader = opened.map_err(|_| Stop::Words)?;
+            return answer_lines(font, options, jobs, (file, reader), output);
         }
-    }
+    };
+    answer_lines(font, options, jobs, (file, given), output)
 }
 
 /// Answers the lines of a text that is named so in errors.
@@ -146,19 +158,8 @@ fn answer_lines<'a, R: BufRead>(
     (file, mut reader): (&'a str, R),
     output: &mut impl Write,
 ) -> Result<bool, Stop<'a>> {
-    let shaper = LineShaper {
-        face: &font.face,
-        options: &options.line,
-        output: options.output,
-        single_par: false,
-    };
-    let answered = if asks_font(options.output) {
-        let names = || FaceNames::new(&font.face);
-        Rounds::new(shaper, jobs, names)?.answer_all(&mut reader, output)
-    } else {
-        Rounds::new(shaper, jobs, || Ok(NoGlyphNames))?.answer_all(&mut reader, output)
-    };
-    match answered {
+    let rounds = Rounds::new(shaper_of(font, options), jobs)?;
+    match rounds.answer_all(&mut reader, output) {
         Ok(shaped) if shaped.has_given_up => Err(CommandError::GivenUp.into()),
         Ok(shaped) => Ok(shaped.all),
         Err(error) => Err(CommandError::of_lines(file, error).into()),

@@ -1,7 +1,8 @@
 //! Rounds of lines, which threads answer.
 
 use crate::command::lines::{LinesError, answer_lines, read_error};
-use crate::command::shaper::{KeptLine, LineNames, LineShaper, LineState};
+use crate::command::shaper::{KeptLine, LineShaper, LineState};
+use crate::font_shaper::FaceNames;
 use crate::host::io::BufRead;
 use crate::memory::{AllocError, Vec};
 use std::io::{self, Write};
@@ -23,21 +24,17 @@ pub(super) struct Shaped {
 }
 
 /// Threads that answer lines, each with what it keeps of the line before.
-pub(super) struct Rounds<'a, N> {
+pub(super) struct Rounds<'a> {
     shaper: LineShaper<'a>,
-    states: Vec<LineState<N>>,
+    states: Vec<LineState<FaceNames<'a>>>,
 }
 
-impl<'a, N: LineNames + Send> Rounds<'a, N> {
-    /// This many threads, each with names of its own.
-    pub(super) fn new(
-        shaper: LineShaper<'a>,
-        jobs: usize,
-        names: impl Fn() -> Result<N, AllocError>,
-    ) -> Result<Self, AllocError> {
+impl<'a> Rounds<'a> {
+    /// This many threads.
+    pub(super) fn new(shaper: LineShaper<'a>, jobs: usize) -> Result<Self, AllocError> {
         let mut states = Vec::with_capacity(jobs)?;
         for _ in 0..jobs {
-            let (names, kept) = (names()?, KeptLine::new());
+            let (names, kept) = (FaceNames::new(shaper.face)?, KeptLine::new());
             states.push(LineState { names, kept })?;
         }
         Ok(Rounds { shaper, states })
@@ -146,9 +143,9 @@ fn pieces_of(mut lines: &[u8], pieces: usize) -> Result<Vec<Piece<'_>>, AllocErr
 }
 
 /// Answers pieces until none is left.
-fn answer_pieces<N: LineNames>(
+fn answer_pieces(
     shaper: LineShaper<'_>,
-    state: &mut LineState<N>,
+    state: &mut LineState<FaceNames<'_>>,
     rest: &Mutex<IterMut<'_, Piece<'_>>>,
 ) {
     let next = || rest.lock().unwrap_or_else(PoisonError::into_inner).next();

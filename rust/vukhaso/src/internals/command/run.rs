@@ -213,7 +213,7 @@ fn unless_given_up<'a>(
 }
 
 /// How lines are shaped with a font and printed.
-fn shaper_of<'a>(font: &'a LoadedFont<'_>, options: &'a Options<'_>) -> LineShaper<'a> {
+pub(crate) fn shaper_of<'a>(font: &'a LoadedFont<'_>, options: &'a Options<'_>) -> LineShaper<'a> {
     LineShaper {
         face: &font.face,
         options: &options.line,
@@ -223,7 +223,7 @@ fn shaper_of<'a>(font: &'a LoadedFont<'_>, options: &'a Options<'_>) -> LineShap
 }
 
 /// Whether names or extents of glyphs are printed.
-pub(crate) fn asks_font(flags: SerializeFlags) -> bool {
+fn asks_font(flags: SerializeFlags) -> bool {
     !flags.contains(SerializeFlags::NO_GLYPH_NAMES) || flags.contains(SerializeFlags::GLYPH_EXTENTS)
 }
 
