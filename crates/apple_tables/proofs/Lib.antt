@@ -7,3 +7,4 @@
 -- on its far side (`RowLemmas`).
 -- Lookup tables and the features of a font find their row by this search, and read their values in that row.
 pub mod RowLemmas
+pub mod MetamorphosisLemmas

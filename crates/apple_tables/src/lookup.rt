@@ -1,10 +1,23 @@
 //! Lookup tables: a value of 16 bits for some glyphs, as a class or another glyph (Apple's TrueType Reference Manual, "Font
 //! tables", "Lookup tables"). Of format 10 no value is read, as by HarfBuzz where a value has 16 bits.
 
-ghost use Rattle.std.specs.Prelude.{◌≡◌, ◌≢◌, ◌<◌, ◌≤◌, ◌+◌, ◌*◌, ℕ, None, IfSome, unwrap_or};
-ghost use Rattle.font_tables.specs.Bytes.{number_16};
+ghost use Rattle.std.specs.Prelude.{◌≡◌, ◌<◌, ◌≤◌, ◌+◌, ◌*◌, ℕ, None, IfSome, true, unwrap_or};
+ghost use Rattle.font_tables.specs.Bytes.{is_number, number_16};
 ghost use Rattle.apple_tables.specs.GlyphRows.{Holds};
-ghost use Rattle.apple_tables.specs.Lookup.{format_of, listed_value, trimmed_value, least_size, row_size, skip_of, value_in_row, IsInRow};
+ghost use Rattle.apple_tables.specs.Lookup.{
+  IsRowValue,
+  IsValueOf,
+  ends_rows,
+  format_of,
+  has_rows,
+  least_size,
+  listed_value,
+  row_count,
+  row_size,
+  skip_of,
+  trimmed_value,
+  value_in_row,
+};
 
 use crate::glyph_rows::GlyphRows;
 use font_tables::bytes::u16_at;
@@ -42,11 +55,7 @@ impl<'a> Lookup<'a> {
 
     /// The value of a glyph; `None` where the table gives it none.
     pub fn value(&self, glyph: u16) -> Option<u16>
-        ensures listed { format_of self.now.table.now ≡ 0
-            → result ≡ listed_value self.now.table.now self.now.glyph_count glyph }
-        ensures trimmed { format_of self.now.table.now ≡ 8 → result ≡ trimmed_value self.now.table.now glyph }
-        ensures row { format_of self.now.table.now ≢ 0 → format_of self.now.table.now ≢ 8
-            → IfSome result (IsInRow self.now.table.now glyph) }
+        ensures { IsValueOf self.now.table.now self.now.glyph_count glyph result }
     {
         match self.format() {
             0 => listed_value(self.table, self.glyph_count, glyph),
@@ -61,20 +70,46 @@ impl<'a> Lookup<'a> {
         ensures table { result.table.now ≡ self.now.table.now }
         ensures size { result.size ≡ row_size self.now.table.now }
         ensures skip { result.skip ≡ skip_of (format_of self.now.table.now) }
+        ensures count { result.count ≡ row_count self.now.table.now }
     {
-        let format = self.format();
-        let size = u16_at(self.table, 2).unwrap_or(0);
         GlyphRows {
             table: self.table,
-            size,
-            skip: if format == 6 { 0 } else { 2 },
-            count: row_count(self.table, format, size),
+            size: u16_at(self.table, 2).unwrap_or(0),
+            skip: if self.format() == 6 { 0 } else { 2 },
+            count: self.row_count(),
         }
+    }
+
+    /// How many rows there are: of those that are declared, those that lie in the table, without a last one that ends them.
+    fn row_count(&self) -> u16
+        ensures { result ≡ row_count self.now.table.now }
+    {
+        let size = u16_at(self.table, 2).unwrap_or(0);
+        if size < if self.format() == 6 { 4 } else { 6 } {
+            return 0;
+        }
+        let declared = u16_at(self.table, 4).unwrap_or(0);
+        let count = rows_within(self.table, 12, usize::from(size), usize::from(declared)) as u16;
+        if count > 0 && self.ends_rows(size, count - 1) {
+            count - 1
+        } else {
+            count
+        }
+    }
+
+    /// Whether a row ends the rows, and is none of them.
+    fn ends_rows(&self, size: u16, row: u16) -> bool
+        requires { size ≡ row_size self.now.table.now }
+        ensures { result ≡ ends_rows self.now.table.now row }
+    {
+        let at = 12 + usize::from(size) * usize::from(row);
+        is_number(u16_at(self.table, at), DELETED_GLYPH)
+            && (self.format() == 6 || is_number(u16_at(self.table, at + 2), DELETED_GLYPH))
     }
 
     /// The value of a glyph in a table of rows.
     fn value_by_rows(&self, glyph: u16) -> Option<u16>
-        ensures { IfSome result (IsInRow self.now.table.now glyph) }
+        ensures { IsRowValue self.now.table.now glyph result }
     {
         let row = self.rows().row_of(glyph)?;
         self.value_in_row(glyph, row)
@@ -167,31 +202,12 @@ fn trimmed_value(table: &[u8], glyph: u16) -> Option<u16>
     }
 }
 
-/// How many rows a table of a format has: of those that it declares, those that lie in it, without a last one that ends them.
-fn row_count(table: &[u8], format: u16, size: u16) -> u16 {
-    let least = if format == 6 { 4 } else { 6 };
-    if size < least {
-        return 0;
-    }
-    let declared = u16_at(table, 4).unwrap_or(0);
-    let count = rows_within(table, 12, usize::from(size), usize::from(declared)) as u16;
-    if count > 0
-        && ends_rows(
-            table,
-            format,
-            12 + usize::from(size) * usize::from(count - 1),
-        )
-    {
-        count - 1
-    } else {
-        count
-    }
-}
-
-/// Whether a row at a place is no row, but ends them.
-fn ends_rows(table: &[u8], format: u16, at: usize) -> bool
-    requires { at < 0x1_0000_0000_0000 }
+/// Whether a number is there, and is this one.
+fn is_number(found: Option<u16>, number: u16) -> bool
+    ensures { result ≡ is_number found number }
 {
-    let first = u16_at(table, at) == Some(DELETED_GLYPH);
-    first && (format == 6 || u16_at(table, at + 2) == Some(DELETED_GLYPH))
+    match found {
+        Some(found) => found == number,
+        None => false,
+    }
 }

@@ -1,8 +1,22 @@
 //! The table `morx`: chains of subtables, each of which substitutes glyphs, and the features that turn them on (Apple's TrueType
 //! Reference Manual, "The 'morx' table").
 
-ghost use Rattle.std.specs.Prelude.{◌≡◌, ◌<◌, ◌≤◌, ◌+◌, ◌*◌, Some, IfSome, length, slice_range};
-ghost use Rattle.apple_tables.specs.Metamorphosis.{type_of, setting_of, enabled_by, left_by};
+ghost use Rattle.std.specs.Prelude.{◌≡◌, ◌<◌, ◌≤◌, ◌+◌, ◌*◌, ◌++◌, ◌∷◌, [], None, Some, IfOk, IfSome, IsTrue, false, length, map, option_map, slice_range};
+ghost use Rattle.apple_tables.specs.Metamorphosis.{
+  AreWithin,
+  chains_in,
+  chains_of,
+  coverage_of,
+  feature_at,
+  feature_count,
+  first_chain,
+  kind_of,
+  number_or_0,
+  parts_of,
+  read_chains,
+  subtable_at,
+  subtables_in,
+};
 
 use crate::lookup::Lookup;
 use crate::state_table::StateTable;
@@ -36,7 +50,9 @@ pub enum SubtableKind {
 
 impl SubtableKind {
     /// The kind of a number.
-    fn of(number: u32) -> Option<Self> {
+    fn of(number: u32) -> Option<Self>
+        ensures { result ≡ kind_of number }
+    {
         match number {
             0 => Some(SubtableKind::Rearrangement),
             1 => Some(SubtableKind::Contextual),
@@ -87,7 +103,9 @@ pub struct Coverage {
 
 impl Coverage {
     /// The coverage of its bits.
-    fn of(bits: u32) -> Self {
+    fn of(bits: u32) -> Self
+        ensures { result ≡ coverage_of bits }
+    {
         Coverage {
             is_vertical: bits & 0x8000_0000 != 0,
             is_backwards: bits & 0x4000_0000 != 0,
@@ -126,10 +144,7 @@ pub struct Chain<'a> {
 impl Chain<'_> {
     /// The feature in a row; `None` where there is none.
     pub fn feature(&self, row: usize) -> Option<ChainFeature>
-        ensures kind { IfSome result (λ feature. type_of self.now.features.now row ≡ Some feature.kind) }
-        ensures setting { IfSome result (λ feature. setting_of self.now.features.now row ≡ Some feature.setting) }
-        ensures enable { IfSome result (λ feature. enabled_by self.now.features.now row ≡ Some feature.enable) }
-        ensures disable { IfSome result (λ feature. left_by self.now.features.now row ≡ Some feature.disable) }
+        ensures { result ≡ feature_at self.now.features.now row }
     {
         if row >= self.feature_count() {
             return None;
@@ -145,7 +160,7 @@ impl Chain<'_> {
 
     /// How many features there are.
     pub fn feature_count(&self) -> usize
-        ensures { 12 * result ≤ length self.now.features.now }
+        ensures { result ≡ feature_count self.now.features.now }
     {
         self.features.len() / FEATURE_SIZE
     }
@@ -166,7 +181,10 @@ pub struct Metamorphosis<'a> {
 
 impl<'a> Metamorphosis<'a> {
     /// The chains of a table, of a font with so many glyphs. `Err` where memory runs out.
-    pub fn new(alloc: Global, table: &'a [u8], glyph_count: u16) -> Result<Self, AllocError> {
+    pub fn new(alloc: Global, table: &'a [u8], glyph_count: u16) -> Result<Self, AllocError>
+        ensures chains { IfOk result (λ read. read_chains read.subtables.items read.chains.items ≡ chains_of table.now) }
+        ensures glyphs { IfOk result (λ read. read.glyph_count ≡ glyph_count) }
+    {
         let mut read = Metamorphosis {
             chains: Vec::new(alloc),
             subtables: Vec::new(alloc),
@@ -198,12 +216,20 @@ impl<'a> Metamorphosis<'a> {
     }
 
     /// Reads the chains. The answer is false where one is cut short.
-    fn read_all(&mut self, table: &'a [u8]) -> Result<bool, AllocError> {
+    fn read_all(&mut self, table: &'a [u8]) -> Result<bool, AllocError>
+        requires subtables { self.now.subtables.items ≡ [] }
+        requires chains { self.now.chains.items ≡ [] }
+        ensures chains { IfOk result (λ whole. IsTrue whole
+            → read_chains self.new.subtables.items self.new.chains.items ≡ chains_of table.now) }
+        ensures none { IfOk result (λ whole. whole ≡ false → chains_of table.now ≡ []) }
+        ensures glyphs { self.new.glyph_count ≡ self.old.glyph_count }
+    {
         if u16_at(table, 0).unwrap_or(0) == 0 {
             return Ok(false);
         }
+        let count = number_or_0(table, 4);
         let mut rest = tail(table, 8);
-        for _chain in 0..u32_at(table, 4).unwrap_or(0) {
+        for _chain in 0..count {
             match self.read_chain(rest)? {
                 Some(length) => rest = tail(rest, length),
                 None => return Ok(false),
@@ -213,20 +239,29 @@ impl<'a> Metamorphosis<'a> {
     }
 
     /// Reads the chain at the start of these bytes: how many it has, or `None` where it is cut short.
-    fn read_chain(&mut self, rest: &'a [u8]) -> Result<Option<usize>, AllocError> {
-        let length = u32_at(rest, 4).unwrap_or(0) as usize;
-        let feature_count = u32_at(rest, 8).unwrap_or(0) as usize;
+    fn read_chain(&mut self, rest: &'a [u8]) -> Result<Option<usize>, AllocError>
+        requires { AreWithin (length self.now.subtables.items) self.now.chains.items }
+        ensures within { IfOk result (λ read. IfSome read (λ _. AreWithin (length self.new.subtables.items) self.new.chains.items)) }
+        ensures length { IfOk result (λ read. IfSome read (λ length. length ≡ number_or_0 rest.now 4)) }
+        ensures read { IfOk result (λ read. IfSome read (λ _. option_map
+            (λ chain. read_chains self.old.subtables.items self.old.chains.items ++ chain ∷ []) (first_chain rest.now)
+            ≡ Some (read_chains self.new.subtables.items self.new.chains.items))) }
+        ensures none { IfOk result (λ read. read ≡ None → first_chain rest.now ≡ None) }
+        ensures glyphs { self.new.glyph_count ≡ self.old.glyph_count }
+    {
+        let length = number_or_0(rest, 4) as usize;
+        let feature_count = number_or_0(rest, 8) as usize;
         let start = CHAIN_HEADER + FEATURE_SIZE * feature_count;
         if length < CHAIN_HEADER || length > rest.len() || start > length {
             return Ok(None);
         }
         let first = self.subtables.len();
-        let count = u32_at(rest, 12).unwrap_or(0);
+        let count = number_or_0(rest, 12);
         if !self.read_subtables(tail(rest, start), length - start, count)? {
             return Ok(None);
         }
         self.chains.push(Chain {
-            default_flags: u32_at(rest, 0).unwrap_or(0),
+            default_flags: number_or_0(rest, 0),
             features: part(rest, CHAIN_HEADER, FEATURE_SIZE * feature_count),
             first,
             last: self.subtables.len(),
@@ -241,11 +276,18 @@ impl<'a> Metamorphosis<'a> {
         start: &'a [u8],
         within: usize,
         count: u32,
-    ) -> Result<bool, AllocError> {
+    ) -> Result<bool, AllocError>
+        ensures whole { IfOk result (λ whole. IsTrue whole
+            → option_map (λ others. map parts_of self.old.subtables.items ++ others) (subtables_in count within start.now)
+            ≡ Some (map parts_of self.new.subtables.items)) }
+        ensures none { IfOk result (λ whole. whole ≡ false → subtables_in count within start.now ≡ None) }
+        ensures chains { self.new.chains.items ≡ self.old.chains.items }
+        ensures glyphs { self.new.glyph_count ≡ self.old.glyph_count }
+    {
         let mut rest = start;
         let mut left = within;
         for _subtable in 0..count {
-            let length = u32_at(rest, 0).unwrap_or(0) as usize;
+            let length = number_or_0(rest, 0) as usize;
             if length < SUBTABLE_HEADER || length > left {
                 return Ok(false);
             }
@@ -257,9 +299,14 @@ impl<'a> Metamorphosis<'a> {
     }
 
     /// Reads the subtable at the start of these bytes. One of a kind that is not known is passed over.
-    fn read_subtable(&mut self, start: &'a [u8]) -> Result<(), AllocError> {
-        let bits = u32_at(start, 4).unwrap_or(0);
-        let Some(kind) = SubtableKind::of(bits & 0xFF) else {
+    fn read_subtable(&mut self, start: &'a [u8]) -> Result<(), AllocError>
+        ensures read { IfOk result (λ _. map parts_of self.new.subtables.items
+            ≡ map parts_of self.old.subtables.items ++ subtable_at start.now) }
+        ensures chains { self.new.chains.items ≡ self.old.chains.items }
+        ensures glyphs { self.new.glyph_count ≡ self.old.glyph_count }
+    {
+        let bits = number_or_0(start, 4);
+        let Some(kind) = SubtableKind::of(bits % 256) else {
             return Ok(());
         };
         let table = tail(start, SUBTABLE_HEADER);
@@ -267,7 +314,7 @@ impl<'a> Metamorphosis<'a> {
         self.subtables.push(Subtable {
             kind,
             coverage: Coverage::of(bits),
-            flags: u32_at(start, 8).unwrap_or(0),
+            flags: number_or_0(start, 8),
             table,
             digest,
         })?;
@@ -275,7 +322,9 @@ impl<'a> Metamorphosis<'a> {
     }
 
     /// The digest of the glyphs that a subtable's state table knows: of all glyphs where too much was read already.
-    fn digest_of(&mut self, kind: SubtableKind, table: &'a [u8]) -> Digest {
+    fn digest_of(&mut self, kind: SubtableKind, table: &'a [u8]) -> Digest
+        ensures { self.new ≡ record self.old { room = self.new.room } }
+    {
         let machine = StateTable::new(table, self.glyph_count, kind.data_count());
         match machine {
             Some(machine) if kind != SubtableKind::Noncontextual => {
@@ -286,7 +335,9 @@ impl<'a> Metamorphosis<'a> {
     }
 
     /// The digest of the glyphs that classes know: of all glyphs where too much was read already.
-    fn digest_of_classes(&mut self, classes: &Lookup) -> Digest {
+    fn digest_of_classes(&mut self, classes: &Lookup) -> Digest
+        ensures { self.new ≡ record self.old { room = self.new.room } }
+    {
         let cost = classes.cost();
         if cost > self.room {
             return all_glyphs();
@@ -303,4 +354,11 @@ pub fn all_glyphs() -> Digest {
         sixteens: u64::MAX,
         blocks: u64::MAX,
     }
+}
+
+/// A number of 32 bits, or 0 where the table is cut short.
+fn number_or_0(table: &[u8], at: usize) -> u32
+    ensures { result ≡ number_or_0 table.now at }
+{
+    u32_at(table, at).unwrap_or(0)
 }
