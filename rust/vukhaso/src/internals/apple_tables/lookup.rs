@@ -45,11 +45,7 @@ impl<'a> Lookup<'a> {
     /// # Proved
     ///
     /// ```text
-    /// ensures listed { format_of self.now.table.now ≡ 0
-    ///     → result ≡ listed_value self.now.table.now self.now.glyph_count glyph }
-    /// ensures trimmed { format_of self.now.table.now ≡ 8 → result ≡ trimmed_value self.now.table.now glyph }
-    /// ensures row { format_of self.now.table.now ≢ 0 → format_of self.now.table.now ≢ 8
-    ///     → IfSome result (IsInRow self.now.table.now glyph) }
+    /// ensures { IsValueOf self.now.table.now self.now.glyph_count glyph result }
     /// ```
     #[inline]
     pub fn value(&self, glyph: u16) -> Option<u16> {
@@ -69,17 +65,43 @@ impl<'a> Lookup<'a> {
     /// ensures table { result.table.now ≡ self.now.table.now }
     /// ensures size { result.size ≡ row_size self.now.table.now }
     /// ensures skip { result.skip ≡ skip_of (format_of self.now.table.now) }
+    /// ensures count { result.count ≡ row_count self.now.table.now }
     /// ```
     #[inline]
     pub fn rows(&self) -> GlyphRows<'a> {
-        let format = self.format();
-        let size = u16_at(self.table, 2).unwrap_or(0);
         GlyphRows {
             table: self.table,
-            size,
-            skip: if format == 6 { 0 } else { 2 },
-            count: row_count(self.table, format, size),
+            size: u16_at(self.table, 2).unwrap_or(0),
+            skip: if self.format() == 6 { 0 } else { 2 },
+            count: self.row_count(),
         }
+    }
+
+    /// How many rows there are: of those that are declared, those that lie in the table, without a last one
+    /// that ends them.
+    fn row_count(&self) -> u16 {
+        let size = u16_at(self.table, 2).unwrap_or(0);
+        if size < if self.format() == 6 { 4 } else { 6 } {
+            return 0;
+        }
+        let declared = u16_at(self.table, 4).unwrap_or(0);
+        let count = rows_within(self.table, 12, usize::from(size), usize::from(declared)) as u16;
+        if count > 0 && self.ends_rows(size, count - 1) {
+            count - 1
+        } else {
+            count
+        }
+    }
+
+    /// Whether a row ends the rows, and is none of them.
+    ///
+    /// # Requires
+    ///
+    /// - `size ≡ row_size self.now.table.now`
+    fn ends_rows(&self, size: u16, row: u16) -> bool {
+        let at = 12 + usize::from(size) * usize::from(row);
+        is_number(u16_at(self.table, at), DELETED_GLYPH)
+            && (self.format() == 6 || is_number(u16_at(self.table, at + 2), DELETED_GLYPH))
     }
 
     /// The value of a glyph in a table of rows.
@@ -183,35 +205,10 @@ fn trimmed_value(table: &[u8], glyph: u16) -> Option<u16> {
     }
 }
 
-/// How many rows a table of a format has: of those that it declares, those that lie in it, without a
-/// last one that ends them.
-fn row_count(table: &[u8], format: u16, size: u16) -> u16 {
-    let least = if format == 6 { 4 } else { 6 };
-    if size < least {
-        return 0;
+/// Whether a number is there, and is this one.
+fn is_number(found: Option<u16>, number: u16) -> bool {
+    match found {
+        Some(found) => found == number,
+        None => false,
     }
-    let declared = u16_at(table, 4).unwrap_or(0);
-    let count = rows_within(table, 12, usize::from(size), usize::from(declared)) as u16;
-    if count > 0
-        && ends_rows(
-            table,
-            format,
-            12 + usize::from(size) * usize::from(count - 1),
-        )
-    {
-        count - 1
-    } else {
-        count
-    }
-}
-
-/// Whether a row at a place is no row, but ends them.
-///
-/// # Requires
-///
-/// - `at < 0x1_0000_0000_0000`
-fn ends_rows(table: &[u8], format: u16, at: usize) -> bool {
-    debug_assert!(at < 0x1_0000_0000_0000);
-    let first = u16_at(table, at) == Some(DELETED_GLYPH);
-    first && (format == 6 || u16_at(table, at + 2) == Some(DELETED_GLYPH))
 }

@@ -133,10 +133,7 @@ impl Chain<'_> {
     /// # Proved
     ///
     /// ```text
-    /// ensures kind { IfSome result (λ feature. type_of self.now.features.now row ≡ Some feature.kind) }
-    /// ensures setting { IfSome result (λ feature. setting_of self.now.features.now row ≡ Some feature.setting) }
-    /// ensures enable { IfSome result (λ feature. enabled_by self.now.features.now row ≡ Some feature.enable) }
-    /// ensures disable { IfSome result (λ feature. left_by self.now.features.now row ≡ Some feature.disable) }
+    /// ensures { result ≡ feature_at self.now.features.now row }
     /// ```
     #[inline]
     pub fn feature(&self, row: usize) -> Option<ChainFeature> {
@@ -157,7 +154,7 @@ impl Chain<'_> {
     /// # Proved
     ///
     /// ```text
-    /// ensures { 12 * result ≤ length self.now.features.now }
+    /// ensures { result ≡ feature_count self.now.features.now }
     /// ```
     #[inline]
     pub fn feature_count(&self) -> usize {
@@ -187,7 +184,10 @@ impl<'a> Metamorphosis<'a> {
     ///
     /// # Proved
     ///
-    /// That it returns.
+    /// ```text
+    /// ensures chains { IfOk result (λ read. read_chains read.subtables.items read.chains.items ≡ chains_of table.now) }
+    /// ensures glyphs { IfOk result (λ read. read.glyph_count ≡ glyph_count) }
+    /// ```
     #[inline]
     pub fn new(table: &'a [u8], glyph_count: u16) -> Result<Self, AllocError> {
         let mut read = Metamorphosis {
@@ -231,12 +231,18 @@ impl<'a> Metamorphosis<'a> {
     }
 
     /// Reads the chains. The answer is false where one is cut short.
+    ///
+    /// # Requires
+    ///
+    /// - `subtables: self.now.subtables.items ≡ []`
+    /// - `chains: self.now.chains.items ≡ []`
     fn read_all(&mut self, table: &'a [u8]) -> Result<bool, AllocError> {
         if u16_at(table, 0).unwrap_or(0) == 0 {
             return Ok(false);
         }
+        let count = number_or_0(table, 4);
         let mut rest = tail(table, 8);
-        for _chain in 0..u32_at(table, 4).unwrap_or(0) {
+        for _chain in 0..count {
             match self.read_chain(rest)? {
                 Some(length) => rest = tail(rest, length),
                 None => return Ok(false),
@@ -246,20 +252,24 @@ impl<'a> Metamorphosis<'a> {
     }
 
     /// Reads the chain at the start of these bytes: how many it has, or `None` where it is cut short.
+    ///
+    /// # Requires
+    ///
+    /// - `AreWithin (length self.now.subtables.items) self.now.chains.items`
     fn read_chain(&mut self, rest: &'a [u8]) -> Result<Option<usize>, AllocError> {
-        let length = u32_at(rest, 4).unwrap_or(0) as usize;
-        let feature_count = u32_at(rest, 8).unwrap_or(0) as usize;
+        let length = number_or_0(rest, 4) as usize;
+        let feature_count = number_or_0(rest, 8) as usize;
         let start = CHAIN_HEADER + FEATURE_SIZE * feature_count;
         if length < CHAIN_HEADER || length > rest.len() || start > length {
             return Ok(None);
         }
         let first = self.subtables.len();
-        let count = u32_at(rest, 12).unwrap_or(0);
+        let count = number_or_0(rest, 12);
         if !self.read_subtables(tail(rest, start), length - start, count)? {
             return Ok(None);
         }
         self.chains.push(Chain {
-            default_flags: u32_at(rest, 0).unwrap_or(0),
+            default_flags: number_or_0(rest, 0),
             features: part(rest, CHAIN_HEADER, FEATURE_SIZE * feature_count),
             first,
             last: self.subtables.len(),
@@ -278,7 +288,7 @@ impl<'a> Metamorphosis<'a> {
         let mut rest = start;
         let mut left = within;
         for _subtable in 0..count {
-            let length = u32_at(rest, 0).unwrap_or(0) as usize;
+            let length = number_or_0(rest, 0) as usize;
             if length < SUBTABLE_HEADER || length > left {
                 return Ok(false);
             }
@@ -291,8 +301,8 @@ impl<'a> Metamorphosis<'a> {
 
     /// Reads the subtable at the start of these bytes. One of a kind that is not known is passed over.
     fn read_subtable(&mut self, start: &'a [u8]) -> Result<(), AllocError> {
-        let bits = u32_at(start, 4).unwrap_or(0);
-        let Some(kind) = SubtableKind::of(bits & 0xFF) else {
+        let bits = number_or_0(start, 4);
+        let Some(kind) = SubtableKind::of(bits % 256) else {
             return Ok(());
         };
         let table = tail(start, SUBTABLE_HEADER);
@@ -300,7 +310,7 @@ impl<'a> Metamorphosis<'a> {
         self.subtables.push(Subtable {
             kind,
             coverage: Coverage::of(bits),
-            flags: u32_at(start, 8).unwrap_or(0),
+            flags: number_or_0(start, 8),
             table,
             digest,
         })?;
@@ -342,4 +352,9 @@ pub fn all_glyphs() -> Digest {
         sixteens: u64::MAX,
         blocks: u64::MAX,
     }
+}
+
+/// A number of 32 bits, or 0 where the table is cut short.
+fn number_or_0(table: &[u8], at: usize) -> u32 {
+    u32_at(table, at).unwrap_or(0)
 }

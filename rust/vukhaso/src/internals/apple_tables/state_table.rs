@@ -85,7 +85,7 @@ impl<'a> StateTable<'a> {
     /// # Proved
     ///
     /// ```text
-    /// ensures { glyph ≡ 65535 → result ≡ 2 }
+    /// ensures { IsClassOf self.now.classes.table.now self.now.classes.glyph_count glyph result }
     /// ```
     #[inline]
     pub fn class(&self, glyph: u32) -> u16 {
@@ -101,28 +101,38 @@ impl<'a> StateTable<'a> {
     /// # Proved
     ///
     /// ```text
-    /// ensures state { IfSome result (λ entry. (number : ℕ) → entry_number self.now.table.now state class ≡ Some number
-    ///     → entry_field self.now.table.now (4 + 2 * self.now.data_count) number 0 ≡ Some entry.new_state) }
-    /// ensures flags { IfSome result (λ entry. (number : ℕ) → entry_number self.now.table.now state class ≡ Some number
-    ///     → entry_field self.now.table.now (4 + 2 * self.now.data_count) number 2 ≡ Some entry.flags) }
+    /// ensures { result ≡ entry_of self.now.table.now self.now.data_count state class }
     /// ```
     #[inline]
     pub fn entry(&self, state: u16, class: u16) -> Option<Entry> {
-        let number = self.entry_number(state, class)?;
+        self.entry_at(self.entry_number(state, class)?)
+    }
+
+    /// The entry of a number.
+    fn entry_at(&self, number: u16) -> Option<Entry> {
         let new_state = self.entry_field(number, 0)?;
         let flags = self.entry_field(number, 2)?;
-        let mut data = [0xFFFF; 2];
-        if self.data_count >= 1 {
-            data[0] = self.entry_field(number, 4)?;
-        }
-        if self.data_count >= 2 {
-            data[1] = self.entry_field(number, 6)?;
-        }
+        let first = self.entry_data(number, 0)?;
+        let second = self.entry_data(number, 1)?;
         Some(Entry {
             new_state,
             flags,
-            data,
+            data: [first, second],
         })
+    }
+
+    /// A number that an entry has beside its state and its flags; 0xFFFF where entries have fewer.
+    ///
+    /// # Requires
+    ///
+    /// - `index < 2`
+    fn entry_data(&self, number: u16, index: u8) -> Option<u16> {
+        debug_assert!(index < 2);
+        if index < self.data_count {
+            self.entry_field(number, 4 + 2 * usize::from(index))
+        } else {
+            Some(0xFFFF)
+        }
     }
 
     /// The number of the entry of a class in a state.

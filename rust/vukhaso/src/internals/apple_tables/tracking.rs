@@ -13,9 +13,6 @@ const HORIZONTAL: usize = 6;
 /// Where the table says where its part for vertical lines is.
 const VERTICAL: usize = 8;
 
-/// How many 65536ths one is.
-const ONE_IN_FIXED: f32 = 65536.0;
-
 /// The tracks of a font.
 #[derive(Clone, Copy, Debug)]
 pub struct Tracking<'a> {
@@ -40,10 +37,15 @@ impl<'a> Tracking<'a> {
     ///
     /// # Proved
     ///
-    /// That it returns.
+    /// ```text
+    /// ensures { result ≡ is_number (number_16 self.now.table.now 0) 1 }
+    /// ```
     #[inline]
     pub fn is_there(&self) -> bool {
-        u16_at(self.table, 0) == Some(1)
+        match u16_at(self.table, 0) {
+            Some(version) => version == 1,
+            None => false,
+        }
     }
 
     /// How many font units are added to the advance of each glyph at a size in points; 0 where the font
@@ -51,15 +53,16 @@ impl<'a> Tracking<'a> {
     ///
     /// # Proved
     ///
-    /// That it returns.
+    /// ```text
+    /// ensures { result ≡ tracking_at self.now.table.now is_horizontal points }
+    /// ```
     #[inline]
     pub fn at(&self, is_horizontal: bool, points: f32) -> i32 {
         if !self.is_there() {
             return 0;
         }
-        let data = self.data(if is_horizontal { HORIZONTAL } else { VERTICAL });
-        let tracked = match data {
-            Some(data) => self.tracked(data, points),
+        let tracked = match self.data(if is_horizontal { HORIZONTAL } else { VERTICAL }) {
+            Some(tracks) => self.tracked(tracks, points),
             None => None,
         };
         tracked.unwrap_or(0)
@@ -88,36 +91,68 @@ impl<'a> Tracking<'a> {
     }
 
     /// What is added by a part of the table.
-    fn tracked(&self, data: &[u8], points: f32) -> Option<i32> {
-        let values = self.normal_track(data)?;
-        let count = u16_at(data, 2)?;
-        let sizes = tail(self.table, u32_at(data, 4)? as usize);
-        if count == 0 {
-            return None;
-        }
-        if count == 1 {
-            return value_at(values, 0);
-        }
-        let end = first_size(sizes, count, points)?.max(1);
-        let before = end - 1;
-        let part = part_of_way(size_at(sizes, before)?, size_at(sizes, end)?, points);
-        Some(between(
-            part,
-            value_at(values, before)?,
-            value_at(values, end)?,
-        ))
+    fn tracked(&self, tracks: &[u8], points: f32) -> Option<i32> {
+        let values = self.normal_values(tracks)?;
+        let count = u16_at(tracks, 2)?;
+        let sizes = tail(self.table, u32_at(tracks, 4)? as usize);
+        value_of(values, sizes, count, points)
     }
 
-    /// The values of the first track with the value 0, one for each size.
-    fn normal_track(&self, data: &[u8]) -> Option<&'a [u8]> {
-        for track in 0..usize::from(u16_at(data, 0)?) {
-            if u32_at(data, 8 + 8 * track)? == 0 {
-                let offset = u16_at(data, 14 + 8 * track)?;
-                return Some(tail(self.table, usize::from(offset)));
-            }
-        }
-        None
+    /// The values of the first track of normal spacing, one for each size.
+    fn normal_values(&self, tracks: &[u8]) -> Option<&'a [u8]> {
+        let track = usize::from(normal_track(tracks, u16_at(tracks, 0)?)?);
+        u32_at(tracks, 8 + 8 * track)?;
+        Some(tail(
+            self.table,
+            usize::from(u16_at(tracks, 14 + 8 * track)?),
+        ))
     }
+}
+
+/// The first of so many tracks that is of normal spacing.
+fn normal_track(tracks: &[u8], count: u16) -> Option<u16> {
+    for track in 0..count {
+        if is_normal(u32_at(tracks, 8 + 8 * usize::from(track))) {
+            return Some(track);
+        }
+    }
+    None
+}
+
+/// Whether a track of this value is of normal spacing, or is cut short.
+fn is_normal(value: Option<u32>) -> bool {
+    match value {
+        Some(value) => value == 0,
+        None => true,
+    }
+}
+
+/// The value at a size, by so many sizes and their values.
+fn value_of(values: &[u8], sizes: &[u8], count: u16, points: f32) -> Option<i32> {
+    match count {
+        0 => None,
+        1 => value_at(values, 0),
+        _ => value_between(
+            values,
+            sizes,
+            size_place(sizes, count, points).max(1),
+            points,
+        ),
+    }
+}
+
+/// Between the values of two sizes, of which the second stands at a place.
+///
+/// # Requires
+///
+/// - `1 ≤ place`
+fn value_between(values: &[u8], sizes: &[u8], place: u16, points: f32) -> Option<i32> {
+    debug_assert!(1 <= place);
+    let from = size_at(sizes, place - 1)?;
+    let to = size_at(sizes, place)?;
+    let low = value_at(values, place - 1)?;
+    let high = value_at(values, place)?;
+    Some(between(part_of_way(from, to, points), low, high))
 }
 
 /// The value for a size.
@@ -127,17 +162,31 @@ fn value_at(values: &[u8], place: u16) -> Option<i32> {
 
 /// The size at a place, in points.
 fn size_at(sizes: &[u8], place: u16) -> Option<f32> {
-    u32_at(sizes, 4 * usize::from(place)).map(|size| float(size.to_signed()) / ONE_IN_FIXED)
+    let size = u32_at(sizes, 4 * usize::from(place))?;
+    Some(float(size.to_signed()) / float(65536))
 }
 
 /// The place of the first of so many sizes that is not below this one, or of the last.
-fn first_size(sizes: &[u8], count: u16, points: f32) -> Option<u16> {
-    for place in 0..count.saturating_sub(1) {
-        if size_at(sizes, place)? >= points {
-            return Some(place);
+///
+/// # Requires
+///
+/// - `1 ≤ count`
+fn size_place(sizes: &[u8], count: u16, points: f32) -> u16 {
+    debug_assert!(1 <= count);
+    for place in 0..count - 1 {
+        if is_at_least(points, size_at(sizes, place)) {
+            return place;
         }
     }
-    Some(count.saturating_sub(1))
+    count - 1
+}
+
+/// Whether a size is not below this one, or is cut short.
+fn is_at_least(points: f32, size: Option<f32>) -> bool {
+    match size {
+        Some(size) => points <= size,
+        None => true,
+    }
 }
 
 /// How far a number is on the way from one number to another: 0 where these are one number.
