@@ -49,23 +49,23 @@ first_of_two None p edit some is = absurd (false≢true (sym (ap is_some is) ∙
 first_of_two (Some x) p edit some is = is
 
 first_is : (coverages : List Coverage) (options : LookupOptions) (ctx : ApplyContext) (nested : Bool) (l : List Subtable)
-    (edit : Option Edit) → All (λ (t : Subtable). t.kind ≡ 1) l → IsFirstEdit coverages options ctx nested l edit
+    (edit : Option Edit) → All (λ (t : Subtable). t.lookup_type ≡ 1) l → IsFirstEdit coverages options ctx nested l edit
     → edit ≡ option_map Replace (first_single l (cursor_glyph ctx).glyph_id)
 first_is coverages options ctx nested [] edit all is = is
 first_is coverages options ctx nested (t ∷ l) edit all is =
     let glyph = (cursor_glyph ctx).glyph_id in
-    let kind = All-head (λ (x : Subtable). x.kind ≡ 1) t l all in
+    let kind = All-head (λ (x : Subtable). x.lookup_type ≡ 1) t l all in
     elim is [
       | inl w ↦ first_of_two (single_of t glyph) (first_single l glyph) edit w.0 (w.1.singles kind)
       | inr w ↦
           let none : single_of t glyph ≡ None = none_from (single_of t glyph) (w.0.singles kind) in
-          first_is coverages options ctx nested l edit (All-tail (λ (x : Subtable). x.kind ≡ 1) t l all) w.1
+          first_is coverages options ctx nested l edit (All-tail (λ (x : Subtable). x.lookup_type ≡ 1) t l all) w.1
           ∙ ap (λ o. option_map Replace (option_or o (first_single l glyph))) (sym none)
     ]
 
 -- the edit of a lookup of single substitutions
 edit_is : (substitutions : Substitutions) (lookup : Lookup) (nested : Bool) (s : State) (edit : Option Edit)
-    → All (λ (t : Subtable). t.kind ≡ 1) (subtables substitutions lookup)
+    → All (λ (t : Subtable). t.lookup_type ≡ 1) (subtables substitutions lookup)
     → IsDecided substitutions lookup nested s edit
     → edit ≡ option_map Replace (first_single (subtables substitutions lookup) (glyph_at s.input 0).glyph_id)
 edit_is substitutions lookup nested s edit all d =
@@ -173,7 +173,7 @@ module _ (substitutions : Substitutions) (b : State) (o : List hb_glyph_info_t) 
   made (Ok step) (Some glyph) random m = applied glyph step _ (replaced_stored gdef glyph b o x xs i level fits) m
 
   pub turned : (lookup : Lookup) (nested : Bool) (random : ℕ) (result : Result Step AllocError)
-      → All (λ (t : Subtable). t.kind ≡ 1) (subtables substitutions lookup)
+      → All (λ (t : Subtable). t.lookup_type ≡ 1) (subtables substitutions lookup)
       → IsTurn substitutions lookup nested random (stored b o (x ∷ xs) i) result new
       → Turned substitutions b o x xs i result new (first_single (subtables substitutions lookup) x.glyph_id)
   turned lookup nested random result all t =
@@ -227,9 +227,9 @@ glyph_at-drop m n l = get_or-drop m l n _
 pub len_closed : (s : State) → s.have_output ≡ false → len s ≡ length s.input
 len_closed s shut = cond-false _ _ _ shut
 
-pub not_reverse : (l : List Subtable) → All (λ (t : Subtable). t.kind ≡ 1) l → starts_reverse l ≡ false
+pub not_reverse : (l : List Subtable) → All (λ (t : Subtable). t.lookup_type ≡ 1) l → starts_reverse l ≡ false
 not_reverse [] all = refl
-not_reverse (t ∷ l) all = ap (λ k. k == 8) (All-head (λ (x : Subtable). x.kind ≡ 1) t l all)
+not_reverse (t ∷ l) all = ap (λ k. k == 8) (All-head (λ (x : Subtable). x.lookup_type ≡ 1) t l all)
 
 and_false : (a : Bool) → (a && false) ≡ false
 and_false true = refl
