@@ -1,5 +1,5 @@
 -- Rows that lie behind each other in a table, as chunks of equal length.
-use Rattle.std.proofs.Common.{◌≡◌, ℕ, zero, suc, ◌+◌, ◌*◌, ◌/◌, ◌-◌, ◌<◌, ◌≤◌, List, Option, refl, ◌∙◌, arith, take, drop, length, ap, mul-suc, get_or}
+use Rattle.std.proofs.Common.{◌≡◌, ℕ, zero, suc, ◌+◌, ◌*◌, ◌/◌, ◌-◌, ◌<◌, ◌≤◌, List, Option, refl, sym, ◌∙◌, arith, take, drop, length, ap, mul-suc, get_or}
 use Rattle.std.proofs.lemmas.List.{get_or-take, get_or-drop, length-drop, length-take-le}
 use Rattle.std.proofs.lemmas.Option.{slice_get-get_or}
 use Rattle.std.proofs.Math.Nat.{div-mul-le_self}
@@ -54,6 +54,10 @@ pub rises-same : (last other : ℕ → Option ℕ) (count : ℕ) → SameRows la
 rises-same last other count rows rise = λ i j key order less reached.
     let here = rise i j key order less (rw (rows.same i (omega arith)) at reached) in
     rw (rows.same j less) here
+
+pub rises-back : (last other : ℕ → Option ℕ) (count : ℕ) → SameRows last other count → Rises last count → Rises other count
+rises-back last other count rows rise =
+    rises-same other last count (record { same = λ row less. sym (rows.same row less) }) rise
 
 -- rows that begin at a byte of a table
 pub rows_from_16 : (start size count place at : ℕ) (bytes rest : List ℕ) (chunks : List (List ℕ)) → rest ≡ drop start bytes

@@ -9,7 +9,7 @@ ghost use Rattle.font_tables.specs.GlyphRanges.{range_last, range_count};
 
 use crate::bytes::{tail, u16_at};
 use crate::glyph_ranges::{last_glyphs, range_count, range_of};
-use crate::rows::{Keys16, Numbers16, first_row, rises, rows_within};
+use crate::rows::{Numbers16, first_row, rises, rows_within};
 use rb_common::GlyphId;
 
 /// A coverage table.
@@ -41,7 +41,7 @@ impl<'a> Coverage<'a> {
         let (count, are_rising) = match format {
             1 => {
                 let count = listed_count(table);
-                (count, rises(&listed_glyphs(table), usize::from(count)))
+                (count, list_rises(table, count))
             }
             2 => {
                 let count = range_count(table);
@@ -70,15 +70,13 @@ impl<'a> Coverage<'a> {
     }
 }
 
-/// The glyphs of a list.
-fn listed_glyphs(table: &[u8]) -> Keys16<'_>
-    ensures { result ≡ record { table = table.entry; start = 4; size = 2 } }
+/// Whether the glyphs of a list rise.
+fn list_rises(table: &[u8], count: u16) -> bool
+    requires { count ≡ listed_count table.now }
+    ensures { IsTrue result → Rises (listed_glyph table.now) count }
 {
-    Keys16 {
-        table,
-        start: 4,
-        size: 2,
-    }
+    let (glyphs, _) = tail(table, 4).as_chunks::<2>();
+    rises(&Numbers16(glyphs), usize::from(count))
 }
 
 /// How many of the glyphs of a list lie in the table.

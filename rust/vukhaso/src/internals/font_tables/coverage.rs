@@ -6,7 +6,7 @@
 use crate::common::GlyphId;
 use crate::font_tables::bytes::{tail, u16_at};
 use crate::font_tables::glyph_ranges::{last_glyphs, range_count, range_of};
-use crate::font_tables::rows::{Keys16, Numbers16, first_row, rises, rows_within};
+use crate::font_tables::rows::{Numbers16, first_row, rises, rows_within};
 use crate::numbers::Chunks;
 
 /// A coverage table.
@@ -47,7 +47,7 @@ impl<'a> Coverage<'a> {
         let (count, are_rising) = match format {
             1 => {
                 let count = listed_count(table);
-                (count, rises(&listed_glyphs(table), usize::from(count)))
+                (count, list_rises(table, count))
             }
             2 => {
                 let count = range_count(table);
@@ -80,13 +80,14 @@ impl<'a> Coverage<'a> {
     }
 }
 
-/// The glyphs of a list.
-fn listed_glyphs(table: &[u8]) -> Keys16<'_> {
-    Keys16 {
-        table,
-        start: 4,
-        size: 2,
-    }
+/// Whether the glyphs of a list rise.
+///
+/// # Requires
+///
+/// - `count ≡ listed_count table.now`
+fn list_rises(table: &[u8], count: u16) -> bool {
+    let (glyphs, _) = Chunks::<2>::split(tail(table, 4));
+    rises(&Numbers16(glyphs), usize::from(count))
 }
 
 /// How many of the glyphs of a list lie in the table.

@@ -202,6 +202,9 @@ pub fn table_or_empty(table: &[u8], at: usize) -> &[u8] {
 /// they have to. A list of classes has a row for each glyph.
 pub(crate) fn is_quick(table: &[u8], lists_glyphs: bool) -> bool {
     let declared = usize::from(u16_at(table, 2).unwrap_or(0));
+    if declared <= FEW_ROWS {
+        return true;
+    }
     let (start, size) = match u16_at(table, 0) {
         Some(1) if lists_glyphs => (4, 2),
         Some(2) => (6, 6),

@@ -37,6 +37,9 @@ pub fn would_substitute<'a>(
     let Some(first) = glyphs.first() else {
         return false;
     };
+    if !lookup.digest.may_have(*first) || !lookup.firsts.may_have(*first) {
+        return false;
+    }
     let subtables = list.subtables_of(lookup);
     if !subtables
         .iter()
