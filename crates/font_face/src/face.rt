@@ -6,6 +6,7 @@ ghost use Rattle.font_tables.specs.Bytes.{is_number, number_16};
 ghost use Rattle.font_tables.specs.Directory.{font_of, table_of};
 ghost use Rattle.font_tables.specs.Head.{index_to_loc_format};
 ghost use Rattle.font_face.specs.Face.{font_page, believed, IsLayoutOf, KeepsItsTables};
+ghost use Rattle.font_face.specs.Tables.{table_in};
 ghost use Rattle.character_maps.specs.Codes.{glyph_index, glyph_variation_index};
 
 use crate::color::ColorTables;
@@ -112,12 +113,7 @@ impl<'a> Face<'a> {
         };
         let layout = Layout::new(&tables);
         let gdef = definitions_of(tables.table(Tag::from_bytes(b"GDEF")), &layout);
-        let substitutions = LookupList::new(
-            alloc,
-            layout.gsub,
-            SUBSTITUTION_EXTENSION,
-            &gdef,
-        )?;
+        let substitutions = LookupList::new(alloc, layout.gsub, SUBSTITUTION_EXTENSION, &gdef)?;
         let positions = LookupList::new(alloc, layout.gpos, POSITIONING_EXTENSION, &gdef)?;
         let glyphs = glyph_count(tables.table(Tag::from_bytes(b"maxp")));
         let lookups = Lookups {
@@ -125,7 +121,7 @@ impl<'a> Face<'a> {
             positions,
             morx: Metamorphosis::new(alloc, layout.morx, glyphs)?,
         };
-        Ok(Some(face_of(alloc, tables, layout, lookups)))
+        Ok(Some(face_of(alloc, tables, layout, gdef, lookups)))
     }
 
     /// How many font units make an em (OpenType specification, `head`).
@@ -204,19 +200,20 @@ impl<'a> Face<'a> {
     }
 }
 
-/// The font of these tables, with these tables of lookups.
+/// The font of these tables, with these classes of glyphs and these lookups.
 fn face_of<'a>(
     alloc: Global,
     tables: Tables<'a>,
     layout: Layout<'a>,
+    gdef: Gdef<'a>,
     lookups: Lookups<'a>,
 ) -> Face<'a>
-    requires { IsLayoutOf layout tables }
+    requires layout { IsLayoutOf layout tables }
+    requires gdef { gdef.table.now ≡ believed (table_in tables (codes "GDEF")) layout.gsub.now layout.gpos.now }
     ensures tables { result.tables ≡ tables.entry }
     ensures keeps { KeepsItsTables result }
 {
     let head = tables.table(Tag::from_bytes(b"head"));
-    let gdef = definitions_of(tables.table(Tag::from_bytes(b"GDEF")), &layout);
     let units_per_em = units_per_em(head);
     let glyph_count = glyph_count(tables.table(Tag::from_bytes(b"maxp")));
     let os2 = tables.table(Tag::from_bytes(b"OS/2"));

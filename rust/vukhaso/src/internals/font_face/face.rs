@@ -131,7 +131,7 @@ impl<'a> Face<'a> {
             positions,
             morx: Metamorphosis::new(layout.morx, glyphs)?,
         };
-        Ok(Some(face_of(tables, layout, lookups)))
+        Ok(Some(face_of(tables, layout, gdef, lookups)))
     }
 
     /// How many font units make an em (OpenType specification, `head`).
@@ -251,14 +251,19 @@ impl<'a> Face<'a> {
     }
 }
 
-/// The font of these tables, with these tables of lookups.
+/// The font of these tables, with these classes of glyphs and these lookups.
 ///
 /// # Requires
 ///
-/// - `IsLayoutOf layout tables`
-fn face_of<'a>(tables: Tables<'a>, layout: Layout<'a>, lookups: Lookups<'a>) -> Face<'a> {
+/// - `layout: IsLayoutOf layout tables`
+/// - `gdef: gdef.table.now ≡ believed (table_in tables (codes "GDEF")) layout.gsub.now layout.gpos.now`
+fn face_of<'a>(
+    tables: Tables<'a>,
+    layout: Layout<'a>,
+    gdef: Gdef<'a>,
+    lookups: Lookups<'a>,
+) -> Face<'a> {
     let head = tables.table(Tag::from_bytes(b"head"));
-    let gdef = definitions_of(tables.table(Tag::from_bytes(b"GDEF")), &layout);
     let units_per_em = units_per_em(head);
     let glyph_count = glyph_count(tables.table(Tag::from_bytes(b"maxp")));
     let os2 = tables.table(Tag::from_bytes(b"OS/2"));
