@@ -80,10 +80,10 @@ pub struct hb_face_t {
 }
 
 /// The tables that queries ask for, which are fetched once.
-const KEPT: [&[u8; 4]; 29] = [
-    b"BASE", b"CBDT", b"CBLC", b"COLR", b"CPAL", b"GDEF", b"GPOS", b"GSUB", b"MATH", b"MVAR", b"OS/2", b"STAT", b"SVG ", b"avar",
-    b"cmap", b"feat", b"fvar", b"head", b"hhea", b"kerx", b"maxp", b"meta", b"morx", b"mort", b"name", b"post", b"sbix", b"trak",
-    b"vhea",
+const KEPT: [&[u8; 4]; 36] = [
+    b"BASE", b"CBDT", b"CBLC", b"CFF ", b"CFF2", b"COLR", b"CPAL", b"GDEF", b"GPOS", b"GSUB", b"MATH", b"MVAR", b"OS/2", b"STAT",
+    b"SVG ", b"avar", b"cmap", b"feat", b"fvar", b"glyf", b"gvar", b"head", b"hhea", b"hmtx", b"kerx", b"loca", b"maxp", b"meta",
+    b"morx", b"mort", b"name", b"post", b"sbix", b"trak", b"vhea", b"vmtx",
 ];
 
 impl Object for hb_face_t {
@@ -130,7 +130,7 @@ impl hb_face_t {
             destroy_tags: Cell::new(None),
             pool: Pool::new(),
             shaper_bytes: OnceLock::new(),
-            tables: Default::default(),
+            tables: [const { OnceLock::new() }; KEPT.len()],
             names: OnceLock::new(),
             name_entries: OnceLock::new(),
         }

@@ -5,6 +5,7 @@
 
 pub mod asking;
 mod calls;
+mod drawing;
 pub mod functions;
 mod names;
 pub mod opentype;

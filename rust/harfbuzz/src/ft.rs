@@ -1,6 +1,7 @@
 //! `hb-ft.h`: faces and fonts of FreeType. FreeType is no dependency: its calls are those of the program, or of the library
 //! `libfreetype.so.6`, which is loaded when one of these calls is made first.
 
+mod drawing;
 mod functions;
 mod library;
 

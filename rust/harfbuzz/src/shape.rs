@@ -15,8 +15,7 @@ use crate::types::{BOTTOM_TO_TOP, LEFT_TO_RIGHT, RIGHT_TO_LEFT, TOP_TO_BOTTOM, h
 use std::ffi::{CStr, c_char, c_uint};
 use vukhaso::internals::font_shaper::{KeptPlan, shape_watched, shape_with_kept_plan};
 use vukhaso::{
-    BufferClusterLevel, BufferFlags, Direction, Face, Feature, GlyphBuffer, GlyphId, Script, ShapeError, Tag,
-    UnicodeBuffer,
+    BufferClusterLevel, BufferFlags, Direction, Face, Feature, GlyphBuffer, GlyphId, Script, ShapeError, Tag, UnicodeBuffer,
 };
 
 /// How a text is shaped.

@@ -1,5 +1,6 @@
-//! Font functions: what a font answers of its glyphs, by functions of the caller's.
+//! Font functions: what a font answers of its glyphs, by functions of the caller's. Each that is not set is asked of the font's parent.
 
+use crate::draw::hb_draw_funcs_t;
 use crate::font::hb_font_t;
 use crate::object::{Empty, Header, Object, given, object_calls, release};
 use crate::types::{hb_bool_t, hb_codepoint_t, hb_destroy_func_t, hb_position_t};
@@ -44,6 +45,7 @@ pub type Extents = unsafe extern "C" fn(Font, Data, hb_codepoint_t, *mut hb_glyp
 pub type ContourPoint = unsafe extern "C" fn(Font, Data, hb_codepoint_t, c_uint, Position, Position, Data) -> hb_bool_t;
 pub type Name = unsafe extern "C" fn(Font, Data, hb_codepoint_t, *mut c_char, c_uint, Data) -> hb_bool_t;
 pub type FromName = unsafe extern "C" fn(Font, Data, *const c_char, c_int, *mut hb_codepoint_t, Data) -> hb_bool_t;
+pub type DrawGlyph = unsafe extern "C" fn(Font, Data, hb_codepoint_t, *mut hb_draw_funcs_t, Data, Data);
 
 /// A function with the data that it is passed.
 pub struct Slot<F> {
@@ -65,15 +67,28 @@ impl<F> Slot<F> {
     pub fn of(function: F) -> Cell<Option<Self>> {
         Cell::new(Some(Slot { function, user_data: null_mut(), destroy: None }))
     }
+
+    /// A function of the caller's; `None`, and the data is given back, where there is no function.
+    pub fn given(function: Option<F>, user_data: *mut c_void, destroy: hb_destroy_func_t) -> Option<Self> {
+        if function.is_none() {
+            release(user_data, destroy);
+        }
+        function.map(|function| Slot { function, user_data, destroy })
+    }
+
+    /// Gives the data back.
+    pub fn release(self) {
+        release(self.user_data, self.destroy);
+    }
 }
 
-/// The type of a set of functions, with the call that sets each.
+/// The type of the functions of an object, with the call that sets each.
 macro_rules! functions {
-    ($($field:ident: $type:ty, $set:ident;)*) => {
-        /// Functions of the caller's: each that is not set is asked of the font's parent.
+    ($object:ident; $($field:ident: $type:ty, $set:ident;)*) => {
+        /// Functions of the caller's.
         #[derive(Default)]
         pub struct Slots {
-            $(pub $field: Cell<Option<Slot<$type>>>,)*
+            $(pub $field: std::cell::Cell<Option<$crate::font::functions::Slot<$type>>>,)*
         }
 
         impl Slots {
@@ -81,7 +96,7 @@ macro_rules! functions {
             fn release(&self) {
                 $(
                     if let Some(slot) = self.$field.take() {
-                        release(slot.user_data, slot.destroy);
+                        slot.release();
                     }
                 )*
             }
@@ -90,29 +105,28 @@ macro_rules! functions {
         $(
             #[unsafe(no_mangle)]
             pub unsafe extern "C" fn $set(
-                functions: *mut hb_font_funcs_t,
+                functions: *mut $object,
                 function: Option<$type>,
-                user_data: *mut c_void,
-                destroy: hb_destroy_func_t,
+                user_data: *mut std::ffi::c_void,
+                destroy: $crate::types::hb_destroy_func_t,
             ) {
                 // SAFETY: HarfBuzz's terms: a set of functions that is alive.
                 let functions = unsafe { &*functions };
                 if functions.header.is_immutable() {
-                    return release(user_data, destroy);
+                    return $crate::object::release(user_data, destroy);
                 }
-                let slot = function.map(|function| Slot { function, user_data, destroy });
-                if slot.is_none() {
-                    release(user_data, destroy);
-                }
+                let slot = $crate::font::functions::Slot::given(function, user_data, destroy);
                 if let Some(before) = functions.slots.$field.replace(slot) {
-                    release(before.user_data, before.destroy);
+                    before.release();
                 }
             }
         )*
     };
 }
+pub(crate) use functions;
 
 functions! {
+    hb_font_funcs_t;
     h_extents: FontExtents, hb_font_funcs_set_font_h_extents_func;
     v_extents: FontExtents, hb_font_funcs_set_font_v_extents_func;
     nominal_glyph: NominalGlyph, hb_font_funcs_set_nominal_glyph_func;
@@ -130,6 +144,7 @@ functions! {
     contour_point: ContourPoint, hb_font_funcs_set_glyph_contour_point_func;
     name: Name, hb_font_funcs_set_glyph_name_func;
     from_name: FromName, hb_font_funcs_set_glyph_from_name_func;
+    draw_glyph: DrawGlyph, hb_font_funcs_set_draw_glyph_func;
 }
 
 pub struct hb_font_funcs_t {

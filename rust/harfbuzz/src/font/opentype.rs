@@ -1,5 +1,6 @@
 //! The functions of a font that its tables answer, as `hb_font_create` sets them: all measures are the proved reader's.
 
+use crate::font::drawing::draw_glyph;
 use crate::font::functions::{Slot, Slots, hb_font_extents_t, hb_font_funcs_t, hb_glyph_extents_t};
 use crate::font::hb_font_t;
 use crate::object::{Empty, release};
@@ -25,6 +26,7 @@ pub fn functions() -> *mut hb_font_funcs_t {
             extents: Slot::of(glyph_extents),
             name: Slot::of(glyph_name),
             from_name: Slot::of(glyph_from_name),
+            draw_glyph: Slot::of(draw_glyph),
             ..Slots::default()
         })
     })

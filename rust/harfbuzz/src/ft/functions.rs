@@ -2,6 +2,7 @@
 
 use crate::font::functions::{Slot, Slots, hb_font_extents_t, hb_font_funcs_t, hb_glyph_extents_t};
 use crate::font::hb_font_t;
+use crate::ft::drawing::draw_glyph;
 use crate::ft::library::{GlyphSlot, OUTLINE, VERTICAL_LAYOUT, Vector};
 use crate::ft::{Held, Locked};
 use crate::object::Empty;
@@ -26,6 +27,7 @@ pub fn functions() -> *mut hb_font_funcs_t {
             contour_point: Slot::of(contour_point),
             name: Slot::of(name),
             from_name: Slot::of(from_name),
+            draw_glyph: Slot::of(draw_glyph),
             ..Slots::default()
         })
     })

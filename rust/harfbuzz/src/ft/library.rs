@@ -154,7 +154,23 @@ pub struct VariedMasters {
     pub num_axis: c_uint,
 }
 
+type Outlined = unsafe extern "C" fn(*const Vector, *mut c_void) -> c_int;
+type Outlined2 = unsafe extern "C" fn(*const Vector, *const Vector, *mut c_void) -> c_int;
+type Outlined3 = unsafe extern "C" fn(*const Vector, *const Vector, *const Vector, *mut c_void) -> c_int;
+
+/// What the parts of an outline are handed to.
+#[repr(C)]
+pub struct OutlineFunctions {
+    pub move_to: Outlined,
+    pub line_to: Outlined,
+    pub conic_to: Outlined2,
+    pub cubic_to: Outlined3,
+    pub shift: c_int,
+    pub delta: c_long,
+}
+
 pub const NO_HINTING: c_int = 1 << 1;
+pub const NO_BITMAP: c_int = 1 << 3;
 pub const VERTICAL_LAYOUT: c_int = 1 << 4;
 pub const OUTLINE: c_uint = u32::from_be_bytes(*b"outl");
 pub const SYMBOL: c_uint = u32::from_be_bytes(*b"symb");
@@ -231,6 +247,8 @@ calls! {
     kerning c"FT_Get_Kerning": fn(Face, c_uint, c_uint, c_uint, *mut Vector) -> c_int;
     glyph_name c"FT_Get_Glyph_Name": fn(Face, c_uint, *mut c_char, c_uint) -> c_int;
     name_index c"FT_Get_Name_Index": fn(Face, *const c_char) -> c_uint;
+    decompose c"FT_Outline_Decompose": fn(*mut Outline, *const OutlineFunctions, *mut c_void) -> c_int;
+    embolden c"FT_Outline_EmboldenXY": fn(*mut Outline, c_long, c_long) -> c_int;
     mul_fix c"FT_MulFix": fn(c_long, c_long) -> c_long;
     masters c"FT_Get_MM_Var": fn(Face, *mut *mut VariedMasters) -> c_int;
     done_masters c"FT_Done_MM_Var": fn(*mut c_void, *mut VariedMasters) -> c_int;
