@@ -1,5 +1,6 @@
 //! `hb-ot.h`: what tables of OpenType say.
 
+mod chosen_languages;
 mod color;
 pub mod layout;
 mod math;

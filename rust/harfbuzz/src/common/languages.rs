@@ -50,7 +50,33 @@ pub fn text_of<'a>(language: hb_language_t) -> &'a [u8] {
 
 /// The language as the shaper takes it.
 pub fn shaper_language(language: hb_language_t) -> Option<vukhaso::Language> {
-    vukhaso::Language::from_str(std::str::from_utf8(text_of(language)).ok()?).ok()
+    let text = std::str::from_utf8(text_of(language)).ok()?;
+    let text = ["-hbot-", "-hbsc-"].iter().fold(text.to_owned(), with_letters);
+    vukhaso::Language::from_str(&text).ok()
+}
+
+/// The tag for private use that a language says in hexadecimal digits, and where it stands: 0x41424344 at 1 of `x-hbot-41424344`.
+pub fn private_tag(text: &str, mark: &str) -> Option<(usize, u32)> {
+    let start = if text.starts_with("x-") { 0 } else { text.find("-x-")? };
+    let place = start + text[start..].find(mark.strip_suffix('-')?)?;
+    let digits = text[place..].strip_prefix(mark)?.get(..8)?;
+    let is_hexadecimal = digits.bytes().all(|digit| digit.is_ascii_hexdigit());
+    is_hexadecimal.then(|| u32::from_str_radix(digits, 16).ok().map(|tag| (place, tag)))?
+}
+
+/// A language whose tag for private use has letters in the place of hexadecimal digits, as the shaper reads it: `x-hbotabcd` for
+/// `x-hbot-41424344`. A tag that letters do not say stays as it is.
+fn with_letters(text: String, mark: &&str) -> String {
+    let Some((place, tag)) = private_tag(&text, mark) else {
+        return text;
+    };
+    let letters = String::from_utf8(tag.to_be_bytes().trim_ascii_end().to_vec()).unwrap_or_default();
+    let is_said = |letter: char| if *mark == "-hbot-" { !letter.is_ascii_lowercase() } else { !letter.is_ascii_uppercase() };
+    if letters.is_empty() || !letters.chars().all(|letter| letter.is_ascii_alphanumeric() && is_said(letter)) {
+        return text;
+    }
+    let (front, behind) = (&text[..place + mark.len() - 1], &text[place + mark.len() + 8..]);
+    format!("{front}{}{behind}", letters.to_ascii_lowercase())
 }
 
 #[unsafe(no_mangle)]

@@ -1,6 +1,7 @@
 //! OpenType's tags of scripts and languages.
 
-use crate::common::languages::{hb_language_t, language_of, shaper_language, text_of};
+use crate::common::languages::{hb_language_t, language_of, private_tag, shaper_language, text_of};
+use crate::ot::chosen_languages::CHOSEN_LANGUAGES;
 use crate::types::{hb_script_t, hb_tag_t, put, put_part, tag};
 use std::collections::HashMap;
 use std::ffi::c_uint;
@@ -20,16 +21,29 @@ fn tags_of(script: hb_script_t, language: Option<&Language>) -> (Vec<hb_tag_t>, 
     };
     let script = Script::from_iso15924_tag(Tag(script));
     let (scripts, languages) = tags_from_script_and_language(script, language, &table, &LanguageTags::of(language));
-    let mut scripts: Vec<_> = scripts.as_slice().iter().map(|tag| tag.as_u32()).collect();
-    if script.is_none() && scripts.is_empty() {
-        scripts.push(DEFAULT_SCRIPT);
+    // The shaper has no tag of its own for the script of mathematics.
+    let number = |found: &Tag| if found.to_bytes() == *b"zmth" { tag(b"math") } else { found.as_u32() };
+    let numbers = |tags: &[Tag]| tags.iter().map(number).collect();
+    (numbers(scripts.as_slice()), numbers(languages.as_slice()))
+}
+
+/// The tags of a script and a language of C, in which a tag for private use may have any bytes.
+fn tags_of_language(script: hb_script_t, language: hb_language_t) -> (Vec<hb_tag_t>, Vec<hb_tag_t>) {
+    let (mut scripts, mut languages) = tags_of(script, shaper_language(language).as_ref());
+    let text = std::str::from_utf8(text_of(language)).unwrap_or_default();
+    for (tags, mark) in [(&mut scripts, "-hbsc-"), (&mut languages, "-hbot-")] {
+        if let Some((_, tag)) = private_tag(text, mark) {
+            // The default's tag is in capitals for scripts, and else small.
+            let is_default = tag & 0xDFDF_DFDF == DEFAULT_SCRIPT;
+            *tags = vec![if is_default { tag ^ 0x2020_2020 } else { tag }];
+        }
     }
-    (scripts, languages.as_slice().iter().map(|tag| tag.as_u32()).collect())
+    (scripts, languages)
 }
 
 /// The last tags of a script and a language, or those of the defaults: what the table `BASE` is asked by.
 pub fn last_tags(script: hb_script_t, language: hb_language_t) -> (hb_tag_t, hb_tag_t) {
-    let (scripts, languages) = tags_of(script, shaper_language(language).as_ref());
+    let (scripts, languages) = tags_of_language(script, language);
     (scripts.last().copied().unwrap_or(DEFAULT_SCRIPT), languages.last().copied().unwrap_or(DEFAULT_LANGUAGE))
 }
 
@@ -42,7 +56,7 @@ pub unsafe extern "C" fn hb_ot_tags_from_script_and_language(
     language_count: *mut c_uint,
     languages: *mut hb_tag_t,
 ) {
-    let (found_scripts, found_languages) = tags_of(script, shaper_language(language).as_ref());
+    let (found_scripts, found_languages) = tags_of_language(script, language);
     // SAFETY: HarfBuzz's terms: lists with so much room, or null.
     unsafe {
         put_part(found_scripts.into_iter(), 0, script_count, scripts);
@@ -62,7 +76,7 @@ pub unsafe extern "C" fn hb_ot_tags_from_script(script: hb_script_t, first: *mut
 
 #[unsafe(no_mangle)]
 pub extern "C" fn hb_ot_tag_from_language(language: hb_language_t) -> hb_tag_t {
-    let (_, found) = tags_of(0, shaper_language(language).as_ref());
+    let (_, found) = tags_of_language(0, language);
     found.first().copied().unwrap_or(DEFAULT_LANGUAGE)
 }
 
@@ -114,19 +128,17 @@ fn languages_of_tags() -> &'static HashMap<hb_tag_t, hb_language_t> {
     static FOUND: OnceLock<Found> = OnceLock::new();
     let found = FOUND.get_or_init(|| {
         let mut found = HashMap::new();
-        let mut add = |name: &[u8]| {
+        let mut add = |code: &[u8], name: &[u8]| {
             let text = std::str::from_utf8(name).unwrap_or_default();
-            let language = Language::from_str(text).ok();
-            for tag in tags_of(0, language.as_ref()).1 {
-                // A tag that is the code itself is registered for no language.
-                if tag.to_be_bytes()[..3] != name.to_ascii_uppercase() {
-                    found.entry(tag).or_insert_with(|| language_of(name));
-                }
+            for tag in tags_of(0, Language::from_str(text).ok().as_ref()).1 {
+                found.entry(tag).or_insert_with(|| language_of(code));
             }
         };
         let letters = || b'a'..=b'z';
-        letters().for_each(|a| letters().for_each(|b| add(&[a, b])));
-        letters().for_each(|a| letters().for_each(|b| letters().for_each(|c| add(&[a, b, c]))));
+        letters().for_each(|a| letters().for_each(|b| add(&[a, b], &[a, b])));
+        // Behind a code that has no tags, a code has those that are registered, and not itself.
+        let codes = letters().flat_map(|a| letters().flat_map(move |b| letters().map(move |c| [a, b, c])));
+        codes.for_each(|code| add(&code, &[b"qq-", &code[..]].concat()));
         Found(found)
     });
     &found.0
@@ -138,12 +150,11 @@ pub extern "C" fn hb_ot_tag_to_language(tag: hb_tag_t) -> hb_language_t {
         return null();
     }
     let bytes = tag.to_be_bytes();
+    if let Ok(place) = CHOSEN_LANGUAGES.binary_search_by(|(chosen, _)| chosen.as_bytes().cmp(&bytes)) {
+        return language_of(CHOSEN_LANGUAGES[place].1.as_bytes());
+    }
     if let Some(&language) = languages_of_tags().get(&tag) {
-        // Where only languages with codes of three letters have a tag, that is meant whose code it is.
-        let code = bytes[..3].to_ascii_lowercase();
-        let own = std::str::from_utf8(&code).ok().and_then(|code| Language::from_str(code).ok());
-        let is_own = text_of(language).len() > 2 && tags_of(0, own.as_ref()).1.contains(&tag);
-        return if is_own { language_of(&code) } else { language };
+        return language;
     }
     let is_code = bytes[..3].iter().all(u8::is_ascii_alphabetic) && bytes[3] == b' ';
     let code = if is_code { format!("{}-", String::from_utf8_lossy(&bytes[..3]).to_lowercase()) } else { String::new() };

@@ -114,7 +114,9 @@ fn drawn_2(bytes: &[u8], glyph_count: u16, glyph: u16, coordinates: &[i32], pen:
     let font_dicts = Index::new(top.part(FONT_DICTS, bytes), COUNT_SIZE_2);
     let [size, offset] = Dict::read(font_dicts.item(number)?)?.last(PRIVATE);
     let private = at_offset(bytes, offset);
-    let dict = Dict::read(private.get(..usize::try_from(size).ok()?).unwrap_or(&[]))?;
+    // HarfBuzz draws no glyph whose Private DICT is empty.
+    let found = private.get(..usize::try_from(size).ok()?).filter(|found| !found.is_empty())?;
+    let dict = Dict::read(found)?;
     let local = Index::new(dict.part(SUBROUTINES, private), COUNT_SIZE_2);
     let global = Index::new(tail(bytes, header + top_size), COUNT_SIZE_2);
     let store = VariationStore::new(tail(top.part(VARIATION_STORE, bytes), 2));

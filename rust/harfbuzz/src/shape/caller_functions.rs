@@ -14,7 +14,7 @@ use crate::font::{hb_font_t, opentype};
 use crate::shape::Shaped;
 use crate::types::{is_backward, is_horizontal};
 use crate::unicode::{hb_unicode_funcs_get_default, hb_unicode_funcs_t};
-use std::collections::BTreeMap;
+use std::collections::{BTreeMap, HashMap};
 use vukhaso::Face;
 use vukhaso::internals::character_maps::CharacterMap;
 
@@ -198,6 +198,9 @@ pub fn correct(font: &hb_font_t, buffer: &hb_buffer_t, characters: &Characters, 
     let horizontal = is_horizontal(direction);
     let own_glyphs: Vec<u32> = shaped.infos.iter().map(|info| info.codepoint).collect();
     characters.widen(&mut shaped.infos);
+    if characters.table.is_some() {
+        put_left(font, buffer, &mut shaped.infos);
+    }
     if buffer.not_found != 0 {
         for info in &mut shaped.infos {
             if info.codepoint == 0 {
@@ -221,6 +224,24 @@ pub fn correct(font: &hb_font_t, buffer: &hb_buffer_t, characters: &Characters, 
     move_glyphs(&mut shaped.positions, &zeroed, &moves, horizontal, !is_backward(direction));
     if !horizontal {
         move_origins(font, shaped, &own_glyphs);
+    }
+}
+
+/// Puts what the caller's function leaves where it has no glyph in the place of glyph 0: Pango's leaves a glyph that it draws itself.
+fn put_left(font: &hb_font_t, buffer: &hb_buffer_t, infos: &mut [hb_glyph_info_t]) {
+    let mut left: HashMap<u32, Vec<u32>> = HashMap::new();
+    let mut add = |info: &hb_glyph_info_t| {
+        if let Err(glyph) = font.nominal_glyph_or(info.codepoint) {
+            left.entry(info.cluster).or_default().push(glyph);
+        }
+    };
+    if is_backward(buffer.properties.direction) {
+        buffer.infos.iter().for_each(&mut add);
+    } else {
+        buffer.infos.iter().rev().for_each(&mut add);
+    }
+    for info in infos.iter_mut().filter(|info| info.codepoint == 0) {
+        info.codepoint = left.get_mut(&info.cluster).and_then(Vec::pop).unwrap_or(0);
     }
 }
 
