@@ -1,4 +1,4 @@
-"""The tests of the package: its own, those beside the proved program, and those of the calls for C."""
+"""The tests of the package: its own, and those beside the proved program."""
 
 import os
 import re
@@ -68,30 +68,10 @@ def test_rust(tally, room):
     tally.run("cargo check with no std", ["cargo", "check", "--offline", "--quiet", "--lib", "--no-default-features", "--features", "alloc"])
     tally.run("cargo doc with no warning", ["cargo", "doc", "--offline", "--quiet"], environment={"RUSTDOCFLAGS": "-D warnings"})
     if is_here("cargo", "clippy", "--version"):
-        words = ["cargo", "clippy", "--offline", "--quiet", "--all-targets", "--features", "capi", "--", "-D", "warnings"]
+        words = ["cargo", "clippy", "--offline", "--quiet", "--all-targets", "--", "-D", "warnings"]
         tally.run("cargo clippy with no warning", words)
     if is_here("cargo", "fmt", "--version"):
         tally.run("cargo fmt finds nothing to lay out", ["cargo", "fmt", "--check"])
-
-
-def test_c(tally, room):
-    """The calls for C: with sanitizers, as C++, and under valgrind from the shared library."""
-    words = ["cargo", "rustc", "--offline", "--quiet", "--release", "--lib", "--features", "capi", "--crate-type"]
-    if tally.run("the libraries for C", [*words, "staticlib,cdylib"]).returncode:
-        return
-    built, source = PACKAGE / "target/release", PACKAGE / "tests/c/test.c"
-    compiler = [os.environ.get("CC", "cc"), "-std=c11", "-Wall", "-Wextra", "-Werror", "-g", f"-I{PACKAGE / 'include'}"]
-    checked = ["-fsanitize=address,undefined", "-fno-sanitize-recover=all", str(built / "libvukhaso.a"), "-lpthread", "-ldl", "-lm"]
-    if not tally.run("the program in C, with sanitizers", [*compiler, "-o", room / "checked", source, *checked]).returncode:
-        tally.run("it runs with sanitizers", [room / "checked"])
-    shared = ["-o", room / "shared", source, f"-L{built}", "-lvukhaso", f"-Wl,-rpath,{built}"]
-    if tally.run("the program in C, over the shared library", [*compiler, *shared]).returncode:
-        return
-    if is_here("valgrind", "--version"):
-        words = ["valgrind", "-q", "--leak-check=full", "--error-exitcode=9", room / "shared", "50"]
-        tally.run("it runs under valgrind", words)
-    else:
-        tally.run("it runs", [room / "shared"])
 
 
 def test_program(tally, room):
@@ -153,4 +133,3 @@ def test_all(tally):
         test_size(tally)
         test_front(tally, Path(folder))
         test_readme(tally, Path(folder))
-        test_c(tally, Path(folder))

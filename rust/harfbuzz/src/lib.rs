@@ -15,6 +15,7 @@ mod blob;
 mod buffer;
 mod common;
 mod draw;
+mod edits;
 mod face;
 mod font;
 mod ft;

@@ -1,8 +1,7 @@
 // Written by tools/plain_rust from its table of crates. Do not edit.
 #![doc = include_str!("../README.md")]
 #![no_std]
-#![cfg_attr(not(feature = "capi"), forbid(unsafe_code))]
-#![cfg_attr(feature = "capi", deny(unsafe_code))]
+#![forbid(unsafe_code)]
 #![warn(missing_docs)]
 #![allow(non_camel_case_types)] // the names are those of HarfBuzz and rustybuzz
 
@@ -53,9 +52,6 @@ mod itoa;
 mod ucd_normal;
 mod unicode;
 
-#[cfg(feature = "capi")]
-#[allow(unsafe_code)]
-pub mod capi;
 #[cfg(feature = "std")]
 mod clap;
 #[cfg(feature = "std")]

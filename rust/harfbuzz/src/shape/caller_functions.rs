@@ -21,6 +21,9 @@ use vukhaso::internals::character_maps::CharacterMap;
 /// Characters that shaping asks for beside those of a text: spaces, hyphens, the dotted circle, and joiners.
 const ALWAYS: [u32; 8] = [0x20, 0xA0, 0x2010, 0x2011, 0x25CC, 0x200C, 0x200D, 0x2044];
 
+/// How many characters are tried to begin a composition.
+const MOST_STARTS: usize = 16;
+
 /// The last number of a glyph of 16 bits.
 const LAST_GLYPH: u32 = 0xFFFE;
 
@@ -143,14 +146,17 @@ fn add_related(asked: &mut BTreeMap<u32, u32>, text: &[u32]) {
         }
         asked.extend(script_parts(character).map(|part| (part, 0)));
     }
-    let mut start: Option<u32> = None;
+    // Marks are put in order before they are composed: so each may come first.
+    let mut starts: Vec<u32> = Vec::new();
     for part in parts {
-        let whole = start.and_then(|start| unicode.compose(start, part));
-        if let Some(whole) = whole {
-            asked.insert(whole, 0);
+        let wholes: Vec<u32> = starts.iter().filter_map(|start| unicode.compose(*start, part)).collect();
+        asked.extend(wholes.iter().map(|whole| (*whole, 0)));
+        if unicode.combining_class(part) == 0 {
+            starts.clear();
+            starts.push(part);
         }
-        let begins = unicode.combining_class(part) == 0;
-        start = whole.or(if begins { Some(part) } else { start });
+        starts.extend(wholes);
+        starts.truncate(MOST_STARTS);
     }
 }
 
@@ -198,9 +204,7 @@ pub fn correct(font: &hb_font_t, buffer: &hb_buffer_t, characters: &Characters, 
     let horizontal = is_horizontal(direction);
     let own_glyphs: Vec<u32> = shaped.infos.iter().map(|info| info.codepoint).collect();
     characters.widen(&mut shaped.infos);
-    if characters.table.is_some() {
-        put_left(font, buffer, &mut shaped.infos);
-    }
+    let left = if characters.table.is_some() { put_left(font, buffer, &mut shaped.infos) } else { Vec::new() };
     if buffer.not_found != 0 {
         for info in &mut shaped.infos {
             if info.codepoint == 0 {
@@ -223,12 +227,17 @@ pub fn correct(font: &hb_font_t, buffer: &hb_buffer_t, characters: &Characters, 
     let zeroed: Vec<bool> = shaped.infos.iter().zip(&plain).map(|(info, plain)| may_be_zeroed(info, *plain)).collect();
     move_glyphs(&mut shaped.positions, &zeroed, &moves, horizontal, !is_backward(direction));
     if !horizontal {
-        move_origins(font, shaped, &own_glyphs);
+        return move_origins(font, shaped, &own_glyphs);
+    }
+    for place in left {
+        // No table places a glyph that the font has not.
+        (shaped.positions[place].x_offset, shaped.positions[place].y_offset) = (0, 0);
     }
 }
 
 /// Puts what the caller's function leaves where it has no glyph in the place of glyph 0: Pango's leaves a glyph that it draws itself.
-fn put_left(font: &hb_font_t, buffer: &hb_buffer_t, infos: &mut [hb_glyph_info_t]) {
+/// Gives the places of such glyphs.
+fn put_left(font: &hb_font_t, buffer: &hb_buffer_t, infos: &mut [hb_glyph_info_t]) -> Vec<usize> {
     let mut left: HashMap<u32, Vec<u32>> = HashMap::new();
     let mut add = |info: &hb_glyph_info_t| {
         if let Err(glyph) = font.nominal_glyph_or(info.codepoint) {
@@ -240,9 +249,14 @@ fn put_left(font: &hb_font_t, buffer: &hb_buffer_t, infos: &mut [hb_glyph_info_t
     } else {
         buffer.infos.iter().rev().for_each(&mut add);
     }
-    for info in infos.iter_mut().filter(|info| info.codepoint == 0) {
+    let mut places = Vec::new();
+    for (place, info) in infos.iter_mut().enumerate().filter(|(_, info)| info.codepoint == 0) {
         info.codepoint = left.get_mut(&info.cluster).and_then(Vec::pop).unwrap_or(0);
+        if info.codepoint != 0 {
+            places.push(place);
+        }
     }
+    places
 }
 
 /// Whether a glyph that does not advance lost its advance: its font gives it one, or it is a mark or not to be seen.

@@ -33,6 +33,7 @@ typedef hb_blob_t *(*hb_reference_table_func_t)(hb_face_t *, hb_tag_t, void *);
 #define HB_MEMORY_MODE_DUPLICATE 0
 #define HB_MEMORY_MODE_READONLY 1
 #define HB_BUFFER_SERIALIZE_FORMAT_TEXT HB_TAG('T', 'E', 'X', 'T')
+#define HB_BUFFER_CONTENT_TYPE_GLYPHS 2
 #define HB_BUFFER_SERIALIZE_FORMAT_JSON HB_TAG('J', 'S', 'O', 'N')
 #define HB_FEATURE_GLOBAL_END ((unsigned) -1)
 
@@ -79,6 +80,10 @@ void hb_buffer_reverse_clusters(hb_buffer_t *);
 unsigned hb_buffer_serialize(
     hb_buffer_t *, unsigned, unsigned, char *, unsigned, unsigned *, hb_font_t *, hb_buffer_serialize_format_t,
     hb_buffer_serialize_flags_t);
+unsigned hb_buffer_serialize_glyphs(
+    hb_buffer_t *, unsigned, unsigned, char *, unsigned, unsigned *, hb_font_t *, hb_buffer_serialize_format_t,
+    hb_buffer_serialize_flags_t);
+void hb_buffer_set_content_type(hb_buffer_t *, unsigned);
 hb_bool_t hb_buffer_deserialize_glyphs(
     hb_buffer_t *, const char *, int, const char **, hb_font_t *, hb_buffer_serialize_format_t);
 unsigned hb_buffer_diff(hb_buffer_t *, hb_buffer_t *, hb_codepoint_t, unsigned);

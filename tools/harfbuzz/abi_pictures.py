@@ -1,0 +1,183 @@
+"""Texts that unchanged programs of Debian draw, with one library of HarfBuzz and with another.
+
+Each program has a function that says what to run for each of its pictures: words, an environment beside the common one, and the file
+that the picture is in. Packages are unpacked beside HarfBuzz's source, and nothing is installed.
+"""
+
+import contextlib
+import functools
+import os
+import subprocess
+import tarfile
+from dataclasses import dataclass, field
+from pathlib import Path
+
+from abi_texts import ASS_LINES, GTK_TEXTS, HB_VIEW_TEXTS, PANGO_TEXTS, PIL_TEXTS, QT_TEXTS, WRITER_PAGE
+from sources import FETCHED, SOURCES, apt, unpacked, with_lists
+
+KEPT = FETCHED / "abi"
+PACKAGES = FETCHED / "packages"
+PARTS = Path(__file__).resolve().parent / "abi_programs"
+LIBRARIES = "usr/lib/x86_64-linux-gnu"
+MODULES = "usr/lib/python3/dist-packages"
+PYTHON = "/usr/bin/python3"
+FONTS = ["fonts-hosny-amiri", "fonts-noto-core"]
+
+FONTCONFIG = """<?xml version="1.0"?><!DOCTYPE fontconfig SYSTEM "fonts.dtd">
+<fontconfig><dir>/usr/share/fonts</dir>{}<cachedir>{}</cachedir></fontconfig>
+"""
+
+
+@dataclass
+class Picture:
+    """What is run for a picture, and what it is called."""
+
+    name: str
+    words: list
+    environment: dict = field(default_factory=dict)
+    """Lines of the picture that say when it was drawn."""
+    dated: tuple = ()
+
+
+@functools.cache
+def needed(package):
+    """The folders of a package and of all that it needs and this machine has not."""
+    # Beside the machine's own archives, since those that are there are not named.
+    none = PACKAGES / "none"
+    (none / "partial").mkdir(parents=True, exist_ok=True)
+    apt_get = [*with_lists(PACKAGES / "lists"), "-o", f"Dir::Cache::Archives={none}"]
+    words = [*apt_get, "--no-install-recommends", "--print-uris", "install", package]
+    said = subprocess.run(words, check=True, capture_output=True, text=True).stdout
+    names = [line.split()[1].split("_")[0] for line in said.splitlines() if line.startswith("'")]
+    return unpacked(names, PACKAGES)
+
+
+def folders(packages, place):
+    """The folders of packages at a place, as a variable of the environment lists them."""
+    return ":".join(str(package / place) for package in packages if (package / place).is_dir())
+
+
+def font_path(name):
+    places = [Path("/usr/share/fonts"), *unpacked(FONTS, PACKAGES)]
+    return next(path for place in places for path in place.rglob(Path(name).name))
+
+
+def pango_view(out):
+    program, *_ = packages = unpacked(["pango1.0-tools", "libharfbuzz-gobject0", "libpangoxft-1.0-0"], PACKAGES)
+    for line in PANGO_TEXTS:
+        font, options, text = line.split("|")[:3]
+        words = [program / "usr/bin/pango-view", "-q", f"--font={font}", *options.split(), "-t", text, "-o", out]
+        yield Picture(line, words, {"LD_LIBRARY_PATH": folders(packages, LIBRARIES)})
+
+
+def pil(out):
+    packages = unpacked(["python3-pil", "libraqm0", "libopenjp2-7", "libimagequant0"], PACKAGES)
+    environment = {"LD_LIBRARY_PATH": folders(packages, LIBRARIES), "PYTHONPATH": folders(packages, MODULES)}
+    for line in PIL_TEXTS:
+        font, language, feature, text = line.split("|")
+        yield Picture(line, [PYTHON, PARTS / "with_pil.py", font_path(font), text, language, feature, out], environment)
+
+
+@functools.cache
+def resvg_tests():
+    """The folder of resvg's tests, of Debian's source."""
+    room = KEPT / "resvg"
+    if not room.exists():
+        sources, lists = KEPT / "resvg.sources", KEPT / "resvg-lists"
+        lists.mkdir(parents=True, exist_ok=True)
+        sources.write_text(SOURCES)
+        words = apt(lists, ("Dir::Etc::sourcelist", sources), ("Dir::Etc::sourceparts", "-"))
+        subprocess.run([*words, "update"], check=True)
+        subprocess.run([*words, "source", "--download-only", "--tar-only", "resvg"], cwd=lists, check=True)
+        with tarfile.open(next(lists.glob("resvg_*.orig.tar.*"))) as archive:
+            archive.extractall(room.with_suffix(".new"), filter="data")
+        os.replace(room.with_suffix(".new"), room)
+    return next(room.glob("*/crates/resvg/tests"))
+
+
+def rsvg_convert(out):
+    packages = needed("librsvg2-bin")
+    tests = resvg_tests()
+    program = PACKAGES / "librsvg2-bin/usr/bin/rsvg-convert"
+    for path in sorted((tests / "tests/text").rglob("*.svg")):
+        yield Picture(str(path.relative_to(tests)), [program, path, "-o", out], {"LD_LIBRARY_PATH": folders(packages, LIBRARIES)})
+
+
+def libass(out):
+    packages = needed("libass9")
+    for line in ASS_LINES:
+        yield Picture(line, [PYTHON, PARTS / "with_libass.py", line, out], {"LD_LIBRARY_PATH": folders(packages, LIBRARIES)})
+
+
+def hb_view(out):
+    packages = needed("libharfbuzz-bin")
+    program = PACKAGES / "libharfbuzz-bin/usr/bin/hb-view"
+    for line in HB_VIEW_TEXTS:
+        font, options, text = line.split("|")
+        words = [program, f"--font-file={font_path(font)}", "--output-format=png", f"--output-file={out}", *options.split(), text]
+        yield Picture(line, words, {"LD_LIBRARY_PATH": folders(packages, LIBRARIES)})
+
+
+def qt(out):
+    packages = needed("python3-pyqt6")
+    environment = {
+        "LD_LIBRARY_PATH": folders(packages, LIBRARIES), "PYTHONPATH": folders(packages, MODULES), "QT_QPA_PLATFORM": "offscreen",
+        "QT_PLUGIN_PATH": folders(packages, f"{LIBRARIES}/qt6/plugins"),
+    }
+    for line in QT_TEXTS:
+        yield Picture(line, [PYTHON, PARTS / "with_qt.py", *line.split("|"), out], environment)
+
+
+def gtk(version, out):
+    packages = [*needed(f"gir1.2-gtk-{version}.0"), *needed("python3-gi")]
+    environment = {
+        "LD_LIBRARY_PATH": folders(packages, LIBRARIES), "PYTHONPATH": folders(packages, MODULES), "GSK_RENDERER": "cairo",
+        "GI_TYPELIB_PATH": folders(packages, f"{LIBRARIES}/girepository-1.0"), "XDG_DATA_DIRS": f"{folders(packages, 'usr/share')}:/usr/share",
+    }
+    for line in GTK_TEXTS:
+        yield Picture(line, [PYTHON, PARTS / "with_gtk.py", version, *line.split("|"), out], environment)
+
+
+def libreoffice(out):
+    packages = needed("libreoffice-writer-nogui")
+    yield Picture("a page", [PYTHON, PARTS / "with_libreoffice.py", KEPT / "office", WRITER_PAGE, out, *packages], dated=(b"Date", b"/ID", b"DocChecksum"))
+
+
+PROGRAMS = {
+    "pango-view": pango_view, "PIL": pil, "rsvg-convert": rsvg_convert, "libass": libass, "hb-view": hb_view, "Qt": qt,
+    "GTK-3": functools.partial(gtk, "3"), "GTK-4": functools.partial(gtk, "4"), "LibreOffice": libreoffice,
+}
+
+
+def drawn(picture, library, common, out):
+    """The bytes of a picture as it is drawn with a library."""
+    with contextlib.suppress(FileNotFoundError):
+        out.unlink()
+    environment = {**os.environ, **common, **picture.environment}
+    environment["LD_LIBRARY_PATH"] = f"{library}:{picture.environment.get('LD_LIBRARY_PATH', '')}"
+    ran = subprocess.run(picture.words, env=environment, capture_output=True, text=True, errors="replace", timeout=300)
+    if not out.exists():
+        return None, ran.stderr.strip()
+    lines = out.read_bytes().split(b"\n")
+    return [line for line in lines if not any(word in line for word in picture.dated)], ran.stderr.strip()
+
+
+def compared(sides, wanted):
+    """How many pictures are the same with both libraries, and how many are not."""
+    KEPT.mkdir(parents=True, exist_ok=True)
+    places = "".join(f"<dir>{folder}</dir>" for folder in unpacked(FONTS, PACKAGES))
+    (KEPT / "fonts.conf").write_text(FONTCONFIG.format(places, KEPT / "fonts"))
+    common = {"FONTCONFIG_FILE": str(KEPT / "fonts.conf"), "LC_ALL": "C.UTF-8", "SOURCE_DATE_EPOCH": "0"}
+    out = KEPT / "picture.png"
+    passed = failed = 0
+    for name in wanted or PROGRAMS:
+        same = count = 0
+        for picture in PROGRAMS[name](out):
+            (found, fault), (expected, _) = (drawn(picture, folder, common, out) for folder in (sides["ours"], sides["theirs"]))
+            is_same = found is not None and found == expected
+            same, count = same + is_same, count + 1
+            if not is_same:
+                print(f"{name} differs: {picture.name}{'' if found else f': {fault}'}", flush=True)
+        print(f"{name}: {same} of {count}", flush=True)
+        passed, failed = passed + same, failed + count - same
+    return passed, failed
