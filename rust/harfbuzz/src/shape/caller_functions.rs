@@ -224,7 +224,9 @@ pub fn correct(font: &hb_font_t, buffer: &hb_buffer_t, characters: &Characters, 
         own_glyphs.iter().map(advance).collect::<Vec<_>>()
     });
     let moves: Vec<i32> = theirs.iter().zip(&plain).map(|(theirs, plain)| theirs - plain).collect();
-    let zeroed: Vec<bool> = shaped.infos.iter().zip(&plain).map(|(info, plain)| may_be_zeroed(info, *plain)).collect();
+    let glyphs = shaped.infos.iter().zip(&shaped.positions).zip(&plain);
+    let zeroed: Vec<bool> =
+        glyphs.map(|((info, position), plain)| is_attached(position) || may_be_zeroed(info, *plain)).collect();
     move_glyphs(&mut shaped.positions, &zeroed, &moves, horizontal, !is_backward(direction));
     if !horizontal {
         return move_origins(font, shaped, &own_glyphs);
@@ -257,6 +259,12 @@ fn put_left(font: &hb_font_t, buffer: &hb_buffer_t, infos: &mut [hb_glyph_info_t
         }
     }
     places
+}
+
+/// Whether a glyph is a mark that a table attaches to another glyph.
+fn is_attached(position: &hb_glyph_position_t) -> bool {
+    const TO_MARK: u32 = 1;
+    (position.var >> 16) & 0xFF == TO_MARK
 }
 
 /// Whether a glyph that does not advance lost its advance: its font gives it one, or it is a mark or not to be seen.
