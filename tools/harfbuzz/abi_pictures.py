@@ -4,6 +4,7 @@ Each program has a function that says what to run for each of its pictures: word
 that the picture is in. Packages are unpacked beside HarfBuzz's source, and nothing is installed.
 """
 
+import atexit
 import contextlib
 import functools
 import os
@@ -128,10 +129,24 @@ def qt(out):
         yield Picture(line, [PYTHON, PARTS / "with_qt.py", *line.split("|"), out], environment)
 
 
+@functools.cache
+def display():
+    """The name of a screen of Xvfb's, which ends with this program. It looks for `xkbcomp` in `/usr/bin` alone: so it sees a folder of its
+    own there, which only root may do."""
+    packages = needed("xvfb")
+    program, compiler = (next(package for package in packages if package.name == name) for name in ("xvfb", "x11-xkb-utils"))
+    mount = f"mount -t overlay overlay -o lowerdir={compiler}/usr/bin:/usr/bin /usr/bin"
+    words = ["unshare", "-m", "sh", "-c", f"{mount} && exec {program}/usr/bin/Xvfb -displayfd 1 -nolisten tcp -screen 0 1000x800x24"]
+    environment = {**os.environ, "LD_LIBRARY_PATH": folders(packages, LIBRARIES)}
+    screen = subprocess.Popen(words, env=environment, stdout=subprocess.PIPE, stderr=subprocess.DEVNULL, text=True)
+    atexit.register(screen.terminate)
+    return f":{screen.stdout.readline().strip()}"
+
+
 def gtk(version, out):
     packages = [*needed(f"gir1.2-gtk-{version}.0"), *needed("python3-gi")]
     environment = {
-        "LD_LIBRARY_PATH": folders(packages, LIBRARIES), "PYTHONPATH": folders(packages, MODULES), "GSK_RENDERER": "cairo",
+        "LD_LIBRARY_PATH": folders(packages, LIBRARIES), "PYTHONPATH": folders(packages, MODULES), "GSK_RENDERER": "cairo", "DISPLAY": display(), "GDK_BACKEND": "x11",
         "GI_TYPELIB_PATH": folders(packages, f"{LIBRARIES}/girepository-1.0"), "XDG_DATA_DIRS": f"{folders(packages, 'usr/share')}:/usr/share",
     }
     for line in GTK_TEXTS:

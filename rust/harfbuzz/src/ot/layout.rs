@@ -4,6 +4,7 @@
 mod baselines;
 mod classes;
 mod collect;
+mod collected;
 mod features;
 mod glyphs;
 
