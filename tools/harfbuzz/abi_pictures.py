@@ -58,6 +58,10 @@ def folders(packages, place):
     return ":".join(str(package / place) for package in packages if (package / place).is_dir())
 
 
+def libraries(packages):
+    return ":".join(found for found in (folders(packages, LIBRARIES), folders(packages, LIBRARIES.removeprefix("usr/"))) if found)
+
+
 def font_path(name):
     places = [Path("/usr/share/fonts"), *unpacked(FONTS, PACKAGES)]
     return next(path for place in places for path in place.rglob(Path(name).name))
@@ -68,12 +72,12 @@ def pango_view(out):
     for line in PANGO_TEXTS:
         font, options, text = line.split("|")[:3]
         words = [program / "usr/bin/pango-view", "-q", f"--font={font}", *options.split(), "-t", text, "-o", out]
-        yield Picture(line, words, {"LD_LIBRARY_PATH": folders(packages, LIBRARIES)})
+        yield Picture(line, words, {"LD_LIBRARY_PATH": libraries(packages)})
 
 
 def pil(out):
     packages = unpacked(["python3-pil", "libraqm0", "libopenjp2-7", "libimagequant0"], PACKAGES)
-    environment = {"LD_LIBRARY_PATH": folders(packages, LIBRARIES), "PYTHONPATH": folders(packages, MODULES)}
+    environment = {"LD_LIBRARY_PATH": libraries(packages), "PYTHONPATH": folders(packages, MODULES)}
     for line in PIL_TEXTS:
         font, language, feature, text = line.split("|")
         yield Picture(line, [PYTHON, PARTS / "with_pil.py", font_path(font), text, language, feature, out], environment)
@@ -101,13 +105,13 @@ def rsvg_convert(out):
     tests = resvg_tests()
     program = PACKAGES / "librsvg2-bin/usr/bin/rsvg-convert"
     for path in sorted((tests / "tests/text").rglob("*.svg")):
-        yield Picture(str(path.relative_to(tests)), [program, path, "-o", out], {"LD_LIBRARY_PATH": folders(packages, LIBRARIES)})
+        yield Picture(str(path.relative_to(tests)), [program, path, "-o", out], {"LD_LIBRARY_PATH": libraries(packages)})
 
 
 def libass(out):
     packages = needed("libass9")
     for line in ASS_LINES:
-        yield Picture(line, [PYTHON, PARTS / "with_libass.py", line, out], {"LD_LIBRARY_PATH": folders(packages, LIBRARIES)})
+        yield Picture(line, [PYTHON, PARTS / "with_libass.py", line, out], {"LD_LIBRARY_PATH": libraries(packages)})
 
 
 def hb_view(out):
@@ -116,13 +120,13 @@ def hb_view(out):
     for line in HB_VIEW_TEXTS:
         font, options, text = line.split("|")
         words = [program, f"--font-file={font_path(font)}", "--output-format=png", f"--output-file={out}", *options.split(), text]
-        yield Picture(line, words, {"LD_LIBRARY_PATH": folders(packages, LIBRARIES)})
+        yield Picture(line, words, {"LD_LIBRARY_PATH": libraries(packages)})
 
 
 def qt(out):
     packages = needed("python3-pyqt6")
     environment = {
-        "LD_LIBRARY_PATH": folders(packages, LIBRARIES), "PYTHONPATH": folders(packages, MODULES), "QT_QPA_PLATFORM": "offscreen",
+        "LD_LIBRARY_PATH": libraries(packages), "PYTHONPATH": folders(packages, MODULES), "QT_QPA_PLATFORM": "offscreen",
         "QT_PLUGIN_PATH": folders(packages, f"{LIBRARIES}/qt6/plugins"),
     }
     for line in QT_TEXTS:
@@ -137,7 +141,7 @@ def display():
     program, compiler = (next(package for package in packages if package.name == name) for name in ("xvfb", "x11-xkb-utils"))
     mount = f"mount -t overlay overlay -o lowerdir={compiler}/usr/bin:/usr/bin /usr/bin"
     words = ["unshare", "-m", "sh", "-c", f"{mount} && exec {program}/usr/bin/Xvfb -displayfd 1 -nolisten tcp -screen 0 1000x800x24"]
-    environment = {**os.environ, "LD_LIBRARY_PATH": folders(packages, LIBRARIES)}
+    environment = {**os.environ, "LD_LIBRARY_PATH": libraries(packages)}
     screen = subprocess.Popen(words, env=environment, stdout=subprocess.PIPE, stderr=subprocess.DEVNULL, text=True)
     atexit.register(screen.terminate)
     return f":{screen.stdout.readline().strip()}"
@@ -146,7 +150,7 @@ def display():
 def gtk(version, out):
     packages = [*needed(f"gir1.2-gtk-{version}.0"), *needed("python3-gi")]
     environment = {
-        "LD_LIBRARY_PATH": folders(packages, LIBRARIES), "PYTHONPATH": folders(packages, MODULES), "GSK_RENDERER": "cairo", "DISPLAY": display(), "GDK_BACKEND": "x11",
+        "LD_LIBRARY_PATH": libraries(packages), "PYTHONPATH": folders(packages, MODULES), "GSK_RENDERER": "cairo", "DISPLAY": display(), "GDK_BACKEND": "x11",
         "GI_TYPELIB_PATH": folders(packages, f"{LIBRARIES}/girepository-1.0"), "XDG_DATA_DIRS": f"{folders(packages, 'usr/share')}:/usr/share",
     }
     for line in GTK_TEXTS:
