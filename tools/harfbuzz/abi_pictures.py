@@ -13,7 +13,7 @@ import tarfile
 from dataclasses import dataclass, field
 from pathlib import Path
 
-from abi_texts import ASS_LINES, GTK_TEXTS, HB_VIEW_TEXTS, PANGO_TEXTS, PIL_TEXTS, QT_TEXTS, WRITER_PAGE
+from abi_texts import ASS_LINES, GTK_TEXTS, HB_VIEW_TEXTS, PANGO_TEXTS, PIL_TEXTS, QT_TEXTS
 from sources import FETCHED, SOURCES, apt, unpacked, with_lists
 
 KEPT = FETCHED / "abi"
@@ -36,8 +36,6 @@ class Picture:
     name: str
     words: list
     environment: dict = field(default_factory=dict)
-    """Lines of the picture that say when it was drawn."""
-    dated: tuple = ()
 
 
 @functools.cache
@@ -147,24 +145,19 @@ def display():
     return f":{screen.stdout.readline().strip()}"
 
 
-def gtk(version, out):
-    packages = [*needed(f"gir1.2-gtk-{version}.0"), *needed("python3-gi")]
+def gtk(out):
+    packages = [*needed("gir1.2-gtk-3.0"), *needed("python3-gi")]
     environment = {
-        "LD_LIBRARY_PATH": libraries(packages), "PYTHONPATH": folders(packages, MODULES), "GSK_RENDERER": "cairo", "DISPLAY": display(), "GDK_BACKEND": "x11",
+        "LD_LIBRARY_PATH": libraries(packages), "PYTHONPATH": folders(packages, MODULES), "DISPLAY": display(), "GDK_BACKEND": "x11",
         "GI_TYPELIB_PATH": folders(packages, f"{LIBRARIES}/girepository-1.0"), "XDG_DATA_DIRS": f"{folders(packages, 'usr/share')}:/usr/share",
     }
     for line in GTK_TEXTS:
-        yield Picture(line, [PYTHON, PARTS / "with_gtk.py", version, *line.split("|"), out], environment)
-
-
-def libreoffice(out):
-    packages = needed("libreoffice-writer-nogui")
-    yield Picture("a page", [PYTHON, PARTS / "with_libreoffice.py", KEPT / "office", WRITER_PAGE, out, *packages], dated=(b"Date", b"/ID", b"DocChecksum"))
+        yield Picture(line, [PYTHON, PARTS / "with_gtk.py", *line.split("|"), out], environment)
 
 
 PROGRAMS = {
     "pango-view": pango_view, "PIL": pil, "rsvg-convert": rsvg_convert, "libass": libass, "hb-view": hb_view, "Qt": qt,
-    "GTK-3": functools.partial(gtk, "3"), "GTK-4": functools.partial(gtk, "4"), "LibreOffice": libreoffice,
+    "GTK": gtk,
 }
 
 
@@ -174,11 +167,10 @@ def drawn(picture, library, common, out):
         out.unlink()
     environment = {**os.environ, **common, **picture.environment}
     environment["LD_LIBRARY_PATH"] = f"{library}:{picture.environment.get('LD_LIBRARY_PATH', '')}"
-    ran = subprocess.run(picture.words, env=environment, capture_output=True, text=True, errors="replace", timeout=300)
+    ran = subprocess.run(picture.words, env=environment, capture_output=True, text=True, errors="replace", timeout=200)
     if not out.exists():
         return None, ran.stderr.strip()
-    lines = out.read_bytes().split(b"\n")
-    return [line for line in lines if not any(word in line for word in picture.dated)], ran.stderr.strip()
+    return out.read_bytes(), ran.stderr.strip()
 
 
 def compared(sides, wanted):

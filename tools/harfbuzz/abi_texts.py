@@ -89,5 +89,3 @@ Noto Sans Bengali|20|বাংলা ক্ষ র্ক
 Noto Sans Myanmar|20|မြန်မာဘာသာ""".split("\n")
 
 GTK_TEXTS = QT_TEXTS
-
-WRITER_PAGE = "\n".join(line.rsplit("|", 1)[1] for line in QT_TEXTS)
