@@ -132,7 +132,10 @@ impl<'a> Charstring<'a> {
             }
             BLEND if self.variation.is_some() => return self.blend(),
             1 | 3 | 18 | 23 => self.stems += self.numbers.len() / 2,
-            19 | 20 => return Some(self.skip_mask(rest)),
+            19 | 20 => {
+                self.skip_mask(rest);
+                return Some(());
+            }
             ESCAPE => draw(self, 256 + u16::from(rest.u8()?), pen)?,
             _ => draw(self, operator.into(), pen)?,
         }
