@@ -172,4 +172,29 @@ def breaks_pairs():
     return whole("Vukhaso Breaks Pairs", {"GPOS": gpos}, {0x200C: joiner})
 
 
-FONTS = {"breaks-kern.ttf": breaks_kern, "breaks-pairs.ttf": breaks_pairs, "special.ttf": special, "scripts.ttf": scripts, "ligated.ttf": ligated}
+def breaks_lookups():
+    """Lookups that drop a glyph of which something hangs on the glyphs beside it: by itself, within a context, and as a component of a ligature."""
+    order = ["gone", "part", "part.then", "part.last", "nest", "nes2", "fall", "fall.last", "frac", "_none", "_a_to_c", "_e_to_f", "_f_to_g"]
+
+    def calls(*rows):
+        return [(place, order.index(name)) for place, name in rows]
+
+    made = {
+        "gone": lay.lookup(6, 0, lay.chained_of_coverage(each("m"), each("m"), [], calls((0, "_none")))),
+        "part": lay.lookup(2, 0, lay.sequences({PLACE["b"]: g("x y")})),
+        "part.then": lay.lookup(6, 0, lay.chained_of_coverage([], each("a"), each("x"), calls((0, "_a_to_c")))),
+        "part.last": lay.lookup(2, 0, lay.sequences({PLACE["x"]: []})),
+        "nest": lay.lookup(5, 0, lay.context_of_coverage(each("d"), calls((0, "_none"), (0, "_e_to_f")))),
+        "nes2": lay.lookup(6, 0, lay.chained_of_coverage(each("g"), each("d d"), [], calls((1, "_none"), (0, "_none"), (0, "_e_to_f"), (0, "_f_to_g")))),
+        "fall": lay.lookup(6, lay.IGNORE_MARKS, lay.chained_of_coverage([], each("f"), each("b"), calls((0, "_f_to_g")))),
+        "fall.last": ligature(lay.IGNORE_MARKS, ("h g", "X"), ("h h g", "Y")),
+        "frac": ligature(0, ("g c", "C")),
+        "_none": lay.lookup(2, 0, lay.sequences({PLACE["m"]: [], PLACE["d"]: []})),
+        "_a_to_c": single(a="c"), "_e_to_f": single(e="f"), "_f_to_g": single(f="g"),
+    }
+    features = lookups_by_name(order)
+    gsub = lay.layout({"DFLT": {"dflt": (None, sorted(features))}}, features, {name: made[name] for name in order})
+    return whole("Vukhaso Breaks Lookups", {"GSUB": gsub}, {0x31: PLACE["a"], 0x32: PLACE["g"], 0x2044: PLACE["c"], 0x200D: PLACE["vertical"]})
+
+
+FONTS = {"breaks-lookups.ttf": breaks_lookups, "breaks-kern.ttf": breaks_kern, "breaks-pairs.ttf": breaks_pairs, "special.ttf": special, "scripts.ttf": scripts, "ligated.ttf": ligated}

@@ -14,7 +14,7 @@ use Rattle.shaping_buffer.specs.State.{State, len}
 use Rattle.shaping_buffer.specs.ClusterStep.{delete_glyph, unsafe_to_break_from_outbuffer}
 use Rattle.shaping_buffer.specs.Step.{Outcome, output_glyph, replace_glyph, skip_glyph, unlimited, with_id}
 use Rattle.glyph_substitution.specs.Properties.{substituted_props}
-use Rattle.glyph_substitution.specs.Writing.{glyph_ahead, write_properties}
+use Rattle.glyph_substitution.specs.Writing.{glyph_ahead, hand_on, write_properties}
 use Rattle.glyph_substitution.specs.declared.properties.Way.{Way}
 use Rattle.glyph_substitution.specs.declared.properties.Way.TheVariants.{Replaced, Multiplied}
 
@@ -94,10 +94,11 @@ put_parts gdef whole table zero s = unlimited s
 put_parts gdef whole table (suc n) s =
     then_do (put_parts gdef whole table n s) (put_part gdef whole n (listed_glyph table n))
 
--- multiple substitution: the parts are put out in the place of the glyph, or where there are none it is deleted
+-- multiple substitution: the parts are put out in the place of the glyph, or where there are none it is deleted, and its glyph
+-- flags are handed on
 abbrev pub multiply : List ℕ → List ℕ → State → Outcome
 multiply gdef table s =
-    if listed table == 0 then unlimited (delete_glyph s)
+    if listed table == 0 then unlimited (delete_glyph (hand_on s))
     else then_do (put_parts gdef (glyph_ahead 0 s) table (listed table) s) (λ t. unlimited (skip_glyph t))
 
 -- ---- in place

@@ -1,4 +1,5 @@
 pub mod Edits
+pub mod Nested
 pub mod Open
 pub mod MatchPositions
 pub mod Properties

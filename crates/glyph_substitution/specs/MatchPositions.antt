@@ -1,5 +1,5 @@
 -- The places of a match after a lookup that it applied put glyphs in, or took some out.
-use Rattle.std.specs.Prelude.{◌≡◌, ℕ, ◌+◌, ◌-◌, ◌^◌, ◌<◌, List, length, min, nat_le, slice_index, if◌then◌else◌}
+use Rattle.std.specs.Prelude.{◌≡◌, ℕ, ◌+◌, ◌-◌, ◌^◌, ◌<◌, ◌&&◌, Bool, List, length, min, nat_le, nat_lt, slice_index, if◌then◌else◌}
 
 -- a place that moves up; none is more than 64 bits hold
 abbrev pub moved_up : ℕ → ℕ → ℕ
@@ -16,6 +16,10 @@ grown_place places number added k =
 unfoldable pub shrunk_place : List ℕ → ℕ → ℕ → ℕ → ℕ
 shrunk_place places number removed k =
     if nat_le k number then slice_index places k else slice_index places (k + removed) - removed
+
+-- The glyph of this number stands behind the end of the match, which lookups took glyphs out of.
+abbrev pub is_behind : List ℕ → ℕ → ℕ → Bool
+is_behind places end number = nat_lt number (length places) && nat_le end (slice_index places number)
 
 -- the list has so many numbers, and these
 pub record AreAll (f : ℕ → ℕ) (count : ℕ) (xs : List ℕ) : Type 0 where

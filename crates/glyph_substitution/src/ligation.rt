@@ -2,11 +2,12 @@
 
 ghost use Rattle.std.specs.Prelude.{◌≡◌, ◌+◌, ◌<◌, ◌≤◌, true, length, IfOk};
 ghost use Rattle.glyph_substitution.specs.Open.{IsLeftOpen, IsPutOut};
+ghost use Rattle.glyph_substitution.specs.Writing.{drop_behind, hand_on};
 ghost use Rattle.shaping_buffer.specs.KeepsClusters.{KeepsClusters};
 
 use crate::multiplication::set_class;
 use crate::properties::{BASE, LIGATURE, MARK, Way};
-use crate::writing::{drop_behind, write_properties};
+use crate::writing::{drop_behind, hand_on, write_properties};
 use font_tables::gdef::Gdef;
 use glyph_layout::MatchPositions;
 use glyph_layout::ligature_parts::{
@@ -258,15 +259,17 @@ fn pass_over(buffer: &mut hb_buffer_t, components: &Components) -> Result<bool, 
     buffer.next_glyph()
 }
 
-/// Drops the current glyph, which is a component.
+/// Drops the current glyph, which is a component. Its glyph flags go to the ligature, or to what was passed over.
 fn drop_component(buffer: &mut hb_buffer_t, components: &mut Components)
     requires { buffer.old.have_output ≡ true }
+    ensures dropped { 0 < length buffer.old.input → buffer.new ≡ drop_behind (hand_on buffer.old) }
     ensures opened { buffer.new.have_output ≡ true }
     ensures keeps { KeepsClusters buffer.old buffer.new }
     ensures same_out { length buffer.new.out ≡ length buffer.old.out }
 {
     if buffer.lookahead_len() > 0 {
         components.add(buffer.cur(0));
+        hand_on(buffer);
         drop_behind(buffer);
     }
 }

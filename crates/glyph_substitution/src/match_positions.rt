@@ -1,7 +1,7 @@
 //! The glyphs of a match while lookups are applied to them: their places follow glyphs that are put in or taken out.
 
 ghost use Rattle.std.specs.Prelude.{◌≡◌, ◌+◌, ◌-◌, ◌<◌, ◌≤◌, length, slice_index};
-ghost use Rattle.glyph_substitution.specs.MatchPositions.{AreAll, grown_place, moved_up, shrunk_place};
+ghost use Rattle.glyph_substitution.specs.MatchPositions.{AreAll, grown_place, is_behind, moved_up, shrunk_place};
 
 use glyph_layout::MatchPositions;
 
@@ -96,6 +96,16 @@ impl Matched {
     /// The place of the glyph of this number.
     pub(crate) fn place(&self, number: usize) -> Option<usize> {
         self.places.get(number).copied()
+    }
+
+    /// Whether the glyph of this number stands behind the end of the match.
+    pub(crate) fn is_behind(&self, number: usize) -> bool
+        ensures { result ≡ is_behind self.now.places.items self.now.end number }
+    {
+        match self.places.get(number) {
+            Some(place) => *place >= self.end,
+            None => false,
+        }
     }
 
     /// Lets the places follow a lookup that was applied to the glyph of this number, where both sides had so many glyphs

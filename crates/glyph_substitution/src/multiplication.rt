@@ -12,7 +12,7 @@ ghost use Rattle.shaping_buffer.specs.Step.{Meets};
 
 use crate::properties::{BASE, LIGATURE, Way, substituted_props};
 use crate::substitution::Progress;
-use crate::writing::{drop_behind, glyph_ahead, write_properties};
+use crate::writing::{drop_behind, glyph_ahead, hand_on, write_properties};
 use font_tables::gdef::Gdef;
 use glyph_layout::glyph_table::Glyphs;
 use glyph_layout::ligature_parts::{ligature_id, mark_properties};
@@ -109,6 +109,7 @@ pub(crate) fn multiply(
     ensures keeps { KeepsClusters buffer.old buffer.new }
 {
     if sequence.len() == 0 {
+        hand_on(buffer);
         buffer.delete_glyph();
         return Ok(true);
     }

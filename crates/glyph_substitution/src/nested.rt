@@ -3,6 +3,7 @@
 ghost use Rattle.std.specs.Prelude.{◌≡◌, ◌+◌, ◌<◌, ◌≤◌, true, false, length, nat_lt, IfOk, IfSome, Ok};
 ghost use Rattle.glyph_layout.specs.Budget.{IsNotMore};
 ghost use Rattle.glyph_substitution.specs.Open.{IsLeftOpen};
+ghost use Rattle.glyph_substitution.specs.Nested as lookups;
 ghost use Rattle.glyph_substitution.specs.Turn as turn;
 ghost use Rattle.glyph_substitution.specs.Turn.{IsDecided, IsTurn, edited};
 ghost use Rattle.shaping_buffer.specs.KeepsClusters.{KeepsClusters};
@@ -86,7 +87,7 @@ fn decide<'a>(
         iterator: SkippingIterator::over_input(lookup.lookup_props, options, false),
         context: SkippingIterator::over_context(lookup.lookup_props, options, false),
         syllable: syllable_at(buffer, options),
-        is_level: buffer.out_len() == buffer.idx(),
+        is_level: true,
     };
     progress.search.reach = Reach::none(ctx.out.len());
     let is_nested = depth < MAX_NESTING_LEVEL;
@@ -227,8 +228,18 @@ fn mark_fit(buffer: &mut hb_buffer_t, fit: &Fit)
     ensures opened { buffer.new.have_output ≡ true }
     ensures keeps { KeepsClusters buffer.old buffer.new }
 {
-    let from = fit.from.min(buffer.out_len());
-    let end = buffer.idx().saturating_add(fit.to);
+    mark_from(buffer, fit.from, fit.to);
+}
+
+/// Marks the glyphs from a place in what was put out up to so many from the cursor on as unsafe to break.
+fn mark_from(buffer: &mut hb_buffer_t, from: usize, ahead: usize)
+    requires { buffer.old.have_output ≡ true }
+    ensures is { buffer.new ≡ lookups.mark_from from ahead buffer.old }
+    ensures opened { buffer.new.have_output ≡ true }
+    ensures keeps { KeepsClusters buffer.old buffer.new }
+{
+    let from = from.min(buffer.out_len());
+    let end = buffer.idx().saturating_add(ahead);
     buffer.unsafe_to_break_from_outbuffer(Some(from), Some(end));
 }
 
@@ -245,7 +256,8 @@ fn go_to(buffer: &mut hb_buffer_t, place: usize) -> Result<bool, AllocError>
 /// How many glyphs both sides have together.
 fn both_len(buffer: &hb_buffer_t) -> usize
     requires { buffer.now.have_output ≡ true }
-    ensures { result ≤ length buffer.now.out + length buffer.now.input }
+    ensures is { result ≡ lookups.both_len buffer.now }
+    ensures within { result ≤ length buffer.now.out + length buffer.now.input }
 {
     buffer.out_len().saturating_add(buffer.info().len())
 }
@@ -294,16 +306,34 @@ fn apply_record(
         return Ok(Turn::Refused);
     }
     match apply_other(buffer, substitutions, record.lookup, progress, depth)? {
-        Step::Passed => return Ok(Turn::On),
-        Step::Refused => return Ok(Turn::Refused),
-        Step::Applied => {}
+        Step::Passed => Ok(Turn::On),
+        Step::Refused => Ok(Turn::Refused),
+        Step::Applied => Ok(follow(buffer, matched, record.sequence_index, before)),
     }
+}
+
+/// Lets a match follow a lookup that was applied to its glyph of this number, where both sides had so many glyphs before. Where
+/// lookups took glyphs out of the match, that glyph may stand behind its end: then what became of it is not to be parted from it.
+fn follow(buffer: &mut hb_buffer_t, matched: &mut Matched, number: usize, before: usize) -> Turn
+    requires { buffer.old.have_output ≡ true }
+    ensures is { buffer.new
+        ≡ lookups.mark_behind matched.old.places.items matched.old.end number before buffer.old }
+    ensures opened { buffer.new.have_output ≡ true }
+    ensures keeps { KeepsClusters buffer.old buffer.new }
+{
     let after = both_len(buffer);
-    Ok(if matched.follow(record.sequence_index, before, after) {
+    if matched.is_behind(number) {
+        mark_from(
+            buffer,
+            matched.end.saturating_sub(1),
+            usize::from(after < before),
+        );
+    }
+    if matched.follow(number, before, after) {
         Turn::On
     } else {
         Turn::Enough
-    })
+    }
 }
 
 /// Applies another lookup at the cursor, if lookups may still apply others.

@@ -12,7 +12,7 @@ use crate::glyph_layout::ligature_parts::{
 use crate::glyph_layout::substitution::Ligation;
 use crate::glyph_substitution::multiplication::set_class;
 use crate::glyph_substitution::properties::{BASE, LIGATURE, MARK, Way};
-use crate::glyph_substitution::writing::{drop_behind, write_properties};
+use crate::glyph_substitution::writing::{drop_behind, hand_on, write_properties};
 use crate::memory::AllocError;
 
 /// The bits of the Unicode properties that hold the general category.
@@ -263,7 +263,8 @@ fn pass_over(buffer: &mut hb_buffer_t, components: &Components) -> Result<bool, 
     buffer.next_glyph()
 }
 
-/// Drops the current glyph, which is a component.
+/// Drops the current glyph, which is a component. Its glyph flags go to the ligature, or to what was
+/// passed over.
 ///
 /// # Requires
 ///
@@ -272,6 +273,7 @@ fn drop_component(buffer: &mut hb_buffer_t, components: &mut Components) {
     debug_assert!(buffer.have_output());
     if buffer.lookahead_len() > 0 {
         components.add(buffer.cur(0));
+        hand_on(buffer);
         drop_behind(buffer);
     }
 }

@@ -109,6 +109,14 @@ impl Matched {
         self.places.get(number).copied()
     }
 
+    /// Whether the glyph of this number stands behind the end of the match.
+    pub(crate) fn is_behind(&self, number: usize) -> bool {
+        match self.places.get(number) {
+            Some(place) => *place >= self.end,
+            None => false,
+        }
+    }
+
     /// Lets the places follow a lookup that was applied to the glyph of this number, where both sides had
     /// so many glyphs before and have so many after it. Where there would be more places than a match has,
     /// the answer is false.

@@ -9,7 +9,7 @@ use crate::glyph_layout::glyph_table::Glyphs;
 use crate::glyph_layout::ligature_parts::{ligature_id, mark_properties};
 use crate::glyph_substitution::properties::{BASE, LIGATURE, Way, substituted_props};
 use crate::glyph_substitution::substitution::Progress;
-use crate::glyph_substitution::writing::{drop_behind, glyph_ahead, write_properties};
+use crate::glyph_substitution::writing::{drop_behind, glyph_ahead, hand_on, write_properties};
 use crate::memory::AllocError;
 
 /// Sets the properties of the current glyph to those of the glyph that comes into its place.
@@ -100,6 +100,7 @@ pub(crate) fn multiply(
     debug_assert!(buffer.have_output());
     debug_assert!(!buffer.info().is_empty());
     if sequence.len() == 0 {
+        hand_on(buffer);
         buffer.delete_glyph();
         return Ok(true);
     }

@@ -78,7 +78,7 @@ fn decide<'a>(
         iterator: SkippingIterator::over_input(lookup.lookup_props, options, false),
         context: SkippingIterator::over_context(lookup.lookup_props, options, false),
         syllable: syllable_at(buffer, options),
-        is_level: buffer.out_len() == buffer.idx(),
+        is_level: true,
     };
     progress.search.reach = Reach::none(ctx.out.len());
     let is_nested = depth < MAX_NESTING_LEVEL;
@@ -222,8 +222,19 @@ fn apply_fit(
 /// - `buffer.old.have_output ≡ true`
 fn mark_fit(buffer: &mut hb_buffer_t, fit: &Fit) {
     debug_assert!(buffer.have_output());
-    let from = fit.from.min(buffer.out_len());
-    let end = buffer.idx().saturating_add(fit.to);
+    mark_from(buffer, fit.from, fit.to);
+}
+
+/// Marks the glyphs from a place in what was put out up to so many from the cursor on as unsafe to
+/// break.
+///
+/// # Requires
+///
+/// - `buffer.old.have_output ≡ true`
+fn mark_from(buffer: &mut hb_buffer_t, from: usize, ahead: usize) {
+    debug_assert!(buffer.have_output());
+    let from = from.min(buffer.out_len());
+    let end = buffer.idx().saturating_add(ahead);
     buffer.unsafe_to_break_from_outbuffer(Some(from), Some(end));
 }
 
@@ -291,16 +302,34 @@ fn apply_record(
         return Ok(Turn::Refused);
     }
     match apply_other(buffer, substitutions, record.lookup, progress, depth)? {
-        Step::Passed => return Ok(Turn::On),
-        Step::Refused => return Ok(Turn::Refused),
-        Step::Applied => {}
+        Step::Passed => Ok(Turn::On),
+        Step::Refused => Ok(Turn::Refused),
+        Step::Applied => Ok(follow(buffer, matched, record.sequence_index, before)),
     }
+}
+
+/// Lets a match follow a lookup that was applied to its glyph of this number, where both sides had so
+/// many glyphs before. Where lookups took glyphs out of the match, that glyph may stand behind its end:
+/// then what became of it is not to be parted from it.
+///
+/// # Requires
+///
+/// - `buffer.old.have_output ≡ true`
+fn follow(buffer: &mut hb_buffer_t, matched: &mut Matched, number: usize, before: usize) -> Turn {
+    debug_assert!(buffer.have_output());
     let after = both_len(buffer);
-    Ok(if matched.follow(record.sequence_index, before, after) {
+    if matched.is_behind(number) {
+        mark_from(
+            buffer,
+            matched.end.saturating_sub(1),
+            usize::from(after < before),
+        );
+    }
+    if matched.follow(number, before, after) {
         Turn::On
     } else {
         Turn::Enough
-    })
+    }
 }
 
 /// Applies another lookup at the cursor, if lookups may still apply others.

@@ -7,7 +7,7 @@ use crate::buffer::cluster_level::{
     HB_BUFFER_CLUSTER_LEVEL_CHARACTERS, HB_BUFFER_CLUSTER_LEVEL_GRAPHEMES,
 };
 use crate::buffer::hb_buffer_t;
-use crate::glyph::hb_glyph_info_t;
+use crate::glyph::{glyph_flag, hb_glyph_info_t};
 
 /// The glyph so many places ahead of the cursor.
 ///
@@ -38,6 +38,52 @@ pub(crate) fn write_properties(buffer: &mut hb_buffer_t, ahead: usize, glyph: &h
 /// Says that shaping met a limit.
 pub(crate) fn fail(buffer: &mut hb_buffer_t) {
     buffer.shaping_failed = true;
+}
+
+/// Hands the glyph flags of the current glyph, which is to go, to the glyph before it, or else the one
+/// behind it, that is left in its cluster: where a break was unsafe it stays so.
+///
+/// # Requires
+///
+/// - `opened: buffer.old.have_output ≡ true`
+/// - `glyph: 0 < length buffer.old.input`
+pub(crate) fn hand_on(buffer: &mut hb_buffer_t) {
+    debug_assert!(buffer.have_output());
+    debug_assert!(!buffer.info().is_empty());
+    let flags = glyph_ahead(buffer, 0).mask & glyph_flag::DEFINED;
+    if has_twin_before(buffer) {
+        if flags & glyph_flag::UNSAFE_TO_BREAK != 0 {
+            hand_back(buffer, flags);
+        }
+    } else if has_twin_behind(buffer) {
+        hand_ahead(buffer, flags);
+    }
+}
+
+/// Adds glyph flags to those of the last glyph that was put out.
+///
+/// # Requires
+///
+/// - `opened: buffer.old.have_output ≡ true`
+/// - `before: 0 < length buffer.old.out`
+fn hand_back(buffer: &mut hb_buffer_t, flags: u32) {
+    debug_assert!(buffer.have_output());
+    debug_assert!(0 < buffer.out_len());
+    let taker = buffer.prev_mut();
+    taker.mask = taker.mask | flags;
+}
+
+/// Adds glyph flags to those of the next glyph.
+///
+/// # Requires
+///
+/// - `opened: buffer.old.have_output ≡ true`
+/// - `behind: 1 < length buffer.old.input`
+fn hand_ahead(buffer: &mut hb_buffer_t, flags: u32) {
+    debug_assert!(buffer.have_output());
+    debug_assert!(1 < buffer.info().len());
+    let taker = buffer.cur_mut(1);
+    taker.mask = taker.mask | flags;
 }
 
 /// Drops the current glyph, for which the last glyph that was put out stands: it is in the same
@@ -72,6 +118,23 @@ fn has_twin_before(buffer: &hb_buffer_t) -> bool {
         return false;
     }
     buffer.prev().cluster == glyph_ahead(buffer, 0).cluster
+}
+
+/// Whether the next glyph is in the cluster of the current one.
+///
+/// # Requires
+///
+/// - `opened: buffer.now.have_output ≡ true`
+/// - `glyph: 0 < length buffer.now.input`
+fn has_twin_behind(buffer: &hb_buffer_t) -> bool {
+    debug_assert!(buffer.have_output());
+    debug_assert!(!buffer.info().is_empty());
+    if buffer.info().len() < 2 {
+        return false;
+    }
+    let next = glyph_ahead(buffer, 1);
+    let current = glyph_ahead(buffer, 0);
+    next.cluster == current.cluster
 }
 
 /// Whether clusters may stand in any order.
