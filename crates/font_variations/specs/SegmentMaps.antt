@@ -1,16 +1,17 @@
 -- Where normalized coordinates are moved on their axes (OpenType specification, "avar - Axis Variations Table").
-use Rattle.std.specs.Prelude.{ℕ, ℤ, zero, suc, pos, negsuc, List, Bool, Option, Some, None, length, is_some, option_and_then, ◌+◌, ◌-◌, ◌*◌, ◌&&◌, ◌||◌, ◌+ℤ◌, ◌-ℤ◌, int_le, nat_eq, nat_lt, nat_le, drop, unwrap_or, if◌then◌else◌}
+use Rattle.std.specs.Prelude.{ℕ, ℤ, zero, suc, pos, negsuc, List, [], Bool, Option, Some, None, length, is_some, option_and_then, ◌+◌, ◌-◌, ◌*◌, ◌&&◌, ◌||◌, ◌+ℤ◌, ◌-ℤ◌, int_le, nat_eq, nat_lt, nat_le, drop, unwrap_or, if◌then◌else◌}
 use Rattle.std.specs.Option.{option_map_or}
 use Rattle.std.specs.Ordering.{int_eq}
 use Rattle.std.specs.Int.{w32, saturate_signed, int_min, int_max}
 use Rattle.std.specs.Float.Ieee.{add, mul, div, binary32}
-use Rattle.font_tables.specs.Bytes.{number_16, signed_16, is_number}
+use Rattle.font_tables.specs.Bytes.{number_16, signed_16, is_number, table_at_32}
 use Rattle.font_tables.specs.Rows.{first_below}
 use Rattle.font_variations.specs.Regions.{coordinate, float}
 use Rattle.font_variations.specs.Rounding.{rounded}
 use Rattle.font_variations.specs.IndexMap.{index_of}
 use Rattle.font_variations.specs.VariationStore.{delta}
 use Rattle.font_variations.specs.declared.segment_maps.AxisMaps.{AxisMaps}
+use Rattle.font_variations.specs.declared.segment_maps.SecondMap.{SecondMap}
 
 -- how many pairs a segment map has, each of a coordinate and of where it is moved
 abbrev pub pair_count : List ℕ → ℕ
@@ -44,6 +45,28 @@ unfoldable pub is_whole : List ℕ → Bool
 is_whole avar =
     (is_number (number_16 avar 0) 1 || is_number (number_16 avar 0) 2)
     && is_some (end_of (drop 8 avar) (unwrap_or (number_16 avar 6) 0))
+
+-- the tables of the second step of version 2: which delta set is for which axis, and the deltas
+pub record SecondTables : Type 0 where
+  pub indices : List ℕ
+  pub store : List ℕ
+
+abbrev pub tables_of : SecondMap → SecondTables
+tables_of second = record { indices = second.indices.table.now; store = second.store.table.now }
+
+-- their offsets stand at a place; a null offset leads to an empty table
+abbrev pub tables_at : List ℕ → ℕ → Option SecondTables
+tables_at avar at =
+    if nat_le (at + 8) (length avar)
+    then Some (record { indices = unwrap_or (table_at_32 avar at) []; store = unwrap_or (table_at_32 avar (at + 4)) [] })
+    else None
+
+-- which is behind the segment maps
+unfoldable pub second_of : List ℕ → Option SecondTables
+second_of avar =
+    if is_whole avar && is_number (number_16 avar 0) 2
+    then tables_at avar (8 + unwrap_or (end_of (drop 8 avar) (unwrap_or (number_16 avar 6) 0)) 0)
+    else None
 
 -- sums of 32 bits
 abbrev pub plus : ℤ → ℤ → ℤ

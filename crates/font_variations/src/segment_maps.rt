@@ -1,8 +1,8 @@
 //! Where normalized coordinates are moved on their axes (OpenType specification, "avar - Axis Variations Table").
 
-ghost use Rattle.std.specs.Prelude.{◌≡◌, ℕ, ◌+◌, ◌<◌, ◌≤◌, [], drop, length, pos, slice_index_or, is_some, unwrap_or, if◌then◌else◌, IfSome};
+ghost use Rattle.std.specs.Prelude.{◌≡◌, ℕ, ◌+◌, ◌<◌, ◌≤◌, [], drop, length, pos, slice_index_or, is_some, option_map, unwrap_or, if◌then◌else◌, IfSome};
 ghost use Rattle.font_tables.specs.Bytes.{number_16};
-ghost use Rattle.font_variations.specs.SegmentMaps.{behind_map, between, end_of, end_of_map, from_at, in_segment, is_up_to, is_up_to_first, is_whole, mapped, segment_of, shifted, to_at};
+ghost use Rattle.font_variations.specs.SegmentMaps.{behind_map, between, end_of, end_of_map, from_at, in_segment, is_up_to, is_up_to_first, is_whole, mapped, second_of, segment_of, shifted, tables_at, tables_of, to_at};
 
 use crate::index_map::IndexMap;
 use crate::regions::coordinate;
@@ -34,10 +34,11 @@ impl<'a> AxisMaps<'a> {
     ghost use Rattle.font_variations.specs.SegmentMaps.{moved_by_all, moved_on};
 
     /// The maps of a table; none where it is of another major version than 1 and 2, or cut short.
-    #[tactic(auto, unfolding(crate::specs::SegmentMaps::is_whole))]
+    #[tactic(auto, unfolding(crate::specs::SegmentMaps::is_whole, crate::specs::SegmentMaps::second_of))]
     pub fn new(avar: &'a [u8]) -> Self
         ensures maps { result.maps.now ≡ (if is_whole avar.now then drop 8 avar.now else []) }
         ensures count { result.count ≡ (if is_whole avar.now then unwrap_or (number_16 avar.now 6) 0 else 0) }
+        ensures second { option_map tables_of result.second ≡ second_of avar.now }
     {
         let count = u16_at(avar, 6).unwrap_or(0);
         let maps = tail(avar, 8);
@@ -104,9 +105,12 @@ impl<'a> AxisMaps<'a> {
 }
 
 /// The second step of a table of version 2, whose offsets stand behind the segment maps.
-fn second_map<'a>(avar: &'a [u8], behind: usize) -> Option<SecondMap<'a>> {
-    let at = behind.saturating_add(8);
-    if avar.len() < at || avar.len() - at < 8 {
+fn second_map<'a>(avar: &'a [u8], behind: usize) -> Option<SecondMap<'a>>
+    requires { behind ≤ length avar.now }
+    ensures { option_map tables_of result ≡ tables_at avar.now (8 + behind) }
+{
+    let at = 8 + behind;
+    if at + 8 > avar.len() {
         return None;
     }
     Some(SecondMap {
@@ -117,7 +121,8 @@ fn second_map<'a>(avar: &'a [u8], behind: usize) -> Option<SecondMap<'a>> {
 
 /// How many bytes so many segment maps have; `None` where they are not all there.
 fn behind_maps(maps: &[u8], count: u16) -> Option<usize>
-    ensures { result ≡ end_of maps.now count }
+    ensures is { result ≡ end_of maps.now count }
+    ensures inside { IfSome result (λ end. end ≤ length maps.now) }
 {
     let mut at = 0usize;
     for _map in 0..count {

@@ -3,8 +3,8 @@ use Rattle.font_variations.specs.SegmentMaps.{end_of, end_of_map}
 use Rattle.font_variations.proofs.SegmentLemmas.{end_of_none}
 use Rattle.font_variations.proofs.segment_maps.behind_maps.Goals as goal
 
-pub returns-in_err-at : goal.returns-in_err-at
-returns-in_err-at c =
+pub returns-in_err-at-clause-is : goal.returns-in_err-at-clause-is
+returns-in_err-at-clause-is c =
     let maps = c.args.maps.now in
     let map = c.loop-map._map in
     let below : map + 1 ≤ c.args.count = omega arith in
