@@ -36,6 +36,7 @@ impl<'a> AxisMaps<'a> {
     /// ```text
     /// ensures maps { result.maps.now ≡ (if is_whole avar.now then drop 8 avar.now else []) }
     /// ensures count { result.count ≡ (if is_whole avar.now then unwrap_or (number_16 avar.now 6) 0 else 0) }
+    /// ensures second { option_map tables_of result.second ≡ second_of avar.now }
     /// ```
     #[inline]
     pub fn new(avar: &'a [u8]) -> Self {
@@ -119,9 +120,14 @@ impl<'a> AxisMaps<'a> {
 }
 
 /// The second step of a table of version 2, whose offsets stand behind the segment maps.
+///
+/// # Requires
+///
+/// - `behind ≤ length avar.now`
 fn second_map<'a>(avar: &'a [u8], behind: usize) -> Option<SecondMap<'a>> {
-    let at = behind.saturating_add(8);
-    if avar.len() < at || avar.len() - at < 8 {
+    debug_assert!(behind <= avar.len());
+    let at = 8 + behind;
+    if at + 8 > avar.len() {
         return None;
     }
     Some(SecondMap {
