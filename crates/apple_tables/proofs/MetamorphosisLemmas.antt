@@ -13,10 +13,10 @@ use Rattle.apple_tables.specs.declared.metamorphosis.Metamorphosis.{Metamorphosi
 use Rattle.apple_tables.specs.declared.metamorphosis.Subtable.{Subtable}
 
 -- a subtable of a known kind is one more
-pub one_more : (olds : List Subtable) (read : Subtable) (start : List ℕ) (bits : ℕ) → bits ≡ number_or_0 start 4
+pub map-one_more : (olds : List Subtable) (read : Subtable) (start : List ℕ) (bits : ℕ) → bits ≡ number_or_0 start 4
     → Some read.kind ≡ kind_of (bits % 256) → read.coverage ≡ coverage_of bits → read.flags ≡ number_or_0 start 8
     → read.table.now ≡ drop 12 start → map parts_of (olds ++ read ∷ []) ≡ map parts_of olds ++ subtable_at start
-one_more olds read start bits is kind coverage flags table =
+map-one_more olds read start bits is kind coverage flags table =
     let same : parts_of read ≡ parts_at start read.kind = rw (coverage, flags, table, is) refl in
     let one : parts_at start read.kind ∷ [] ≡ subtable_at start =
     ap (with_kind start) kind ∙ ap (λ b. with_kind start (kind_of (b % 256))) is in
@@ -30,19 +30,19 @@ none_more olds start bits is kind =
     ap (λ b. with_kind start (kind_of (b % 256))) (sym is) ∙ ap (with_kind start) kind in
     sym (append-nil olds) ∙ ap (λ xs. olds ++ xs) (sym none)
 
-pub joined : {A : Type 0} (xs ys : List A) (rest : Option (List A))
+pub option_map-joined : {A : Type 0} (xs ys : List A) (rest : Option (List A))
     → option_map (λ others. (xs ++ ys) ++ others) rest ≡ option_map (λ others. xs ++ others) (option_map (λ others. ys ++ others) rest)
-joined xs ys None = refl
-joined xs ys (Some others) = ap Some (append_assoc xs ys others)
+option_map-joined xs ys None = refl
+option_map-joined xs ys (Some others) = ap Some (append_assoc xs ys others)
 
 -- a subtable that is whole stands before the others
-pub next_subtable : (n within : ℕ) (start : List ℕ) (olds news : List SubtableParts) → 12 ≤ number_or_0 start 0
+pub option_map-next_subtable : (n within : ℕ) (start : List ℕ) (olds news : List SubtableParts) → 12 ≤ number_or_0 start 0
     → number_or_0 start 0 ≤ within → news ≡ olds ++ subtable_at start
     → option_map (λ others. news ++ others) (subtables_in n (within - number_or_0 start 0) (drop (number_or_0 start 0) start))
     ≡ option_map (λ others. olds ++ others) (subtables_in (suc n) within start)
-next_subtable n within start olds news least most is =
+option_map-next_subtable n within start olds news least most is =
     let whole : is_whole_subtable within start ≡ true = grind (arith, nat_tests) in
-    rw (whole, is) (joined olds (subtable_at start) _)
+    rw (whole, is) (option_map-joined olds (subtable_at start) _)
 
 -- subtables are being read: what was read stands before what the rest has, and is with it all that there is
 pub record IsReading (olds news : Metamorphosis) (all rest : Option (List SubtableParts)) : Type 0 where
@@ -56,28 +56,28 @@ none_of f None is = refl
 none_of f (Some x) is = absurd (none-some _ (sym is))
 
 -- one that is cut short ends all
-pub cut_short : (n within : ℕ) (start : List ℕ) → number_or_0 start 0 < 12 ⊎ (within < number_or_0 start 0)
+pub subtables_in-cut_short : (n within : ℕ) (start : List ℕ) → number_or_0 start 0 < 12 ⊎ (within < number_or_0 start 0)
     → subtables_in (suc n) within start ≡ None
-cut_short n within start short =
+subtables_in-cut_short n within start short =
     let part : is_whole_subtable within start ≡ false = grind (arith, nat_tests) in
     rw part refl
 
 -- subtables that are read later change no chain before
-pub same_slice : {A : Type 0} (olds xs : List A) (first last : ℕ) → first ≤ last → last ≤ length olds
+pub slice_range-same : {A : Type 0} (olds xs : List A) (first last : ℕ) → first ≤ last → last ≤ length olds
     → slice_range (olds ++ xs) first last ≡ slice_range olds first last
-same_slice olds xs first last up within =
+slice_range-same olds xs first last up within =
     let few : last - first ≤ length (drop first olds) = rw (length-drop first olds) (omega arith) in
     ap (λ ys. take (last - first) ys) (drop-append-le first olds xs (omega arith)) ∙ take-append-le (last - first) (drop first olds) xs few
 
-pub same_chains : (olds xs : List SubtableParts) (chains : List Chain) → AreWithin (length olds) chains
+pub map-same_chains : (olds xs : List SubtableParts) (chains : List Chain) → AreWithin (length olds) chains
     → map (read_chain (olds ++ xs)) chains ≡ map (read_chain olds) chains
-same_chains olds xs [] within = refl
-same_chains olds xs (chain ∷ chains) within =
-    rw (same_slice olds xs chain.first chain.last within.0.0 within.0.1, same_chains olds xs chains within.1) refl
+map-same_chains olds xs [] within = refl
+map-same_chains olds xs (chain ∷ chains) within =
+    rw (slice_range-same olds xs chain.first chain.last within.0.0 within.0.1, map-same_chains olds xs chains within.1) refl
 
 -- those of a chain that was read last are those behind all others
-pub last_slice : {A : Type 0} (olds xs : List A) → slice_range (olds ++ xs) (length olds) (length (olds ++ xs)) ≡ xs
-last_slice olds xs =
+pub slice_range-last : {A : Type 0} (olds xs : List A) → slice_range (olds ++ xs) (length olds) (length (olds ++ xs)) ≡ xs
+slice_range-last olds xs =
     let few : length xs ≤ length (olds ++ xs) - length olds = rw (length-append olds xs) (omega arith) in
     ap (λ ys. take (length (olds ++ xs) - length olds) ys) (drop-append_seam olds xs) ∙ take_all _ xs few
 
@@ -91,13 +91,13 @@ within_and_one count [] read within up last = ((up, last), tt)
 within_and_one count (chain ∷ chains) read within up last = (within.0, within_and_one count chains read within.1 up last)
 
 -- a chain that was read with its subtables stands behind the others
-pub chain_more : (olds news : List SubtableParts) (chains : List Chain) (start : List ℕ) (read : Chain) → AreWithin (length olds) chains
+pub option_map-one_chain : (olds news : List SubtableParts) (chains : List Chain) (start : List ℕ) (read : Chain) → AreWithin (length olds) chains
     → is_whole_chain start ≡ true
     → option_map (λ others. olds ++ others) (subtables_in (number_or_0 start 12) (number_or_0 start 4 - subtables_start start) (drop (subtables_start start) start)) ≡ Some news
     → read.default_flags ≡ number_or_0 start 0 → read.features.now ≡ take (12 * number_or_0 start 8) (drop 16 start)
     → read.first ≡ length olds → read.last ≡ length news
     → option_map (λ chain. map (read_chain olds) chains ++ chain ∷ []) (first_chain start) ≡ Some (map (read_chain news) (chains ++ read ∷ []))
-chain_more olds news chains start read within whole subtables flags features first last =
+option_map-one_chain olds news chains start read within whole subtables flags features first last =
     rw whole (with_subtables (subtables_in (number_or_0 start 12) (number_or_0 start 4 - subtables_start start) (drop (subtables_start start) start)) subtables)
   where
     with_subtables : (found : Option (List SubtableParts)) → option_map (λ others. olds ++ others) found ≡ Some news
@@ -109,9 +109,9 @@ chain_more olds news chains start read within whole subtables flags features fir
     with_subtables None is = absurd (none-some _ is)
     with_subtables (Some xs) is =
         let news_are : news ≡ olds ++ xs = sym (ap (λ found. unwrap_or found news) is) in
-        let slice : slice_range news read.first read.last ≡ xs = rw (first, last, news_are) (last_slice olds xs) in
+        let slice : slice_range news read.first read.last ≡ xs = rw (first, last, news_are) (slice_range-last olds xs) in
         ap Some (sym (map-append (read_chain news) chains (read ∷ [])
-        ∙ rw (flags, features, slice, news_are, same_chains olds xs chains within) refl))
+        ∙ rw (flags, features, slice, news_are, map-same_chains olds xs chains within) refl))
 
 -- what is read stands behind what was read
 pub grown : (olds news : List Subtable) (found : Option (List SubtableParts))
@@ -132,11 +132,11 @@ pub record AreReading (read : Metamorphosis) (glyph_count : ℕ) (all rest : Opt
   pub glyphs : read.glyph_count ≡ glyph_count
 
 -- a chain that is whole stands before the others
-pub next_chain : (n : ℕ) (start : List ℕ) (olds news : List ChainParts)
+pub option_map-next_chain : (n : ℕ) (start : List ℕ) (olds news : List ChainParts)
     → option_map (λ chain. olds ++ chain ∷ []) (first_chain start) ≡ Some news
     → option_map (λ others. news ++ others) (chains_in n (drop (number_or_0 start 4) start))
     ≡ option_map (λ others. olds ++ others) (chains_in (suc n) start)
-next_chain n start olds news is = before_others (first_chain start) (chains_in n (drop (number_or_0 start 4) start)) is
+option_map-next_chain n start olds news is = before_others (first_chain start) (chains_in n (drop (number_or_0 start 4) start)) is
   where
     before_others : (found : Option ChainParts) (rest : Option (List ChainParts)) → option_map (λ chain. olds ++ chain ∷ []) found ≡ Some news
         → option_map (λ others. news ++ others) rest
@@ -147,27 +147,27 @@ next_chain n start olds news is = before_others (first_chain start) (chains_in n
         let same : olds ++ chain ∷ [] ≡ news = ap (λ (found : Option (List ChainParts)). unwrap_or found news) is in
         ap Some (ap (λ xs. xs ++ others) (sym same) ∙ append_assoc olds (chain ∷ []) others)
 
-pub none_first : (n : ℕ) (start : List ℕ) → first_chain start ≡ None → chains_in (suc n) start ≡ None
-none_first n start none = rw none refl
+pub chains_in-none_first : (n : ℕ) (start : List ℕ) → first_chain start ≡ None → chains_in (suc n) start ≡ None
+chains_in-none_first n start none = rw none refl
 
-pub no_version : (table : List ℕ) → unwrap_or (number_16 table 0) 0 ≡ 0 → chains_of table ≡ []
-no_version table none = rw none refl
+pub chains_of-no_version : (table : List ℕ) → unwrap_or (number_16 table 0) 0 ≡ 0 → chains_of table ≡ []
+chains_of-no_version table none = rw none refl
 
-pub all_read : (read : Metamorphosis) (glyph_count : ℕ) (table : List ℕ) (rest : List ℕ) → (unwrap_or (number_16 table 0) 0 ≡ 0 → ⊥)
+pub read_chains-all : (read : Metamorphosis) (glyph_count : ℕ) (table : List ℕ) (rest : List ℕ) → (unwrap_or (number_16 table 0) 0 ≡ 0 → ⊥)
     → AreReading read glyph_count (chains_in (number_or_0 table 4) (drop 8 table)) (chains_in 0 rest)
     → read_chains read.subtables.items read.chains.items ≡ chains_of table
-all_read read glyph_count table rest some reading =
+read_chains-all read glyph_count table rest some reading =
     let version : nat_eq (unwrap_or (number_16 table 0) 0) 0 ≡ false = grind (arith, nat_tests) in
     let all : Some (read_chains read.subtables.items read.chains.items ++ []) ≡ chains_in (number_or_0 table 4) (drop 8 table) = reading.chains in
     rw version (sym (append-nil _) ∙ ap (λ (found : Option (List ChainParts)). unwrap_or found []) all)
 
-same_branches : (b : Bool) (xs : List ChainParts) → (if b then xs else xs) ≡ xs
-same_branches true xs = refl
-same_branches false xs = refl
+if-same : (b : Bool) (xs : List ChainParts) → (if b then xs else xs) ≡ xs
+if-same true xs = refl
+if-same false xs = refl
 
-pub none_read : (table : List ℕ) → chains_in (number_or_0 table 4) (drop 8 table) ≡ None → chains_of table ≡ []
-none_read table none = rw none (same_branches (nat_eq (unwrap_or (number_16 table 0) 0) 0) [])
+pub chains_of-none : (table : List ℕ) → chains_in (number_or_0 table 4) (drop 8 table) ≡ None → chains_of table ≡ []
+chains_of-none table none = rw none (if-same (nat_eq (unwrap_or (number_16 table 0) 0) 0) [])
 
-pub nothing_before : (found : Option (List ChainParts)) → option_map (λ others. others) found ≡ found
-nothing_before None = refl
-nothing_before (Some others) = refl
+pub option_map-nothing : (found : Option (List ChainParts)) → option_map (λ others. others) found ≡ found
+option_map-nothing None = refl
+option_map-nothing (Some others) = refl

@@ -2,7 +2,7 @@ use Rattle.std.proofs.Common.{◌≡◌, ◌∙◌, ◌++◌, ◌-◌, sym, true
 use Rattle.std.proofs.lemmas.Bool.Decides.{nat_tests}
 use Rattle.std.proofs.lemmas.List.{length-map}
 use Rattle.apple_tables.specs.Metamorphosis.{is_whole_chain, number_or_0, parts_of, subtables_in, subtables_start}
-use Rattle.apple_tables.proofs.MetamorphosisLemmas.{chain_more, grown, within_and_one, within_more}
+use Rattle.apple_tables.proofs.MetamorphosisLemmas.{option_map-one_chain, grown, within_and_one, within_more}
 use Rattle.apple_tables.proofs.metamorphosis.Metamorphosis.read_chain.Goals as goal
 
 pub returns-clause-within : goal.returns-clause-within
@@ -32,6 +32,6 @@ returns-clause-read c =
     let last : c.len.result ≡ length (map parts_of news.items) =
     c.len.ensures ∙ (news.ok.0 ∙ sym (length-map news.items parts_of)) in
     rw (c.in_ok-push.ensures.items, c.in_ok-read_subtables.ensures.chains)
-    (chain_more (map parts_of olds.items) (map parts_of news.items) c.args.self.now.chains.items start _
+    (option_map-one_chain (map parts_of olds.items) (map parts_of news.items) c.args.self.now.chains.items start _
     (rw (length-map olds.items parts_of) c.requires) whole subtables
     c.number_or_0.ensures (rw (sym c.number_or_0-feature_count.ensures) c.part.ensures) first last)

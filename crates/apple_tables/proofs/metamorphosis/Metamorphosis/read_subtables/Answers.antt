@@ -1,7 +1,7 @@
 use Rattle.std.proofs.Common.{◌≡◌, ◌∙◌, ◌-◌, ◌+◌, ap, sym, refl, suc, arith, Some, map, option_map, ◌++◌}
 use Rattle.std.proofs.lemmas.List.{append-nil}
 use Rattle.apple_tables.specs.Metamorphosis.{parts_of, subtables_in}
-use Rattle.apple_tables.proofs.MetamorphosisLemmas.{cut_short, next_subtable, none_of}
+use Rattle.apple_tables.proofs.MetamorphosisLemmas.{subtables_in-cut_short, option_map-next_subtable, none_of}
 use Rattle.apple_tables.proofs.metamorphosis.Metamorphosis.read_subtables.Goals as goal
 
 pub loop-subtable-init : goal.loop-subtable-init
@@ -15,7 +15,7 @@ returns-then-length-lt-SUBTABLE_HEADER-clause-none c is =
     none_of _ _ (sym c.loop-subtable.invariant.parts
     ∙ rw (
       left,
-      cut_short (c.args.count - (c.loop-subtable._subtable + 1)) c.loop-subtable.left c.loop-subtable.rest.now
+      subtables_in-cut_short (c.args.count - (c.loop-subtable._subtable + 1)) c.loop-subtable.left c.loop-subtable.rest.now
           (grind (arith)),
     ) refl)
 
@@ -25,7 +25,7 @@ loop-subtable-preserved c =
     let length = c.number_or_0-length.ensures in
     record {
       parts = rw (c.tail-rest.ensures, length)
-          (next_subtable (c.args.count - (c.loop-subtable._subtable + 1)) c.loop-subtable.left c.loop-subtable.rest.now _ _
+          (option_map-next_subtable (c.args.count - (c.loop-subtable._subtable + 1)) c.loop-subtable.left c.loop-subtable.rest.now _ _
           (omega arith) (omega arith) c.in_ok-read_subtable.ensures.read)
           ∙ ap (λ n. option_map (λ others. map parts_of c.loop-subtable.self.subtables.items ++ others)
           (subtables_in n c.loop-subtable.left c.loop-subtable.rest.now)) (sym left) ∙ c.loop-subtable.invariant.parts;
