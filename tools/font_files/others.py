@@ -1,5 +1,7 @@
 """`kern.ttf`, which has the table `kern` and no other layout, and `upright.otf`, which has charstrings and vertical origins."""
 
+import functools
+
 from . import cff
 from . import layout as lay
 from . import opentype as ot
@@ -94,6 +96,22 @@ def hinted():
     }, b"OTTO")
 
 
+# Tables that HarfBuzz takes for none, and tables without lookups, by which marks are not placed.
+POSITIONS = {
+    "cut": ot.numbers(1, 0, 0, 0) + b"\0", "one-byte": b"\0", "variations-cut": ot.numbers(1, 1, 0, 0, 0, 0), "zero": ot.numbers(0, 0),
+    "empty": ot.numbers(1, 0, 0, 0, 0), "variations": ot.numbers(1, 1, 0, 0, 0, 0, 0), "second": ot.numbers(2, 0), "minor": ot.numbers(0, 1),
+}
+
+
+def positions(gpos):
+    """Two letters and a mark, with a table `GPOS` of these bytes."""
+    names = [".notdef", "space", "a", "b", "acute"]
+    return ot.font({
+        **tables(names, "Vukhaso Positions"), "post": ot.post(), "GPOS": gpos,
+        "cmap": ot.cmap({(3, 1): ot.segment_mapping({0x20: 1, 0x61: 2, 0x62: 3, 0x301: 4})}),
+    })
+
+
 def collection():
     """Two fonts in one file: `kern.ttf` and `hinted.otf`."""
     fonts = [kern(), hinted()]
@@ -107,3 +125,6 @@ def collection():
             moved[row:row + 4] = ot.long_numbers(int.from_bytes(data[row:row + 4], "big") + place)
         made += bytes(moved)
     return made
+
+
+FONTS = {f"gpos-{name}.ttf": functools.partial(positions, gpos) for name, gpos in POSITIONS.items()}

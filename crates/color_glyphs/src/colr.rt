@@ -54,7 +54,7 @@ impl<'a> ColrTable<'a> {
 }
 
 /// The table that an offset of `COLR` leads to; an empty one where there is none.
-fn part_at(colr: &[u8], at: usize) -> &[u8]
+pub(crate) fn part_at(colr: &[u8], at: usize) -> &[u8]
     ensures { result.now ≡ part_at colr.now at }
 {
     if u16_at(colr, 0).unwrap_or(0) > 0 {
@@ -179,7 +179,7 @@ fn varies(bytes: &[u8], coordinates: &[i32]) -> bool
 }
 
 /// The number of a side in the map of delta sets, by that of the first one; the number of no variation stays.
-fn delta_set(first: u32, corner: u8) -> u32
+pub(crate) fn delta_set(first: u32, corner: u8) -> u32
     ensures { result ≡ delta_set first corner }
 {
     if first == u32::MAX {

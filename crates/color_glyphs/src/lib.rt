@@ -7,13 +7,23 @@
 //! have. No memory is asked for.
 #![tactic(auto)]
 
+mod angles;
+mod base_glyphs;
+mod bounds;
 pub mod cbdt;
+mod color_extents;
 pub mod colr;
+mod extents;
+mod outlines;
+mod paint_values;
+mod painter;
 pub mod pixels;
 pub mod sbix;
 pub mod strikes;
+mod transform;
 
 pub use cbdt::CbdtTables;
 pub use colr::ColrTable;
+pub use outlines::DrawnOutlines;
 pub use pixels::PixelBox;
 pub use sbix::SbixTable;

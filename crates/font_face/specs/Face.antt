@@ -1,6 +1,6 @@
 -- What is kept of a font: its tables, by their tags, and what they say.
-use Rattle.std.specs.Prelude.{ℕ, List, [], length, not, ◌≡◌, ◌/◌, ◌==◌, codes, unwrap_or, if◌then◌else◌, bit_and}
-use Rattle.font_tables.specs.Bytes.{number_16, is_number}
+use Rattle.std.specs.Prelude.{ℕ, List, Bool, [], length, nat_le, nat_lt, not, ◌≡◌, ◌/◌, ◌==◌, codes, unwrap_or, if◌then◌else◌, bit_and}
+use Rattle.font_tables.specs.Bytes.{number_16, number_32, is_number}
 use Rattle.font_tables.specs.Head.{units_per_em, glyph_count, index_to_loc_format}
 use Rattle.font_tables.specs.IgnoredGdef.{is_ignored}
 use Rattle.font_tables.specs.Extents.{long_metric_count, horizontal_extents}
@@ -18,10 +18,20 @@ use Rattle.font_face.specs.declared.layout.Layout.{Layout}
 abbrev pub table : Face → List ℕ → List ℕ
 table face letters = table_in face.tables letters
 
+-- whether a table of lookups is read: one of version 1 holds its header, with the offset of feature variations from version 1.1 on
+abbrev pub is_read : List ℕ → Bool
+is_read table =
+    if is_number (number_16 table 0) 1 then nat_le (if is_number (number_16 table 2) 0 then 10 else 14) (length table)
+    else nat_lt 0 (unwrap_or (number_32 table 0) 0)
+
+-- a table of lookups, if it is read
+abbrev pub read_table : List ℕ → List ℕ
+read_table table = if is_read table then table else []
+
 -- these are the tables of lookups in a directory
 pub record IsLayoutOf (layout : Layout) (tables : Tables) : Type 0 where
-  pub substitutions : layout.gsub.now ≡ table_in tables (codes "GSUB")
-  pub positions : layout.gpos.now ≡ table_in tables (codes "GPOS")
+  pub substitutions : layout.gsub.now ≡ read_table (table_in tables (codes "GSUB"))
+  pub positions : layout.gpos.now ≡ read_table (table_in tables (codes "GPOS"))
   pub kerning : layout.kern.now ≡ table_in tables (codes "kern")
   pub morx : layout.morx.now ≡ table_in tables (codes "morx")
   pub features : layout.feat.now ≡ table_in tables (codes "feat")
@@ -73,12 +83,12 @@ pub record KeepsItsTables (face : Face) : Type 0 where
       AreColorsOf face.color face.tables face.glyph_count (wanted_size face.scale.x_ppem face.scale.y_ppem)
   pub gdef :
       face.gdef.table.now
-      ≡ believed (table face (codes "GDEF")) (table face (codes "GSUB")) (table face (codes "GPOS"))
+      ≡ believed (table face (codes "GDEF")) (read_table (table face (codes "GSUB"))) (read_table (table face (codes "GPOS")))
   pub outlines : face.outlines.glyf.glyf.now ≡ table face (codes "glyf")
   pub locations : face.outlines.glyf.loca.now ≡ table face (codes "loca")
   pub long_offsets :
       face.outlines.glyf.has_long_offsets ≡ not (index_to_loc_format (table face (codes "head")) == 0)
   pub outlined : face.outlines.glyf.glyph_count ≡ face.glyph_count
-  pub positioned : face.has_gpos ≡ is_number (number_16 (table face (codes "GPOS")) 0) 1
+  pub positioned : face.has_gpos ≡ is_read (table face (codes "GPOS"))
   pub scaled : face.scale.units_per_em ≡ face.units_per_em
   pub varied : AreVariationsOf face.variations face.tables face.gdef.table.now

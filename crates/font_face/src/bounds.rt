@@ -3,6 +3,7 @@
 use crate::color::ColorTables;
 use crate::face::Face;
 use crate::measures::scaled_bounds;
+use color_glyphs::DrawnOutlines;
 use font_tables::metrics::Metrics;
 use font_tables::scale::Scale;
 use glyph_outlines::{Cff2Table, Outlines};
@@ -54,6 +55,16 @@ impl<'a> BoundsSource<'a> {
         }
     }
 
+    /// The outlines as they are drawn.
+    fn drawn(&self) -> DrawnOutlines<'a> {
+        DrawnOutlines {
+            sources: self.glyph_sources(),
+            cff_2: self.outlines_2,
+            cff: self.outlines.cff,
+            scale: self.scale,
+        }
+    }
+
     /// The bounds of a glyph at a place in the variations: of its bitmap, or else of its colours, or of its outline; `None` where
     /// the font has none of these.
     pub(crate) fn bounds(
@@ -63,6 +74,14 @@ impl<'a> BoundsSource<'a> {
         coordinates: &[i32],
     ) -> Result<Option<GlyphExtents>, AllocError> {
         if let Some(found) = self.color.bounds(glyph, coordinates, &self.scale) {
+            return Ok(Some(found));
+        }
+        let drawn = self.drawn();
+        if let Some(found) = self
+            .color
+            .colr
+            .painted_extents(alloc, glyph, &drawn, coordinates)?
+        {
             return Ok(Some(found));
         }
         let found = self.outline_extents(alloc, glyph, coordinates)?;

@@ -2,7 +2,6 @@
 
 ghost use Rattle.std.specs.Prelude.{◌≡◌, ◌==◌, not, option_map, codes, IfOk, IfSome};
 ghost use Rattle.rb_common.specs.Tag.{tag_of};
-ghost use Rattle.font_tables.specs.Bytes.{is_number, number_16};
 ghost use Rattle.font_tables.specs.Directory.{font_of, table_of};
 ghost use Rattle.font_tables.specs.Head.{index_to_loc_format};
 ghost use Rattle.font_face.specs.Face.{font_page, believed, IsLayoutOf, KeepsItsTables};
@@ -10,7 +9,7 @@ ghost use Rattle.font_face.specs.Tables.{table_in};
 ghost use Rattle.character_maps.specs.Codes.{glyph_index, glyph_variation_index};
 
 use crate::color::ColorTables;
-use crate::layout::Layout;
+use crate::layout::{Layout, is_read};
 use crate::variations::FaceVariations;
 use apple_tables::Metamorphosis;
 use character_maps::CharacterMap;
@@ -71,7 +70,7 @@ pub struct Face<'a> {
     pub lookups: Lookups<'a>,
     /// What gives the memory for plans.
     pub alloc: Global,
-    /// Whether the font positions its marks itself: whether it has a table `GPOS`.
+    /// Whether the font positions its marks itself: whether it has a table `GPOS` that is read.
     pub has_gpos: bool,
     /// The size at which the font is used.
     pub scale: Scale,
@@ -237,7 +236,7 @@ fn face_of<'a>(
         gdef,
         outlines: outlines_of(&tables, head, glyph_count),
         color: ColorTables::new(&tables, glyph_count, 0, 0),
-        has_gpos: is_positioning(layout.gpos),
+        has_gpos: is_read(tables.table(Tag::from_bytes(b"GPOS"))),
         layout,
         lookups,
         alloc,
@@ -245,13 +244,6 @@ fn face_of<'a>(
         points_per_em: 0.0,
         variations: FaceVariations::new(alloc, &tables, gdef.table, glyph_count),
     }
-}
-
-/// Whether a table is a `GPOS` of the major version 1.
-fn is_positioning(gpos: &[u8]) -> bool
-    ensures { result ≡ is_number (number_16 gpos.now 0) 1 }
-{
-    matches!(u16_at(gpos, 0), Some(1))
 }
 
 /// The classes of the glyphs: none where `GDEF` is one of those that HarfBuzz does not believe.

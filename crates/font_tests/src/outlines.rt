@@ -87,6 +87,7 @@ fn the_example_of_the_specification_is_read(rt: HostRuntime) {
         assert!(rt; cff.glyph_name(GlyphId(1)) == Some(b"space".as_slice()));
         assert!(rt; cff.glyph_name(GlyphId(2)) == None);
         assert!(rt; box_of(cff.glyph_extents(GlyphId(1))) == Some([0; 4]));
+        assert!(rt; cff.path_bounds(GlyphId(2)).is_none());
         assert!(rt; index_count(cff.strings) == 3);
         assert!(rt; index_size(cff.strings) == Some(30));
         assert!(rt; index_item(cff.strings, 1) == Some(b"Times Roman".as_slice()));
@@ -149,6 +150,9 @@ fn a_charstring_is_run_for_its_box(rt: HostRuntime) {
             "{name}"
         );
     }
+    let bounds = outlines.cff.and_then(|cff| cff.path_bounds(GlyphId(1)));
+    assert!(rt; bounds.map(|bounds| bounds.min.x) == Some(32112640));
+    assert!(rt; bounds.map(|bounds| bounds.max.y) == Some(14811136));
 }
 
 /// Predefined charsets, glyphs, and the names that they have by The Compact Font Format Specification (Appendix C).

@@ -93,11 +93,18 @@ impl<'a> CffTable<'a> {
     pub fn glyph_extents(&self, glyph: GlyphId) -> Option<GlyphExtents>
         ensures { IsSome result → glyph.0 < self.now.glyph_count }
     {
+        Some(path_box(self.path_bounds(glyph)?))
+    }
+
+    /// The same box before it is rounded, in 65,536ths of a font unit.
+    pub fn path_bounds(&self, glyph: GlyphId) -> Option<Bounds>
+        ensures { IsSome result → glyph.0 < self.now.glyph_count }
+    {
         let drawing = self.drawing(glyph)?;
         let bounds = drawing.path.bounds;
         match drawing.accented {
-            Some(accented) => Some(path_box(bounds.merged(self.accented_bounds(accented)?))),
-            None => Some(path_box(bounds)),
+            Some(accented) => Some(bounds.merged(self.accented_bounds(accented)?)),
+            None => Some(bounds),
         }
     }
 

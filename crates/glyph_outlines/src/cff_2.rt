@@ -9,6 +9,7 @@ use crate::dict::Dict;
 use crate::extents::path_box;
 use crate::font_dicts::font_dict_of;
 use crate::index_2::{count_2, item_2};
+use crate::path::Bounds;
 use font_tables::bytes::{part, tail, u8_at, u16_at};
 use font_variations::VariationStore;
 use rb_common::GlyphId;
@@ -62,8 +63,15 @@ impl<'a> Cff2Table<'a> {
 
     /// The box around the path of a glyph and the points that control its curves, in font units, at these coordinates; `None` where
     /// the font has no such glyph, or its charstring is broken.
-    #[tactic(auto, unfolding(crate::specs::Index2::item_2))]
     pub fn glyph_extents(&self, glyph: GlyphId, coordinates: &[i32]) -> Option<GlyphExtents>
+        ensures { IsSome result → glyph.0 < self.now.glyph_count }
+    {
+        Some(path_box(self.path_bounds(glyph, coordinates)?))
+    }
+
+    /// The same box before it is rounded, in 65,536ths of a font unit.
+    #[tactic(auto, unfolding(crate::specs::Index2::item_2))]
+    pub fn path_bounds(&self, glyph: GlyphId, coordinates: &[i32]) -> Option<Bounds>
         ensures { IsSome result → glyph.0 < self.now.glyph_count }
     {
         let charstring = item_2(self.char_strings, u32::from(glyph.0))?;
@@ -77,7 +85,7 @@ impl<'a> Cff2Table<'a> {
         };
         let set = u16::try_from(dict.variation_set).ok()?;
         let path = draw_charstring_2(charstring, &setting, set)?;
-        Some(path_box(path.bounds))
+        Some(path.bounds)
     }
 
     /// The Private DICT of a glyph. `None` where it is empty: HarfBuzz has no bounds of such a glyph.

@@ -2,7 +2,7 @@
 
 /// A point, or how far it is from one point to another, in 65,536ths of a font unit.
 #[derive(Clone, Copy, Debug, Default)]
-pub(crate) struct Point {
+pub struct Point {
     /// To the right.
     pub x: i64,
     /// Upwards.
@@ -31,7 +31,7 @@ impl Point {
 
 /// A box around points: one without points, as `Bounds::EMPTY`, ends before it begins.
 #[derive(Clone, Copy, Debug)]
-pub(crate) struct Bounds {
+pub struct Bounds {
     /// The left and lower corner.
     pub min: Point,
     /// The right and upper corner.

@@ -26,7 +26,7 @@ mod tuples;
 mod varied_points;
 
 pub use gvar::GlyphVariations;
-pub use outline_bounds::{VariedOutline, varied_outline};
+pub use outline_bounds::{PointBounds, VariedOutline, varied_outline};
 pub use phantoms::{Phantoms, varied_phantoms};
 pub use points::Point;
 pub use sources::GlyphSources;

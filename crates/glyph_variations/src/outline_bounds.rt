@@ -14,6 +14,8 @@ use std::alloc::{AllocError, Global};
 pub struct VariedOutline {
     /// The box around its points, in whole font units.
     pub extents: GlyphExtents,
+    /// The box around its points.
+    pub bounds: PointBounds,
     /// Its phantom points.
     pub phantoms: Phantoms,
 }
@@ -46,12 +48,13 @@ fn outline_of(points: &[OutlinePoint]) -> VariedOutline {
         x: -phantoms.left.x,
         y: 0.0,
     };
-    let mut bounds = Bounds::EMPTY;
+    let mut bounds = PointBounds::EMPTY;
     for point in points.iter().take(points.len().saturating_sub(4)) {
         bounds = bounds.including(point.at.moved(by));
     }
     VariedOutline {
         extents: bounds.extents(),
+        bounds,
         phantoms: Phantoms {
             left: phantoms.left.moved(by),
             right: phantoms.right.moved(by),
@@ -62,15 +65,17 @@ fn outline_of(points: &[OutlinePoint]) -> VariedOutline {
 }
 
 /// The box around points: one without points ends before it begins.
-#[derive(Clone, Copy)]
-struct Bounds {
-    min: Point,
-    max: Point,
+#[derive(Clone, Copy, Debug)]
+pub struct PointBounds {
+    /// The left and lower corner.
+    pub min: Point,
+    /// The right and upper corner.
+    pub max: Point,
 }
 
-impl Bounds {
+impl PointBounds {
     /// The box around no point: from the greatest float down to the least.
-    const EMPTY: Bounds = Bounds {
+    const EMPTY: PointBounds = PointBounds {
         min: Point {
             x: f32::MAX,
             y: f32::MAX,
@@ -82,8 +87,8 @@ impl Bounds {
     };
 
     /// The least box around this one and a point.
-    fn including(self, point: Point) -> Bounds {
-        Bounds {
+    fn including(self, point: Point) -> PointBounds {
+        PointBounds {
             min: Point {
                 x: lesser(self.min.x, point.x),
                 y: lesser(self.min.y, point.y),

@@ -8,13 +8,23 @@
 //! A table is a slice of bytes that may be cut short or hold anything, and an empty one is a table that the font does not
 //! have. No memory is asked for.
 
+mod angles;
+mod base_glyphs;
+mod bounds;
 pub mod cbdt;
+mod color_extents;
 pub mod colr;
+mod extents;
+mod outlines;
+mod paint_values;
+mod painter;
 pub mod pixels;
 pub mod sbix;
 pub mod strikes;
+mod transform;
 
 pub use cbdt::CbdtTables;
 pub use colr::ColrTable;
+pub use outlines::DrawnOutlines;
 pub use pixels::PixelBox;
 pub use sbix::SbixTable;

@@ -22,7 +22,7 @@ pub mod index;
 mod index_2;
 mod operand;
 mod outlines;
-mod path;
+pub mod path;
 mod standard_encoding;
 pub mod standard_strings;
 mod subroutines;

@@ -65,7 +65,7 @@ impl<'a> ColrTable<'a> {
 }
 
 /// The table that an offset of `COLR` leads to; an empty one where there is none.
-fn part_at(colr: &[u8], at: usize) -> &[u8] {
+pub(crate) fn part_at(colr: &[u8], at: usize) -> &[u8] {
     if u16_at(colr, 0).unwrap_or(0) > 0 {
         table_at_32(colr, at).unwrap_or(&[])
     } else {
@@ -172,7 +172,7 @@ fn varies(bytes: &[u8], coordinates: &[i32]) -> bool {
 
 /// The number of a side in the map of delta sets, by that of the first one; the number of no variation
 /// stays.
-fn delta_set(first: u32, corner: u8) -> u32 {
+pub(crate) fn delta_set(first: u32, corner: u8) -> u32 {
     if first == u32::MAX {
         first
     } else {

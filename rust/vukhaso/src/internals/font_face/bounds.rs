@@ -2,6 +2,7 @@
 
 //! The bounds of glyphs at the size at which a font is used, and at the place that is chosen in its variations.
 
+use crate::color_glyphs::DrawnOutlines;
 use crate::common::GlyphId;
 use crate::font_face::color::ColorTables;
 use crate::font_face::face::Face;
@@ -56,6 +57,16 @@ impl<'a> BoundsSource<'a> {
         }
     }
 
+    /// The outlines as they are drawn.
+    fn drawn(&self) -> DrawnOutlines<'a> {
+        DrawnOutlines {
+            sources: self.glyph_sources(),
+            cff_2: self.outlines_2,
+            cff: self.outlines.cff,
+            scale: self.scale,
+        }
+    }
+
     /// The bounds of a glyph at a place in the variations: of its bitmap, or else of its colours, or of its
     /// outline; `None` where the font has none of these.
     pub(crate) fn bounds(
@@ -65,6 +76,14 @@ impl<'a> BoundsSource<'a> {
         coordinates: &[i32],
     ) -> Result<Option<GlyphExtents>, AllocError> {
         if let Some(found) = self.color.bounds(glyph, coordinates, &self.scale) {
+            return Ok(Some(found));
+        }
+        let drawn = self.drawn();
+        if let Some(found) = self
+            .color
+            .colr
+            .painted_extents(glyph, &drawn, coordinates)?
+        {
             return Ok(Some(found));
         }
         let found = self.outline_extents(glyph, coordinates)?;

@@ -6,7 +6,7 @@ use crate::apple_tables::Metamorphosis;
 use crate::character_maps::CharacterMap;
 use crate::common::{GlyphId, Tag};
 use crate::font_face::color::ColorTables;
-use crate::font_face::layout::Layout;
+use crate::font_face::layout::{Layout, is_read};
 use crate::font_face::variations::FaceVariations;
 use crate::font_tables::bytes::u16_at;
 use crate::font_tables::directory::Tables;
@@ -75,7 +75,7 @@ pub struct Face<'a> {
     /// The lookups.
     #[doc(hidden)]
     pub lookups: Lookups<'a>,
-    /// Whether the font positions its marks itself: whether it has a table `GPOS`.
+    /// Whether the font positions its marks itself: whether it has a table `GPOS` that is read.
     #[doc(hidden)]
     pub has_gpos: bool,
     /// The size at which the font is used.
@@ -287,7 +287,7 @@ fn face_of<'a>(
         gdef,
         outlines: outlines_of(&tables, head, glyph_count),
         color: ColorTables::new(&tables, glyph_count, 0, 0),
-        has_gpos: is_positioning(layout.gpos),
+        has_gpos: is_read(tables.table(Tag::from_bytes(b"GPOS"))),
         layout,
         lookups,
 
@@ -295,11 +295,6 @@ fn face_of<'a>(
         points_per_em: 0.0,
         variations: FaceVariations::new(&tables, gdef.table, glyph_count),
     }
-}
-
-/// Whether a table is a `GPOS` of the major version 1.
-fn is_positioning(gpos: &[u8]) -> bool {
-    matches!(u16_at(gpos, 0), Some(1))
 }
 
 /// The classes of the glyphs: none where `GDEF` is one of those that HarfBuzz does not believe.

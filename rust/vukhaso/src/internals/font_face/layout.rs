@@ -3,14 +3,15 @@
 //! The tables of a font's lookups.
 
 use crate::common::Tag;
+use crate::font_tables::bytes::{u16_at, u32_at};
 use crate::font_tables::directory::Tables;
 
 /// The tables that substitute and position glyphs, each empty where the font has none.
 #[derive(Clone, Copy, Debug)]
 pub struct Layout<'a> {
-    /// The table `GSUB`, which substitutes glyphs.
+    /// The table `GSUB`, which substitutes glyphs, where HarfBuzz reads it.
     pub gsub: &'a [u8],
-    /// The table `GPOS`, which positions them.
+    /// The table `GPOS`, which positions them, where HarfBuzz reads it.
     pub gpos: &'a [u8],
     /// The table `kern`, which old fonts have in place of `GPOS`.
     pub kern: &'a [u8],
@@ -26,12 +27,33 @@ impl<'a> Layout<'a> {
     /// The tables of lookups among those of a font.
     pub(crate) fn new(tables: &Tables<'a>) -> Self {
         Layout {
-            gsub: tables.table(Tag::from_bytes(b"GSUB")),
-            gpos: tables.table(Tag::from_bytes(b"GPOS")),
+            gsub: read_table(tables.table(Tag::from_bytes(b"GSUB"))),
+            gpos: read_table(tables.table(Tag::from_bytes(b"GPOS"))),
             kern: tables.table(Tag::from_bytes(b"kern")),
             morx: tables.table(Tag::from_bytes(b"morx")),
             feat: tables.table(Tag::from_bytes(b"feat")),
             trak: tables.table(Tag::from_bytes(b"trak")),
         }
+    }
+}
+
+/// A table of lookups, if it is read.
+fn read_table(table: &[u8]) -> &[u8] {
+    if is_read(table) { table } else { &[] }
+}
+
+/// Whether a table of lookups is read: one of version 1 holds its header, with the offset of feature
+/// variations from version 1.1 on. One of an unknown version is read as one without lookups.
+pub(crate) fn is_read(table: &[u8]) -> bool {
+    match u16_at(table, 0) {
+        Some(1) => {
+            let header = if matches!(u16_at(table, 2), Some(0)) {
+                10
+            } else {
+                14
+            };
+            header <= table.len()
+        }
+        _ => u32_at(table, 0).unwrap_or(0) > 0,
     }
 }

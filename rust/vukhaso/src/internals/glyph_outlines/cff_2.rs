@@ -12,6 +12,7 @@ use crate::glyph_outlines::dict::Dict;
 use crate::glyph_outlines::extents::path_box;
 use crate::glyph_outlines::font_dicts::font_dict_of;
 use crate::glyph_outlines::index_2::{count_2, item_2};
+use crate::glyph_outlines::path::Bounds;
 
 /// The table of a font with CFF2 outlines.
 ///
@@ -77,6 +78,18 @@ impl<'a> Cff2Table<'a> {
     /// ```
     #[inline]
     pub fn glyph_extents(&self, glyph: GlyphId, coordinates: &[i32]) -> Option<GlyphExtents> {
+        Some(path_box(self.path_bounds(glyph, coordinates)?))
+    }
+
+    /// The same box before it is rounded, in 65,536ths of a font unit.
+    ///
+    /// # Proved
+    ///
+    /// ```text
+    /// ensures { IsSome result → glyph.0 < self.now.glyph_count }
+    /// ```
+    #[inline]
+    pub fn path_bounds(&self, glyph: GlyphId, coordinates: &[i32]) -> Option<Bounds> {
         let charstring = item_2(self.char_strings, u32::from(glyph.0))?;
         let private = self.private_of(glyph)?;
         let dict = Dict::read(private.bytes)?;
@@ -88,7 +101,7 @@ impl<'a> Cff2Table<'a> {
         };
         let set = u16::try_from(dict.variation_set).ok()?;
         let path = draw_charstring_2(charstring, &setting, set)?;
-        Some(path_box(path.bounds))
+        Some(path.bounds)
     }
 
     /// The Private DICT of a glyph. `None` where it is empty: HarfBuzz has no bounds of such a glyph.

@@ -4,7 +4,7 @@
 
 /// A point, or how far it is from one point to another, in 65,536ths of a font unit.
 #[derive(Clone, Copy, Debug, Default)]
-pub(crate) struct Point {
+pub struct Point {
     /// To the right.
     pub x: i64,
     /// Upwards.
@@ -34,7 +34,7 @@ impl Point {
 
 /// A box around points: one without points, as `Bounds::EMPTY`, ends before it begins.
 #[derive(Clone, Copy, Debug)]
-pub(crate) struct Bounds {
+pub struct Bounds {
     /// The left and lower corner.
     pub min: Point,
     /// The right and upper corner.

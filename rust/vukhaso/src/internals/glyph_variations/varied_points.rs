@@ -30,6 +30,9 @@ pub(crate) fn vary_points(
     coordinates: &[i32],
     points: &mut [OutlinePoint],
 ) -> Result<(), AllocError> {
+    if coordinates.is_empty() {
+        return Ok(());
+    }
     let data = sources.variations.data_of(glyph);
     let Some(mut tuples) = Tuples::new(&sources.variations, data) else {
         return Ok(());

@@ -91,6 +91,7 @@ fn the_example_of_the_specification_is_read() {
         assert!(cff.glyph_name(GlyphId(1)) == Some(b"space".as_slice()));
         assert!(cff.glyph_name(GlyphId(2)) == None);
         assert!(box_of(cff.glyph_extents(GlyphId(1))) == Some([0; 4]));
+        assert!(cff.path_bounds(GlyphId(2)).is_none());
         assert!(index_count(cff.strings) == 3);
         assert!(index_size(cff.strings) == Some(30));
         assert!(index_item(cff.strings, 1) == Some(b"Times Roman".as_slice()));
@@ -153,6 +154,9 @@ fn a_charstring_is_run_for_its_box() {
             "{name}"
         );
     }
+    let bounds = outlines.cff.and_then(|cff| cff.path_bounds(GlyphId(1)));
+    assert!(bounds.map(|bounds| bounds.min.x) == Some(32112640));
+    assert!(bounds.map(|bounds| bounds.max.y) == Some(14811136));
 }
 
 /// Predefined charsets, glyphs, and the names that they have by The Compact Font Format Specification (Appendix C).

@@ -1,8 +1,10 @@
 // Written by tools/plain_rust from crates/variation_tests. Do not edit.
 
-//! Tests of `glyph_variations`: a triangle whose corner and advance move to the right.
+//! Tests of `glyph_variations`: a triangle whose corner and advance move to the right, and a paint that fills it.
+use vukhaso::internals::color_glyphs::{ColrTable, DrawnOutlines};
 use vukhaso::internals::common::GlyphId;
 use vukhaso::internals::font_tables::metrics::Metrics;
+use vukhaso::internals::font_tables::scale::Scale;
 use vukhaso::internals::glyph_outlines::GlyfTables;
 use vukhaso::internals::glyph_variations::{
     GlyphSources, GlyphVariations, Point, varied_outline, varied_phantoms,
@@ -70,6 +72,8 @@ fn the_box_grows() {
     assert!(outline.extents.y_bearing == 100);
     assert!(outline.extents.width == 110);
     assert!(outline.extents.height == -100);
+    assert!(outline.bounds.min == Point { x: 0.0, y: 0.0 });
+    assert!(outline.bounds.max == Point { x: 110.0, y: 100.0 });
     assert!(outline.phantoms.right == Point { x: 140.0, y: 0.0 });
 }
 
@@ -80,4 +84,44 @@ fn points_move() {
     assert!(point.moved(by) == Point { x: 4.0, y: 7.0 });
     assert!(point.times(2.0) == Point { x: 6.0, y: 10.0 });
     assert!(point.from(by) == Point { x: 2.0, y: 3.0 });
+}
+
+/// A paint of glyph 1: the triangle, 10 to the right and 5 down.
+static COLR: [u8; 63] = [
+    0, 1, 0, 0, 0, 0, 0, 0, 0, 0, 0, 0, 0, 0, 0, 0, 0, 34, 0, 0, 0, 0, 0, 0, 0, 0, 0, 0, 0, 0, 0,
+    0, 0, 0, //
+    0, 0, 0, 1, 0, 1, 0, 0, 0, 10, //
+    14, 0, 0, 8, 0, 10, 255, 251, //
+    10, 0, 0, 6, 0, 0, 2, 0, 0, 64, 0,
+];
+
+/// Coordinates, how long an em is, and the box of the paint there.
+static PAINTED: [(i32, i32, [i32; 4]); 4] = [
+    (0, 1000, [10, 95, 100, -100]),
+    (8192, 1000, [10, 95, 105, -100]),
+    (16384, 1000, [10, 95, 110, -100]),
+    (16384, 2000, [20, 190, 220, -200]),
+];
+
+#[test]
+fn a_paint_reaches_as_far_as_what_it_fills() {
+    let colr = ColrTable::new(&COLR);
+    for &(at, em, [left, top, width, height]) in &PAINTED {
+        let outlines = DrawnOutlines {
+            sources: sources(&GVAR),
+            cff_2: None,
+            cff: None,
+            scale: Scale::new(1000, em, em),
+        };
+        let found = colr.painted_extents(GlyphId(1), &outlines, &[at]);
+        let Ok(Some(extents)) = found else {
+            panic!("the glyph has a paint")
+        };
+        assert!(extents.x_bearing == left, "at {at}");
+        assert!(extents.y_bearing == top, "at {at}");
+        assert!(extents.width == width, "at {at}");
+        assert!(extents.height == height, "at {at}");
+        let none = colr.painted_extents(GlyphId(0), &outlines, &[at]);
+        assert!(matches!(none, Ok(None)), "at {at}");
+    }
 }
