@@ -11,3 +11,4 @@ pub mod RisingLemmas
 pub mod StageLemmas
 pub mod CourseLemmas
 pub mod KeptPlanLemmas
+pub mod AskedLemmas

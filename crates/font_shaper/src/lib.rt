@@ -12,6 +12,7 @@ mod masks;
 mod original;
 mod planning;
 mod rotation;
+mod shape_plan;
 mod shaping;
 mod substitution;
 mod text;
@@ -22,9 +23,8 @@ pub use comparison::{Differences, compare};
 pub use font_face::{
     Axis, ColorTables, Face, FaceNames, FaceVariations, Layout, Lookups, Variation,
 };
-pub use kept_plan::{
-    KeptPlan, ShapePlan, shape_with_kept_plan, shape_with_plan, shape_with_plan_watched,
-};
+pub use kept_plan::{KeptPlan, shape_with_kept_plan};
+pub use shape_plan::{ShapePlan, shape_with_plan, shape_with_plan_watched};
 pub use shaping::{ShapeError, shape, shape_watched};
 pub use verification::VerifyError;
 pub use watch::{Step, Unwatched, Watch};

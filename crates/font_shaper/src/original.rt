@@ -1,6 +1,6 @@
 //! A text as it was before it was shaped, of which parts are shaped again.
 
-ghost use Rattle.std.specs.Prelude.{◌≡◌, false, IfOk};
+ghost use Rattle.std.specs.Prelude.{◌≡◌, ◌≢◌, false, IfOk, IfErr};
 
 use crate::shaping::ShapeError;
 use rb_common::{Direction, GlyphId, Script};
@@ -82,7 +82,9 @@ impl Original {
         text: &mut UnicodeBuffer,
         start: usize,
         end: usize,
-    ) -> Result<(), ShapeError> {
+    ) -> Result<(), ShapeError>
+        ensures { IfErr result (λ e. e ≢ ShapeError.OtherPlan) }
+    {
         for info in self.part(start, end) {
             if !text.add(character_of(info), info.cluster)? {
                 return Err(ShapeError::TooLong);

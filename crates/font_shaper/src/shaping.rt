@@ -1,6 +1,6 @@
 //! The shaping of a text by a font: HarfBuzz's steps, one after the other.
 
-ghost use Rattle.std.specs.Prelude.{◌≡◌, ◌↔◌, ◌≤◌, [], true, false, not, length, IfOk, IsSome, IsTrue, if◌then◌else◌};
+ghost use Rattle.std.specs.Prelude.{◌≡◌, ◌≢◌, ◌↔◌, ◌≤◌, [], true, false, not, length, IfOk, IfErr, IsSome, IsTrue, if◌then◌else◌};
 ghost use Rattle.script_shapers.specs.Shapers.{width_of};
 ghost use Rattle.rb_common.specs.Direction.{is_forward};
 ghost use Rattle.shaping_buffer.specs.Clusters.{clusters};
@@ -49,7 +49,7 @@ pub enum ShapeError {
     /// There is no memory.
     #[error("out of memory")]
     Memory,
-    /// The text has another script, language or direction than the plan by which it was to be shaped.
+    /// The plan by which the text was to be shaped is for others: `ShapePlan::is_for` says no.
     #[error("the plan is for other texts")]
     OtherPlan,
     /// The buffer was to be verified, and a test of its glyphs failed.
@@ -58,6 +58,11 @@ pub enum ShapeError {
 }
 
 impl From<AllocError> for ShapeError {
+    ghost use Rattle.std.specs.Prelude.{◌≡◌};
+    ghost use Rattle.font_shaper.specs.declared.shaping.ShapeError.TheVariants.{Memory};
+
+    ghost from_gives = { λ _ e. e ≡ Memory };
+
     fn from(_error: AllocError) -> ShapeError {
         ShapeError::Memory
     }
@@ -82,6 +87,7 @@ pub fn shape(
     ensures within { IfOk result (λ glyphs. length glyphs.input ≤ (enter text).max_len) }
     ensures direction { IfOk result (λ glyphs. glyphs.direction ≡ (guessed text).direction) }
     ensures clusters { IfOk result (ShapedClusters text) }
+    ensures named { IfErr result (λ e. e ≢ ShapeError.OtherPlan) }
 {
     shape_watched(face, features, text, &mut Unwatched)
 }
@@ -97,6 +103,7 @@ pub fn shape_watched<W: Watch>(
     ensures within { IfOk result (λ glyphs. length glyphs.input ≤ (enter text).max_len) }
     ensures direction { IfOk result (λ glyphs. glyphs.direction ≡ (guessed text).direction) }
     ensures clusters { IfOk result (ShapedClusters text) }
+    ensures named { IfErr result (λ e. e ≢ ShapeError.OtherPlan) }
 {
     let mut text = text;
     text.guess_segment_properties();
@@ -118,6 +125,7 @@ pub(crate) fn shape_by_plan<W: Watch>(
     ensures within { IfOk result (λ glyphs. length glyphs.input ≤ (enter buffer).max_len) }
     ensures direction { IfOk result (λ glyphs. glyphs.direction ≡ buffer.direction) }
     ensures clusters { IfOk result (ShapedClusters buffer) }
+    ensures named { IfErr result (λ e. e ≢ ShapeError.OtherPlan) }
 {
     if buffer.flags.contains(BufferFlags::VERIFY) {
         shape_verified(face, plan, features, buffer)
@@ -139,6 +147,7 @@ pub(crate) fn shape_planned<W: Watch>(
     ensures within { IfOk result (λ glyphs. length glyphs.input ≤ (enter buffer).max_len) }
     ensures direction { IfOk result (λ glyphs. glyphs.direction ≡ buffer.direction) }
     ensures clusters { IfOk result (ShapedClusters buffer) }
+    ensures named { IfErr result (λ e. e ≢ ShapeError.OtherPlan) }
 {
     let mut buffer = buffer;
     buffer.enter();

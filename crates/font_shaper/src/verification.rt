@@ -1,6 +1,6 @@
 //! Tests of shaped glyphs by shaping parts of their text again (HarfBuzz's `hb_buffer_t::verify`).
 
-ghost use Rattle.std.specs.Prelude.{◌≡◌, ◌≤◌, false, length, IfOk};
+ghost use Rattle.std.specs.Prelude.{◌≡◌, ◌≢◌, ◌≤◌, false, length, IfOk, IfErr};
 ghost use Rattle.shaping_buffer.specs.Limits.{enter};
 ghost use Rattle.shaping_buffer.specs.State.{HasPositions};
 ghost use Rattle.font_shaper.specs.ShapedClusters.{ShapedClusters};
@@ -99,6 +99,7 @@ impl Shaping<'_> {
     /// Shapes the text of a buffer.
     fn shape(&self, buffer: hb_buffer_t) -> Result<GlyphBuffer, ShapeError>
         requires { buffer.have_output ≡ false }
+        ensures { IfErr result (λ e. e ≢ ShapeError.OtherPlan) }
     {
         shape_planned(self.face, self.plan, self.features, buffer, &mut Unwatched)
     }
@@ -116,6 +117,7 @@ pub(crate) fn shape_verified(
     ensures within { IfOk result (λ glyphs. length glyphs.input ≤ (enter buffer).max_len) }
     ensures direction { IfOk result (λ glyphs. glyphs.direction ≡ buffer.direction) }
     ensures clusters { IfOk result (ShapedClusters buffer) }
+    ensures named { IfErr result (λ e. e ≢ ShapeError.OtherPlan) }
 {
     let text = Original::of(face.alloc, &buffer)?;
     let glyphs = shape_planned(face, plan, features, buffer, &mut Unwatched)?;
@@ -134,7 +136,9 @@ fn verify(
     shaping: Shaping<'_>,
     text: &Original,
     glyphs: &GlyphBuffer,
-) -> Result<(), ShapeError> {
+) -> Result<(), ShapeError>
+    ensures { IfErr result (λ e. e ≢ ShapeError.OtherPlan) }
+{
     if !text.has_monotone_level() || glyphs.shaping_failed() {
         return Ok(());
     }
@@ -206,7 +210,9 @@ fn is_safe_to_break(
     shaping: Shaping<'_>,
     text: &Original,
     glyphs: InOrder<'_>,
-) -> Result<bool, ShapeError> {
+) -> Result<bool, ShapeError>
+    ensures { IfErr result (λ e. e ≢ ShapeError.OtherPlan) }
+{
     let cuts = cuts(
         alloc,
         text.characters.as_slice(),
@@ -240,7 +246,8 @@ fn part_of(
     start: usize,
     end: usize,
 ) -> Result<hb_buffer_t, ShapeError>
-    ensures { IfOk result (λ buffer. buffer.have_output ≡ false) }
+    ensures closed { IfOk result (λ buffer. buffer.have_output ≡ false) }
+    ensures named { IfErr result (λ e. e ≢ ShapeError.OtherPlan) }
 {
     let mut flags = text.flags.difference(BufferFlags::VERIFY);
     if start > 0 {
@@ -290,7 +297,9 @@ fn is_safe_to_concat(
     shaping: Shaping<'_>,
     text: &Original,
     glyphs: InOrder<'_>,
-) -> Result<bool, ShapeError> {
+) -> Result<bool, ShapeError>
+    ensures { IfErr result (λ e. e ≢ ShapeError.OtherPlan) }
+{
     let cuts = cuts(
         alloc,
         text.characters.as_slice(),
@@ -311,7 +320,9 @@ fn shaped_half(
     text: &Original,
     cuts: &[usize],
     first: usize,
-) -> Result<GlyphBuffer, ShapeError> {
+) -> Result<GlyphBuffer, ShapeError>
+    ensures { IfErr result (λ e. e ≢ ShapeError.OtherPlan) }
+{
     let start = cuts.get(first).copied().unwrap_or(0);
     let mut last = start;
     let mut half = text.begin(alloc, start)?;

@@ -2,11 +2,15 @@
 
 use crate::upright::UPRIGHT;
 use font_shaper::{
-    Face, FaceNames, KeptPlan, ShapeError, ShapePlan, shape_with_kept_plan, shape_with_plan,
+    Face, FaceNames, KeptPlan, ShapeError, ShapePlan, Unwatched, shape_with_kept_plan,
+    shape_with_plan, shape_with_plan_watched,
 };
-use rb_common::script;
-use shaping_buffer::{BufferFlags, Direction, Flags, Language, SerializeFlags, UnicodeBuffer};
+use rb_common::{Tag, script};
+use shaping_buffer::{
+    BufferFlags, Direction, Feature, Flags, Language, SerializeFlags, UnicodeBuffer,
+};
 use std::alloc::Global;
+use std::ops::Bound;
 use std::test::Fail;
 
 /// A text with a direction.
@@ -30,12 +34,78 @@ fn a_plan_is_for_its_texts(rt: HostRuntime) -> Result<(), Fail> {
     assert!(rt; plan.script() == latin);
     let mut text = text_of(rt.alloc(), "ab", Direction::LeftToRight)?;
     text.guess_segment_properties();
-    assert!(rt; plan.is_for(&text) && !other.is_for(&text));
+    assert!(rt; plan.is_for(&face, &[], &text) && !other.is_for(&face, &[], &text));
     let glyphs = shape_with_plan(&face, &plan, text)?;
     let written = glyphs.serialize(rt.alloc(), &names, SerializeFlags::empty())?;
     assert_eq!(rt; written.as_str(), "a=0+410|b=1+420");
     let text = text_of(rt.alloc(), "ab", Direction::RightToLeft)?;
     assert!(rt; shape_with_plan(&face, &plan, text).err() == Some(ShapeError::OtherPlan));
+    Ok(())
+}
+
+/// The feature `vert`, which puts b in the place of a, in one cluster.
+fn upright_in(cluster: usize) -> Feature {
+    let (start, end) = (
+        Bound::Included(cluster),
+        Bound::Included(cluster.saturating_add(1)),
+    );
+    Feature::new(Tag::from_bytes(b"vert"), 1, start, end)
+}
+
+/// A feature of a part of the text reaches it by a plan, also where the plan was made for another part.
+#[test]
+fn a_plan_has_features_of_a_part(rt: HostRuntime) -> Result<(), Fail> {
+    let face = Face::parse(rt.alloc(), UPRIGHT, 0)?.ok_or("no font")?;
+    let names = FaceNames::new(rt.alloc(), &face)?;
+    let (second, third) = ([upright_in(1)], [upright_in(2)]);
+    let latin = Some(script::LATIN);
+    let plan = ShapePlan::new(&face, Direction::LeftToRight, latin, None, &second)?;
+    assert!(rt; plan.features() == second.as_slice());
+    let text = text_of(rt.alloc(), "aaa", Direction::LeftToRight)?;
+    let glyphs = shape_with_plan(&face, &plan, text)?;
+    let written = glyphs.serialize(rt.alloc(), &names, SerializeFlags::empty())?;
+    assert_eq!(rt; written.as_str(), "a=0+410|b=1+420|a=2+410");
+    let text = text_of(rt.alloc(), "aaa", Direction::LeftToRight)?;
+    let glyphs = shape_with_plan_watched(&face, &plan, &third, text, &mut Unwatched)?;
+    let written = glyphs.serialize(rt.alloc(), &names, SerializeFlags::empty())?;
+    assert_eq!(rt; written.as_str(), "a=0+410|a=1+410|b=2+420");
+    let text = text_of(rt.alloc(), "aaa", Direction::LeftToRight)?;
+    let other = shape_with_plan_watched(&face, &plan, &[], text, &mut Unwatched).err();
+    assert!(rt; other == Some(ShapeError::OtherPlan));
+    Ok(())
+}
+
+/// A plan is for one place in the variations of a font.
+#[test]
+fn a_plan_is_for_its_coordinates(rt: HostRuntime) -> Result<(), Fail> {
+    let mut face = Face::parse(rt.alloc(), UPRIGHT, 0)?.ok_or("no font")?;
+    let latin = Some(script::LATIN);
+    let plan = ShapePlan::new(&face, Direction::LeftToRight, latin, None, &[])?;
+    face.variations.coordinates.push(1)?;
+    let text = text_of(rt.alloc(), "a", Direction::LeftToRight)?;
+    assert!(rt; shape_with_plan(&face, &plan, text).err() == Some(ShapeError::OtherPlan));
+    Ok(())
+}
+
+/// Features of parts of a text, one after the other, and the glyphs of `aa`.
+static PARTS: [(usize, &str); 3] = [
+    (0, "b=0+420|a=1+410"),
+    (1, "a=0+410|b=1+420"),
+    (2, "a=0+410|a=1+410"),
+];
+
+/// A plan that is kept serves the same features in other parts of a text.
+#[test]
+fn a_kept_plan_has_features_of_parts(rt: HostRuntime) -> Result<(), Fail> {
+    let face = Face::parse(rt.alloc(), UPRIGHT, 0)?.ok_or("no font")?;
+    let names = FaceNames::new(rt.alloc(), &face)?;
+    let mut kept = KeptPlan::new();
+    for (cluster, wanted) in &PARTS {
+        let text = text_of(rt.alloc(), "aa", Direction::LeftToRight)?;
+        let glyphs = shape_with_kept_plan(&face, &[upright_in(*cluster)], &mut kept, text)?;
+        let written = glyphs.serialize(rt.alloc(), &names, SerializeFlags::empty())?;
+        assert_eq!(rt; written.as_str(), *wanted);
+    }
     Ok(())
 }
 

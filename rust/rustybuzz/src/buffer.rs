@@ -213,7 +213,8 @@ pub fn shape(face: &Face, features: &[Feature], buffer: UnicodeBuffer) -> GlyphB
     GlyphBuffer(front::shape(&face.shaped, &taken(features), buffer.0))
 }
 
-/// Shapes a text with a font and a plan that was made for both. It panics where the text has another script, language or direction.
+/// Shapes a text with a font and a plan that was made for both. It panics where the text has another script, language or direction, or
+/// the font was moved in its variations since.
 pub fn shape_with_plan(face: &Face, plan: &ShapePlan, buffer: UnicodeBuffer) -> GlyphBuffer {
     GlyphBuffer(front::shape_with_plan(&face.shaped, &plan.0, buffer.0))
 }

@@ -15,7 +15,7 @@ fn shaped(
     buffer.push_str(line)?;
     buffer.guess_segment_properties();
     let plan = match plan {
-        Some(plan) if plan.is_for(&buffer) => plan,
+        Some(plan) if plan.is_for(face, &[], &buffer) => plan,
         _ => plan.insert(plan_of(face, &buffer)?),
     };
     Ok(shape_with_plan(face, plan, buffer)?)

@@ -255,7 +255,8 @@ pub fn shape(face: &Face, features: &[Feature], buffer: UnicodeBuffer) -> GlyphB
     answered(crate::shape(face, features, buffer.0))
 }
 
-/// Shapes a text by a font and a plan that was made for both. It panics where the text has another script, language or direction.
+/// Shapes a text by a font and a plan that was made for both. It panics where the text has another script, language or direction, or
+/// the font was moved in its variations since.
 pub fn shape_with_plan(face: &Face, plan: &ShapePlan, buffer: UnicodeBuffer) -> GlyphBuffer {
     answered(crate::shape_with_plan(face, &plan.0, buffer.0))
 }

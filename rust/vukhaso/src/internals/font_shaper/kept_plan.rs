@@ -1,183 +1,20 @@
 // Written by tools/plain_rust from crates/font_shaper. Do not edit.
 
-//! Plans that are kept: how texts of one script, language and direction are shaped by a font, found once for all of them.
+//! Plans that are kept from one text to the next.
 
-use crate::buffer::{Direction, Feature, GlyphBuffer, Language, UnicodeBuffer, hb_buffer_t};
-use crate::common::{Script, script};
+use crate::buffer::{Feature, GlyphBuffer, UnicodeBuffer, hb_buffer_t};
 use crate::font_face::Face;
-use crate::font_shaper::planning::{SegmentProperties, TextPlan, plan_for};
+use crate::font_shaper::shape_plan::ShapePlan;
 use crate::font_shaper::shaping::{ShapeError, shape_by_plan};
-use crate::font_shaper::watch::{Unwatched, Watch};
-use crate::memory::{AllocError, String, Vec};
-
-/// How texts of a script, a language and a direction are shaped by a font, with some features, and at the variations that were
-/// chosen when it was made.
-///
-/// # Proved
-///
-/// ```text
-/// ghost Value = { PlannedTexts }
-/// ghost view = { λ p. record {
-///   direction = p.direction;
-///   script = p.script;
-///   language = option_map string_bytes p.language;
-///   features = p.features.items;
-///   coordinates = p.coordinates.items;
-/// } }
-/// ```
-#[derive(Debug)]
-pub struct ShapePlan {
-    plan: TextPlan,
-    direction: Direction,
-    script: Option<Script>,
-    language: Option<String>,
-    features: Vec<Feature>,
-    coordinates: Vec<i32>,
-}
-
-impl ShapePlan {
-    /// The plan for texts with these properties. It is for this font alone.
-    ///
-    /// # Errors
-    ///
-    /// `Err(AllocError)` where memory runs out.
-    ///
-    /// # Proved
-    ///
-    /// ```text
-    /// ensures { IfOk result (λ plan. plan ≡ record {
-    ///       direction = direction;
-    ///       script = script;
-    ///       language = option_copied language.entry;
-    ///       features = user_features.now;
-    ///       coordinates = face.now.variations.coordinates.items;
-    ///     }) }
-    /// ```
-    #[inline]
-    pub fn new(
-        face: &Face,
-        direction: Direction,
-        script: Option<Script>,
-        language: Option<&Language>,
-        user_features: &[Feature],
-    ) -> Result<Self, AllocError> {
-        let segment = SegmentProperties {
-            direction,
-            script,
-            language,
-        };
-        Ok(ShapePlan {
-            plan: plan_for(face, &segment, user_features)?,
-            direction,
-            script,
-            language: text_of_language(language)?,
-            features: copy_of_features(user_features)?,
-            coordinates: copy_of_coordinates(face)?,
-        })
-    }
-
-    /// The direction of its texts.
-    ///
-    /// # Proved
-    ///
-    /// ```text
-    /// ensures { result ≡ self.now.direction }
-    /// ```
-    #[inline]
-    pub fn direction(&self) -> Direction {
-        self.direction
-    }
-
-    /// The script of its texts.
-    ///
-    /// # Proved
-    ///
-    /// ```text
-    /// ensures { result ≡ self.now.script }
-    /// ```
-    #[inline]
-    pub fn script(&self) -> Option<Script> {
-        self.script
-    }
-
-    /// Whether a text has the script, the language and the direction of the plan.
-    ///
-    /// # Proved
-    ///
-    /// ```text
-    /// ensures direction { result ≡ true → self.now.direction ≡ text.now.direction }
-    /// ensures script { result ≡ true
-    ///     → unwrap_or self.now.script unknown_script ≡ unwrap_or text.now.script unknown_script }
-    /// ensures language { result ≡ true → self.now.language ≡ text.now.language }
-    /// ```
-    #[inline]
-    pub fn is_for(&self, text: &UnicodeBuffer) -> bool {
-        self.direction == text.direction()
-            && self.script.unwrap_or(script::UNKNOWN) == text.script()
-            && is_text_of(&self.language, text.language())
-    }
-
-    /// Whether it is the plan that would be made for the text of a buffer.
-    fn is_plan_of(&self, face: &Face, features: &[Feature], buffer: &hb_buffer_t) -> bool {
-        self.is_said(buffer.direction, buffer.script, buffer.language.as_ref())
-            && self.is_with(features, face.coordinates())
-    }
-
-    /// Whether its texts have this direction, this script and this language.
-    fn is_said(
-        &self,
-        direction: Direction,
-        script: Option<Script>,
-        language: Option<&Language>,
-    ) -> bool {
-        self.direction == direction && self.script == script && is_text_of(&self.language, language)
-    }
-
-    /// Whether it was made with these features, at these coordinates.
-    fn is_with(&self, features: &[Feature], coordinates: &[i32]) -> bool {
-        self.features.as_slice() == features && self.coordinates.as_slice() == coordinates
-    }
-}
-
-/// The text of a language, which is kept with a plan.
-fn text_of_language(language: Option<&Language>) -> Result<Option<String>, AllocError> {
-    let Some(language) = language else {
-        return Ok(None);
-    };
-    let mut text = String::new();
-    text.push_str(language.as_str())?;
-    Ok(Some(text))
-}
-
-/// A copy of features, which is kept with a plan.
-fn copy_of_features(features: &[Feature]) -> Result<Vec<Feature>, AllocError> {
-    let mut copy = Vec::new();
-    copy.extend_from_slice(features)?;
-    Ok(copy)
-}
-
-/// A copy of the coordinates that are chosen, which is kept with a plan.
-fn copy_of_coordinates(face: &Face) -> Result<Vec<i32>, AllocError> {
-    let mut copy = Vec::new();
-    copy.extend_from_slice(face.coordinates())?;
-    Ok(copy)
-}
-
-/// Whether a text that is kept is that of a language.
-fn is_text_of(text: &Option<String>, language: Option<&Language>) -> bool {
-    match (text, language) {
-        (Some(text), Some(language)) => text.as_str() == language.as_str(),
-        (None, None) => true,
-        _ => false,
-    }
-}
+use crate::font_shaper::watch::Unwatched;
+use crate::memory::AllocError;
 
 /// The plan of the text before, which is used again for texts of the same font that it is for too, as HarfBuzz does it.
 ///
 /// # Proved
 ///
 /// ```text
-/// ghost Value = { Option PlannedTexts }
+/// ghost Value = { Option MadePlan }
 /// ghost view = { λ k. k.plan }
 /// ```
 #[derive(Debug)]
@@ -234,7 +71,9 @@ impl KeptPlan {
 /// ensures within { IfOk result (λ glyphs. length glyphs.input ≤ (enter text).max_len) }
 /// ensures direction { IfOk result (λ glyphs. glyphs.direction ≡ (guessed text).direction) }
 /// ensures clusters { IfOk result (ShapedClusters text) }
-/// ensures planned { IfOk result (λ _. kept.new ≡ Some (planned face.now features.now (guessed text))) }
+/// ensures planned { IfOk result (λ _. MatchOption kept.new ⊥
+///     (λ plan. IsPlanOf plan face.now features.now (guessed text))) }
+/// ensures named { IfErr result (λ e. e ≢ ShapeError.OtherPlan) }
 /// ```
 #[inline]
 pub fn shape_with_kept_plan(
@@ -247,61 +86,7 @@ pub fn shape_with_kept_plan(
     text.guess_segment_properties();
     let buffer = text.into_buffer();
     let plan = kept.take(face, features, &buffer)?;
-    let shaped = shape_by_plan(face, &plan.plan, features, buffer, &mut Unwatched);
+    let shaped = shape_by_plan(face, &plan.made, features, buffer, &mut Unwatched);
     kept.plan = Some(plan);
     shaped
-}
-
-/// Shapes a text by a font and a plan that was made for both.
-///
-/// # Errors
-///
-/// A script and a direction that were not said are guessed; where the text has others than the plan,
-/// the answer is `ShapeError::OtherPlan`.
-///
-/// # Proved
-///
-/// ```text
-/// ensures placed { IfOk result HasPositions }
-/// ensures within { IfOk result (λ glyphs. length glyphs.input ≤ (enter text).max_len) }
-/// ensures direction { IfOk result (λ glyphs. glyphs.direction ≡ (guessed text).direction) }
-/// ensures clusters { IfOk result (ShapedClusters text) }
-/// ```
-#[inline]
-pub fn shape_with_plan(
-    face: &Face,
-    plan: &ShapePlan,
-    text: UnicodeBuffer,
-) -> Result<GlyphBuffer, ShapeError> {
-    shape_with_plan_watched(face, plan, text, &mut Unwatched)
-}
-
-/// Shapes a text by a font and a plan, and tells of each step.
-///
-/// # Errors
-///
-/// `Err`: the clauses below say when.
-///
-/// # Proved
-///
-/// ```text
-/// ensures placed { IfOk result HasPositions }
-/// ensures within { IfOk result (λ glyphs. length glyphs.input ≤ (enter text).max_len) }
-/// ensures direction { IfOk result (λ glyphs. glyphs.direction ≡ (guessed text).direction) }
-/// ensures clusters { IfOk result (ShapedClusters text) }
-/// ```
-#[inline]
-pub fn shape_with_plan_watched<W: Watch>(
-    face: &Face,
-    plan: &ShapePlan,
-    text: UnicodeBuffer,
-    watch: &mut W,
-) -> Result<GlyphBuffer, ShapeError> {
-    let mut text = text;
-    text.guess_segment_properties();
-    if !plan.is_for(&text) {
-        return Err(ShapeError::OtherPlan);
-    }
-    let buffer = text.into_buffer();
-    shape_by_plan(face, &plan.plan, plan.features.as_slice(), buffer, watch)
 }

@@ -38,7 +38,7 @@ pub enum ShapeError {
     TooLong,
     /// There is no memory.
     Memory,
-    /// The text has another script, language or direction than the plan by which it was to be shaped.
+    /// The plan by which the text was to be shaped is for others: `ShapePlan::is_for` says no.
     OtherPlan,
     /// The buffer was to be verified, and a test of its glyphs failed.
     Unverified(VerifyError),
@@ -57,6 +57,12 @@ impl core::fmt::Display for ShapeError {
 
 impl core::error::Error for ShapeError {}
 
+///
+/// # Proved
+///
+/// ```text
+/// ghost from_gives = { λ _ e. e ≡ Memory }
+/// ```
 impl From<AllocError> for ShapeError {
     fn from(_error: AllocError) -> ShapeError {
         ShapeError::Memory
@@ -85,6 +91,7 @@ impl From<AllocError> for ShapeError {
 /// ensures within { IfOk result (λ glyphs. length glyphs.input ≤ (enter text).max_len) }
 /// ensures direction { IfOk result (λ glyphs. glyphs.direction ≡ (guessed text).direction) }
 /// ensures clusters { IfOk result (ShapedClusters text) }
+/// ensures named { IfErr result (λ e. e ≢ ShapeError.OtherPlan) }
 /// ```
 #[inline]
 pub fn shape(
@@ -108,6 +115,7 @@ pub fn shape(
 /// ensures within { IfOk result (λ glyphs. length glyphs.input ≤ (enter text).max_len) }
 /// ensures direction { IfOk result (λ glyphs. glyphs.direction ≡ (guessed text).direction) }
 /// ensures clusters { IfOk result (ShapedClusters text) }
+/// ensures named { IfErr result (λ e. e ≢ ShapeError.OtherPlan) }
 /// ```
 #[inline]
 pub fn shape_watched<W: Watch>(

@@ -1,6 +1,6 @@
 use Rattle.std.proofs.Common.{◌∙◌}
 use Rattle.font_shaper.proofs.TurnLemmas.{of_guessed}
-use Rattle.font_shaper.proofs.kept_plan.shape_with_plan_watched.Goals as goal
+use Rattle.font_shaper.proofs.shape_plan.shape_with_plan_watched.Goals as goal
 
 pub returns-clause-clusters : goal.returns-clause-clusters
 returns-clause-clusters g c =
