@@ -10,5 +10,5 @@ pub mod TurnLemmas
 pub mod RisingLemmas
 pub mod StageLemmas
 pub mod CourseLemmas
-pub mod KeptPlanLemmas
 pub mod AskedLemmas
+pub mod KeptPlanLemmas

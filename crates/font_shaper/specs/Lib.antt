@@ -1,6 +1,7 @@
 pub mod Plans
 pub mod ShapedClusters
 pub mod ClusterOrder
+pub mod Shapers
 -- what is said of a font
 pub use Rattle.font_face.specs.Face
 pub use Rattle.font_face.specs.FaceNames

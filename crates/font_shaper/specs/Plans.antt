@@ -1,5 +1,5 @@
 -- What a plan is made for, and which texts it is for.
-use Rattle.std.specs.Prelude.{◌≡◌, ◌==◌, ◌&&◌, ◌||◌, ℕ, ℤ, List, Option, is_some, map, unwrap_or, if◌then◌else◌}
+use Rattle.std.specs.Prelude.{◌≡◌, ◌==◌, ◌&&◌, ◌||◌, ℕ, ℤ, List, Option, is_some, map, unwrap_or, if◌then◌else◌, ◌<◌, Some, slice_get}
 use Rattle.rb_common.specs.declared.direction.Direction.{Direction}
 use Rattle.rb_text.specs.Feature.{last_end}
 use Rattle.rb_text.specs.declared.feature.Feature.{Feature}
@@ -50,3 +50,8 @@ pub record IsFor (plan : MadePlan) (face : Face) (features : List Feature) (text
 pub record IsPlanOf (plan : MadePlan) (face : Face) (features : List Feature) (text : State) : Type 0 where
   pub is_for : IsFor plan face features text
   pub script : plan.texts.script ≡ text.script
+
+-- none of the first so many plans is the plan of the text
+abbrev pub NoneIsPlanOf : List MadePlan → ℕ → Face → List Feature → State → Type 0
+NoneIsPlanOf plans count face features text =
+    (i : ℕ) (plan : MadePlan) → i < count → slice_get plans i ≡ Some plan → ¬ IsPlanOf plan face features text

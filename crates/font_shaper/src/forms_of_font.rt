@@ -12,6 +12,7 @@ use layout_plan::LayoutPlan;
 use rb_common::Tag;
 use shaping_buffer::hb_buffer_t;
 use std::alloc::AllocError;
+use std::ops::Range;
 use syllabic_shapers::{FontForms, FormFeature, SyllablePause};
 
 /// A font with the features of a text.
@@ -19,6 +20,8 @@ use syllabic_shapers::{FontForms, FormFeature, SyllablePause};
 struct Forms<'a> {
     face: &'a Face<'a>,
     layout: &'a LayoutPlan,
+    /// Where the lookups of each feature stand.
+    places: &'a FormPlaces,
     /// Whether a rule with context is not taken.
     wants_no_context: bool,
     /// What the questions may cost.
@@ -35,7 +38,8 @@ impl FontForms for Forms<'_> {
 
     fn would_substitute(&mut self, feature: FormFeature, glyphs: &[u32]) -> bool {
         let list = &self.face.lookups.substitutions;
-        for planned in self.layout.stage_lookups(tag_of(feature)) {
+        let lookups = self.layout.gsub_lookups.get(self.places.of(feature));
+        for planned in lookups.unwrap_or(&[]) {
             if let Some(lookup) = list.lookup(planned.index)
                 && would_substitute(
                     list,
@@ -52,14 +56,38 @@ impl FontForms for Forms<'_> {
     }
 }
 
-/// The tag of a feature that a shaper asks of.
-fn tag_of(feature: FormFeature) -> Tag {
-    match feature {
-        FormFeature::Rphf => Tag::from_bytes(b"rphf"),
-        FormFeature::Pref => Tag::from_bytes(b"pref"),
-        FormFeature::Blwf => Tag::from_bytes(b"blwf"),
-        FormFeature::Pstf => Tag::from_bytes(b"pstf"),
-        FormFeature::Vatu => Tag::from_bytes(b"vatu"),
+/// Where the lookups of each feature that a shaper of syllables asks of stand in the list of a plan.
+#[derive(Debug, Drop)]
+pub(crate) struct FormPlaces {
+    rphf: Range<usize>,
+    pref: Range<usize>,
+    blwf: Range<usize>,
+    pstf: Range<usize>,
+    vatu: Range<usize>,
+}
+
+impl FormPlaces {
+    /// Those of a plan.
+    pub(crate) fn new(layout: &LayoutPlan) -> Self {
+        FormPlaces {
+            rphf: layout.stage_places(Tag::from_bytes(b"rphf")),
+            pref: layout.stage_places(Tag::from_bytes(b"pref")),
+            blwf: layout.stage_places(Tag::from_bytes(b"blwf")),
+            pstf: layout.stage_places(Tag::from_bytes(b"pstf")),
+            vatu: layout.stage_places(Tag::from_bytes(b"vatu")),
+        }
+    }
+
+    /// Those of a feature.
+    fn of(&self, feature: FormFeature) -> Range<usize> {
+        let places = match feature {
+            FormFeature::Rphf => &self.rphf,
+            FormFeature::Pref => &self.pref,
+            FormFeature::Blwf => &self.blwf,
+            FormFeature::Pstf => &self.pstf,
+            FormFeature::Vatu => &self.vatu,
+        };
+        places.start..places.end
     }
 }
 
@@ -81,6 +109,7 @@ pub(crate) fn work_on_syllables(
     let mut forms = Forms {
         face,
         layout: &plan.shape.layout,
+        places: &plan.forms,
         wants_no_context: plan.syllables.wants_no_context(),
         budget: budget_of(buffer),
     };

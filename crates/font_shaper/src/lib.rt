@@ -6,7 +6,7 @@ mod comparison;
 mod forms_of_font;
 mod glyph_info;
 mod glyphs_of_font;
-mod kept_plan;
+mod kept_plans;
 mod lookups;
 mod masks;
 mod original;
@@ -23,7 +23,7 @@ pub use comparison::{Differences, compare};
 pub use font_face::{
     Axis, ColorTables, Face, FaceNames, FaceVariations, Layout, Lookups, Variation,
 };
-pub use kept_plan::{KeptPlan, shape_with_kept_plan};
+pub use kept_plans::{KeptPlans, shape_with_kept_plans};
 pub use shape_plan::{ShapePlan, shape_with_plan, shape_with_plan_watched};
 pub use shaping::{ShapeError, shape, shape_watched};
 pub use verification::VerifyError;

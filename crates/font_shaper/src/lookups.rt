@@ -1,6 +1,8 @@
 //! The lookups that position glyphs, applied to a text in the order of its plan.
 
-ghost use Rattle.std.specs.Prelude.{◌≡◌, false, IsSome};
+ghost use Rattle.std.specs.Prelude.{◌≡◌, ◌≤ℤ◌, pos, false, IsSome};
+ghost use Rattle.glyph_layout.specs.Budget.{steps_for};
+ghost use Rattle.shaping_buffer.specs.State.{len};
 ghost use Rattle.shaping_buffer.specs.KeepsClusters.{KeepsClusters};
 
 use crate::watch::{Step, Watch};
@@ -26,7 +28,10 @@ pub(crate) fn options_of(planned: &PlannedLookup) -> LookupOptions {
 }
 
 /// What the lookups of a text may cost.
-pub(crate) fn budget_of(buffer: &hb_buffer_t) -> Budget {
+pub(crate) fn budget_of(buffer: &hb_buffer_t) -> Budget
+    ensures steps { result.steps ≡ steps_for (len buffer.now) }
+    ensures nested { pos 0 ≤ℤ buffer.now.max_ops → pos result.nested ≡ buffer.now.max_ops }
+{
     let most = u32::try_from(buffer.max_ops).unwrap_or(0);
     Budget::new(most, buffer.len())
 }

@@ -1,8 +1,10 @@
 //! How a text is shaped: the plan of its script, its language and its features.
 
-ghost use Rattle.std.specs.Prelude.{◌≡◌};
+ghost use Rattle.std.specs.Prelude.{◌≡◌, IfOk};
 ghost use Rattle.font_shaper.specs.ClusterOrder.{orders_syllables};
+ghost use Rattle.font_shaper.specs.Shapers.{shaper_in, has_morx};
 
+use crate::forms_of_font::FormPlaces;
 use crate::glyphs_of_font::FaceGlyphs;
 use apple_substitution::{ChainFlags, selected_features};
 use apple_tables::FeatureNames;
@@ -31,6 +33,8 @@ pub(crate) struct TextPlan {
     pub script: ScriptPlan,
     /// What it does with syllables.
     pub syllables: SyllablePlan,
+    /// Where the lookups of features stand that it asks of.
+    pub forms: FormPlaces,
     /// The flags of the chains of Apple's table `morx`, where they stand in the place of the lookups of `GSUB`.
     pub chain_flags: Option<ChainFlags>,
     /// The bits of the glyphs that Apple's table `trak` moves.
@@ -144,10 +148,12 @@ fn plan_of(
         chosen.finds_script,
     );
     let fallback = fallback_of(face, &script)?;
+    let forms = FormPlaces::new(&shape.layout);
     Ok(TextPlan {
         shape,
         script,
         syllables,
+        forms,
         chain_flags,
         trak_mask,
         fallback,
@@ -156,8 +162,10 @@ fn plan_of(
 
 /// Whether Apple's table `morx` substitutes glyphs in place of the lookups of `GSUB`: in horizontal lines, and where the font has no
 /// lookups of `GSUB`.
-fn substitutes_by_morx(face: &Face, direction: Direction) -> bool {
-    face.lookups.morx.is_there()
+fn substitutes_by_morx(face: &Face, direction: Direction) -> bool
+    ensures { result ≡ has_morx face.now direction }
+{
+    !face.lookups.morx.chains.is_empty()
         && (direction.is_horizontal() || face.layout.gsub.is_empty())
 }
 
@@ -193,7 +201,10 @@ fn add_features(
     segment: &SegmentProperties,
     features: &[Feature],
     substitutes_by_morx: bool,
-) -> Result<ChosenShaper, AllocError> {
+) -> Result<ChosenShaper, AllocError>
+    ensures { IfOk result (λ chosen. chosen.shaper
+        ≡ shaper_in substitutes_by_morx segment.now.script segment.now.direction builder.old.gsub.script.tag.0) }
+{
     let own = ScriptShaper::of(segment.script, segment.direction, builder.gsub.script.tag);
     let shaper = own.with_morx(substitutes_by_morx);
     let chosen = ChosenShaper {

@@ -5,3 +5,7 @@ use Rattle.layout_plan.specs.declared.builder.PlanBuilder.{PlanBuilder}
 -- the pauses stay as they were, and so do the tables
 abbrev pub HasSamePauses : PlanBuilder → PlanBuilder → Type 0
 HasSamePauses old new = (new.pauses ≡ old.pauses) × (new.gsub ≡ old.gsub) × (new.gpos ≡ old.gpos)
+
+-- the tables stay as they were
+abbrev pub HasSameTables : PlanBuilder → PlanBuilder → Type 0
+HasSameTables old new = (new.gsub ≡ old.gsub) × (new.gpos ≡ old.gpos)

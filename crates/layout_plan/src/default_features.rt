@@ -1,5 +1,7 @@
 //! The features that every text asks for: HarfBuzz's `hb_ot_shape_collect_features`.
 
+ghost use Rattle.layout_plan.specs.Pauses.{HasSameTables};
+
 use crate::bits::MAX_VALUE;
 use crate::builder::PlanBuilder;
 use crate::plan::Pause;
@@ -20,7 +22,9 @@ const MANUAL_JOINERS: FeatureFlags = FeatureFlags {
 pub(crate) fn add_first_features(
     builder: &mut PlanBuilder,
     direction: Direction,
-) -> Result<(), AllocError> {
+) -> Result<(), AllocError>
+    ensures { HasSameTables builder.old builder.new }
+{
     builder.enable_feature(Tag::from_bytes(b"rvrn"), FeatureFlags::NONE)?;
     builder.add_gsub_pause(Pause::Nothing)?;
     match direction {

@@ -1,15 +1,16 @@
 //! Which lookups of a font are applied, in which order, and to which glyphs: HarfBuzz's `hb_ot_map_t`.
 
-ghost use Rattle.std.specs.Prelude.{◌≡◌, [], None, MatchResult, false};
+ghost use Rattle.std.specs.Prelude.{◌≡◌, None, MatchResult, false, vec_len};
 ghost use Rattle.std.specs.Option.{option_copied};
 ghost use Rattle.layout_plan.specs.Masks.{mask_of, value_in};
 ghost use Rattle.layout_plan.specs.Order.{IsPlaceOf};
 ghost use Rattle.layout_plan.specs.Plan.{IsReadOf, IsWithTag};
-ghost use Rattle.layout_plan.specs.Stages.{lookups_of_stage, stage_start};
+ghost use Rattle.layout_plan.specs.Stages.{places_of_stage, stage_start};
 
 use crate::bits::FeatureBits;
 use crate::request::FeatureFlags;
 use rb_common::Tag;
+use std::ops::Range;
 
 /// What a shaper does between two stages of substitution.
 #[derive(Clone, Copy, PartialEq, Eq, Debug)]
@@ -132,31 +133,34 @@ impl LayoutPlan {
         }
     }
 
-    /// The lookups of substitution that are applied in the stage of a feature; none where the plan has none with this tag.
-    pub fn stage_lookups(&self, tag: Tag) -> &[PlannedLookup]
+    /// Where the lookups of substitution stand that are applied in the stage of a feature, in the list of all; nowhere where the plan
+    /// has none with this tag.
+    pub fn stage_places(&self, tag: Tag) -> Range<usize>
         ensures { IsReadOf self.now.features.items tag.0
-            (λ f. lookups_of_stage self.now.stages.items self.now.gsub_lookups.items f.stage) [] result.now }
+            (λ f. places_of_stage self.now.stages.items (vec_len self.now.gsub_lookups) f.stage) (0, 0)
+            (result.start, result.end) }
     {
         match self.feature(tag) {
-            Some(feature) => self.lookups_of_stage(feature.stage),
-            None => &[],
+            Some(feature) => self.places_of_stage(feature.stage),
+            None => 0..0,
         }
     }
 
-    /// The lookups of substitution of a stage; none where the stages are not in order.
-    fn lookups_of_stage(&self, stage: usize) -> &[PlannedLookup]
-        ensures { result.now ≡ lookups_of_stage self.now.stages.items self.now.gsub_lookups.items stage }
+    /// Where the lookups of substitution of a stage stand; nowhere where the stages are not in order.
+    fn places_of_stage(&self, stage: usize) -> Range<usize>
+        ensures { (result.start, result.end)
+            ≡ places_of_stage self.now.stages.items (vec_len self.now.gsub_lookups) stage }
     {
-        let lookups = self.gsub_lookups.as_slice();
+        let count = self.gsub_lookups.len();
         let start = stage_start(self.stages.as_slice(), stage);
         let end = match self.stages.get(stage) {
             Some(stage) => stage.end,
-            None => lookups.len(),
+            None => count,
         };
-        if start <= end && end <= lookups.len() {
-            &lookups[start..end]
+        if start <= end && end <= count {
+            start..end
         } else {
-            &[]
+            0..0
         }
     }
 

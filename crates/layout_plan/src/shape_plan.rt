@@ -1,7 +1,9 @@
 //! How a text is shaped by a font: HarfBuzz's `hb_ot_shape_plan_t`.
 
-ghost use Rattle.std.specs.Prelude.{◌≡◌, IfOk};
+ghost use Rattle.std.specs.Prelude.{◌≡◌, map, IfOk};
+ghost use Rattle.layout_plan.specs.Choice.{script_of};
 ghost use Rattle.layout_plan.specs.Plan.{IsPlan};
+ghost use Rattle.layout_plan.specs.Tables.{list_of};
 
 use crate::builder::{ChosenTable, PlanBuilder};
 use crate::default_features::{add_first_features, add_last_features, add_user_features};
@@ -125,7 +127,12 @@ impl ShapePlan {
         alloc: Global,
         font: &FontLayout<'a>,
         text: &TextProperties,
-    ) -> Result<PlanBuilder<'a>, AllocError> {
+    ) -> Result<PlanBuilder<'a>, AllocError>
+        ensures gsub { IfOk result (λ builder. builder.gsub.script.tag.0
+            ≡ (script_of (list_of font.now.gsub.now 4) (map (λ tag. tag.0) text.now.scripts.now)).0) }
+        ensures gpos { IfOk result (λ builder. builder.gpos.script.tag.0
+            ≡ (script_of (list_of font.now.gpos.now 4) (map (λ tag. tag.0) text.now.scripts.now)).0) }
+    {
         let gsub = ChosenTable::new(font.gsub, text.scripts, text.languages).with_substitutions(
             font.gsub_substitutions,
         );

@@ -1,12 +1,12 @@
 //! What a line is answered with.
 
-ghost use Rattle.std.specs.Prelude.{◌≡◌, None, false, IfOk};
+ghost use Rattle.std.specs.Prelude.{◌≡◌, [], None, false, IfOk};
 ghost use Rattle.shape_command.specs.Answer.{answer_text, is_shaped};
 ghost use Rattle.shape_command.specs.Lines.{IsAnswer, glyphs_line};
 
 use crate::options::LineOptions;
 use crate::text::{emptied, empty_text, fill, lossy_text};
-use font_shaper::{Face, FaceNames, KeptPlan, ShapeError, VerifyError, shape_with_kept_plan};
+use font_shaper::{Face, FaceNames, KeptPlans, ShapeError, VerifyError, shape_with_kept_plans};
 use shaping_buffer::{
     Flags, GlyphBuffer, GlyphNames, NoGlyphNames, SerializeFlags, UnicodeBuffer, hb_glyph_info_t,
 };
@@ -55,8 +55,8 @@ impl Answer {
 /// What is kept of a line for the next one of the same font.
 #[derive(Drop)]
 pub struct KeptLine {
-    /// The plan of its text.
-    pub plan: KeptPlan,
+    /// The plans of its text and of those before.
+    pub plans: KeptPlans,
     /// Its buffer, emptied.
     pub text: Option<UnicodeBuffer>,
     /// Whether the shaping of a line was given up, and nothing was said of it yet.
@@ -66,12 +66,12 @@ pub struct KeptLine {
 impl KeptLine {
     /// Nothing is kept.
     pub fn new() -> Self
-        ensures plan { result.plan ≡ None }
+        ensures plans { result.plans ≡ [] }
         ensures text { result.text ≡ None }
         ensures has_given_up { result.has_given_up ≡ false }
     {
         KeptLine {
-            plan: KeptPlan::new(),
+            plans: KeptPlans::new(),
             text: None,
             has_given_up: false,
         }
@@ -81,7 +81,7 @@ impl KeptLine {
     /// to have the glyph of the options.
     pub fn take_text(&mut self, alloc: Global, options: &LineOptions<'_>) -> UnicodeBuffer
         ensures invisible { result.invisible ≡ options.now.invisible_glyph }
-        ensures plan { self.new.plan ≡ self.old.plan }
+        ensures plans { self.new.plans ≡ self.old.plans }
     {
         match self.text.take() {
             Some(text) => emptied(text, options),
@@ -145,7 +145,7 @@ impl LineShaper<'_> {
             return Ok(Answer::Failed);
         }
         let features = self.options.features.as_slice();
-        match shape_with_kept_plan(self.face, features, &mut state.kept.plan, text) {
+        match shape_with_kept_plans(self.face, features, &mut state.kept.plans, text) {
             Ok(glyphs) => self.print_and_keep(alloc, state, glyphs),
             Err(ShapeError::TooLong) => Ok(Answer::Failed),
             Err(ShapeError::OtherPlan) => Ok(Answer::Failed),

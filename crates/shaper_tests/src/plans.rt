@@ -2,7 +2,7 @@
 
 use crate::upright::UPRIGHT;
 use font_shaper::{
-    Face, FaceNames, KeptPlan, ShapeError, ShapePlan, Unwatched, shape_with_kept_plan,
+    Face, FaceNames, KeptPlans, ShapeError, ShapePlan, Unwatched, shape_with_kept_plans,
     shape_with_plan, shape_with_plan_watched,
 };
 use rb_common::{Tag, script};
@@ -99,10 +99,10 @@ static PARTS: [(usize, &str); 3] = [
 fn a_kept_plan_has_features_of_parts(rt: HostRuntime) -> Result<(), Fail> {
     let face = Face::parse(rt.alloc(), UPRIGHT, 0)?.ok_or("no font")?;
     let names = FaceNames::new(rt.alloc(), &face)?;
-    let mut kept = KeptPlan::new();
+    let mut kept = KeptPlans::new();
     for (cluster, wanted) in &PARTS {
         let text = text_of(rt.alloc(), "aa", Direction::LeftToRight)?;
-        let glyphs = shape_with_kept_plan(&face, &[upright_in(*cluster)], &mut kept, text)?;
+        let glyphs = shape_with_kept_plans(&face, &[upright_in(*cluster)], &mut kept, text)?;
         let written = glyphs.serialize(rt.alloc(), &names, SerializeFlags::empty())?;
         assert_eq!(rt; written.as_str(), *wanted);
     }
@@ -132,12 +132,12 @@ static TEXTS: [(&str, Direction, &str); 6] = [
 fn a_kept_plan_gives_way(rt: HostRuntime) -> Result<(), Fail> {
     let face = Face::parse(rt.alloc(), UPRIGHT, 0)?.ok_or("no font")?;
     let names = FaceNames::new(rt.alloc(), &face)?;
-    let mut kept = KeptPlan::new();
+    let mut kept = KeptPlans::new();
     for (characters, direction, wanted) in &TEXTS {
         for flags in [BufferFlags::empty(), BufferFlags::VERIFY] {
             let mut text = text_of(rt.alloc(), characters, *direction)?;
             text.set_flags(flags);
-            let glyphs = shape_with_kept_plan(&face, &[], &mut kept, text)?;
+            let glyphs = shape_with_kept_plans(&face, &[], &mut kept, text)?;
             let written = glyphs.serialize(rt.alloc(), &names, SerializeFlags::empty())?;
             assert_eq!(rt; written.as_str(), *wanted);
         }

@@ -23,7 +23,7 @@ use crate::types::{hb_bool_t, hb_destroy_func_t};
 use std::cell::{Cell, RefCell};
 use std::ffi::{c_uint, c_void};
 use std::ptr::null_mut;
-use vukhaso::internals::font_shaper::KeptPlan;
+use vukhaso::internals::font_shaper::KeptPlans;
 
 const NO_INSTANCE: u32 = u32::MAX;
 
@@ -186,7 +186,7 @@ impl hb_font_t {
     }
 
     /// Asks the shaper's font, with the plan of the text before.
-    pub fn with_shaper_and_plan<T>(&self, ask: impl FnOnce(&mut vukhaso::Face<'static>, &mut KeptPlan) -> T) -> T {
+    pub fn with_shaper_and_plan<T>(&self, ask: impl FnOnce(&mut vukhaso::Face<'static>, &mut KeptPlans) -> T) -> T {
         self.face().with_shaper(&self.shaper_settings(), ask)
     }
 

@@ -13,7 +13,7 @@ use crate::font::hb_font_t;
 use crate::shape::watching::Telling;
 use crate::types::{BOTTOM_TO_TOP, LEFT_TO_RIGHT, RIGHT_TO_LEFT, TOP_TO_BOTTOM, hb_bool_t, hb_direction_t, is_valid, slice};
 use std::ffi::{CStr, c_char, c_uint};
-use vukhaso::internals::font_shaper::{KeptPlan, shape_watched, shape_with_kept_plan};
+use vukhaso::internals::font_shaper::{KeptPlans, shape_watched, shape_with_kept_plans};
 use vukhaso::{
     BufferClusterLevel, BufferFlags, Direction, Face, Feature, GlyphBuffer, GlyphId, Script, ShapeError, Tag, UnicodeBuffer,
 };
@@ -160,14 +160,14 @@ impl Shaped {
 
 fn shaped_by(
     face: &Face<'static>,
-    kept: &mut KeptPlan,
+    kept: &mut KeptPlans,
     features: &[Feature],
     text: UnicodeBuffer,
     telling: Option<Telling>,
 ) -> Result<Shaped, ShapeError> {
     let glyphs = match telling {
         Some(mut telling) => shape_watched(face, features, text, &mut telling)?,
-        None => shape_with_kept_plan(face, features, kept, text)?,
+        None => shape_with_kept_plans(face, features, kept, text)?,
     };
     Ok(Shaped::of(glyphs.glyph_infos(), glyphs.glyph_positions()))
 }

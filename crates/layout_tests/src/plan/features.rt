@@ -98,13 +98,14 @@ fn stages_part_lookups(rt: HostRuntime) -> Result<(), Fail> {
     assert_eq!(rt; (first.end, first.pause), (1, Pause::SetUpSyllables));
     assert_eq!(rt; (second.end, second.pause), (2, Pause::Nothing));
     for (tag, index) in [(b"frac", 2), (b"liga", 1)] {
-        let lookups = plan.stage_lookups(Tag::from_bytes(tag));
+        let places = plan.stage_places(Tag::from_bytes(tag));
+        let lookups = plan.gsub_lookups.as_slice().get(places).unwrap_or(&[]);
         assert!(rt;
             lookups.len() == 1 && lookups.iter().all(|lookup| lookup.index == index),
             "{index}"
         );
     }
-    assert!(rt; plan.stage_lookups(Tag::from_bytes(b"smcp")).is_empty());
+    assert!(rt; plan.stage_places(Tag::from_bytes(b"smcp")).end == 0);
     Ok(())
 }
 

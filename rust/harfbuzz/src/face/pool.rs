@@ -3,7 +3,7 @@
 
 use std::sync::Mutex;
 use vukhaso::Face;
-use vukhaso::internals::font_shaper::KeptPlan;
+use vukhaso::internals::font_shaper::KeptPlans;
 
 /// How a font is set.
 #[derive(Clone, PartialEq, Debug, Default)]
@@ -20,7 +20,7 @@ pub struct Settings {
 struct Set {
     face: Box<Face<'static>>,
     settings: Settings,
-    plan: KeptPlan,
+    plan: KeptPlans,
 }
 
 /// Fonts that nobody uses at the moment.
@@ -47,7 +47,7 @@ impl Pool {
         bytes: &'static [u8],
         index: u32,
         settings: &Settings,
-        ask: impl FnOnce(&mut Face<'static>, &mut KeptPlan) -> T,
+        ask: impl FnOnce(&mut Face<'static>, &mut KeptPlans) -> T,
     ) -> T {
         let found = {
             let mut sets = self.sets();
@@ -61,7 +61,7 @@ impl Pool {
         };
         let mut set = match found {
             Some(set) => set,
-            None => Set { face: Box::new(parsed(bytes, index)), settings: Settings::default(), plan: KeptPlan::new() },
+            None => Set { face: Box::new(parsed(bytes, index)), settings: Settings::default(), plan: KeptPlans::new() },
         };
         if set.settings != *settings {
             apply(&mut set.face, settings);

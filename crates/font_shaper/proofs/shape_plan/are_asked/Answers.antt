@@ -1,4 +1,4 @@
-use Rattle.std.proofs.Common.{◌<◌, IsTrue, refl, subst, arith, rules}
+use Rattle.std.proofs.Common.{IsTrue, refl, subst, arith, rules}
 use Rattle.font_shaper.specs.Plans.{asked}
 use Rattle.font_shaper.proofs.AskedLemmas.{map-alike, alike_there}
 use Rattle.font_shaper.proofs.shape_plan.are_asked.Goals as goal

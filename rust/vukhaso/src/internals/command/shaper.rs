@@ -8,7 +8,7 @@ use crate::buffer::{
 use crate::command::options::LineOptions;
 use crate::command::text::{emptied, empty_text, fill, lossy_text};
 use crate::font_shaper::{
-    Face, FaceNames, KeptPlan, ShapeError, VerifyError, shape_with_kept_plan,
+    Face, FaceNames, KeptPlans, ShapeError, VerifyError, shape_with_kept_plans,
 };
 use crate::memory::{AllocError, String};
 
@@ -67,8 +67,8 @@ impl Answer {
 
 /// What is kept of a line for the next one of the same font.
 pub struct KeptLine {
-    /// The plan of its text.
-    pub plan: KeptPlan,
+    /// The plans of its text and of those before.
+    pub plans: KeptPlans,
     /// Its buffer, emptied.
     pub text: Option<UnicodeBuffer>,
     /// Whether the shaping of a line was given up, and nothing was said of it yet.
@@ -81,14 +81,14 @@ impl KeptLine {
     /// # Proved
     ///
     /// ```text
-    /// ensures plan { result.plan ≡ None }
+    /// ensures plans { result.plans ≡ [] }
     /// ensures text { result.text ≡ None }
     /// ensures has_given_up { result.has_given_up ≡ false }
     /// ```
     #[inline]
     pub fn new() -> Self {
         KeptLine {
-            plan: KeptPlan::new(),
+            plans: KeptPlans::new(),
             text: None,
             has_given_up: false,
         }
@@ -101,7 +101,7 @@ impl KeptLine {
     ///
     /// ```text
     /// ensures invisible { result.invisible ≡ options.now.invisible_glyph }
-    /// ensures plan { self.new.plan ≡ self.old.plan }
+    /// ensures plans { self.new.plans ≡ self.old.plans }
     /// ```
     #[inline]
     pub fn take_text(&mut self, options: &LineOptions<'_>) -> UnicodeBuffer {
@@ -173,7 +173,7 @@ impl LineShaper<'_> {
             return Ok(Answer::Failed);
         }
         let features = self.options.features.as_slice();
-        match shape_with_kept_plan(self.face, features, &mut state.kept.plan, text) {
+        match shape_with_kept_plans(self.face, features, &mut state.kept.plans, text) {
             Ok(glyphs) => self.print_and_keep(state, glyphs),
             Err(ShapeError::TooLong) => Ok(Answer::Failed),
             Err(ShapeError::OtherPlan) => Ok(Answer::Failed),

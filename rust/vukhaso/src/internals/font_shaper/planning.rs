@@ -7,6 +7,7 @@ use crate::apple_tables::FeatureNames;
 use crate::buffer::hb_buffer_t;
 use crate::common::{Direction, Script, Tag};
 use crate::font_face::Face;
+use crate::font_shaper::forms_of_font::FormPlaces;
 use crate::font_shaper::glyphs_of_font::FaceGlyphs;
 use crate::font_variations::substitutions_of;
 use crate::language_tags::LanguageTags;
@@ -30,6 +31,8 @@ pub(crate) struct TextPlan {
     pub script: ScriptPlan,
     /// What it does with syllables.
     pub syllables: SyllablePlan,
+    /// Where the lookups of features stand that it asks of.
+    pub forms: FormPlaces,
     /// The flags of the chains of Apple's table `morx`, where they stand in the place of the lookups of `GSUB`.
     pub chain_flags: Option<ChainFlags>,
     /// The bits of the glyphs that Apple's table `trak` moves.
@@ -132,10 +135,12 @@ fn plan_of(
         chosen.finds_script,
     );
     let fallback = fallback_of(face, &script)?;
+    let forms = FormPlaces::new(&shape.layout);
     Ok(TextPlan {
         shape,
         script,
         syllables,
+        forms,
         chain_flags,
         trak_mask,
         fallback,
@@ -145,7 +150,8 @@ fn plan_of(
 /// Whether Apple's table `morx` substitutes glyphs in place of the lookups of `GSUB`: in horizontal
 /// lines, and where the font has no lookups of `GSUB`.
 fn substitutes_by_morx(face: &Face, direction: Direction) -> bool {
-    face.lookups.morx.is_there() && (direction.is_horizontal() || face.layout.gsub.is_empty())
+    !face.lookups.morx.chains.is_empty()
+        && (direction.is_horizontal() || face.layout.gsub.is_empty())
 }
 
 /// The flags of the chains of `morx`, where these features are asked for.

@@ -6,6 +6,7 @@ use crate::common::Tag;
 use crate::layout_plan::bits::FeatureBits;
 use crate::layout_plan::request::FeatureFlags;
 use crate::memory::Vec;
+use core::ops::Range;
 
 /// What a shaper does between two stages of substitution.
 #[derive(Clone, Copy, PartialEq, Eq, Debug)]
@@ -143,35 +144,36 @@ impl LayoutPlan {
         }
     }
 
-    /// The lookups of substitution that are applied in the stage of a feature; none where the plan has none
-    /// with this tag.
+    /// Where the lookups of substitution stand that are applied in the stage of a feature, in the list of
+    /// all; nowhere where the plan has none with this tag.
     ///
     /// # Proved
     ///
     /// ```text
     /// ensures { IsReadOf self.now.features.items tag.0
-    ///     (λ f. lookups_of_stage self.now.stages.items self.now.gsub_lookups.items f.stage) [] result.now }
+    ///     (λ f. places_of_stage self.now.stages.items (vec_len self.now.gsub_lookups) f.stage) (0, 0)
+    ///     (result.start, result.end) }
     /// ```
     #[inline]
-    pub fn stage_lookups(&self, tag: Tag) -> &[PlannedLookup] {
+    pub fn stage_places(&self, tag: Tag) -> Range<usize> {
         match self.feature(tag) {
-            Some(feature) => self.lookups_of_stage(feature.stage),
-            None => &[],
+            Some(feature) => self.places_of_stage(feature.stage),
+            None => 0..0,
         }
     }
 
-    /// The lookups of substitution of a stage; none where the stages are not in order.
-    fn lookups_of_stage(&self, stage: usize) -> &[PlannedLookup] {
-        let lookups = self.gsub_lookups.as_slice();
+    /// Where the lookups of substitution of a stage stand; nowhere where the stages are not in order.
+    fn places_of_stage(&self, stage: usize) -> Range<usize> {
+        let count = self.gsub_lookups.len();
         let start = stage_start(self.stages.as_slice(), stage);
         let end = match self.stages.get(stage) {
             Some(stage) => stage.end,
-            None => lookups.len(),
+            None => count,
         };
-        if start <= end && end <= lookups.len() {
-            &lookups[start..end]
+        if start <= end && end <= count {
+            start..end
         } else {
-            &[]
+            0..0
         }
     }
 

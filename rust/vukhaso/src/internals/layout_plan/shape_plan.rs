@@ -137,7 +137,12 @@ impl ShapePlan {
     ///
     /// # Proved
     ///
-    /// That it returns.
+    /// ```text
+    /// ensures gsub { IfOk result (λ builder. builder.gsub.script.tag.0
+    ///     ≡ (script_of (list_of font.now.gsub.now 4) (map (λ tag. tag.0) text.now.scripts.now)).0) }
+    /// ensures gpos { IfOk result (λ builder. builder.gpos.script.tag.0
+    ///     ≡ (script_of (list_of font.now.gpos.now 4) (map (λ tag. tag.0) text.now.scripts.now)).0) }
+    /// ```
     #[inline]
     pub fn begin<'a>(
         font: &FontLayout<'a>,

@@ -5,10 +5,12 @@
 use crate::Fail;
 use crate::shaper_tests::upright::UPRIGHT;
 use std::ops::Bound;
-use vukhaso::buffer::{BufferFlags, Direction, Feature, Language, SerializeFlags, UnicodeBuffer};
-use vukhaso::common::{Tag, script};
-use vukhaso::font_shaper::{
-    Face, FaceNames, KeptPlan, ShapeError, ShapePlan, Unwatched, shape_with_kept_plan,
+use vukhaso::internals::buffer::{
+    BufferFlags, Direction, Feature, Language, SerializeFlags, UnicodeBuffer,
+};
+use vukhaso::internals::common::{Tag, script};
+use vukhaso::internals::font_shaper::{
+    Face, FaceNames, KeptPlans, ShapeError, ShapePlan, Unwatched, shape_with_kept_plans,
     shape_with_plan, shape_with_plan_watched,
 };
 
@@ -98,10 +100,10 @@ static PARTS: [(usize, &str); 3] = [
 fn a_kept_plan_has_features_of_parts() -> Result<(), Fail> {
     let face = Face::parse_if_there(UPRIGHT, 0)?.ok_or("no font")?;
     let names = FaceNames::new(&face)?;
-    let mut kept = KeptPlan::new();
+    let mut kept = KeptPlans::new();
     for (cluster, wanted) in &PARTS {
         let text = text_of("aa", Direction::LeftToRight)?;
-        let glyphs = shape_with_kept_plan(&face, &[upright_in(*cluster)], &mut kept, text)?;
+        let glyphs = shape_with_kept_plans(&face, &[upright_in(*cluster)], &mut kept, text)?;
         let written = glyphs.serialize(&names, SerializeFlags::empty())?;
         assert_eq!(written.as_str(), *wanted);
     }
@@ -132,12 +134,12 @@ static TEXTS: [(&str, Direction, &str); 6] = [
 fn a_kept_plan_gives_way() -> Result<(), Fail> {
     let face = Face::parse_if_there(UPRIGHT, 0)?.ok_or("no font")?;
     let names = FaceNames::new(&face)?;
-    let mut kept = KeptPlan::new();
+    let mut kept = KeptPlans::new();
     for (characters, direction, wanted) in &TEXTS {
         for flags in [BufferFlags::empty(), BufferFlags::VERIFY] {
             let mut text = text_of(characters, *direction)?;
             text.set_flags(flags);
-            let glyphs = shape_with_kept_plan(&face, &[], &mut kept, text)?;
+            let glyphs = shape_with_kept_plans(&face, &[], &mut kept, text)?;
             let written = glyphs.serialize(&names, SerializeFlags::empty())?;
             assert_eq!(written.as_str(), *wanted);
         }

@@ -108,13 +108,14 @@ fn stages_part_lookups() -> Result<(), Fail> {
     assert_eq!((first.end, first.pause), (1, Pause::SetUpSyllables));
     assert_eq!((second.end, second.pause), (2, Pause::Nothing));
     for (tag, index) in [(b"frac", 2), (b"liga", 1)] {
-        let lookups = plan.stage_lookups(Tag::from_bytes(tag));
+        let places = plan.stage_places(Tag::from_bytes(tag));
+        let lookups = plan.gsub_lookups.as_slice().get(places).unwrap_or(&[]);
         assert!(
             lookups.len() == 1 && lookups.iter().all(|lookup| lookup.index == index),
             "{index}"
         );
     }
-    assert!(plan.stage_lookups(Tag::from_bytes(b"smcp")).is_empty());
+    assert!(plan.stage_places(Tag::from_bytes(b"smcp")).end == 0);
     Ok(())
 }
 
