@@ -1,11 +1,16 @@
--- Which shaper the plan of a text has.
-use Rattle.std.specs.Prelude.{◌&&◌, ◌||◌, ℕ, Bool, Option, length, nat_eq, not, option_map, unwrap_or, if◌then◌else◌}
+-- Which shaper the plan of a text has, and what else it has by that.
+use Rattle.std.specs.Prelude.{◌≡◌, ◌&&◌, ◌||◌, ℕ, Bool, true, List, Option, length, nat_eq, not, is_some, option_map, unwrap_or, if◌then◌else◌}
 use Rattle.rb_common.specs.Direction.{is_horizontal}
 use Rattle.rb_common.specs.declared.direction.Direction.{Direction}
 use Rattle.script_shapers.specs.Shapers.{shaper_of, shaper_with_morx}
 use Rattle.script_shapers.specs.declared.shaper.ScriptShaper.{ScriptShaper}
 use Rattle.script_shapers.specs.declared.shaper.ScriptShaper.TheVariants.{Default}
+use Rattle.layout_plan.specs.Choice.{script_of}
+use Rattle.layout_plan.specs.Plan.{IsPlan}
+use Rattle.layout_plan.specs.Tables.{list_of}
+use Rattle.script_features.specs.Syllables.{is_plan_of}
 use Rattle.font_face.specs.declared.face.Face.{Face}
+use Rattle.font_shaper.specs.declared.planning.TextPlan.{TextPlan}
 
 -- the shaper of a script in a direction, by the tag under which the font has it; the one in its place where Apple's table substitutes
 abbrev pub shaper_in : Bool → Option ℕ → Direction → ℕ → ScriptShaper
@@ -18,3 +23,15 @@ abbrev pub has_morx : Face → Direction → Bool
 has_morx face direction =
     not (nat_eq (length face.lookups.morx.chains.items) 0)
     && (is_horizontal direction || nat_eq (length face.layout.gsub.now) 0)
+
+-- It was made for texts of this direction and script by this font. These are the script's OpenType tags.
+pub record IsMadeOf (face : Face) (direction : Direction) (script : Option ℕ) (scripts : List ℕ) (plan : TextPlan) : Type 0 where
+  -- its shaper is the script's, by the tag under which `GSUB` has the script
+  pub shaper : plan.script.shaper
+      ≡ shaper_in (has_morx face direction) script direction (script_of (list_of face.layout.gsub.now 4) scripts).0
+  -- it does with syllables what that shaper does
+  pub syllables : is_plan_of plan.script.shaper plan.syllables ≡ true
+  -- Apple's table `morx` substitutes in place of its lookups
+  pub morx : is_some plan.chain_flags ≡ has_morx face direction
+  -- its features have bits of their own
+  pub layout : IsPlan plan.shape.layout

@@ -1,8 +1,10 @@
 //! How a text is shaped: the plan of its script, its language and its features.
 
-ghost use Rattle.std.specs.Prelude.{◌≡◌, IfOk};
+ghost use Rattle.std.specs.Prelude.{◌≡◌, is_some, map, IfOk};
+ghost use Rattle.std.specs.Option.{option_copied};
+ghost use Rattle.rb_text.specs.Tags.{scripts_of};
 ghost use Rattle.font_shaper.specs.ClusterOrder.{orders_syllables};
-ghost use Rattle.font_shaper.specs.Shapers.{shaper_in, has_morx};
+ghost use Rattle.font_shaper.specs.Shapers.{IsMadeOf, shaper_in, has_morx};
 
 use crate::forms_of_font::FormPlaces;
 use crate::glyphs_of_font::FaceGlyphs;
@@ -74,7 +76,10 @@ pub(crate) fn plan_of_text(
     face: &Face,
     buffer: &hb_buffer_t,
     features: &[Feature],
-) -> Result<TextPlan, AllocError> {
+) -> Result<TextPlan, AllocError>
+    ensures { IfOk result (IsMadeOf face.now buffer.now.direction buffer.now.script
+        (scripts_of buffer.now.script buffer.now.language)) }
+{
     let segment = SegmentProperties {
         direction: buffer.direction,
         script: buffer.script,
@@ -88,7 +93,10 @@ pub(crate) fn plan_for(
     face: &Face,
     segment: &SegmentProperties,
     features: &[Feature],
-) -> Result<TextPlan, AllocError> {
+) -> Result<TextPlan, AllocError>
+    ensures { IfOk result (IsMadeOf face.now segment.now.direction segment.now.script
+        (scripts_of segment.now.script (option_copied segment.now.language))) }
+{
     let Some(table) = LanguageTable::new(&[]) else {
         return Err(AllocError);
     };
@@ -113,7 +121,10 @@ fn plan_of(
     segment: &SegmentProperties,
     text: &TextProperties,
     features: &[Feature],
-) -> Result<TextPlan, AllocError> {
+) -> Result<TextPlan, AllocError>
+    ensures { IfOk result (IsMadeOf face.now segment.now.direction segment.now.script
+        (map (λ tag. tag.0) text.now.scripts.now)) }
+{
     let font = FontLayout {
         gsub: face.layout.gsub,
         gpos: face.layout.gpos,
@@ -131,14 +142,9 @@ fn plan_of(
         segment.direction,
         chosen.rules,
     )?;
-    if substitutes {
-        shape.adjust_mark_positioning_when_zeroing = false;
-    }
-    let chain_flags = if substitutes {
-        Some(chain_flags_of(face, features)?)
-    } else {
-        None
-    };
+    let adjusts = shape.adjust_mark_positioning_when_zeroing;
+    shape.adjust_mark_positioning_when_zeroing = adjusts && !substitutes;
+    let chain_flags = chain_flags_of(face, features, substitutes)?;
     let trak_mask = shape.layout.mask(Tag::from_bytes(b"trak"));
     let syllables = syllable_plan(chosen.shaper, segment.script, &shape.layout);
     let script = script_plan(
@@ -169,11 +175,21 @@ fn substitutes_by_morx(face: &Face, direction: Direction) -> bool
         && (direction.is_horizontal() || face.layout.gsub.is_empty())
 }
 
-/// The flags of the chains of `morx`, where these features are asked for.
-fn chain_flags_of(face: &Face, features: &[Feature]) -> Result<ChainFlags, AllocError> {
+/// The flags of the chains of `morx`, where it substitutes glyphs and these features are asked for.
+fn chain_flags_of(
+    face: &Face,
+    features: &[Feature],
+    substitutes_by_morx: bool,
+) -> Result<Option<ChainFlags>, AllocError>
+    ensures { IfOk result (λ flags. is_some flags ≡ substitutes_by_morx) }
+{
+    if !substitutes_by_morx {
+        return Ok(None);
+    }
     let names = FeatureNames::new(face.layout.feat);
     let selected = selected_features(face.alloc, &names, features)?;
-    ChainFlags::new(face.alloc, &face.lookups.morx, selected.as_slice())
+    let flags = ChainFlags::new(face.alloc, &face.lookups.morx, selected.as_slice())?;
+    Ok(Some(flags))
 }
 
 /// The lookups that join Arabic letters, where the shaper of the script makes them.

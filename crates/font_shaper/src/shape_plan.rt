@@ -6,7 +6,9 @@ ghost use Rattle.shaping_buffer.specs.Limits.{enter};
 ghost use Rattle.shaping_buffer.specs.Properties.{guessed};
 ghost use Rattle.shaping_buffer.specs.State.{HasPositions};
 ghost use Rattle.std.specs.Option.{option_copied};
+ghost use Rattle.rb_text.specs.Tags.{scripts_of};
 ghost use Rattle.font_shaper.specs.Plans.{IsFor, IsPlanOf, asked};
+ghost use Rattle.font_shaper.specs.Shapers.{IsMadeOf};
 ghost use Rattle.font_shaper.specs.ShapedClusters.{ShapedClusters};
 
 use crate::planning::{SegmentProperties, TextPlan, plan_for};
@@ -57,13 +59,15 @@ impl ShapePlan {
         language: Option<&Language>,
         user_features: &[Feature],
     ) -> Result<Self, AllocError>
-        ensures { IfOk result (λ plan. plan.texts ≡ record {
+        ensures texts { IfOk result (λ plan. plan.texts ≡ record {
           direction = direction;
           script = script;
           language = option_copied language.entry;
           features = user_features.now;
           coordinates = face.now.variations.coordinates.items;
         }) }
+        ensures made { IfOk result (λ plan. IsMadeOf face.now direction script
+            (scripts_of script (option_copied language.entry)) plan.made) }
     {
         let segment = SegmentProperties {
             direction,

@@ -1,4 +1,8 @@
-use Rattle.std.proofs.Common.{◌∙◌}
+use Rattle.std.proofs.Common.{◌∙◌, subst}
+use Rattle.std.specs.Prelude.{Any}
+use Rattle.shaping_buffer.specs.State.{State}
+use Rattle.font_shaper.specs.Plans.{IsPlanOf}
+use Rattle.font_shaper.proofs.KeptPlanLemmas.{of_all, any_there}
 use Rattle.font_shaper.proofs.TurnLemmas.{of_guessed}
 use Rattle.font_shaper.proofs.kept_plans.shape_with_kept_plans.Goals as goal
 
@@ -6,3 +10,13 @@ pub returns-in-Some-clause-clusters : goal.returns-in-Some-clause-clusters
 returns-in-Some-clause-clusters c =
     of_guessed c.args.text c.into_buffer-buffer.result c.shape_by_plan.result
     (c.into_buffer-buffer.ensures.is ∙ c.guess_segment_properties.ensures) c.shape_by_plan.ensures.clusters
+
+pub returns-in-Some-clause-planned : goal.returns-in-Some-clause-planned
+returns-in-Some-clause-planned c =
+    let face = c.args.face.now in
+    let features = c.args.features.now in
+    let kept = c.find-place.new.kept in
+    of_all c.shape_by_plan.result
+    (subst (λ (text : State). Any (λ plan. IsPlanOf plan face features text) kept)
+    (c.into_buffer-buffer.ensures.is ∙ c.guess_segment_properties.ensures)
+    (any_there (λ plan. IsPlanOf plan face features c.into_buffer-buffer.result) kept c.in_ok-place.field-0 c.in_ok-place.ensures))

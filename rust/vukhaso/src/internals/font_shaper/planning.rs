@@ -118,14 +118,9 @@ fn plan_of(
     let mut builder = ShapePlan::begin(&font, text)?;
     let chosen = add_features(&mut builder, segment, features, substitutes)?;
     let mut shape = ShapePlan::complete(builder, &font, segment.direction, chosen.rules)?;
-    if substitutes {
-        shape.adjust_mark_positioning_when_zeroing = false;
-    }
-    let chain_flags = if substitutes {
-        Some(chain_flags_of(face, features)?)
-    } else {
-        None
-    };
+    let adjusts = shape.adjust_mark_positioning_when_zeroing;
+    shape.adjust_mark_positioning_when_zeroing = adjusts && !substitutes;
+    let chain_flags = chain_flags_of(face, features, substitutes)?;
     let trak_mask = shape.layout.mask(Tag::from_bytes(b"trak"));
     let syllables = syllable_plan(chosen.shaper, segment.script, &shape.layout);
     let script = script_plan(
@@ -154,11 +149,19 @@ fn substitutes_by_morx(face: &Face, direction: Direction) -> bool {
         && (direction.is_horizontal() || face.layout.gsub.is_empty())
 }
 
-/// The flags of the chains of `morx`, where these features are asked for.
-fn chain_flags_of(face: &Face, features: &[Feature]) -> Result<ChainFlags, AllocError> {
+/// The flags of the chains of `morx`, where it substitutes glyphs and these features are asked for.
+fn chain_flags_of(
+    face: &Face,
+    features: &[Feature],
+    substitutes_by_morx: bool,
+) -> Result<Option<ChainFlags>, AllocError> {
+    if !substitutes_by_morx {
+        return Ok(None);
+    }
     let names = FeatureNames::new(face.layout.feat);
     let selected = selected_features(&names, features)?;
-    ChainFlags::new(&face.lookups.morx, selected.as_slice())
+    let flags = ChainFlags::new(&face.lookups.morx, selected.as_slice())?;
+    Ok(Some(flags))
 }
 
 /// The lookups that join Arabic letters, where the shaper of the script makes them.

@@ -48,13 +48,15 @@ impl ShapePlan {
     /// # Proved
     ///
     /// ```text
-    /// ensures { IfOk result (λ plan. plan.texts ≡ record {
+    /// ensures texts { IfOk result (λ plan. plan.texts ≡ record {
     ///       direction = direction;
     ///       script = script;
     ///       language = option_copied language.entry;
     ///       features = user_features.now;
     ///       coordinates = face.now.variations.coordinates.items;
     ///     }) }
+    /// ensures made { IfOk result (λ plan. IsMadeOf face.now direction script
+    ///     (scripts_of script (option_copied language.entry)) plan.made) }
     /// ```
     #[inline]
     pub fn new(
