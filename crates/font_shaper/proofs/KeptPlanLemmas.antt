@@ -1,5 +1,5 @@
 -- Plans that are kept.
-use Rattle.std.proofs.Common.{◌≡◌, ℕ, List, Option, Result, refl, absurd}
+use Rattle.std.proofs.Common.{◌≡◌, ℕ, List, Option, Result, refl}
 use Rattle.std.specs.Prelude.{None, Some, Ok, Err, Any, IfOk, IsSomeAnd, slice_get}
 use Rattle.std.proofs.lemmas.Option.{slice_get_within, get_or_from_slice_get}
 

@@ -15,8 +15,8 @@ pub returns-in-Some-clause-planned : goal.returns-in-Some-clause-planned
 returns-in-Some-clause-planned c =
     let face = c.args.face.now in
     let features = c.args.features.now in
-    let kept = c.find-place.new.kept in
+    let kept = c.find.new.self in
     of_all c.shape_by_plan.result
     (subst (λ (text : State). Any (λ plan. IsPlanOf plan face features text) kept)
     (c.into_buffer-buffer.ensures.is ∙ c.guess_segment_properties.ensures)
-    (any_there (λ plan. IsPlanOf plan face features c.into_buffer-buffer.result) kept c.in_ok-place.field-0 c.in_ok-place.ensures))
+    (any_there (λ plan. IsPlanOf plan face features c.into_buffer-buffer.result) kept c.in_ok-place.place c.in_ok-place.ensures))
