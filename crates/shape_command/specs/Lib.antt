@@ -5,6 +5,7 @@ pub mod Errors
 pub mod Features
 pub mod HeldFile
 pub mod Lines
+pub mod Numbered
 pub mod Prepared
 pub mod Status
 pub mod Variations

@@ -1,13 +1,14 @@
 //! A font of a file, which is kept for all command lines in a row that name it.
 
 ghost use Rattle.std.specs.Prelude.{◌≡◌, None, option_map, IfOk, IfSome, OnErr};
-ghost use Rattle.font_tables.specs.Directory.{font_of};
 ghost use Rattle.font_shaper.specs.Face.{KeepsItsTables};
+ghost use Rattle.shape_command.specs.Numbered.{numbered_font};
 
 use crate::font_file::FontFile;
 use crate::options::{FontChoice, Options};
 use crate::shaper::KeptLine;
 use font_shaper::{Face, FaceNames, Variation};
+use font_tables::directory::face_count;
 use std::alloc::{AllocError, Global};
 use std::mem;
 
@@ -35,10 +36,10 @@ impl<'f> LoadedFont<'f> {
         choice: FontChoice,
     ) -> Result<Option<Self>, AllocError>
         ensures found { IfOk result (λ found. option_map (λ font. (font.face.tables.file.now, font.face.tables.directory)) found
-            ≡ font_of file.now.bytes choice.index) }
+            ≡ numbered_font file.now.bytes choice.index) }
         ensures keeps { IfOk result (λ found. IfSome found (λ font. KeepsItsTables font.face)) }
     {
-        let Some(mut face) = Face::parse(alloc, file.data(), choice.index)? else {
+        let Some(mut face) = face_of(alloc, file.data(), choice.index)? else {
             return Ok(None);
         };
         set_size(&mut face, choice.size);
@@ -93,6 +94,18 @@ impl<'f> LoadedFont<'f> {
     {
         mem::replace(&mut self.kept, KeptLine::new())
     }
+}
+
+/// The font of this number in a file; `None` where the file has fewer fonts, as a font that is no collection has but one.
+fn face_of(alloc: Global, file: &[u8], index: u32) -> Result<Option<Face<'_>>, AllocError>
+    ensures found { IfOk result (λ found.
+        option_map (λ face. (face.tables.file.now, face.tables.directory)) found ≡ numbered_font file.now index) }
+    ensures keeps { IfOk result (λ found. IfSome found KeepsItsTables) }
+{
+    if index >= face_count(file) {
+        return Ok(None);
+    }
+    Face::parse(alloc, file, index)
 }
 
 /// Says how long an em is, where that is said.

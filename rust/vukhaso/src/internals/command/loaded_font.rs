@@ -6,6 +6,7 @@ use crate::command::font_file::FontFile;
 use crate::command::options::{FontChoice, Options};
 use crate::command::shaper::KeptLine;
 use crate::font_shaper::{Face, FaceNames, Variation};
+use crate::font_tables::directory::face_count;
 use crate::memory::{AllocError, Vec};
 use std::mem;
 
@@ -30,7 +31,7 @@ impl<'f> LoadedFont<'f> {
     ///
     /// `Err(AllocError)` where memory runs out.
     pub(crate) fn new(file: &'f FontFile, choice: FontChoice) -> Result<Option<Self>, AllocError> {
-        let Some(mut face) = Face::parse_if_there(file.data(), choice.index)? else {
+        let Some(mut face) = face_of(file.data(), choice.index)? else {
             return Ok(None);
         };
         set_size(&mut face, choice.size);
@@ -78,6 +79,15 @@ impl<'f> LoadedFont<'f> {
     pub(crate) fn take_kept(&mut self) -> KeptLine {
         mem::replace(&mut self.kept, KeptLine::new())
     }
+}
+
+/// The font of this number in a file; `None` where the file has fewer fonts, as a font that is no
+/// collection has but one.
+fn face_of(file: &[u8], index: u32) -> Result<Option<Face<'_>>, AllocError> {
+    if index >= face_count(file) {
+        return Ok(None);
+    }
+    Face::parse_if_there(file, index)
 }
 
 /// Says how long an em is, where that is said.

@@ -6,7 +6,7 @@ use Rattle.shape_command.proofs.loaded_font.LoadedFont.new.Goals as goal
 
 pub returns-clause-keeps : goal.returns-clause-keeps
 returns-clause-keeps c =
-    let found : c.parse.result ≡ Ok (Some c.in-Some.face) = grind (arith, common_steps) in
-    let parsed = subst (λ r. IfOk r (λ f. IfSome f KeepsItsTables)) found c.parse.ensures.keeps in
+    let found : c.face_of.result ≡ Ok (Some c.in-Some.face) = grind (arith, common_steps) in
+    let parsed = subst (λ r. IfOk r (λ f. IfSome f KeepsItsTables)) found c.face_of.ensures.keeps in
     c.set_named_instance.ensures.kept
     (c.set_points.ensures.keeps (c.set_pixels.ensures.keeps (c.set_size.ensures.keeps parsed)))
