@@ -39,7 +39,7 @@ pub record IsApplyContext (substitutions : Substitutions) (lookup : Lookup) (s :
   pub iterator : ctx.iterator ≡ over_input lookup.lookup_props substitutions.options false
   pub context : ctx.context ≡ over_context lookup.lookup_props substitutions.options false
   pub syllable : ctx.syllable ≡ syllable_at substitutions.options s
-  pub level : ctx.is_level ≡ true
+  pub level : ctx.is_level ≡ (length s.out == s.idx)
 
 -- the edit of the first subtable of a lookup that has one at the cursor
 pub record IsDecided (substitutions : Substitutions) (lookup : Lookup) (is_nested : Bool) (s : State) (edit : Option Edit) : Type 0 where

@@ -1,4 +1,4 @@
-use Rattle.std.proofs.Common.{refl, true}
+use Rattle.std.proofs.Common.{ap, ◌∙◌, length, ◌==◌}
 use Rattle.glyph_layout.specs.declared.search.ApplyContext.{ApplyContext}
 use Rattle.glyph_substitution.proofs.nested.decide.Goals as goal
 
@@ -10,7 +10,7 @@ returns-clause-decided c = λ steps.
       iterator = c.over_input.result;
       context = c.over_context.result;
       syllable = c.syllable_at.result;
-      is_level = true;
+      is_level = c.out_len.result == c.idx.result;
     } in
     record {
       ctx = ctx;
@@ -20,7 +20,8 @@ returns-clause-decided c = λ steps.
         iterator = c.over_input.ensures;
         context = c.over_context.ensures;
         syllable = c.syllable_at.ensures;
-        level = refl;
+        level = ap (λ k. k == c.idx.result) c.out_len.ensures.out_len
+            ∙ ap (λ k. length c.args.buffer.now.out == k) c.idx.ensures;
       };
       first = c.edit_at.ensures.first steps;
     }

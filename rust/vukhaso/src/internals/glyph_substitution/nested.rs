@@ -78,7 +78,7 @@ fn decide<'a>(
         iterator: SkippingIterator::over_input(lookup.lookup_props, options, false),
         context: SkippingIterator::over_context(lookup.lookup_props, options, false),
         syllable: syllable_at(buffer, options),
-        is_level: true,
+        is_level: buffer.out_len() == buffer.idx(),
     };
     progress.search.reach = Reach::none(ctx.out.len());
     let is_nested = depth < MAX_NESTING_LEVEL;
