@@ -227,13 +227,13 @@ fn last_taken(
 /// The last place from `from` up to `to` whose glyph counts.
 fn last_counted(
     glyphs: &[hb_glyph_info_t],
-    iterator: &SkippingIterator,
+    skipping: &SkippingIterator,
     from: usize,
     to: usize,
 ) -> Option<usize>
-    ensures counts { IfSome result (λ place. counts_at iterator.now glyphs.now place ≡ true) }
-    ensures last { IfSome result (λ place. NoneCounts iterator.now glyphs.now (place + 1) to) }
-    ensures none { result ≡ None → NoneCounts iterator.now glyphs.now from to }
+    ensures counts { IfSome result (λ place. counts_at skipping.now glyphs.now place ≡ true) }
+    ensures last { IfSome result (λ place. NoneCounts skipping.now glyphs.now (place + 1) to) }
+    ensures none { result ≡ None → NoneCounts skipping.now glyphs.now from to }
 {
     let mut end = to;
     for _turn in from..to {
@@ -241,7 +241,7 @@ fn last_counted(
             return None;
         }
         end -= 1;
-        if counts_at(glyphs, end, iterator) {
+        if counts_at(glyphs, end, skipping) {
             return Some(end);
         }
     }

@@ -7,5 +7,5 @@ abbrev pub invariant-loop-turn : goal.invariant-loop-turn
 invariant-loop-turn l = record {
   far : l.end + (l._turn - l.from) ≡ l.to;
   within : l.end ≤ l.to;
-  none : NoneCounts l.iterator l.glyphs l.end l.to;
+  none : NoneCounts l.skipping l.glyphs l.end l.to;
 }

@@ -226,7 +226,7 @@ fn last_taken(
 /// The last place from `from` up to `to` whose glyph counts.
 fn last_counted(
     glyphs: &[hb_glyph_info_t],
-    iterator: &SkippingIterator,
+    skipping: &SkippingIterator,
     from: usize,
     to: usize,
 ) -> Option<usize> {
@@ -236,7 +236,7 @@ fn last_counted(
             return None;
         }
         end -= 1;
-        if counts_at(glyphs, end, iterator) {
+        if counts_at(glyphs, end, skipping) {
             return Some(end);
         }
     }
