@@ -1,5 +1,5 @@
 -- How the clusters of a text run along the line.
-use Rattle.std.proofs.Common.{◌≡◌, ◌<◌, Bool, true, false, [], ◌++◌, length}
+use Rattle.std.proofs.Common.{◌≡◌, ◌<◌, ◌≤◌, Bool, true, false, [], ◌++◌, length}
 use Rattle.std.proofs.Common.{refl, sym, ap, ◌∙◌, subst}
 use Rattle.std.specs.Prelude.{not, Result, Ok, Err, IfOk, if◌then◌else◌}
 use Rattle.rb_common.specs.Direction.{is_forward}
@@ -92,3 +92,8 @@ pub of_guessed : {E : Type 0} (s b : State) (r : Result State E) → b ≡ guess
     → IfOk r (ShapedClusters s)
 of_guessed s b (Ok g) e h = shaped_guessed s g (subst (λ (x : State). ShapedClusters x g) e h)
 of_guessed s b (Err x) e h = tt
+
+pub within_guessed : {E : Type 0} (s b : State) (r : Result State E) → b ≡ guessed s
+    → IfOk r (λ glyphs. length glyphs.input ≤ (enter b).max_len) → IfOk r (λ glyphs. length glyphs.input ≤ (enter s).max_len)
+within_guessed s b (Ok g) e h = subst (λ (x : State). length g.input ≤ (enter x).max_len) e h
+within_guessed s b (Err x) e h = tt
