@@ -13,6 +13,7 @@ extern crate alloc;
 extern crate std;
 
 #[allow(
+    clippy::approx_constant,
     clippy::assign_op_pattern,
     clippy::collapsible_if,
     clippy::collapsible_match,
