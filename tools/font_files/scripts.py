@@ -34,39 +34,60 @@ INDIC = {
 }
 
 
-def indic(name, old=False, bare=False):
-    """A font of a script of India, by the older or the newer rules of its letters, or with forms below a letter alone."""
-    start, tags = INDIC[name]
-    codes = [number for number in assigned(start, start + 0x7F)] + ([0x0951, 0x0952, 0x0964] if start != 0x0900 else [])
-    have = {number - start for number in codes}
-    letters = [at for at in range(0x15, 0x3A) if at in have]
+class Letters:
+    """The characters of a script of India that its font has, as rules write them: by how far they stand behind the first of the block."""
 
-    def c(*offsets):
-        return " ".join(code(start + at) for at in offsets)
+    HALANT, RA = 0x4D, 0x30
 
-    halant, ra = 0x4D, 0x30
-    plain = [at for at in letters if at not in (ra, 0x15, 0x2F, 0x32, 0x35, 0x37, 0x2C)]
+    def __init__(self, name, old):
+        self.name, self.old = name, old
+        self.start, self.tags = INDIC[name]
+        start = self.start
+        self.codes = [number for number in assigned(start, start + 0x7F)] + ([0x0951, 0x0952, 0x0964] if start != 0x0900 else [])
+        self.have = {number - start for number in self.codes}
+        special = (self.RA, 0x15, 0x2F, 0x32, 0x35, 0x37, 0x2C)
+        self.plain = [at for at in range(0x15, 0x3A) if at in self.have and at not in special]
 
-    def below(at):
-        return f"{c(at, halant) if old else c(halant, at)} > {c(at)}.below"
+    def __call__(self, *offsets):
+        return " ".join(code(self.start + at) for at in offsets)
 
-    def of(tag, *rules):
-        return {tag: [list(rules)]}
+    def behind_halant(self, at):
+        """A letter that takes a form after another one: behind the halant, or before it by the older rules."""
+        return self(at, self.HALANT) if self.old else self(self.HALANT, at)
 
-    rules = merged(
-        of("nukt", *(f"{c(at, 0x3C)} > {c(at)}.nukta" for at in (0x15, 0x1C, ra) if 0x3C in have and at in have)) if 0x3C in have else {},
+    def formed(self, at, form):
+        return f"{self.behind_halant(at)} > {self(at)}.{form}"
+
+
+def of(tag, *rules):
+    return {tag: [list(rules)]}
+
+
+def forms_of_letters(c):
+    """The rules that give letters of a syllable their forms."""
+    halant, ra, have, plain = c.HALANT, c.RA, c.have, c.plain
+    is_southern = c.name in ("malayalam", "telugu")
+    return [
+        of("nukt", *(f"{c(at, 0x3C)} > {c(at)}.nukta" for at in (0x15, 0x1C, ra) if at in have)) if 0x3C in have else {},
         of("akhn", f"{c(0x15, halant)} {c(0x37) if 0x37 in have else c(0x15)} > k_ssa"),
-        of("rphf", f"{c(ra, halant)} > reph", *([f"{c(ra, halant)} 200D > reph.joined"] if name in ("telugu", "sinhala") else [])),
-        of("rkrf", *(f"{c(at, halant, ra)} > {c(at)}.ra" for at in (0x15, 0x24))) if name in ("devanagari", "gujarati") else {},
-        of("pref", f"{c(ra, halant) if old else c(halant, ra)} > ra.pref") if name in ("malayalam", "telugu") else {},
-        of("blwf", *(below(at) for at in (0x32, 0x35, 0x2C, *([ra] if name not in ("malayalam", "telugu") else [])) if at in have)),
-        of("abvf", below(0x28).replace("below", "above")),
+        of("rphf", f"{c(ra, halant)} > reph", *([f"{c(ra, halant)} 200D > reph.joined"] if c.name in ("telugu", "sinhala") else [])),
+        of("rkrf", *(f"{c(at, halant, ra)} > {c(at)}.ra" for at in (0x15, 0x24))) if c.name in ("devanagari", "gujarati") else {},
+        of("pref", f"{c.behind_halant(ra)} > ra.pref") if is_southern else {},
+        of("blwf", *(c.formed(at, "below") for at in (0x32, 0x35, 0x2C, *([] if is_southern else [ra])) if at in have)),
+        of("abvf", c.formed(0x28, "above")),
         of("half", *(f"{c(at, halant)} > {c(at)}.half" for at in plain[:8] + [0x15])),
-        of("pstf", below(0x2F).replace("below", "post")),
-        of("vatu", *(f"{c(at)} {c(ra)}.below > {c(at)}.vatu" for at in plain[:2])) if name not in ("malayalam", "telugu") else {},
+        of("pstf", c.formed(0x2F, "post")),
+        {} if is_southern else of("vatu", *(f"{c(at)} {c(ra)}.below > {c(at)}.vatu" for at in plain[:2])),
         of("cjct", f"{c(0x24, halant, 0x24)} > t_ta", f"{c(plain[0])}.half {c(plain[1])} > h_c"),
-        of("init", f"{c(0x47)} > {c(0x47)}.init") if name == "bengali" else {},
-        of("pres", f"{c(0x24)} {c(0x3F)} > t_i" if name == "tamil" else f"{c(0x3F, 0x24)} > i_t", f"{c(plain[2])}.half {c(plain[3])} > p_q"),
+    ]
+
+
+def forms_of_syllables(c):
+    """The rules over the syllable as it is ordered."""
+    halant, plain = c.HALANT, c.plain
+    return [
+        of("init", f"{c(0x47)} > {c(0x47)}.init") if c.name == "bengali" else {},
+        of("pres", f"{c(0x24)} {c(0x3F)} > t_i" if c.name == "tamil" else f"{c(0x3F, 0x24)} > i_t", f"{c(plain[2])}.half {c(plain[3])} > p_q"),
         of("abvs", f"{c(0x24)} reph > t_reph", f"reph {c(0x02)} > reph_dot"),
         of("blws", f"{c(0x24, 0x41)} > t_u"),
         of("psts", f"{c(0x24, 0x40)} > t_ii"),
@@ -75,15 +96,28 @@ def indic(name, old=False, bare=False):
         {"blwf": [[f"{c(0x28)} [{c(halant, plain[4])}] > {c(plain[4])}.behind"]], "pstf": [[f"[{c(halant, plain[5])}] {c(0x28)} > {c(plain[5])}.ahead"]],
          "pres": [[f"{c(plain[6])} [{c(plain[7])}] > {c(plain[7])}.after"]], "psts": [[f"[{c(plain[6])}] {c(0x28)} > {c(plain[6])}.before"]],
          "abvs": [["25CC > 25CC.abvs"]]},
-    )
+    ]
+
+
+def bare_rules(c, rules):
+    """Forms below a letter alone, with letters that are parted before and put together again."""
+    halant, ra = c.HALANT, c.RA
+    twice = {"nukt": [[f"{c(ra)} > {c(ra)} ra.second"]], "rphf": [[f"{c(ra)} ra.second {c(halant)} > reph"]],
+             "half": [[f"{c(0x15, halant)} > k.half", f"{c(0x16, halant)} > {c(halant)}"]]}
+    return merged(twice, {tag: rules[tag] for tag in ("blwf", "rphf") if tag in rules})
+
+
+def indic(name, old=False, bare=False):
+    """A font of a script of India, by the older or the newer rules of its letters, or with forms below a letter alone."""
+    c = Letters(name, old)
+    rules = merged(*forms_of_letters(c), *forms_of_syllables(c))
     if bare:
-        twice = {"nukt": [[f"{c(ra)} > {c(ra)} ra.second"]], "rphf": [[f"{c(ra)} ra.second {c(halant)} > reph"]], "half": [[f"{c(0x15, halant)} > k.half", f"{c(0x16, halant)} > {c(halant)}"]]}
-        rules = merged(twice, {tag: rules[tag] for tag in ("blwf", "rphf") if tag in rules})
+        rules = bare_rules(c, rules)
     else:
-        rules = merged(rules, probes([code(start + at) for at in plain[8:]],
+        rules = merged(rules, probes([c(at) for at in c.plain[8:]],
                                      "rphf pref half blwf abvf pstf cjct init pres abvs blws psts haln calt liga clig".split()))
-    chosen = tags.split()[:1] if old else tags.split()[1:]
-    return font(f"Vukhaso {name.title()}", codes, chosen, rules)
+    tags = c.tags.split()
+    return font(f"Vukhaso {name.title()}", c.codes, tags[:1] if old else tags[1:], rules)
 
 
 # ---- others with syllables

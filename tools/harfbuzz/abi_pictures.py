@@ -10,9 +10,11 @@ import functools
 import os
 import subprocess
 import tarfile
+from collections.abc import Callable
 from dataclasses import dataclass, field
 from pathlib import Path
 
+from abi_office import converted, installed, office_page, without_dates
 from abi_texts import ASS_LINES, GTK_TEXTS, HB_VIEW_TEXTS, PANGO_TEXTS, PIL_TEXTS, QT_TEXTS
 from sources import FETCHED, SOURCES, apt, unpacked, with_lists
 
@@ -31,11 +33,12 @@ FONTCONFIG = """<?xml version="1.0"?><!DOCTYPE fontconfig SYSTEM "fonts.dtd">
 
 @dataclass
 class Picture:
-    """What is run for a picture, and what it is called."""
+    """What is run for a picture, what it is called, and which of its bytes count."""
 
     name: str
     words: list
     environment: dict = field(default_factory=dict)
+    counting: Callable = bytes
 
 
 @functools.cache
@@ -145,19 +148,35 @@ def display():
     return f":{screen.stdout.readline().strip()}"
 
 
+def windowed(packages):
+    """The environment of a program of GTK's, with a screen."""
+    data = f"{folders(packages, 'usr/share')}:/usr/share"
+    return {"LD_LIBRARY_PATH": libraries(packages), "DISPLAY": display(), "GDK_BACKEND": "x11", "XDG_DATA_DIRS": data}
+
+
 def gtk(out):
     packages = [*needed("gir1.2-gtk-3.0"), *needed("python3-gi")]
-    environment = {
-        "LD_LIBRARY_PATH": libraries(packages), "PYTHONPATH": folders(packages, MODULES), "DISPLAY": display(), "GDK_BACKEND": "x11",
-        "GI_TYPELIB_PATH": folders(packages, f"{LIBRARIES}/girepository-1.0"), "XDG_DATA_DIRS": f"{folders(packages, 'usr/share')}:/usr/share",
-    }
+    modules = {"PYTHONPATH": folders(packages, MODULES), "GI_TYPELIB_PATH": folders(packages, f"{LIBRARIES}/girepository-1.0")}
     for line in GTK_TEXTS:
-        yield Picture(line, [PYTHON, PARTS / "with_gtk.py", *line.split("|"), out], environment)
+        yield Picture(line, [PYTHON, PARTS / "with_gtk.py", *line.split("|"), out], windowed(packages) | modules)
+
+
+def gtk4(out):
+    packages = needed("libgtk-4-1")
+    for line in GTK_TEXTS:
+        yield Picture(line, [PYTHON, PARTS / "with_gtk4.py", *line.split("|"), out], windowed(packages) | {"GSK_RENDERER": "cairo"})
+
+
+def libreoffice(out):
+    tree, room = installed(needed("libreoffice-writer"), KEPT / "office"), KEPT / "office-room"
+    room.mkdir(exist_ok=True)
+    (room / "page.fodt").write_text(office_page(QT_TEXTS))
+    yield Picture("a page", converted(tree, room, out), {"HOME": str(room)}, without_dates)
 
 
 PROGRAMS = {
     "pango-view": pango_view, "PIL": pil, "rsvg-convert": rsvg_convert, "libass": libass, "hb-view": hb_view, "Qt": qt,
-    "GTK": gtk,
+    "GTK": gtk, "GTK-4": gtk4, "LibreOffice": libreoffice,
 }
 
 
@@ -167,10 +186,10 @@ def drawn(picture, library, common, out):
         out.unlink()
     environment = {**os.environ, **common, **picture.environment}
     environment["LD_LIBRARY_PATH"] = f"{library}:{picture.environment.get('LD_LIBRARY_PATH', '')}"
-    ran = subprocess.run(picture.words, env=environment, capture_output=True, text=True, errors="replace", timeout=200)
+    ran = subprocess.run(picture.words, env=environment, capture_output=True, text=True, errors="replace", timeout=600)
     if not out.exists():
         return None, ran.stderr.strip()
-    return out.read_bytes(), ran.stderr.strip()
+    return picture.counting(out.read_bytes()), ran.stderr.strip()
 
 
 def compared(sides, wanted):

@@ -38,6 +38,7 @@ fonts-hosny-amiri/Amiri-Regular.ttf|||بِسْمِ ٱللَّٰهِ 123 ABC
 noto/NotoSansDevanagari-Regular.ttf|hi||क्षत्रिय हिन्दी र्क श्री कि
 noto/NotoSansThai-Regular.ttf|||ภาษาไทย น้ำ ปิ่น
 noto/NotoSansHebrew-Regular.ttf|||שָׁלוֹם עולם
+noto/NotoNastaliqUrdu-Regular.ttf|ur||یہ اردو نستعلیق ہے
 noto/NotoSansMyanmar-Regular.ttf|||မြန်မာဘာသာ
 noto/NotoSansKhmer-Regular.ttf|||ភាសាខ្មែរ
 noto/NotoSansTamil-Regular.ttf|||தமிழ் கொ

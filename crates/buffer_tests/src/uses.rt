@@ -4,6 +4,7 @@ use crate::probes::references::*;
 use rb_glyph::NoGlyphNames;
 use shaping_buffer::{Feature, Flags, SerializeFlags, UnicodeBuffer, hb_buffer_t, hb_glyph_info_t};
 use shaping_runs::Answer;
+use shaping_uses::deletion::delete_every_second;
 use shaping_uses::groups::{count_clusters, reverse_clusters, reverse_with_marks};
 use shaping_uses::in_place::*;
 use shaping_uses::ligature::ligate;
@@ -304,4 +305,14 @@ fn f_and_i_are_ligated(rt: HostRuntime) {
     assert!(rt; ligate(&mut buffer) == Ok(true));
     assert_ids(&rt, buffer.info(), &[0xFB01, 102, 97, 105, 102]);
     assert_clusters(&rt, buffer.info(), &[0, 2, 3, 4, 5]);
+}
+
+/// The second glyph goes, and the fourth, and no others.
+#[test]
+fn every_second_glyph_is_deleted(rt: HostRuntime) {
+    let mut buffer = buffer_of(&rt, rt.alloc(), "abcde");
+    assert!(rt; !buffer.have_output() && buffer.successful());
+    assert!(rt; delete_every_second(&mut buffer) == Ok(true));
+    assert_ids(&rt, buffer.info(), &[97, 99, 101]);
+    assert_clusters(&rt, buffer.info(), &[0, 2, 4]);
 }

@@ -37,9 +37,11 @@ fn lines_are_taken(rt: HostRuntime) -> Result<(), Fail> {
 #[test]
 fn answers_are_written(rt: HostRuntime) -> Result<(), Fail> {
     let glyphs = Answer::Glyphs(String::from_str(rt.alloc(), "a=0+600|b=1+600")?);
-    let rows: [(&Answer, &[u8]); 3] = [
+    let objects = Answer::Objects(b"{}".to_vec(rt.alloc())?);
+    let rows: [(&Answer, &[u8]); 4] = [
         (&Answer::Empty, b"\n"),
         (&glyphs, b"[a=0+600|b=1+600]\n"),
+        (&objects, b"[{}]\n"),
         (&Answer::Failed, b"error: Shaping failed.\n"),
     ];
     for (answer, wanted) in rows {

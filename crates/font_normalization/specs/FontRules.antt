@@ -1,20 +1,14 @@
 -- What normalization asks of a font and of the rules of a script.
-use Rattle.std.specs.Prelude.{ℕ, Bool, ◌&&◌, Option, Some, None, option_map, unwrap_or, is_some, if◌then◌else◌}
+use Rattle.std.specs.Prelude.{ℕ, Bool, ◌&&◌, Option, Some, None, option_map, unwrap_or, if◌then◌else◌}
 use Rattle.std.specs.Option.{option_or}
 use Rattle.ucd_normal.specs.Decomposition.{canonical_mapping}
 use Rattle.unicode_tables.specs.Mapping as mapping
-use Rattle.character_maps.specs.Codes.{glyph_index}
 use Rattle.script_shapers.specs.Shapers.{has_own_parts, own_parts, has_own_composite, own_composite, other_composite}
 use Rattle.script_shapers.specs.declared.shaper.ScriptShaper.{ScriptShaper}
 use Rattle.shaping_passes.specs.NormalizationParts.{is_character, hangul_parts, hangul_syllable}
 use Rattle.shaping_passes.specs.NormalizationDecomposition.{Font}
 use Rattle.shaping_passes.specs.NormalizationComposition.{Pairs}
 use Rattle.font_normalization.specs.Marks.{is_mark}
-use Rattle.font_face.specs.declared.face.Face.{Face}
-
--- the font has a glyph for the character
-abbrev pub has_glyph : Face → ℕ → Bool
-has_glyph face c = is_some (glyph_index face.characters.subtable.now face.characters.encoding c)
 
 -- two parts, with 0 where there is no second
 abbrev pub with_zero : Option (ℕ × Option ℕ) → Option (ℕ × ℕ)
@@ -30,9 +24,9 @@ parts_of_char shaper c =
 abbrev pub parts_of : ScriptShaper → ℕ → Option (ℕ × ℕ)
 parts_of shaper c = if is_character c then parts_of_char shaper c else None
 
--- how the characters of a text are taken apart
-abbrev pub font_of : Face → ScriptShaper → Bool → Font
-font_of face shaper fewest = record { has = has_glyph face; parts = parts_of shaper; fewest = fewest }
+-- how the characters of a text are taken apart with a font that has these characters
+abbrev pub font_of : (ℕ → Bool) → ScriptShaper → Bool → Font
+font_of has shaper fewest = record { has = has; parts = parts_of shaper; fewest = fewest }
 
 -- ---- composition
 
@@ -43,13 +37,13 @@ composite_of shaper has_gpos_mark a b =
     else option_or (hangul_syllable a b) (other_composite shaper has_gpos_mark a b)
 
 -- a character that the font has a glyph for
-abbrev pub if_there : Face → Option ℕ → Option ℕ
-if_there face None = None
-if_there face (Some c) = if has_glyph face c then Some c else None
+abbrev pub if_there : (ℕ → Bool) → Option ℕ → Option ℕ
+if_there has None = None
+if_there has (Some c) = if has c then Some c else None
 
 -- what a starter and a mark compose to, if the font has it; what is no mark composes to nothing
-abbrev pub pairs_of : Face → ScriptShaper → Bool → Pairs
-pairs_of face shaper has_gpos_mark starter g =
+abbrev pub pairs_of : (ℕ → Bool) → ScriptShaper → Bool → Pairs
+pairs_of has shaper has_gpos_mark starter g =
     if is_mark g && (is_character starter.glyph_id && is_character g.glyph_id)
-    then if_there face (composite_of shaper has_gpos_mark starter.glyph_id g.glyph_id)
+    then if_there has (composite_of shaper has_gpos_mark starter.glyph_id g.glyph_id)
     else None

@@ -15,7 +15,7 @@ mod variations;
 use crate::cluster_level::allows_any_order;
 use crate::glyph_info::is_unicode_mark;
 use decomposition::decompose_all;
-use font_face::Face;
+use font_functions::FontFunctions;
 use recomposition::recompose_all;
 use reordering::{reorder_marks, unhide_joiners};
 use script_shapers::{NormalizationMode, ScriptPlan};
@@ -28,9 +28,9 @@ use std::alloc::AllocError;
 /// A script's shaper says whether characters are composed, what they compose to and in which order marks stand. The characters are to have
 /// the properties that `set_unicode_props` gives them. Requires that no output is open. `Err(AllocError)` where memory runs out.
 #[tactic(auto, using(shaping_buffer::proofs::ClosedKeepsLemmas::kept))]
-pub fn normalize(
+pub fn normalize<F: FontFunctions>(
     buffer: &mut hb_buffer_t,
-    face: &Face,
+    font: &F,
     script: &ScriptPlan,
 ) -> Result<bool, AllocError>
     requires { buffer.old.have_output ≡ false }
@@ -39,7 +39,7 @@ pub fn normalize(
 {
     let has_marks = has_marks(buffer.info());
     let composes = script.shaper.normalization_mode() != NormalizationMode::Nothing;
-    if !decompose_all(buffer, face, script.shaper)? {
+    if !decompose_all(buffer, font, script.shaper)? {
         return Ok(false);
     }
     if !has_marks {
@@ -51,7 +51,7 @@ pub fn normalize(
     if !composes {
         return Ok(true);
     }
-    recompose_all(buffer, face, script)
+    recompose_all(buffer, font, script)
 }
 
 /// Shows the grapheme joiners that marks may have passed, where the text has any.

@@ -5,7 +5,7 @@ ghost use Rattle.shaping_buffer.specs.Clusters.{clusters};
 ghost use Rattle.shaping_buffer.specs.KeepsClusters.{KeepsClusters};
 
 use crate::positions::take_width_at;
-use font_face::Face;
+use font_functions::FontFunctions;
 use font_normalization::glyph_info::{clear_variation_selector, is_variation_selector};
 use rb_common::GlyphId;
 use shaping_buffer::{
@@ -77,7 +77,7 @@ fn show_variation_selector(infos: &mut [hb_glyph_info_t], place: usize, glyph: u
 /// Hides the glyphs of characters that are invisible by default: the font's space stands for them, where the buffer has no
 /// glyph for that. Requires positions, and that no output is open.
 #[tactic(auto, using(shaping_buffer::proofs::ClosedKeepsLemmas::kept))]
-pub fn hide_ignorables(buffer: &mut hb_buffer_t, face: &Face)
+pub fn hide_ignorables<F: FontFunctions>(buffer: &mut hb_buffer_t, font: &F)
     requires closed { buffer.old.have_output ≡ false }
     requires placed { IsSome buffer.old.positions }
     ensures closed { buffer.new.have_output ≡ false }
@@ -90,7 +90,7 @@ pub fn hide_ignorables(buffer: &mut hb_buffer_t, face: &Face)
     let invisible = buffer.invisible;
     let glyph = match invisible {
         Some(glyph) => Some(glyph),
-        None => face.glyph_index(0x20),
+        None => font.nominal_glyph(0x20),
     };
     set_invisible(buffer, glyph);
     hide_all(buffer);

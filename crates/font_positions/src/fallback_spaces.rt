@@ -6,6 +6,7 @@ ghost use Rattle.font_positions.specs.FontPositions.{AreTheFonts};
 use crate::glyph_info::has_ligated;
 use crate::kept_positions::FontPositions;
 use font_face::Face;
+use font_functions::FontFunctions;
 use font_normalization::glyph_info::{is_unicode_space, space_fallback};
 use rb_common::GlyphId;
 use shaping_buffer::hb_glyph_info_t;
@@ -18,14 +19,14 @@ use std::alloc::AllocError;
 /// The advance of a glyph, of which the font says `own`. If it stands for a space that the font has no glyph for, the kind of
 /// the space decides: it is a part of an em, or that of another character. A space of no such kind that has the buffer's
 /// invisible glyph is a quarter of an em.
-pub(crate) fn space_advance(
+pub(crate) fn space_advance<F: FontFunctions>(
     info: &hb_glyph_info_t,
     own: i32,
-    positions: &mut FontPositions,
+    positions: &mut FontPositions<F>,
     invisible: Option<GlyphId>,
 ) -> Result<i32, AllocError>
-    requires { AreTheFonts positions.old }
-    ensures kept { AreTheFonts positions.new }
+    requires { AreTheFonts (F.may_advance positions.old.font.now) positions.old.is_horizontal positions.old.kept }
+    ensures kept { AreTheFonts (F.may_advance positions.new.font.now) positions.new.is_horizontal positions.new.kept }
 {
     if !is_unicode_space(info) || has_ligated(info) {
         return Ok(own);
@@ -70,14 +71,17 @@ fn part_of_em(em: i64, parts: u8, is_horizontal: bool) -> i32
 }
 
 /// The advance of the first of the characters that the font has.
-fn first_advance(positions: &mut FontPositions, characters: &str) -> Result<Option<i32>, AllocError>
-    requires { AreTheFonts positions.old }
-    ensures kept { AreTheFonts positions.new }
+fn first_advance<F: FontFunctions>(
+    positions: &mut FontPositions<F>,
+    characters: &str,
+) -> Result<Option<i32>, AllocError>
+    requires { AreTheFonts (F.may_advance positions.old.font.now) positions.old.is_horizontal positions.old.kept }
+    ensures kept { AreTheFonts (F.may_advance positions.new.font.now) positions.new.is_horizontal positions.new.kept }
 {
-    let face = positions.face;
+    let font = positions.font;
     let found = characters
         .chars()
-        .find_map(|character| face.glyph_index(character as u32));
+        .find_map(|character| font.nominal_glyph(character as u32));
     match found {
         Some(glyph) => Ok(Some(positions.advance(glyph)?)),
         None => Ok(None),

@@ -2,8 +2,10 @@
 //! a place in the variations of a font each may cost as much as an outline has points, or a font has regions.
 
 ghost use Rattle.std.specs.Prelude.{◌≡◌, IfOk};
+ghost use Rattle.font_positions.specs.FontPositions.{AreTheFonts, IsTheFonts};
 
 use font_face::Face;
+use font_functions::FontFunctions;
 use rb_common::GlyphId;
 use shaping_buffer::GlyphPosition;
 use std::alloc::AllocError;
@@ -21,25 +23,26 @@ pub(crate) struct KeptPosition {
 }
 
 /// The positions of glyphs in the lines of a direction.
-#[derive(Debug, Drop)]
-pub(crate) struct FontPositions<'f, 'a> {
-    /// The font.
+#[derive(Drop)]
+pub(crate) struct FontPositions<'f, 'a, F> {
+    /// The face, which has the scale.
     pub face: &'f Face<'a>,
+    /// The functions of the font.
+    pub font: &'f F,
     /// Whether the lines are horizontal.
     pub is_horizontal: bool,
     /// Positions that were asked for: each glyph has one place, which it shares with every 256th.
     pub kept: [Option<KeptPosition>; KEPT],
 }
 
-impl<'f, 'a> FontPositions<'f, 'a> {
-    ghost use Rattle.font_positions.specs.FontPositions.{AreTheFonts, IsTheFonts};
-
+impl<'f, 'a, F: FontFunctions> FontPositions<'f, 'a, F> {
     /// The positions that a font gives.
-    pub(crate) fn new(face: &'f Face<'a>, is_horizontal: bool) -> Self
-        ensures { AreTheFonts result }
+    pub(crate) fn new(face: &'f Face<'a>, font: &'f F, is_horizontal: bool) -> Self
+        ensures { AreTheFonts (F.may_advance result.font.now) result.is_horizontal result.kept }
     {
         FontPositions {
             face,
+            font,
             is_horizontal,
             kept: [None; KEPT],
         }
@@ -47,11 +50,12 @@ impl<'f, 'a> FontPositions<'f, 'a> {
 
     /// The position of a glyph.
     pub(crate) fn position(&mut self, glyph: GlyphId) -> Result<GlyphPosition, AllocError>
-        requires { AreTheFonts self.old }
-        ensures kept { AreTheFonts self.new }
-        ensures face { self.new.face ≡ self.old.face }
+        requires { AreTheFonts (F.may_advance self.old.font.now) self.old.is_horizontal self.old.kept }
+        ensures kept { AreTheFonts (F.may_advance self.new.font.now) self.new.is_horizontal self.new.kept }
+        ensures font { self.new.font ≡ self.old.font }
         ensures direction { self.new.is_horizontal ≡ self.old.is_horizontal }
-        ensures position { IfOk result (λ position. IsTheFonts self.old.face.now self.old.is_horizontal glyph.0 position) }
+        ensures position { IfOk result (λ position.
+            IsTheFonts (F.may_advance self.old.font.now) self.old.is_horizontal glyph.0 position) }
     {
         let place = usize::from(glyph.0) % KEPT;
         if let Some(kept) = self.kept[place]
@@ -59,16 +63,16 @@ impl<'f, 'a> FontPositions<'f, 'a> {
         {
             return Ok(kept.position);
         }
-        let position = Self::font_position(self.face, glyph, self.is_horizontal)?;
+        let position = font_position(self.font, glyph, self.is_horizontal)?;
         self.kept[place] = Some(KeptPosition { glyph, position });
         Ok(position)
     }
 
     /// The advance of a glyph along the line.
     pub(crate) fn advance(&mut self, glyph: GlyphId) -> Result<i32, AllocError>
-        requires { AreTheFonts self.old }
-        ensures kept { AreTheFonts self.new }
-        ensures face { self.new.face ≡ self.old.face }
+        requires { AreTheFonts (F.may_advance self.old.font.now) self.old.is_horizontal self.old.kept }
+        ensures kept { AreTheFonts (F.may_advance self.new.font.now) self.new.is_horizontal self.new.kept }
+        ensures font { self.new.font ≡ self.old.font }
         ensures direction { self.new.is_horizontal ≡ self.old.is_horizontal }
     {
         let position = self.position(glyph)?;
@@ -78,27 +82,27 @@ impl<'f, 'a> FontPositions<'f, 'a> {
             position.y_advance
         })
     }
+}
 
-    /// The position that the font gives a glyph.
-    fn font_position(
-        face: &Face,
-        glyph: GlyphId,
-        is_horizontal: bool,
-    ) -> Result<GlyphPosition, AllocError>
-        ensures { IfOk result (λ position. IsTheFonts face.now is_horizontal glyph.0 position) }
-    {
-        if is_horizontal {
-            return Ok(GlyphPosition {
-                x_advance: face.glyph_hor_advance(glyph),
-                ..GlyphPosition::default()
-            });
-        }
-        let (x, y) = face.vertical_origin(glyph)?;
-        Ok(GlyphPosition {
-            y_advance: face.glyph_ver_advance(glyph),
-            x_offset: x.wrapping_neg(),
-            y_offset: y.wrapping_neg(),
+/// The position that the font gives a glyph.
+fn font_position<F: FontFunctions>(
+    font: &F,
+    glyph: GlyphId,
+    is_horizontal: bool,
+) -> Result<GlyphPosition, AllocError>
+    ensures { IfOk result (λ position. IsTheFonts (F.may_advance font.now) is_horizontal glyph.0 position) }
+{
+    if is_horizontal {
+        return Ok(GlyphPosition {
+            x_advance: font.glyph_h_advance(glyph),
             ..GlyphPosition::default()
-        })
+        });
     }
+    let (x, y) = font.glyph_v_origin(glyph)?;
+    Ok(GlyphPosition {
+        y_advance: font.glyph_v_advance(glyph),
+        x_offset: x.wrapping_neg(),
+        y_offset: y.wrapping_neg(),
+        ..GlyphPosition::default()
+    })
 }

@@ -9,6 +9,7 @@ use crate::glyph_info::{is_default_ignorable, is_mark};
 use crate::kept_positions::FontPositions;
 use apple_substitution::deletion::is_deleted;
 use font_face::Face;
+use font_functions::FontFunctions;
 use rb_common::GlyphId;
 use shaping_buffer::{
     BufferFlags, Flags, GlyphPosition, HB_BUFFER_SCRATCH_FLAG_HAS_DEFAULT_IGNORABLES,
@@ -16,11 +17,15 @@ use shaping_buffer::{
 };
 use std::alloc::AllocError;
 
-/// Gives each glyph the font's advance at its size, and in vertical lines its vertical origin. A space that the font has no glyph for
+/// Gives each glyph the font's advance at the size of its face, and in vertical lines its vertical origin. A space that the font has no glyph for
 /// is as wide as its kind says. Requires that no output is open. `Err(AllocError)` where memory runs out for the points of an outline
 /// that varies.
 #[tactic(auto, using(shaping_buffer::proofs::ClosedKeepsLemmas::kept))]
-pub fn position_glyphs(buffer: &mut hb_buffer_t, face: &Face) -> Result<(), AllocError>
+pub fn position_glyphs<F: FontFunctions>(
+    buffer: &mut hb_buffer_t,
+    face: &Face,
+    font: &F,
+) -> Result<(), AllocError>
     requires { buffer.old.have_output ≡ false }
     ensures closed { buffer.new.have_output ≡ false }
     ensures placed { IsSome buffer.new.positions }
@@ -31,23 +36,23 @@ pub fn position_glyphs(buffer: &mut hb_buffer_t, face: &Face) -> Result<(), Allo
     buffer.clear_positions();
     let is_varied = !face.coordinates().is_empty();
     if is_horizontal && !has_spaces && !is_varied {
-        advance_glyphs(buffer, face);
+        advance_glyphs(buffer, font);
         return Ok(());
     }
-    let mut positions = FontPositions::new(face, is_horizontal);
+    let mut positions = FontPositions::new(face, font, is_horizontal);
     place_glyphs(buffer, &mut positions, has_spaces)
 }
 
 /// Gives each glyph its position; a space that the font has no glyph for is as wide as its kind says, if there may be some.
 #[tactic(auto, using(shaping_buffer::proofs::ClosedKeepsLemmas::kept))]
-fn place_glyphs(
+fn place_glyphs<F: FontFunctions>(
     buffer: &mut hb_buffer_t,
-    positions: &mut FontPositions,
+    positions: &mut FontPositions<F>,
     has_spaces: bool,
 ) -> Result<(), AllocError>
     requires closed { buffer.old.have_output ≡ false }
     requires placed { IsSome buffer.old.positions }
-    requires kept { AreTheFonts positions.old }
+    requires kept { AreTheFonts (F.may_advance positions.old.font.now) positions.old.is_horizontal positions.old.kept }
     ensures closed { buffer.new.have_output ≡ false }
     ensures placed { IsSome buffer.new.positions }
     ensures keeps { KeepsClusters buffer.old buffer.new }
@@ -57,19 +62,34 @@ fn place_glyphs(
         let Some(info) = buffer.info().get(i) else {
             break;
         };
-        let mut position = positions.position(glyph_of(info))?;
-        if has_spaces {
-            let advance = advance_of(&mut position, positions.is_horizontal);
-            *advance = space_advance(info, *advance, positions, invisible)?;
-        }
+        let position = position_of(info, positions, has_spaces, invisible)?;
         set_position(buffer, i, position);
     }
     Ok(())
 }
 
+/// The position of an item; if it may be a space that the font has no glyph for, as wide as its kind says.
+fn position_of<F: FontFunctions>(
+    info: &hb_glyph_info_t,
+    positions: &mut FontPositions<F>,
+    may_be_space: bool,
+    invisible: Option<GlyphId>,
+) -> Result<GlyphPosition, AllocError>
+    requires { AreTheFonts (F.may_advance positions.old.font.now) positions.old.is_horizontal positions.old.kept }
+    ensures kept { AreTheFonts (F.may_advance positions.new.font.now) positions.new.is_horizontal positions.new.kept }
+{
+    let mut position = positions.position(glyph_of(info))?;
+    if !may_be_space {
+        return Ok(position);
+    }
+    let advance = advance_of(&mut position, positions.is_horizontal);
+    *advance = space_advance(info, *advance, positions, invisible)?;
+    Ok(position)
+}
+
 /// Gives each glyph of a horizontal line the font's advance.
 #[tactic(auto, using(shaping_buffer::proofs::ClosedKeepsLemmas::kept))]
-fn advance_glyphs(buffer: &mut hb_buffer_t, face: &Face)
+fn advance_glyphs<F: FontFunctions>(buffer: &mut hb_buffer_t, font: &F)
     requires closed { buffer.old.have_output ≡ false }
     requires placed { IsSome buffer.old.positions }
     ensures closed { buffer.new.have_output ≡ false }
@@ -80,7 +100,7 @@ fn advance_glyphs(buffer: &mut hb_buffer_t, face: &Face)
         let Some(info) = buffer.info().get(i) else {
             break;
         };
-        let advance = face.glyph_hor_advance(glyph_of(info));
+        let advance = font.glyph_h_advance(glyph_of(info));
         if let Some(position) = buffer.pos_mut().get_mut(i) {
             position.x_advance = advance;
         }

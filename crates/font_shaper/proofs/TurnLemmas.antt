@@ -97,3 +97,8 @@ pub within_guessed : {E : Type 0} (s b : State) (r : Result State E) → b ≡ g
     → IfOk r (λ glyphs. length glyphs.input ≤ (enter b).max_len) → IfOk r (λ glyphs. length glyphs.input ≤ (enter s).max_len)
 within_guessed s b (Ok g) e h = subst (λ (x : State). length g.input ≤ (enter x).max_len) e h
 within_guessed s b (Err x) e h = tt
+
+pub direction_guessed : {E : Type 0} (s b : State) (r : Result State E) → b ≡ guessed s
+    → IfOk r (λ glyphs. glyphs.direction ≡ b.direction) → IfOk r (λ glyphs. glyphs.direction ≡ (guessed s).direction)
+direction_guessed s b (Ok g) e h = subst (λ (x : State). g.direction ≡ x.direction) e h
+direction_guessed s b (Err x) e h = tt

@@ -7,6 +7,7 @@ ghost use Rattle.shaping_buffer.specs.KeepsClusters.{KeepsClusters};
 use crate::lookups::budget_of;
 use crate::planning::TextPlan;
 use font_face::Face;
+use font_functions::FontFunctions;
 use glyph_layout::{Budget, would_substitute};
 use layout_plan::LayoutPlan;
 use rb_common::Tag;
@@ -16,9 +17,10 @@ use std::ops::Range;
 use syllabic_shapers::{FontForms, FormFeature, SyllablePause};
 
 /// A font with the features of a text.
-#[derive(Debug, Drop)]
-struct Forms<'a> {
+#[derive(Drop)]
+struct Forms<'a, F> {
     face: &'a Face<'a>,
+    font: &'a F,
     layout: &'a LayoutPlan,
     /// Where the lookups of each feature stand.
     places: &'a FormPlaces,
@@ -28,9 +30,9 @@ struct Forms<'a> {
     budget: Budget,
 }
 
-impl FontForms for Forms<'_> {
+impl<F: FontFunctions> FontForms for Forms<'_, F> {
     fn glyph_of(&self, character: u32) -> Option<u32> {
-        match self.face.glyph_index(character) {
+        match self.font.nominal_glyph(character) {
             Some(glyph) => Some(u32::from(glyph.0)),
             None => None,
         }
@@ -93,9 +95,10 @@ impl FormPlaces {
 
 /// Works on the syllables of a text at a pause. `Ok(false)` where a call was refused for length.
 #[tactic(auto, using(crate::proofs::StageLemmas::stages))]
-pub(crate) fn work_on_syllables(
+pub(crate) fn work_on_syllables<F: FontFunctions>(
     buffer: &mut hb_buffer_t,
     face: &Face,
+    font: &F,
     plan: &TextPlan,
     pause: SyllablePause,
 ) -> Result<bool, AllocError>
@@ -108,6 +111,7 @@ pub(crate) fn work_on_syllables(
     }
     let mut forms = Forms {
         face,
+        font,
         layout: &plan.shape.layout,
         places: &plan.forms,
         wants_no_context: plan.syllables.wants_no_context(),

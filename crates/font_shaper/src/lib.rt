@@ -11,6 +11,7 @@ mod lookups;
 mod masks;
 mod original;
 mod planning;
+mod positioning;
 mod rotation;
 mod shape_plan;
 mod shaping;
@@ -23,8 +24,11 @@ pub use comparison::{Differences, compare};
 pub use font_face::{
     Axis, ColorTables, Face, FaceNames, FaceVariations, Layout, Lookups, Variation,
 };
-pub use kept_plans::{KeptPlans, shape_with_kept_plans};
+pub use font_functions::{FontFunctions, OwnFunctions};
+pub use kept_plans::{KeptPlans, shape_with_functions_and_plans, shape_with_kept_plans};
 pub use shape_plan::{ShapePlan, shape_with_plan, shape_with_plan_watched};
-pub use shaping::{ShapeError, shape, shape_watched};
+pub use shaping::{
+    ShapeError, shape, shape_watched, shape_with_functions, shape_with_functions_watched,
+};
 pub use verification::VerifyError;
 pub use watch::{Step, Unwatched, Watch};

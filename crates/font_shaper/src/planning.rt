@@ -11,6 +11,7 @@ use crate::glyphs_of_font::FaceGlyphs;
 use apple_substitution::{ChainFlags, selected_features};
 use apple_tables::FeatureNames;
 use font_face::Face;
+use font_functions::FontFunctions;
 use font_variations::substitutions_of;
 use language_tags::LanguageTags;
 use layout_plan::{
@@ -72,8 +73,9 @@ pub(crate) struct SegmentProperties<'a> {
 }
 
 /// The plan for the text of a buffer.
-pub(crate) fn plan_of_text(
+pub(crate) fn plan_of_text<F: FontFunctions>(
     face: &Face,
+    font: &F,
     buffer: &hb_buffer_t,
     features: &[Feature],
 ) -> Result<TextPlan, AllocError>
@@ -85,12 +87,13 @@ pub(crate) fn plan_of_text(
         script: buffer.script,
         language: buffer.language.as_ref(),
     };
-    plan_for(face, &segment, features)
+    plan_for(face, font, &segment, features)
 }
 
 /// The plan for texts with these properties. The tags of a language are those that it names itself, or those of OpenType's registry.
-pub(crate) fn plan_for(
+pub(crate) fn plan_for<F: FontFunctions>(
     face: &Face,
+    font: &F,
     segment: &SegmentProperties,
     features: &[Feature],
 ) -> Result<TextPlan, AllocError>
@@ -112,12 +115,13 @@ pub(crate) fn plan_for(
         scripts: scripts.as_slice(),
         languages: languages.as_slice(),
     };
-    plan_of(face, segment, &text, features)
+    plan_of(face, font, segment, &text, features)
 }
 
 /// The plan for a text with these properties.
-fn plan_of(
+fn plan_of<F: FontFunctions>(
     face: &Face,
+    font: &F,
     segment: &SegmentProperties,
     text: &TextProperties,
     features: &[Feature],
@@ -125,7 +129,7 @@ fn plan_of(
     ensures { IfOk result (IsMadeOf face.now segment.now.direction segment.now.script
         (map (λ tag. tag.0) text.now.scripts.now)) }
 {
-    let font = FontLayout {
+    let tables = FontLayout {
         gsub: face.layout.gsub,
         gpos: face.layout.gpos,
         kern: kern_layout(face),
@@ -133,12 +137,12 @@ fn plan_of(
         gpos_substitutions: substitutions_of(face.layout.gpos, face.coordinates()),
     };
     let substitutes = substitutes_by_morx(face, segment.direction);
-    let mut builder = ShapePlan::begin(face.alloc, &font, text)?;
+    let mut builder = ShapePlan::begin(face.alloc, &tables, text)?;
     let chosen = add_features(&mut builder, segment, features, substitutes)?;
     let mut shape = ShapePlan::complete(
         face.alloc,
         builder,
-        &font,
+        &tables,
         segment.direction,
         chosen.rules,
     )?;
@@ -153,7 +157,7 @@ fn plan_of(
         &shape.layout,
         chosen.finds_script,
     );
-    let fallback = fallback_of(face, &script)?;
+    let fallback = fallback_of(face, font, &script)?;
     let forms = FormPlaces::new(&shape.layout);
     Ok(TextPlan {
         shape,
@@ -193,11 +197,16 @@ fn chain_flags_of(
 }
 
 /// The lookups that join Arabic letters, where the shaper of the script makes them.
-fn fallback_of(face: &Face, script: &ScriptPlan) -> Result<Option<FallbackLookups>, AllocError> {
+fn fallback_of<F: FontFunctions>(
+    face: &Face,
+    font: &F,
+    script: &ScriptPlan,
+) -> Result<Option<FallbackLookups>, AllocError> {
     if !script.does_fallback {
         return Ok(None);
     }
-    Ok(Some(FallbackLookups::new(face.alloc, &FaceGlyphs { face }, script)?))
+    let glyphs = FaceGlyphs { face, font };
+    Ok(Some(FallbackLookups::new(face.alloc, &glyphs, script)?))
 }
 
 /// The shaper of a script.

@@ -5,7 +5,7 @@ ghost use Rattle.shaping_buffer.specs.Clusters.{clusters};
 ghost use Rattle.shaping_buffer.specs.KeepsClusters.{KeepsClusters};
 
 use crate::glyph_info::{is_decimal_number, is_letter};
-use font_face::Face;
+use font_functions::FontFunctions;
 use font_normalization::glyph_info::{is_unicode_mark, is_unicode_space};
 use layout_plan::ShapePlan;
 use shaping_buffer::{CharExt, Direction, Mirrors, hb_buffer_t, hb_glyph_info_t};
@@ -14,9 +14,9 @@ use unicode_tables::mirrors;
 /// Replaces each character by its mirror image in text that runs backward, and by its vertical form in vertical lines,
 /// where the font has a glyph for that. A character that is not mirrored so has the feature of mirrored forms; a font that has
 /// vertical forms itself replaces characters by them later.
-pub(crate) fn rotate_characters(
+pub(crate) fn rotate_characters<F: FontFunctions>(
     buffer: &mut hb_buffer_t,
-    face: &Face,
+    font: &F,
     plan: &ShapePlan,
     direction: Direction,
 )
@@ -24,11 +24,16 @@ pub(crate) fn rotate_characters(
     ensures closed { buffer.new.have_output ≡ false }
     ensures keeps { KeepsClusters buffer.old buffer.new }
 {
-    rotate_all(buffer.info_slice_mut(), face, plan, direction);
+    rotate_all(buffer.info_slice_mut(), font, plan, direction);
 }
 
 /// Replaces each of the characters so.
-fn rotate_all(infos: &mut [hb_glyph_info_t], face: &Face, plan: &ShapePlan, direction: Direction)
+fn rotate_all<F: FontFunctions>(
+    infos: &mut [hb_glyph_info_t],
+    font: &F,
+    plan: &ShapePlan,
+    direction: Direction,
+)
     ensures { clusters infos.new ≡ clusters infos.old }
 {
     if direction.is_backward() {
@@ -37,10 +42,10 @@ fn rotate_all(infos: &mut [hb_glyph_info_t], face: &Face, plan: &ShapePlan, dire
         } else {
             None
         };
-        mirror_all(infos, face, mirrors.as_ref(), plan.rtlm_mask);
+        mirror_all(infos, font, mirrors.as_ref(), plan.rtlm_mask);
     }
     if direction.is_vertical() && !plan.has_vert {
-        make_all_vertical(infos, face);
+        make_all_vertical(infos, font);
     }
 }
 
@@ -54,29 +59,43 @@ fn may_be_mirrored(info: &hb_glyph_info_t) -> bool {
 
 /// Replaces each character by its mirror image, or gives it the mask.
 #[tactic(auto, using(shaping_buffer::proofs::ClosedKeepsLemmas::clusters_written))]
-fn mirror_all(infos: &mut [hb_glyph_info_t], face: &Face, mirrors: Option<&Mirrors>, mask: u32)
+fn mirror_all<F: FontFunctions>(
+    infos: &mut [hb_glyph_info_t],
+    font: &F,
+    mirrors: Option<&Mirrors>,
+    mask: u32,
+)
     ensures { clusters infos.new ≡ clusters infos.old }
 {
     for i in 0..infos.len() {
-        mirror(&mut infos[i], face, mirrors, mask);
+        mirror(&mut infos[i], font, mirrors, mask);
     }
 }
 
 /// Replaces a character by its mirror image, or gives it the mask.
-fn mirror(info: &mut hb_glyph_info_t, face: &Face, mirrors: Option<&Mirrors>, mask: u32)
+fn mirror<F: FontFunctions>(
+    info: &mut hb_glyph_info_t,
+    font: &F,
+    mirrors: Option<&Mirrors>,
+    mask: u32,
+)
     ensures { info.new.cluster ≡ info.old.cluster }
 {
-    if !is_mirrored(info, face, mirrors) {
+    if !is_mirrored(info, font, mirrors) {
         info.mask |= mask;
     }
 }
 
 /// Replaces a character by its mirror image, and says whether the font has a glyph for that.
-fn is_mirrored(info: &mut hb_glyph_info_t, face: &Face, mirrors: Option<&Mirrors>) -> bool
+fn is_mirrored<F: FontFunctions>(
+    info: &mut hb_glyph_info_t,
+    font: &F,
+    mirrors: Option<&Mirrors>,
+) -> bool
     ensures { info.new.cluster ≡ info.old.cluster }
 {
     match mirror_image(info, mirrors) {
-        Some(image) => replace_character(info, face, image),
+        Some(image) => replace_character(info, font, image),
         None => false,
     }
 }
@@ -88,30 +107,30 @@ fn mirror_image(info: &hb_glyph_info_t, mirrors: Option<&Mirrors>) -> Option<cha
 
 /// Replaces each character by its vertical form.
 #[tactic(auto, using(shaping_buffer::proofs::ClosedKeepsLemmas::clusters_written))]
-fn make_all_vertical(infos: &mut [hb_glyph_info_t], face: &Face)
+fn make_all_vertical<F: FontFunctions>(infos: &mut [hb_glyph_info_t], font: &F)
     ensures { clusters infos.new ≡ clusters infos.old }
 {
     for i in 0..infos.len() {
-        make_vertical(&mut infos[i], face);
+        make_vertical(&mut infos[i], font);
     }
 }
 
 /// Replaces a character by its vertical form.
-fn make_vertical(info: &mut hb_glyph_info_t, face: &Face)
+fn make_vertical<F: FontFunctions>(info: &mut hb_glyph_info_t, font: &F)
     ensures { info.new.cluster ≡ info.old.cluster }
 {
     if let Some(character) = char::from_u32(info.glyph_id)
         && let Some(vertical) = character.vertical()
     {
-        let _ = replace_character(info, face, vertical);
+        let _ = replace_character(info, font, vertical);
     }
 }
 
 /// Replaces a character by another one, if the font has a glyph for that, and says whether it has.
-fn replace_character(info: &mut hb_glyph_info_t, face: &Face, other: char) -> bool
+fn replace_character<F: FontFunctions>(info: &mut hb_glyph_info_t, font: &F, other: char) -> bool
     ensures { info.new.cluster ≡ info.old.cluster }
 {
-    if face.glyph_index(other as u32).is_none() {
+    if font.nominal_glyph(other as u32).is_none() {
         return false;
     }
     info.glyph_id = other as u32;

@@ -15,6 +15,7 @@ use crate::planning::{SegmentProperties, TextPlan, plan_for};
 use crate::shaping::{ShapeError, shape_by_plan};
 use crate::watch::{Unwatched, Watch};
 use font_face::Face;
+use font_functions::{FontFunctions, OwnFunctions};
 use rb_common::{Script, script};
 use shaping_buffer::{Direction, Feature, GlyphBuffer, Language, UnicodeBuffer, hb_buffer_t};
 use std::alloc::{AllocError, Global};
@@ -69,13 +70,36 @@ impl ShapePlan {
         ensures made { IfOk result (λ plan. IsMadeOf face.now direction script
             (scripts_of script (option_copied language.entry)) plan.made) }
     {
+        let own = OwnFunctions { face };
+        Self::with_functions(face, &own, direction, script, language, user_features)
+    }
+
+    /// The plan for such texts by a font of which these functions answer. It is for this font and these functions alone.
+    pub(crate) fn with_functions<F: FontFunctions>(
+        face: &Face,
+        font: &F,
+        direction: Direction,
+        script: Option<Script>,
+        language: Option<&Language>,
+        user_features: &[Feature],
+    ) -> Result<Self, AllocError>
+        ensures texts { IfOk result (λ plan. plan.texts ≡ record {
+          direction = direction;
+          script = script;
+          language = option_copied language.entry;
+          features = user_features.now;
+          coordinates = face.now.variations.coordinates.items;
+        }) }
+        ensures made { IfOk result (λ plan. IsMadeOf face.now direction script
+            (scripts_of script (option_copied language.entry)) plan.made) }
+    {
         let segment = SegmentProperties {
             direction,
             script,
             language,
         };
         Ok(ShapePlan {
-            made: plan_for(face, &segment, user_features)?,
+            made: plan_for(face, font, &segment, user_features)?,
             direction,
             script,
             language: text_of_language(face.alloc, language)?,
@@ -276,5 +300,6 @@ pub fn shape_with_plan_watched<W: Watch>(
         return Err(ShapeError::OtherPlan);
     }
     let buffer = text.into_buffer();
-    shape_by_plan(face, &plan.made, features, buffer, watch)
+    let own = OwnFunctions { face };
+    shape_by_plan(face, &own, &plan.made, features, buffer, watch)
 }

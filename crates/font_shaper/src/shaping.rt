@@ -1,7 +1,6 @@
 //! The shaping of a text by a font: HarfBuzz's steps, one after the other.
 
-ghost use Rattle.std.specs.Prelude.{◌≡◌, ◌≢◌, ◌↔◌, ◌≤◌, [], true, false, not, length, IfOk, IfErr, IsSome, IsTrue, if◌then◌else◌};
-ghost use Rattle.script_shapers.specs.Shapers.{width_of};
+ghost use Rattle.std.specs.Prelude.{◌≡◌, ◌≢◌, ◌≤◌, [], true, false, not, length, IfOk, IfErr, IsSome, if◌then◌else◌};
 ghost use Rattle.rb_common.specs.Direction.{is_forward};
 ghost use Rattle.shaping_buffer.specs.Clusters.{clusters};
 ghost use Rattle.shaping_buffer.specs.Limits.{enter};
@@ -11,9 +10,9 @@ ghost use Rattle.font_shaper.specs.ShapedClusters.{ShapedClusters, KeepsOrTurns}
 ghost use Rattle.shaping_buffer.specs.KeepsClusters.{KeepsClusters};
 
 use crate::glyphs_of_font::{FaceGlyphs, stretch_marks};
-use crate::lookups::position_by_lookups;
 use crate::masks::set_masks;
 use crate::planning::{TextPlan, plan_of_text};
+use crate::positioning::position;
 use crate::rotation::rotate_characters;
 use crate::substitution::substitute;
 use crate::text::{
@@ -23,16 +22,12 @@ use crate::verification::{VerifyError, shape_verified};
 use crate::watch::{Step, Unwatched, Watch};
 use apple_substitution::remove_deleted_glyphs;
 use font_face::Face;
+use font_functions::{FontFunctions, OwnFunctions};
 use font_normalization::normalize;
 use font_positions::{
-    hide_ignorables, position_glyphs, position_marks, propagate_flags, recategorize_marks,
-    show_variation_selectors, track, zero_mark_widths, zero_width_default_ignorables,
-    zero_width_deleted_glyphs,
+    hide_ignorables, propagate_flags, recategorize_marks, show_variation_selectors,
 };
-use glyph_positions::position_finish_offsets;
 use glyph_substitution::substitute_start;
-use layout_plan::ShapePlan;
-use script_shapers::ZeroWidthMarks;
 use shaping_buffer::{
     BufferFlags, Direction, Feature, Flags, GlyphBuffer, UnicodeBuffer, hb_buffer_t,
     hb_glyph_info_t,
@@ -105,16 +100,51 @@ pub fn shape_watched<W: Watch>(
     ensures clusters { IfOk result (ShapedClusters text) }
     ensures named { IfErr result (λ e. e ≢ ShapeError.OtherPlan) }
 {
+    shape_with_functions_watched(face, &OwnFunctions { face }, features, text, watch)
+}
+
+/// Shapes a text by a font of which these functions answer the glyphs of characters and their measures, in place of its own tables. What
+/// is said of `shape` holds whatever they answer. Lookups, the size and the variations are the face's.
+pub fn shape_with_functions<F: FontFunctions>(
+    face: &Face,
+    font: &F,
+    features: &[Feature],
+    text: UnicodeBuffer,
+) -> Result<GlyphBuffer, ShapeError>
+    ensures placed { IfOk result HasPositions }
+    ensures within { IfOk result (λ glyphs. length glyphs.input ≤ (enter text).max_len) }
+    ensures direction { IfOk result (λ glyphs. glyphs.direction ≡ (guessed text).direction) }
+    ensures clusters { IfOk result (ShapedClusters text) }
+    ensures named { IfErr result (λ e. e ≢ ShapeError.OtherPlan) }
+{
+    shape_with_functions_watched(face, font, features, text, &mut Unwatched)
+}
+
+/// Shapes a text by a font of which these functions answer, and tells of each step.
+pub fn shape_with_functions_watched<F: FontFunctions, W: Watch>(
+    face: &Face,
+    font: &F,
+    features: &[Feature],
+    text: UnicodeBuffer,
+    watch: &mut W,
+) -> Result<GlyphBuffer, ShapeError>
+    ensures placed { IfOk result HasPositions }
+    ensures within { IfOk result (λ glyphs. length glyphs.input ≤ (enter text).max_len) }
+    ensures direction { IfOk result (λ glyphs. glyphs.direction ≡ (guessed text).direction) }
+    ensures clusters { IfOk result (ShapedClusters text) }
+    ensures named { IfErr result (λ e. e ≢ ShapeError.OtherPlan) }
+{
     let mut text = text;
     text.guess_segment_properties();
     let buffer = text.into_buffer();
-    let plan = plan_of_text(face, &buffer, features)?;
-    shape_by_plan(face, &plan, features, buffer, watch)
+    let plan = plan_of_text(face, font, &buffer, features)?;
+    shape_by_plan(face, font, &plan, features, buffer, watch)
 }
 
 /// Shapes the text of a buffer by a plan, and tests its glyphs where the buffer is to be verified.
-pub(crate) fn shape_by_plan<W: Watch>(
+pub(crate) fn shape_by_plan<F: FontFunctions, W: Watch>(
     face: &Face,
+    font: &F,
     plan: &TextPlan,
     features: &[Feature],
     buffer: hb_buffer_t,
@@ -128,15 +158,16 @@ pub(crate) fn shape_by_plan<W: Watch>(
     ensures named { IfErr result (λ e. e ≢ ShapeError.OtherPlan) }
 {
     if buffer.flags.contains(BufferFlags::VERIFY) {
-        shape_verified(face, plan, features, buffer)
+        shape_verified(face, font, plan, features, buffer)
     } else {
-        shape_planned(face, plan, features, buffer, watch)
+        shape_planned(face, font, plan, features, buffer, watch)
     }
 }
 
 /// Shapes the text of a buffer by a plan, without tests.
-pub(crate) fn shape_planned<W: Watch>(
+pub(crate) fn shape_planned<F: FontFunctions, W: Watch>(
     face: &Face,
+    font: &F,
     plan: &TextPlan,
     features: &[Feature],
     buffer: hb_buffer_t,
@@ -151,16 +182,17 @@ pub(crate) fn shape_planned<W: Watch>(
 {
     let mut buffer = buffer;
     buffer.enter();
-    if !shape_buffer(&mut buffer, face, plan, features, watch)? {
+    if !shape_buffer(&mut buffer, face, font, plan, features, watch)? {
         return Err(ShapeError::TooLong);
     }
     Ok(GlyphBuffer::from_buffer(buffer))
 }
 
 /// Shapes the text of a buffer. `Ok(false)` where a call was refused for length.
-fn shape_buffer<W: Watch>(
+fn shape_buffer<F: FontFunctions, W: Watch>(
     buffer: &mut hb_buffer_t,
     face: &Face,
+    font: &F,
     plan: &TextPlan,
     features: &[Feature],
     watch: &mut W,
@@ -177,7 +209,7 @@ fn shape_buffer<W: Watch>(
     prove!(buffer.out_len() == 0);
     let limit = buffer.max_len();
     let direction = buffer.direction;
-    if !make_glyphs(buffer, face, plan, features, watch)? || buffer.len() > limit {
+    if !make_glyphs(buffer, face, font, plan, features, watch)? || buffer.len() > limit {
         return Ok(false);
     }
     end_line(buffer, direction);
@@ -203,9 +235,10 @@ fn end_line(buffer: &mut hb_buffer_t, direction: Direction)
 }
 
 /// Makes glyphs of the characters of a buffer, with their positions. `Ok(false)` where a call was refused for length.
-fn make_glyphs<W: Watch>(
+fn make_glyphs<F: FontFunctions, W: Watch>(
     buffer: &mut hb_buffer_t,
     face: &Face,
+    font: &F,
     plan: &TextPlan,
     features: &[Feature],
     watch: &mut W,
@@ -217,15 +250,20 @@ fn make_glyphs<W: Watch>(
         → KeepsOrTurns (not (is_forward buffer.old.direction)) buffer.old buffer.new) }
 {
     let direction = buffer.direction;
-    if !begin_characters(buffer, face, plan)? {
+    if !begin_characters(buffer, font, plan)? {
         return Ok(false);
     }
     let is_turned = ensure_native_direction(buffer);
-    if !shape_native(buffer, face, plan, features, direction, watch)? {
+    let line = TextLine {
+        plan,
+        features,
+        direction,
+    };
+    if !shape_native(buffer, face, font, line, watch)? {
         return Ok(false);
     }
     reverse_if(buffer, is_against(direction.is_forward(), is_turned));
-    finish_glyphs(buffer, face, plan)
+    finish_glyphs(buffer, face, font, plan)
 }
 
 /// Whether the glyphs stand against the line: it runs forward and the text was turned, or it runs backward and the text was not.
@@ -248,15 +286,24 @@ fn reverse_if(buffer: &mut hb_buffer_t, is_against: bool)
     }
 }
 
-/// Makes glyphs of characters that stand in the direction of their script. `direction` is the way in which the line was said to
-/// run. `Ok(false)` where a call was refused for length.
+/// How the text of a line is shaped.
+#[derive(Clone, Copy)]
+struct TextLine<'a> {
+    /// The plan of the text.
+    plan: &'a TextPlan,
+    /// The features that a user asked for.
+    features: &'a [Feature],
+    /// The way in which the line was said to run.
+    direction: Direction,
+}
+
+/// Makes glyphs of characters that stand in the direction of their script. `Ok(false)` where a call was refused for length.
 #[tactic(auto, using(shaping_buffer::proofs::ClosedKeepsLemmas::kept))]
-fn shape_native<W: Watch>(
+fn shape_native<F: FontFunctions, W: Watch>(
     buffer: &mut hb_buffer_t,
     face: &Face,
-    plan: &TextPlan,
-    features: &[Feature],
-    direction: Direction,
+    font: &F,
+    line: TextLine<'_>,
     watch: &mut W,
 ) -> Result<bool, AllocError>
     requires { buffer.old.have_output ≡ false }
@@ -264,14 +311,14 @@ fn shape_native<W: Watch>(
     ensures placed { IfOk result (λ done. done ≡ true → IsSome buffer.new.positions) }
     ensures keeps { IfOk result (λ done. done ≡ true → KeepsClusters buffer.old buffer.new) }
 {
-    if !prepare_characters(buffer, face, plan, direction)? {
+    if !prepare_characters(buffer, face, font, line.plan, line.direction)? {
         return Ok(false);
     }
-    find_glyphs(buffer, face, plan, features, watch)?;
-    if !substitute(buffer, face, plan, watch)? {
+    find_glyphs(buffer, face, line.plan, line.features, watch)?;
+    if !substitute(buffer, face, font, line.plan, watch)? {
         return Ok(false);
     }
-    position(buffer, face, plan, direction, watch)?;
+    position(buffer, face, font, line.plan, line.direction, watch)?;
     Ok(true)
 }
 
@@ -310,7 +357,12 @@ fn mask_characters(buffer: &mut hb_buffer_t, plan: &TextPlan, features: &[Featur
 /// The last steps: what is not to be seen is hidden, marks are stretched, and the glyphs of a cluster have the same
 /// flags. `Ok(false)` where a call was refused for length.
 #[tactic(auto, using(shaping_buffer::proofs::ClosedKeepsLemmas::kept))]
-fn finish_glyphs(buffer: &mut hb_buffer_t, face: &Face, plan: &TextPlan) -> Result<bool, AllocError>
+fn finish_glyphs<F: FontFunctions>(
+    buffer: &mut hb_buffer_t,
+    face: &Face,
+    font: &F,
+    plan: &TextPlan,
+) -> Result<bool, AllocError>
     requires closed { buffer.old.have_output ≡ false }
     requires placed { IsSome buffer.old.positions }
     ensures closed { IfOk result (λ done. done ≡ true → buffer.new.have_output ≡ false) }
@@ -319,8 +371,8 @@ fn finish_glyphs(buffer: &mut hb_buffer_t, face: &Face, plan: &TextPlan) -> Resu
 {
     remove_deleted(buffer, plan);
     show_variation_selectors(buffer);
-    hide_ignorables(buffer, face);
-    if !stretch_marks(buffer, face, &plan.script)? {
+    hide_ignorables(buffer, font);
+    if !stretch_marks(buffer, face, font, &plan.script)? {
         return Ok(false);
     }
     propagate_flags(buffer);
@@ -342,9 +394,9 @@ fn remove_deleted(buffer: &mut hb_buffer_t, plan: &TextPlan)
 
 /// Sets the properties of the characters, and makes clusters of them. `Ok(false)` where a call was refused for length.
 #[tactic(auto, using(shaping_buffer::proofs::ClosedKeepsLemmas::kept))]
-fn begin_characters(
+fn begin_characters<F: FontFunctions>(
     buffer: &mut hb_buffer_t,
-    face: &Face,
+    font: &F,
     plan: &TextPlan,
 ) -> Result<bool, AllocError>
     requires { buffer.old.have_output ≡ false }
@@ -353,7 +405,7 @@ fn begin_characters(
 {
     buffer.reset_masks(plan.shape.layout.global_mask);
     set_properties(buffer);
-    if !insert_dotted_circle(buffer, face)? {
+    if !insert_dotted_circle(buffer, font)? {
         return Ok(false);
     }
     form_clusters(buffer);
@@ -362,9 +414,10 @@ fn begin_characters(
 
 /// Prepares the characters by their script, and finds a glyph for each. `Ok(false)` where a call was refused for length.
 #[tactic(auto, using(shaping_buffer::proofs::ClosedKeepsLemmas::kept))]
-fn prepare_characters(
+fn prepare_characters<F: FontFunctions>(
     buffer: &mut hb_buffer_t,
     face: &Face,
+    font: &F,
     plan: &TextPlan,
     direction: Direction,
 ) -> Result<bool, AllocError>
@@ -372,11 +425,14 @@ fn prepare_characters(
     ensures closed { IfOk result (λ done. done ≡ true → buffer.new.have_output ≡ false) }
     ensures keeps { KeepsClusters buffer.old buffer.new }
 {
-    if !plan.script.preprocess_text(buffer, &FaceGlyphs { face })? {
+    if !plan
+        .script
+        .preprocess_text(buffer, &FaceGlyphs { face, font })?
+    {
         return Ok(false);
     }
-    rotate_characters(buffer, face, &plan.shape, direction);
-    normalize(buffer, face, &plan.script)
+    rotate_characters(buffer, font, &plan.shape, direction);
+    normalize(buffer, font, &plan.script)
 }
 
 /// Puts the glyph of each character in its place, with the properties that the font gives it.
@@ -406,93 +462,5 @@ fn put_all(infos: &mut [hb_glyph_info_t])
 {
     for i in 0..infos.len() {
         infos[i].glyph_id = infos[i].glyph_index();
-    }
-}
-
-/// Positions the glyphs: by the font's advances, by its lookups, and marks without a width of their own. `direction` is the way in
-/// which the line was said to run.
-#[tactic(auto, using(shaping_buffer::proofs::ClosedKeepsLemmas::kept))]
-fn position<W: Watch>(
-    buffer: &mut hb_buffer_t,
-    face: &Face,
-    plan: &TextPlan,
-    direction: Direction,
-    watch: &mut W,
-) -> Result<(), AllocError>
-    requires { buffer.old.have_output ≡ false }
-    ensures closed { IfOk result (λ _. buffer.new.have_output ≡ false) }
-    ensures placed { IfOk result (λ _. IsSome buffer.new.positions) }
-    ensures keeps { KeepsClusters buffer.old buffer.new }
-{
-    position_glyphs(buffer, face)?;
-    watch.step(Step::Advances, buffer)?;
-    let adjusts = adjusts_marks(buffer, &plan.shape);
-    zero_marks(buffer, zeroes_marks(plan, ZeroWidthMarks::Early), adjusts);
-    position_by_lookups(buffer, face, &plan.shape, watch)?;
-    track(buffer, face, plan.trak_mask);
-    zero_marks(buffer, zeroes_marks(plan, ZeroWidthMarks::Late), adjusts);
-    zero_deleted(buffer, plan);
-    finish_positions(buffer, face, &plan.shape, direction)
-}
-
-/// Whether marks lose their width at this step.
-fn zeroes_marks(plan: &TextPlan, step: ZeroWidthMarks) -> bool
-    ensures { IsTrue result
-        ↔ (IsTrue plan.now.shape.zero_marks) × (width_of plan.now.script.shaper ≡ step) }
-{
-    plan.shape.zero_marks && plan.script.shaper.zero_width_marks() == step
-}
-
-/// Whether a mark that loses its width is moved back by it.
-fn adjusts_marks(buffer: &hb_buffer_t, plan: &ShapePlan) -> bool {
-    plan.adjust_mark_positioning_when_zeroing && buffer.direction.is_forward()
-}
-
-/// Takes the width of what is not to be seen, and places the glyphs that stand by others.
-#[tactic(auto, using(shaping_buffer::proofs::ClosedKeepsLemmas::kept))]
-fn finish_positions(
-    buffer: &mut hb_buffer_t,
-    face: &Face,
-    plan: &ShapePlan,
-    direction: Direction,
-) -> Result<(), AllocError>
-    requires closed { buffer.old.have_output ≡ false }
-    requires placed { IsSome buffer.old.positions }
-    ensures closed { IfOk result (λ _. buffer.new.have_output ≡ false) }
-    ensures placed { IfOk result (λ _. IsSome buffer.new.positions) }
-    ensures keeps { KeepsClusters buffer.old buffer.new }
-{
-    let adjusts = adjusts_marks(buffer, plan);
-    zero_width_default_ignorables(buffer);
-    position_finish_offsets(buffer);
-    if plan.fallback_mark_positioning {
-        position_marks(buffer, face, direction, adjusts)?;
-    }
-    Ok(())
-}
-
-/// Takes the width of glyphs that were deleted by Apple's table `morx`.
-fn zero_deleted(buffer: &mut hb_buffer_t, plan: &TextPlan)
-    requires closed { buffer.old.have_output ≡ false }
-    requires placed { IsSome buffer.old.positions }
-    ensures closed { buffer.new.have_output ≡ false }
-    ensures placed { IsSome buffer.new.positions }
-    ensures keeps { KeepsClusters buffer.old buffer.new }
-{
-    if plan.chain_flags.is_some() {
-        zero_width_deleted_glyphs(buffer);
-    }
-}
-
-/// Takes the width of marks, where that is said.
-fn zero_marks(buffer: &mut hb_buffer_t, zeroes: bool, adjusts: bool)
-    requires closed { buffer.old.have_output ≡ false }
-    requires placed { IsSome buffer.old.positions }
-    ensures closed { buffer.new.have_output ≡ false }
-    ensures placed { IsSome buffer.new.positions }
-    ensures keeps { KeepsClusters buffer.old buffer.new }
-{
-    if zeroes {
-        zero_mark_widths(buffer, adjusts);
     }
 }

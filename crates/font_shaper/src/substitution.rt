@@ -11,6 +11,7 @@ use crate::planning::TextPlan;
 use crate::watch::{Step, Watch};
 use apple_substitution::{ChainFlags, Substitution, remove_deleted_glyphs};
 use font_face::Face;
+use font_functions::FontFunctions;
 use font_tables::gdef::Gdef;
 use glyph_layout::lookup_list::SUBSTITUTION_EXTENSION;
 use glyph_layout::{Digest, LookupList, LookupOptions};
@@ -23,9 +24,10 @@ use syllabic_shapers::SyllablePause;
 
 /// Applies the lookups of `GSUB`, stage by stage, and lets clusters run as they ran before, also where the shaper of the script
 /// puts the glyphs of syllables in another order. `Ok(false)` where a call was refused for length.
-pub(crate) fn substitute<W: Watch>(
+pub(crate) fn substitute<F: FontFunctions, W: Watch>(
     buffer: &mut hb_buffer_t,
     face: &Face,
+    font: &F,
     plan: &TextPlan,
     watch: &mut W,
 ) -> Result<bool, AllocError>
@@ -36,7 +38,7 @@ pub(crate) fn substitute<W: Watch>(
     if let Some(flags) = &plan.chain_flags {
         return substitute_by_morx(buffer, face, flags, plan.shape.apply_gpos);
     }
-    substitute_by_gsub(buffer, face, plan, watch)
+    substitute_by_gsub(buffer, face, font, plan, watch)
 }
 
 /// Substitutes glyphs by Apple's table `morx`. Those that it deletes are taken out at once where `GPOS` is to position the glyphs.
@@ -76,9 +78,10 @@ fn remove_deleted(buffer: &mut hb_buffer_t, removes: bool)
 
 /// Applies the lookups of `GSUB`, stage by stage, with what the shaper of the script does between them. `Ok(false)` where a call was
 /// refused for length.
-fn substitute_by_gsub<W: Watch>(
+fn substitute_by_gsub<F: FontFunctions, W: Watch>(
     buffer: &mut hb_buffer_t,
     face: &Face,
+    font: &F,
     plan: &TextPlan,
     watch: &mut W,
 ) -> Result<bool, AllocError>
@@ -87,10 +90,10 @@ fn substitute_by_gsub<W: Watch>(
     ensures keeps { IfOk result (λ done. done ≡ true → KeepsClusters buffer.old buffer.new) }
 {
     if !plan.orders_syllables() {
-        return apply_stages(buffer, face, plan, watch);
+        return apply_stages(buffer, face, font, plan, watch);
     }
     let course = ClusterCourse::of(buffer);
-    if !apply_stages(buffer, face, plan, watch)? {
+    if !apply_stages(buffer, face, font, plan, watch)? {
         return Ok(false);
     }
     course.restore(buffer);
@@ -99,9 +102,10 @@ fn substitute_by_gsub<W: Watch>(
 
 /// Applies the lookups of all stages, with what is done between them. `Ok(false)` where a call was refused for length.
 #[tactic(auto, using(crate::proofs::StageLemmas::stages))]
-fn apply_stages<W: Watch>(
+fn apply_stages<F: FontFunctions, W: Watch>(
     buffer: &mut hb_buffer_t,
     face: &Face,
+    font: &F,
     plan: &TextPlan,
     watch: &mut W,
 ) -> Result<bool, AllocError>
@@ -118,7 +122,7 @@ fn apply_stages<W: Watch>(
         if !apply_stage(buffer, face, lookups, &mut glyphs, &mut progress, watch)? {
             return Ok(false);
         }
-        if !pause(buffer, face, plan, stage.pause, &mut progress)? {
+        if !pause(buffer, face, font, plan, stage.pause, &mut progress)? {
             return Ok(false);
         }
         if stage.pause != Pause::Nothing {
@@ -187,9 +191,10 @@ fn apply_planned(
 
 /// What is done after a stage. `Ok(false)` where a call was refused for length.
 #[tactic(auto, using(crate::proofs::StageLemmas::stages))]
-fn pause(
+fn pause<F: FontFunctions>(
     buffer: &mut hb_buffer_t,
     face: &Face,
+    font: &F,
     plan: &TextPlan,
     pause: Pause,
     progress: &mut Progress,
@@ -204,18 +209,18 @@ fn pause(
             Ok(true)
         }
         Pause::ArabicFallback => join_by_fallback(buffer, face, plan, progress),
-        Pause::SetUpSyllables => work_on_syllables(buffer, face, plan, SyllablePause::SetUp),
+        Pause::SetUpSyllables => work_on_syllables(buffer, face, font, plan, SyllablePause::SetUp),
         Pause::InitialReordering => {
-            work_on_syllables(buffer, face, plan, SyllablePause::InitialReordering)
+            work_on_syllables(buffer, face, font, plan, SyllablePause::InitialReordering)
         }
         Pause::FinalReordering => {
-            work_on_syllables(buffer, face, plan, SyllablePause::FinalReordering)
+            work_on_syllables(buffer, face, font, plan, SyllablePause::FinalReordering)
         }
         Pause::ClearSubstitutionFlags => {
-            work_on_syllables(buffer, face, plan, SyllablePause::ForgetSubstitutions)
+            work_on_syllables(buffer, face, font, plan, SyllablePause::ForgetSubstitutions)
         }
-        Pause::RecordRphf => work_on_syllables(buffer, face, plan, SyllablePause::RecordRphf),
-        Pause::RecordPref => work_on_syllables(buffer, face, plan, SyllablePause::RecordPref),
+        Pause::RecordRphf => work_on_syllables(buffer, face, font, plan, SyllablePause::RecordRphf),
+        Pause::RecordPref => work_on_syllables(buffer, face, font, plan, SyllablePause::RecordPref),
         Pause::Nothing => Ok(true),
     }
 }

@@ -8,7 +8,7 @@ ghost use Rattle.font_shaper.specs.ShapedClusters.{KeepsOrTurns};
 use crate::glyph_info::{
     is_decimal_number, is_letter, is_regional_indicator, is_same_grapheme, is_zwj, set_continuation,
 };
-use font_face::Face;
+use font_functions::FontFunctions;
 use font_normalization::allows_any_order;
 use font_normalization::glyph_info::{
     general_category, is_continuation, is_unicode_mark, set_unicode_props,
@@ -89,15 +89,15 @@ fn is_pictographic(info: &hb_glyph_info_t) -> bool {
 
 /// Puts a dotted circle before a text that is the beginning of a paragraph and begins with a mark.
 #[tactic(auto, using(shaping_buffer::proofs::ClosedKeepsLemmas::kept))]
-pub(crate) fn insert_dotted_circle(
+pub(crate) fn insert_dotted_circle<F: FontFunctions>(
     buffer: &mut hb_buffer_t,
-    face: &Face,
+    font: &F,
 ) -> Result<bool, AllocError>
     requires { buffer.old.have_output ≡ false }
     ensures closed { IfOk result (λ done. done ≡ true → buffer.new.have_output ≡ false) }
     ensures keeps { KeepsClusters buffer.old buffer.new }
 {
-    if !wants_dotted_circle(buffer) || face.glyph_index(DOTTED_CIRCLE).is_none() {
+    if !wants_dotted_circle(buffer) || font.nominal_glyph(DOTTED_CIRCLE).is_none() {
         return Ok(true);
     }
     buffer.clear_output();

@@ -11,6 +11,7 @@ use crate::planning::TextPlan;
 use crate::shaping::{ShapeError, shape_planned};
 use crate::watch::Unwatched;
 use font_face::Face;
+use font_functions::FontFunctions;
 use shaping_buffer::{
     BufferFlags, Feature, Flags, GlyphBuffer, GlyphPosition, glyph_flag, hb_buffer_t,
     hb_glyph_info_t,
@@ -88,26 +89,35 @@ impl<'a> InOrder<'a> {
 }
 
 /// How a text and parts of it are shaped.
-#[derive(Clone, Copy)]
-struct Shaping<'a> {
+#[derive(Drop)]
+struct Shaping<'a, F> {
     face: &'a Face<'a>,
+    font: &'a F,
     plan: &'a TextPlan,
     features: &'a [Feature],
 }
 
-impl Shaping<'_> {
+impl<F: FontFunctions> Shaping<'_, F> {
     /// Shapes the text of a buffer.
     fn shape(&self, buffer: hb_buffer_t) -> Result<GlyphBuffer, ShapeError>
         requires { buffer.have_output ≡ false }
         ensures { IfErr result (λ e. e ≢ ShapeError.OtherPlan) }
     {
-        shape_planned(self.face, self.plan, self.features, buffer, &mut Unwatched)
+        shape_planned(
+            self.face,
+            self.font,
+            self.plan,
+            self.features,
+            buffer,
+            &mut Unwatched,
+        )
     }
 }
 
 /// Shapes the text of a buffer by a plan, and tests its glyphs.
-pub(crate) fn shape_verified(
+pub(crate) fn shape_verified<F: FontFunctions>(
     face: &Face,
+    font: &F,
     plan: &TextPlan,
     features: &[Feature],
     buffer: hb_buffer_t,
@@ -120,20 +130,21 @@ pub(crate) fn shape_verified(
     ensures named { IfErr result (λ e. e ≢ ShapeError.OtherPlan) }
 {
     let text = Original::of(face.alloc, &buffer)?;
-    let glyphs = shape_planned(face, plan, features, buffer, &mut Unwatched)?;
+    let glyphs = shape_planned(face, font, plan, features, buffer, &mut Unwatched)?;
     let shaping = Shaping {
         face,
+        font,
         plan,
         features,
     };
-    verify(face.alloc, shaping, &text, &glyphs)?;
+    verify(face.alloc, &shaping, &text, &glyphs)?;
     Ok(glyphs)
 }
 
 /// Tests glyphs by their text. Where clusters may stand in any order, or where shaping was given up, there is no test.
-fn verify(
+fn verify<F: FontFunctions>(
     alloc: Global,
-    shaping: Shaping<'_>,
+    shaping: &Shaping<F>,
     text: &Original,
     glyphs: &GlyphBuffer,
 ) -> Result<(), ShapeError>
@@ -205,9 +216,9 @@ fn first_of(characters: &[hb_glyph_info_t], from: usize, cluster: u32) -> usize 
 }
 
 /// Whether the parts of a text that is cut wherever this is safe have the glyphs of the whole.
-fn is_safe_to_break(
+fn is_safe_to_break<F: FontFunctions>(
     alloc: Global,
-    shaping: Shaping<'_>,
+    shaping: &Shaping<F>,
     text: &Original,
     glyphs: InOrder<'_>,
 ) -> Result<bool, ShapeError>
@@ -292,9 +303,9 @@ fn is_same_glyph(one: &hb_glyph_info_t, other: &hb_glyph_info_t) -> bool {
 
 /// Whether the parts of a text that is cut wherever this is safe have their glyphs also where every other part is left out:
 /// the glyphs of both halves, part by part, are those of the whole.
-fn is_safe_to_concat(
+fn is_safe_to_concat<F: FontFunctions>(
     alloc: Global,
-    shaping: Shaping<'_>,
+    shaping: &Shaping<F>,
     text: &Original,
     glyphs: InOrder<'_>,
 ) -> Result<bool, ShapeError>
@@ -314,9 +325,9 @@ fn is_safe_to_concat(
 }
 
 /// The glyphs of every other part of a text, beginning with this one.
-fn shaped_half(
+fn shaped_half<F: FontFunctions>(
     alloc: Global,
-    shaping: Shaping<'_>,
+    shaping: &Shaping<F>,
     text: &Original,
     cuts: &[usize],
     first: usize,

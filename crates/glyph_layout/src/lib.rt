@@ -13,6 +13,7 @@ pub mod digest;
 pub mod first_glyphs;
 mod formats;
 pub mod glyph_table;
+mod known;
 pub mod ligature_parts;
 pub mod lookup_list;
 pub mod lookup_props;

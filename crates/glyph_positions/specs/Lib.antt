@@ -1,2 +1,3 @@
+pub mod Adjustments
 pub mod Bases
 pub mod Placing

@@ -5,6 +5,7 @@ ghost use Rattle.glyph_layout.specs.SkippingIterator.{next_found};
 ghost use Rattle.glyph_layout.specs.declared.matcher.Matcher.TheVariants.{Shown};
 ghost use Rattle.glyph_lists.specs.Masks.{reset_masks};
 ghost use Rattle.position_tables.specs.Values.{across, moved};
+ghost use Rattle.glyph_positions.specs.Adjustments as adjustments;
 ghost use Rattle.glyph_positions.specs.Placing.{changed_at, pair_moved};
 
 use crate::flags::{mark_break, mark_concat};
@@ -38,9 +39,12 @@ struct Pair<'a> {
 }
 
 /// Moves the glyph, and says where the iterator goes on; `None` where the subtable is not for it.
+#[tactic(auto, using(crate::proofs::PositionsLemmas::with_positions_changed))]
 pub(crate) fn place_single(buffer: &mut hb_buffer_t, turn: &Turn) -> Option<usize>
     requires closed { buffer.old.have_output ≡ false }
     requires placed { IsSome buffer.old.positions }
+    ensures next { result ≡ adjustments.single_next turn.now }
+    ensures is { buffer.new ≡ adjustments.single turn.now buffer.old }
     ensures closed { buffer.new.have_output ≡ false }
     ensures placed { IsSome buffer.new.positions }
     ensures level { buffer.new.cluster_level ≡ buffer.old.cluster_level }

@@ -1,7 +1,8 @@
 -- Powers of two, as the bits of a mask.
-use Rattle.std.proofs.Common.{◌≡◌, ℕ, ◌+◌, ◌*◌, ◌%◌, ◌^◌, ◌<◌, ◌≤◌, arith, lit<}
-use Rattle.std.proofs.Math.Nat.{pow-le-pow_right, mod-eq_of_lt, mod-lt, mul-lt-mul_of_pos_right}
-use Rattle.std.proofs.lemmas.Nat.{pow_pos, pow-add}
+use Rattle.std.proofs.Common.{◌≡◌, ℕ, ◌+◌, ◌*◌, ◌/◌, ◌%◌, ◌^◌, ◌<◌, ◌≤◌, arith, lit<, inl, inr}
+use Rattle.std.proofs.Math.Nat.{div-eq_of_lt, pow-le-pow_right, mod-eq_of_lt, mod-lt, mul-lt-mul_of_pos_right}
+use Rattle.std.proofs.lemmas.Nat.{pow_pos, pow-add, shr_split}
+use Rattle.std.proofs.lemmas.Bool.{cases_lt}
 
 pub power_le : (i j : ℕ) → i ≤ j → 2 ^ i ≤ 2 ^ j
 power_le i j le = pow-le-pow_right (lit< tt) le
@@ -23,3 +24,47 @@ value_below value shift count inside =
     let whole : 2 ^ (count + shift) ≡ 2 ^ count * 2 ^ shift = pow-add 2 count shift in
     let most : 2 ^ (count + shift) ≤ 4294967296 = power_at_most (count + shift) (omega arith) in
     omega arith
+
+-- ---- the bits of a value, counted from the lowest
+
+-- the last of the bits below this one that are 1, and one more
+pub record IsCounted (value bit count : ℕ) : Type 0 where
+  pub most : count ≤ bit
+  pub enough : value < 2 ^ bit → value < 2 ^ count
+  pub whole : 2 ^ bit ≤ value → count ≡ bit
+  pub least : (fewer : ℕ) → fewer < count → 2 ^ fewer ≤ value
+
+reaches : (value bit : ℕ) → ¬ (value / 2 ^ bit ≡ 0) → 2 ^ bit ≤ value
+reaches value bit some = elim (cases_lt value (2 ^ bit)) [
+  | inl low ↦ absurd (some (div-eq_of_lt low))
+  | inr high ↦ high
+]
+
+falls_short : (value bit : ℕ) → value / 2 ^ bit ≡ 0 → value < 2 ^ bit
+falls_short value bit none =
+    let whole : 0 * 2 ^ bit + value % 2 ^ bit ≡ value = rw none at (shr_split value bit) in
+    let low : value % 2 ^ bit < 2 ^ bit = mod-lt value (pow_pos bit) in
+    omega arith
+
+pub counted_more : (value bit : ℕ) → ¬ (value / 2 ^ bit ≡ 0) → IsCounted value (bit + 1) (bit + 1)
+counted_more value bit some = record {
+  most = omega arith;
+  enough = λ h. h;
+  whole = λ h. omega arith;
+  least = λ fewer under.
+      let low : 2 ^ fewer ≤ 2 ^ bit = power_le fewer bit (omega arith) in
+      let high : 2 ^ bit ≤ value = reaches value bit some in
+      omega arith;
+}
+
+pub counted_kept : (value bit count : ℕ) → value / 2 ^ bit ≡ 0 → IsCounted value bit count
+    → IsCounted value (bit + 1) count
+counted_kept value bit count none before =
+    let short : value < 2 ^ bit = falls_short value bit none in
+    let up : 2 ^ bit ≤ 2 ^ (bit + 1) = power_le bit (bit + 1) (omega arith) in
+    record {
+      most = let most = before.most in omega arith;
+      enough = λ h. before.enough short;
+      whole = λ h. absurd (omega arith);
+      least = before.least;
+    }

@@ -1,9 +1,21 @@
 -- Features that are asked for.
-use Rattle.std.specs.Prelude.{ℕ, ◌||◌, ◌==◌, List, [], ◌∷◌, None, if◌then◌else◌, max, min, nat_lt}
+use Rattle.std.specs.Prelude.{ℕ, true, false, ◌||◌, ◌==◌, List, [], ◌∷◌, None, if◌then◌else◌, max, min, nat_lt}
 use Rattle.rb_common.specs.declared.tag.Tag.{Tag}
 use Rattle.layout_plan.specs.declared.request.FeatureFlags.{FeatureFlags}
 use Rattle.layout_plan.specs.declared.request.FeatureRequest.{FeatureRequest}
 use Rattle.layout_plan.specs.Order.{KeysRise}
+
+-- for every glyph, and with no other flag
+abbrev pub every_glyph : FeatureFlags
+every_glyph = record {
+  is_global = true;
+  has_fallback = false;
+  manual_zwnj = false;
+  manual_zwj = false;
+  global_search = false;
+  random = false;
+  per_syllable = false;
+}
 
 -- a value that is asked for: each glyph has it by default, if the feature is one of every glyph
 unfoldable pub requested : Tag → FeatureFlags → ℕ → ℕ → FeatureRequest

@@ -122,7 +122,7 @@ pub struct PlanBuilder<'a> {
 impl<'a> PlanBuilder<'a> {
     ghost use Rattle.layout_plan.specs.Plan.{IsPlan};
     ghost use Rattle.layout_plan.specs.Pauses.{HasSamePauses};
-    ghost use Rattle.layout_plan.specs.Requests.{requested, with_request};
+    ghost use Rattle.layout_plan.specs.Requests.{every_glyph, requested, with_request};
 
     /// No features yet.
     pub fn new(alloc: Global, gsub: ChosenTable<'a>, gpos: ChosenTable<'a>) -> Self
@@ -190,7 +190,11 @@ impl<'a> PlanBuilder<'a> {
 
     /// Turns a feature off for every glyph.
     pub fn disable_feature(&mut self, tag: Tag) -> Result<(), AllocError>
-        ensures { HasSamePauses self.old self.new }
+        ensures pauses { HasSamePauses self.old self.new }
+        ensures null { tag.0 ≡ 0 → self.new.requests.items ≡ self.old.requests.items }
+        ensures asked { tag.0 ≢ 0 → AreInOrder self.old.requests.items → IfOk result (λ _. self.new.requests.items
+            ≡ with_request (requested tag every_glyph 0 (vec_len self.old.pauses)) self.old.requests.items) }
+        ensures refused { IfErr result (λ _. self.new.requests.items ≡ self.old.requests.items) }
     {
         self.add_feature(tag, FeatureFlags::GLOBAL, 0)
     }

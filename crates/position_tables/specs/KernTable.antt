@@ -1,7 +1,10 @@
 -- The table `kern`: subtables of pairs of glyphs, or of pairs of classes.
-use Rattle.std.specs.Prelude.{◌≡◌, ◌⊎◌, ℕ, ℤ, List, Option, None, Some, ◌+◌, ◌-◌, ◌*◌, ◌/◌, ◌&&◌, nat_le, nat_lt}
-use Rattle.std.specs.Prelude.{if◌then◌else◌, unwrap_or, pos, option_and_then, drop}
-use Rattle.font_tables.specs.Bytes.{number_16, number_32, signed_16}
+use Rattle.std.specs.Prelude.{◌≡◌, ◌⊎◌, ℕ, ℤ, List, Option, None, Some, ◌+◌, ◌-◌, ◌*◌, ◌/◌, ◌&&◌, ◌||◌, nat_le, nat_lt}
+use Rattle.std.specs.Prelude.{if◌then◌else◌, unwrap_or, pos, option_and_then, drop, take, length, Bool, true, false, not, nat_eq}
+use Rattle.std.specs.Prelude.{bit_and}
+use Rattle.font_tables.specs.Bytes.{byte_at, number_16, number_32, signed_16, is_number}
+use Rattle.position_tables.specs.declared.kern_table.KernCoverage.{KernCoverage}
+use Rattle.position_tables.specs.declared.kern_table.KernSubtable.{KernSubtable}
 use Rattle.font_tables.specs.Rows.{rows_within, Rises, AreThere}
 use Rattle.position_tables.specs.SortedRows.{IsNowhere}
 
@@ -53,3 +56,57 @@ classed_value subtable header left right =
     unwrap_or (option_and_then (λ l. option_and_then (λ r. Some (value_at subtable (offset (header + 6)) (l + r)))
     (class_number (drop (offset (header + 4)) subtable) right))
     (class_number (drop (offset (header + 2)) subtable) left)) (pos 0)
+
+-- ---- subtables, by the headers of OpenType and of Apple
+
+abbrev pub is_apple : List ℕ → Bool
+is_apple table = is_number (number_16 table 0) 1
+
+-- how many subtables the table declares: of the version 0 OpenType's, of the version 1 Apple's, and of others none
+abbrev pub declared_count : List ℕ → ℕ
+declared_count table =
+    if is_number (number_16 table 0) 0 then unwrap_or (number_16 table 2) 0
+    else if is_number (number_16 table 0) 1 then unwrap_or (number_32 table 4) 0
+    else 0
+
+abbrev pub has_bit : ℕ → ℕ → Bool
+has_bit flags bit = not (nat_eq (bit_and flags bit) 0)
+
+-- what the flags of a subtable say: Apple's `vertical` is the high bit, OpenType's `horizontal` the low one
+abbrev pub coverage_of : Bool → ℕ → KernCoverage
+coverage_of true flags = record {
+  is_horizontal = nat_eq (bit_and flags 0x80) 0;
+  is_cross_stream = has_bit flags 0x40;
+  is_variation = has_bit flags 0x20;
+}
+coverage_of false flags = record {
+  is_horizontal = has_bit flags 0x01;
+  is_cross_stream = has_bit flags 0x04;
+  is_variation = false;
+}
+
+-- the coverage has the format in its low byte, with the flags before it, in Apple's form, and in its high byte in OpenType's
+pub record IsHeader (apple : Bool) (rest : List ℕ) (s : KernSubtable) : Type 0 where
+  pub size : s.header ≡ (if apple then 8 else 6)
+  pub format : byte_at rest (if apple then 5 else 4) ≡ Some s.format
+  pub coverage : s.coverage ≡ coverage_of apple (unwrap_or (byte_at rest (if apple then 4 else 5)) 0)
+
+-- how many bytes a subtable says that it has, where its header lies in what is left of the table
+abbrev pub declared_length : Bool → List ℕ → Option ℕ
+declared_length true rest =
+    option_and_then (λ flags. option_and_then (λ variation. option_and_then (λ format. number_32 rest 0) (byte_at rest 5))
+    (number_16 rest 6)) (byte_at rest 4)
+declared_length false rest =
+    option_and_then (λ flags. option_and_then (λ format. number_16 rest 2) (byte_at rest 4)) (byte_at rest 5)
+
+-- a subtable that is no shorter than its header, and lies in what is left of the table
+abbrev pub lying : Bool → List ℕ → ℕ → Option ℕ
+lying apple rest count =
+    if nat_lt count (if apple then 8 else 6) || nat_lt (length rest) count then None else Some count
+
+abbrev pub subtable_length : Bool → List ℕ → Option ℕ
+subtable_length apple rest = option_and_then (lying apple rest) (declared_length apple rest)
+
+-- its bytes; those of the last subtable go up to the end of the table
+abbrev pub subtable_bytes : Bool → ℕ → List ℕ → List ℕ
+subtable_bytes is_last count rest = if is_last then rest else take count rest

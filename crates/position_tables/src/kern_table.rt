@@ -3,8 +3,10 @@
 //! classes. Those of state machines and of indexed classes are passed over.
 
 ghost use Rattle.std.specs.Prelude.{◌≡◌, ◌≢◌, ◌<◌, ◌≤◌, ◌+◌, ◌-◌, ◌*◌, ◌/◌, ℕ, pos, IfSome, Some, None, length, unwrap_or};
-ghost use Rattle.std.specs.Prelude.{not, nat_eq, if◌then◌else◌};
+ghost use Rattle.std.specs.Prelude.{not, nat_eq, nat_le, if◌then◌else◌, drop, option_map, false, true};
 ghost use Rattle.font_tables.specs.Bytes.{number_16, signed_16};
+ghost use Rattle.position_tables.specs.KernTable.{declared_count, declared_length, is_apple, subtable_bytes, subtable_length};
+ghost use Rattle.position_tables.specs.KernTable.{IsHeader};
 ghost use Rattle.position_tables.specs.KernTable.{pair_key, IsOfPair, IsMissing, IsListed, class_number, value_at, classed_value};
 
 use crate::sorted_rows::{Keys32, row_of};
@@ -52,7 +54,9 @@ impl<'a> KernTable<'a> {
     /// The table `kern` in these bytes: of Windows, with the version 0, or of Apple, with the version 1. Where a subtable is cut
     /// short, or the version is another one, the table has no subtables.
     pub fn new(table: &'a [u8]) -> Self
-        ensures { result.table.now ≡ table.now }
+        ensures table { result.table.now ≡ table.now }
+        ensures form { result.is_apple ≡ is_apple table.now }
+        ensures count { result.count ≢ 0 → result.count ≡ declared_count table.now }
     {
         let (is_apple, count) = match u16_at(table, 0) {
             Some(0) => (false, u32::from(u16_at(table, 2).unwrap_or(0))),
@@ -84,13 +88,15 @@ impl<'a> KernTable<'a> {
 
     /// The subtable that begins at a place, whose number is this one; `None` where its header, or what it says that it has, does
     /// not lie in the table.
-    pub fn subtable_at(&self, at: usize, number: u32) -> Option<KernSubtable<'a>> {
+    pub fn subtable_at(&self, at: usize, number: u32) -> Option<KernSubtable<'a>>
+        ensures length { option_map (λ s. s.length) result
+            ≡ subtable_length self.now.is_apple (drop at self.now.table.now) }
+        ensures header { IfSome result (IsHeader self.now.is_apple (drop at self.now.table.now)) }
+        ensures bytes { IfSome result (λ s. s.table.now
+            ≡ subtable_bytes (nat_le self.now.count (number + 1)) s.length (drop at self.now.table.now)) }
+    {
         let rest = tail(self.table, at);
-        let subtable = if self.is_apple {
-            apple_subtable(rest)?
-        } else {
-            windows_subtable(rest)?
-        };
+        let subtable = subtable_of(rest, self.is_apple)?;
         if subtable.length < usize::from(subtable.header) || rest.len() < subtable.length {
             return None;
         }
@@ -161,8 +167,23 @@ enum Property {
     CrossStream,
 }
 
+/// A subtable, by the header of Apple or of Windows.
+fn subtable_of(rest: &[u8], is_apple: bool) -> Option<KernSubtable<'_>>
+    ensures length { option_map (λ s. s.length) result ≡ declared_length is_apple rest.now }
+    ensures header { IfSome result (IsHeader is_apple rest.now) }
+{
+    if is_apple {
+        apple_subtable(rest)
+    } else {
+        windows_subtable(rest)
+    }
+}
+
 /// A subtable with the header of Windows: its version, its length, its format, and what its values are for.
-fn windows_subtable(rest: &[u8]) -> Option<KernSubtable<'_>> {
+fn windows_subtable(rest: &[u8]) -> Option<KernSubtable<'_>>
+    ensures length { option_map (λ s. s.length) result ≡ declared_length false rest.now }
+    ensures header { IfSome result (IsHeader false rest.now) }
+{
     let coverage = u8_at(rest, 5)?;
     Some(KernSubtable {
         table: rest,
@@ -178,7 +199,10 @@ fn windows_subtable(rest: &[u8]) -> Option<KernSubtable<'_>> {
 }
 
 /// A subtable with the header of Apple: its length, what its values are for, its format, and a variation.
-fn apple_subtable(rest: &[u8]) -> Option<KernSubtable<'_>> {
+fn apple_subtable(rest: &[u8]) -> Option<KernSubtable<'_>>
+    ensures length { option_map (λ s. s.length) result ≡ declared_length true rest.now }
+    ensures header { IfSome result (IsHeader true rest.now) }
+{
     let coverage = u8_at(rest, 4)?;
     let _variation = u16_at(rest, 6)?;
     Some(KernSubtable {

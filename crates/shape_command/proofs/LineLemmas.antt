@@ -7,8 +7,10 @@ use Rattle.std.proofs.lemmas.List.{take_more}
 use Rattle.std.proofs.Math.Seq.{take-length}
 use Rattle.std.specs.Io.BufRead.{take_through, drop_through, ends_with_byte, DropsThrough}
 use Rattle.std.specs.Io.KnownBytes.{Appends, Consumes, IsAtEnd}
+use Rattle.line_formats.specs.Heads.{head}
+use Rattle.shape_command.specs.declared.output.Output.{Output}
 use Rattle.shape_command.specs.Lines.{lines_of, with_first, EachAnswered, transcript, TakesLine, AnswersAll}
-use Rattle.shape_command.specs.Lines.{AnswersParagraph, paragraph_of}
+use Rattle.shape_command.specs.Lines.{AnswersParagraph, paragraph_of, IsAnswer, IsList, IsShown, Shows}
 use Rattle.shape_command.specs.Lines.{without_line_feed}
 use Rattle.std.proofs.Common.{nat_lt, ◌&&◌}
 use Rattle.std.proofs.lemmas.Bool.Decides.{nat_tests}
@@ -112,50 +114,51 @@ transcript-push (a ∷ more) answer =
     ap (λ l. (a ++ 10 ∷ []) ++ l) (transcript-push more answer)
     ∙ sym (append_assoc (a ++ 10 ∷ []) (transcript more) (answer ++ 10 ∷ []))
 
--- the lines so far are answered
-abbrev pub AnswersSoFar : (List ℕ → Type 0) → Option (List ℕ) → Option (List ℕ) → Option (List ℕ) → Option (List ℕ)
-    → Type 0
-AnswersSoFar is_answer None rest before after = ⊤
-AnswersSoFar is_answer (Some text) None before after = ⊥
-AnswersSoFar is_answer (Some text) (Some rest) before after =
+-- the lines so far are answered, before the line of this number
+abbrev pub AnswersSoFar : (ℕ → List ℕ → List ℕ → Type 0) → ℕ → Option (List ℕ) → Option (List ℕ) → Option (List ℕ)
+    → Option (List ℕ) → Type 0
+AnswersSoFar is_answer n None rest before after = ⊤
+AnswersSoFar is_answer n (Some text) None before after = ⊥
+AnswersSoFar is_answer n (Some text) (Some rest) before after =
     (answers : List (List ℕ))
-    × ((later : List (List ℕ)) → EachAnswered is_answer (lines_of rest) later
-    → EachAnswered is_answer (lines_of text) (answers ++ later))
+    × ((later : List (List ℕ)) → EachAnswered is_answer n (lines_of rest) later
+    → EachAnswered is_answer 1 (lines_of text) (answers ++ later))
     × Appends before after (transcript answers)
 
-pub so_far-none : (is_answer : List ℕ → Type 0) (a w : Option (List ℕ)) → AnswersSoFar is_answer a a w w
+pub so_far-none : (is_answer : ℕ → List ℕ → List ℕ → Type 0) (a w : Option (List ℕ)) → AnswersSoFar is_answer 1 a a w w
 so_far-none is_answer None w = tt
 so_far-none is_answer (Some text) w = ([], λ later h. h, appends_nothing w)
 
 -- one line more
-so_far-line : (is_answer : List ℕ → Type 0) (a b c w x y : Option (List ℕ)) (line answer : List ℕ)
-    → AnswersSoFar is_answer a b w x → TakesLine true b c line → is_answer answer → Appends x y (answer ++ 10 ∷ [])
-    → AnswersSoFar is_answer a c w y
-so_far-line is_answer None b c w x y line answer p t k told = tt
-so_far-line is_answer (Some text) None c w x y line answer p t k told = absurd p
-so_far-line is_answer (Some text) (Some rest) None w x y line answer p t k told = absurd t
-so_far-line is_answer (Some text) (Some rest) (Some rest') w x y line answer p t k told = (
-  p.0 ++ answer ∷ [],
+so_far-line : (is_answer : ℕ → List ℕ → List ℕ → Type 0) (n : ℕ) (a b c w x y : Option (List ℕ)) (line : List ℕ)
+    → AnswersSoFar is_answer n a b w x → TakesLine true b c line → Shows is_answer n line x y
+    → AnswersSoFar is_answer (n + 1) a c w y
+so_far-line is_answer n None b c w x y line p t shown = tt
+so_far-line is_answer n (Some text) None c w x y line p t shown = absurd p
+so_far-line is_answer n (Some text) (Some rest) None w x y line p t shown = absurd t
+so_far-line is_answer n (Some text) (Some rest) (Some rest') w x y line p t shown = (
+  p.0 ++ shown.0 ∷ [],
   λ later h.
-      let taken : EachAnswered is_answer (lines_of rest) (answer ∷ later) =
-      subst (λ lines. EachAnswered is_answer lines (answer ∷ later)) (sym t) (k, h) in
-      subst (EachAnswered is_answer (lines_of text)) (sym (append_assoc p.0 (answer ∷ []) later)) (p.1 (answer ∷ later) taken),
-  subst (λ s. Appends w y s) (sym (transcript-push p.0 answer))
-      (appends_both w x y (transcript p.0) (answer ++ 10 ∷ []) p.2 told),
+      let taken : EachAnswered is_answer n (lines_of rest) (shown.0 ∷ later) =
+      subst (λ lines. EachAnswered is_answer n lines (shown.0 ∷ later)) (sym t) (shown.1, h) in
+      subst (EachAnswered is_answer 1 (lines_of text)) (sym (append_assoc p.0 (shown.0 ∷ []) later))
+      (p.1 (shown.0 ∷ later) taken),
+  subst (λ s. Appends w y s) (sym (transcript-push p.0 shown.0))
+      (appends_both w x y (transcript p.0) (shown.0 ++ 10 ∷ []) p.2 shown.2),
 )
 
 -- no line more
-so_far-end : (is_answer : List ℕ → Type 0) (a b c w x : Option (List ℕ)) (line : List ℕ)
-    → AnswersSoFar is_answer a b w x → TakesLine false b c line → AnswersAll is_answer a c w x
-so_far-end is_answer None b c w x line p t = tt
-so_far-end is_answer (Some text) None c w x line p t = absurd p
-so_far-end is_answer (Some text) (Some rest) None w x line p t = absurd t
-so_far-end is_answer (Some text) (Some rest) (Some rest') w x line p t = (
+so_far-end : (is_answer : ℕ → List ℕ → List ℕ → Type 0) (n : ℕ) (a b c w x : Option (List ℕ)) (line : List ℕ)
+    → AnswersSoFar is_answer n a b w x → TakesLine false b c line → AnswersAll is_answer a c w x
+so_far-end is_answer n None b c w x line p t = tt
+so_far-end is_answer n (Some text) None c w x line p t = absurd p
+so_far-end is_answer n (Some text) (Some rest) None w x line p t = absurd t
+so_far-end is_answer n (Some text) (Some rest) (Some rest') w x line p t = (
   t.1,
   record {
     answers = p.0;
-    each = subst (EachAnswered is_answer (lines_of text)) (append-nil p.0)
-        (p.1 [] (subst (λ r. EachAnswered is_answer (lines_of r) []) (sym t.0) tt));
+    each = subst (EachAnswered is_answer 1 (lines_of text)) (append-nil p.0)
+        (p.1 [] (subst (λ r. EachAnswered is_answer n (lines_of r) []) (sym t.0) tt));
     told = p.2;
   },
 )
@@ -222,20 +225,23 @@ takes n before after old taken none e d at_end count = cases (nat_lt 0 n) refl
         takes_none before after (without_line_feed taken) (at_end zero_read) d
 
 -- what was found decides
-pub so_far-found : (is_answer : List ℕ → Type 0) (a b c w x y : Option (List ℕ)) (line answer : List ℕ) (found : Bool)
-    → AnswersSoFar is_answer a b w x → TakesLine found b c line → found ≡ true → is_answer answer
-    → Appends x y (answer ++ 10 ∷ []) → AnswersSoFar is_answer a c w y
-so_far-found is_answer a b c w x y line answer found p t e k told =
-    so_far-line is_answer a b c w x y line answer p (subst (λ v. TakesLine v b c line) e t) k told
+pub so_far-found : (is_answer : ℕ → List ℕ → List ℕ → Type 0) (n : ℕ) (a b c w x y : Option (List ℕ)) (line taken : List ℕ)
+    (found : Bool) → AnswersSoFar is_answer n a b w x → TakesLine found b c line → found ≡ true → taken ≡ line
+    → Shows is_answer n taken x y → AnswersSoFar is_answer (n + 1) a c w y
+so_far-found is_answer n a b c w x y line taken found p t e same shown =
+    so_far-line is_answer n a b c w x y line p (subst (λ v. TakesLine v b c line) e t)
+    (subst (λ l. Shows is_answer n l x y) same shown)
 
-pub so_far-not_found : (is_answer : List ℕ → Type 0) (a b c w x : Option (List ℕ)) (line : List ℕ) (found : Bool)
-    → AnswersSoFar is_answer a b w x → TakesLine found b c line → found ≡ false → AnswersAll is_answer a c w x
-so_far-not_found is_answer a b c w x line found p t e =
-    so_far-end is_answer a b c w x line p (subst (λ v. TakesLine v b c line) e t)
+pub so_far-not_found : (is_answer : ℕ → List ℕ → List ℕ → Type 0) (n : ℕ) (a b c w x : Option (List ℕ)) (line : List ℕ)
+    (found : Bool) → AnswersSoFar is_answer n a b w x → TakesLine found b c line → found ≡ false
+    → AnswersAll is_answer a c w x
+so_far-not_found is_answer n a b c w x line found p t e =
+    so_far-end is_answer n a b c w x line p (subst (λ v. TakesLine v b c line) e t)
 
 -- an empty text is answered with nothing
-pub no_paragraph : (is_answer : List ℕ → Type 0) (a b w : Option (List ℕ)) (old taken bytes : List ℕ) → old ≡ []
-    → IfSome a (λ text. taken ≡ old ++ text) → IsAtEnd b → Consumes a b bytes → length taken ≡ 0 → AnswersParagraph is_answer a b w w
+pub no_paragraph : (is_answer : ℕ → List ℕ → List ℕ → Type 0) (a b w : Option (List ℕ)) (old taken bytes : List ℕ)
+    → old ≡ [] → IfSome a (λ text. taken ≡ old ++ text) → IsAtEnd b → Consumes a b bytes → length taken ≡ 0
+    → AnswersParagraph is_answer a b w w
 no_paragraph is_answer None b w old taken bytes none e at_end r empty = tt
 no_paragraph is_answer (Some text) None w old taken bytes none e at_end r empty = absurd r
 no_paragraph is_answer (Some []) (Some rest) None old taken bytes none e at_end r empty =
@@ -247,20 +253,37 @@ no_paragraph is_answer (Some (b1 ∷ more)) (Some rest) w old taken bytes none e
     absurd (omega (arith, rw whole at empty))
 
 -- a text is one line
-pub one_paragraph : (is_answer : List ℕ → Type 0) (a b w x : Option (List ℕ)) (old taken bytes answer : List ℕ)
+pub one_paragraph : (is_answer : ℕ → List ℕ → List ℕ → Type 0) (a b w x : Option (List ℕ)) (old taken bytes line : List ℕ)
     → old ≡ [] → IfSome a (λ text. taken ≡ old ++ text) → IsAtEnd b → Consumes a b bytes → (length taken ≡ 0 → ⊥)
-    → is_answer answer → Appends w x (answer ++ 10 ∷ []) → AnswersParagraph is_answer a b w x
-one_paragraph is_answer None b w x old taken bytes answer none e at_end r some k told = tt
-one_paragraph is_answer (Some text) None w x old taken bytes answer none e at_end r some k told = absurd r
-one_paragraph is_answer (Some text) (Some rest) w x old taken bytes answer none e at_end r some k told = (
+    → line ≡ taken → Shows is_answer 1 line w x → AnswersParagraph is_answer a b w x
+one_paragraph is_answer None b w x old taken bytes line none e at_end r some same shown = tt
+one_paragraph is_answer (Some text) None w x old taken bytes line none e at_end r some same shown = absurd r
+one_paragraph is_answer (Some text) (Some rest) w x old taken bytes line none e at_end r some same shown = (
   at_end,
   record {
-    answers = answer ∷ [];
+    answers = shown.0 ∷ [];
     each = one text (e ∙ ap (λ l. l ++ text) none);
-    told = subst (Appends w x) (sym (append-nil (answer ++ 10 ∷ []))) told;
+    told = subst (Appends w x) (sym (append-nil (shown.0 ++ 10 ∷ []))) shown.2;
   },
 )
   where
-    one : (text : List ℕ) → taken ≡ text → EachAnswered is_answer (paragraph_of text) (answer ∷ [])
+    one : (text : List ℕ) → taken ≡ text → EachAnswered is_answer 1 (paragraph_of text) (shown.0 ∷ [])
     one [] q = absurd (some (ap length q))
-    one (b ∷ more) q = (k, tt)
+    one (b ∷ more) q = (subst (λ line. is_answer 1 line shown.0) (same ∙ q) shown.1, tt)
+
+-- what stands before an answer, and the answer
+pub shows : (o : Output) (n : ℕ) (line characters answer before : List ℕ) (x y z : Option (List ℕ)) → IsList characters
+    → IsAnswer o answer → before ≡ head o.shown n line characters → Appends x y before → Appends y z (answer ++ 10 ∷ [])
+    → Shows (IsShown o) n line x z
+shows o n line characters answer before x y z list printed e told more = (
+  before ++ answer,
+  record {
+    characters = characters;
+    answer = answer;
+    is_list = list;
+    is_answer = printed;
+    is = ap (λ l. l ++ answer) e;
+  },
+  subst (Appends x z) (sym (append_assoc before answer (10 ∷ [])))
+      (appends_both x y z before (answer ++ 10 ∷ []) told more),
+)

@@ -1,182 +1,22 @@
 //! The words of a command line, by `clap`.
 
+ghost use Rattle.std.specs.Prelude.{◌≡◌, IfSome, true};
+ghost use Rattle.shape_command.specs.Errors.{concerns_words};
+
+use crate::option_table::{GROUPS, OPTIONS, letter_of};
+use crate::run::CommandError;
 use clap::{Arg, ArgAction, ArgMatches, Command, Error};
-use std::alloc::Global;
+use std::alloc::{AllocError, Global};
 use std::convert::AsStr;
 
-/// An option that is given or not: its name, and what it is for.
-type Flag = (&'static str, &'static str);
+const ABOUT: &str =
+    "Shapes the lines of a text with a font, and prints their glyphs as HarfBuzz's hb-shape does";
 
-/// An option with a value: its name, what its value is, and what it is for.
-type Value = (&'static str, &'static str, &'static str);
+/// The shapers, as `--list-shapers` prints them.
+const SHAPERS: &str = "ot\n";
 
-const FLAGS: [Flag; 18] = [
-    ("bot", "Treat the text as the beginning of a paragraph"),
-    ("eot", "Treat the text as the end of a paragraph"),
-    (
-        "preserve-default-ignorables",
-        "Show characters that are invisible by default",
-    ),
-    (
-        "remove-default-ignorables",
-        "Give characters that are invisible by default no glyph",
-    ),
-    (
-        "unsafe-to-concat",
-        "Produce the glyph flag unsafe-to-concat",
-    ),
-    (
-        "safe-to-insert-tatweel",
-        "Produce the glyph flag safe-to-insert-tatweel",
-    ),
-    (
-        "utf8-clusters",
-        "Number clusters by UTF-8 bytes, and not by characters",
-    ),
-    (
-        "verify",
-        "Test the glyphs: the order of clusters, and parts of the text that are shaped apart",
-    ),
-    ("single-par", "Treat the text as a single line"),
-    (
-        "no-glyph-names",
-        "Print the numbers of glyphs, and no names",
-    ),
-    ("no-positions", "Print no positions"),
-    ("no-advances", "Print no advances"),
-    ("no-clusters", "Print no clusters"),
-    ("show-extents", "Print the extents of glyphs"),
-    ("show-flags", "Print the flags of glyphs"),
-    ("ned", "Print no clusters and no advances"),
-    (
-        "svg",
-        "Draw each step of shaping as a picture in SVG, in place of the glyphs",
-    ),
-    (
-        "batch",
-        "Alone: answer the lines of standard input, each a command line parted by `;`",
-    ),
-];
-
-const VALUES: [Value; 24] = [
-    ("font-file", "FILE", "The font"),
-    (
-        "face-index",
-        "NUMBER",
-        "The number of the font in its file [default: 0]",
-    ),
-    (
-        "font-size",
-        "SIZE",
-        "How long an em is: one or two numbers, or upem [default: upem]",
-    ),
-    (
-        "font-ppem",
-        "SIZE",
-        "How many pixels an em has: one or two whole numbers [default: none]",
-    ),
-    (
-        "font-ptem",
-        "SIZE",
-        "How many points an em has, by which glyphs stand closer or farther apart [default: not said]",
-    ),
-    ("font-funcs", "NAME", "Accepted for hb-shape's sake: ot"),
-    ("shaper", "NAME", "Accepted for hb-shape's sake: ot"),
-    ("shapers", "NAMES", "Accepted for hb-shape's sake: ot"),
-    (
-        "variations",
-        "LIST",
-        "Variations of a variable font parted by commas, as wght=500,slnt=-7.5",
-    ),
-    (
-        "named-instance",
-        "NUMBER",
-        "The named instance of a variable font [default: none]",
-    ),
-    (
-        "direction",
-        "DIRECTION",
-        "ltr, rtl, ttb or btt [default: that of the script]",
-    ),
-    ("language", "TAG", "The language, as a tag of BCP 47"),
-    (
-        "script",
-        "TAG",
-        "The script, as a tag of ISO 15924 [default: that of the text]",
-    ),
-    (
-        "features",
-        "LIST",
-        "Features parted by commas, as -liga,kern[3:5]=0,aalt=2",
-    ),
-    (
-        "cluster-level",
-        "NUMBER",
-        "How far clusters are merged: 0, 1, 2 or 3 [default: 0]",
-    ),
-    (
-        "invisible-glyph",
-        "GLYPH",
-        "The glyph of characters that are invisible by default",
-    ),
-    (
-        "not-found-variation-selector-glyph",
-        "GLYPH",
-        "The glyph of variation selectors that the font does not know",
-    ),
-    ("text", "TEXT", "The text"),
-    (
-        "text-file",
-        "FILE",
-        "The file of the text; - is standard input",
-    ),
-    ("text-before", "TEXT", "The text before each line"),
-    ("text-after", "TEXT", "The text after each line"),
-    (
-        "unicodes",
-        "LIST",
-        "The text, as hexadecimal numbers of characters",
-    ),
-    (
-        "unicodes-before",
-        "LIST",
-        "The text before each line, as hexadecimal numbers of characters",
-    ),
-    (
-        "unicodes-after",
-        "LIST",
-        "The text after each line, as hexadecimal numbers of characters",
-    ),
-];
-
-/// The command line of the program. Of an option that is given twice the later one counts.
-fn command<'a>(alloc: Global) -> Result<Command<'a>, Error> {
-    let mut command = Command::new(alloc, "vukhaso_shape").about(
-        "Shapes the lines of a text with a font, and prints their glyphs as HarfBuzz's hb-shape does",
-    );
-    for (name, help) in FLAGS {
-        let arg = named(alloc, name)?.action(ArgAction::SetTrue).help(help);
-        command = command.arg(arg)?;
-    }
-    for (name, value_name, help) in VALUES {
-        let arg = named(alloc, name)?
-            .allow_hyphen_values(true)
-            .value_name(value_name)
-            .help(help);
-        command = command.arg(arg)?;
-    }
-    let words = Arg::new(alloc, "words")
-        .value_name("FONT [TEXT]")
-        .num_args(0..)
-        .action(ArgAction::Append)
-        .help("The font, and the text; without a text standard input is read");
-    Ok(command.arg(words)?)
-}
-
-/// An option of this name, which may be given more than once.
-fn named<'a>(alloc: Global, name: &'static str) -> Result<Arg<'a>, Error> {
-    Ok(Arg::new(alloc, name).long(name).overrides_with(name)?)
-}
+/// What `--version` prints.
+const VERSION: &str = "vukhaso_shape (Vukhaso) 0.1.0\nAvailable shapers: ot\n";
 
 /// What the words of a command line say; the first is the name of the program.
 pub(crate) fn matches_of<'a, S: AsStr>(
@@ -184,4 +24,115 @@ pub(crate) fn matches_of<'a, S: AsStr>(
     words: &'a [S],
 ) -> Result<ArgMatches<'a>, Error> {
     command(alloc)?.try_get_matches_from(words)
+}
+
+/// The command line of the program. Of an option that is given twice the later one counts.
+fn command<'a>(alloc: Global) -> Result<Command<'a>, AllocError> {
+    let words = Arg::new(alloc, "words")
+        .value_name("FONT [TEXT]")
+        .num_args(0..)
+        .action(ArgAction::Append)
+        .help("The font, and the text; without a text standard input is read");
+    let command = with_help_options(alloc, with_options(alloc, None)?)?;
+    command.about(ABOUT).arg(words)
+}
+
+/// A command with the options of a group, or with all.
+fn with_options<'a>(alloc: Global, group: Option<&str>) -> Result<Command<'a>, AllocError> {
+    let mut command = Command::new(alloc, "vukhaso_shape");
+    for (of, name, value_name, help) in OPTIONS {
+        if group.is_none_or(|group| group == of) {
+            command = command.arg(option(alloc, name, value_name)?.help(help))?;
+        }
+        if name == "ned" && group.is_none_or(|group| group == of) {
+            command = command.arg(both_of_v(alloc)?)?;
+        }
+    }
+    Ok(command)
+}
+
+/// The option `-v`, which is that of two options in `hb-shape`, and does what both do.
+fn both_of_v<'a>(alloc: Global) -> Result<Arg<'a>, AllocError> {
+    let arg = Arg::new(alloc, "v")
+        .short('v')
+        .overrides_with("v")?
+        .action(ArgAction::SetTrue);
+    Ok(arg.help("Do what --verbose and --ned do"))
+}
+
+/// An option of this name, which may be given more than once, with a value where that has a name.
+fn option<'a>(
+    alloc: Global,
+    name: &'static str,
+    value_name: &'static str,
+) -> Result<Arg<'a>, AllocError> {
+    let mut arg = Arg::new(alloc, name).long(name).overrides_with(name)?;
+    if let Some(letter) = letter_of(name) {
+        arg = arg.short(letter);
+    }
+    if value_name.is_empty() {
+        return Ok(arg.action(ArgAction::SetTrue));
+    }
+    Ok(arg.allow_hyphen_values(true).value_name(value_name))
+}
+
+/// A command with the options that ask for help on a group, or on all.
+fn with_help_options<'a>(
+    alloc: Global,
+    mut command: Command<'a>,
+) -> Result<Command<'a>, AllocError> {
+    for (_, name, about) in GROUPS {
+        command = command.arg(help_option(alloc, name, about)?)?;
+    }
+    command.arg(help_option(alloc, "help-all", "All options")?)
+}
+
+/// An option that asks for help.
+fn help_option<'a>(
+    alloc: Global,
+    name: &'static str,
+    about: &'static str,
+) -> Result<Arg<'a>, AllocError> {
+    let arg = Arg::new(alloc, name).long(name).overrides_with(name)?;
+    Ok(arg.action(ArgAction::SetTrue).help(about))
+}
+
+/// What words ask for in place of answers, if they do: help on some options, the version or the shapers.
+pub(crate) fn asked_for<'a>(alloc: Global, matches: &ArgMatches<'a>) -> Option<CommandError<'a>>
+    ensures { IfSome result (λ e. concerns_words e ≡ true) }
+{
+    for (group, name, about) in GROUPS {
+        if matches.get_flag(name) {
+            return Some(told(help_on(alloc, group, about)));
+        }
+    }
+    if matches.get_flag("help-all") {
+        Some(told(help_on_all(alloc)))
+    } else if matches.get_flag("version") {
+        Some(told(String::from_str(alloc, VERSION)))
+    } else if matches.get_flag("list-shapers") {
+        Some(told(String::from_str(alloc, SHAPERS)))
+    } else {
+        None
+    }
+}
+
+/// That a text is asked for, or that there is no memory for it.
+fn told<'a>(text: Result<String, AllocError>) -> CommandError<'a>
+    ensures { concerns_words result ≡ true }
+{
+    match text {
+        Ok(text) => CommandError::Asked(text),
+        Err(_) => CommandError::Memory,
+    }
+}
+
+/// The help on the options of a group.
+fn help_on(alloc: Global, group: &str, about: &'static str) -> Result<String, AllocError> {
+    with_options(alloc, Some(group))?.about(about).render_help()
+}
+
+/// The help on all options.
+fn help_on_all(alloc: Global) -> Result<String, AllocError> {
+    command(alloc)?.render_help()
 }

@@ -57,11 +57,21 @@ fn run<F: Files + AllocGlobal + Env + Input + Print + Eprint>(rt: &F) -> io::Res
     match answered {
         Ok(all_shaped) => Ok(all_shaped),
         Err(CommandError::Words(error)) => say(rt, &error),
-        Err(error) => {
-            eprintln!(rt; "{NAME}: {error}")?;
-            Ok(false)
+        Err(CommandError::Asked(text)) => {
+            rt.print(&text)?;
+            Ok(true)
         }
+        Err(error) => complain(rt, &error),
     }
+}
+
+/// Says why a command line was not answered to its end, and where it may be mended where help is to be had.
+fn complain<E: Eprint>(error_output: &E, error: &CommandError<'_>) -> io::Result<bool> {
+    eprintln!(error_output; "{NAME}: {error}")?;
+    if error.wants_help() {
+        eprintln!(error_output; "Try `{NAME} --help' for more information.")?;
+    }
+    Ok(false)
 }
 
 /// Says what is wrong with the words, or the help that they ask for.

@@ -4,10 +4,11 @@ ghost use Rattle.std.specs.Prelude.{◌≡◌, ◌++◌, ◌∷◌, [], IfOk, On
 ghost use Rattle.std.specs.Io.BufRead.{ends_with_byte};
 ghost use Rattle.std.specs.Io.KnownBytes.{Appends};
 ghost use Rattle.shape_command.specs.Answer.{answer_text};
-ghost use Rattle.shape_command.specs.Lines.{TakesLine, without_line_feed, AnswersAll, AnswersParagraph, IsAnswer, unverified_line};
+ghost use Rattle.shape_command.specs.Lines.{TakesLine, without_line_feed, AnswersAll, AnswersParagraph, IsShown, Shows, unverified_line};
 
 use crate::shaper::{Answer, LineNames, LineShaper, LineState};
 use font_shaper::VerifyError;
+use line_formats::heads::head;
 use std::alloc::{AllocError, Global};
 use std::io::{self, BufRead, ErrorKind, Read, Write};
 
@@ -36,8 +37,8 @@ fn read_error(error: io::Error) -> LinesError {
     }
 }
 
-/// Answers each line of a text with a line, and says whether all of them were shaped. A line feed ends a line, and the
-/// last line may lack it. One line is held at a time.
+/// Answers each line of a text, and says whether all of them were shaped. A line feed ends a line, and the last line may
+/// lack it. One line is held at a time.
 pub fn answer_lines<N: LineNames, R: BufRead, W: Write>(
     alloc: Global,
     shaper: &LineShaper<'_>,
@@ -45,20 +46,19 @@ pub fn answer_lines<N: LineNames, R: BufRead, W: Write>(
     reader: &mut R,
     writer: &mut W,
 ) -> Result<bool, LinesError>
-    ensures { OnOk result (AnswersAll (IsAnswer shaper.now.output)
+    ensures { OnOk result (AnswersAll (IsShown shaper.now.output)
         (R.remaining reader.old) (R.remaining reader.new)
         (W.contents writer.old) (W.contents writer.new)) }
 {
     let mut all_shaped = true;
     let mut line = Vec::new(alloc);
-    for _ in 0..u64::MAX {
+    for number in 1..u64::MAX {
         let found = next_line(reader, &mut line)?;
         if !found {
             return Ok(all_shaped);
         }
-        let answer = shaper.answer(alloc, state, line.as_slice())?;
-        all_shaped &= answer.is_shaped();
-        write_answer(writer, &answer)?;
+        let is_shaped = answer_line(alloc, shaper, state, number, line.as_slice(), writer)?;
+        all_shaped &= is_shaped;
     }
     Err(LinesError::Read(io::Error::from(ErrorKind::Other)))
 }
@@ -71,7 +71,7 @@ pub fn answer_paragraph<N: LineNames, R: Read, W: Write>(
     reader: &mut R,
     writer: &mut W,
 ) -> Result<bool, LinesError>
-    ensures { OnOk result (AnswersParagraph (IsAnswer shaper.now.output)
+    ensures { OnOk result (AnswersParagraph (IsShown shaper.now.output)
         (R.remaining reader.old) (R.remaining reader.new)
         (W.contents writer.old) (W.contents writer.new)) }
 {
@@ -83,9 +83,28 @@ pub fn answer_paragraph<N: LineNames, R: Read, W: Write>(
     if read == 0 {
         return Ok(true);
     }
-    let answer = shaper.answer(alloc, state, text.as_slice())?;
-    write_answer(writer, &answer)?;
-    Ok(answer.is_shaped())
+    let is_shaped = answer_line(alloc, shaper, state, 1, text.as_slice(), writer)?;
+    Ok(is_shaped)
+}
+
+/// Answers a line of this number, and says whether it was shaped.
+fn answer_line<N: LineNames, W: Write>(
+    alloc: Global,
+    shaper: &LineShaper<'_>,
+    state: &mut LineState<N>,
+    number: u64,
+    line: &[u8],
+    writer: &mut W,
+) -> Result<bool, LinesError>
+    ensures { OnOk result (Shows (IsShown shaper.now.output) number line.now
+        (W.contents writer.old) (W.contents writer.new)) }
+{
+    let answered = shaper.answer(alloc, state, line)?;
+    let characters = answered.characters.as_slice();
+    let before = head(alloc, shaper.output.shown, number, line, characters)?;
+    put(writer, before.as_slice())?;
+    write_answer(writer, &answered.answer)?;
+    Ok(answered.answer.is_shaped())
 }
 
 /// Reads a line in place of the one that is held, without the line feed that ends it. It says whether there was one.
@@ -127,12 +146,19 @@ pub fn write_answer<W: Write>(writer: &mut W, answer: &Answer) -> Result<(), Lin
         Answer::Empty => put(writer, b"\n"),
         Answer::Failed => put(writer, b"error: Shaping failed.\n"),
         Answer::Unverified(error) => put(writer, unverified_line(*error)),
-        Answer::Glyphs(text) => {
-            put(writer, b"[")?;
-            put(writer, text.as_bytes())?;
-            put(writer, b"]\n")
-        }
+        Answer::Glyphs(text) => put_in_brackets(writer, text.as_bytes()),
+        Answer::Objects(objects) => put_in_brackets(writer, objects.as_slice()),
     }
+}
+
+/// Writes bytes in brackets, and a line feed.
+fn put_in_brackets<W: Write>(writer: &mut W, bytes: &[u8]) -> Result<(), LinesError>
+    ensures { OnOk result (Appends (W.contents writer.old) (W.contents writer.new)
+        ((91 ∷ bytes.now ++ 93 ∷ []) ++ 10 ∷ [])) }
+{
+    put(writer, b"[")?;
+    put(writer, bytes)?;
+    put(writer, b"]\n")
 }
 
 /// What is printed of a line whose glyphs are not what they say of themselves.

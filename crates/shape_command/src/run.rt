@@ -3,7 +3,7 @@
 ghost use Rattle.std.specs.Prelude.{◌≡◌, Some, true, false, IfErr, IsErr, IsSome, OnOk};
 ghost use Rattle.shape_command.specs.Errors.{concerns_words};
 
-use crate::arguments::matches_of;
+use crate::arguments::{asked_for, matches_of};
 use crate::drawing::draw_text;
 use crate::font_file::FontFile;
 use crate::lines::{LinesError, answer_lines, answer_paragraph};
@@ -14,7 +14,7 @@ use shaping_buffer::{Flags, NoGlyphNames, SerializeFlags};
 use std::alloc::{AllocError, Global};
 use std::convert::AsStr;
 use std::fs;
-use std::io::{self, BufRead, BufReader, Write};
+use std::io::{self, BufRead, BufReader, BufWriter, Write};
 use std::rt::Files;
 use thiserror::Error;
 
@@ -27,6 +27,9 @@ pub enum CommandError<'a> {
     /// The words ask for nothing that can be done.
     #[error("{0}")]
     Options(OptionsError<'a>),
+    /// The words ask for this text.
+    #[error("{0}")]
+    Asked(String),
     /// The file of the font was not read.
     #[error("{file}: {error}")]
     Font {
@@ -52,6 +55,14 @@ pub enum CommandError<'a> {
     /// The answers were not written.
     #[error("Failed writing glyphs: {0}")]
     Output(io::Error),
+    /// The file of the answers was not made.
+    #[error("Cannot open output file '{file}': {error}")]
+    OutputFile {
+        /// The file.
+        file: &'a str,
+        /// Why it was not made.
+        error: io::Error,
+    },
     /// There is no memory.
     #[error("out of memory")]
     Memory,
@@ -78,6 +89,17 @@ impl<'a> From<OptionsError<'a>> for CommandError<'a> {
 }
 
 impl<'a> CommandError<'a> {
+    /// Whether other words may do, so that help on them may be wanted.
+    pub(crate) fn wants_help(&self) -> bool {
+        matches!(
+            self,
+            CommandError::Options(_)
+                | CommandError::Font { .. }
+                | CommandError::Face(_)
+                | CommandError::OutputFile { .. }
+        )
+    }
+
     /// The error of lines that are in this file.
     fn of_lines(file: &'a str, error: LinesError) -> Self {
         match error {
@@ -115,10 +137,14 @@ pub fn options_of<'a, S: AsStr>(
 ) -> Result<Options<'a>, CommandError<'a>>
     ensures { IfErr result (λ e. concerns_words e ≡ true) }
 {
-    match matches_of(alloc, words) {
-        Ok(matches) => Ok(Options::from_matches(alloc, &matches)?),
-        Err(error) => Err(CommandError::Words(error)),
+    let matches = match matches_of(alloc, words) {
+        Ok(matches) => matches,
+        Err(error) => return Err(CommandError::Words(error)),
+    };
+    if let Some(asked) = asked_for(alloc, &matches) {
+        return Err(asked);
     }
+    Ok(Options::from_matches(alloc, &matches)?)
 }
 
 /// Reads the file of the font, unless it was read last.
@@ -145,10 +171,48 @@ pub(crate) fn answer_options<'a, F: Files + AllocGlobal, R: BufRead, W: Write>(
     output: &mut W,
 ) -> Result<bool, CommandError<'a>> {
     font.vary(rt.alloc(), options.variations.as_slice())?;
+    match options.output_file {
+        None => answer_into(rt, options, font, input, output),
+        Some(file) => answer_into_file(rt, options, font, input, file),
+    }
+}
+
+/// Answers what a command line asks for, into a file.
+fn answer_into_file<'a, F: Files + AllocGlobal, R: BufRead>(
+    rt: &F,
+    options: &Options<'a>,
+    font: &mut LoadedFont<'_>,
+    input: &mut R,
+    file: &'a str,
+) -> Result<bool, CommandError<'a>> {
+    let mut output = match create(rt, file) {
+        Ok(output) => output,
+        Err(error) => return Err(CommandError::OutputFile { file, error }),
+    };
+    let answered = answer_into(rt, options, font, input, &mut output)?;
+    match output.flush() {
+        Ok(()) => Ok(answered),
+        Err(error) => Err(CommandError::Output(error)),
+    }
+}
+
+/// A file that is written piece by piece, in place of one of this name.
+fn create<F: Files + AllocGlobal>(rt: &F, file: &str) -> io::Result<BufWriter<F::File>> {
+    BufWriter::new(rt.alloc(), fs::create(rt, file)?)
+}
+
+/// Answers what a command line asks for.
+fn answer_into<'a, F: Files + AllocGlobal, R: BufRead, W: Write>(
+    rt: &F,
+    options: &Options<'a>,
+    font: &mut LoadedFont<'_>,
+    input: &mut R,
+    output: &mut W,
+) -> Result<bool, CommandError<'a>> {
     if options.svg {
         return draw_text(rt.alloc(), options, font, output);
     }
-    if asks_font(options.output) {
+    if asks_font(options.output.flags) {
         let names = font.take_names(rt.alloc())?;
         let mut state = LineState {
             names,
@@ -195,6 +259,7 @@ fn shaper_of<'a>(font: &'a LoadedFont<'_>, options: &'a Options<'_>) -> LineShap
     LineShaper {
         face: &font.face,
         options: &options.line,
+        iterations: options.iterations,
         output: options.output,
         single_par: options.single_par,
     }

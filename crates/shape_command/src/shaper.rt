@@ -2,11 +2,15 @@
 
 ghost use Rattle.std.specs.Prelude.{◌≡◌, [], None, false, IfOk};
 ghost use Rattle.shape_command.specs.Answer.{answer_text, is_shaped};
-ghost use Rattle.shape_command.specs.Lines.{IsAnswer, glyphs_line};
+ghost use Rattle.shape_command.specs.Lines.{IsAnswer, IsList, glyphs_in, glyphs_line};
+ghost use Rattle.shape_command.specs.declared.output.OutputFormat.TheVariants.{Text, Json};
 
 use crate::options::LineOptions;
+use crate::output::{Output, OutputFormat};
 use crate::text::{emptied, empty_text, fill, lossy_text};
 use font_shaper::{Face, FaceNames, KeptPlans, ShapeError, VerifyError, shape_with_kept_plans};
+use line_formats::characters::characters_list;
+use line_formats::json::glyphs_json;
 use shaping_buffer::{
     Flags, GlyphBuffer, GlyphNames, NoGlyphNames, SerializeFlags, UnicodeBuffer, hb_glyph_info_t,
 };
@@ -37,6 +41,8 @@ pub enum Answer {
     Empty,
     /// It has glyphs, and this is their text.
     Glyphs(String),
+    /// It has glyphs, and these are their objects in JSON.
+    Objects(Vec<u8>),
     /// It is too long to be shaped.
     Failed,
     /// A test of its glyphs failed.
@@ -48,8 +54,17 @@ impl Answer {
     pub fn is_shaped(&self) -> bool
         ensures { result ≡ is_shaped self.now }
     {
-        matches!(self, Answer::Empty | Answer::Glyphs(_))
+        matches!(self, Answer::Empty | Answer::Glyphs(_) | Answer::Objects(_))
     }
+}
+
+/// What is printed of a line.
+#[derive(Debug, Drop)]
+pub struct Answered {
+    /// The list of its characters; empty where that is not shown.
+    pub characters: Vec<u8>,
+    /// What it is answered with.
+    pub answer: Answer,
 }
 
 /// What is kept of a line for the next one of the same font.
@@ -106,8 +121,10 @@ pub struct LineShaper<'a> {
     pub face: &'a Face<'a>,
     /// How each line is shaped.
     pub options: &'a LineOptions<'a>,
-    /// What is printed of glyphs.
-    pub output: SerializeFlags,
+    /// How often each line is shaped.
+    pub iterations: u32,
+    /// What is printed of lines and of their glyphs.
+    pub output: Output,
     /// Whether the text is a single line.
     pub single_par: bool,
 }
@@ -119,8 +136,9 @@ impl LineShaper<'_> {
         alloc: Global,
         state: &mut LineState<N>,
         line: &[u8],
-    ) -> Result<Answer, AllocError>
-        ensures { IfOk result (λ answer. IsAnswer self.now.output (answer_text answer)) }
+    ) -> Result<Answered, AllocError>
+        ensures answer { IfOk result (λ answered. IsAnswer self.now.output (answer_text answered.answer)) }
+        ensures list { IfOk result (λ answered. IsList answered.characters.items) }
     {
         match std::str::from_utf8(line) {
             Ok(line) => self.answer_to_text(alloc, state, line),
@@ -133,6 +151,58 @@ impl LineShaper<'_> {
 
     /// The answer to a line that is UTF-8.
     fn answer_to_text<N: LineNames>(
+        &self,
+        alloc: Global,
+        state: &mut LineState<N>,
+        line: &str,
+    ) -> Result<Answered, AllocError>
+        ensures answer { IfOk result (λ answered. IsAnswer self.now.output (answer_text answered.answer)) }
+        ensures list { IfOk result (λ answered. IsList answered.characters.items) }
+    {
+        self.shape_unprinted(alloc, state, line)?;
+        let characters = self.characters(alloc, line)?;
+        let answer = self.shape(alloc, state, line)?;
+        Ok(Answered { characters, answer })
+    }
+
+    /// The list of a line's characters, where that is shown; else it is empty.
+    fn characters(&self, alloc: Global, line: &str) -> Result<Vec<u8>, AllocError>
+        ensures { IfOk result (λ characters. IsList characters.items) }
+    {
+        let mut text = empty_text(alloc, self.options);
+        if self.output.shown.characters {
+            // Of a line that is too long there is no list.
+            let _fits = fill(alloc, self.options, line, &mut text)?;
+        }
+        let buffer = text.into_buffer();
+        let list = characters_list(alloc, buffer.info())?;
+        Ok(list)
+    }
+
+    /// Shapes a line once less than is asked for: what it gives is not printed.
+    fn shape_unprinted<N: LineNames>(
+        &self,
+        alloc: Global,
+        state: &mut LineState<N>,
+        line: &str,
+    ) -> Result<(), AllocError> {
+        for _ in 1..self.iterations {
+            let mut text = state.kept.take_text(alloc, self.options);
+            if !fill(alloc, self.options, line, &mut text)? {
+                return Ok(());
+            }
+            let features = self.options.features.as_slice();
+            match shape_with_kept_plans(self.face, features, &mut state.kept.plans, text) {
+                Ok(glyphs) => state.kept.text = Some(glyphs.clear()),
+                Err(ShapeError::Memory) => return Err(AllocError),
+                Err(_) => return Ok(()),
+            }
+        }
+        Ok(())
+    }
+
+    /// What a line is answered with.
+    fn shape<N: LineNames>(
         &self,
         alloc: Global,
         state: &mut LineState<N>,
@@ -169,7 +239,7 @@ impl LineShaper<'_> {
         Ok(answer)
     }
 
-    /// What is printed of glyphs: their text. It is public for its clause, which says more than that of `answer`.
+    /// What is printed of glyphs: their text, or their objects. It is public for its clause, which says more than that of `answer`.
     pub fn print<N: LineNames>(
         &self,
         alloc: Global,
@@ -183,8 +253,58 @@ impl LineShaper<'_> {
             return Ok(Answer::Empty);
         }
         self.find_extents(names, glyphs.glyph_infos())?;
-        let text = glyphs.serialize(alloc, names, self.output)?;
+        let answer = self.print_some(alloc, names, glyphs)?;
+        Ok(answer)
+    }
+
+    /// What is printed of glyphs where there are some.
+    fn print_some<N: LineNames>(
+        &self,
+        alloc: Global,
+        names: &N,
+        glyphs: &GlyphBuffer,
+    ) -> Result<Answer, AllocError>
+        ensures { IfOk result (λ answer. answer_text answer ≡ glyphs_in
+            (record { name = N.name_of names.now; extents = N.extents_of names.now }) self.now.output.format
+            self.now.output.flags glyphs.now) }
+    {
+        match self.output.format {
+            OutputFormat::Text => self.text(alloc, names, glyphs),
+            OutputFormat::Json => self.objects(alloc, names, glyphs),
+            OutputFormat::Nothing => Ok(Answer::Empty),
+        }
+    }
+
+    /// The text of glyphs.
+    fn text<N: LineNames>(
+        &self,
+        alloc: Global,
+        names: &N,
+        glyphs: &GlyphBuffer,
+    ) -> Result<Answer, AllocError>
+        ensures { IfOk result (λ answer. answer_text answer ≡ glyphs_in
+            (record { name = N.name_of names.now; extents = N.extents_of names.now }) Text
+            self.now.output.flags glyphs.now) }
+    {
+        let text = glyphs.serialize(alloc, names, self.output.flags)?;
         Ok(Answer::Glyphs(text))
+    }
+
+    /// The objects of glyphs.
+    fn objects<N: LineNames>(
+        &self,
+        alloc: Global,
+        names: &N,
+        glyphs: &GlyphBuffer,
+    ) -> Result<Answer, AllocError>
+        ensures { IfOk result (λ answer. answer_text answer ≡ glyphs_in
+            (record { name = N.name_of names.now; extents = N.extents_of names.now }) Json
+            self.now.output.flags glyphs.now) }
+    {
+        let infos = glyphs.glyph_infos();
+        let positions = glyphs.glyph_positions();
+        let objects = glyphs_json(alloc, names, self.output.flags, infos, positions)?;
+        Ok(Answer::Objects(objects))
     }
 
     /// Finds the extents of glyphs, where they are printed.
@@ -193,7 +313,7 @@ impl LineShaper<'_> {
         names: &mut N,
         infos: &[hb_glyph_info_t],
     ) -> Result<(), AllocError> {
-        if self.output.contains(SerializeFlags::GLYPH_EXTENTS) {
+        if self.output.flags.contains(SerializeFlags::GLYPH_EXTENTS) {
             names.find(infos)?;
         }
         Ok(())

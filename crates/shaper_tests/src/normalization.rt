@@ -1,6 +1,6 @@
 //! What is kept of characters that are normalized with a font.
 
-ghost use Rattle.std.specs.Prelude.{◌≡◌, false};
+ghost use Rattle.std.specs.Prelude.{◌≡◌, true, false, IfOk};
 
 use crate::upright::UPRIGHT;
 use font_normalization::glyph_info::{
@@ -9,11 +9,11 @@ use font_normalization::glyph_info::{
     set_modified_combining_class, set_unicode_props, space_fallback,
 };
 use font_normalization::{allows_any_order, normalize};
-use font_shaper::Face;
+use font_shaper::{Face, OwnFunctions};
 use rb_common::GlyphId;
 use script_shapers::{ScriptPlan, ScriptShaper};
 use shaping_buffer::{BufferClusterLevel, UnicodeBuffer, hb_buffer_t, hb_glyph_info_t};
-use std::alloc::Global;
+use std::alloc::{AllocError, Global};
 use std::process::Abort;
 use std::test::Fail;
 
@@ -109,12 +109,20 @@ fn assert_properties(rt: &impl Abort, infos: &mut [hb_glyph_info_t]) {
     }
 }
 
+/// Normalizes characters with the font's own functions.
+fn normalize_by(face: &Face, buffer: &mut hb_buffer_t) -> Result<bool, AllocError>
+    requires { buffer.old.have_output ≡ false }
+    ensures { IfOk result (λ done. done ≡ true → buffer.new.have_output ≡ false) }
+{
+    normalize(buffer, &OwnFunctions { face }, &plan())
+}
+
 /// A mark, a space, and a variation selector that the font does not know.
 #[test]
 fn properties_are_kept(rt: HostRuntime) -> Result<(), Fail> {
     let face = Face::parse(rt.alloc(), UPRIGHT, 0)?.ok_or("no font")?;
     let mut buffer = buffer_of(&rt, rt.alloc(), "a\u{301}\u{2003}b\u{fe01}");
-    assert!(rt; normalize(&mut buffer, &face, &plan())?);
+    assert!(rt; normalize_by(&face, &mut buffer)?);
     assert_properties(&rt, buffer.info_slice_mut());
     Ok(())
 }

@@ -1,13 +1,13 @@
 -- What each call does to the lengths of both sides. `lengths` are rewrite rules for the loops of callers, who name them
 -- in an attribute: `#[tactic(auto, using(shaping_runs::proofs::CallerLaws::lengths))]`.
-use Rattle.std.proofs.Common.{◌≡◌, ◌≤◌, ◌+◌, ◌-◌, ℕ, true, cond, List, [], ◌∷◌, ◌++◌, length, map}
+use Rattle.std.proofs.Common.{◌≡◌, ◌≤◌, ◌+◌, ◌-◌, ℕ, Bool, true, cond, List, [], ◌∷◌, ◌++◌, length, map}
 use Rattle.std.proofs.Common.{take, drop, refl, sym, ap, ◌∙◌, subst, arith, ltb, leb, ◌||◌, length-append}
 use Rattle.std.proofs.Common.{length-drop, eqb}
 use Rattle.std.proofs.lemmas.Bool.{cond_both, cond-true, false≢true, le-ltb, eqb-true}
 use Rattle.std.proofs.lemmas.List.{length-map, length-take-le}
 use Rattle.rb_glyph.specs.declared.info.hb_glyph_info_t.{hb_glyph_info_t}
 use Rattle.glyph_lists.specs.Clusters.{run_merge}
-use Rattle.glyph_lists.specs.Deletion.{merge_or_mark}
+use Rattle.glyph_lists.specs.Deletion.{deletion, merge_or_mark}
 use Rattle.glyph_lists.specs.Replacement.{copies}
 use Rattle.glyph_lists.proofs.LengthsLemmas.{length-merge_or_mark, length-deletion, length_copies}
 use Rattle.glyph_lists.proofs.MergesLemmas.{length-run_merge}
@@ -55,12 +55,21 @@ pub length-merge_out_clusters_input : (start end : ℕ) (s : State)
     → length (merge_out_clusters start end s).input ≡ length s.input
 length-merge_out_clusters_input start end s = length_input_of _ s (length_merged_out start end s)
 
+-- a deletion of any glyph, where the state is not a variable
+pub length-deletion_out : (any_order : Bool) (out : List hb_glyph_info_t) (x : hb_glyph_info_t)
+    (rest : List hb_glyph_info_t) → length (deletion any_order out x rest).out ≡ length out
+length-deletion_out any_order out x rest = (length-deletion any_order out x rest).0
+
+pub length-deletion_rest : (any_order : Bool) (out : List hb_glyph_info_t) (x : hb_glyph_info_t)
+    (rest : List hb_glyph_info_t) → length (deletion any_order out x rest).rest ≡ length rest
+length-deletion_rest any_order out x rest = (length-deletion any_order out x rest).1
+
 pub length-delete_glyph_out : (s : State) → length (delete_glyph s).out ≡ length s.out
-length-delete_glyph_out s = (length-deletion (any_order s) s.out (head_of s) (drop 1 s.input)).0
+length-delete_glyph_out s = length-deletion_out (any_order s) s.out (head_of s) (drop 1 s.input)
 
 pub length-delete_glyph_input : (s : State) → length (delete_glyph s).input ≡ length s.input - 1
 length-delete_glyph_input s =
-    (length-deletion (any_order s) s.out (head_of s) (drop 1 s.input)).1 ∙ length-drop 1 s.input
+    length-deletion_rest (any_order s) s.out (head_of s) (drop 1 s.input) ∙ length-drop 1 s.input
 
 pub ruleset lengths = (
   length-merge_clusters_out,
@@ -69,6 +78,8 @@ pub ruleset lengths = (
   length-merge_out_clusters_input,
   length-delete_glyph_out,
   length-delete_glyph_input,
+  length-deletion_out,
+  length-deletion_rest,
   length_copies,
 )
 

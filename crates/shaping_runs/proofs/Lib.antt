@@ -8,7 +8,7 @@
 -- Memory can run out only where an output is separate and a side outgrows its room: so never while the output stays in
 -- place (`SeparateSteps`, `InPlaceSteps`, `InPlaceLaws`), nor while both sides stay within the room (`RoomLaws`).
 -- A call exchanges one part of the list for another, and parts of parts are parts: so a glyph disappears only where a
--- call drops it (`DroppedLemmas`).
+-- call drops it (`PartsLemmas`, `DroppedLemmas`).
 -- The rest is said of single calls: what merges, marks and the least cluster come to (`HeadlineLemmas`), what is as it was
 -- with three levels (`OldRuns`), and what becomes of the lengths of both sides, for loops of callers (`CallerLaws`).
 pub mod ReplayLemmas
@@ -23,6 +23,7 @@ pub mod SeparateSteps
 pub mod InPlaceSteps
 pub mod InPlaceLaws
 pub mod RoomLaws
+pub mod PartsLemmas
 pub mod DroppedLemmas
 pub mod HeadlineLemmas
 pub mod OldRuns

@@ -2,6 +2,7 @@
 #![tactic(auto)]
 
 pub mod comparing;
+pub mod deletion;
 pub mod groups;
 pub mod in_place;
 pub mod ligature;

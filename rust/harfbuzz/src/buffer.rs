@@ -136,6 +136,16 @@ impl hb_buffer_t {
         }
     }
 
+    /// Takes what its user set of another buffer, but for its functions of Unicode.
+    fn set_as(&mut self, other: &Self) {
+        self.flags = other.flags;
+        self.cluster_level = other.cluster_level;
+        self.replacement = other.replacement;
+        self.invisible = other.invisible;
+        self.not_found = other.not_found;
+        self.not_found_variation_selector = other.not_found_variation_selector;
+    }
+
     pub fn unicode(&self) -> &hb_unicode_funcs_t {
         // SAFETY: the buffer holds a reference of its functions.
         unsafe { &*self.unicode.get() }
@@ -203,12 +213,7 @@ pub unsafe extern "C" fn hb_buffer_create_similar(source: *const hb_buffer_t) ->
     let mut buffer = hb_buffer_t::of(Header::new());
     // SAFETY: the functions of the source are alive.
     buffer.unicode.set(unsafe { reference(source.unicode.get()) });
-    buffer.flags = source.flags;
-    buffer.cluster_level = source.cluster_level;
-    buffer.replacement = source.replacement;
-    buffer.invisible = source.invisible;
-    buffer.not_found = source.not_found;
-    buffer.not_found_variation_selector = source.not_found_variation_selector;
+    buffer.set_as(source);
     given(buffer)
 }
 
@@ -219,12 +224,7 @@ pub unsafe extern "C" fn hb_buffer_reset(buffer: *mut hb_buffer_t) {
         return;
     };
     let fresh = hb_buffer_t::of(Header::new());
-    buffer.flags = fresh.flags;
-    buffer.cluster_level = fresh.cluster_level;
-    buffer.replacement = fresh.replacement;
-    buffer.invisible = fresh.invisible;
-    buffer.not_found = fresh.not_found;
-    buffer.not_found_variation_selector = fresh.not_found_variation_selector;
+    buffer.set_as(&fresh);
     buffer.unicode.swap(&fresh.unicode);
     buffer.clear();
 }

@@ -20,9 +20,10 @@ use crate::face::{hb_face_destroy, hb_face_t};
 use crate::font::functions::{hb_font_funcs_destroy, hb_font_funcs_t};
 use crate::object::{Empty, Header, Object, given, object_calls, reference, release};
 use crate::types::{hb_bool_t, hb_destroy_func_t};
-use std::cell::{Cell, RefCell};
+use std::cell::Cell;
 use std::ffi::{c_uint, c_void};
 use std::ptr::null_mut;
+use std::sync::{Mutex, PoisonError, RwLock, RwLockReadGuard};
 use vukhaso::internals::font_shaper::KeptPlans;
 
 const NO_INSTANCE: u32 = u32::MAX;
@@ -33,6 +34,20 @@ struct Bold {
     x: f32,
     y: f32,
     in_place: bool,
+}
+
+/// A list that threads may read at the same time.
+#[derive(Default)]
+struct Shared<T>(RwLock<Vec<T>>);
+
+impl<T> Shared<T> {
+    fn borrow(&self) -> RwLockReadGuard<'_, Vec<T>> {
+        self.0.read().unwrap_or_else(PoisonError::into_inner)
+    }
+
+    fn replace(&self, list: Vec<T>) {
+        *self.0.write().unwrap_or_else(PoisonError::into_inner) = list;
+    }
 }
 
 pub struct hb_font_t {
@@ -46,12 +61,14 @@ pub struct hb_font_t {
     slant: Cell<f32>,
     instance: Cell<u32>,
     /// The normalized coordinates; none where no variations are chosen.
-    coordinates: RefCell<Vec<i32>>,
-    design: RefCell<Vec<f32>>,
+    coordinates: Shared<i32>,
+    design: Shared<f32>,
     serial: Cell<c_uint>,
     class: Cell<*mut hb_font_funcs_t>,
     data: Cell<*mut c_void>,
     destroy: Cell<hb_destroy_func_t>,
+    /// The plans of texts that were shaped with the font's functions.
+    plans: Mutex<KeptPlans>,
 }
 
 impl Object for hb_font_t {
@@ -91,12 +108,13 @@ impl hb_font_t {
             bold: Cell::default(),
             slant: Cell::default(),
             instance: Cell::new(NO_INSTANCE),
-            coordinates: RefCell::default(),
-            design: RefCell::default(),
+            coordinates: Shared::default(),
+            design: Shared::default(),
             serial: Cell::new(0),
             class: Cell::new(hb_font_funcs_t::empty()),
             data: Cell::new(null_mut()),
             destroy: Cell::new(None),
+            plans: Mutex::new(KeptPlans::new()),
         }
     }
 
@@ -127,11 +145,11 @@ impl hb_font_t {
         self.scale.get()
     }
 
-    pub fn coordinates(&self) -> std::cell::Ref<'_, Vec<i32>> {
+    pub fn coordinates(&self) -> RwLockReadGuard<'_, Vec<i32>> {
         self.coordinates.borrow()
     }
 
-    pub fn design(&self) -> std::cell::Ref<'_, Vec<f32>> {
+    pub fn design(&self) -> RwLockReadGuard<'_, Vec<f32>> {
         self.design.borrow()
     }
 
@@ -190,8 +208,17 @@ impl hb_font_t {
         self.face().with_shaper(&self.shaper_settings(), ask)
     }
 
+    /// Lends the plans of the font's functions; none to a second caller at the same time.
+    pub fn with_plans<T>(&self, ask: impl FnOnce(&mut KeptPlans) -> T) -> T {
+        match self.plans.try_lock() {
+            Ok(mut plans) => ask(&mut plans),
+            Err(_) => ask(&mut KeptPlans::new()),
+        }
+    }
+
     fn changed(&self) {
         self.serial.set(self.serial.get() + 1);
+        self.with_plans(|plans| *plans = KeptPlans::new());
     }
 
     fn is_immutable(&self) -> bool {

@@ -19,6 +19,7 @@ mod edits;
 mod face;
 mod font;
 mod ft;
+mod graphite2;
 mod map;
 mod object;
 mod ot;

@@ -1,7 +1,7 @@
 //! `hb-ot.h`: what tables of OpenType say.
 
 mod chosen_languages;
-mod color;
+pub mod color;
 pub mod layout;
 mod math;
 mod meta;

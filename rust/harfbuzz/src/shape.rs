@@ -1,6 +1,6 @@
 //! `hb-shape.h` and `hb-shape-plan.h`: shaping, by the proved `shape`.
 
-mod caller_functions;
+mod asked_font;
 mod fallback;
 mod plan;
 mod watching;
@@ -10,10 +10,13 @@ use crate::common::features::hb_feature_t;
 use crate::common::languages::shaper_language;
 use crate::common::scripts::UNKNOWN;
 use crate::font::hb_font_t;
+use crate::shape::asked_font::AskedFont;
 use crate::shape::watching::Telling;
 use crate::types::{BOTTOM_TO_TOP, LEFT_TO_RIGHT, RIGHT_TO_LEFT, TOP_TO_BOTTOM, hb_bool_t, hb_direction_t, is_valid, slice};
 use std::ffi::{CStr, c_char, c_uint};
-use vukhaso::internals::font_shaper::{KeptPlans, shape_watched, shape_with_kept_plans};
+use vukhaso::internals::font_shaper::{
+    KeptPlans, shape_watched, shape_with_functions_and_plans, shape_with_functions_watched, shape_with_kept_plans,
+};
 use vukhaso::{
     BufferClusterLevel, BufferFlags, Direction, Face, Feature, GlyphBuffer, GlyphId, Script, ShapeError, Tag, UnicodeBuffer,
 };
@@ -158,6 +161,7 @@ impl Shaped {
     }
 }
 
+/// The glyphs of a text by the tables of a font.
 fn shaped_by(
     face: &Face<'static>,
     kept: &mut KeptPlans,
@@ -168,6 +172,22 @@ fn shaped_by(
     let glyphs = match telling {
         Some(mut telling) => shape_watched(face, features, text, &mut telling)?,
         None => shape_with_kept_plans(face, features, kept, text)?,
+    };
+    Ok(Shaped::of(glyphs.glyph_infos(), glyphs.glyph_positions()))
+}
+
+/// The glyphs of a text by a font of which functions of the caller's answer.
+fn shaped_with(
+    face: &Face<'static>,
+    font: &hb_font_t,
+    asked: &AskedFont,
+    features: &[Feature],
+    text: UnicodeBuffer,
+    telling: Option<Telling>,
+) -> Result<Shaped, ShapeError> {
+    let glyphs = match telling {
+        Some(mut telling) => shape_with_functions_watched(face, asked, features, text, &mut telling)?,
+        None => font.with_plans(|kept| shape_with_functions_and_plans(face, asked, features, kept, text))?,
     };
     Ok(Shaped::of(glyphs.glyph_infos(), glyphs.glyph_positions()))
 }
@@ -184,17 +204,19 @@ unsafe fn shape_text(font: &hb_font_t, buffer: *mut hb_buffer_t, features: &[hb_
         return false;
     };
     let features: Vec<Feature> = features.iter().map(|feature| feature.of_shaper()).collect();
-    // SAFETY: the caller's word.
-    let characters = unsafe { caller_functions::Characters::of(font, &*buffer) };
     let telling = listener.function.map(|function| Telling::new(function, listener.data, buffer, font));
-    let shaped =
-        font.with_shaper_and_plan(|face, kept| characters.with(face, |face| shaped_by(face, kept, &features, text, telling)));
+    let asked = AskedFont::new(font);
+    let shaped = if asked.is_own {
+        font.with_shaper_and_plan(|face, kept| shaped_by(face, kept, &features, text, telling))
+    } else {
+        font.with_shaper(|face| shaped_with(face, font, &asked, &features, text, telling))
+    };
     let Ok(mut shaped) = shaped else {
         return false;
     };
     // SAFETY: the caller's word.
     unsafe {
-        caller_functions::correct(font, &*buffer, &characters, &mut shaped);
+        asked.correct(&*buffer, &mut shaped);
         put(&mut *buffer, shaped);
     }
     true

@@ -75,7 +75,7 @@ impl<'a> Arg<'a> {
 
     /// Says that the later one of two counts, as all do here.
     #[allow(clippy::unnecessary_wraps)]
-    pub(crate) fn overrides_with(self, _id: &'a str) -> Result<Self, Error> {
+    pub(crate) fn overrides_with(self, _id: &'a str) -> Result<Self, AllocError> {
         Ok(self)
     }
 
@@ -176,6 +176,11 @@ impl<'a> Command<'a> {
     pub(crate) fn arg(mut self, arg: Arg<'a>) -> Result<Self, AllocError> {
         self.args.push(arg)?;
         Ok(self)
+    }
+
+    /// The help, with the name of the command for that of the program.
+    pub(crate) fn render_help(&mut self) -> Result<String, AllocError> {
+        help::help(self, self.name)
     }
 
     /// What the words say, of which the first is the name of the program.

@@ -8,7 +8,8 @@ pub use crate::buffer::{
 };
 pub use crate::common::{Direction, GlyphId, Script, Tag, TagExt, script};
 pub use crate::font_shaper::{
-    Face, FaceNames, ShapeError, ShapePlan, Variation, VerifyError, shape, shape_with_plan,
+    Face, FaceNames, FontFunctions, OwnFunctions, ShapeError, ShapePlan, Variation, VerifyError,
+    shape, shape_with_functions, shape_with_plan,
 };
 pub use crate::glyph::{
     BufferFlags, CharExt, CombiningClasses, Compositions, Decompositions, GlyphExtents, GlyphInfo,

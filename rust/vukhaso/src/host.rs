@@ -9,13 +9,16 @@ use core::fmt::{self, Display};
 use std::fs::File;
 use std::io::{Result, Stderr, Stdin, Stdout, Write};
 
-/// Files that are read.
+/// Files that are read and written.
 pub(crate) trait Files {
     /// A file that is open.
-    type File: std::io::Read;
+    type File: std::io::Read + Write;
 
     /// Opens a file.
     fn open(&self, path: &str) -> Result<Self::File>;
+
+    /// Makes a file that is empty, in place of one of this name.
+    fn create(&self, path: &str) -> Result<Self::File>;
 }
 
 /// The words of the command line, the first of which is the name of the program.
@@ -89,6 +92,10 @@ impl Files for Host {
 
     fn open(&self, path: &str) -> Result<File> {
         File::open(path)
+    }
+
+    fn create(&self, path: &str) -> Result<File> {
+        File::create(path)
     }
 }
 

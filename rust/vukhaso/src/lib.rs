@@ -64,11 +64,11 @@ mod jobs;
 use internals::command;
 use internals::{
     apple_substitution, apple_tables, arrayvec, bitflags, buffer, character_maps, color_glyphs,
-    common, font_face, font_normalization, font_positions, font_shaper, font_tables,
-    font_variations, glyph, glyph_layout, glyph_lists, glyph_outlines, glyph_positions,
-    glyph_sides, glyph_substitution, glyph_text, glyph_variations, language_tags, layout_plan,
-    numbers, position_tables, runs, script_features, script_shapers, syllabic_shapers,
-    syllable_tables, text,
+    common, font_face, font_functions, font_normalization, font_positions, font_shaper,
+    font_tables, font_variations, glyph, glyph_layout, glyph_lists, glyph_outlines,
+    glyph_positions, glyph_sides, glyph_substitution, glyph_text, glyph_variations, language_tags,
+    layout_plan, line_formats, numbers, position_tables, runs, script_features, script_shapers,
+    syllabic_shapers, syllable_tables, text,
 };
 
 pub use facade::*;

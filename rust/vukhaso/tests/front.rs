@@ -111,3 +111,72 @@ fn a_plan_is_not_for_other_texts() {
     buffer.push_str("abc");
     rustybuzz::shape_with_plan(&face, &plan, buffer);
 }
+
+/// A font that changes its mind: whether a character has a glyph too, and each measure, is otherwise each time.
+struct Fickle(std::cell::Cell<i32>);
+
+impl Fickle {
+    fn number(&self) -> i32 {
+        let number = self.0.get().wrapping_mul(1664525).wrapping_add(1013904223);
+        self.0.set(number);
+        number
+    }
+}
+
+impl vukhaso::FontFunctions for Fickle {
+    fn nominal_glyph(&self, _character: u32) -> Option<vukhaso::GlyphId> {
+        let number = self.number();
+        (number < 0).then_some(vukhaso::GlyphId((number >> 8) as u16))
+    }
+
+    fn variation_glyph(&self, character: u32, _selector: u32) -> Option<vukhaso::GlyphId> {
+        self.nominal_glyph(character)
+    }
+
+    fn glyph_h_advance(&self, _glyph: vukhaso::GlyphId) -> i32 {
+        self.number()
+    }
+
+    fn glyph_v_advance(&self, _glyph: vukhaso::GlyphId) -> i32 {
+        self.number()
+    }
+
+    fn glyph_v_origin(&self, _glyph: vukhaso::GlyphId) -> Result<(i32, i32), vukhaso::AllocError> {
+        Ok((self.number(), self.number()))
+    }
+
+    fn glyph_extents(
+        &self,
+        _glyph: vukhaso::GlyphId,
+    ) -> Result<Option<vukhaso::GlyphExtents>, vukhaso::AllocError> {
+        Ok(None)
+    }
+}
+
+/// This is tested: what is proved is of fonts whose characters have glyphs or have none.
+#[test]
+fn functions_that_change_their_mind_are_no_harm() {
+    let face = vukhaso::Face::from_slice(FONT, 0).unwrap();
+    let font = Fickle(std::cell::Cell::new(1));
+    let texts = [
+        "ấ\u{327} b\u{2011}c",
+        "لا\u{64e}م",
+        "\u{1112}\u{1161}\u{11ab}한",
+        "क्षि",
+        "กำ",
+        "❤\u{fe0f}",
+    ];
+    for text in texts.iter().cycle().take(600) {
+        let mut buffer = vukhaso::UnicodeBuffer::new();
+        assert!(buffer.push_str(text).unwrap());
+        let glyphs = vukhaso::shape_with_functions(&face, &font, &[], buffer).unwrap();
+        assert_eq!(glyphs.glyph_infos().len(), glyphs.glyph_positions().len());
+        let is_cluster = |cluster: u32| text.is_char_boundary(cluster as usize);
+        assert!(
+            glyphs
+                .glyph_infos()
+                .iter()
+                .all(|info| is_cluster(info.cluster))
+        );
+    }
+}

@@ -8,7 +8,7 @@ use super::drop_behind;
 use super::parts::Decomposer;
 use super::variations::read_variations;
 use crate::glyph_info::{is_unicode_mark, is_unicode_space, set_space_fallback, set_unicode_props};
-use font_face::Face;
+use font_functions::FontFunctions;
 use rb_common::GlyphId;
 use script_shapers::{NormalizationMode, ScriptShaper};
 use shaping_buffer::rb_glyph::hb_unicode_funcs_t::NOT_SPACE;
@@ -27,22 +27,22 @@ const HYPHEN: u32 = 0x2010;
 /// Finds a glyph for each character, or for its parts. By the mode of a script's shaper, a character with marks is kept too if the font
 /// has a glyph for it, or one without marks is taken apart too.
 #[tactic(auto, using(shaping_buffer::proofs::ClosedKeepsLemmas::kept))]
-pub(crate) fn decompose_all(
+pub(crate) fn decompose_all<F: FontFunctions>(
     buffer: &mut hb_buffer_t,
-    face: &Face,
+    font: &F,
     shaper: ScriptShaper,
 ) -> Result<bool, AllocError>
     requires { buffer.old.have_output ≡ false }
     ensures closed { IfOk result (λ done. done ≡ true → buffer.new.have_output ≡ false) }
     ensures keeps { KeepsClusters buffer.old buffer.new }
 {
-    map_characters(buffer, face);
+    map_characters(buffer, font);
     buffer.clear_output();
     for _turn in 0..buffer.len() {
         if buffer.lookahead_len() == 0 {
             break;
         }
-        if !decompose_next(buffer, face, shaper)? {
+        if !decompose_next(buffer, font, shaper)? {
             return Ok(false);
         }
     }
@@ -50,30 +50,30 @@ pub(crate) fn decompose_all(
 }
 
 /// Finds the glyph of each character, 0 where the font has none.
-fn map_characters(buffer: &mut hb_buffer_t, face: &Face)
+fn map_characters<F: FontFunctions>(buffer: &mut hb_buffer_t, font: &F)
     requires { buffer.old.have_output ≡ false }
     ensures closed { buffer.new.have_output ≡ false }
     ensures keeps { KeepsClusters buffer.old buffer.new }
 {
-    map_all(buffer.info_slice_mut(), face);
+    map_all(buffer.info_slice_mut(), font);
 }
 
 /// Finds the glyph of each of the characters.
 #[tactic(auto, using(shaping_buffer::proofs::ClosedKeepsLemmas::clusters_written))]
-fn map_all(infos: &mut [hb_glyph_info_t], face: &Face)
+fn map_all<F: FontFunctions>(infos: &mut [hb_glyph_info_t], font: &F)
     ensures { clusters infos.new ≡ clusters infos.old }
 {
     for i in 0..infos.len() {
-        let glyph = face.glyph_index(infos[i].glyph_id);
+        let glyph = font.nominal_glyph(infos[i].glyph_id);
         infos[i].set_glyph_index(glyph.map_or(0, |glyph| u32::from(glyph.0)));
     }
 }
 
 /// Reads characters up to the base of the next marks, and then that base with its marks.
 #[tactic(auto, using(shaping_buffer::proofs::ClosedKeepsLemmas::kept))]
-fn decompose_next(
+fn decompose_next<F: FontFunctions>(
     buffer: &mut hb_buffer_t,
-    face: &Face,
+    font: &F,
     shaper: ScriptShaper,
 ) -> Result<bool, AllocError>
     requires { buffer.old.have_output ≡ true }
@@ -82,7 +82,7 @@ fn decompose_next(
 {
     let mode = shaper.normalization_mode();
     let decomposer = Decomposer {
-        face,
+        font,
         shaper,
         short_circuit: mode != NormalizationMode::Decomposed,
     };
@@ -92,7 +92,7 @@ fn decompose_next(
     }
     let cluster = cluster_length(buffer.info());
     if has_variation_selector(buffer.info(), cluster) {
-        read_variations(buffer, face, cluster)
+        read_variations(buffer, font, cluster)
     } else {
         let decomposer = Decomposer {
             short_circuit: mode == NormalizationMode::Nothing,
@@ -141,9 +141,9 @@ pub(crate) fn is_variation_selector(character: u32) -> bool {
 /// Reads so many characters: each that the font has a glyph for is kept where as few are taken apart as can be, and else taken apart if
 /// the font has its parts.
 #[tactic(auto, using(shaping_buffer::proofs::ClosedKeepsLemmas::kept))]
-fn decompose_characters(
+fn decompose_characters<F: FontFunctions>(
     buffer: &mut hb_buffer_t,
-    decomposer: &Decomposer,
+    decomposer: &Decomposer<F>,
     count: usize,
 ) -> Result<bool, AllocError>
     requires { buffer.old.have_output ≡ true }
@@ -185,7 +185,10 @@ fn ready_length(infos: &[hb_glyph_info_t], count: usize, short_circuit: bool) ->
 
 /// Reads one character: puts its parts out in its place, or itself with a glyph.
 #[tactic(auto, using(shaping_buffer::proofs::ClosedKeepsLemmas::kept))]
-fn decompose_current(buffer: &mut hb_buffer_t, decomposer: &Decomposer) -> Result<bool, AllocError>
+fn decompose_current<F: FontFunctions>(
+    buffer: &mut hb_buffer_t,
+    decomposer: &Decomposer<F>,
+) -> Result<bool, AllocError>
     requires opened { buffer.old.have_output ≡ true }
     requires glyph { 0 < length buffer.old.input }
     ensures opened { IfOk result (λ _. buffer.new.have_output ≡ true) }
@@ -193,24 +196,28 @@ fn decompose_current(buffer: &mut hb_buffer_t, decomposer: &Decomposer) -> Resul
 {
     let mut parts = Parts::new();
     if add_font_parts(&mut parts, decomposer, buffer.cur(0).glyph_id) {
-        return put_parts(buffer, decomposer.face, &parts);
+        return put_parts(buffer, decomposer.font, &parts);
     }
     if buffer.cur(0).glyph_index() == 0 {
-        find_fallback(buffer, decomposer.face);
+        find_fallback(buffer, decomposer.font);
     }
     buffer.next_glyph()
 }
 
 /// Puts characters out in place of the current one.
 #[tactic(auto, using(shaping_buffer::proofs::ClosedKeepsLemmas::kept))]
-fn put_parts(buffer: &mut hb_buffer_t, face: &Face, parts: &[u32]) -> Result<bool, AllocError>
+fn put_parts<F: FontFunctions>(
+    buffer: &mut hb_buffer_t,
+    font: &F,
+    parts: &[u32],
+) -> Result<bool, AllocError>
     requires opened { buffer.old.have_output ≡ true }
     requires glyph { 0 < length buffer.old.input }
     ensures opened { IfOk result (λ _. buffer.new.have_output ≡ true) }
     ensures keeps { KeepsClusters buffer.old buffer.new }
 {
     for part in parts.iter() {
-        if !put_part(buffer, face, *part)? {
+        if !put_part(buffer, font, *part)? {
             return Ok(false);
         }
     }
@@ -220,14 +227,18 @@ fn put_parts(buffer: &mut hb_buffer_t, face: &Face, parts: &[u32]) -> Result<boo
 
 /// Puts a character out in the cluster of the current one.
 #[tactic(auto, using(shaping_buffer::proofs::ClosedKeepsLemmas::kept))]
-fn put_part(buffer: &mut hb_buffer_t, face: &Face, part: u32) -> Result<bool, AllocError>
+fn put_part<F: FontFunctions>(
+    buffer: &mut hb_buffer_t,
+    font: &F,
+    part: u32,
+) -> Result<bool, AllocError>
     requires opened { buffer.old.have_output ≡ true }
     requires glyph { 0 < length buffer.old.input }
     ensures opened { IfOk result (λ _. buffer.new.have_output ≡ true) }
     ensures glyph { IfOk result (λ _. 0 < length buffer.new.input) }
     ensures keeps { KeepsClusters buffer.old buffer.new }
 {
-    let glyph = face.glyph_index(part);
+    let glyph = font.nominal_glyph(part);
     set_current_glyph(buffer, glyph.map_or(0, |glyph| u32::from(glyph.0)));
     if !buffer.output_glyph(part)? {
         return Ok(false);
@@ -290,7 +301,7 @@ fn set_last(infos: &mut [hb_glyph_info_t], scratch_flags: &mut u32)
 /// Finds another glyph for a character that the font lacks: for a space the font's space, of which the width is set later,
 /// and for the hyphen that no line is broken at another hyphen.
 #[tactic(auto, using(shaping_buffer::proofs::ClosedKeepsLemmas::kept))]
-fn find_fallback(buffer: &mut hb_buffer_t, face: &Face)
+fn find_fallback<F: FontFunctions>(buffer: &mut hb_buffer_t, font: &F)
     requires opened { buffer.old.have_output ≡ true }
     requires glyph { 0 < length buffer.old.input }
     ensures opened { buffer.new.have_output ≡ true }
@@ -299,9 +310,9 @@ fn find_fallback(buffer: &mut hb_buffer_t, face: &Face)
 {
     let character = buffer.cur(0).glyph_id;
     if is_unicode_space(buffer.cur(0)) {
-        find_space(buffer, face, character);
+        find_space(buffer, font, character);
     } else if character == NON_BREAKING_HYPHEN
-        && let Some(glyph) = face.glyph_index(HYPHEN)
+        && let Some(glyph) = font.nominal_glyph(HYPHEN)
     {
         set_current_glyph(buffer, u32::from(glyph.0));
     }
@@ -309,7 +320,7 @@ fn find_fallback(buffer: &mut hb_buffer_t, face: &Face)
 
 /// Takes the font's space, or the buffer's invisible glyph, for a space that the font lacks.
 #[tactic(auto, using(shaping_buffer::proofs::ClosedKeepsLemmas::kept))]
-fn find_space(buffer: &mut hb_buffer_t, face: &Face, character: u32)
+fn find_space<F: FontFunctions>(buffer: &mut hb_buffer_t, font: &F, character: u32)
     requires opened { buffer.old.have_output ≡ true }
     requires glyph { 0 < length buffer.old.input }
     ensures opened { buffer.new.have_output ≡ true }
@@ -320,7 +331,7 @@ fn find_space(buffer: &mut hb_buffer_t, face: &Face, character: u32)
         Some(character) => character.space_fallback(),
         None => NOT_SPACE,
     };
-    let glyph = match face.glyph_index(0x20) {
+    let glyph = match font.nominal_glyph(0x20) {
         Some(glyph) => Some(glyph),
         None => buffer.invisible,
     };

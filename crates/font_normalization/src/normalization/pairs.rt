@@ -4,38 +4,38 @@ ghost use Rattle.std.specs.Prelude.{◌≡◌, Some};
 ghost use Rattle.font_normalization.specs.FontRules as rules;
 
 use crate::glyph_info::is_unicode_mark;
-use font_face::Face;
+use font_functions::FontFunctions;
 use script_shapers::{ScriptPlan, ScriptShaper};
 use shaping_buffer::hb_glyph_info_t;
 use shaping_passes::normalization::CharacterPairs;
 
 /// How marks are composed.
-#[derive(Clone, Copy, Debug)]
-pub(crate) struct Composing<'a> {
+#[derive(Drop)]
+pub(crate) struct Composing<'a, F> {
     /// The font.
-    pub face: &'a Face<'a>,
+    pub font: &'a F,
     /// The shaper of the text, which says what characters compose to.
     pub shaper: ScriptShaper,
     /// Whether the font places marks by its lookups.
     pub has_gpos_mark: bool,
 }
 
-impl<'a> Composing<'a> {
+impl<'a, F> Composing<'a, F> {
     /// How they are composed in a script, with this font.
-    pub fn new(face: &'a Face<'a>, script: &ScriptPlan) -> Self {
+    pub fn new(font: &'a F, script: &ScriptPlan) -> Self {
         Composing {
-            face,
+            font,
             shaper: script.shaper,
             has_gpos_mark: script.has_gpos_mark,
         }
     }
 }
 
-impl CharacterPairs for Composing<'_> {
+impl<F: FontFunctions> CharacterPairs for Composing<'_, F> {
     ghost use Rattle.std.specs.Prelude.{refl};
     ghost use Rattle.font_normalization.specs.FontRules.{pairs_of};
 
-    ghost pairs = { λ composing. pairs_of composing.face.now composing.shaper composing.has_gpos_mark };
+    ghost pairs = { λ composing. pairs_of (F.has composing.font.now) composing.shaper composing.has_gpos_mark };
 
     ghost alike = { λ composing starter g. refl };
 
@@ -45,8 +45,12 @@ impl CharacterPairs for Composing<'_> {
 }
 
 /// What a starter and a mark compose to, if the font has it.
-fn pair_of(composing: &Composing, starter: &hb_glyph_info_t, info: &hb_glyph_info_t) -> Option<u32>
-    ensures { result ≡ rules.pairs_of composing.now.face.now composing.now.shaper composing.now.has_gpos_mark starter.now info.now }
+fn pair_of<F: FontFunctions>(
+    composing: &Composing<F>,
+    starter: &hb_glyph_info_t,
+    info: &hb_glyph_info_t,
+) -> Option<u32>
+    ensures { result ≡ rules.pairs_of (F.has composing.now.font.now) composing.now.shaper composing.now.has_gpos_mark starter.now info.now }
 {
     if !is_unicode_mark(info) {
         return None;
@@ -61,21 +65,21 @@ fn pair_of(composing: &Composing, starter: &hb_glyph_info_t, info: &hb_glyph_inf
 }
 
 /// What two characters compose to, if the font has it.
-fn composite_of(composing: &Composing, a: char, b: char) -> Option<u32>
-    ensures { result ≡ rules.if_there composing.now.face.now
+fn composite_of<F: FontFunctions>(composing: &Composing<F>, a: char, b: char) -> Option<u32>
+    ensures { result ≡ rules.if_there (F.has composing.now.font.now)
         (rules.composite_of composing.now.shaper composing.now.has_gpos_mark a b) }
 {
     match compose(composing, a, b) {
-        Some(composed) => if_there(composing.face, composed as u32),
+        Some(composed) => if_there(composing.font, composed as u32),
         None => None,
     }
 }
 
 /// The character, if the font has it.
-fn if_there(face: &Face, character: u32) -> Option<u32>
-    ensures { result ≡ rules.if_there face.now (Some character) }
+fn if_there<F: FontFunctions>(font: &F, character: u32) -> Option<u32>
+    ensures { result ≡ rules.if_there (F.has font.now) (Some character) }
 {
-    if face.glyph_index(character).is_some() {
+    if font.nominal_glyph(character).is_some() {
         Some(character)
     } else {
         None
@@ -83,7 +87,7 @@ fn if_there(face: &Face, character: u32) -> Option<u32>
 }
 
 /// What two characters compose to, whatever the font has.
-fn compose(composing: &Composing, a: char, b: char) -> Option<char>
+fn compose<F: FontFunctions>(composing: &Composing<F>, a: char, b: char) -> Option<char>
     ensures { result ≡ rules.composite_of composing.now.shaper composing.now.has_gpos_mark a b }
 {
     composing.shaper.compose(a, b, composing.has_gpos_mark)

@@ -3,28 +3,28 @@
 ghost use Rattle.std.specs.Prelude.{◌≡◌};
 ghost use Rattle.font_normalization.specs.FontRules as rules;
 
-use font_face::Face;
+use font_functions::FontFunctions;
 use script_shapers::ScriptShaper;
 use shaping_passes::normalization::FontCharacters;
 
 /// How characters are taken apart.
-#[derive(Clone, Copy, Debug)]
-pub(crate) struct Decomposer<'a> {
+#[derive(Drop)]
+pub(crate) struct Decomposer<'a, F> {
     /// The font.
-    pub face: &'a Face<'a>,
+    pub font: &'a F,
     /// The shaper of the text, which says what a character decomposes to.
     pub shaper: ScriptShaper,
     /// Whether they are taken apart as little as the font needs, and not as far as it can.
     pub short_circuit: bool,
 }
 
-impl FontCharacters for Decomposer<'_> {
+impl<F: FontFunctions> FontCharacters for Decomposer<'_, F> {
     ghost use Rattle.font_normalization.specs.FontRules.{font_of};
 
-    ghost font = { λ decomposer. font_of decomposer.face.now decomposer.shaper decomposer.short_circuit };
+    ghost font = { λ decomposer. font_of (F.has decomposer.font.now) decomposer.shaper decomposer.short_circuit };
 
     fn has_glyph(&self, character: u32) -> bool {
-        self.face.glyph_index(character).is_some()
+        self.font.nominal_glyph(character).is_some()
     }
 
     fn parts_of(&self, character: u32) -> Option<(u32, u32)> {

@@ -9,7 +9,7 @@ ghost use Rattle.shaping_passes.specs.NormalizationComposition.{IsReady, IsPlace
 use super::pairs::Composing;
 use super::reordering::KeptClasses;
 use crate::glyph_info::set_unicode_props;
-use font_face::Face;
+use font_functions::FontFunctions;
 use script_shapers::ScriptPlan;
 use shaping_buffer::{hb_buffer_t, hb_glyph_info_t};
 use shaping_passes::normalization::next_turn;
@@ -18,9 +18,9 @@ use std::alloc::AllocError;
 /// Composes marks with the last starter before them, unless a mark between blocks them. The first character of the text is a
 /// starter, whatever it is.
 #[tactic(auto, using(shaping_buffer::proofs::ClosedKeepsLemmas::kept))]
-pub(crate) fn recompose_all(
+pub(crate) fn recompose_all<F: FontFunctions>(
     buffer: &mut hb_buffer_t,
-    face: &Face,
+    font: &F,
     script: &ScriptPlan,
 ) -> Result<bool, AllocError>
     requires { buffer.old.have_output ≡ false }
@@ -30,7 +30,7 @@ pub(crate) fn recompose_all(
     if !buffer.successful() {
         return Ok(false);
     }
-    let composing = Composing::new(face, script);
+    let composing = Composing::new(font, script);
     // Read for what its contract says: the list is no longer than `max_len`.
     let _ = buffer.len();
     buffer.clear_output();
@@ -44,9 +44,9 @@ pub(crate) fn recompose_all(
 /// Reads a character, and composes it with the last starter, which stands at this place of the out side, or puts it out.
 /// Gives the place of the last starter.
 #[tactic(auto, using(shaping_buffer::proofs::ClosedKeepsLemmas::kept))]
-fn recompose_next(
+fn recompose_next<F: FontFunctions>(
     buffer: &mut hb_buffer_t,
-    composing: &Composing,
+    composing: &Composing<F>,
     starter: Option<usize>,
 ) -> Option<usize>
     requires ready { IsReady buffer.old }
@@ -61,7 +61,7 @@ fn recompose_next(
     let count = buffer.out_len();
     let next = next_turn(buffer, composing, &KeptClasses, starter);
     if buffer.out_len() == count {
-        set_composed(buffer, composing.face, next);
+        set_composed(buffer, composing.font, next);
     }
     next
 }
@@ -79,45 +79,50 @@ fn starter_or_first(buffer: &hb_buffer_t, starter: Option<usize>) -> Option<usiz
 
 /// Finds the glyph and the properties of the last starter.
 #[tactic(auto, using(shaping_buffer::proofs::ClosedKeepsLemmas::kept))]
-fn set_composed(buffer: &mut hb_buffer_t, face: &Face, starter: Option<usize>)
+fn set_composed<F: FontFunctions>(buffer: &mut hb_buffer_t, font: &F, starter: Option<usize>)
     requires { IsReady buffer.old }
     ensures ready { IsReady buffer.new }
     ensures out { length buffer.new.out ≡ length buffer.old.out }
     ensures input { buffer.new.input ≡ buffer.old.input }
     ensures keeps { KeepsClusters buffer.old buffer.new }
 {
-    let scratch_flags = set_in_out(buffer, face, starter);
+    let scratch_flags = set_in_out(buffer, font, starter);
     buffer.scratch_flags = scratch_flags;
 }
 
 /// Finds those of the last starter, which stands at this place of the out side; the scratch flags that then hold.
-fn set_in_out(buffer: &mut hb_buffer_t, face: &Face, starter: Option<usize>) -> u32
+fn set_in_out<F: FontFunctions>(buffer: &mut hb_buffer_t, font: &F, starter: Option<usize>) -> u32
     ensures others { buffer.new ≡ record buffer.old { out = buffer.new.out } }
     ensures out { length buffer.new.out ≡ length buffer.old.out }
     ensures keeps { KeepsClusters buffer.old buffer.new }
 {
     let mut scratch_flags = buffer.scratch_flags;
-    set_at(buffer.out_info_mut(), face, starter, &mut scratch_flags);
+    set_at(buffer.out_info_mut(), font, starter, &mut scratch_flags);
     scratch_flags
 }
 
 /// Finds those of the character at a place, if there is one.
 #[tactic(auto, using(shaping_buffer::proofs::ClosedKeepsLemmas::clusters_written))]
-fn set_at(infos: &mut [hb_glyph_info_t], face: &Face, place: Option<usize>, scratch_flags: &mut u32)
+fn set_at<F: FontFunctions>(
+    infos: &mut [hb_glyph_info_t],
+    font: &F,
+    place: Option<usize>,
+    scratch_flags: &mut u32,
+)
     ensures { clusters infos.new ≡ clusters infos.old }
 {
     if let Some(place) = place
         && place < infos.len()
     {
-        set_character(&mut infos[place], face, scratch_flags);
+        set_character(&mut infos[place], font, scratch_flags);
     }
 }
 
 /// Finds the glyph and the properties of a character.
-fn set_character(info: &mut hb_glyph_info_t, face: &Face, scratch_flags: &mut u32)
+fn set_character<F: FontFunctions>(info: &mut hb_glyph_info_t, font: &F, scratch_flags: &mut u32)
     ensures { info.new.cluster ≡ info.old.cluster }
 {
-    let glyph = face.glyph_index(info.glyph_id);
+    let glyph = font.nominal_glyph(info.glyph_id);
     info.set_glyph_index(glyph.map_or(0, |glyph| u32::from(glyph.0)));
     set_unicode_props(info, scratch_flags);
 }

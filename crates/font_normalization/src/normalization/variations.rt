@@ -5,7 +5,7 @@ ghost use Rattle.shaping_buffer.specs.KeepsClusters.{KeepsClusters};
 
 use super::decomposition::{is_variation_selector, set_current_glyph};
 use crate::glyph_info::{clear_default_ignorable, set_variation_selector};
-use font_face::Face;
+use font_functions::FontFunctions;
 use shaping_buffer::{
     HB_BUFFER_SCRATCH_FLAG_HAS_VARIATION_SELECTOR_FALLBACK, hb_buffer_t, hb_glyph_info_t,
 };
@@ -14,9 +14,9 @@ use std::alloc::AllocError;
 /// Reads so many characters. A character and a variation selector behind it become one where the font has a glyph for
 /// the two; nothing is taken apart.
 #[tactic(auto, using(shaping_buffer::proofs::ClosedKeepsLemmas::kept))]
-pub(crate) fn read_variations(
+pub(crate) fn read_variations<F: FontFunctions>(
     buffer: &mut hb_buffer_t,
-    face: &Face,
+    font: &F,
     count: usize,
 ) -> Result<bool, AllocError>
     requires { buffer.old.have_output ≡ true }
@@ -28,7 +28,7 @@ pub(crate) fn read_variations(
         if buffer.idx() >= end || buffer.lookahead_len() == 0 {
             break;
         }
-        if !read_next(buffer, face, end)? {
+        if !read_next(buffer, font, end)? {
             return Ok(false);
         }
     }
@@ -37,7 +37,11 @@ pub(crate) fn read_variations(
 
 /// Reads a character, and the variation selectors behind it that stand before a place of the input.
 #[tactic(auto, using(shaping_buffer::proofs::ClosedKeepsLemmas::kept))]
-fn read_next(buffer: &mut hb_buffer_t, face: &Face, end: usize) -> Result<bool, AllocError>
+fn read_next<F: FontFunctions>(
+    buffer: &mut hb_buffer_t,
+    font: &F,
+    end: usize,
+) -> Result<bool, AllocError>
     requires opened { buffer.old.have_output ≡ true }
     requires glyph { 0 < length buffer.old.input }
     ensures opened { IfOk result (λ _. buffer.new.have_output ≡ true) }
@@ -49,7 +53,7 @@ fn read_next(buffer: &mut hb_buffer_t, face: &Face, end: usize) -> Result<bool, 
     {
         return buffer.next_glyph();
     }
-    if !read_variation(buffer, face)? {
+    if !read_variation(buffer, font)? {
         return Ok(false);
     }
     keep_selectors(buffer, end)
@@ -57,7 +61,7 @@ fn read_next(buffer: &mut hb_buffer_t, face: &Face, end: usize) -> Result<bool, 
 
 /// Reads a character and the variation selector behind it.
 #[tactic(auto, using(shaping_buffer::proofs::ClosedKeepsLemmas::kept))]
-fn read_variation(buffer: &mut hb_buffer_t, face: &Face) -> Result<bool, AllocError>
+fn read_variation<F: FontFunctions>(buffer: &mut hb_buffer_t, font: &F) -> Result<bool, AllocError>
     requires opened { buffer.old.have_output ≡ true }
     requires glyphs { 1 < length buffer.old.input }
     ensures opened { IfOk result (λ _. buffer.new.have_output ≡ true) }
@@ -65,7 +69,7 @@ fn read_variation(buffer: &mut hb_buffer_t, face: &Face) -> Result<bool, AllocEr
 {
     let character = buffer.cur(0).glyph_id;
     let selector = buffer.cur(1).glyph_id;
-    match face.glyph_variation_index(character, selector) {
+    match font.variation_glyph(character, selector) {
         Some(glyph) => {
             set_current_glyph(buffer, u32::from(glyph.0));
             buffer.replace_glyphs(2, 1, &[character])

@@ -4,6 +4,7 @@ use crate::font::drawing::draw_glyph;
 use crate::font::functions::{Slot, Slots, hb_font_extents_t, hb_font_funcs_t, hb_glyph_extents_t};
 use crate::font::hb_font_t;
 use crate::object::{Empty, release};
+use crate::ot::color::graphs::is_unbounded_blank;
 use crate::ot::metrics;
 use crate::types::{hb_bool_t, hb_codepoint_t, hb_position_t, put, put_text, slice};
 use std::ffi::{c_char, c_int, c_uint, c_void};
@@ -167,41 +168,30 @@ unsafe fn put_advances(
     });
 }
 
-unsafe extern "C" fn h_advances(
-    font: *mut hb_font_t,
-    _: *mut c_void,
-    count: c_uint,
-    glyphs: *const hb_codepoint_t,
-    glyph_stride: c_uint,
-    advances: *mut hb_position_t,
-    advance_stride: c_uint,
-    _: *mut c_void,
-) {
-    let font = asked(font);
-    let (strength, _, in_place) = font.strength();
-    let strength = if in_place { 0 } else { strength * font.scale().0.signum() };
-    let lists = (count, glyphs, glyph_stride, advances, advance_stride);
-    // SAFETY: the caller's lists.
-    unsafe { put_advances(font, lists, strength, |face, glyph| face.glyph_hor_advance(glyph)) }
+/// A function of advances along an axis.
+macro_rules! advances {
+    ($name:ident, $axis:tt, $measure:ident) => {
+        unsafe extern "C" fn $name(
+            font: *mut hb_font_t,
+            _: *mut c_void,
+            count: c_uint,
+            glyphs: *const hb_codepoint_t,
+            glyph_stride: c_uint,
+            advances: *mut hb_position_t,
+            advance_stride: c_uint,
+            _: *mut c_void,
+        ) {
+            let font = asked(font);
+            let (strength, _, in_place) = font.strength();
+            let strength = if in_place { 0 } else { strength * font.scale().$axis.signum() };
+            let lists = (count, glyphs, glyph_stride, advances, advance_stride);
+            // SAFETY: the caller's lists.
+            unsafe { put_advances(font, lists, strength, |face, glyph| face.$measure(glyph)) }
+        }
+    };
 }
-
-unsafe extern "C" fn v_advances(
-    font: *mut hb_font_t,
-    _: *mut c_void,
-    count: c_uint,
-    glyphs: *const hb_codepoint_t,
-    glyph_stride: c_uint,
-    advances: *mut hb_position_t,
-    advance_stride: c_uint,
-    _: *mut c_void,
-) {
-    let font = asked(font);
-    let (_, strength, in_place) = font.strength();
-    let strength = if in_place { 0 } else { strength * font.scale().1.signum() };
-    let lists = (count, glyphs, glyph_stride, advances, advance_stride);
-    // SAFETY: the caller's lists.
-    unsafe { put_advances(font, lists, strength, |face, glyph| face.glyph_ver_advance(glyph)) }
-}
+advances!(h_advances, 0, glyph_hor_advance);
+advances!(v_advances, 1, glyph_ver_advance);
 
 unsafe extern "C" fn v_origin(
     font: *mut hb_font_t,
@@ -229,15 +219,22 @@ unsafe extern "C" fn glyph_extents(
     _: *mut c_void,
 ) -> hb_bool_t {
     let font = asked(font);
-    let found = glyph_of(glyph).and_then(|glyph| font.with_shaper(|face| face.glyph_extents(glyph)).ok()?);
-    let Some(found) = found else {
+    let Some(plain) = plain_extents(font, glyph) else {
         return 0;
     };
-    let plain =
-        hb_glyph_extents_t { x_bearing: found.x_bearing, y_bearing: found.y_bearing, width: found.width, height: found.height };
     // SAFETY: the caller's place.
     unsafe { put(extents, bolder(font, slanted(font, plain))) };
     1
+}
+
+/// The box of a glyph, neither slanted nor bolder.
+fn plain_extents(font: &hb_font_t, glyph: hb_codepoint_t) -> Option<hb_glyph_extents_t> {
+    if is_unbounded_blank(font, glyph) {
+        return Some(hb_glyph_extents_t::default());
+    }
+    let glyph = glyph_of(glyph)?;
+    let found = font.with_shaper(|face| face.glyph_extents(glyph)).ok()??;
+    Some(hb_glyph_extents_t { x_bearing: found.x_bearing, y_bearing: found.y_bearing, width: found.width, height: found.height })
 }
 
 /// The box of a glyph that is slanted.

@@ -1,5 +1,6 @@
 //! `hb-ot-color.h`: palettes, layers, and pictures of glyphs.
 
+pub mod graphs;
 mod pictures;
 
 use crate::blob::hb_blob_t;
@@ -140,25 +141,6 @@ pub unsafe extern "C" fn hb_ot_color_glyph_get_layers(
 ) -> c_uint {
     // SAFETY: HarfBuzz's terms: a face that is alive, and room for `count` layers.
     unsafe { put_part(layers((*face).table(b"COLR"), glyph).into_iter(), start, count, found) }
-}
-
-/// The glyphs that are painted by graphs, of the table's first version.
-fn painted(table: &[u8]) -> &[u8] {
-    if u16_at(table, 0) == 0 { &[] } else { at_32(table, 14) }
-}
-
-#[unsafe(no_mangle)]
-pub unsafe extern "C" fn hb_ot_color_has_paint(face: *mut hb_face_t) -> hb_bool_t {
-    // SAFETY: HarfBuzz's terms: a face that is alive.
-    (u32_at(painted(unsafe { &*face }.table(b"COLR")), 0) > 0).into()
-}
-
-#[unsafe(no_mangle)]
-pub unsafe extern "C" fn hb_ot_color_glyph_has_paint(face: *mut hb_face_t, glyph: hb_codepoint_t) -> hb_bool_t {
-    // SAFETY: HarfBuzz's terms: a face that is alive.
-    let list = painted(unsafe { &*face }.table(b"COLR"));
-    let mut records = tail(list, 4).chunks_exact(6).take(u32_at(list, 0) as usize);
-    records.any(|record| u32::from(u16_at(record, 0)) == glyph).into()
 }
 
 #[unsafe(no_mangle)]

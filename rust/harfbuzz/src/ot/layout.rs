@@ -184,12 +184,32 @@ pub unsafe extern "C" fn hb_ot_layout_table_find_script(
     found.is_some().into()
 }
 
-/// The first of some tags that a list has, or else one of the tags that stand for it.
-fn select(records: &Records<'_>, wanted: &[hb_tag_t], others: &[&[u8; 4]]) -> (Option<(usize, hb_tag_t)>, bool) {
-    let find = |tag: hb_tag_t| records.find(tag).map(|index| (index, tag));
-    match wanted.iter().find_map(|tag| find(*tag)) {
-        Some(found) => (Some(found), true),
-        None => (others.iter().find_map(|name| find(tag(name))), false),
+/// A record that was chosen, with its tag, and whether it is one that was wanted.
+struct Selected {
+    record: Option<(usize, hb_tag_t)>,
+    is_wanted: bool,
+}
+
+impl Selected {
+    /// The first of some tags that a list has, or else one of the tags that stand for it.
+    fn of(records: &Records<'_>, wanted: &[hb_tag_t], others: &[&[u8; 4]]) -> Self {
+        let find = |tag: hb_tag_t| records.find(tag).map(|index| (index, tag));
+        match wanted.iter().find_map(|tag| find(*tag)) {
+            Some(found) => Selected { record: Some(found), is_wanted: true },
+            None => Selected { record: others.iter().find_map(|name| find(tag(name))), is_wanted: false },
+        }
+    }
+
+    /// # Safety
+    ///
+    /// The addresses are places to be written, or null.
+    unsafe fn put(&self, index: *mut c_uint, chosen: *mut hb_tag_t) -> hb_bool_t {
+        // SAFETY: the caller's word.
+        unsafe {
+            put(index, self.record.map_or(NONE, |(index, _)| index as c_uint));
+            put(chosen, self.record.map_or(0, |(_, tag)| tag));
+        }
+        self.is_wanted.into()
     }
 }
 
@@ -205,10 +225,7 @@ pub unsafe extern "C" fn hb_ot_layout_table_select_script(
     // SAFETY: HarfBuzz's terms: a face that is alive, so many tags, and places or null.
     unsafe {
         let wanted = slice(scripts, count as usize);
-        let (found, is_wanted) = select(&table(face, tag).scripts(), wanted, &[b"DFLT", b"dflt", b"latn"]);
-        put(index, found.map_or(NONE, |(index, _)| index as c_uint));
-        put(chosen, found.map_or(0, |(_, tag)| tag));
-        is_wanted.into()
+        Selected::of(&table(face, tag).scripts(), wanted, &[b"DFLT", b"dflt", b"latn"]).put(index, chosen)
     }
 }
 
@@ -253,10 +270,7 @@ pub unsafe extern "C" fn hb_ot_layout_script_select_language2(
     // SAFETY: HarfBuzz's terms: a face that is alive, so many tags, and places or null.
     unsafe {
         let wanted = slice(languages, count as usize);
-        let (found, is_wanted) = select(&table(face, tag).languages(script), wanted, &[b"dflt"]);
-        put(index, found.map_or(NONE, |(index, _)| index as c_uint));
-        put(chosen, found.map_or(0, |(_, tag)| tag));
-        is_wanted.into()
+        Selected::of(&table(face, tag).languages(script), wanted, &[b"dflt"]).put(index, chosen)
     }
 }
 

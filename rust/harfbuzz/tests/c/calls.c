@@ -1,32 +1,7 @@
 /* Calls of HarfBuzz's interface, with the answers that HarfBuzz gives: this program passes when it is linked to HarfBuzz itself. The
  * argument is the folder of this project's fonts. */
-#include <hb.h>
+#include "checks.h"
 #include <pthread.h>
-#include <stdio.h>
-#include <stdlib.h>
-#include <string.h>
-
-static int passed, failed;
-
-static void check(int holds, const char *what) {
-    passed += holds;
-    failed += !holds;
-    if (!holds) printf("failed: %s\n", what);
-}
-
-static void check_text(const char *found, const char *expected, const char *what) {
-    check(!strcmp(found, expected), what);
-    if (strcmp(found, expected)) printf("  found    %s\n  expected %s\n", found, expected);
-}
-
-static hb_face_t *face_of(const char *folder, const char *name) {
-    char path[4096];
-    snprintf(path, sizeof path, "%s/%s", folder, name);
-    hb_blob_t *blob = hb_blob_create_from_file(path);
-    hb_face_t *face = hb_face_create(blob, 0);
-    hb_blob_destroy(blob);
-    return face;
-}
 
 static hb_font_t *font_of(const char *folder, const char *name) {
     hb_face_t *face = face_of(folder, name);
@@ -105,6 +80,52 @@ static void test_functions(const char *folder) {
     check(!released, "functions in use are kept");
     hb_font_destroy(sub_font);
     check(released, "the functions' data is given back");
+}
+
+/* Functions that answer what they like, otherwise each time: any number, and any glyph of more than 16 bits too. */
+static unsigned any_number(void *state) { return *(unsigned *) state = *(unsigned *) state * 1664525 + 1013904223; }
+
+static hb_bool_t any_glyph(hb_font_t *font, void *state, hb_codepoint_t character, hb_codepoint_t *glyph, void *data) {
+    (void) font, (void) character, (void) data;
+    *glyph = any_number(state) >> 15;
+    return *glyph & 1;
+}
+
+static hb_position_t any_advance(hb_font_t *font, void *state, hb_codepoint_t glyph, void *data) {
+    (void) font, (void) glyph, (void) data;
+    return (hb_position_t) any_number(state);
+}
+
+static hb_bool_t any_origin(hb_font_t *font, void *state, hb_codepoint_t glyph, hb_position_t *x, hb_position_t *y, void *data) {
+    (void) font, (void) glyph, (void) data;
+    *x = (hb_position_t) any_number(state);
+    *y = (hb_position_t) any_number(state);
+    return *x & 1;
+}
+
+static void test_any_functions(const char *folder) {
+    static const char *texts[] = {"a\u0301\u0327 b\u2011\u2003c", "\u0628\u0644\u0627\u064e", "\u1112\u1161\u11ab\ud55c", "\u0915\u094d\u0937\u093f"};
+    unsigned state = 1;
+    hb_font_t *font = font_of(folder, "letters.ttf");
+    hb_font_funcs_t *functions = hb_font_funcs_create();
+    hb_font_funcs_set_nominal_glyph_func(functions, any_glyph, NULL, NULL);
+    hb_font_funcs_set_glyph_h_advance_func(functions, any_advance, NULL, NULL);
+    hb_font_funcs_set_glyph_v_advance_func(functions, any_advance, NULL, NULL);
+    hb_font_funcs_set_glyph_v_origin_func(functions, any_origin, NULL, NULL);
+    hb_font_set_funcs(font, functions, &state, NULL);
+    hb_font_funcs_destroy(functions);
+    int all = 1;
+    for (unsigned i = 0; i < 4 * sizeof texts / sizeof *texts; i++) {
+        hb_buffer_t *buffer = hb_buffer_create();
+        hb_buffer_add_utf8(buffer, texts[i / 4], -1, 0, -1);
+        hb_buffer_set_direction(buffer, HB_DIRECTION_LTR + i % 4);
+        hb_buffer_guess_segment_properties(buffer);
+        hb_shape(font, buffer, NULL, 0);
+        all &= hb_buffer_get_content_type(buffer) == HB_BUFFER_CONTENT_TYPE_GLYPHS;
+        hb_buffer_destroy(buffer);
+    }
+    check(all, "texts by functions that answer what they like");
+    hb_font_destroy(font);
 }
 
 static hb_blob_t *table(hb_face_t *face, hb_tag_t tag, void *source) {
@@ -206,11 +227,11 @@ int main(int count, char **words) {
     if (count != 2) return 2;
     test_shape(words[1]);
     test_functions(words[1]);
+    test_any_functions(words[1]);
     test_tables(words[1]);
     test_buffer();
     test_collections();
     test_blob();
     test_threads(words[1]);
-    printf("%d passed, %d failed\n", passed, failed);
-    return failed != 0;
+    return counted();
 }

@@ -1,15 +1,6 @@
 /* The calls of `hb-vukhaso.h`: a list of calls with the answer of each, and that no call on numbers of any size does harm. */
+#include "checks.h"
 #include <hb-vukhaso.h>
-#include <stdio.h>
-#include <string.h>
-
-static int passed, failed;
-
-static void check(int holds, const char *what) {
-    passed += holds;
-    failed += !holds;
-    if (!holds) printf("failed: %s\n", what);
-}
 
 static hb_buffer_t *buffer_of(const char *text) {
     hb_buffer_t *buffer = hb_buffer_create();
@@ -21,8 +12,7 @@ static hb_buffer_t *buffer_of(const char *text) {
 static void check_glyphs(hb_buffer_t *buffer, const char *expected, const char *what) {
     char text[256];
     hb_buffer_serialize_glyphs(buffer, 0, -1, text, sizeof text, NULL, NULL, HB_BUFFER_SERIALIZE_FORMAT_TEXT, 2 | 4 | 16);
-    check(!strcmp(text, expected), what);
-    if (strcmp(text, expected)) printf("  found    %s\n  expected %s\n", text, expected);
+    check_text(text, expected, what);
 }
 
 static void a_list_of_calls(void) {
@@ -107,6 +97,5 @@ int main(void) {
     a_list_of_calls();
     an_open_output();
     calls_of_any_numbers();
-    printf("%d passed, %d failed\n", passed, failed);
-    return failed != 0;
+    return counted();
 }

@@ -9,6 +9,11 @@ pub(crate) fn open<F: Files>(rt: &F, path: &str) -> std::io::Result<F::File> {
     rt.open(path)
 }
 
+/// A file that is written.
+pub(crate) fn create<F: Files>(rt: &F, path: &str) -> std::io::Result<F::File> {
+    rt.create(path)
+}
+
 /// The bytes of a file.
 pub(crate) fn read<F: Files>(rt: &F, path: &str) -> std::io::Result<Vec<u8>> {
     let mut bytes = Vec::new();

@@ -18,6 +18,7 @@ type Fail = Box<dyn std::error::Error>;
 mod apple_tests;
 mod buffer_tests;
 mod font_tests;
+mod format_tests;
 mod glyph_tests;
 mod layout_tests;
 mod pass_tests;

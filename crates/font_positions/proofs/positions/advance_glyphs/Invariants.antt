@@ -3,4 +3,4 @@ use Rattle.shaping_buffer.specs.KeepsClusters.{KeepsClusters}
 use Rattle.font_positions.proofs.positions.advance_glyphs.Given as goal
 
 abbrev pub invariant-loop-i : goal.invariant-loop-i
-invariant-loop-i l = (l.buffer.have_output ≡ false) × IsSome l.buffer.positions × KeepsClusters l.fn.buffer l.buffer
+invariant-loop-i g l = (l.buffer.have_output ≡ false) × IsSome l.buffer.positions × KeepsClusters l.fn.buffer l.buffer

@@ -6,7 +6,7 @@ use Rattle.font_shaper.proofs.forms_of_font.work_on_syllables.Goals as goal
 
 -- where syllables are put in order their numbers are kept, and what is said of the budget keeps all clusters
 pub returns-clause-keeps : goal.returns-clause-keeps
-returns-clause-keeps c =
+returns-clause-keeps g c =
     let orders = sym c.orders_syllables.ensures ∙ c.if-not-orders_syllables.false in
     let worked : KeepsStage c.args.plan.now.syllables c.args.buffer.now c.pause.new.buffer = record {
       numbers = c.pause.ensures.keeps;

@@ -6,8 +6,8 @@ pub returns : goal.returns
 returns g c =
     let count : length c.read_to_end.new.buf.items ≡ c.in-Ok.read = search rules in
     let some : length c.read_to_end.new.buf.items ≡ 0 → ⊥ = λ none. absurd (omega (arith, count, none)) in
-    one_paragraph _ _ _ _ _ c.new-text.result.items c.read_to_end.new.buf.items _ _ c.new-text.ensures.items c.in-Ok.ensures.bytes
-    c.in-Ok.ensures.end c.in-Ok.ensures.none_lost some c.in_ok-answer.ensures c.in_ok-write_answer.ensures
+    one_paragraph _ _ _ _ _ c.new-text.result.items c.read_to_end.new.buf.items _ _ c.new-text.ensures.items
+    c.in-Ok.ensures.bytes c.in-Ok.ensures.end c.in-Ok.ensures.none_lost some c.as_slice.ensures.value c.in_ok-is_shaped.ensures
 
 pub returns-then-read-eq0 : goal.returns-then-read-eq0
 returns-then-read-eq0 g c =

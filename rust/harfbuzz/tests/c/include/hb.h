@@ -1,5 +1,5 @@
 /* What the programs beside this folder use of HarfBuzz's interface, written down for the gate, which has no package with the header.
- * `tools/harfbuzz/abi` compiles the same programs with Debian's own `hb.h`. */
+ * `tools/harfbuzz/abi answers` compiles the same programs with HarfBuzz's own `hb.h`. */
 #ifndef HB_H
 #define HB_H
 
@@ -22,9 +22,12 @@ typedef struct hb_buffer_t hb_buffer_t;
 typedef struct hb_set_t hb_set_t;
 typedef struct hb_map_t hb_map_t;
 typedef struct { hb_tag_t tag; uint32_t value; unsigned start, end; } hb_feature_t;
+typedef struct { hb_tag_t tag; float value; } hb_variation_t;
 typedef struct { hb_codepoint_t codepoint; uint32_t mask, cluster, var1, var2; } hb_glyph_info_t;
 typedef struct { hb_position_t x_advance, y_advance, x_offset, y_offset; uint32_t var; } hb_glyph_position_t;
 typedef hb_position_t (*hb_font_get_glyph_h_advance_func_t)(hb_font_t *, void *, hb_codepoint_t, void *);
+typedef hb_position_t (*hb_font_get_glyph_v_advance_func_t)(hb_font_t *, void *, hb_codepoint_t, void *);
+typedef hb_bool_t (*hb_font_get_glyph_v_origin_func_t)(hb_font_t *, void *, hb_codepoint_t, hb_position_t *, hb_position_t *, void *);
 typedef hb_bool_t (*hb_font_get_nominal_glyph_func_t)(hb_font_t *, void *, hb_codepoint_t, hb_codepoint_t *, void *);
 typedef hb_blob_t *(*hb_reference_table_func_t)(hb_face_t *, hb_tag_t, void *);
 
@@ -50,12 +53,16 @@ hb_face_t *hb_face_create_for_tables(hb_reference_table_func_t, void *, hb_destr
 hb_blob_t *hb_face_reference_table(const hb_face_t *, hb_tag_t);
 unsigned hb_face_get_upem(const hb_face_t *);
 unsigned hb_face_get_glyph_count(const hb_face_t *);
+hb_face_t *hb_face_reference(hb_face_t *);
+hb_bool_t hb_face_set_user_data(hb_face_t *, hb_user_data_key_t *, void *, hb_destroy_func_t, hb_bool_t);
+void *hb_face_get_user_data(const hb_face_t *, hb_user_data_key_t *);
 void hb_face_destroy(hb_face_t *);
 hb_font_t *hb_font_create(hb_face_t *);
 hb_font_t *hb_font_create_sub_font(hb_font_t *);
 hb_font_t *hb_font_reference(hb_font_t *);
 void hb_font_destroy(hb_font_t *);
 void hb_font_set_scale(hb_font_t *, int, int);
+void hb_font_set_variations(hb_font_t *, const hb_variation_t *, unsigned);
 hb_bool_t hb_font_get_nominal_glyph(hb_font_t *, hb_codepoint_t, hb_codepoint_t *);
 hb_position_t hb_font_get_glyph_h_advance(hb_font_t *, hb_codepoint_t);
 void hb_font_glyph_to_string(hb_font_t *, hb_codepoint_t, char *, unsigned);
@@ -64,6 +71,8 @@ void hb_font_set_funcs(hb_font_t *, hb_font_funcs_t *, void *, hb_destroy_func_t
 hb_font_funcs_t *hb_font_funcs_create(void);
 void hb_font_funcs_destroy(hb_font_funcs_t *);
 void hb_font_funcs_set_glyph_h_advance_func(hb_font_funcs_t *, hb_font_get_glyph_h_advance_func_t, void *, hb_destroy_func_t);
+void hb_font_funcs_set_glyph_v_advance_func(hb_font_funcs_t *, hb_font_get_glyph_v_advance_func_t, void *, hb_destroy_func_t);
+void hb_font_funcs_set_glyph_v_origin_func(hb_font_funcs_t *, hb_font_get_glyph_v_origin_func_t, void *, hb_destroy_func_t);
 void hb_font_funcs_set_nominal_glyph_func(hb_font_funcs_t *, hb_font_get_nominal_glyph_func_t, void *, hb_destroy_func_t);
 hb_buffer_t *hb_buffer_create(void);
 void hb_buffer_destroy(hb_buffer_t *);
@@ -84,6 +93,7 @@ unsigned hb_buffer_serialize_glyphs(
     hb_buffer_t *, unsigned, unsigned, char *, unsigned, unsigned *, hb_font_t *, hb_buffer_serialize_format_t,
     hb_buffer_serialize_flags_t);
 void hb_buffer_set_content_type(hb_buffer_t *, unsigned);
+unsigned hb_buffer_get_content_type(const hb_buffer_t *);
 hb_bool_t hb_buffer_deserialize_glyphs(
     hb_buffer_t *, const char *, int, const char **, hb_font_t *, hb_buffer_serialize_format_t);
 unsigned hb_buffer_diff(hb_buffer_t *, hb_buffer_t *, hb_codepoint_t, unsigned);

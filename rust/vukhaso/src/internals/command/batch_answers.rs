@@ -167,9 +167,11 @@ fn answer_line<F: Files + AllocGlobal, R: BufRead, W: Write>(
 /// Says in place of an answer why there is none. An answer that was not written is an error of the
 /// whole batch.
 fn say<W: Write>(output: &mut W, error: CommandError<'_>) -> io::Result<()> {
-    if let CommandError::Output(error) = error {
-        return Err(error);
-    }
+    let error = match error {
+        CommandError::Output(error) => return Err(error),
+        CommandError::Asked(text) => return output.write_all(text.as_bytes()),
+        error => error,
+    };
     let message = error.try_to_string()?;
     let first = message.as_str().lines().next().unwrap_or("");
     let reason = first.strip_prefix("error: ").unwrap_or(first);

@@ -5,6 +5,7 @@
 use crate::command::shaper::{Answer, LineNames, LineShaper, LineState};
 use crate::font_shaper::VerifyError;
 use crate::host::io::{self, BufRead, ErrorKind, Read, Write};
+use crate::line_formats::heads::head;
 use crate::memory::{AllocError, Vec};
 
 /// Why not each line of a text was answered.
@@ -32,8 +33,8 @@ pub(crate) fn read_error(error: io::Error) -> LinesError {
     }
 }
 
-/// Answers each line of a text with a line, and says whether all of them were shaped. A line feed ends
-/// a line, and the last line may lack it. One line is held at a time.
+/// Answers each line of a text, and says whether all of them were shaped. A line feed ends a line, and
+/// the last line may lack it. One line is held at a time.
 ///
 /// # Errors
 ///
@@ -42,7 +43,7 @@ pub(crate) fn read_error(error: io::Error) -> LinesError {
 /// # Proved
 ///
 /// ```text
-/// ensures { OnOk result (AnswersAll (IsAnswer shaper.now.output)
+/// ensures { OnOk result (AnswersAll (IsShown shaper.now.output)
 ///     (R.remaining reader.old) (R.remaining reader.new)
 ///     (W.contents writer.old) (W.contents writer.new)) }
 /// ```
@@ -55,14 +56,13 @@ pub fn answer_lines<N: LineNames, R: BufRead, W: Write>(
 ) -> Result<bool, LinesError> {
     let mut all_shaped = true;
     let mut line = Vec::new();
-    for _ in 0..u64::MAX {
+    for number in 1..u64::MAX {
         let found = next_line(reader, &mut line)?;
         if !found {
             return Ok(all_shaped);
         }
-        let answer = shaper.answer(state, line.as_slice())?;
-        all_shaped &= answer.is_shaped();
-        write_answer(writer, &answer)?;
+        let is_shaped = answer_line(shaper, state, number, line.as_slice(), writer)?;
+        all_shaped &= is_shaped;
     }
     Err(LinesError::Read(io::Error::from(ErrorKind::Other)))
 }
@@ -76,7 +76,7 @@ pub fn answer_lines<N: LineNames, R: BufRead, W: Write>(
 /// # Proved
 ///
 /// ```text
-/// ensures { OnOk result (AnswersParagraph (IsAnswer shaper.now.output)
+/// ensures { OnOk result (AnswersParagraph (IsShown shaper.now.output)
 ///     (R.remaining reader.old) (R.remaining reader.new)
 ///     (W.contents writer.old) (W.contents writer.new)) }
 /// ```
@@ -95,9 +95,24 @@ pub fn answer_paragraph<N: LineNames, R: Read, W: Write>(
     if read == 0 {
         return Ok(true);
     }
-    let answer = shaper.answer(state, text.as_slice())?;
-    write_answer(writer, &answer)?;
-    Ok(answer.is_shaped())
+    let is_shaped = answer_line(shaper, state, 1, text.as_slice(), writer)?;
+    Ok(is_shaped)
+}
+
+/// Answers a line of this number, and says whether it was shaped.
+fn answer_line<N: LineNames, W: Write>(
+    shaper: &LineShaper<'_>,
+    state: &mut LineState<N>,
+    number: u64,
+    line: &[u8],
+    writer: &mut W,
+) -> Result<bool, LinesError> {
+    let answered = shaper.answer(state, line)?;
+    let characters = answered.characters.as_slice();
+    let before = head(shaper.output.shown, number, line, characters)?;
+    put(writer, before.as_slice())?;
+    write_answer(writer, &answered.answer)?;
+    Ok(answered.answer.is_shaped())
 }
 
 /// Reads a line in place of the one that is held, without the line feed that ends it. It says whether
@@ -154,12 +169,16 @@ pub fn write_answer<W: Write>(writer: &mut W, answer: &Answer) -> Result<(), Lin
         Answer::Empty => put(writer, b"\n"),
         Answer::Failed => put(writer, b"error: Shaping failed.\n"),
         Answer::Unverified(error) => put(writer, unverified_line(*error)),
-        Answer::Glyphs(text) => {
-            put(writer, b"[")?;
-            put(writer, text.as_bytes())?;
-            put(writer, b"]\n")
-        }
+        Answer::Glyphs(text) => put_in_brackets(writer, text.as_bytes()),
+        Answer::Objects(objects) => put_in_brackets(writer, objects.as_slice()),
     }
+}
+
+/// Writes bytes in brackets, and a line feed.
+fn put_in_brackets<W: Write>(writer: &mut W, bytes: &[u8]) -> Result<(), LinesError> {
+    put(writer, b"[")?;
+    put(writer, bytes)?;
+    put(writer, b"]\n")
 }
 
 /// What is printed of a line whose glyphs are not what they say of themselves.

@@ -2,12 +2,11 @@
 
 //! What a command line asks for.
 
-use crate::buffer::{
-    BufferClusterLevel, BufferFlags, Direction, Feature, GlyphId, Script, SerializeFlags, script,
-};
+use crate::buffer::{BufferClusterLevel, BufferFlags, Direction, Feature, GlyphId, Script, script};
 use crate::clap::ArgMatches;
 use crate::command::code_points::{CodePointsError, code_points, text_of_code_points};
 use crate::command::features::{features, unquoted};
+use crate::command::output::{Output, output_of};
 use crate::command::sizes::{one_or_two, sizes};
 use crate::command::variations::{value, variations};
 use crate::font_shaper::Variation;
@@ -34,6 +33,12 @@ pub enum OptionsError<'a> {
     Shaper(&'a str),
     /// Functions of a font of this name are not known.
     FontFuncs(&'a str),
+    /// A reader of the font's file of this name is not known.
+    FaceLoader(&'a str),
+    /// A format of this name is not known.
+    Format(&'a str),
+    /// A line is to be shaped no time.
+    NoIteration,
     /// The steps of shaping are to be drawn of the lines of a file.
     DrawnFile,
     /// There is no memory.
@@ -60,6 +65,14 @@ impl<'a> core::fmt::Display for OptionsError<'a> {
                 f,
                 "Unknown font function implementation '{n0}'; supported values are: ot"
             ),
+            Self::FaceLoader(n0) => {
+                write!(f, "Unknown face loader '{n0}'; supported values are: ot")
+            }
+            Self::Format(n0) => write!(
+                f,
+                "Unknown output format '{n0}'; supported formats are: text/json"
+            ),
+            Self::NoIteration => write!(f, "--num-iterations is at least 1"),
             Self::DrawnFile => write!(
                 f,
                 "--svg draws one text, that of TEXT, --text or --unicodes"
@@ -147,8 +160,12 @@ pub struct Options<'a> {
     pub single_par: bool,
     /// How each line is shaped.
     pub line: LineOptions<'a>,
-    /// What is printed of glyphs.
-    pub output: SerializeFlags,
+    /// How often each line is shaped; what the last time gives is printed.
+    pub iterations: u32,
+    /// What is printed of lines and of their glyphs.
+    pub output: Output,
+    /// The file in which it is written, unless that is standard output.
+    pub output_file: Option<&'a str>,
     /// Whether the steps of shaping are drawn, in place of what is printed.
     pub svg: bool,
 }
@@ -171,7 +188,9 @@ impl<'a> Options<'a> {
             text: text_source(matches, text)?,
             single_par: matches.get_flag("single-par"),
             line: line_options(matches)?,
-            output: output_flags(matches),
+            iterations: iterations(matches)?,
+            output: output_of(matches)?,
+            output_file: output_file(matches),
             svg: matches.get_flag("svg"),
         })
     }
@@ -180,10 +199,20 @@ impl<'a> Options<'a> {
 /// Refuses the values of options that are there for HarfBuzz's sake alone, unless they change nothing.
 fn refuse_unsupported<'a>(matches: &ArgMatches<'a>) -> Result<(), OptionsError<'a>> {
     for name in ["shaper", "shapers"] {
-        for shaper in matches.get_str(name).unwrap_or("ot").split(',') {
-            if shaper != "ot" {
+        // The first one shapes whatever the text is, and no other is asked.
+        for (i, shaper) in matches.get_str(name).unwrap_or("ot").split(',').enumerate() {
+            if shaper != "ot" && (i == 0 || shaper != "fallback") {
                 return Err(OptionsError::Shaper(shaper));
             }
+        }
+    }
+    let face_loader = matches.get_str("face-loader").unwrap_or("ot");
+    if !face_loader.eq_ignore_ascii_case("ot") {
+        return Err(OptionsError::FaceLoader(face_loader));
+    }
+    if let Some(flags) = matches.get_str("ft-load-flags") {
+        if flags.parse::<i32>().is_err() {
+            return Err(OptionsError::Number("ft-load-flags", flags));
         }
     }
     let font_funcs = matches.get_str("font-funcs").unwrap_or("ot");
@@ -293,6 +322,22 @@ fn number<'a>(
     }
 }
 
+/// How often each line is shaped.
+fn iterations<'a>(matches: &ArgMatches<'a>) -> Result<u32, OptionsError<'a>> {
+    match number(matches, "num-iterations")?.unwrap_or(1) {
+        0 => Err(OptionsError::NoIteration),
+        iterations => Ok(iterations),
+    }
+}
+
+/// The file of the output; none of `-`.
+fn output_file<'a>(matches: &ArgMatches<'a>) -> Option<&'a str> {
+    match matches.get_str("output-file") {
+        None | Some("-") => None,
+        Some(file) => Some(file),
+    }
+}
+
 /// The value of an option that is the number of a glyph. Glyph 0 stands for no glyph.
 fn glyph<'a>(
     matches: &ArgMatches<'a>,
@@ -377,26 +422,6 @@ fn buffer_flags(matches: &ArgMatches<'_>) -> BufferFlags {
             "remove-default-ignorables",
             BufferFlags::REMOVE_DEFAULT_IGNORABLES,
         ),
-    ] {
-        if matches.get_flag(name) {
-            flags = flags.union(flag);
-        }
-    }
-    flags
-}
-
-/// What is printed of glyphs.
-fn output_flags(matches: &ArgMatches<'_>) -> SerializeFlags {
-    let mut flags = SerializeFlags::empty();
-    for (name, flag) in [
-        ("no-glyph-names", SerializeFlags::NO_GLYPH_NAMES),
-        ("no-positions", SerializeFlags::NO_POSITIONS),
-        ("no-advances", SerializeFlags::NO_ADVANCES),
-        ("no-clusters", SerializeFlags::NO_CLUSTERS),
-        ("show-extents", SerializeFlags::GLYPH_EXTENTS),
-        ("show-flags", SerializeFlags::GLYPH_FLAGS),
-        ("ned", SerializeFlags::NO_CLUSTERS),
-        ("ned", SerializeFlags::NO_ADVANCES),
     ] {
         if matches.get_flag(name) {
             flags = flags.union(flag);

@@ -3,7 +3,7 @@
 //! What the program does.
 
 use crate::buffer::{NoGlyphNames, SerializeFlags};
-use crate::command::arguments::matches_of;
+use crate::command::arguments::{asked_for, matches_of};
 use crate::command::drawing::draw_text;
 use crate::command::font_file::FontFile;
 use crate::command::lines::{LinesError, answer_lines, answer_paragraph};
@@ -12,9 +12,9 @@ use crate::command::options::{Options, OptionsError, TextSource};
 use crate::command::shaper::{KeptLine, LineNames, LineShaper, LineState};
 use crate::host::Files;
 use crate::host::fs;
-use crate::host::io::{self, BufRead, BufReader, Write};
+use crate::host::io::{self, BufRead, BufReader, BufWriter, Write};
 use crate::host::{AllocGlobal, AsStr};
-use crate::memory::AllocError;
+use crate::memory::{AllocError, String};
 
 /// Why a command line was not answered to its end.
 #[derive(Debug)]
@@ -23,6 +23,8 @@ pub enum CommandError<'a> {
     Words(crate::clap::Error),
     /// The words ask for nothing that can be done.
     Options(OptionsError<'a>),
+    /// The words ask for this text.
+    Asked(String),
     /// The file of the font was not read.
     Font {
         /// The file.
@@ -43,6 +45,13 @@ pub enum CommandError<'a> {
     GivenUp,
     /// The answers were not written.
     Output(io::Error),
+    /// The file of the answers was not made.
+    OutputFile {
+        /// The file.
+        file: &'a str,
+        /// Why it was not made.
+        error: io::Error,
+    },
     /// There is no memory.
     Memory,
 }
@@ -52,6 +61,7 @@ impl<'a> core::fmt::Display for CommandError<'a> {
         match self {
             Self::Words(n0) => write!(f, "{n0}"),
             Self::Options(n0) => write!(f, "{n0}"),
+            Self::Asked(n0) => write!(f, "{n0}"),
             Self::Font { file, error, .. } => write!(f, "{file}: {error}"),
             Self::Face(n0) => write!(f, "{n0}: Failed loading font face"),
             Self::Text { file, error, .. } => write!(f, "Failed reading text: {file}: {error}"),
@@ -60,6 +70,9 @@ impl<'a> core::fmt::Display for CommandError<'a> {
                 "Shaping was given up: the font asks for more work than the text may cost"
             ),
             Self::Output(n0) => write!(f, "Failed writing glyphs: {n0}"),
+            Self::OutputFile { file, error, .. } => {
+                write!(f, "Cannot open output file '{file}': {error}")
+            }
             Self::Memory => write!(f, "out of memory"),
         }
     }
@@ -89,6 +102,17 @@ impl<'a> From<OptionsError<'a>> for CommandError<'a> {
 }
 
 impl<'a> CommandError<'a> {
+    /// Whether other words may do, so that help on them may be wanted.
+    pub(crate) fn wants_help(&self) -> bool {
+        matches!(
+            self,
+            CommandError::Options(_)
+                | CommandError::Font { .. }
+                | CommandError::Face(_)
+                | CommandError::OutputFile { .. }
+        )
+    }
+
     /// The error of lines that are in this file.
     pub(crate) fn of_lines(file: &'a str, error: LinesError) -> Self {
         match error {
@@ -141,10 +165,14 @@ pub fn answer_command<'a, F: Files + AllocGlobal, S: AsStr, R: BufRead, W: Write
 /// ```
 #[inline]
 pub fn options_of<'a, S: AsStr>(words: &'a [S]) -> Result<Options<'a>, CommandError<'a>> {
-    match matches_of(words) {
-        Ok(matches) => Ok(Options::from_matches(&matches)?),
-        Err(error) => Err(CommandError::Words(error)),
+    let matches = match matches_of(words) {
+        Ok(matches) => matches,
+        Err(error) => return Err(CommandError::Words(error)),
+    };
+    if let Some(asked) = asked_for(&matches) {
+        return Err(asked);
     }
+    Ok(Options::from_matches(&matches)?)
 }
 
 /// Reads the file of the font, unless it was read last.
@@ -170,10 +198,48 @@ pub(crate) fn answer_options<'a, F: Files + AllocGlobal, R: BufRead, W: Write>(
     output: &mut W,
 ) -> Result<bool, CommandError<'a>> {
     font.vary(options.variations.as_slice())?;
+    match options.output_file {
+        None => answer_into(rt, options, font, input, output),
+        Some(file) => answer_into_file(rt, options, font, input, file),
+    }
+}
+
+/// Answers what a command line asks for, into a file.
+fn answer_into_file<'a, F: Files + AllocGlobal, R: BufRead>(
+    rt: &F,
+    options: &Options<'a>,
+    font: &mut LoadedFont<'_>,
+    input: &mut R,
+    file: &'a str,
+) -> Result<bool, CommandError<'a>> {
+    let mut output = match create(rt, file) {
+        Ok(output) => output,
+        Err(error) => return Err(CommandError::OutputFile { file, error }),
+    };
+    let answered = answer_into(rt, options, font, input, &mut output)?;
+    match output.flush() {
+        Ok(()) => Ok(answered),
+        Err(error) => Err(CommandError::Output(error)),
+    }
+}
+
+/// A file that is written piece by piece, in place of one of this name.
+fn create<F: Files + AllocGlobal>(rt: &F, file: &str) -> io::Result<BufWriter<F::File>> {
+    BufWriter::new(fs::create(rt, file)?)
+}
+
+/// Answers what a command line asks for.
+fn answer_into<'a, F: Files + AllocGlobal, R: BufRead, W: Write>(
+    rt: &F,
+    options: &Options<'a>,
+    font: &mut LoadedFont<'_>,
+    input: &mut R,
+    output: &mut W,
+) -> Result<bool, CommandError<'a>> {
     if options.svg {
         return draw_text(options, font, output);
     }
-    if asks_font(options.output) {
+    if asks_font(options.output.flags) {
         let names = font.take_names()?;
         let mut state = LineState {
             names,
@@ -217,6 +283,7 @@ pub(crate) fn shaper_of<'a>(font: &'a LoadedFont<'_>, options: &'a Options<'_>) 
     LineShaper {
         face: &font.face,
         options: &options.line,
+        iterations: options.iterations,
         output: options.output,
         single_par: options.single_par,
     }

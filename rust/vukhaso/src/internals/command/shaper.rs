@@ -6,11 +6,14 @@ use crate::buffer::{
     GlyphBuffer, GlyphNames, NoGlyphNames, SerializeFlags, UnicodeBuffer, hb_glyph_info_t,
 };
 use crate::command::options::LineOptions;
+use crate::command::output::{Output, OutputFormat};
 use crate::command::text::{emptied, empty_text, fill, lossy_text};
 use crate::font_shaper::{
     Face, FaceNames, KeptPlans, ShapeError, VerifyError, shape_with_kept_plans,
 };
-use crate::memory::{AllocError, String};
+use crate::line_formats::characters::characters_list;
+use crate::line_formats::json::glyphs_json;
+use crate::memory::{AllocError, String, Vec};
 
 /// Names and extents of glyphs, where the extents are found before they are asked for.
 pub trait LineNames: GlyphNames {
@@ -45,6 +48,8 @@ pub enum Answer {
     Empty,
     /// It has glyphs, and this is their text.
     Glyphs(String),
+    /// It has glyphs, and these are their objects in JSON.
+    Objects(Vec<u8>),
     /// It is too long to be shaped.
     Failed,
     /// A test of its glyphs failed.
@@ -61,8 +66,17 @@ impl Answer {
     /// ```
     #[inline]
     pub fn is_shaped(&self) -> bool {
-        matches!(self, Answer::Empty | Answer::Glyphs(_))
+        matches!(self, Answer::Empty | Answer::Glyphs(_) | Answer::Objects(_))
     }
+}
+
+/// What is printed of a line.
+#[derive(Debug)]
+pub struct Answered {
+    /// The list of its characters; empty where that is not shown.
+    pub characters: Vec<u8>,
+    /// What it is answered with.
+    pub answer: Answer,
 }
 
 /// What is kept of a line for the next one of the same font.
@@ -127,8 +141,10 @@ pub struct LineShaper<'a> {
     pub face: &'a Face<'a>,
     /// How each line is shaped.
     pub options: &'a LineOptions<'a>,
-    /// What is printed of glyphs.
-    pub output: SerializeFlags,
+    /// How often each line is shaped.
+    pub iterations: u32,
+    /// What is printed of lines and of their glyphs.
+    pub output: Output,
     /// Whether the text is a single line.
     pub single_par: bool,
 }
@@ -143,7 +159,8 @@ impl LineShaper<'_> {
     /// # Proved
     ///
     /// ```text
-    /// ensures { IfOk result (λ answer. IsAnswer self.now.output (answer_text answer)) }
+    /// ensures answer { IfOk result (λ answered. IsAnswer self.now.output (answer_text answered.answer)) }
+    /// ensures list { IfOk result (λ answered. IsList answered.characters.items) }
     /// ```
     #[inline]
     pub fn answer<N: LineNames>(
@@ -151,7 +168,7 @@ impl LineShaper<'_> {
 
         state: &mut LineState<N>,
         line: &[u8],
-    ) -> Result<Answer, AllocError> {
+    ) -> Result<Answered, AllocError> {
         match std::str::from_utf8(line) {
             Ok(line) => self.answer_to_text(state, line),
             Err(_) => {
@@ -163,6 +180,53 @@ impl LineShaper<'_> {
 
     /// The answer to a line that is UTF-8.
     fn answer_to_text<N: LineNames>(
+        &self,
+
+        state: &mut LineState<N>,
+        line: &str,
+    ) -> Result<Answered, AllocError> {
+        self.shape_unprinted(state, line)?;
+        let characters = self.characters(line)?;
+        let answer = self.shape(state, line)?;
+        Ok(Answered { characters, answer })
+    }
+
+    /// The list of a line's characters, where that is shown; else it is empty.
+    fn characters(&self, line: &str) -> Result<Vec<u8>, AllocError> {
+        let mut text = empty_text(self.options);
+        if self.output.shown.characters {
+            // Of a line that is too long there is no list.
+            let _fits = fill(self.options, line, &mut text)?;
+        }
+        let buffer = text.into_buffer();
+        let list = characters_list(buffer.info())?;
+        Ok(list)
+    }
+
+    /// Shapes a line once less than is asked for: what it gives is not printed.
+    fn shape_unprinted<N: LineNames>(
+        &self,
+
+        state: &mut LineState<N>,
+        line: &str,
+    ) -> Result<(), AllocError> {
+        for _ in 1..self.iterations {
+            let mut text = state.kept.take_text(self.options);
+            if !fill(self.options, line, &mut text)? {
+                return Ok(());
+            }
+            let features = self.options.features.as_slice();
+            match shape_with_kept_plans(self.face, features, &mut state.kept.plans, text) {
+                Ok(glyphs) => state.kept.text = Some(glyphs.clear()),
+                Err(ShapeError::Memory) => return Err(AllocError),
+                Err(_) => return Ok(()),
+            }
+        }
+        Ok(())
+    }
+
+    /// What a line is answered with.
+    fn shape<N: LineNames>(
         &self,
 
         state: &mut LineState<N>,
@@ -195,8 +259,8 @@ impl LineShaper<'_> {
         Ok(answer)
     }
 
-    /// What is printed of glyphs: their text. It is public for its clause, which says more than that of
-    /// `answer`.
+    /// What is printed of glyphs: their text, or their objects. It is public for its clause, which says
+    /// more than that of `answer`.
     ///
     /// # Errors
     ///
@@ -219,8 +283,36 @@ impl LineShaper<'_> {
             return Ok(Answer::Empty);
         }
         self.find_extents(names, glyphs.glyph_infos())?;
-        let text = glyphs.serialize(names, self.output)?;
+        let answer = self.print_some(names, glyphs)?;
+        Ok(answer)
+    }
+
+    /// What is printed of glyphs where there are some.
+    fn print_some<N: LineNames>(
+        &self,
+
+        names: &N,
+        glyphs: &GlyphBuffer,
+    ) -> Result<Answer, AllocError> {
+        match self.output.format {
+            OutputFormat::Text => self.text(names, glyphs),
+            OutputFormat::Json => self.objects(names, glyphs),
+            OutputFormat::Nothing => Ok(Answer::Empty),
+        }
+    }
+
+    /// The text of glyphs.
+    fn text<N: LineNames>(&self, names: &N, glyphs: &GlyphBuffer) -> Result<Answer, AllocError> {
+        let text = glyphs.serialize(names, self.output.flags)?;
         Ok(Answer::Glyphs(text))
+    }
+
+    /// The objects of glyphs.
+    fn objects<N: LineNames>(&self, names: &N, glyphs: &GlyphBuffer) -> Result<Answer, AllocError> {
+        let infos = glyphs.glyph_infos();
+        let positions = glyphs.glyph_positions();
+        let objects = glyphs_json(names, self.output.flags, infos, positions)?;
+        Ok(Answer::Objects(objects))
     }
 
     /// Finds the extents of glyphs, where they are printed.
@@ -229,7 +321,7 @@ impl LineShaper<'_> {
         names: &mut N,
         infos: &[hb_glyph_info_t],
     ) -> Result<(), AllocError> {
-        if self.output.contains(SerializeFlags::GLYPH_EXTENTS) {
+        if self.output.flags.contains(SerializeFlags::GLYPH_EXTENTS) {
             names.find(infos)?;
         }
         Ok(())

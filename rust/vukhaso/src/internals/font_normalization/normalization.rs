@@ -12,7 +12,7 @@ mod reordering;
 mod variations;
 
 use crate::buffer::{HB_BUFFER_SCRATCH_FLAG_HAS_CGJ, hb_buffer_t, hb_glyph_info_t};
-use crate::font_face::Face;
+use crate::font_functions::FontFunctions;
 use crate::font_normalization::cluster_level::allows_any_order;
 use crate::font_normalization::glyph_info::is_unicode_mark;
 use crate::memory::AllocError;
@@ -44,15 +44,15 @@ use reordering::{reorder_marks, unhide_joiners};
 /// ensures keeps { KeepsClusters buffer.old buffer.new }
 /// ```
 #[inline]
-pub fn normalize(
+pub fn normalize<F: FontFunctions>(
     buffer: &mut hb_buffer_t,
-    face: &Face,
+    font: &F,
     script: &ScriptPlan,
 ) -> Result<bool, AllocError> {
     debug_assert!(!buffer.have_output());
     let has_marks = has_marks(buffer.info());
     let composes = script.shaper.normalization_mode() != NormalizationMode::Nothing;
-    if !decompose_all(buffer, face, script.shaper)? {
+    if !decompose_all(buffer, font, script.shaper)? {
         return Ok(false);
     }
     if !has_marks {
@@ -64,7 +64,7 @@ pub fn normalize(
     if !composes {
         return Ok(true);
     }
-    recompose_all(buffer, face, script)
+    recompose_all(buffer, font, script)
 }
 
 /// Shows the grapheme joiners that marks may have passed, where the text has any.

@@ -8,7 +8,7 @@ use crate::buffer::{
     glyph_flag, hb_buffer_t, hb_glyph_info_t,
 };
 use crate::common::GlyphId;
-use crate::font_face::Face;
+use crate::font_functions::FontFunctions;
 use crate::font_normalization::glyph_info::{clear_variation_selector, is_variation_selector};
 use crate::font_positions::positions::take_width_at;
 use crate::passes::hide_default_ignorables;
@@ -100,7 +100,7 @@ fn show_variation_selector(infos: &mut [hb_glyph_info_t], place: usize, glyph: u
 /// ensures keeps { KeepsClusters buffer.old buffer.new }
 /// ```
 #[inline]
-pub fn hide_ignorables(buffer: &mut hb_buffer_t, face: &Face) {
+pub fn hide_ignorables<F: FontFunctions>(buffer: &mut hb_buffer_t, font: &F) {
     debug_assert!(!buffer.have_output());
     debug_assert!(buffer.have_positions());
     if buffer.scratch_flags & HB_BUFFER_SCRATCH_FLAG_HAS_DEFAULT_IGNORABLES == 0 {
@@ -109,7 +109,7 @@ pub fn hide_ignorables(buffer: &mut hb_buffer_t, face: &Face) {
     let invisible = buffer.invisible;
     let glyph = match invisible {
         Some(glyph) => Some(glyph),
-        None => face.glyph_index(0x20),
+        None => font.nominal_glyph(0x20),
     };
     set_invisible(buffer, glyph);
     hide_all(buffer);

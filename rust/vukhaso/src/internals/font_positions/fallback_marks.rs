@@ -6,6 +6,7 @@
 use crate::buffer::{GlyphPosition, hb_buffer_t, hb_glyph_info_t};
 use crate::common::{Direction, GlyphId};
 use crate::font_face::Face;
+use crate::font_functions::FontFunctions;
 use crate::font_normalization::glyph_info::{
     is_nonspacing_mark, is_unicode_mark, modified_combining_class, set_modified_combining_class,
 };
@@ -171,22 +172,23 @@ fn within(low: u32, high: u32, number: u32) -> bool {
 /// ensures keeps { KeepsClusters buffer.old buffer.new }
 /// ```
 #[inline]
-pub fn position_marks(
+pub fn position_marks<F: FontFunctions>(
     buffer: &mut hb_buffer_t,
     face: &Face,
+    font: &F,
     direction: Direction,
     adjusts: bool,
 ) -> Result<(), AllocError> {
     debug_assert!(!buffer.have_output());
     debug_assert!(buffer.have_positions());
-    let line = line_of(buffer, direction);
+    let line = line_of(buffer, direction, face.scale.y / 16);
     let mut start = 0;
     for _turn in 0..buffer.len() {
         let Some((base, end)) = next_marked(buffer.info(), start) else {
             break;
         };
         keep_together(buffer, base, end);
-        position_around(buffer, face, line, (base, end), adjusts)?;
+        position_around(buffer, font, line, (base, end), adjusts)?;
         start = end;
     }
     Ok(())
@@ -207,7 +209,7 @@ fn keep_together(buffer: &mut hb_buffer_t, start: usize, end: usize) {
 }
 
 /// How a line runs.
-fn line_of(buffer: &hb_buffer_t, direction: Direction) -> Line {
+fn line_of(buffer: &hb_buffer_t, direction: Direction, gap: i32) -> Line {
     let horizontal = if direction.is_horizontal() {
         Some(direction)
     } else {
@@ -216,6 +218,7 @@ fn line_of(buffer: &hb_buffer_t, direction: Direction) -> Line {
     Line {
         direction: buffer.direction,
         components_run_right: horizontal == Some(Direction::LeftToRight),
+        gap,
     }
 }
 
@@ -242,21 +245,21 @@ fn next_marked(infos: &[hb_glyph_info_t], start: usize) -> Option<(usize, usize)
 ///
 /// - `closed: buffer.old.have_output ≡ false`
 /// - `placed: IsSome buffer.old.positions`
-fn position_around(
+fn position_around<F: FontFunctions>(
     buffer: &mut hb_buffer_t,
-    face: &Face,
+    font: &F,
     line: Line,
     range: (usize, usize),
     adjusts: bool,
 ) -> Result<(), AllocError> {
     debug_assert!(!buffer.have_output());
     debug_assert!(buffer.have_positions());
-    let mut marks = marks_of(buffer, face, line, range.0)?;
+    let mut marks = marks_of(buffer, font, line, range.0)?;
     for place in range.0.saturating_add(1)..range.1 {
         if let Some(info) = buffer.info().get(place).copied() {
             if let Some(position) = buffer.pos_mut().get_mut(place) {
                 match &mut marks {
-                    Some(marks) => position_mark(marks, face, &info, position)?,
+                    Some(marks) => position_mark(marks, font, &info, position)?,
                     None if is_nonspacing_mark(&info) => zero_mark_width(position, adjusts),
                     None => {}
                 }
@@ -271,22 +274,22 @@ fn position_around(
 /// # Requires
 ///
 /// - `IsSome buffer.now.positions`
-fn marks_of(
+fn marks_of<F: FontFunctions>(
     buffer: &hb_buffer_t,
-    face: &Face,
+    font: &F,
     line: Line,
     place: usize,
 ) -> Result<Option<Marks>, AllocError> {
     debug_assert!(buffer.have_positions());
     match (buffer.info().get(place), buffer.pos().get(place)) {
-        (Some(info), Some(position)) => marks_around(face, line, info, position),
+        (Some(info), Some(position)) => marks_around(font, line, info, position),
         _ => Ok(None),
     }
 }
 
 /// The base of an item at a position, with no marks yet.
-fn marks_around(
-    face: &Face,
+fn marks_around<F: FontFunctions>(
+    font: &F,
     line: Line,
     info: &hb_glyph_info_t,
     position: &GlyphPosition,
@@ -294,20 +297,14 @@ fn marks_around(
     let Some(glyph) = glyph_of(info) else {
         return Ok(None);
     };
-    let Some(mut bounds) = face.glyph_extents(glyph)? else {
+    let Some(mut bounds) = font.glyph_extents(glyph)? else {
         return Ok(None);
     };
     bounds.y_bearing = bounds.y_bearing.wrapping_add(position.y_offset);
     bounds.x_bearing = 0;
-    bounds.width = face.glyph_hor_advance(glyph);
+    bounds.width = font.glyph_h_advance(glyph);
     let parts = (ligature_id(info), component_count(info));
-    Ok(Some(Marks::new(
-        line,
-        bounds,
-        position,
-        parts,
-        face.scale.y / 16,
-    )))
+    Ok(Some(Marks::new(line, bounds, position, parts, line.gap)))
 }
 
 /// The glyph of an item, which has 16 bits.
@@ -320,9 +317,9 @@ fn glyph_of(info: &hb_glyph_info_t) -> Option<GlyphId> {
 
 /// Positions an item behind a base: a mark with a class by that class. The next marks stand behind any
 /// other item.
-fn position_mark(
+fn position_mark<F: FontFunctions>(
     marks: &mut Marks,
-    face: &Face,
+    font: &F,
     info: &hb_glyph_info_t,
     position: &mut GlyphPosition,
 ) -> Result<(), AllocError> {
@@ -334,7 +331,7 @@ fn position_mark(
     marks.choose_component(ligature_id(info), ligature_component(info));
     marks.choose_class(class);
     let bounds = match glyph_of(info) {
-        Some(glyph) => face.glyph_extents(glyph)?,
+        Some(glyph) => font.glyph_extents(glyph)?,
         None => None,
     };
     marks.place(class, bounds, position);

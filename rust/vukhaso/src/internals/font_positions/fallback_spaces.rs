@@ -5,6 +5,7 @@
 use crate::buffer::hb_glyph_info_t;
 use crate::common::GlyphId;
 use crate::font_face::Face;
+use crate::font_functions::FontFunctions;
 use crate::font_normalization::glyph_info::{is_unicode_space, space_fallback};
 use crate::font_positions::glyph_info::has_ligated;
 use crate::font_positions::kept_positions::FontPositions;
@@ -20,11 +21,11 @@ use crate::memory::AllocError;
 ///
 /// # Requires
 ///
-/// - `AreTheFonts positions.old`
-pub(crate) fn space_advance(
+/// - `AreTheFonts (F.may_advance positions.old.font.now) positions.old.is_horizontal positions.old.kept`
+pub(crate) fn space_advance<F: FontFunctions>(
     info: &hb_glyph_info_t,
     own: i32,
-    positions: &mut FontPositions,
+    positions: &mut FontPositions<F>,
     invisible: Option<GlyphId>,
 ) -> Result<i32, AllocError> {
     if !is_unicode_space(info) || has_ligated(info) {
@@ -72,15 +73,15 @@ fn part_of_em(em: i64, parts: u8, is_horizontal: bool) -> i32 {
 ///
 /// # Requires
 ///
-/// - `AreTheFonts positions.old`
-fn first_advance(
-    positions: &mut FontPositions,
+/// - `AreTheFonts (F.may_advance positions.old.font.now) positions.old.is_horizontal positions.old.kept`
+fn first_advance<F: FontFunctions>(
+    positions: &mut FontPositions<F>,
     characters: &str,
 ) -> Result<Option<i32>, AllocError> {
-    let face = positions.face;
+    let font = positions.font;
     let found = characters
         .chars()
-        .find_map(|character| face.glyph_index(character as u32));
+        .find_map(|character| font.nominal_glyph(character as u32));
     match found {
         Some(glyph) => Ok(Some(positions.advance(glyph)?)),
         None => Ok(None),

@@ -6,6 +6,7 @@
 use crate::buffer::GlyphPosition;
 use crate::common::GlyphId;
 use crate::font_face::Face;
+use crate::font_functions::FontFunctions;
 use crate::memory::AllocError;
 
 /// How many positions are kept.
@@ -21,21 +22,23 @@ pub(crate) struct KeptPosition {
 }
 
 /// The positions of glyphs in the lines of a direction.
-#[derive(Debug)]
-pub(crate) struct FontPositions<'f, 'a> {
-    /// The font.
+pub(crate) struct FontPositions<'f, 'a, F> {
+    /// The face, which has the scale.
     pub face: &'f Face<'a>,
+    /// The functions of the font.
+    pub font: &'f F,
     /// Whether the lines are horizontal.
     pub is_horizontal: bool,
     /// Positions that were asked for: each glyph has one place, which it shares with every 256th.
     pub kept: [Option<KeptPosition>; KEPT],
 }
 
-impl<'f, 'a> FontPositions<'f, 'a> {
+impl<'f, 'a, F: FontFunctions> FontPositions<'f, 'a, F> {
     /// The positions that a font gives.
-    pub(crate) fn new(face: &'f Face<'a>, is_horizontal: bool) -> Self {
+    pub(crate) fn new(face: &'f Face<'a>, font: &'f F, is_horizontal: bool) -> Self {
         FontPositions {
             face,
+            font,
             is_horizontal,
             kept: [None; KEPT],
         }
@@ -45,7 +48,7 @@ impl<'f, 'a> FontPositions<'f, 'a> {
     ///
     /// # Requires
     ///
-    /// - `AreTheFonts self.old`
+    /// - `AreTheFonts (F.may_advance self.old.font.now) self.old.is_horizontal self.old.kept`
     pub(crate) fn position(&mut self, glyph: GlyphId) -> Result<GlyphPosition, AllocError> {
         let place = usize::from(glyph.0) % KEPT;
         if let Some(kept) = self.kept[place] {
@@ -53,7 +56,7 @@ impl<'f, 'a> FontPositions<'f, 'a> {
                 return Ok(kept.position);
             }
         }
-        let position = Self::font_position(self.face, glyph, self.is_horizontal)?;
+        let position = font_position(self.font, glyph, self.is_horizontal)?;
         self.kept[place] = Some(KeptPosition { glyph, position });
         Ok(position)
     }
@@ -62,7 +65,7 @@ impl<'f, 'a> FontPositions<'f, 'a> {
     ///
     /// # Requires
     ///
-    /// - `AreTheFonts self.old`
+    /// - `AreTheFonts (F.may_advance self.old.font.now) self.old.is_horizontal self.old.kept`
     pub(crate) fn advance(&mut self, glyph: GlyphId) -> Result<i32, AllocError> {
         let position = self.position(glyph)?;
         Ok(if self.is_horizontal {
@@ -71,25 +74,25 @@ impl<'f, 'a> FontPositions<'f, 'a> {
             position.y_advance
         })
     }
+}
 
-    /// The position that the font gives a glyph.
-    fn font_position(
-        face: &Face,
-        glyph: GlyphId,
-        is_horizontal: bool,
-    ) -> Result<GlyphPosition, AllocError> {
-        if is_horizontal {
-            return Ok(GlyphPosition {
-                x_advance: face.glyph_hor_advance(glyph),
-                ..GlyphPosition::default()
-            });
-        }
-        let (x, y) = face.vertical_origin(glyph)?;
-        Ok(GlyphPosition {
-            y_advance: face.glyph_ver_advance(glyph),
-            x_offset: x.wrapping_neg(),
-            y_offset: y.wrapping_neg(),
+/// The position that the font gives a glyph.
+fn font_position<F: FontFunctions>(
+    font: &F,
+    glyph: GlyphId,
+    is_horizontal: bool,
+) -> Result<GlyphPosition, AllocError> {
+    if is_horizontal {
+        return Ok(GlyphPosition {
+            x_advance: font.glyph_h_advance(glyph),
             ..GlyphPosition::default()
-        })
+        });
     }
+    let (x, y) = font.glyph_v_origin(glyph)?;
+    Ok(GlyphPosition {
+        y_advance: font.glyph_v_advance(glyph),
+        x_offset: x.wrapping_neg(),
+        y_offset: y.wrapping_neg(),
+        ..GlyphPosition::default()
+    })
 }

@@ -13,6 +13,8 @@ pub(crate) struct Line {
     pub direction: Direction,
     /// Whether the components of a ligature stand from left to right.
     pub components_run_right: bool,
+    /// How far a mark stands from what it is put around.
+    pub gap: i32,
 }
 
 /// A base with the marks that were put around it.

@@ -9,13 +9,14 @@ use crate::buffer::{
 };
 use crate::common::GlyphId;
 use crate::font_face::Face;
+use crate::font_functions::FontFunctions;
 use crate::font_positions::fallback_spaces::space_advance;
 use crate::font_positions::glyph_info::{is_default_ignorable, is_mark};
 use crate::font_positions::kept_positions::FontPositions;
 use crate::memory::AllocError;
 
-/// Gives each glyph the font's advance at its size, and in vertical lines its vertical origin. A space
-/// that the font has no glyph for is as wide as its kind says.
+/// Gives each glyph the font's advance at the size of its face, and in vertical lines its vertical
+/// origin. A space that the font has no glyph for is as wide as its kind says.
 ///
 /// # Requires
 ///
@@ -35,17 +36,21 @@ use crate::memory::AllocError;
 /// ensures keeps { KeepsClusters buffer.old buffer.new }
 /// ```
 #[inline]
-pub fn position_glyphs(buffer: &mut hb_buffer_t, face: &Face) -> Result<(), AllocError> {
+pub fn position_glyphs<F: FontFunctions>(
+    buffer: &mut hb_buffer_t,
+    face: &Face,
+    font: &F,
+) -> Result<(), AllocError> {
     debug_assert!(!buffer.have_output());
     let is_horizontal = buffer.direction.is_horizontal();
     let has_spaces = buffer.scratch_flags & HB_BUFFER_SCRATCH_FLAG_HAS_SPACE_FALLBACK != 0;
     buffer.clear_positions();
     let is_varied = !face.coordinates().is_empty();
     if is_horizontal && !has_spaces && !is_varied {
-        advance_glyphs(buffer, face);
+        advance_glyphs(buffer, font);
         return Ok(());
     }
-    let mut positions = FontPositions::new(face, is_horizontal);
+    let mut positions = FontPositions::new(face, font, is_horizontal);
     place_glyphs(buffer, &mut positions, has_spaces)
 }
 
@@ -56,10 +61,10 @@ pub fn position_glyphs(buffer: &mut hb_buffer_t, face: &Face) -> Result<(), Allo
 ///
 /// - `closed: buffer.old.have_output ≡ false`
 /// - `placed: IsSome buffer.old.positions`
-/// - `kept: AreTheFonts positions.old`
-fn place_glyphs(
+/// - `kept: AreTheFonts (F.may_advance positions.old.font.now) positions.old.is_horizontal positions.old.kept`
+fn place_glyphs<F: FontFunctions>(
     buffer: &mut hb_buffer_t,
-    positions: &mut FontPositions,
+    positions: &mut FontPositions<F>,
     has_spaces: bool,
 ) -> Result<(), AllocError> {
     debug_assert!(!buffer.have_output());
@@ -69,14 +74,31 @@ fn place_glyphs(
         let Some(info) = buffer.info().get(i) else {
             break;
         };
-        let mut position = positions.position(glyph_of(info))?;
-        if has_spaces {
-            let advance = advance_of(&mut position, positions.is_horizontal);
-            *advance = space_advance(info, *advance, positions, invisible)?;
-        }
+        let position = position_of(info, positions, has_spaces, invisible)?;
         set_position(buffer, i, position);
     }
     Ok(())
+}
+
+/// The position of an item; if it may be a space that the font has no glyph for, as wide as its kind
+/// says.
+///
+/// # Requires
+///
+/// - `AreTheFonts (F.may_advance positions.old.font.now) positions.old.is_horizontal positions.old.kept`
+fn position_of<F: FontFunctions>(
+    info: &hb_glyph_info_t,
+    positions: &mut FontPositions<F>,
+    may_be_space: bool,
+    invisible: Option<GlyphId>,
+) -> Result<GlyphPosition, AllocError> {
+    let mut position = positions.position(glyph_of(info))?;
+    if !may_be_space {
+        return Ok(position);
+    }
+    let advance = advance_of(&mut position, positions.is_horizontal);
+    *advance = space_advance(info, *advance, positions, invisible)?;
+    Ok(position)
 }
 
 /// Gives each glyph of a horizontal line the font's advance.
@@ -85,14 +107,14 @@ fn place_glyphs(
 ///
 /// - `closed: buffer.old.have_output ≡ false`
 /// - `placed: IsSome buffer.old.positions`
-fn advance_glyphs(buffer: &mut hb_buffer_t, face: &Face) {
+fn advance_glyphs<F: FontFunctions>(buffer: &mut hb_buffer_t, font: &F) {
     debug_assert!(!buffer.have_output());
     debug_assert!(buffer.have_positions());
     for i in 0..buffer.len() {
         let Some(info) = buffer.info().get(i) else {
             break;
         };
-        let advance = face.glyph_hor_advance(glyph_of(info));
+        let advance = font.glyph_h_advance(glyph_of(info));
         if let Some(position) = buffer.pos_mut().get_mut(i) {
             position.x_advance = advance;
         }

@@ -5,6 +5,7 @@
 use crate::buffer::hb_buffer_t;
 use crate::common::Tag;
 use crate::font_face::Face;
+use crate::font_functions::FontFunctions;
 use crate::font_shaper::lookups::budget_of;
 use crate::font_shaper::planning::TextPlan;
 use crate::glyph_layout::{Budget, would_substitute};
@@ -14,9 +15,9 @@ use crate::syllabic_shapers::{FontForms, FormFeature, SyllablePause};
 use core::ops::Range;
 
 /// A font with the features of a text.
-#[derive(Debug)]
-struct Forms<'a> {
+struct Forms<'a, F> {
     face: &'a Face<'a>,
+    font: &'a F,
     layout: &'a LayoutPlan,
     /// Where the lookups of each feature stand.
     places: &'a FormPlaces,
@@ -26,9 +27,9 @@ struct Forms<'a> {
     budget: Budget,
 }
 
-impl FontForms for Forms<'_> {
+impl<F: FontFunctions> FontForms for Forms<'_, F> {
     fn glyph_of(&self, character: u32) -> Option<u32> {
-        match self.face.glyph_index(character) {
+        match self.font.nominal_glyph(character) {
             Some(glyph) => Some(u32::from(glyph.0)),
             None => None,
         }
@@ -98,9 +99,10 @@ impl FormPlaces {
 /// # Errors
 ///
 /// `Ok(false)` where a call was refused for length.
-pub(crate) fn work_on_syllables(
+pub(crate) fn work_on_syllables<F: FontFunctions>(
     buffer: &mut hb_buffer_t,
     face: &Face,
+    font: &F,
     plan: &TextPlan,
     pause: SyllablePause,
 ) -> Result<bool, AllocError> {
@@ -110,6 +112,7 @@ pub(crate) fn work_on_syllables(
     }
     let mut forms = Forms {
         face,
+        font,
         layout: &plan.shape.layout,
         places: &plan.forms,
         wants_no_context: plan.syllables.wants_no_context(),

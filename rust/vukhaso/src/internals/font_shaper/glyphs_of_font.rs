@@ -5,29 +5,31 @@
 use crate::buffer::hb_buffer_t;
 use crate::common::GlyphId;
 use crate::font_face::Face;
+use crate::font_functions::FontFunctions;
 use crate::memory::AllocError;
 use crate::script_shapers::{FontGlyphs, ScriptPlan};
 
 /// A font, as the shapers of scripts ask it.
-#[derive(Clone, Copy, Debug)]
-pub(crate) struct FaceGlyphs<'a> {
-    /// The font.
+pub(crate) struct FaceGlyphs<'a, F> {
+    /// The face, which has the scale.
     pub face: &'a Face<'a>,
+    /// The functions of the font.
+    pub font: &'a F,
 }
 
 ///
 /// # Proved
 ///
 /// ```text
-/// ghost has = { λ font character. is_some (glyph_index font.face.now.characters.subtable.now font.face.now.characters.encoding character) }
+/// ghost has = { λ asked. F.has asked.font.now }
 /// ```
-impl FontGlyphs for FaceGlyphs<'_> {
+impl<F: FontFunctions> FontGlyphs for FaceGlyphs<'_, F> {
     fn has_glyph(&self, character: u32) -> bool {
-        self.face.glyph_index(character).is_some()
+        self.font.nominal_glyph(character).is_some()
     }
 
     fn glyph_of(&self, character: u32) -> Option<u16> {
-        match self.face.glyph_index(character) {
+        match self.font.nominal_glyph(character) {
             Some(glyph) => Some(glyph.0),
             None => None,
         }
@@ -35,7 +37,7 @@ impl FontGlyphs for FaceGlyphs<'_> {
 
     fn horizontal_advance(&self, glyph: u32) -> i32 {
         let glyph = GlyphId(u16::try_from(glyph).unwrap_or(0));
-        self.face.glyph_hor_advance(glyph)
+        self.font.glyph_h_advance(glyph)
     }
 
     fn is_mirrored(&self) -> bool {
@@ -53,12 +55,13 @@ impl FontGlyphs for FaceGlyphs<'_> {
 /// # Errors
 ///
 /// `Ok(false)` where a call was refused for length.
-pub(crate) fn stretch_marks(
+pub(crate) fn stretch_marks<F: FontFunctions>(
     buffer: &mut hb_buffer_t,
     face: &Face,
+    font: &F,
     script: &ScriptPlan,
 ) -> Result<bool, AllocError> {
     debug_assert!(!buffer.have_output());
     debug_assert!(buffer.have_positions());
-    script.postprocess_glyphs(buffer, &FaceGlyphs { face })
+    script.postprocess_glyphs(buffer, &FaceGlyphs { face, font })
 }

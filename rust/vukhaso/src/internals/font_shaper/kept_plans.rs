@@ -4,6 +4,7 @@
 
 use crate::buffer::{Feature, GlyphBuffer, UnicodeBuffer, hb_buffer_t};
 use crate::font_face::Face;
+use crate::font_functions::{FontFunctions, OwnFunctions};
 use crate::font_shaper::shape_plan::ShapePlan;
 use crate::font_shaper::shaping::{ShapeError, shape_by_plan};
 use crate::font_shaper::watch::Unwatched;
@@ -49,16 +50,17 @@ impl KeptPlans {
 
     /// The place of the plan for the text of a buffer: one that was kept, where a new one would be the
     /// same, and else a new one.
-    fn find(
+    fn find<F: FontFunctions>(
         &mut self,
         face: &Face,
+        font: &F,
         features: &[Feature],
         buffer: &hb_buffer_t,
     ) -> Result<usize, AllocError> {
         if let Some(place) = place_of(self.plans(), face, features, buffer) {
             return Ok(place);
         }
-        self.add(plan_of_buffer(face, features, buffer)?)
+        self.add(plan_of_buffer(face, font, features, buffer)?)
     }
 
     /// Keeps one more plan, and says where. Where many are kept, these are let go.
@@ -90,13 +92,15 @@ fn place_of(
 }
 
 /// A new plan for the text of a buffer.
-fn plan_of_buffer(
+fn plan_of_buffer<F: FontFunctions>(
     face: &Face,
+    font: &F,
     features: &[Feature],
     buffer: &hb_buffer_t,
 ) -> Result<ShapePlan, AllocError> {
-    ShapePlan::new(
+    ShapePlan::with_functions(
         face,
+        font,
         buffer.direction,
         buffer.script,
         buffer.language.as_ref(),
@@ -130,12 +134,41 @@ pub fn shape_with_kept_plans(
     kept: &mut KeptPlans,
     text: UnicodeBuffer,
 ) -> Result<GlyphBuffer, ShapeError> {
+    shape_with_functions_and_plans(face, &OwnFunctions { face }, features, kept, text)
+}
+
+/// Shapes a text by a font of which these functions answer, as `shape_with_functions` does, and by
+/// plans that are kept, as `shape_with_kept_plans` does. The plans are for one font and its functions.
+///
+/// # Errors
+///
+/// `Err`: the clauses below say when.
+///
+/// # Proved
+///
+/// ```text
+/// ensures placed { IfOk result HasPositions }
+/// ensures within { IfOk result (λ glyphs. length glyphs.input ≤ (enter text).max_len) }
+/// ensures direction { IfOk result (λ glyphs. glyphs.direction ≡ (guessed text).direction) }
+/// ensures clusters { IfOk result (ShapedClusters text) }
+/// ensures planned { IfOk result (λ _. Any
+///     (λ plan. IsPlanOf plan face.now features.now (guessed text)) kept.new) }
+/// ensures named { IfErr result (λ e. e ≢ ShapeError.OtherPlan) }
+/// ```
+#[inline]
+pub fn shape_with_functions_and_plans<F: FontFunctions>(
+    face: &Face,
+    font: &F,
+    features: &[Feature],
+    kept: &mut KeptPlans,
+    text: UnicodeBuffer,
+) -> Result<GlyphBuffer, ShapeError> {
     let mut text = text;
     text.guess_segment_properties();
     let buffer = text.into_buffer();
-    let place = kept.find(face, features, &buffer)?;
+    let place = kept.find(face, font, features, &buffer)?;
     match kept.plans().get(place) {
-        Some(plan) => shape_by_plan(face, &plan.made, features, buffer, &mut Unwatched),
+        Some(plan) => shape_by_plan(face, font, &plan.made, features, buffer, &mut Unwatched),
         None => Err(ShapeError::Memory),
     }
 }

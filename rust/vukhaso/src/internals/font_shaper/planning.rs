@@ -7,6 +7,7 @@ use crate::apple_tables::FeatureNames;
 use crate::buffer::hb_buffer_t;
 use crate::common::{Direction, Script, Tag};
 use crate::font_face::Face;
+use crate::font_functions::FontFunctions;
 use crate::font_shaper::forms_of_font::FormPlaces;
 use crate::font_shaper::glyphs_of_font::FaceGlyphs;
 use crate::font_variations::substitutions_of;
@@ -66,8 +67,9 @@ pub(crate) struct SegmentProperties<'a> {
 }
 
 /// The plan for the text of a buffer.
-pub(crate) fn plan_of_text(
+pub(crate) fn plan_of_text<F: FontFunctions>(
     face: &Face,
+    font: &F,
     buffer: &hb_buffer_t,
     features: &[Feature],
 ) -> Result<TextPlan, AllocError> {
@@ -76,13 +78,14 @@ pub(crate) fn plan_of_text(
         script: buffer.script,
         language: buffer.language.as_ref(),
     };
-    plan_for(face, &segment, features)
+    plan_for(face, font, &segment, features)
 }
 
 /// The plan for texts with these properties. The tags of a language are those that it names itself, or
 /// those of OpenType's registry.
-pub(crate) fn plan_for(
+pub(crate) fn plan_for<F: FontFunctions>(
     face: &Face,
+    font: &F,
     segment: &SegmentProperties,
     features: &[Feature],
 ) -> Result<TextPlan, AllocError> {
@@ -97,17 +100,18 @@ pub(crate) fn plan_for(
         scripts: scripts.as_slice(),
         languages: languages.as_slice(),
     };
-    plan_of(face, segment, &text, features)
+    plan_of(face, font, segment, &text, features)
 }
 
 /// The plan for a text with these properties.
-fn plan_of(
+fn plan_of<F: FontFunctions>(
     face: &Face,
+    font: &F,
     segment: &SegmentProperties,
     text: &TextProperties,
     features: &[Feature],
 ) -> Result<TextPlan, AllocError> {
-    let font = FontLayout {
+    let tables = FontLayout {
         gsub: face.layout.gsub,
         gpos: face.layout.gpos,
         kern: kern_layout(face),
@@ -115,9 +119,9 @@ fn plan_of(
         gpos_substitutions: substitutions_of(face.layout.gpos, face.coordinates()),
     };
     let substitutes = substitutes_by_morx(face, segment.direction);
-    let mut builder = ShapePlan::begin(&font, text)?;
+    let mut builder = ShapePlan::begin(&tables, text)?;
     let chosen = add_features(&mut builder, segment, features, substitutes)?;
-    let mut shape = ShapePlan::complete(builder, &font, segment.direction, chosen.rules)?;
+    let mut shape = ShapePlan::complete(builder, &tables, segment.direction, chosen.rules)?;
     let adjusts = shape.adjust_mark_positioning_when_zeroing;
     shape.adjust_mark_positioning_when_zeroing = adjusts && !substitutes;
     let chain_flags = chain_flags_of(face, features, substitutes)?;
@@ -129,7 +133,7 @@ fn plan_of(
         &shape.layout,
         chosen.finds_script,
     );
-    let fallback = fallback_of(face, &script)?;
+    let fallback = fallback_of(face, font, &script)?;
     let forms = FormPlaces::new(&shape.layout);
     Ok(TextPlan {
         shape,
@@ -165,11 +169,16 @@ fn chain_flags_of(
 }
 
 /// The lookups that join Arabic letters, where the shaper of the script makes them.
-fn fallback_of(face: &Face, script: &ScriptPlan) -> Result<Option<FallbackLookups>, AllocError> {
+fn fallback_of<F: FontFunctions>(
+    face: &Face,
+    font: &F,
+    script: &ScriptPlan,
+) -> Result<Option<FallbackLookups>, AllocError> {
     if !script.does_fallback {
         return Ok(None);
     }
-    Ok(Some(FallbackLookups::new(&FaceGlyphs { face }, script)?))
+    let glyphs = FaceGlyphs { face, font };
+    Ok(Some(FallbackLookups::new(&glyphs, script)?))
 }
 
 /// The shaper of a script.

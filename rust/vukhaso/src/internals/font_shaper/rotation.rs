@@ -3,7 +3,7 @@
 //! Characters that have another form in text which runs from right to left or in vertical lines.
 
 use crate::buffer::{CharExt, Direction, Mirrors, hb_buffer_t, hb_glyph_info_t};
-use crate::font_face::Face;
+use crate::font_functions::FontFunctions;
 use crate::font_normalization::glyph_info::{is_unicode_mark, is_unicode_space};
 use crate::font_shaper::glyph_info::{is_decimal_number, is_letter};
 use crate::layout_plan::ShapePlan;
@@ -16,28 +16,33 @@ use crate::unicode_tables::mirrors;
 /// # Requires
 ///
 /// - `buffer.old.have_output ≡ false`
-pub(crate) fn rotate_characters(
+pub(crate) fn rotate_characters<F: FontFunctions>(
     buffer: &mut hb_buffer_t,
-    face: &Face,
+    font: &F,
     plan: &ShapePlan,
     direction: Direction,
 ) {
     debug_assert!(!buffer.have_output());
-    rotate_all(buffer.info_slice_mut(), face, plan, direction);
+    rotate_all(buffer.info_slice_mut(), font, plan, direction);
 }
 
 /// Replaces each of the characters so.
-fn rotate_all(infos: &mut [hb_glyph_info_t], face: &Face, plan: &ShapePlan, direction: Direction) {
+fn rotate_all<F: FontFunctions>(
+    infos: &mut [hb_glyph_info_t],
+    font: &F,
+    plan: &ShapePlan,
+    direction: Direction,
+) {
     if direction.is_backward() {
         let mirrors = if infos.iter().any(may_be_mirrored) {
             mirrors()
         } else {
             None
         };
-        mirror_all(infos, face, mirrors.as_ref(), plan.rtlm_mask);
+        mirror_all(infos, font, mirrors.as_ref(), plan.rtlm_mask);
     }
     if direction.is_vertical() && !plan.has_vert {
-        make_all_vertical(infos, face);
+        make_all_vertical(infos, font);
     }
 }
 
@@ -50,23 +55,37 @@ fn may_be_mirrored(info: &hb_glyph_info_t) -> bool {
 }
 
 /// Replaces each character by its mirror image, or gives it the mask.
-fn mirror_all(infos: &mut [hb_glyph_info_t], face: &Face, mirrors: Option<&Mirrors>, mask: u32) {
+fn mirror_all<F: FontFunctions>(
+    infos: &mut [hb_glyph_info_t],
+    font: &F,
+    mirrors: Option<&Mirrors>,
+    mask: u32,
+) {
     for i in 0..infos.len() {
-        mirror(&mut infos[i], face, mirrors, mask);
+        mirror(&mut infos[i], font, mirrors, mask);
     }
 }
 
 /// Replaces a character by its mirror image, or gives it the mask.
-fn mirror(info: &mut hb_glyph_info_t, face: &Face, mirrors: Option<&Mirrors>, mask: u32) {
-    if !is_mirrored(info, face, mirrors) {
+fn mirror<F: FontFunctions>(
+    info: &mut hb_glyph_info_t,
+    font: &F,
+    mirrors: Option<&Mirrors>,
+    mask: u32,
+) {
+    if !is_mirrored(info, font, mirrors) {
         info.mask |= mask;
     }
 }
 
 /// Replaces a character by its mirror image, and says whether the font has a glyph for that.
-fn is_mirrored(info: &mut hb_glyph_info_t, face: &Face, mirrors: Option<&Mirrors>) -> bool {
+fn is_mirrored<F: FontFunctions>(
+    info: &mut hb_glyph_info_t,
+    font: &F,
+    mirrors: Option<&Mirrors>,
+) -> bool {
     match mirror_image(info, mirrors) {
-        Some(image) => replace_character(info, face, image),
+        Some(image) => replace_character(info, font, image),
         None => false,
     }
 }
@@ -77,24 +96,24 @@ fn mirror_image(info: &hb_glyph_info_t, mirrors: Option<&Mirrors>) -> Option<cha
 }
 
 /// Replaces each character by its vertical form.
-fn make_all_vertical(infos: &mut [hb_glyph_info_t], face: &Face) {
+fn make_all_vertical<F: FontFunctions>(infos: &mut [hb_glyph_info_t], font: &F) {
     for i in 0..infos.len() {
-        make_vertical(&mut infos[i], face);
+        make_vertical(&mut infos[i], font);
     }
 }
 
 /// Replaces a character by its vertical form.
-fn make_vertical(info: &mut hb_glyph_info_t, face: &Face) {
+fn make_vertical<F: FontFunctions>(info: &mut hb_glyph_info_t, font: &F) {
     if let Some(character) = char::from_u32(info.glyph_id) {
         if let Some(vertical) = character.vertical() {
-            let _ = replace_character(info, face, vertical);
+            let _ = replace_character(info, font, vertical);
         }
     }
 }
 
 /// Replaces a character by another one, if the font has a glyph for that, and says whether it has.
-fn replace_character(info: &mut hb_glyph_info_t, face: &Face, other: char) -> bool {
-    if face.glyph_index(other as u32).is_none() {
+fn replace_character<F: FontFunctions>(info: &mut hb_glyph_info_t, font: &F, other: char) -> bool {
+    if font.nominal_glyph(other as u32).is_none() {
         return false;
     }
     info.glyph_id = other as u32;

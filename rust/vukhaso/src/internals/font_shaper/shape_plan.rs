@@ -5,6 +5,7 @@
 use crate::buffer::{Direction, Feature, GlyphBuffer, Language, UnicodeBuffer, hb_buffer_t};
 use crate::common::{Script, script};
 use crate::font_face::Face;
+use crate::font_functions::{FontFunctions, OwnFunctions};
 use crate::font_shaper::planning::{SegmentProperties, TextPlan, plan_for};
 use crate::font_shaper::shaping::{ShapeError, shape_by_plan};
 use crate::font_shaper::watch::{Unwatched, Watch};
@@ -66,13 +67,27 @@ impl ShapePlan {
         language: Option<&Language>,
         user_features: &[Feature],
     ) -> Result<Self, AllocError> {
+        let own = OwnFunctions { face };
+        Self::with_functions(face, &own, direction, script, language, user_features)
+    }
+
+    /// The plan for such texts by a font of which these functions answer. It is for this font and these
+    /// functions alone.
+    pub(crate) fn with_functions<F: FontFunctions>(
+        face: &Face,
+        font: &F,
+        direction: Direction,
+        script: Option<Script>,
+        language: Option<&Language>,
+        user_features: &[Feature],
+    ) -> Result<Self, AllocError> {
         let segment = SegmentProperties {
             direction,
             script,
             language,
         };
         Ok(ShapePlan {
-            made: plan_for(face, &segment, user_features)?,
+            made: plan_for(face, font, &segment, user_features)?,
             direction,
             script,
             language: text_of_language(language)?,
@@ -288,5 +303,6 @@ pub fn shape_with_plan_watched<W: Watch>(
         return Err(ShapeError::OtherPlan);
     }
     let buffer = text.into_buffer();
-    shape_by_plan(face, &plan.made, features, buffer, watch)
+    let own = OwnFunctions { face };
+    shape_by_plan(face, &own, &plan.made, features, buffer, watch)
 }

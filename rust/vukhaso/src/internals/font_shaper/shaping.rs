@@ -7,16 +7,15 @@ use crate::buffer::{
     BufferFlags, Direction, Feature, GlyphBuffer, UnicodeBuffer, hb_buffer_t, hb_glyph_info_t,
 };
 use crate::font_face::Face;
+use crate::font_functions::{FontFunctions, OwnFunctions};
 use crate::font_normalization::normalize;
 use crate::font_positions::{
-    hide_ignorables, position_glyphs, position_marks, propagate_flags, recategorize_marks,
-    show_variation_selectors, track, zero_mark_widths, zero_width_default_ignorables,
-    zero_width_deleted_glyphs,
+    hide_ignorables, propagate_flags, recategorize_marks, show_variation_selectors,
 };
 use crate::font_shaper::glyphs_of_font::{FaceGlyphs, stretch_marks};
-use crate::font_shaper::lookups::position_by_lookups;
 use crate::font_shaper::masks::set_masks;
 use crate::font_shaper::planning::{TextPlan, plan_of_text};
+use crate::font_shaper::positioning::position;
 use crate::font_shaper::rotation::rotate_characters;
 use crate::font_shaper::substitution::substitute;
 use crate::font_shaper::text::{
@@ -24,11 +23,8 @@ use crate::font_shaper::text::{
 };
 use crate::font_shaper::verification::{VerifyError, shape_verified};
 use crate::font_shaper::watch::{Step, Unwatched, Watch};
-use crate::glyph_positions::position_finish_offsets;
 use crate::glyph_substitution::substitute_start;
-use crate::layout_plan::ShapePlan;
 use crate::memory::AllocError;
-use crate::script_shapers::ZeroWidthMarks;
 
 /// Why a text was not shaped.
 #[derive(Clone, Copy, PartialEq, Eq, Debug)]
@@ -124,11 +120,64 @@ pub fn shape_watched<W: Watch>(
     text: UnicodeBuffer,
     watch: &mut W,
 ) -> Result<GlyphBuffer, ShapeError> {
+    shape_with_functions_watched(face, &OwnFunctions { face }, features, text, watch)
+}
+
+/// Shapes a text by a font of which these functions answer the glyphs of characters and their measures,
+/// in place of its own tables. What is said of `shape` holds whatever they answer. Lookups, the size
+/// and the variations are the face's.
+///
+/// # Errors
+///
+/// `Err`: the clauses below say when.
+///
+/// # Proved
+///
+/// ```text
+/// ensures placed { IfOk result HasPositions }
+/// ensures within { IfOk result (λ glyphs. length glyphs.input ≤ (enter text).max_len) }
+/// ensures direction { IfOk result (λ glyphs. glyphs.direction ≡ (guessed text).direction) }
+/// ensures clusters { IfOk result (ShapedClusters text) }
+/// ensures named { IfErr result (λ e. e ≢ ShapeError.OtherPlan) }
+/// ```
+#[inline]
+pub fn shape_with_functions<F: FontFunctions>(
+    face: &Face,
+    font: &F,
+    features: &[Feature],
+    text: UnicodeBuffer,
+) -> Result<GlyphBuffer, ShapeError> {
+    shape_with_functions_watched(face, font, features, text, &mut Unwatched)
+}
+
+/// Shapes a text by a font of which these functions answer, and tells of each step.
+///
+/// # Errors
+///
+/// `Err`: the clauses below say when.
+///
+/// # Proved
+///
+/// ```text
+/// ensures placed { IfOk result HasPositions }
+/// ensures within { IfOk result (λ glyphs. length glyphs.input ≤ (enter text).max_len) }
+/// ensures direction { IfOk result (λ glyphs. glyphs.direction ≡ (guessed text).direction) }
+/// ensures clusters { IfOk result (ShapedClusters text) }
+/// ensures named { IfErr result (λ e. e ≢ ShapeError.OtherPlan) }
+/// ```
+#[inline]
+pub fn shape_with_functions_watched<F: FontFunctions, W: Watch>(
+    face: &Face,
+    font: &F,
+    features: &[Feature],
+    text: UnicodeBuffer,
+    watch: &mut W,
+) -> Result<GlyphBuffer, ShapeError> {
     let mut text = text;
     text.guess_segment_properties();
     let buffer = text.into_buffer();
-    let plan = plan_of_text(face, &buffer, features)?;
-    shape_by_plan(face, &plan, features, buffer, watch)
+    let plan = plan_of_text(face, font, &buffer, features)?;
+    shape_by_plan(face, font, &plan, features, buffer, watch)
 }
 
 /// Shapes the text of a buffer by a plan, and tests its glyphs where the buffer is to be verified.
@@ -136,8 +185,9 @@ pub fn shape_watched<W: Watch>(
 /// # Requires
 ///
 /// - `buffer.have_output ≡ false`
-pub(crate) fn shape_by_plan<W: Watch>(
+pub(crate) fn shape_by_plan<F: FontFunctions, W: Watch>(
     face: &Face,
+    font: &F,
     plan: &TextPlan,
     features: &[Feature],
     buffer: hb_buffer_t,
@@ -145,9 +195,9 @@ pub(crate) fn shape_by_plan<W: Watch>(
 ) -> Result<GlyphBuffer, ShapeError> {
     debug_assert!(!buffer.have_output());
     if buffer.flags.contains(BufferFlags::VERIFY) {
-        shape_verified(face, plan, features, buffer)
+        shape_verified(face, font, plan, features, buffer)
     } else {
-        shape_planned(face, plan, features, buffer, watch)
+        shape_planned(face, font, plan, features, buffer, watch)
     }
 }
 
@@ -156,8 +206,9 @@ pub(crate) fn shape_by_plan<W: Watch>(
 /// # Requires
 ///
 /// - `buffer.have_output ≡ false`
-pub(crate) fn shape_planned<W: Watch>(
+pub(crate) fn shape_planned<F: FontFunctions, W: Watch>(
     face: &Face,
+    font: &F,
     plan: &TextPlan,
     features: &[Feature],
     buffer: hb_buffer_t,
@@ -166,7 +217,7 @@ pub(crate) fn shape_planned<W: Watch>(
     debug_assert!(!buffer.have_output());
     let mut buffer = buffer;
     buffer.enter();
-    if !shape_buffer(&mut buffer, face, plan, features, watch)? {
+    if !shape_buffer(&mut buffer, face, font, plan, features, watch)? {
         return Err(ShapeError::TooLong);
     }
     Ok(GlyphBuffer::from_buffer(buffer))
@@ -181,9 +232,10 @@ pub(crate) fn shape_planned<W: Watch>(
 /// # Errors
 ///
 /// `Ok(false)` where a call was refused for length.
-fn shape_buffer<W: Watch>(
+fn shape_buffer<F: FontFunctions, W: Watch>(
     buffer: &mut hb_buffer_t,
     face: &Face,
+    font: &F,
     plan: &TextPlan,
     features: &[Feature],
     watch: &mut W,
@@ -192,7 +244,7 @@ fn shape_buffer<W: Watch>(
     debug_assert!(buffer.out_len() == 0);
     let limit = buffer.max_len();
     let direction = buffer.direction;
-    if !make_glyphs(buffer, face, plan, features, watch)? || buffer.len() > limit {
+    if !make_glyphs(buffer, face, font, plan, features, watch)? || buffer.len() > limit {
         return Ok(false);
     }
     end_line(buffer, direction);
@@ -223,24 +275,30 @@ fn end_line(buffer: &mut hb_buffer_t, direction: Direction) {
 /// # Errors
 ///
 /// `Ok(false)` where a call was refused for length.
-fn make_glyphs<W: Watch>(
+fn make_glyphs<F: FontFunctions, W: Watch>(
     buffer: &mut hb_buffer_t,
     face: &Face,
+    font: &F,
     plan: &TextPlan,
     features: &[Feature],
     watch: &mut W,
 ) -> Result<bool, AllocError> {
     debug_assert!(!buffer.have_output());
     let direction = buffer.direction;
-    if !begin_characters(buffer, face, plan)? {
+    if !begin_characters(buffer, font, plan)? {
         return Ok(false);
     }
     let is_turned = ensure_native_direction(buffer);
-    if !shape_native(buffer, face, plan, features, direction, watch)? {
+    let line = TextLine {
+        plan,
+        features,
+        direction,
+    };
+    if !shape_native(buffer, face, font, line, watch)? {
         return Ok(false);
     }
     reverse_if(buffer, is_against(direction.is_forward(), is_turned));
-    finish_glyphs(buffer, face, plan)
+    finish_glyphs(buffer, face, font, plan)
 }
 
 /// Whether the glyphs stand against the line: it runs forward and the text was turned, or it runs
@@ -263,8 +321,18 @@ fn reverse_if(buffer: &mut hb_buffer_t, is_against: bool) {
     }
 }
 
-/// Makes glyphs of characters that stand in the direction of their script. `direction` is the way in
-/// which the line was said to run.
+/// How the text of a line is shaped.
+#[derive(Clone, Copy)]
+struct TextLine<'a> {
+    /// The plan of the text.
+    plan: &'a TextPlan,
+    /// The features that a user asked for.
+    features: &'a [Feature],
+    /// The way in which the line was said to run.
+    direction: Direction,
+}
+
+/// Makes glyphs of characters that stand in the direction of their script.
 ///
 /// # Requires
 ///
@@ -273,23 +341,22 @@ fn reverse_if(buffer: &mut hb_buffer_t, is_against: bool) {
 /// # Errors
 ///
 /// `Ok(false)` where a call was refused for length.
-fn shape_native<W: Watch>(
+fn shape_native<F: FontFunctions, W: Watch>(
     buffer: &mut hb_buffer_t,
     face: &Face,
-    plan: &TextPlan,
-    features: &[Feature],
-    direction: Direction,
+    font: &F,
+    line: TextLine<'_>,
     watch: &mut W,
 ) -> Result<bool, AllocError> {
     debug_assert!(!buffer.have_output());
-    if !prepare_characters(buffer, face, plan, direction)? {
+    if !prepare_characters(buffer, face, font, line.plan, line.direction)? {
         return Ok(false);
     }
-    find_glyphs(buffer, face, plan, features, watch)?;
-    if !substitute(buffer, face, plan, watch)? {
+    find_glyphs(buffer, face, line.plan, line.features, watch)?;
+    if !substitute(buffer, face, font, line.plan, watch)? {
         return Ok(false);
     }
-    position(buffer, face, plan, direction, watch)?;
+    position(buffer, face, font, line.plan, line.direction, watch)?;
     Ok(true)
 }
 
@@ -337,17 +404,18 @@ fn mask_characters(buffer: &mut hb_buffer_t, plan: &TextPlan, features: &[Featur
 /// # Errors
 ///
 /// `Ok(false)` where a call was refused for length.
-fn finish_glyphs(
+fn finish_glyphs<F: FontFunctions>(
     buffer: &mut hb_buffer_t,
     face: &Face,
+    font: &F,
     plan: &TextPlan,
 ) -> Result<bool, AllocError> {
     debug_assert!(!buffer.have_output());
     debug_assert!(buffer.have_positions());
     remove_deleted(buffer, plan);
     show_variation_selectors(buffer);
-    hide_ignorables(buffer, face);
-    if !stretch_marks(buffer, face, &plan.script)? {
+    hide_ignorables(buffer, font);
+    if !stretch_marks(buffer, face, font, &plan.script)? {
         return Ok(false);
     }
     propagate_flags(buffer);
@@ -378,15 +446,15 @@ fn remove_deleted(buffer: &mut hb_buffer_t, plan: &TextPlan) {
 /// # Errors
 ///
 /// `Ok(false)` where a call was refused for length.
-fn begin_characters(
+fn begin_characters<F: FontFunctions>(
     buffer: &mut hb_buffer_t,
-    face: &Face,
+    font: &F,
     plan: &TextPlan,
 ) -> Result<bool, AllocError> {
     debug_assert!(!buffer.have_output());
     buffer.reset_masks(plan.shape.layout.global_mask);
     set_properties(buffer);
-    if !insert_dotted_circle(buffer, face)? {
+    if !insert_dotted_circle(buffer, font)? {
         return Ok(false);
     }
     form_clusters(buffer);
@@ -402,18 +470,22 @@ fn begin_characters(
 /// # Errors
 ///
 /// `Ok(false)` where a call was refused for length.
-fn prepare_characters(
+fn prepare_characters<F: FontFunctions>(
     buffer: &mut hb_buffer_t,
     face: &Face,
+    font: &F,
     plan: &TextPlan,
     direction: Direction,
 ) -> Result<bool, AllocError> {
     debug_assert!(!buffer.have_output());
-    if !plan.script.preprocess_text(buffer, &FaceGlyphs { face })? {
+    if !plan
+        .script
+        .preprocess_text(buffer, &FaceGlyphs { face, font })?
+    {
         return Ok(false);
     }
-    rotate_characters(buffer, face, &plan.shape, direction);
-    normalize(buffer, face, &plan.script)
+    rotate_characters(buffer, font, &plan.shape, direction);
+    normalize(buffer, font, &plan.script)
 }
 
 /// Puts the glyph of each character in its place, with the properties that the font gives it.
@@ -441,91 +513,5 @@ fn put_glyphs(buffer: &mut hb_buffer_t) {
 fn put_all(infos: &mut [hb_glyph_info_t]) {
     for i in 0..infos.len() {
         infos[i].glyph_id = infos[i].glyph_index();
-    }
-}
-
-/// Positions the glyphs: by the font's advances, by its lookups, and marks without a width of their
-/// own. `direction` is the way in which the line was said to run.
-///
-/// # Requires
-///
-/// - `buffer.old.have_output ≡ false`
-fn position<W: Watch>(
-    buffer: &mut hb_buffer_t,
-    face: &Face,
-    plan: &TextPlan,
-    direction: Direction,
-    watch: &mut W,
-) -> Result<(), AllocError> {
-    debug_assert!(!buffer.have_output());
-    position_glyphs(buffer, face)?;
-    watch.step(Step::Advances, buffer)?;
-    let adjusts = adjusts_marks(buffer, &plan.shape);
-    zero_marks(buffer, zeroes_marks(plan, ZeroWidthMarks::Early), adjusts);
-    position_by_lookups(buffer, face, &plan.shape, watch)?;
-    track(buffer, face, plan.trak_mask);
-    zero_marks(buffer, zeroes_marks(plan, ZeroWidthMarks::Late), adjusts);
-    zero_deleted(buffer, plan);
-    finish_positions(buffer, face, &plan.shape, direction)
-}
-
-/// Whether marks lose their width at this step.
-fn zeroes_marks(plan: &TextPlan, step: ZeroWidthMarks) -> bool {
-    plan.shape.zero_marks && plan.script.shaper.zero_width_marks() == step
-}
-
-/// Whether a mark that loses its width is moved back by it.
-fn adjusts_marks(buffer: &hb_buffer_t, plan: &ShapePlan) -> bool {
-    plan.adjust_mark_positioning_when_zeroing && buffer.direction.is_forward()
-}
-
-/// Takes the width of what is not to be seen, and places the glyphs that stand by others.
-///
-/// # Requires
-///
-/// - `closed: buffer.old.have_output ≡ false`
-/// - `placed: IsSome buffer.old.positions`
-fn finish_positions(
-    buffer: &mut hb_buffer_t,
-    face: &Face,
-    plan: &ShapePlan,
-    direction: Direction,
-) -> Result<(), AllocError> {
-    debug_assert!(!buffer.have_output());
-    debug_assert!(buffer.have_positions());
-    let adjusts = adjusts_marks(buffer, plan);
-    zero_width_default_ignorables(buffer);
-    position_finish_offsets(buffer);
-    if plan.fallback_mark_positioning {
-        position_marks(buffer, face, direction, adjusts)?;
-    }
-    Ok(())
-}
-
-/// Takes the width of glyphs that were deleted by Apple's table `morx`.
-///
-/// # Requires
-///
-/// - `closed: buffer.old.have_output ≡ false`
-/// - `placed: IsSome buffer.old.positions`
-fn zero_deleted(buffer: &mut hb_buffer_t, plan: &TextPlan) {
-    debug_assert!(!buffer.have_output());
-    debug_assert!(buffer.have_positions());
-    if plan.chain_flags.is_some() {
-        zero_width_deleted_glyphs(buffer);
-    }
-}
-
-/// Takes the width of marks, where that is said.
-///
-/// # Requires
-///
-/// - `closed: buffer.old.have_output ≡ false`
-/// - `placed: IsSome buffer.old.positions`
-fn zero_marks(buffer: &mut hb_buffer_t, zeroes: bool, adjusts: bool) {
-    debug_assert!(!buffer.have_output());
-    debug_assert!(buffer.have_positions());
-    if zeroes {
-        zero_mark_widths(buffer, adjusts);
     }
 }

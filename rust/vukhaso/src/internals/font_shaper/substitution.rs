@@ -5,6 +5,7 @@
 use crate::apple_substitution::{ChainFlags, Substitution, remove_deleted_glyphs};
 use crate::buffer::hb_buffer_t;
 use crate::font_face::Face;
+use crate::font_functions::FontFunctions;
 use crate::font_shaper::cluster_order::ClusterCourse;
 use crate::font_shaper::forms_of_font::work_on_syllables;
 use crate::font_shaper::lookups::{budget_of, options_of};
@@ -29,9 +30,10 @@ use crate::syllabic_shapers::SyllablePause;
 /// # Errors
 ///
 /// `Ok(false)` where a call was refused for length.
-pub(crate) fn substitute<W: Watch>(
+pub(crate) fn substitute<F: FontFunctions, W: Watch>(
     buffer: &mut hb_buffer_t,
     face: &Face,
+    font: &F,
     plan: &TextPlan,
     watch: &mut W,
 ) -> Result<bool, AllocError> {
@@ -39,7 +41,7 @@ pub(crate) fn substitute<W: Watch>(
     if let Some(flags) = &plan.chain_flags {
         return substitute_by_morx(buffer, face, flags, plan.shape.apply_gpos);
     }
-    substitute_by_gsub(buffer, face, plan, watch)
+    substitute_by_gsub(buffer, face, font, plan, watch)
 }
 
 /// Substitutes glyphs by Apple's table `morx`. Those that it deletes are taken out at once where `GPOS`
@@ -92,18 +94,19 @@ fn remove_deleted(buffer: &mut hb_buffer_t, removes: bool) {
 /// # Errors
 ///
 /// `Ok(false)` where a call was refused for length.
-fn substitute_by_gsub<W: Watch>(
+fn substitute_by_gsub<F: FontFunctions, W: Watch>(
     buffer: &mut hb_buffer_t,
     face: &Face,
+    font: &F,
     plan: &TextPlan,
     watch: &mut W,
 ) -> Result<bool, AllocError> {
     debug_assert!(!buffer.have_output());
     if !plan.orders_syllables() {
-        return apply_stages(buffer, face, plan, watch);
+        return apply_stages(buffer, face, font, plan, watch);
     }
     let course = ClusterCourse::of(buffer);
-    if !apply_stages(buffer, face, plan, watch)? {
+    if !apply_stages(buffer, face, font, plan, watch)? {
         return Ok(false);
     }
     course.restore(buffer);
@@ -119,9 +122,10 @@ fn substitute_by_gsub<W: Watch>(
 /// # Errors
 ///
 /// `Ok(false)` where a call was refused for length.
-fn apply_stages<W: Watch>(
+fn apply_stages<F: FontFunctions, W: Watch>(
     buffer: &mut hb_buffer_t,
     face: &Face,
+    font: &F,
     plan: &TextPlan,
     watch: &mut W,
 ) -> Result<bool, AllocError> {
@@ -135,7 +139,7 @@ fn apply_stages<W: Watch>(
         if !apply_stage(buffer, face, lookups, &mut glyphs, &mut progress, watch)? {
             return Ok(false);
         }
-        if !pause(buffer, face, plan, stage.pause, &mut progress)? {
+        if !pause(buffer, face, font, plan, stage.pause, &mut progress)? {
             return Ok(false);
         }
         if stage.pause != Pause::Nothing {
@@ -219,9 +223,10 @@ fn apply_planned(
 /// # Errors
 ///
 /// `Ok(false)` where a call was refused for length.
-fn pause(
+fn pause<F: FontFunctions>(
     buffer: &mut hb_buffer_t,
     face: &Face,
+    font: &F,
     plan: &TextPlan,
     pause: Pause,
     progress: &mut Progress,
@@ -233,18 +238,18 @@ fn pause(
             Ok(true)
         }
         Pause::ArabicFallback => join_by_fallback(buffer, face, plan, progress),
-        Pause::SetUpSyllables => work_on_syllables(buffer, face, plan, SyllablePause::SetUp),
+        Pause::SetUpSyllables => work_on_syllables(buffer, face, font, plan, SyllablePause::SetUp),
         Pause::InitialReordering => {
-            work_on_syllables(buffer, face, plan, SyllablePause::InitialReordering)
+            work_on_syllables(buffer, face, font, plan, SyllablePause::InitialReordering)
         }
         Pause::FinalReordering => {
-            work_on_syllables(buffer, face, plan, SyllablePause::FinalReordering)
+            work_on_syllables(buffer, face, font, plan, SyllablePause::FinalReordering)
         }
         Pause::ClearSubstitutionFlags => {
-            work_on_syllables(buffer, face, plan, SyllablePause::ForgetSubstitutions)
+            work_on_syllables(buffer, face, font, plan, SyllablePause::ForgetSubstitutions)
         }
-        Pause::RecordRphf => work_on_syllables(buffer, face, plan, SyllablePause::RecordRphf),
-        Pause::RecordPref => work_on_syllables(buffer, face, plan, SyllablePause::RecordPref),
+        Pause::RecordRphf => work_on_syllables(buffer, face, font, plan, SyllablePause::RecordRphf),
+        Pause::RecordPref => work_on_syllables(buffer, face, font, plan, SyllablePause::RecordPref),
         Pause::Nothing => Ok(true),
     }
 }

@@ -6,7 +6,7 @@ use crate::buffer::{
     BufferFlags, CharExt, Direction, HB_BUFFER_CLUSTER_LEVEL_MONOTONE_GRAPHEMES,
     HB_BUFFER_SCRATCH_FLAG_HAS_NON_ASCII, hb_buffer_t, hb_glyph_info_t,
 };
-use crate::font_face::Face;
+use crate::font_functions::FontFunctions;
 use crate::font_normalization::allows_any_order;
 use crate::font_normalization::glyph_info::{
     general_category, is_continuation, is_unicode_mark, set_unicode_props,
@@ -91,12 +91,12 @@ fn is_pictographic(info: &hb_glyph_info_t) -> bool {
 /// # Requires
 ///
 /// - `buffer.old.have_output ≡ false`
-pub(crate) fn insert_dotted_circle(
+pub(crate) fn insert_dotted_circle<F: FontFunctions>(
     buffer: &mut hb_buffer_t,
-    face: &Face,
+    font: &F,
 ) -> Result<bool, AllocError> {
     debug_assert!(!buffer.have_output());
-    if !wants_dotted_circle(buffer) || face.glyph_index(DOTTED_CIRCLE).is_none() {
+    if !wants_dotted_circle(buffer) || font.nominal_glyph(DOTTED_CIRCLE).is_none() {
         return Ok(true);
     }
     buffer.clear_output();

@@ -6,6 +6,7 @@ use crate::buffer::{
     BufferFlags, Feature, GlyphBuffer, GlyphPosition, glyph_flag, hb_buffer_t, hb_glyph_info_t,
 };
 use crate::font_face::Face;
+use crate::font_functions::FontFunctions;
 use crate::font_shaper::comparison::is_elsewhere;
 use crate::font_shaper::original::Original;
 use crate::font_shaper::planning::TextPlan;
@@ -100,14 +101,14 @@ impl<'a> InOrder<'a> {
 }
 
 /// How a text and parts of it are shaped.
-#[derive(Clone, Copy)]
-struct Shaping<'a> {
+struct Shaping<'a, F> {
     face: &'a Face<'a>,
+    font: &'a F,
     plan: &'a TextPlan,
     features: &'a [Feature],
 }
 
-impl Shaping<'_> {
+impl<F: FontFunctions> Shaping<'_, F> {
     /// Shapes the text of a buffer.
     ///
     /// # Requires
@@ -115,7 +116,14 @@ impl Shaping<'_> {
     /// - `buffer.have_output ≡ false`
     fn shape(&self, buffer: hb_buffer_t) -> Result<GlyphBuffer, ShapeError> {
         debug_assert!(!buffer.have_output());
-        shape_planned(self.face, self.plan, self.features, buffer, &mut Unwatched)
+        shape_planned(
+            self.face,
+            self.font,
+            self.plan,
+            self.features,
+            buffer,
+            &mut Unwatched,
+        )
     }
 }
 
@@ -124,27 +132,33 @@ impl Shaping<'_> {
 /// # Requires
 ///
 /// - `buffer.have_output ≡ false`
-pub(crate) fn shape_verified(
+pub(crate) fn shape_verified<F: FontFunctions>(
     face: &Face,
+    font: &F,
     plan: &TextPlan,
     features: &[Feature],
     buffer: hb_buffer_t,
 ) -> Result<GlyphBuffer, ShapeError> {
     debug_assert!(!buffer.have_output());
     let text = Original::of(&buffer)?;
-    let glyphs = shape_planned(face, plan, features, buffer, &mut Unwatched)?;
+    let glyphs = shape_planned(face, font, plan, features, buffer, &mut Unwatched)?;
     let shaping = Shaping {
         face,
+        font,
         plan,
         features,
     };
-    verify(shaping, &text, &glyphs)?;
+    verify(&shaping, &text, &glyphs)?;
     Ok(glyphs)
 }
 
 /// Tests glyphs by their text. Where clusters may stand in any order, or where shaping was given up,
 /// there is no test.
-fn verify(shaping: Shaping<'_>, text: &Original, glyphs: &GlyphBuffer) -> Result<(), ShapeError> {
+fn verify<F: FontFunctions>(
+    shaping: &Shaping<F>,
+    text: &Original,
+    glyphs: &GlyphBuffer,
+) -> Result<(), ShapeError> {
     if !text.has_monotone_level() || glyphs.shaping_failed() {
         return Ok(());
     }
@@ -210,8 +224,8 @@ fn first_of(characters: &[hb_glyph_info_t], from: usize, cluster: u32) -> usize 
 }
 
 /// Whether the parts of a text that is cut wherever this is safe have the glyphs of the whole.
-fn is_safe_to_break(
-    shaping: Shaping<'_>,
+fn is_safe_to_break<F: FontFunctions>(
+    shaping: &Shaping<F>,
     text: &Original,
     glyphs: InOrder<'_>,
 ) -> Result<bool, ShapeError> {
@@ -285,8 +299,8 @@ fn is_same_glyph(one: &hb_glyph_info_t, other: &hb_glyph_info_t) -> bool {
 
 /// Whether the parts of a text that is cut wherever this is safe have their glyphs also where every
 /// other part is left out: the glyphs of both halves, part by part, are those of the whole.
-fn is_safe_to_concat(
-    shaping: Shaping<'_>,
+fn is_safe_to_concat<F: FontFunctions>(
+    shaping: &Shaping<F>,
     text: &Original,
     glyphs: InOrder<'_>,
 ) -> Result<bool, ShapeError> {
@@ -303,8 +317,8 @@ fn is_safe_to_concat(
 }
 
 /// The glyphs of every other part of a text, beginning with this one.
-fn shaped_half(
-    shaping: Shaping<'_>,
+fn shaped_half<F: FontFunctions>(
+    shaping: &Shaping<F>,
     text: &Original,
     cuts: &[usize],
     first: usize,

@@ -8,8 +8,9 @@ use crate::font_tables::coverage::Coverage;
 use crate::font_tables::gdef::Gdef;
 use crate::glyph::hb_glyph_info_t;
 use crate::glyph_layout::digest::Digest;
-use crate::glyph_layout::first_glyphs::{FirstGlyphs, summaries_of};
+use crate::glyph_layout::first_glyphs::FirstGlyphs;
 use crate::glyph_layout::formats::has_format;
+use crate::glyph_layout::known::{Known, Summed, coverage_of, make_room, quick_coverage};
 use crate::glyph_layout::lookup_props::LookupProps;
 use crate::glyph_layout::search::MAX_CONTEXT_LENGTH;
 use crate::glyph_layout::seconds::seconds_of;
@@ -19,6 +20,7 @@ use crate::glyph_layout::subtable::{
 };
 use crate::glyph_layout::summary::Summary;
 use crate::memory::{AllocError, Vec};
+use core::mem;
 
 /// The kind of an extension in `GSUB`.
 pub const SUBSTITUTION_EXTENSION: u16 = 7;
@@ -123,6 +125,8 @@ pub struct LookupList<'a> {
     room: usize,
     /// How many ligatures may still be read for their second glyphs.
     second_room: usize,
+    /// The coverages that were read last, while the table is read.
+    known: Vec<Known<'a>>,
 }
 
 impl<'a> LookupList<'a> {
@@ -146,8 +150,10 @@ impl<'a> LookupList<'a> {
             extension,
             room: table.len().saturating_mul(64),
             second_room: table.len(),
+            known: Vec::new(),
         };
         list.read_all(table_or_empty(table, 8), gdef)?;
+        let _known = mem::replace(&mut list.known, Vec::new());
         Ok(list)
     }
 
@@ -263,6 +269,9 @@ impl<'a> LookupList<'a> {
         self.lookups.reserve(count.min(list.len() / 2))?;
         self.subtables
             .reserve(subtable_count(list, count).min(MOST_RESERVED))?;
+        if count > 0 {
+            make_room(&mut self.known)?;
+        }
         Ok(())
     }
 
@@ -330,15 +339,14 @@ impl<'a> LookupList<'a> {
         let form = self.form_of(lookup_type, format);
         let first_coverage = self.coverages.len();
         self.read_coverages(form, table)?;
-        let coverage = self.first_of(form, table, first_coverage);
-        let summaries = summaries_of(&coverage);
+        let first = self.first_of(form, table, first_coverage);
         let subtable = Subtable {
             lookup_type,
             format,
             table,
-            coverage,
-            digest: summaries.digest,
-            firsts: summaries.firsts,
+            coverage: first.coverage,
+            digest: first.summaries.digest,
+            firsts: first.summaries.firsts,
             bases: self.coverage_if(form == Form::Marks, table, 4),
             classes: self.input_classes(form, table),
             backtrack_classes: self.classes_if(form == Form::ChainedClasses, table, 4),
@@ -411,18 +419,19 @@ impl<'a> LookupList<'a> {
     }
 
     /// The glyphs at the cursor: in a context by coverages the first of those of the input.
-    fn first_of(&mut self, form: Form, table: &'a [u8], first: usize) -> Coverage<'a> {
+    fn first_of(&mut self, form: Form, table: &'a [u8], first: usize) -> Summed<'a> {
         let input = match form {
             Form::Coverages => first,
             Form::ChainedCoverages => {
                 first.saturating_add(usize::from(u16_at(table, 2).unwrap_or(0)))
             }
-            _ => return self.coverage(table_or_empty(table, 2)),
+            _ => return self.summed(table_or_empty(table, 2)),
         };
-        match self.coverages.get(input) {
+        let coverage = match self.coverages.get(input) {
             Some(coverage) => *coverage,
             None => Coverage::new(&[]),
-        }
+        };
+        coverage_of(&mut self.known, coverage.table)
     }
 
     /// What a context by coverages asks of the glyph after the one at the cursor: the second coverage of
@@ -456,10 +465,12 @@ impl<'a> LookupList<'a> {
         }
     }
 
-    /// The coverage that the offset at a place leads to, if there is one in this form.
+    /// The coverage that the offset at a place leads to, if there is one in this form. It is not
+    /// remembered, since its glyphs are not summed up.
     fn coverage_if(&mut self, is_there: bool, table: &'a [u8], at: usize) -> Coverage<'a> {
-        if is_there {
-            self.coverage(table_or_empty(table, at))
+        let table = table_or_empty(table, at);
+        if is_there && self.pay_for(table) {
+            quick_coverage(table)
         } else {
             Coverage::new(&[])
         }
@@ -477,10 +488,15 @@ impl<'a> LookupList<'a> {
     /// The coverage in these bytes, or one that covers nothing where there is no room, or it is slow to
     /// ask.
     fn coverage(&mut self, table: &'a [u8]) -> Coverage<'a> {
-        if self.pay_for(table) && is_quick(table, true) {
-            Coverage::new(table)
+        self.summed(table).coverage
+    }
+
+    /// The same coverage, with the summaries of its glyphs.
+    fn summed(&mut self, table: &'a [u8]) -> Summed<'a> {
+        if self.pay_for(table) {
+            coverage_of(&mut self.known, table)
         } else {
-            Coverage::new(&[])
+            Summed::new(Coverage::new(&[]))
         }
     }
 

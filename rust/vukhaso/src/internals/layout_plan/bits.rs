@@ -92,7 +92,9 @@ fn power(bit: u32) -> u64 {
 /// # Proved
 ///
 /// ```text
-/// ensures { result ≤ 8 }
+/// ensures most { result ≤ 8 }
+/// ensures enough { min max_value 255 < 2 ^ result }
+/// ensures least { (fewer : ℕ) → fewer < result → 2 ^ fewer ≤ max_value }
 /// ```
 #[inline]
 pub fn bits_needed(max_value: u32) -> u32 {

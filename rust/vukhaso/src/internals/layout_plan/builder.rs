@@ -234,7 +234,11 @@ impl<'a> PlanBuilder<'a> {
     /// # Proved
     ///
     /// ```text
-    /// ensures { HasSamePauses self.old self.new }
+    /// ensures pauses { HasSamePauses self.old self.new }
+    /// ensures null { tag.0 ≡ 0 → self.new.requests.items ≡ self.old.requests.items }
+    /// ensures asked { tag.0 ≢ 0 → AreInOrder self.old.requests.items → IfOk result (λ _. self.new.requests.items
+    ///     ≡ with_request (requested tag every_glyph 0 (vec_len self.old.pauses)) self.old.requests.items) }
+    /// ensures refused { IfErr result (λ _. self.new.requests.items ≡ self.old.requests.items) }
     /// ```
     #[inline]
     pub fn disable_feature(&mut self, tag: Tag) -> Result<(), AllocError> {

@@ -52,7 +52,9 @@ impl<'a> KernTable<'a> {
     /// # Proved
     ///
     /// ```text
-    /// ensures { result.table.now ≡ table.now }
+    /// ensures table { result.table.now ≡ table.now }
+    /// ensures form { result.is_apple ≡ is_apple table.now }
+    /// ensures count { result.count ≢ 0 → result.count ≡ declared_count table.now }
     /// ```
     #[inline]
     pub fn new(table: &'a [u8]) -> Self {
@@ -94,15 +96,17 @@ impl<'a> KernTable<'a> {
     ///
     /// # Proved
     ///
-    /// That it returns.
+    /// ```text
+    /// ensures length { option_map (λ s. s.length) result
+    ///     ≡ subtable_length self.now.is_apple (drop at self.now.table.now) }
+    /// ensures header { IfSome result (IsHeader self.now.is_apple (drop at self.now.table.now)) }
+    /// ensures bytes { IfSome result (λ s. s.table.now
+    ///     ≡ subtable_bytes (nat_le self.now.count (number + 1)) s.length (drop at self.now.table.now)) }
+    /// ```
     #[inline]
     pub fn subtable_at(&self, at: usize, number: u32) -> Option<KernSubtable<'a>> {
         let rest = tail(self.table, at);
-        let subtable = if self.is_apple {
-            apple_subtable(rest)?
-        } else {
-            windows_subtable(rest)?
-        };
+        let subtable = subtable_of(rest, self.is_apple)?;
         if subtable.length < usize::from(subtable.header) || rest.len() < subtable.length {
             return None;
         }
@@ -186,6 +190,15 @@ enum Property {
     Machine,
     /// It moves glyphs across the line.
     CrossStream,
+}
+
+/// A subtable, by the header of Apple or of Windows.
+fn subtable_of(rest: &[u8], is_apple: bool) -> Option<KernSubtable<'_>> {
+    if is_apple {
+        apple_subtable(rest)
+    } else {
+        windows_subtable(rest)
+    }
 }
 
 /// A subtable with the header of Windows: its version, its length, its format, and what its values are

@@ -10,7 +10,7 @@ use crate::unicode_tables::mirror_rows::MIRRORS;
 /// # Proved
 ///
 /// ```text
-/// ensures { IsSome result }
+/// ensures { result ≡ Some mirror_images }
 /// ```
 #[inline]
 pub fn mirrors() -> Option<Mirrors<'static>> {

@@ -4,6 +4,7 @@ use crate::Fail;
 use crate::buffer_tests::lists::{assert_ids, buffer_of, read_one};
 use crate::buffer_tests::probes::accessors::*;
 use crate::buffer_tests::probes::references::*;
+use crate::shaping_uses::deletion::delete_every_second;
 use crate::shaping_uses::groups::{count_clusters, reverse_clusters, reverse_with_marks};
 use crate::shaping_uses::in_place::*;
 use crate::shaping_uses::ligature::ligate;
@@ -298,4 +299,14 @@ fn f_and_i_are_ligated() {
     assert!(ligate(&mut buffer) == Ok(true));
     assert_ids(buffer.info(), &[0xFB01, 102, 97, 105, 102]);
     assert_clusters(buffer.info(), &[0, 2, 3, 4, 5]);
+}
+
+/// The second glyph goes, and the fourth, and no others.
+#[test]
+fn every_second_glyph_is_deleted() {
+    let mut buffer = buffer_of("abcde");
+    assert!(!buffer.have_output() && buffer.successful());
+    assert!(delete_every_second(&mut buffer) == Ok(true));
+    assert_ids(buffer.info(), &[97, 99, 101]);
+    assert_clusters(buffer.info(), &[0, 2, 4]);
 }

@@ -12,7 +12,7 @@ use vukhaso::internals::font_normalization::glyph_info::{
     set_modified_combining_class, set_unicode_props, space_fallback,
 };
 use vukhaso::internals::font_normalization::{allows_any_order, normalize};
-use vukhaso::internals::font_shaper::Face;
+use vukhaso::internals::font_shaper::{Face, OwnFunctions};
 use vukhaso::internals::script_shapers::{ScriptPlan, ScriptShaper};
 
 /// The characters of a text with their properties, in a buffer whose invisible glyph is 1.
@@ -99,7 +99,11 @@ fn assert_properties(infos: &mut [hb_glyph_info_t]) {
 fn properties_are_kept() -> Result<(), Fail> {
     let face = Face::parse_if_there(UPRIGHT, 0)?.ok_or("no font")?;
     let mut buffer = buffer_of("a\u{301}\u{2003}b\u{fe01}");
-    assert!(normalize(&mut buffer, &face, &plan())?);
+    assert!(normalize(
+        &mut buffer,
+        &OwnFunctions { face: &face },
+        &plan()
+    )?);
     assert_properties(buffer.info_slice_mut());
     Ok(())
 }

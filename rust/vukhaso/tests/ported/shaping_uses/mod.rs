@@ -3,6 +3,7 @@
 //! Callers of the shaping buffer, as a user would write them, each with the contract that a user would want.
 
 pub mod comparing;
+pub mod deletion;
 pub mod groups;
 pub mod in_place;
 pub mod ligature;

@@ -3,4 +3,4 @@ use Rattle.shaping_buffer.specs.Clusters.{clusters}
 use Rattle.font_normalization.proofs.normalization.decomposition.map_all.Given as goal
 
 abbrev pub invariant-loop-i : goal.invariant-loop-i
-invariant-loop-i l = clusters l.infos ≡ clusters l.fn.infos
+invariant-loop-i g l = clusters l.infos ≡ clusters l.fn.infos

@@ -5,25 +5,25 @@ use Rattle.font_normalization.specs.FontRules.{composite_of, if_there}
 use Rattle.font_normalization.proofs.normalization.pairs.pair_of.Goals as goal
 
 pub returns-in-Some-from_u32 : goal.returns-in-Some-from_u32
-returns-in-Some-from_u32 c =
+returns-in-Some-from_u32 g c =
     let composing = c.args.composing.now in
-    let face = composing.face.now in
+    let has = g.F.FontFunctions.has composing.font.now in
     let a = c.args.starter.now.glyph_id in
     let b = c.args.info.now.glyph_id in
     c.composite_of.ensures
-    ∙ ap (λ (x : ℕ). if_there face (composite_of composing.shaper composing.has_gpos_mark x c.in-Some-from_u32.b))
+    ∙ ap (λ (x : ℕ). if_there has (composite_of composing.shaper composing.has_gpos_mark x c.in-Some-from_u32.b))
     c.in-Some.ensures.value.1
-    ∙ ap (λ (x : ℕ). if_there face (composite_of composing.shaper composing.has_gpos_mark a x))
+    ∙ ap (λ (x : ℕ). if_there has (composite_of composing.shaper composing.has_gpos_mark a x))
     c.in-Some-from_u32.ensures.value.1
     ∙ sym (cond-true _ _ _ (and_from _ _ (sym c.is_unicode_mark.ensures ∙ c.if-not-is_unicode_mark.false)
     (and_from _ _ (is_character-in a c.in-Some.ensures.cases) (is_character-in b c.in-Some-from_u32.ensures.cases))))
 
 pub returns-in-None-from_u32 : goal.returns-in-None-from_u32
-returns-in-None-from_u32 c =
+returns-in-None-from_u32 g c =
     sym (cond-false _ _ _ (and_right _ _ (and_right _ _
     (is_character-out c.args.info.now.glyph_id c.in-None-from_u32.ensures.cases))))
 
 pub returns-in-None : goal.returns-in-None
-returns-in-None c =
+returns-in-None g c =
     sym (cond-false _ _ _ (and_right _ _ (and_left _ _
     (is_character-out c.args.starter.now.glyph_id c.in-None.ensures.cases))))

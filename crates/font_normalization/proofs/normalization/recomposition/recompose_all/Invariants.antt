@@ -4,7 +4,7 @@ use Rattle.shaping_passes.specs.NormalizationComposition.{IsReady, IsPlace}
 use Rattle.font_normalization.proofs.normalization.recomposition.recompose_all.Given as goal
 
 abbrev pub invariant-loop-composing : goal.invariant-loop-composing
-invariant-loop-composing l = IsReady l.buffer × IsPlace l.starter l.buffer × KeepsClusters l.fn.buffer l.buffer
+invariant-loop-composing g l = IsReady l.buffer × IsPlace l.starter l.buffer × KeepsClusters l.fn.buffer l.buffer
 
 abbrev pub decreases-loop-composing : goal.decreases-loop-composing
-decreases-loop-composing l = length l.buffer.input
+decreases-loop-composing g l = length l.buffer.input

@@ -4,4 +4,5 @@ use Rattle.font_positions.specs.FontPositions.{IsKept}
 use Rattle.font_positions.proofs.kept_positions.FontPositions.new.Goals as goal
 
 pub returns : goal.returns
-returns c = All-replicate (IsKept c.args.face.now c.args.is_horizontal) 256 None (search rules)
+returns g c =
+    All-replicate (IsKept (g.F.FontFunctions.may_advance c.args.font.now) c.args.is_horizontal) 256 None (search rules)

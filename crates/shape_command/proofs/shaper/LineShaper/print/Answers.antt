@@ -1,5 +1,5 @@
 use Rattle.std.proofs.Common.{rules, ◌≡◌, length, true, false}
-use Rattle.shape_command.proofs.AnswerLemmas.{line-none, append-glyphs_line}
+use Rattle.shape_command.proofs.AnswerLemmas.{line-none, line-some}
 use Rattle.shape_command.proofs.shaper.LineShaper.print.Goals as goal
 
 pub returns-then-is_empty : goal.returns-then-is_empty
@@ -9,5 +9,5 @@ returns-then-is_empty g c =
 
 pub returns : goal.returns
 returns g c =
-    append-glyphs_line _ c.args.self.now.output c.args.glyphs.now _
-    (λ none. let bad : false ≡ true = c.if-is_empty.ensures.1 none in cc) c.in_ok-text.ensures.is
+    line-some _ c.args.self.now.output c.args.glyphs.now _
+    (λ none. let bad : false ≡ true = c.if-is_empty.ensures.1 none in cc) c.in_ok-answer.ensures

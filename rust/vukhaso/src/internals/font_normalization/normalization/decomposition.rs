@@ -9,7 +9,7 @@ use crate::buffer::{
     CharExt, HB_BUFFER_SCRATCH_FLAG_HAS_SPACE_FALLBACK, hb_buffer_t, hb_glyph_info_t,
 };
 use crate::common::GlyphId;
-use crate::font_face::Face;
+use crate::font_functions::FontFunctions;
 use crate::font_normalization::glyph_info::{
     is_unicode_mark, is_unicode_space, set_space_fallback, set_unicode_props,
 };
@@ -30,19 +30,19 @@ const HYPHEN: u32 = 0x2010;
 /// # Requires
 ///
 /// - `buffer.old.have_output ≡ false`
-pub(crate) fn decompose_all(
+pub(crate) fn decompose_all<F: FontFunctions>(
     buffer: &mut hb_buffer_t,
-    face: &Face,
+    font: &F,
     shaper: ScriptShaper,
 ) -> Result<bool, AllocError> {
     debug_assert!(!buffer.have_output());
-    map_characters(buffer, face);
+    map_characters(buffer, font);
     buffer.clear_output();
     for _turn in 0..buffer.len() {
         if buffer.lookahead_len() == 0 {
             break;
         }
-        if !decompose_next(buffer, face, shaper)? {
+        if !decompose_next(buffer, font, shaper)? {
             return Ok(false);
         }
     }
@@ -54,15 +54,15 @@ pub(crate) fn decompose_all(
 /// # Requires
 ///
 /// - `buffer.old.have_output ≡ false`
-fn map_characters(buffer: &mut hb_buffer_t, face: &Face) {
+fn map_characters<F: FontFunctions>(buffer: &mut hb_buffer_t, font: &F) {
     debug_assert!(!buffer.have_output());
-    map_all(buffer.info_slice_mut(), face);
+    map_all(buffer.info_slice_mut(), font);
 }
 
 /// Finds the glyph of each of the characters.
-fn map_all(infos: &mut [hb_glyph_info_t], face: &Face) {
+fn map_all<F: FontFunctions>(infos: &mut [hb_glyph_info_t], font: &F) {
     for i in 0..infos.len() {
-        let glyph = face.glyph_index(infos[i].glyph_id);
+        let glyph = font.nominal_glyph(infos[i].glyph_id);
         infos[i].set_glyph_index(glyph.map_or(0, |glyph| u32::from(glyph.0)));
     }
 }
@@ -72,15 +72,15 @@ fn map_all(infos: &mut [hb_glyph_info_t], face: &Face) {
 /// # Requires
 ///
 /// - `buffer.old.have_output ≡ true`
-fn decompose_next(
+fn decompose_next<F: FontFunctions>(
     buffer: &mut hb_buffer_t,
-    face: &Face,
+    font: &F,
     shaper: ScriptShaper,
 ) -> Result<bool, AllocError> {
     debug_assert!(buffer.have_output());
     let mode = shaper.normalization_mode();
     let decomposer = Decomposer {
-        face,
+        font,
         shaper,
         short_circuit: mode != NormalizationMode::Decomposed,
     };
@@ -90,7 +90,7 @@ fn decompose_next(
     }
     let cluster = cluster_length(buffer.info());
     if has_variation_selector(buffer.info(), cluster) {
-        read_variations(buffer, face, cluster)
+        read_variations(buffer, font, cluster)
     } else {
         let decomposer = Decomposer {
             short_circuit: mode == NormalizationMode::Nothing,
@@ -142,9 +142,9 @@ pub(crate) fn is_variation_selector(character: u32) -> bool {
 /// # Requires
 ///
 /// - `buffer.old.have_output ≡ true`
-fn decompose_characters(
+fn decompose_characters<F: FontFunctions>(
     buffer: &mut hb_buffer_t,
-    decomposer: &Decomposer,
+    decomposer: &Decomposer<F>,
     count: usize,
 ) -> Result<bool, AllocError> {
     debug_assert!(buffer.have_output());
@@ -184,18 +184,18 @@ fn ready_length(infos: &[hb_glyph_info_t], count: usize, short_circuit: bool) ->
 ///
 /// - `opened: buffer.old.have_output ≡ true`
 /// - `glyph: 0 < length buffer.old.input`
-fn decompose_current(
+fn decompose_current<F: FontFunctions>(
     buffer: &mut hb_buffer_t,
-    decomposer: &Decomposer,
+    decomposer: &Decomposer<F>,
 ) -> Result<bool, AllocError> {
     debug_assert!(buffer.have_output());
     debug_assert!(!buffer.info().is_empty());
     let mut parts = Parts::new();
     if add_font_parts(&mut parts, decomposer, buffer.cur(0).glyph_id) {
-        return put_parts(buffer, decomposer.face, &parts);
+        return put_parts(buffer, decomposer.font, &parts);
     }
     if buffer.cur(0).glyph_index() == 0 {
-        find_fallback(buffer, decomposer.face);
+        find_fallback(buffer, decomposer.font);
     }
     buffer.next_glyph()
 }
@@ -206,11 +206,15 @@ fn decompose_current(
 ///
 /// - `opened: buffer.old.have_output ≡ true`
 /// - `glyph: 0 < length buffer.old.input`
-fn put_parts(buffer: &mut hb_buffer_t, face: &Face, parts: &[u32]) -> Result<bool, AllocError> {
+fn put_parts<F: FontFunctions>(
+    buffer: &mut hb_buffer_t,
+    font: &F,
+    parts: &[u32],
+) -> Result<bool, AllocError> {
     debug_assert!(buffer.have_output());
     debug_assert!(!buffer.info().is_empty());
     for part in parts.iter() {
-        if !put_part(buffer, face, *part)? {
+        if !put_part(buffer, font, *part)? {
             return Ok(false);
         }
     }
@@ -224,10 +228,14 @@ fn put_parts(buffer: &mut hb_buffer_t, face: &Face, parts: &[u32]) -> Result<boo
 ///
 /// - `opened: buffer.old.have_output ≡ true`
 /// - `glyph: 0 < length buffer.old.input`
-fn put_part(buffer: &mut hb_buffer_t, face: &Face, part: u32) -> Result<bool, AllocError> {
+fn put_part<F: FontFunctions>(
+    buffer: &mut hb_buffer_t,
+    font: &F,
+    part: u32,
+) -> Result<bool, AllocError> {
     debug_assert!(buffer.have_output());
     debug_assert!(!buffer.info().is_empty());
-    let glyph = face.glyph_index(part);
+    let glyph = font.nominal_glyph(part);
     set_current_glyph(buffer, glyph.map_or(0, |glyph| u32::from(glyph.0)));
     if !buffer.output_glyph(part)? {
         return Ok(false);
@@ -281,14 +289,14 @@ fn set_last(infos: &mut [hb_glyph_info_t], scratch_flags: &mut u32) {
 ///
 /// - `opened: buffer.old.have_output ≡ true`
 /// - `glyph: 0 < length buffer.old.input`
-fn find_fallback(buffer: &mut hb_buffer_t, face: &Face) {
+fn find_fallback<F: FontFunctions>(buffer: &mut hb_buffer_t, font: &F) {
     debug_assert!(buffer.have_output());
     debug_assert!(!buffer.info().is_empty());
     let character = buffer.cur(0).glyph_id;
     if is_unicode_space(buffer.cur(0)) {
-        find_space(buffer, face, character);
+        find_space(buffer, font, character);
     } else if character == NON_BREAKING_HYPHEN {
-        if let Some(glyph) = face.glyph_index(HYPHEN) {
+        if let Some(glyph) = font.nominal_glyph(HYPHEN) {
             set_current_glyph(buffer, u32::from(glyph.0));
         }
     }
@@ -300,14 +308,14 @@ fn find_fallback(buffer: &mut hb_buffer_t, face: &Face) {
 ///
 /// - `opened: buffer.old.have_output ≡ true`
 /// - `glyph: 0 < length buffer.old.input`
-fn find_space(buffer: &mut hb_buffer_t, face: &Face, character: u32) {
+fn find_space<F: FontFunctions>(buffer: &mut hb_buffer_t, font: &F, character: u32) {
     debug_assert!(buffer.have_output());
     debug_assert!(!buffer.info().is_empty());
     let space = match char::from_u32(character) {
         Some(character) => character.space_fallback(),
         None => NOT_SPACE,
     };
-    let glyph = match face.glyph_index(0x20) {
+    let glyph = match font.nominal_glyph(0x20) {
         Some(glyph) => Some(glyph),
         None => buffer.invisible,
     };

@@ -3,32 +3,31 @@
 //! What a mark and the character before it compose to, by the rules of a script and the glyphs of a font.
 
 use crate::buffer::hb_glyph_info_t;
-use crate::font_face::Face;
+use crate::font_functions::FontFunctions;
 use crate::font_normalization::glyph_info::is_unicode_mark;
 use crate::passes::normalization::CharacterPairs;
 use crate::script_shapers::{ScriptPlan, ScriptShaper};
 
 /// How marks are composed.
-#[derive(Clone, Copy, Debug)]
-pub(crate) struct Composing<'a> {
+pub(crate) struct Composing<'a, F> {
     /// The font.
-    pub face: &'a Face<'a>,
+    pub font: &'a F,
     /// The shaper of the text, which says what characters compose to.
     pub shaper: ScriptShaper,
     /// Whether the font places marks by its lookups.
     pub has_gpos_mark: bool,
 }
 
-impl<'a> Composing<'a> {
+impl<'a, F> Composing<'a, F> {
     /// How they are composed in a script, with this font.
     ///
     /// # Proved
     ///
     /// That it returns.
     #[inline]
-    pub fn new(face: &'a Face<'a>, script: &ScriptPlan) -> Self {
+    pub fn new(font: &'a F, script: &ScriptPlan) -> Self {
         Composing {
-            face,
+            font,
             shaper: script.shaper,
             has_gpos_mark: script.has_gpos_mark,
         }
@@ -39,18 +38,18 @@ impl<'a> Composing<'a> {
 /// # Proved
 ///
 /// ```text
-/// ghost pairs = { λ composing. pairs_of composing.face.now composing.shaper composing.has_gpos_mark }
+/// ghost pairs = { λ composing. pairs_of (F.has composing.font.now) composing.shaper composing.has_gpos_mark }
 /// ghost alike = { λ composing starter g. refl }
 /// ```
-impl CharacterPairs for Composing<'_> {
+impl<F: FontFunctions> CharacterPairs for Composing<'_, F> {
     fn composed_of(&self, starter: &hb_glyph_info_t, info: &hb_glyph_info_t) -> Option<u32> {
         pair_of(self, starter, info)
     }
 }
 
 /// What a starter and a mark compose to, if the font has it.
-fn pair_of(
-    composing: &Composing,
+fn pair_of<F: FontFunctions>(
+    composing: &Composing<F>,
     starter: &hb_glyph_info_t,
     info: &hb_glyph_info_t,
 ) -> Option<u32> {
@@ -67,16 +66,16 @@ fn pair_of(
 }
 
 /// What two characters compose to, if the font has it.
-fn composite_of(composing: &Composing, a: char, b: char) -> Option<u32> {
+fn composite_of<F: FontFunctions>(composing: &Composing<F>, a: char, b: char) -> Option<u32> {
     match compose(composing, a, b) {
-        Some(composed) => if_there(composing.face, composed as u32),
+        Some(composed) => if_there(composing.font, composed as u32),
         None => None,
     }
 }
 
 /// The character, if the font has it.
-fn if_there(face: &Face, character: u32) -> Option<u32> {
-    if face.glyph_index(character).is_some() {
+fn if_there<F: FontFunctions>(font: &F, character: u32) -> Option<u32> {
+    if font.nominal_glyph(character).is_some() {
         Some(character)
     } else {
         None
@@ -84,6 +83,6 @@ fn if_there(face: &Face, character: u32) -> Option<u32> {
 }
 
 /// What two characters compose to, whatever the font has.
-fn compose(composing: &Composing, a: char, b: char) -> Option<char> {
+fn compose<F: FontFunctions>(composing: &Composing<F>, a: char, b: char) -> Option<char> {
     composing.shaper.compose(a, b, composing.has_gpos_mark)
 }

@@ -2,15 +2,14 @@
 
 //! What a character is taken apart into, by the rules of a script and the glyphs of a font.
 
-use crate::font_face::Face;
+use crate::font_functions::FontFunctions;
 use crate::passes::normalization::FontCharacters;
 use crate::script_shapers::ScriptShaper;
 
 /// How characters are taken apart.
-#[derive(Clone, Copy, Debug)]
-pub(crate) struct Decomposer<'a> {
+pub(crate) struct Decomposer<'a, F> {
     /// The font.
-    pub face: &'a Face<'a>,
+    pub font: &'a F,
     /// The shaper of the text, which says what a character decomposes to.
     pub shaper: ScriptShaper,
     /// Whether they are taken apart as little as the font needs, and not as far as it can.
@@ -21,11 +20,11 @@ pub(crate) struct Decomposer<'a> {
 /// # Proved
 ///
 /// ```text
-/// ghost font = { λ decomposer. font_of decomposer.face.now decomposer.shaper decomposer.short_circuit }
+/// ghost font = { λ decomposer. font_of (F.has decomposer.font.now) decomposer.shaper decomposer.short_circuit }
 /// ```
-impl FontCharacters for Decomposer<'_> {
+impl<F: FontFunctions> FontCharacters for Decomposer<'_, F> {
     fn has_glyph(&self, character: u32) -> bool {
-        self.face.glyph_index(character).is_some()
+        self.font.nominal_glyph(character).is_some()
     }
 
     fn parts_of(&self, character: u32) -> Option<(u32, u32)> {

@@ -6,7 +6,7 @@
 use super::pairs::Composing;
 use super::reordering::KeptClasses;
 use crate::buffer::{hb_buffer_t, hb_glyph_info_t};
-use crate::font_face::Face;
+use crate::font_functions::FontFunctions;
 use crate::font_normalization::glyph_info::set_unicode_props;
 use crate::memory::AllocError;
 use crate::passes::normalization::next_turn;
@@ -18,16 +18,16 @@ use crate::script_shapers::ScriptPlan;
 /// # Requires
 ///
 /// - `buffer.old.have_output ≡ false`
-pub(crate) fn recompose_all(
+pub(crate) fn recompose_all<F: FontFunctions>(
     buffer: &mut hb_buffer_t,
-    face: &Face,
+    font: &F,
     script: &ScriptPlan,
 ) -> Result<bool, AllocError> {
     debug_assert!(!buffer.have_output());
     if !buffer.successful() {
         return Ok(false);
     }
-    let composing = Composing::new(face, script);
+    let composing = Composing::new(font, script);
     // Read for what its contract says: the list is no longer than `max_len`.
     let _ = buffer.len();
     buffer.clear_output();
@@ -46,9 +46,9 @@ pub(crate) fn recompose_all(
 /// - `ready: IsReady buffer.old`
 /// - `some: 0 < length buffer.old.input`
 /// - `place: IsPlace starter buffer.old`
-fn recompose_next(
+fn recompose_next<F: FontFunctions>(
     buffer: &mut hb_buffer_t,
-    composing: &Composing,
+    composing: &Composing<F>,
     starter: Option<usize>,
 ) -> Option<usize> {
     debug_assert!(!buffer.info().is_empty());
@@ -56,7 +56,7 @@ fn recompose_next(
     let count = buffer.out_len();
     let next = next_turn(buffer, composing, &KeptClasses, starter);
     if buffer.out_len() == count {
-        set_composed(buffer, composing.face, next);
+        set_composed(buffer, composing.font, next);
     }
     next
 }
@@ -78,36 +78,36 @@ fn starter_or_first(buffer: &hb_buffer_t, starter: Option<usize>) -> Option<usiz
 /// # Requires
 ///
 /// - `IsReady buffer.old`
-fn set_composed(buffer: &mut hb_buffer_t, face: &Face, starter: Option<usize>) {
-    let scratch_flags = set_in_out(buffer, face, starter);
+fn set_composed<F: FontFunctions>(buffer: &mut hb_buffer_t, font: &F, starter: Option<usize>) {
+    let scratch_flags = set_in_out(buffer, font, starter);
     buffer.scratch_flags = scratch_flags;
 }
 
 /// Finds those of the last starter, which stands at this place of the out side; the scratch flags that
 /// then hold.
-fn set_in_out(buffer: &mut hb_buffer_t, face: &Face, starter: Option<usize>) -> u32 {
+fn set_in_out<F: FontFunctions>(buffer: &mut hb_buffer_t, font: &F, starter: Option<usize>) -> u32 {
     let mut scratch_flags = buffer.scratch_flags;
-    set_at(buffer.out_info_mut(), face, starter, &mut scratch_flags);
+    set_at(buffer.out_info_mut(), font, starter, &mut scratch_flags);
     scratch_flags
 }
 
 /// Finds those of the character at a place, if there is one.
-fn set_at(
+fn set_at<F: FontFunctions>(
     infos: &mut [hb_glyph_info_t],
-    face: &Face,
+    font: &F,
     place: Option<usize>,
     scratch_flags: &mut u32,
 ) {
     if let Some(place) = place {
         if place < infos.len() {
-            set_character(&mut infos[place], face, scratch_flags);
+            set_character(&mut infos[place], font, scratch_flags);
         }
     }
 }
 
 /// Finds the glyph and the properties of a character.
-fn set_character(info: &mut hb_glyph_info_t, face: &Face, scratch_flags: &mut u32) {
-    let glyph = face.glyph_index(info.glyph_id);
+fn set_character<F: FontFunctions>(info: &mut hb_glyph_info_t, font: &F, scratch_flags: &mut u32) {
+    let glyph = font.nominal_glyph(info.glyph_id);
     info.set_glyph_index(glyph.map_or(0, |glyph| u32::from(glyph.0)));
     set_unicode_props(info, scratch_flags);
 }

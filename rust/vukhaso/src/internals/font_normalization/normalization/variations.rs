@@ -6,7 +6,7 @@ use super::decomposition::{is_variation_selector, set_current_glyph};
 use crate::buffer::{
     HB_BUFFER_SCRATCH_FLAG_HAS_VARIATION_SELECTOR_FALLBACK, hb_buffer_t, hb_glyph_info_t,
 };
-use crate::font_face::Face;
+use crate::font_functions::FontFunctions;
 use crate::font_normalization::glyph_info::{clear_default_ignorable, set_variation_selector};
 use crate::memory::AllocError;
 
@@ -16,9 +16,9 @@ use crate::memory::AllocError;
 /// # Requires
 ///
 /// - `buffer.old.have_output ≡ true`
-pub(crate) fn read_variations(
+pub(crate) fn read_variations<F: FontFunctions>(
     buffer: &mut hb_buffer_t,
-    face: &Face,
+    font: &F,
     count: usize,
 ) -> Result<bool, AllocError> {
     debug_assert!(buffer.have_output());
@@ -27,7 +27,7 @@ pub(crate) fn read_variations(
         if buffer.idx() >= end || buffer.lookahead_len() == 0 {
             break;
         }
-        if !read_next(buffer, face, end)? {
+        if !read_next(buffer, font, end)? {
             return Ok(false);
         }
     }
@@ -40,7 +40,11 @@ pub(crate) fn read_variations(
 ///
 /// - `opened: buffer.old.have_output ≡ true`
 /// - `glyph: 0 < length buffer.old.input`
-fn read_next(buffer: &mut hb_buffer_t, face: &Face, end: usize) -> Result<bool, AllocError> {
+fn read_next<F: FontFunctions>(
+    buffer: &mut hb_buffer_t,
+    font: &F,
+    end: usize,
+) -> Result<bool, AllocError> {
     debug_assert!(buffer.have_output());
     debug_assert!(!buffer.info().is_empty());
     if buffer.idx().saturating_add(1) >= end
@@ -49,7 +53,7 @@ fn read_next(buffer: &mut hb_buffer_t, face: &Face, end: usize) -> Result<bool, 
     {
         return buffer.next_glyph();
     }
-    if !read_variation(buffer, face)? {
+    if !read_variation(buffer, font)? {
         return Ok(false);
     }
     keep_selectors(buffer, end)
@@ -61,12 +65,15 @@ fn read_next(buffer: &mut hb_buffer_t, face: &Face, end: usize) -> Result<bool, 
 ///
 /// - `opened: buffer.old.have_output ≡ true`
 /// - `glyphs: 1 < length buffer.old.input`
-fn read_variation(buffer: &mut hb_buffer_t, face: &Face) -> Result<bool, AllocError> {
+fn read_variation<F: FontFunctions>(
+    buffer: &mut hb_buffer_t,
+    font: &F,
+) -> Result<bool, AllocError> {
     debug_assert!(buffer.have_output());
     debug_assert!(1 < buffer.info().len());
     let character = buffer.cur(0).glyph_id;
     let selector = buffer.cur(1).glyph_id;
-    match face.glyph_variation_index(character, selector) {
+    match font.variation_glyph(character, selector) {
         Some(glyph) => {
             set_current_glyph(buffer, u32::from(glyph.0));
             buffer.replace_glyphs(2, 1, &[character])

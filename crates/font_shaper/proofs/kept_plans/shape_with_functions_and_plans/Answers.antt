@@ -4,15 +4,15 @@ use Rattle.shaping_buffer.specs.State.{State}
 use Rattle.font_shaper.specs.Plans.{IsPlanOf}
 use Rattle.font_shaper.proofs.KeptPlanLemmas.{of_all, any_there}
 use Rattle.font_shaper.proofs.TurnLemmas.{of_guessed}
-use Rattle.font_shaper.proofs.kept_plans.shape_with_kept_plans.Goals as goal
+use Rattle.font_shaper.proofs.kept_plans.shape_with_functions_and_plans.Goals as goal
 
 pub returns-in-Some-clause-clusters : goal.returns-in-Some-clause-clusters
-returns-in-Some-clause-clusters c =
+returns-in-Some-clause-clusters g c =
     of_guessed c.args.text c.into_buffer-buffer.result c.shape_by_plan.result
     (c.into_buffer-buffer.ensures.is ∙ c.guess_segment_properties.ensures) c.shape_by_plan.ensures.clusters
 
 pub returns-in-Some-clause-planned : goal.returns-in-Some-clause-planned
-returns-in-Some-clause-planned c =
+returns-in-Some-clause-planned g c =
     let face = c.args.face.now in
     let features = c.args.features.now in
     let kept = c.find.new.self in

@@ -1,12 +1,6 @@
-//! Random lists of calls beside a plain model of two lists, which was written apart from the library: what each call
-//! answers, and the glyphs in the end. With overflow checks, as tests are built.
+//! A plain model of the buffer's two sides: two lists, and what each call makes of them.
 
-use vukhaso::{
-    Answer, BufferClusterLevel, BufferFlags, Call, UnicodeBuffer, hb_buffer_t, hb_glyph_info_t,
-    render_at, replay,
-};
-
-const ROUNDS: u64 = 10_000;
+use vukhaso::{Answer, BufferFlags, Call, hb_glyph_info_t};
 
 /// The glyph flags in a mask, and what break and tatweel calls set of them.
 const GLYPH_FLAGS: u32 = 7;
@@ -15,12 +9,12 @@ const CONCAT: u32 = 2;
 const TATWEEL: u32 = 4;
 
 #[derive(Clone, Copy, Debug, Default, PartialEq, Eq)]
-struct Glyph {
-    id: u32,
-    mask: u32,
-    cluster: u32,
-    var1: u32,
-    var2: u32,
+pub struct Glyph {
+    pub id: u32,
+    pub mask: u32,
+    pub cluster: u32,
+    pub var1: u32,
+    pub var2: u32,
 }
 
 impl From<&hb_glyph_info_t> for Glyph {
@@ -42,17 +36,13 @@ impl From<&hb_glyph_info_t> for Glyph {
     }
 }
 
-fn seen(infos: &[hb_glyph_info_t]) -> Vec<Glyph> {
-    infos.iter().map(Glyph::from).collect()
-}
-
 /// Both sides as plain lists. With no output open `out` is empty, and `input` is the whole list.
 #[derive(Clone, Debug)]
-struct Model {
-    open: bool,
-    out: Vec<Glyph>,
-    input: Vec<Glyph>,
-    idx: usize,
+pub struct Model {
+    pub open: bool,
+    pub out: Vec<Glyph>,
+    pub input: Vec<Glyph>,
+    pub idx: usize,
     level: u32,
     flags: BufferFlags,
 }
@@ -80,7 +70,19 @@ fn run_of(list: &[Glyph], at: usize) -> (usize, usize) {
 }
 
 impl Model {
-    fn len(&self) -> usize {
+    /// A list of glyphs, with no output open.
+    pub fn new(input: Vec<Glyph>, level: u32, flags: BufferFlags) -> Self {
+        Model {
+            open: false,
+            out: vec![],
+            input,
+            idx: 0,
+            level,
+            flags,
+        }
+    }
+
+    pub fn len(&self) -> usize {
         self.input.len() + if self.open { self.idx } else { 0 }
     }
 
@@ -249,7 +251,7 @@ impl Model {
         }
     }
 
-    fn make(&mut self, call: &Call) -> Answer {
+    pub fn make(&mut self, call: &Call) -> Answer {
         if !self.may_be_made(call) {
             return Answer::Outside;
         }
@@ -379,202 +381,5 @@ impl Model {
         let (list, len) = (self.joined(), self.out.len());
         self.idx = (self.idx + i).saturating_sub(len);
         (self.out, self.input) = (list[..i].to_vec(), list[i..].to_vec());
-    }
-}
-
-/// Numbers by the generator xorshift64*.
-struct Random(u64);
-
-impl Random {
-    fn of(seed: u64) -> Random {
-        Random(seed.wrapping_mul(0x9E37_79B9_7F4A_7C15) | 1)
-    }
-
-    fn below(&mut self, n: usize) -> usize {
-        self.0 ^= self.0 >> 12;
-        self.0 ^= self.0 << 25;
-        self.0 ^= self.0 >> 27;
-        (self.0.wrapping_mul(0x2545_F491_4F6C_DD1D) >> 33) as usize % n
-    }
-
-    fn one_in(&mut self, n: usize) -> bool {
-        self.below(n) == 0
-    }
-
-    /// A call that mostly meets its condition.
-    fn call(&mut self, model: &Model) -> Call<'static> {
-        const IDS: &[u32] = &[501, 502, 65_536, 504];
-        let n = model.len() + 2;
-        let (mut a, mut b) = (self.below(n), self.below(n));
-        if !self.one_in(4) {
-            (a, b) = (a.min(b), a.max(b));
-        }
-        let (from, to) = (
-            (!self.one_in(9)).then_some(a),
-            (!self.one_in(9)).then_some(b),
-        );
-        match self.below(27) {
-            0 | 1 => Call::ClearOutput,
-            2..=5 => Call::NextGlyph,
-            6 => Call::NextGlyphs(self.below(5)),
-            7 => Call::SkipGlyph,
-            8 => Call::ReplaceGlyph(self.below(900) as u32),
-            9..=11 => Call::ReplaceGlyphs(self.below(4), self.below(5), IDS),
-            12 => Call::OutputGlyph(self.below(900) as u32),
-            13 => Call::CopyGlyph,
-            14 => Call::OutputInfo(hb_glyph_info_t {
-                glyph_id: 9,
-                mask: 5,
-                cluster: 3,
-                var1: 1,
-                var2: 2,
-            }),
-            15 => Call::MoveTo(self.below(model.out.len() + model.input.len() + 2)),
-            16 => Call::Sync,
-            17 => Call::DeleteGlyph,
-            18 | 19 => Call::MergeClusters(a, b),
-            20 => Call::MergeOutClusters(a, b),
-            21 => Call::MergeGraphemeClusters(a, b),
-            22 => Call::UnsafeToBreak(from, to),
-            23 => Call::UnsafeToBreakFromOutbuffer(from, to),
-            24 => Call::SafeToInsertTatweel(from, to),
-            25 => Call::UnsafeToConcat(from, to),
-            _ => Call::UnsafeToConcatFromOutbuffer(from, to),
-        }
-    }
-
-    /// Some glyphs whose clusters rise or fall, with a few out of order.
-    fn glyphs(&mut self) -> Vec<Glyph> {
-        let (falls, mut cluster) = (self.one_in(2), 20);
-        (1..=self.below(12) as u32)
-            .map(|id| {
-                let step = self.below(3) as u32;
-                cluster = if falls {
-                    cluster - step.min(cluster)
-                } else {
-                    cluster + step
-                };
-                if self.one_in(8) {
-                    cluster = self.below(30) as u32;
-                }
-                Glyph {
-                    id,
-                    mask: self.below(16) as u32,
-                    cluster,
-                    var1: id,
-                    var2: 7,
-                }
-            })
-            .collect()
-    }
-}
-
-/// A buffer of these glyphs, with no output open.
-fn buffer_of(glyphs: &[Glyph]) -> hb_buffer_t {
-    let mut text = UnicodeBuffer::new();
-    for glyph in glyphs {
-        assert_eq!(text.add('a', glyph.cluster), Ok(true));
-    }
-    let mut buffer = text.into_buffer();
-    for (info, glyph) in buffer.info_slice_mut().iter_mut().zip(glyphs) {
-        (info.glyph_id, info.mask) = (glyph.id, glyph.mask);
-        (info.var1, info.var2) = (glyph.var1, glyph.var2);
-    }
-    buffer
-}
-
-#[test]
-fn lists_of_calls_on_glyphs() {
-    for seed in 1..=ROUNDS {
-        let mut random = Random::of(seed);
-        let input = random.glyphs();
-        let mut buffer = buffer_of(&input);
-        buffer.cluster_level = random.below(4) as u32;
-        buffer.flags = BufferFlags::from_bits_retain([0, 0x40, 0x80, 0xC0][random.below(4)]);
-        let (level, flags) = (buffer.cluster_level, buffer.flags);
-        let mut model = Model {
-            open: false,
-            out: vec![],
-            input,
-            idx: 0,
-            level,
-            flags,
-        };
-        for turn in 0..random.below(40) {
-            let call = random.call(&model);
-            let mut answers = [Answer::Refused];
-            replay(&mut buffer, &[call], &mut answers).expect("memory");
-            assert_eq!(
-                answers[0],
-                model.make(&call),
-                "seed {seed}, turn {turn}: {call:?}"
-            );
-            assert_eq!(
-                seen(buffer.out_info()),
-                model.out,
-                "seed {seed}, turn {turn}: {call:?}"
-            );
-            assert_eq!(
-                seen(buffer.info()),
-                model.input,
-                "seed {seed}, turn {turn}: {call:?}"
-            );
-            assert_eq!(
-                (buffer.have_output(), buffer.idx()),
-                (model.open, model.idx),
-                "seed {seed}, turn {turn}"
-            );
-        }
-    }
-}
-
-#[test]
-fn texts_are_rendered() {
-    let levels = [0, 1, 2, 3].map(BufferClusterLevel::of_number);
-    for seed in 1..=ROUNDS {
-        let mut random = Random::of(seed ^ 0xD1B5_4A32);
-        let level = random.below(4);
-        let text: String = (0..random.below(10))
-            .map(|_| ['a', 'é', '漢', '😀', 'ل', '\u{301}'][random.below(6)])
-            .collect();
-        let characters = text.char_indices();
-        let input = characters
-            .map(|(i, c)| Glyph {
-                id: c as u32,
-                cluster: i as u32,
-                ..Glyph::default()
-            })
-            .collect();
-        let flags = BufferFlags::empty();
-        let mut model = Model {
-            open: false,
-            out: vec![],
-            input,
-            idx: 0,
-            level: level as u32,
-            flags,
-        };
-        let mut calls = vec![];
-        let mut wanted = vec![];
-        for _ in 0..random.below(20) {
-            let call = random.call(&model);
-            wanted.push(model.make(&call));
-            calls.push(call);
-        }
-        let mut answers = vec![Answer::Refused; calls.len()];
-        let rendered = render_at(levels[level], &text, &[], &calls, &mut answers);
-        assert_eq!(answers, wanted, "seed {seed}");
-        match rendered {
-            Ok(glyphs) => assert_eq!(
-                (seen(glyphs.glyph_infos()), model.open),
-                (model.input, false),
-                "seed {seed}"
-            ),
-            Err(fault) => assert_eq!(
-                (fault, model.open),
-                (vukhaso::RenderFault::OutputLeftOpen, true),
-                "seed {seed}"
-            ),
-        }
     }
 }

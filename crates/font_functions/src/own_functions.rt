@@ -1,0 +1,50 @@
+//! The functions of a font that its own tables answer.
+
+ghost use Rattle.std.specs.Prelude.{◌≡◌, is_some};
+
+use crate::functions::FontFunctions;
+use font_face::Face;
+use rb_common::GlyphId;
+use rb_glyph::GlyphExtents;
+use std::alloc::AllocError;
+
+/// A font whose own tables answer (HarfBuzz's `hb_ot_font_set_funcs`).
+#[derive(Clone, Copy, Debug)]
+pub struct OwnFunctions<'a> {
+    /// The font.
+    pub face: &'a Face<'a>,
+}
+
+impl FontFunctions for OwnFunctions<'_> {
+    ghost use Rattle.font_functions.specs.OwnFunctions.{has_glyph, IsOwnAdvance};
+
+    ghost has = { λ own. has_glyph own.face.now };
+
+    ghost may_advance = { λ own. IsOwnAdvance own.face.now };
+
+    #[inline]
+    fn nominal_glyph(&self, character: u32) -> Option<GlyphId> {
+        self.face.glyph_index(character)
+    }
+
+    fn variation_glyph(&self, character: u32, selector: u32) -> Option<GlyphId> {
+        self.face.glyph_variation_index(character, selector)
+    }
+
+    #[inline]
+    fn glyph_h_advance(&self, glyph: GlyphId) -> i32 {
+        self.face.glyph_hor_advance(glyph)
+    }
+
+    fn glyph_v_advance(&self, glyph: GlyphId) -> i32 {
+        self.face.glyph_ver_advance(glyph)
+    }
+
+    fn glyph_v_origin(&self, glyph: GlyphId) -> Result<(i32, i32), AllocError> {
+        self.face.vertical_origin(glyph)
+    }
+
+    fn glyph_extents(&self, glyph: GlyphId) -> Result<Option<GlyphExtents>, AllocError> {
+        self.face.glyph_extents(glyph)
+    }
+}

@@ -1,0 +1,12 @@
+// Written by tools/plain_rust from crates/format_tests. Do not edit.
+
+//! Tests of `line_formats`, over what it makes public, as in the `tests/` folder of a Rust crate.
+
+#[cfg(test)]
+mod characters;
+#[cfg(test)]
+mod font;
+#[cfg(test)]
+mod heads;
+#[cfg(test)]
+mod json;
