@@ -93,3 +93,29 @@ number_16-row start size row place at bytes rest chunk chunks behind are read in
     let rows = rows_from_16 start size (suc row) place at bytes rest chunks behind are (omega arith) fits begins in
     let there = slice_get-get_or chunks row chunk read in
     rw there at (rows.same row (omega arith))
+
+pub length-cut : (start whole : ℕ) (bytes rest : List ℕ) → rest ≡ take whole (drop start bytes)
+    → whole ≤ length bytes - start → length rest ≡ whole
+length-cut start whole bytes rest behind within =
+    let long : length (drop start bytes) ≡ length bytes - start = length-drop start bytes in
+    rw behind (length-take-le whole (drop start bytes) (rw long within))
+
+-- rows that were cut out of a table
+pub rows_cut_16 : (start size count whole place at : ℕ) (bytes rest : List ℕ) (chunks : List (List ℕ))
+    → rest ≡ take whole (drop start bytes) → chunks ≡ first_chunks size (length rest / size) rest
+    → length rest / size ≡ count → whole ≤ length bytes - start
+    → ((row : ℕ) → row < count → place + size * row + 2 ≤ whole) → place + 2 ≤ size → start + place ≡ at
+    → SameRows (λ row. option_and_then (λ chunk. number_16 chunk place) (slice_get chunks row))
+    (λ row. number_16 bytes (at + size * row)) count
+rows_cut_16 start size count whole place at bytes rest chunks behind are many within all fits begins = record {
+  same = λ row less.
+      let less_than : row < length rest / size = rw many less in
+      let in_rest =
+      option_and_then-chunk_16 size (length rest / size) row place rest less_than (div-mul-le_self _ _) fits in
+      let long : length (drop start bytes) ≡ length bytes - start = length-drop start bytes in
+      let inside : whole ≤ length (drop start bytes) = rw long within in
+      let cut : number_16 rest (place + size * row) ≡ number_16 (drop start bytes) (place + size * row) =
+      rw behind (number_16-take whole (place + size * row) (drop start bytes) (all row less) inside) in
+      let there : start + (place + size * row) ≡ at + size * row = omega arith in
+      rw are (in_rest ∙ cut ∙ number_16-drop start (place + size * row) bytes ∙ ap (number_16 bytes) there);
+}

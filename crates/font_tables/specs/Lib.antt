@@ -14,5 +14,6 @@ pub mod MetricRows
 pub mod Metrics
 pub mod Resources
 pub mod Rows
+pub mod Run
 pub mod Scale
 pub mod VerticalOrigins

@@ -1,16 +1,19 @@
 //! Class definition tables: a class for each glyph (OpenType specification, "OpenType Layout Common Table Formats", "Class
 //! Definition table").
 
-ghost use Rattle.std.specs.Prelude.{◌≡◌, ◌<◌, ◌+◌, ◌*◌, ◌-◌, ℕ, IsTrue, unwrap_or};
+ghost use Rattle.std.specs.Prelude.{◌≡◌, ◌<◌, ◌+◌, ◌*◌, ◌-◌, ℕ, IsTrue, slice_index, unwrap_or};
 ghost use Rattle.font_tables.specs.Bytes.{number_16};
 ghost use Rattle.font_tables.specs.Rows.{Rises};
 ghost use Rattle.font_tables.specs.ClassDefinition.{listed_class, ranged_class};
 ghost use Rattle.font_tables.specs.GlyphRanges.{range_last, range_count};
 
 use crate::bytes::u16_at;
-use crate::glyph_ranges::{last_glyphs, range_count, range_of};
-use crate::rows::rises;
+use crate::glyph_ranges::{Run, range_count, range_of, ranges_rise, run_from};
+use crate::rows::FEW_ROWS;
 use rb_common::GlyphId;
+
+/// The glyphs whose classes are found at once.
+pub(crate) const FIRST_COUNT: usize = 256;
 
 /// A class definition table.
 ///
@@ -38,7 +41,7 @@ impl<'a> ClassDefinition<'a> {
         let format = u16_at(table, 0).unwrap_or(0);
         if format == 2 {
             let count = range_count(table);
-            let are_rising = rises(&last_glyphs(table), usize::from(count));
+            let are_rising = ranges_rise(table, count);
             ClassDefinition {
                 table,
                 format,
@@ -52,6 +55,26 @@ impl<'a> ClassDefinition<'a> {
                 count: 0,
                 are_rising: false,
             }
+        }
+    }
+
+    /// Whether a class is found soon: there are few ranges, or they rise, as the specification says.
+    pub fn is_quick(&self) -> bool
+        ensures { IsTrue result → unwrap_or (number_16 self.now.table.now 0) 0 ≡ 2 → 64 < range_count self.now.table.now
+            → Rises (range_last self.now.table.now) (range_count self.now.table.now) }
+    {
+        self.count <= FEW_ROWS || self.are_rising
+    }
+
+    /// The classes of the first glyphs.
+    #[tactic(auto, unfolding(crate::specs::ClassDefinition::class_of))]
+    pub(crate) fn first_classes(&self) -> [u16; FIRST_COUNT]
+        ensures { (glyph : ℕ) → glyph < 256 → slice_index result glyph ≡ class_of self.now.table.now glyph }
+    {
+        match self.format {
+            1 => listed_classes(self.table),
+            2 => ranged_classes(self.table, self.count, self.are_rising),
+            _ => [0; FIRST_COUNT],
         }
     }
 
@@ -88,4 +111,36 @@ fn ranged_class(table: &[u8], count: u16, are_rising: bool, glyph: GlyphId) -> O
     ensures { result ≡ ranged_class table.now glyph.0 }
 {
     range_of(table, count, are_rising, glyph).map(|range| range.value)
+}
+
+/// The classes of the first glyphs in a list.
+fn listed_classes(table: &[u8]) -> [u16; FIRST_COUNT]
+    ensures { (glyph : ℕ) → glyph < 256 → slice_index result glyph ≡ unwrap_or (listed_class table.now glyph) 0 }
+{
+    let mut classes = [0; FIRST_COUNT];
+    for glyph in 0..FIRST_COUNT {
+        classes[glyph] = listed_class(table, GlyphId(glyph as u16)).unwrap_or(0);
+    }
+    classes
+}
+
+/// The classes of the first glyphs in ranges.
+fn ranged_classes(table: &[u8], count: u16, are_rising: bool) -> [u16; FIRST_COUNT]
+    requires counts { count ≡ range_count table.now }
+    requires rise { IsTrue are_rising → Rises (range_last table.now) count }
+    ensures { (glyph : ℕ) → glyph < 256 → slice_index result glyph ≡ unwrap_or (ranged_class table.now glyph) 0 }
+{
+    let mut classes = [0; FIRST_COUNT];
+    let mut run = Run {
+        first: 0,
+        end: 0,
+        value: 0,
+    };
+    for glyph in 0..FIRST_COUNT {
+        if run.end <= glyph as u32 {
+            run = run_from(table, count, are_rising, GlyphId(glyph as u16));
+        }
+        classes[glyph] = run.value_of(glyph as u32);
+    }
+    classes
 }

@@ -7,9 +7,9 @@ ghost use Rattle.font_tables.specs.Rows.{Rises, first_row};
 ghost use Rattle.font_tables.specs.Coverage.{listed_glyph, listed_count, listed_index, ranged_index};
 ghost use Rattle.font_tables.specs.GlyphRanges.{range_last, range_count};
 
-use crate::bytes::{tail, u16_at};
-use crate::glyph_ranges::{last_glyphs, range_count, range_of};
-use crate::rows::{Numbers16, first_row, rises, rows_within};
+use crate::bytes::{part, tail, u16_at};
+use crate::glyph_ranges::{range_count, range_of, ranges_rise};
+use crate::rows::{FEW_ROWS, Numbers16, first_row, rows_within};
 use rb_common::GlyphId;
 
 /// A coverage table.
@@ -45,7 +45,7 @@ impl<'a> Coverage<'a> {
             }
             2 => {
                 let count = range_count(table);
-                (count, rises(&last_glyphs(table), usize::from(count)))
+                (count, ranges_rise(table, count))
             }
             _ => (0, false),
         };
@@ -55,6 +55,16 @@ impl<'a> Coverage<'a> {
             count,
             are_rising,
         }
+    }
+
+    /// Whether a glyph is found soon: there are few rows, or they rise, as the specification says.
+    pub fn is_quick(&self) -> bool
+        ensures list { IsTrue result → unwrap_or (number_16 self.now.table.now 0) 0 ≡ 1 → 64 < listed_count self.now.table.now
+            → Rises (listed_glyph self.now.table.now) (listed_count self.now.table.now) }
+        ensures ranges { IsTrue result → unwrap_or (number_16 self.now.table.now 0) 0 ≡ 2 → 64 < range_count self.now.table.now
+            → Rises (range_last self.now.table.now) (range_count self.now.table.now) }
+    {
+        self.count <= FEW_ROWS || self.are_rising
     }
 
     /// The coverage index of a glyph; `None` where the table does not cover it.
@@ -75,8 +85,19 @@ fn list_rises(table: &[u8], count: u16) -> bool
     requires { count ≡ listed_count table.now }
     ensures { IsTrue result → Rises (listed_glyph table.now) count }
 {
-    let (glyphs, _) = tail(table, 4).as_chunks::<2>();
-    rises(&Numbers16(glyphs), usize::from(count))
+    let (glyphs, _) = part(table, 4, 2 * usize::from(count)).as_chunks::<2>();
+    let mut before = 0;
+    let mut falls = false;
+    for glyph in glyphs {
+        match u16_at(glyph, 0) {
+            Some(next) => {
+                falls = falls || next < before;
+                before = next;
+            }
+            None => falls = true,
+        }
+    }
+    !falls
 }
 
 /// How many of the glyphs of a list lie in the table.

@@ -7,12 +7,9 @@ ghost use Rattle.font_tables.specs.Gdef.{glyph_props};
 ghost use Rattle.font_tables.specs.ClassDefinition.{class_of};
 
 use crate::bytes::{table_at_16, table_at_32, u16_at};
-use crate::class_definition::ClassDefinition;
+use crate::class_definition::{ClassDefinition, FIRST_COUNT};
 use crate::coverage::Coverage;
 use rb_common::GlyphId;
-
-/// The glyphs whose properties are found once.
-const FIRST_COUNT: usize = 256;
 
 /// A table `GDEF`, of version 1.
 #[derive(Clone, Copy, Debug)]
@@ -108,6 +105,18 @@ fn props_of(classes: &ClassDefinition<'_>, attachments: &ClassDefinition<'_>, gl
     }
 }
 
+/// The properties of a glyph of these classes.
+fn props_for(class: u16, attachment: u16) -> u16
+    ensures { result ≡ props class attachment }
+{
+    match class {
+        1 => 2,
+        2 => 4,
+        3 => 8 + 256 * (attachment % 256),
+        _ => 0,
+    }
+}
+
 /// The properties of the first glyphs.
 fn first_props(
     classes: &ClassDefinition<'_>,
@@ -116,9 +125,11 @@ fn first_props(
     ensures { (glyph : ℕ) → glyph < 256 → slice_index result glyph
         ≡ props (class_of classes.now.table.now glyph) (class_of attachments.now.table.now glyph) }
 {
+    let classes = classes.first_classes();
+    let attachments = attachments.first_classes();
     let mut props = [0; FIRST_COUNT];
     for glyph in 0..FIRST_COUNT {
-        props[glyph] = props_of(classes, attachments, GlyphId(glyph as u16));
+        props[glyph] = props_for(classes[glyph], attachments[glyph]);
     }
     props
 }

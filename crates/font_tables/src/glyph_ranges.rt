@@ -1,27 +1,17 @@
 //! Ranges of glyphs, each with a value, as coverage tables and class definitions of format 2 have them: six bytes each,
 //! from the byte 4 on.
 
-ghost use Rattle.std.specs.Prelude.{◌≡◌, ◌<◌, ◌+◌, ◌*◌, ◌≤◌, ◌-◌, ℕ, IsTrue, option_and_then, option_map, unwrap_or, IfSome};
+ghost use Rattle.std.specs.Prelude.{◌≡◌, ◌<◌, ◌+◌, ◌*◌, ◌≤◌, ◌-◌, ◌^◌, ℕ, IsTrue, option_and_then, option_map, unwrap_or, IfSome};
 ghost use Rattle.font_tables.specs.Bytes.{number_16};
 ghost use Rattle.font_tables.specs.Rows.{Rises, first_row};
+ghost use Rattle.font_tables.specs.Run.{IsRunFrom, value_in};
 ghost use Rattle.font_tables.specs.GlyphRanges.{range_count, range_first, range_last, range_value};
 ghost use Rattle.font_tables.specs.ClassDefinition.{ranged_class};
 ghost use Rattle.font_tables.specs.Coverage.{ranged_index};
 
-use crate::bytes::{tail, u16_at};
-use crate::rows::{Keys16, Rows, first_row, rows_within};
+use crate::bytes::{part, tail, u16_at};
+use crate::rows::{Rows, first_row, rows_within};
 use rb_common::GlyphId;
-
-/// The last glyphs of the ranges.
-pub(crate) fn last_glyphs(table: &[u8]) -> Keys16<'_>
-    ensures { result ≡ record { table = table.entry; start = 6; size = 6 } }
-{
-    Keys16 {
-        table,
-        start: 6,
-        size: 6,
-    }
-}
 
 /// Ranges that lie whole in the table.
 #[derive(Clone, Copy)]
@@ -44,6 +34,26 @@ pub(crate) fn range_count(table: &[u8]) -> u16
 {
     let declared = u16_at(table, 2).unwrap_or(0);
     rows_within(table, 4, 6, usize::from(declared)) as u16
+}
+
+/// Whether the last glyphs of the ranges rise.
+pub(crate) fn ranges_rise(table: &[u8], count: u16) -> bool
+    requires { count ≡ range_count table.now }
+    ensures { IsTrue result → Rises (range_last table.now) count }
+{
+    let (ranges, _) = part(table, 4, 6 * usize::from(count)).as_chunks::<6>();
+    let mut before = 0;
+    let mut falls = false;
+    for range in ranges {
+        match u16_at(range, 2) {
+            Some(last) => {
+                falls = falls || last < before;
+                before = last;
+            }
+            None => falls = true,
+        }
+    }
+    !falls
 }
 
 /// The first range that does not end before a glyph.
@@ -104,5 +114,58 @@ pub(crate) fn range_of(table: &[u8], count: u16, are_rising: bool, glyph: GlyphI
         Some(range)
     } else {
         None
+    }
+}
+
+/// The glyphs from one on that one range has, or none: all below `end` have the value, but for those before `first`, which have 0.
+#[derive(Clone, Copy)]
+pub(crate) struct Run {
+    pub(crate) first: u32,
+    pub(crate) end: u32,
+    pub(crate) value: u16,
+}
+
+impl Run {
+    /// The value of a glyph before the end.
+    pub(crate) fn value_of(&self, glyph: u32) -> u16
+        ensures { result ≡ value_in self.now glyph }
+    {
+        if self.first <= glyph { self.value } else { 0 }
+    }
+}
+
+/// The run of a glyph.
+pub(crate) fn run_from(table: &[u8], count: u16, are_rising: bool, glyph: GlyphId) -> Run
+    requires counts { count ≡ range_count table.now }
+    requires rise { IsTrue are_rising → Rises (range_last table.now) count }
+    ensures goes { glyph.0 < result.end }
+    ensures values { IsRunFrom table.now result glyph.0 }
+{
+    match first_range(table, count, are_rising, glyph) {
+        Some(row) => run_of(table, row),
+        None => Run {
+            first: 0,
+            end: u32::MAX,
+            value: 0,
+        },
+    }
+}
+
+/// The run of the glyphs of a range, and of those before it.
+fn run_of(table: &[u8], row: usize) -> Run
+    requires { row < range_count table.now }
+    ensures first { result.first ≡ unwrap_or (range_first table.now row) (2 ^ 32 - 1) }
+    ensures end { result.end ≡ unwrap_or (range_last table.now row) 0 + 1 }
+    ensures value { result.value ≡ unwrap_or (range_value table.now row) 0 }
+    ensures small { result.end ≤ 65536 }
+{
+    let first = match number_of(table, row, 0) {
+        Some(first) => u32::from(first),
+        None => u32::MAX,
+    };
+    Run {
+        first,
+        end: u32::from(number_of(table, row, 2).unwrap_or(0)) + 1,
+        value: number_of(table, row, 4).unwrap_or(0),
     }
 }

@@ -5,6 +5,9 @@ ghost use Rattle.font_tables.specs.Rows.{first_row, rows_within, Rises, AreThere
 
 use crate::bytes::u16_at;
 
+/// So many rows are soon looked through.
+pub(crate) const FEW_ROWS: u16 = 64;
+
 /// Rows of a font's table. A row reaches a key where its last key is not below it.
 pub trait Rows {
     ghost use Rattle.std.specs.Prelude.{◌≡◌, ℕ, Option};

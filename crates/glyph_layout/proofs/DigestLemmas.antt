@@ -1,9 +1,10 @@
 -- The rows of a word, and the glyphs of a coverage.
-use Rattle.std.proofs.Common.{◌≡◌, ℕ, zero, suc, ◌+◌, ◌-◌, ◌*◌, ◌/◌, ◌%◌, ◌^◌, ◌<◌, ◌≤◌, Bool, true, false, Option, Some, None, List, refl, arith, subst, inl, inr, eq-eqb}
+use Rattle.std.proofs.Common.{◌≡◌, ℕ, zero, suc, ◌+◌, ◌-◌, ◌*◌, ◌/◌, ◌%◌, ◌^◌, ◌<◌, ◌≤◌, Bool, true, false, Option, Some, None, List, get_or, length, refl, arith, subst, inl, inr, eq-eqb}
 use Rattle.std.proofs.lemmas.Bool.{cases_lt, cases_Bool}
 use Rattle.std.proofs.lemmas.Grind.{common_steps}
+use Rattle.std.proofs.lemmas.Option.{slice_get-get_or}
 use Rattle.std.proofs.lemmas.Nat.Bits.{bit_at_or, bit_at_and, bit_at-lt, bit_at-zero, bit_at_ones, bit_at_mask_inside, bit_at_set_same, ones_shr, ones_shl}
-use Rattle.std.specs.Prelude.{is_some, IsTrue, bit_and, bit_or, nat_eq, nat_lt, unwrap_or, if◌then◌else◌, option_and_then, option_map}
+use Rattle.std.specs.Prelude.{is_some, IsTrue, bit_and, bit_or, nat_eq, nat_lt, unwrap_or, if◌then◌else◌, option_and_then, option_map, slice_get}
 use Rattle.std.specs.Option.{option_or}
 use Rattle.std.specs.Int.{bit_at, w64}
 use Rattle.font_tables.specs.Rows.{first_below, first_row, is_within, is_at_most, reaches}
@@ -212,6 +213,12 @@ pub range_has : (table : List ℕ) (glyph : ℕ) (set : ℕ → Type 0)
 range_has table glyph set all some =
     range_found table glyph (first_row (range_last table) glyph (range_count table)) set all refl
     (range_is table glyph (range_of table glyph) some)
+
+-- a number of a row that is read
+pub number_16-read : (chunks : List (List ℕ)) (row at place n : ℕ) (d : List ℕ) → row ≡ at → at < length chunks
+    → option_and_then (λ chunk. number_16 chunk place) (slice_get chunks row) ≡ Some n
+    → number_16 (get_or chunks at d) place ≡ Some n
+number_16-read chunks row at place n d here inside is = rw (here, slice_get-get_or chunks at d inside) at is
 
 -- what covers a glyph in each of the formats
 pub covered_list : (table : List ℕ) (glyph : ℕ) → unwrap_or (number_16 table 0) 0 ≡ 1

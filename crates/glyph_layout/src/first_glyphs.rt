@@ -5,7 +5,7 @@ ghost use Rattle.glyph_layout.specs.Digest.{HasAll, has_row};
 ghost use Rattle.glyph_layout.specs.FirstGlyphs.{HasMoreFirst, may_have_both, may_have_first};
 ghost use Rattle.glyph_layout.specs.SkippingIterator.{covered_index};
 
-use crate::digest::{Digest, has_row, with_all, with_rows};
+use crate::digest::{Digest, has_row, with_all, with_row, with_rows};
 use crate::summary::{Summary, summary_of};
 use font_tables::coverage::Coverage;
 
@@ -50,8 +50,20 @@ impl Summary for FirstGlyphs {
         FirstGlyphs { words: [0; 4] }
     }
 
+    fn add_glyph(&mut self, glyph: u32) {
+        if glyph < COUNT {
+            let word = glyph as usize / 64;
+            self.words[word] = with_row(self.words[word], glyph);
+        }
+    }
+
     fn add_range(&mut self, first: u32, last: u32) {
         if first >= COUNT {
+            return;
+        }
+        if first / 64 == last / 64 {
+            let word = first as usize / 64;
+            self.words[word] = with_rows(self.words[word], first, last);
             return;
         }
         self.words = [
@@ -80,6 +92,11 @@ impl Summary for Summaries {
             digest: Digest::new(),
             firsts: FirstGlyphs::none(),
         }
+    }
+
+    fn add_glyph(&mut self, glyph: u32) {
+        self.digest.add_glyph(glyph);
+        self.firsts.add_glyph(glyph);
     }
 
     fn add_range(&mut self, first: u32, last: u32) {

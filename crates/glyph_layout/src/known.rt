@@ -6,7 +6,6 @@ ghost use Rattle.glyph_layout.specs.FirstGlyphs.{may_have_first};
 ghost use Rattle.glyph_layout.specs.SkippingIterator.{covered_index};
 
 use crate::first_glyphs::{Summaries, summaries_of};
-use crate::subtable::is_quick;
 use font_tables::coverage::Coverage;
 use std::alloc::AllocError;
 
@@ -42,8 +41,9 @@ impl<'a> Summed<'a> {
 
 /// The coverage in these bytes, or one that covers nothing where it is slow to ask.
 pub(crate) fn quick_coverage(table: &[u8]) -> Coverage<'_> {
-    if is_quick(table, true) {
-        Coverage::new(table)
+    let coverage = Coverage::new(table);
+    if coverage.is_quick() {
+        coverage
     } else {
         Coverage::new(&[])
     }

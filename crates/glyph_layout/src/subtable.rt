@@ -13,10 +13,6 @@ use crate::first_glyphs::FirstGlyphs;
 use font_tables::bytes::{table_at_16, table_at_32, u16_at};
 use font_tables::class_definition::ClassDefinition;
 use font_tables::coverage::Coverage;
-use font_tables::rows::{Keys16, rises, rows_within};
-
-/// So many rows are soon looked through.
-const FEW_ROWS: usize = 64;
 
 /// A subtable of a lookup.
 #[derive(Clone, Copy, Debug)]
@@ -167,22 +163,6 @@ pub fn table_or_empty(table: &[u8], at: usize) -> &[u8]
     ensures { result.now ≡ unwrap_or (table_at_16 table.now at) [] }
 {
     table_at_16(table, at).unwrap_or(&[])
-}
-
-/// Whether a glyph is found soon in a table of glyphs or ranges: there are few rows, or they rise, as they have to. A list of
-/// classes has a row for each glyph.
-pub(crate) fn is_quick(table: &[u8], lists_glyphs: bool) -> bool {
-    let declared = usize::from(u16_at(table, 2).unwrap_or(0));
-    if declared <= FEW_ROWS {
-        return true;
-    }
-    let (start, size) = match u16_at(table, 0) {
-        Some(1) if lists_glyphs => (4, 2),
-        Some(2) => (6, 6),
-        _ => return true,
-    };
-    let count = rows_within(table, 4, size, declared);
-    count <= FEW_ROWS || rises(&Keys16 { table, start, size }, count)
 }
 
 /// The kind and the subtable after an extension.

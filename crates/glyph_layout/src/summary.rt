@@ -3,11 +3,10 @@
 ghost use Rattle.std.specs.Prelude.{ℕ, ◌≡◌, ◌<◌, ◌≤◌, Some, is_some, true, unwrap_or};
 ghost use Rattle.font_tables.specs.Bytes.{number_16};
 ghost use Rattle.font_tables.specs.Coverage.{listed_index, ranged_index};
-ghost use Rattle.font_tables.specs.GlyphRanges.{range_first, range_last};
 ghost use Rattle.font_tables.specs.Rows.{rows_within};
 ghost use Rattle.glyph_layout.specs.SkippingIterator.{covered_index};
 
-use font_tables::bytes::u16_at;
+use font_tables::bytes::{part, u16_at};
 use font_tables::coverage::Coverage;
 use font_tables::rows::rows_within;
 
@@ -20,6 +19,11 @@ pub trait Summary: Sized {
 
     /// The summary of no glyph.
     fn none() -> Self;
+
+    /// Adds a glyph.
+    fn add_glyph(&mut self, glyph: u32)
+        ensures added { has self.new glyph ≡ true }
+        ensures kept { (other : ℕ) → has self.old other ≡ true → has self.new other ≡ true };
 
     /// Adds the glyphs from one to another, the last one too.
     fn add_range(&mut self, first: u32, last: u32)
@@ -63,9 +67,10 @@ fn of_list<S: Summary>(table: &[u8]) -> S
     ensures { (glyph : ℕ) → is_some (listed_index table.now glyph) ≡ true → S.has result glyph ≡ true }
 {
     let mut summary = S::none();
-    for row in 0..row_count(table, 2) {
-        if let Some(glyph) = u16_at(table, 4 + 2 * row) {
-            summary.add_range(u32::from(glyph), u32::from(glyph));
+    let (glyphs, _) = part(table, 4, 2 * row_count(table, 2)).as_chunks::<2>();
+    for glyph in glyphs {
+        if let Some(glyph) = u16_at(glyph, 0) {
+            summary.add_glyph(u32::from(glyph));
         }
     }
     summary
@@ -76,20 +81,20 @@ fn of_ranges<S: Summary>(table: &[u8]) -> S
     ensures { (glyph : ℕ) → is_some (ranged_index table.now glyph) ≡ true → S.has result glyph ≡ true }
 {
     let mut summary = S::none();
-    for row in 0..row_count(table, 6) {
-        add_row(&mut summary, table, row);
+    let (ranges, _) = part(table, 4, 6 * row_count(table, 6)).as_chunks::<6>();
+    for range in ranges {
+        add_row(&mut summary, range);
     }
     summary
 }
 
 /// Adds the glyphs of a range of a coverage.
-fn add_row<S: Summary>(summary: &mut S, table: &[u8], row: usize)
-    requires { row < 65536 }
-    ensures added { (first last : ℕ) → range_first table.now row ≡ Some first → range_last table.now row ≡ Some last
+fn add_row<S: Summary>(summary: &mut S, range: &[u8])
+    ensures added { (first last : ℕ) → number_16 range.now 0 ≡ Some first → number_16 range.now 2 ≡ Some last
         → (glyph : ℕ) → first ≤ glyph → glyph ≤ last → S.has summary.new glyph ≡ true }
     ensures kept { (glyph : ℕ) → S.has summary.old glyph ≡ true → S.has summary.new glyph ≡ true }
 {
-    if let (Some(first), Some(last)) = (u16_at(table, 4 + 6 * row), u16_at(table, 6 + 6 * row)) {
+    if let (Some(first), Some(last)) = (u16_at(range, 0), u16_at(range, 2)) {
         summary.add_range(u32::from(first), u32::from(last));
     }
 }

@@ -1,5 +1,4 @@
 use Rattle.std.proofs.Common.{◌≡◌, ◌<◌, ℕ, slice_index, length}
-use Rattle.font_tables.specs.ClassDefinition.{class_of}
 use Rattle.font_tables.specs.Gdef.{props}
 use Rattle.font_tables.proofs.gdef.first_props.Given as goal
 
@@ -8,5 +7,5 @@ abbrev pub invariant-loop-glyph : goal.invariant-loop-glyph
 invariant-loop-glyph l = record {
   long : length l.props ≡ 256;
   found : (glyph : ℕ) → glyph < l.glyph
-      → slice_index l.props glyph ≡ props (class_of l.classes.table.now glyph) (class_of l.attachments.table.now glyph);
+      → slice_index l.props glyph ≡ props (slice_index l.classes glyph) (slice_index l.attachments glyph);
 }

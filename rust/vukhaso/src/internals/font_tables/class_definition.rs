@@ -5,8 +5,11 @@
 
 use crate::common::GlyphId;
 use crate::font_tables::bytes::u16_at;
-use crate::font_tables::glyph_ranges::{last_glyphs, range_count, range_of};
-use crate::font_tables::rows::rises;
+use crate::font_tables::glyph_ranges::{Run, range_count, range_of, ranges_rise, run_from};
+use crate::font_tables::rows::FEW_ROWS;
+
+/// The glyphs whose classes are found at once.
+pub(crate) const FIRST_COUNT: usize = 256;
 
 /// A class definition table.
 ///
@@ -42,7 +45,7 @@ impl<'a> ClassDefinition<'a> {
         let format = u16_at(table, 0).unwrap_or(0);
         if format == 2 {
             let count = range_count(table);
-            let are_rising = rises(&last_glyphs(table), usize::from(count));
+            let are_rising = ranges_rise(table, count);
             ClassDefinition {
                 table,
                 format,
@@ -56,6 +59,28 @@ impl<'a> ClassDefinition<'a> {
                 count: 0,
                 are_rising: false,
             }
+        }
+    }
+
+    /// Whether a class is found soon: there are few ranges, or they rise, as the specification says.
+    ///
+    /// # Proved
+    ///
+    /// ```text
+    /// ensures { IsTrue result → unwrap_or (number_16 self.now.table.now 0) 0 ≡ 2 → 64 < range_count self.now.table.now
+    ///     → Rises (range_last self.now.table.now) (range_count self.now.table.now) }
+    /// ```
+    #[inline]
+    pub fn is_quick(&self) -> bool {
+        self.count <= FEW_ROWS || self.are_rising
+    }
+
+    /// The classes of the first glyphs.
+    pub(crate) fn first_classes(&self) -> [u16; FIRST_COUNT] {
+        match self.format {
+            1 => listed_classes(self.table),
+            2 => ranged_classes(self.table, self.count, self.are_rising),
+            _ => [0; FIRST_COUNT],
         }
     }
 
@@ -95,4 +120,35 @@ fn listed_class(table: &[u8], glyph: GlyphId) -> Option<u16> {
 /// - `rise: IsTrue are_rising → Rises (range_last table.now) count`
 fn ranged_class(table: &[u8], count: u16, are_rising: bool, glyph: GlyphId) -> Option<u16> {
     range_of(table, count, are_rising, glyph).map(|range| range.value)
+}
+
+/// The classes of the first glyphs in a list.
+fn listed_classes(table: &[u8]) -> [u16; FIRST_COUNT] {
+    let mut classes = [0; FIRST_COUNT];
+    for glyph in 0..FIRST_COUNT {
+        classes[glyph] = listed_class(table, GlyphId(glyph as u16)).unwrap_or(0);
+    }
+    classes
+}
+
+/// The classes of the first glyphs in ranges.
+///
+/// # Requires
+///
+/// - `counts: count ≡ range_count table.now`
+/// - `rise: IsTrue are_rising → Rises (range_last table.now) count`
+fn ranged_classes(table: &[u8], count: u16, are_rising: bool) -> [u16; FIRST_COUNT] {
+    let mut classes = [0; FIRST_COUNT];
+    let mut run = Run {
+        first: 0,
+        end: 0,
+        value: 0,
+    };
+    for glyph in 0..FIRST_COUNT {
+        if run.end <= glyph as u32 {
+            run = run_from(table, count, are_rising, GlyphId(glyph as u16));
+        }
+        classes[glyph] = run.value_of(glyph as u32);
+    }
+    classes
 }

@@ -4,9 +4,9 @@
 //! Table Formats", "Coverage table").
 
 use crate::common::GlyphId;
-use crate::font_tables::bytes::{tail, u16_at};
-use crate::font_tables::glyph_ranges::{last_glyphs, range_count, range_of};
-use crate::font_tables::rows::{Numbers16, first_row, rises, rows_within};
+use crate::font_tables::bytes::{part, tail, u16_at};
+use crate::font_tables::glyph_ranges::{range_count, range_of, ranges_rise};
+use crate::font_tables::rows::{FEW_ROWS, Numbers16, first_row, rows_within};
 use crate::numbers::Chunks;
 
 /// A coverage table.
@@ -51,7 +51,7 @@ impl<'a> Coverage<'a> {
             }
             2 => {
                 let count = range_count(table);
-                (count, rises(&last_glyphs(table), usize::from(count)))
+                (count, ranges_rise(table, count))
             }
             _ => (0, false),
         };
@@ -61,6 +61,21 @@ impl<'a> Coverage<'a> {
             count,
             are_rising,
         }
+    }
+
+    /// Whether a glyph is found soon: there are few rows, or they rise, as the specification says.
+    ///
+    /// # Proved
+    ///
+    /// ```text
+    /// ensures list { IsTrue result → unwrap_or (number_16 self.now.table.now 0) 0 ≡ 1 → 64 < listed_count self.now.table.now
+    ///     → Rises (listed_glyph self.now.table.now) (listed_count self.now.table.now) }
+    /// ensures ranges { IsTrue result → unwrap_or (number_16 self.now.table.now 0) 0 ≡ 2 → 64 < range_count self.now.table.now
+    ///     → Rises (range_last self.now.table.now) (range_count self.now.table.now) }
+    /// ```
+    #[inline]
+    pub fn is_quick(&self) -> bool {
+        self.count <= FEW_ROWS || self.are_rising
     }
 
     /// The coverage index of a glyph; `None` where the table does not cover it.
@@ -86,8 +101,19 @@ impl<'a> Coverage<'a> {
 ///
 /// - `count ≡ listed_count table.now`
 fn list_rises(table: &[u8], count: u16) -> bool {
-    let (glyphs, _) = Chunks::<2>::split(tail(table, 4));
-    rises(&Numbers16(glyphs), usize::from(count))
+    let (glyphs, _) = Chunks::<2>::split(part(table, 4, 2 * usize::from(count)));
+    let mut before = 0;
+    let mut falls = false;
+    for glyph in glyphs {
+        match u16_at(glyph, 0) {
+            Some(next) => {
+                falls = falls || next < before;
+                before = next;
+            }
+            None => falls = true,
+        }
+    }
+    !falls
 }
 
 /// How many of the glyphs of a list lie in the table.

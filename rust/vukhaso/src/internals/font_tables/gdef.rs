@@ -4,11 +4,8 @@
 
 use crate::common::GlyphId;
 use crate::font_tables::bytes::{table_at_16, table_at_32, u16_at};
-use crate::font_tables::class_definition::ClassDefinition;
+use crate::font_tables::class_definition::{ClassDefinition, FIRST_COUNT};
 use crate::font_tables::coverage::Coverage;
-
-/// The glyphs whose properties are found once.
-const FIRST_COUNT: usize = 256;
 
 /// A table `GDEF`, of version 1.
 ///
@@ -135,14 +132,26 @@ fn props_of(
     }
 }
 
+/// The properties of a glyph of these classes.
+fn props_for(class: u16, attachment: u16) -> u16 {
+    match class {
+        1 => 2,
+        2 => 4,
+        3 => 8 + 256 * (attachment % 256),
+        _ => 0,
+    }
+}
+
 /// The properties of the first glyphs.
 fn first_props(
     classes: &ClassDefinition<'_>,
     attachments: &ClassDefinition<'_>,
 ) -> [u16; FIRST_COUNT] {
+    let classes = classes.first_classes();
+    let attachments = attachments.first_classes();
     let mut props = [0; FIRST_COUNT];
     for glyph in 0..FIRST_COUNT {
-        props[glyph] = props_of(classes, attachments, GlyphId(glyph as u16));
+        props[glyph] = props_for(classes[glyph], attachments[glyph]);
     }
     props
 }

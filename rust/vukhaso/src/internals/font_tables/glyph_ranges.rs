@@ -4,18 +4,9 @@
 //! from the byte 4 on.
 
 use crate::common::GlyphId;
-use crate::font_tables::bytes::{tail, u16_at};
-use crate::font_tables::rows::{Keys16, Rows, first_row, rows_within};
+use crate::font_tables::bytes::{part, tail, u16_at};
+use crate::font_tables::rows::{Rows, first_row, rows_within};
 use crate::numbers::Chunks;
-
-/// The last glyphs of the ranges.
-pub(crate) fn last_glyphs(table: &[u8]) -> Keys16<'_> {
-    Keys16 {
-        table,
-        start: 6,
-        size: 6,
-    }
-}
 
 /// Ranges that lie whole in the table.
 #[derive(Clone, Copy)]
@@ -37,6 +28,27 @@ impl Rows for Ranges<'_> {
 pub(crate) fn range_count(table: &[u8]) -> u16 {
     let declared = u16_at(table, 2).unwrap_or(0);
     rows_within(table, 4, 6, usize::from(declared)) as u16
+}
+
+/// Whether the last glyphs of the ranges rise.
+///
+/// # Requires
+///
+/// - `count ≡ range_count table.now`
+pub(crate) fn ranges_rise(table: &[u8], count: u16) -> bool {
+    let (ranges, _) = Chunks::<6>::split(part(table, 4, 6 * usize::from(count)));
+    let mut before = 0;
+    let mut falls = false;
+    for range in ranges {
+        match u16_at(range, 2) {
+            Some(last) => {
+                falls = falls || last < before;
+                before = last;
+            }
+            None => falls = true,
+        }
+    }
+    !falls
 }
 
 /// The first range that does not end before a glyph.
@@ -103,5 +115,54 @@ pub(crate) fn range_of(
         Some(range)
     } else {
         None
+    }
+}
+
+/// The glyphs from one on that one range has, or none: all below `end` have the value, but for those before `first`, which have 0.
+#[derive(Clone, Copy)]
+pub(crate) struct Run {
+    pub(crate) first: u32,
+    pub(crate) end: u32,
+    pub(crate) value: u16,
+}
+
+impl Run {
+    /// The value of a glyph before the end.
+    pub(crate) fn value_of(&self, glyph: u32) -> u16 {
+        if self.first <= glyph { self.value } else { 0 }
+    }
+}
+
+/// The run of a glyph.
+///
+/// # Requires
+///
+/// - `counts: count ≡ range_count table.now`
+/// - `rise: IsTrue are_rising → Rises (range_last table.now) count`
+pub(crate) fn run_from(table: &[u8], count: u16, are_rising: bool, glyph: GlyphId) -> Run {
+    match first_range(table, count, are_rising, glyph) {
+        Some(row) => run_of(table, row),
+        None => Run {
+            first: 0,
+            end: u32::MAX,
+            value: 0,
+        },
+    }
+}
+
+/// The run of the glyphs of a range, and of those before it.
+///
+/// # Requires
+///
+/// - `row < range_count table.now`
+fn run_of(table: &[u8], row: usize) -> Run {
+    let first = match number_of(table, row, 0) {
+        Some(first) => u32::from(first),
+        None => u32::MAX,
+    };
+    Run {
+        first,
+        end: u32::from(number_of(table, row, 2).unwrap_or(0)) + 1,
+        value: number_of(table, row, 4).unwrap_or(0),
     }
 }

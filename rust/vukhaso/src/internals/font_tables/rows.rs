@@ -5,6 +5,9 @@
 use crate::font_tables::bytes::u16_at;
 use crate::numbers::Chunks;
 
+/// So many rows are soon looked through.
+pub(crate) const FEW_ROWS: u16 = 64;
+
 /// Rows of a font's table. A row reaches a key where its last key is not below it.
 ///
 /// # Proved

@@ -138,12 +138,21 @@ impl Summary for Digest {
         Digest::new()
     }
 
+    fn add_glyph(&mut self, glyph: u32) {
+        self.add(glyph);
+    }
+
     fn add_range(&mut self, first: u32, last: u32) {
         if first == last {
             self.add(first);
             return;
         }
         self.singles = with_rows(self.singles, first, last);
+        if first / 16 == last / 16 {
+            self.sixteens = with_row(self.sixteens, first / 16);
+            self.blocks = with_row(self.blocks, first / 128);
+            return;
+        }
         self.sixteens = with_rows(self.sixteens, first / 16, last / 16);
         self.blocks = with_rows(self.blocks, first / 128, last / 128);
     }

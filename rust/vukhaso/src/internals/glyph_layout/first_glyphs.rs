@@ -3,7 +3,7 @@
 //! The first 256 glyphs of a font, told apart, which a digest does not do.
 
 use crate::font_tables::coverage::Coverage;
-use crate::glyph_layout::digest::{Digest, has_row, with_all, with_rows};
+use crate::glyph_layout::digest::{Digest, has_row, with_all, with_row, with_rows};
 use crate::glyph_layout::summary::{Summary, summary_of};
 
 /// How many glyphs are told apart.
@@ -60,8 +60,20 @@ impl Summary for FirstGlyphs {
         FirstGlyphs { words: [0; 4] }
     }
 
+    fn add_glyph(&mut self, glyph: u32) {
+        if glyph < COUNT {
+            let word = glyph as usize / 64;
+            self.words[word] = with_row(self.words[word], glyph);
+        }
+    }
+
     fn add_range(&mut self, first: u32, last: u32) {
         if first >= COUNT {
+            return;
+        }
+        if first / 64 == last / 64 {
+            let word = first as usize / 64;
+            self.words[word] = with_rows(self.words[word], first, last);
             return;
         }
         self.words = [
@@ -94,6 +106,11 @@ impl Summary for Summaries {
             digest: Digest::new(),
             firsts: FirstGlyphs::none(),
         }
+    }
+
+    fn add_glyph(&mut self, glyph: u32) {
+        self.digest.add_glyph(glyph);
+        self.firsts.add_glyph(glyph);
     }
 
     fn add_range(&mut self, first: u32, last: u32) {

@@ -4,7 +4,6 @@
 
 use crate::font_tables::coverage::Coverage;
 use crate::glyph_layout::first_glyphs::{Summaries, summaries_of};
-use crate::glyph_layout::subtable::is_quick;
 use crate::memory::{AllocError, Vec};
 
 /// So many coverages are remembered at a time.
@@ -36,8 +35,9 @@ impl<'a> Summed<'a> {
 
 /// The coverage in these bytes, or one that covers nothing where it is slow to ask.
 pub(crate) fn quick_coverage(table: &[u8]) -> Coverage<'_> {
-    if is_quick(table, true) {
-        Coverage::new(table)
+    let coverage = Coverage::new(table);
+    if coverage.is_quick() {
+        coverage
     } else {
         Coverage::new(&[])
     }

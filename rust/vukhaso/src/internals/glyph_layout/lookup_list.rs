@@ -15,8 +15,8 @@ use crate::glyph_layout::lookup_props::LookupProps;
 use crate::glyph_layout::search::MAX_CONTEXT_LENGTH;
 use crate::glyph_layout::seconds::seconds_of;
 use crate::glyph_layout::subtable::{
-    Form, NextAsked, Subtable, behind_extension, behind_list, is_quick, positioning_form,
-    substitution_form, table_or_empty,
+    Form, NextAsked, Subtable, behind_extension, behind_list, positioning_form, substitution_form,
+    table_or_empty,
 };
 use crate::glyph_layout::summary::Summary;
 use crate::memory::{AllocError, Vec};
@@ -468,12 +468,13 @@ impl<'a> LookupList<'a> {
     /// The coverage that the offset at a place leads to, if there is one in this form. It is not
     /// remembered, since its glyphs are not summed up.
     fn coverage_if(&mut self, is_there: bool, table: &'a [u8], at: usize) -> Coverage<'a> {
-        let table = table_or_empty(table, at);
-        if is_there && self.pay_for(table) {
-            quick_coverage(table)
-        } else {
-            Coverage::new(&[])
+        if is_there {
+            let table = table_or_empty(table, at);
+            if self.pay_for(table) {
+                return quick_coverage(table);
+            }
         }
+        Coverage::new(&[])
     }
 
     /// The classes that the offset at a place leads to, if there are any in this form.
@@ -502,8 +503,8 @@ impl<'a> LookupList<'a> {
 
     /// The classes in these bytes, or none where there is no room, or they are slow to ask.
     fn classes(&mut self, table: &'a [u8]) -> ClassDefinition<'a> {
-        if self.pay_for(table) && is_quick(table, false) {
-            ClassDefinition::new(table)
+        if self.pay_for(table) {
+            quick_classes(table)
         } else {
             ClassDefinition::new(&[])
         }
@@ -522,6 +523,16 @@ impl<'a> LookupList<'a> {
         }
         self.room -= bytes;
         true
+    }
+}
+
+/// The classes in these bytes, or none where they are slow to ask.
+fn quick_classes(table: &[u8]) -> ClassDefinition<'_> {
+    let classes = ClassDefinition::new(table);
+    if classes.is_quick() {
+        classes
+    } else {
+        ClassDefinition::new(&[])
     }
 }
 

@@ -5,12 +5,8 @@
 use crate::font_tables::bytes::{table_at_16, table_at_32, u16_at};
 use crate::font_tables::class_definition::ClassDefinition;
 use crate::font_tables::coverage::Coverage;
-use crate::font_tables::rows::{Keys16, rises, rows_within};
 use crate::glyph_layout::digest::Digest;
 use crate::glyph_layout::first_glyphs::FirstGlyphs;
-
-/// So many rows are soon looked through.
-const FEW_ROWS: usize = 64;
 
 /// A subtable of a lookup.
 ///
@@ -196,22 +192,6 @@ pub fn behind_list(table: &[u8], at: usize) -> usize {
 #[inline]
 pub fn table_or_empty(table: &[u8], at: usize) -> &[u8] {
     table_at_16(table, at).unwrap_or(&[])
-}
-
-/// Whether a glyph is found soon in a table of glyphs or ranges: there are few rows, or they rise, as
-/// they have to. A list of classes has a row for each glyph.
-pub(crate) fn is_quick(table: &[u8], lists_glyphs: bool) -> bool {
-    let declared = usize::from(u16_at(table, 2).unwrap_or(0));
-    if declared <= FEW_ROWS {
-        return true;
-    }
-    let (start, size) = match u16_at(table, 0) {
-        Some(1) if lists_glyphs => (4, 2),
-        Some(2) => (6, 6),
-        _ => return true,
-    };
-    let count = rows_within(table, 4, size, declared);
-    count <= FEW_ROWS || rises(&Keys16 { table, start, size }, count)
 }
 
 /// The kind and the subtable after an extension.

@@ -2,9 +2,10 @@
 
 //! What tells at once of most glyphs that a coverage does not have them.
 
-use crate::font_tables::bytes::u16_at;
+use crate::font_tables::bytes::{part, u16_at};
 use crate::font_tables::coverage::Coverage;
 use crate::font_tables::rows::rows_within;
+use crate::numbers::Chunks;
 
 /// A summary of a set of glyphs. It may have glyphs that were never added, and has each glyph that was.
 ///
@@ -20,6 +21,16 @@ pub trait Summary: Sized {
     ///
     /// That it returns.
     fn none() -> Self;
+
+    /// Adds a glyph.
+    ///
+    /// # Proved
+    ///
+    /// ```text
+    /// ensures added { has self.new glyph ≡ true }
+    /// ensures kept { (other : ℕ) → has self.old other ≡ true → has self.new other ≡ true }
+    /// ```
+    fn add_glyph(&mut self, glyph: u32);
 
     /// Adds the glyphs from one to another, the last one too.
     ///
@@ -70,9 +81,10 @@ fn row_count(table: &[u8], size: usize) -> usize {
 /// The summary of the glyphs of a coverage that lists them.
 fn of_list<S: Summary>(table: &[u8]) -> S {
     let mut summary = S::none();
-    for row in 0..row_count(table, 2) {
-        if let Some(glyph) = u16_at(table, 4 + 2 * row) {
-            summary.add_range(u32::from(glyph), u32::from(glyph));
+    let (glyphs, _) = Chunks::<2>::split(part(table, 4, 2 * row_count(table, 2)));
+    for glyph in glyphs {
+        if let Some(glyph) = u16_at(glyph, 0) {
+            summary.add_glyph(u32::from(glyph));
         }
     }
     summary
@@ -81,20 +93,16 @@ fn of_list<S: Summary>(table: &[u8]) -> S {
 /// The summary of the glyphs of a coverage of ranges.
 fn of_ranges<S: Summary>(table: &[u8]) -> S {
     let mut summary = S::none();
-    for row in 0..row_count(table, 6) {
-        add_row(&mut summary, table, row);
+    let (ranges, _) = Chunks::<6>::split(part(table, 4, 6 * row_count(table, 6)));
+    for range in ranges {
+        add_row(&mut summary, range);
     }
     summary
 }
 
 /// Adds the glyphs of a range of a coverage.
-///
-/// # Requires
-///
-/// - `row < 65536`
-fn add_row<S: Summary>(summary: &mut S, table: &[u8], row: usize) {
-    debug_assert!(row < 65536);
-    if let (Some(first), Some(last)) = (u16_at(table, 4 + 6 * row), u16_at(table, 6 + 6 * row)) {
+fn add_row<S: Summary>(summary: &mut S, range: &[u8]) {
+    if let (Some(first), Some(last)) = (u16_at(range, 0), u16_at(range, 2)) {
         summary.add_range(u32::from(first), u32::from(last));
     }
 }

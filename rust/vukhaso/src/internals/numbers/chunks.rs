@@ -1,4 +1,5 @@
 use core::ops::Index;
+use core::slice::ChunksExact;
 
 /// The chunks of `N` bytes that lie whole in a slice, as `as_chunks` of std gives them since Rust 1.88.
 #[derive(Clone, Copy, Debug)]
@@ -31,5 +32,28 @@ impl<const N: usize> Index<usize> for Chunks<'_, N> {
 impl<'a, const N: usize, const COUNT: usize> From<&'a [[u8; N]; COUNT]> for Chunks<'a, N> {
     fn from(chunks: &'a [[u8; N]; COUNT]) -> Self {
         Chunks(chunks.as_flattened())
+    }
+}
+
+impl<'a, const N: usize> IntoIterator for Chunks<'a, N> {
+    type Item = &'a [u8; N];
+    type IntoIter = Each<'a, N>;
+
+    #[inline(always)]
+    fn into_iter(self) -> Each<'a, N> {
+        Each(self.0.chunks_exact(N))
+    }
+}
+
+/// The chunks of a slice, one after the other.
+#[derive(Clone, Debug)]
+pub struct Each<'a, const N: usize>(ChunksExact<'a, u8>);
+
+impl<'a, const N: usize> Iterator for Each<'a, N> {
+    type Item = &'a [u8; N];
+
+    #[inline(always)]
+    fn next(&mut self) -> Option<&'a [u8; N]> {
+        self.0.next()?.first_chunk()
     }
 }

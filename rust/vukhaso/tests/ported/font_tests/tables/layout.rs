@@ -46,6 +46,45 @@ fn a_covered_glyph_has_an_index() {
     }
 }
 
+/// A coverage that lists 65 glyphs, which rise but for the last one.
+fn coverage_with_last(last: u8) -> [u8; 134] {
+    let mut table = [0; 134];
+    table[1] = 1;
+    table[3] = 65;
+    for row in 0..64 {
+        table[5 + 2 * row] = row as u8;
+    }
+    table[133] = last;
+    table
+}
+
+/// A table of 65 ranges, whose last glyphs rise but for the last one.
+fn ranges_with_last(last: u8) -> [u8; 394] {
+    let mut table = [0; 394];
+    table[1] = 2;
+    table[3] = 65;
+    for row in 0..64 {
+        table[7 + 6 * row] = row as u8;
+    }
+    table[391] = last;
+    table
+}
+
+#[test]
+fn rows_that_rise_or_are_few_are_quick() {
+    let (rising, falling) = (coverage_with_last(64), coverage_with_last(62));
+    assert!(Coverage::new(&rising).is_quick());
+    assert!(!Coverage::new(&falling).is_quick());
+    assert!(Coverage::new(&falling[..132]).is_quick());
+    let (rising, falling) = (ranges_with_last(64), ranges_with_last(62));
+    assert!(Coverage::new(&rising).is_quick() && ClassDefinition::new(&rising).is_quick());
+    assert!(!Coverage::new(&falling).is_quick() && !ClassDefinition::new(&falling).is_quick());
+    assert!(
+        ClassDefinition::new(&falling[..388]).is_quick()
+            && ClassDefinition::new(CLASSES).is_quick()
+    );
+}
+
 /// The head of the specification's example of a class definition table of format 1: the glyphs from 0x32 on.
 const CLASSES: &[u8] = &[0, 1, 0, 0x32, 0, 4, 0, 0, 0, 1, 0, 0, 0, 2];
 
