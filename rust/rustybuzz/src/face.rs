@@ -1,14 +1,17 @@
 //! Fonts.
 
 use crate::Variation;
+use alloc::sync::Arc;
 use alloc::vec::Vec;
 use core::ops::{Deref, DerefMut};
 use ttf_parser::{NormalizedCoordinate, RawFace, VariationAxis};
 
-/// A font, as it is read by `ttf-parser` and as it is shaped with.
+/// A font, as it is read by `ttf-parser` and as it is shaped with. A copy shares what is read, until something else is chosen of one
+/// of the two.
+#[derive(Clone)]
 pub struct Face<'a> {
     parsed: ttf_parser::Face<'a>,
-    pub(crate) shaped: vukhaso::rustybuzz::Face<'a>,
+    pub(crate) shaped: Arc<vukhaso::rustybuzz::Face<'a>>,
     index: u32,
     chosen: Chosen,
 }
@@ -44,10 +47,36 @@ impl<'a> Face<'a> {
     fn of(parsed: ttf_parser::Face<'a>, data: &'a [u8], index: u32) -> Option<Self> {
         Some(Face {
             parsed,
-            shaped: vukhaso::rustybuzz::Face::from_slice(data, index)?,
+            shaped: Arc::new(vukhaso::rustybuzz::Face::from_slice(data, index)?),
             index,
             chosen: Chosen::default(),
         })
+    }
+
+    /// What is shaped with, of this face alone: where a copy shares it, it is read again.
+    fn own(&mut self) -> &mut vukhaso::rustybuzz::Face<'a> {
+        if Arc::get_mut(&mut self.shaped).is_none() {
+            self.shaped = Arc::new(self.read_again());
+        }
+        Arc::get_mut(&mut self.shaped).expect("nothing else has it")
+    }
+
+    /// The font again, with what is chosen of it.
+    fn read_again(&self) -> vukhaso::rustybuzz::Face<'a> {
+        let data = self.parsed.raw_face().data;
+        let Some(mut face) = vukhaso::rustybuzz::Face::from_slice(data, self.index) else {
+            panic!("out of memory");
+        };
+        for variation in &self.chosen.variations {
+            let tag = vukhaso::Tag(variation.tag.0);
+            if face.set_variation(tag, variation.value).is_err() {
+                panic!("out of memory");
+            }
+        }
+        let (x, y) = self.chosen.pixels.unwrap_or_default();
+        face.set_pixels_per_em(x, y);
+        face.set_points_per_em(self.chosen.points.unwrap_or_default());
+        face
     }
 
     /// How many units an em has.
@@ -59,13 +88,13 @@ impl<'a> Face<'a> {
     pub fn set_pixels_per_em(&mut self, pixels: Option<(u16, u16)>) {
         let (x, y) = pixels.unwrap_or_default();
         self.chosen.pixels = pixels;
-        self.shaped.set_pixels_per_em(x, y);
+        self.own().set_pixels_per_em(x, y);
     }
 
     /// Says how many points an em has, by which glyphs stand closer or farther apart, or that it is not known.
     pub fn set_points_per_em(&mut self, points: Option<f32>) {
         self.chosen.points = points;
-        self.shaped.set_points_per_em(points.unwrap_or_default());
+        self.own().set_points_per_em(points.unwrap_or_default());
     }
 
     /// Chooses values of axes, and leaves other axes as they are.
@@ -80,7 +109,7 @@ impl<'a> Face<'a> {
     fn choose(&mut self, variations: &[Variation]) {
         for variation in variations {
             let tag = vukhaso::Tag(variation.tag.0);
-            if self.shaped.set_variation(tag, variation.value).is_err() {
+            if self.own().set_variation(tag, variation.value).is_err() {
                 panic!("out of memory");
             }
             self.chosen
@@ -159,19 +188,6 @@ fn number_in(data: &[u8], face: &RawFace<'_>) -> u32 {
     (0..ttf_parser::fonts_in_collection(data).unwrap_or(1))
         .find(|index| RawFace::parse(data, *index).is_ok_and(|other| tables(&other) == own))
         .unwrap_or(0)
-}
-
-impl Clone for Face<'_> {
-    fn clone(&self) -> Self {
-        let data = self.parsed.raw_face().data;
-        let Some(mut copy) = Self::of(self.parsed.clone(), data, self.index) else {
-            panic!("out of memory");
-        };
-        copy.choose(&self.chosen.variations);
-        copy.set_pixels_per_em(self.chosen.pixels);
-        copy.set_points_per_em(self.chosen.points);
-        copy
-    }
 }
 
 impl<'a> Deref for Face<'a> {

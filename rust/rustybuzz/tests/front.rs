@@ -4,6 +4,7 @@ use rustybuzz::ttf_parser::Tag;
 use rustybuzz::{Face, Feature, Language, Script, SerializeFlags, UnicodeBuffer, Variation};
 
 const FONT: &[u8] = include_bytes!("../../../fonts/letters.ttf");
+const VARIABLE: &[u8] = include_bytes!("../../../fonts/variable.ttf");
 
 fn shaped(face: &Face, text: &str) -> String {
     let mut buffer = UnicodeBuffer::new();
@@ -28,6 +29,30 @@ fn extents_are_those_of_the_face() {
         glyphs.serialize(&face, SerializeFlags::GLYPH_EXTENTS),
         "a=0+410<21,409,360,-412>|b=1+420<22,412,370,-416>"
     );
+}
+
+/// Copies share a font, on other threads too, and what is chosen of one is not chosen of the others.
+#[test]
+fn what_is_chosen_of_a_copy_is_its_own() {
+    fn is_shared<T: Clone + Send + Sync>(_: &T) {}
+    let wght = |value| Variation {
+        tag: Tag::from_bytes(b"wght"),
+        value,
+    };
+    let face = Face::from_slice(VARIABLE, 0).unwrap();
+    is_shared(&face);
+    let plain = shaped(&face, "abc");
+    let mut bold = face.clone();
+    bold.set_variations(&[wght(900.0)]);
+    let heavy = shaped(&bold, "abc");
+    assert_ne!(heavy, plain);
+    let mut copy = bold.clone();
+    copy.set_pixels_per_em(Some((20, 20)));
+    assert_eq!(shaped(&copy, "abc"), heavy);
+    copy.set_variations(&[wght(400.0)]);
+    for (face, text) in [(&face, &plain), (&bold, &heavy), (&copy, &plain)] {
+        assert_eq!(&shaped(face, "abc"), text);
+    }
 }
 
 /// The environment names a variable font.
