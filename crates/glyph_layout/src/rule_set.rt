@@ -2,7 +2,7 @@
 
 ghost use Rattle.std.specs.Prelude.{◌≡◌, ◌<◌, ◌≤◌, ◌||◌, not, Bool, true, false, length, IfSome, IsTrue, None, Some, is_some};
 ghost use Rattle.font_tables.specs.Bytes.{table_at_16};
-ghost use Rattle.glyph_layout.specs.Asked.{IsLookahead, IsInput, IsTold};
+ghost use Rattle.glyph_layout.specs.Asked.{IsApart, IsLookahead, IsInput, IsTold};
 ghost use Rattle.glyph_layout.specs.Budget.{IsNotMore};
 ghost use Rattle.glyph_layout.specs.Context.{IsFitWithin};
 ghost use Rattle.glyph_layout.specs.Neighbours.{may_fit};
@@ -21,7 +21,7 @@ use crate::neighbours::{Beyond, Neighbours, looks_first, may_fit, seen_ahead};
 use crate::rule::{MatchFunctions, Rule, rule_in};
 use crate::search::{ApplyContext, Search};
 use crate::skipping_iterator::Skip;
-use crate::told::{Beside, Told};
+use crate::told::{Beside, Numbers, Told};
 use font_tables::bytes::{table_at_16, u16_at};
 use rb_glyph::hb_glyph_info_t;
 
@@ -205,8 +205,6 @@ fn known(seen: &Seen, beyond: &Beyond, search: &Search) -> usize {
 }
 
 /// The first rule from this number on that is not passed over by its bytes alone, or how many rules there are.
-#[inline(never)]
-#[tactic(auto, using(crate::proofs::RuleSetLemmas::first_steps))]
 fn first_unpassed(
     rules: &RuleSet,
     index: usize,
@@ -227,8 +225,88 @@ fn first_unpassed(
     ensures passed { first_rule _ctx.now rules.now.is_chained rules.now.match_functions rules.now.table.now index ≡ None
         → first_rule _ctx.now rules.now.is_chained rules.now.match_functions rules.now.table.now result ≡ None }
 {
+    match &seen.told {
+        Some(told) => {
+            match told.first_within(known) {
+                Some(first) => first_unparted(rules, index, count, first, seen, _ctx),
+                None => index,
+            }
+        }
+        None => first_unmissed(rules, index, count, seen, known, _ctx),
+    }
+}
+
+/// The same where the next glyph was looked at before the rules: it is this one in the numbers of rules.
+#[tactic(auto, using(crate::proofs::RuleSetLemmas::first_steps))]
+fn first_unparted(
+    rules: &RuleSet,
+    index: usize,
+    count: usize,
+    first: &Numbers,
+    _seen: &Seen,
+    _ctx: &ApplyContext,
+) -> usize
+    requires within { index ≤ count }
+    requires few { count < 65536 }
+    requires neighbours { (p : Pattern) → may_fit _seen.now.neighbours p
+        ≡ (not (looks_first _ctx.now rules.now.is_chained (rule_count rules.now.table.now)) || fits_next _ctx.now p) }
+    requires apart { IsApart _seen.now.neighbours rules.now.match_functions 0 first.now }
+    ensures from { index ≤ result }
+    ensures within { result ≤ count }
+    ensures passed { first_rule _ctx.now rules.now.is_chained rules.now.match_functions rules.now.table.now index ≡ None
+        → first_rule _ctx.now rules.now.is_chained rules.now.match_functions rules.now.table.now result ≡ None }
+{
     for at in index..count {
-        if !is_passed(rules, at, seen, known, _ctx) {
+        if !is_parted(rules, at, first, _seen, _ctx) {
+            return at;
+        }
+    }
+    count
+}
+
+/// Whether the rule of this number asks for another next glyph than this one.
+#[inline(always)]
+fn is_parted(
+    rules: &RuleSet,
+    index: usize,
+    first: &Numbers,
+    _seen: &Seen,
+    _ctx: &ApplyContext,
+) -> bool
+    requires few { index < 65536 }
+    requires neighbours { (p : Pattern) → may_fit _seen.now.neighbours p
+        ≡ (not (looks_first _ctx.now rules.now.is_chained (rule_count rules.now.table.now)) || fits_next _ctx.now p) }
+    requires apart { IsApart _seen.now.neighbours rules.now.match_functions 0 first.now }
+    ensures { IsTrue result
+        → rule_at _ctx.now rules.now.is_chained rules.now.match_functions rules.now.table.now index ≡ None }
+{
+    match table_within(rules.table, 2 + 2 * index) {
+        Some(table) => first.is_next_apart(table, rules.is_chained),
+        None => false,
+    }
+}
+
+/// The same where it was not.
+#[tactic(auto, using(crate::proofs::RuleSetLemmas::first_steps))]
+fn first_unmissed(
+    rules: &RuleSet,
+    index: usize,
+    count: usize,
+    seen: &Seen,
+    known: usize,
+    _ctx: &ApplyContext,
+) -> usize
+    requires within { index ≤ count }
+    requires few { count < 65536 }
+    requires input { IfSome seen.now.input (IsInput _ctx.now rules.now.match_functions) }
+    requires lookahead { IfSome seen.now.lookahead (IsLookahead _ctx.now rules.now.match_functions) }
+    ensures from { index ≤ result }
+    ensures within { result ≤ count }
+    ensures passed { first_rule _ctx.now rules.now.is_chained rules.now.match_functions rules.now.table.now index ≡ None
+        → first_rule _ctx.now rules.now.is_chained rules.now.match_functions rules.now.table.now result ≡ None }
+{
+    for at in index..count {
+        if !is_missed(rules, at, seen, known, _ctx) {
             return at;
         }
     }
@@ -237,11 +315,8 @@ fn first_unpassed(
 
 /// Whether the rule of this number asks for another glyph after the cursor, and glyphs are known to be looked at so far.
 #[inline(always)]
-fn is_passed(rules: &RuleSet, index: usize, seen: &Seen, known: usize, _ctx: &ApplyContext) -> bool
+fn is_missed(rules: &RuleSet, index: usize, seen: &Seen, known: usize, _ctx: &ApplyContext) -> bool
     requires few { index < 65536 }
-    requires neighbours { (p : Pattern) → may_fit seen.now.neighbours p
-        ≡ (not (looks_first _ctx.now rules.now.is_chained (rule_count rules.now.table.now)) || fits_next _ctx.now p) }
-    requires told { IfSome seen.now.told (IsTold seen.now.neighbours rules.now.match_functions) }
     requires input { IfSome seen.now.input (IsInput _ctx.now rules.now.match_functions) }
     requires lookahead { IfSome seen.now.lookahead (IsLookahead _ctx.now rules.now.match_functions) }
     ensures { IsTrue result
@@ -250,9 +325,6 @@ fn is_passed(rules: &RuleSet, index: usize, seen: &Seen, known: usize, _ctx: &Ap
     let Some(table) = table_within(rules.table, 2 + 2 * index) else {
         return false;
     };
-    if let Some(end) = told_apart(table, rules.is_chained, seen) {
-        return end <= known;
-    }
     match missed_by(table, rules.is_chained, seen) {
         Some(missed) => missed.end <= known,
         None => false,

@@ -60,7 +60,7 @@ impl Numbers {
 
     /// Whether the rule in these bytes asks for something else right after the cursor, as far as its first bytes tell.
     #[inline(always)]
-    fn is_next_apart(&self, table: &[u8], is_chained: bool) -> bool
+    pub(crate) fn is_next_apart(&self, table: &[u8], is_chained: bool) -> bool
         ensures { IsTrue result → (neighbours : Neighbours) → (m : MatchFunctions) → (p : Pattern) → IsApart neighbours m 0 self.now
             → rule_pattern is_chained m table.now ≡ Some p → may_fit neighbours p ≡ false }
     {
@@ -133,6 +133,17 @@ impl Told {
                 first,
                 second: None,
             }),
+        }
+    }
+
+    /// The first glyph, if glyphs are known to be looked at so far.
+    pub(crate) fn first_within(&self, known: usize) -> Option<&Numbers>
+        ensures { IfSome result (λ first. first.now ≡ self.now.first) }
+    {
+        if self.first.end <= known {
+            Some(&self.first)
+        } else {
+            None
         }
     }
 

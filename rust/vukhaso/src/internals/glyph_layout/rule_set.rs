@@ -11,7 +11,7 @@ use crate::glyph_layout::neighbours::{Beyond, Neighbours, looks_first, may_fit, 
 use crate::glyph_layout::rule::{MatchFunctions, Rule, rule_in};
 use crate::glyph_layout::search::{ApplyContext, Search};
 use crate::glyph_layout::skipping_iterator::Skip;
-use crate::glyph_layout::told::{Beside, Told};
+use crate::glyph_layout::told::{Beside, Numbers, Told};
 
 /// The rule, if it fits at the cursor.
 ///
@@ -189,7 +189,6 @@ fn known(seen: &Seen, beyond: &Beyond, search: &Search) -> usize {
 /// - `told: IfSome seen.now.told (IsTold seen.now.neighbours rules.now.match_functions)`
 /// - `input: IfSome seen.now.input (IsInput _ctx.now rules.now.match_functions)`
 /// - `lookahead: IfSome seen.now.lookahead (IsLookahead _ctx.now rules.now.match_functions)`
-#[inline(never)]
 fn first_unpassed(
     rules: &RuleSet,
     index: usize,
@@ -200,8 +199,84 @@ fn first_unpassed(
 ) -> usize {
     debug_assert!(index <= count);
     debug_assert!(count < 65536);
+    match &seen.told {
+        Some(told) => match told.first_within(known) {
+            Some(first) => first_unparted(rules, index, count, first, seen, _ctx),
+            None => index,
+        },
+        None => first_unmissed(rules, index, count, seen, known, _ctx),
+    }
+}
+
+/// The same where the next glyph was looked at before the rules: it is this one in the numbers of
+/// rules.
+///
+/// # Requires
+///
+/// - `within: index ≤ count`
+/// - `few: count < 65536`
+/// - `neighbours: (p : Pattern) → may_fit _seen.now.neighbours p ≡ (not (looks_first _ctx.now rules.now.is_chained (rule_count rules.now.table.now)) || fits_next _ctx.now p)`
+/// - `apart: IsApart _seen.now.neighbours rules.now.match_functions 0 first.now`
+fn first_unparted(
+    rules: &RuleSet,
+    index: usize,
+    count: usize,
+    first: &Numbers,
+    _seen: &Seen,
+    _ctx: &ApplyContext,
+) -> usize {
+    debug_assert!(index <= count);
+    debug_assert!(count < 65536);
     for at in index..count {
-        if !is_passed(rules, at, seen, known, _ctx) {
+        if !is_parted(rules, at, first, _seen, _ctx) {
+            return at;
+        }
+    }
+    count
+}
+
+/// Whether the rule of this number asks for another next glyph than this one.
+///
+/// # Requires
+///
+/// - `few: index < 65536`
+/// - `neighbours: (p : Pattern) → may_fit _seen.now.neighbours p ≡ (not (looks_first _ctx.now rules.now.is_chained (rule_count rules.now.table.now)) || fits_next _ctx.now p)`
+/// - `apart: IsApart _seen.now.neighbours rules.now.match_functions 0 first.now`
+#[inline(always)]
+fn is_parted(
+    rules: &RuleSet,
+    index: usize,
+    first: &Numbers,
+    _seen: &Seen,
+    _ctx: &ApplyContext,
+) -> bool {
+    debug_assert!(index < 65536);
+    match table_within(rules.table, 2 + 2 * index) {
+        Some(table) => first.is_next_apart(table, rules.is_chained),
+        None => false,
+    }
+}
+
+/// The same where it was not.
+///
+/// # Requires
+///
+/// - `within: index ≤ count`
+/// - `few: count < 65536`
+/// - `input: IfSome seen.now.input (IsInput _ctx.now rules.now.match_functions)`
+/// - `lookahead: IfSome seen.now.lookahead (IsLookahead _ctx.now rules.now.match_functions)`
+fn first_unmissed(
+    rules: &RuleSet,
+    index: usize,
+    count: usize,
+    seen: &Seen,
+    known: usize,
+    _ctx: &ApplyContext,
+) -> usize {
+    debug_assert!(index <= count);
+    debug_assert!(count < 65536);
+    for at in index..count {
+        if !is_missed(rules, at, seen, known, _ctx) {
             return at;
         }
     }
@@ -214,12 +289,10 @@ fn first_unpassed(
 /// # Requires
 ///
 /// - `few: index < 65536`
-/// - `neighbours: (p : Pattern) → may_fit seen.now.neighbours p ≡ (not (looks_first _ctx.now rules.now.is_chained (rule_count rules.now.table.now)) || fits_next _ctx.now p)`
-/// - `told: IfSome seen.now.told (IsTold seen.now.neighbours rules.now.match_functions)`
 /// - `input: IfSome seen.now.input (IsInput _ctx.now rules.now.match_functions)`
 /// - `lookahead: IfSome seen.now.lookahead (IsLookahead _ctx.now rules.now.match_functions)`
 #[inline(always)]
-fn is_passed(
+fn is_missed(
     rules: &RuleSet,
     index: usize,
     seen: &Seen,
@@ -230,9 +303,6 @@ fn is_passed(
     let Some(table) = table_within(rules.table, 2 + 2 * index) else {
         return false;
     };
-    if let Some(end) = told_apart(table, rules.is_chained, seen) {
-        return end <= known;
-    }
     match missed_by(table, rules.is_chained, seen) {
         Some(missed) => missed.end <= known,
         None => false,

@@ -51,7 +51,7 @@ impl Numbers {
     /// Whether the rule in these bytes asks for something else right after the cursor, as far as its first
     /// bytes tell.
     #[inline(always)]
-    fn is_next_apart(&self, table: &[u8], is_chained: bool) -> bool {
+    pub(crate) fn is_next_apart(&self, table: &[u8], is_chained: bool) -> bool {
         match asked_next(table, is_chained) {
             Some(asked) => self.is_other(&asked),
             None => false,
@@ -116,6 +116,15 @@ impl Told {
                 first,
                 second: None,
             }),
+        }
+    }
+
+    /// The first glyph, if glyphs are known to be looked at so far.
+    pub(crate) fn first_within(&self, known: usize) -> Option<&Numbers> {
+        if self.first.end <= known {
+            Some(&self.first)
+        } else {
+            None
         }
     }
 

@@ -1,6 +1,6 @@
 use Rattle.std.proofs.Common.{◌≡◌, ◌≤◌, None}
 use Rattle.glyph_layout.specs.RuleSet.{first_rule}
-use Rattle.glyph_layout.proofs.rule_set.first_unpassed.Given as goal
+use Rattle.glyph_layout.proofs.rule_set.first_unmissed.Given as goal
 
 -- none of the rules so far is taken
 abbrev pub invariant-loop-at : goal.invariant-loop-at
