@@ -1,26 +1,27 @@
 //! The rules of a set, of which the first that fits is taken.
 
-ghost use Rattle.std.specs.Prelude.{◌≡◌, ◌<◌, ◌≤◌, ◌||◌, not, Bool, true, false, length, IfSome, IsTrue, Some, is_some};
-ghost use Rattle.glyph_layout.specs.Asked.{IsLookahead, IsInput, IsTold};
+ghost use Rattle.std.specs.Prelude.{◌≡◌, ◌<◌, ◌≤◌, ◌||◌, not, Bool, true, false, length, IfSome, IsTrue, None, Some, is_some};
+ghost use Rattle.font_tables.specs.Bytes.{table_at_16};
+ghost use Rattle.glyph_layout.specs.Asked.{IsApart, IsLookahead, IsInput, IsTold};
 ghost use Rattle.glyph_layout.specs.Budget.{IsNotMore};
 ghost use Rattle.glyph_layout.specs.Context.{IsFitWithin};
 ghost use Rattle.glyph_layout.specs.Neighbours.{may_fit};
 ghost use Rattle.glyph_layout.specs.Pattern.{IsFitBy, IsFitOf, Pattern, pattern_fits, pattern_of, rule_fits, rule_pattern};
 ghost use Rattle.glyph_layout.specs.Rule.{AreMatchPositions, context_iterator, input_iterator, sequence_matcher};
-ghost use Rattle.glyph_layout.specs.RuleSet.{fits_next, looks_first, rule_at, rule_count, rule_of_set};
+ghost use Rattle.glyph_layout.specs.RuleSet.{first_rule, fits_next, looks_first, rule_at, rule_count, rule_of_set};
 ghost use Rattle.glyph_layout.specs.SkippingIterator.{skip_of};
 ghost use Rattle.glyph_layout.specs.declared.rule.MatchFunctions.{MatchFunctions};
 ghost use Rattle.glyph_layout.specs.declared.search.ApplyContext.{ApplyContext};
 ghost use Rattle.glyph_layout.specs.declared.skipping_iterator.Skip.TheVariants.{No};
 
-use crate::asked::{Asked, asked_at};
+use crate::asked::{Asked, asked_next};
 use crate::context::Fit;
 use crate::matching::{match_backtrack, match_input, match_lookahead};
 use crate::neighbours::{Beyond, Neighbours, looks_first, may_fit, seen_ahead};
 use crate::rule::{MatchFunctions, Rule, rule_in};
 use crate::search::{ApplyContext, Search};
 use crate::skipping_iterator::Skip;
-use crate::told::{Beside, Told};
+use crate::told::{Beside, Numbers, Told};
 use font_tables::bytes::{table_at_16, u16_at};
 use rb_glyph::hb_glyph_info_t;
 
@@ -169,7 +170,11 @@ pub(crate) fn first_fit<'a>(
     let count = usize::from(u16_at(rules.table, 0)?);
     let seen = seen_by(rules, count, ctx);
     let mut beyond = Beyond::new(&seen.neighbours, rules.is_chained);
-    for index in 0..count {
+    let mut index = first_unpassed(rules, 0, count, &seen, known(&seen, &beyond, search), ctx);
+    if !search.budget.pay_for(index) {
+        return None;
+    }
+    while index < count {
         if !search.budget.pay(1) {
             return None;
         }
@@ -179,9 +184,164 @@ pub(crate) fn first_fit<'a>(
                 ..found
             });
         }
+        let known = known(&seen, &beyond, search);
+        let next = first_unpassed(rules, index + 1, count, &seen, known, ctx);
+        if !search.budget.pay_for(next - (index + 1)) {
+            return None;
+        }
+        index = next;
     }
     search.reach.extend(ctx.out.len(), beyond.to);
     None
+}
+
+/// How far glyphs are known to be looked at.
+fn known(seen: &Seen, beyond: &Beyond, search: &Search) -> usize {
+    if seen.told.is_some() {
+        beyond.to
+    } else {
+        search.reach.to
+    }
+}
+
+/// The first rule from this number on that is not passed over by its bytes alone, or how many rules there are.
+fn first_unpassed(
+    rules: &RuleSet,
+    index: usize,
+    count: usize,
+    seen: &Seen,
+    known: usize,
+    _ctx: &ApplyContext,
+) -> usize
+    requires within { index ≤ count }
+    requires few { count < 65536 }
+    requires neighbours { (p : Pattern) → may_fit seen.now.neighbours p
+        ≡ (not (looks_first _ctx.now rules.now.is_chained (rule_count rules.now.table.now)) || fits_next _ctx.now p) }
+    requires told { IfSome seen.now.told (IsTold seen.now.neighbours rules.now.match_functions) }
+    requires input { IfSome seen.now.input (IsInput _ctx.now rules.now.match_functions) }
+    requires lookahead { IfSome seen.now.lookahead (IsLookahead _ctx.now rules.now.match_functions) }
+    ensures from { index ≤ result }
+    ensures within { result ≤ count }
+    ensures passed { first_rule _ctx.now rules.now.is_chained rules.now.match_functions rules.now.table.now index ≡ None
+        → first_rule _ctx.now rules.now.is_chained rules.now.match_functions rules.now.table.now result ≡ None }
+{
+    match &seen.told {
+        Some(told) => {
+            match told.first_within(known) {
+                Some(first) => first_unparted(rules, index, count, first, seen, _ctx),
+                None => index,
+            }
+        }
+        None => first_unmissed(rules, index, count, seen, known, _ctx),
+    }
+}
+
+/// The same where the next glyph was looked at before the rules: it is this one in the numbers of rules.
+#[tactic(auto, using(crate::proofs::RuleSetLemmas::first_steps))]
+fn first_unparted(
+    rules: &RuleSet,
+    index: usize,
+    count: usize,
+    first: &Numbers,
+    _seen: &Seen,
+    _ctx: &ApplyContext,
+) -> usize
+    requires within { index ≤ count }
+    requires few { count < 65536 }
+    requires neighbours { (p : Pattern) → may_fit _seen.now.neighbours p
+        ≡ (not (looks_first _ctx.now rules.now.is_chained (rule_count rules.now.table.now)) || fits_next _ctx.now p) }
+    requires apart { IsApart _seen.now.neighbours rules.now.match_functions 0 first.now }
+    ensures from { index ≤ result }
+    ensures within { result ≤ count }
+    ensures passed { first_rule _ctx.now rules.now.is_chained rules.now.match_functions rules.now.table.now index ≡ None
+        → first_rule _ctx.now rules.now.is_chained rules.now.match_functions rules.now.table.now result ≡ None }
+{
+    for at in index..count {
+        if !is_parted(rules, at, first, _seen, _ctx) {
+            return at;
+        }
+    }
+    count
+}
+
+/// Whether the rule of this number asks for another next glyph than this one.
+#[inline(always)]
+fn is_parted(
+    rules: &RuleSet,
+    index: usize,
+    first: &Numbers,
+    _seen: &Seen,
+    _ctx: &ApplyContext,
+) -> bool
+    requires few { index < 65536 }
+    requires neighbours { (p : Pattern) → may_fit _seen.now.neighbours p
+        ≡ (not (looks_first _ctx.now rules.now.is_chained (rule_count rules.now.table.now)) || fits_next _ctx.now p) }
+    requires apart { IsApart _seen.now.neighbours rules.now.match_functions 0 first.now }
+    ensures { IsTrue result
+        → rule_at _ctx.now rules.now.is_chained rules.now.match_functions rules.now.table.now index ≡ None }
+{
+    match table_within(rules.table, 2 + 2 * index) {
+        Some(table) => first.is_next_apart(table, rules.is_chained),
+        None => false,
+    }
+}
+
+/// The same where it was not.
+#[tactic(auto, using(crate::proofs::RuleSetLemmas::first_steps))]
+fn first_unmissed(
+    rules: &RuleSet,
+    index: usize,
+    count: usize,
+    seen: &Seen,
+    known: usize,
+    _ctx: &ApplyContext,
+) -> usize
+    requires within { index ≤ count }
+    requires few { count < 65536 }
+    requires input { IfSome seen.now.input (IsInput _ctx.now rules.now.match_functions) }
+    requires lookahead { IfSome seen.now.lookahead (IsLookahead _ctx.now rules.now.match_functions) }
+    ensures from { index ≤ result }
+    ensures within { result ≤ count }
+    ensures passed { first_rule _ctx.now rules.now.is_chained rules.now.match_functions rules.now.table.now index ≡ None
+        → first_rule _ctx.now rules.now.is_chained rules.now.match_functions rules.now.table.now result ≡ None }
+{
+    for at in index..count {
+        if !is_missed(rules, at, seen, known, _ctx) {
+            return at;
+        }
+    }
+    count
+}
+
+/// Whether the rule of this number asks for another glyph after the cursor, and glyphs are known to be looked at so far.
+#[inline(always)]
+fn is_missed(rules: &RuleSet, index: usize, seen: &Seen, known: usize, _ctx: &ApplyContext) -> bool
+    requires few { index < 65536 }
+    requires input { IfSome seen.now.input (IsInput _ctx.now rules.now.match_functions) }
+    requires lookahead { IfSome seen.now.lookahead (IsLookahead _ctx.now rules.now.match_functions) }
+    ensures { IsTrue result
+        → rule_at _ctx.now rules.now.is_chained rules.now.match_functions rules.now.table.now index ≡ None }
+{
+    let Some(table) = table_within(rules.table, 2 + 2 * index) else {
+        return false;
+    };
+    match missed_by(table, rules.is_chained, seen) {
+        Some(missed) => missed.end <= known,
+        None => false,
+    }
+}
+
+/// The table that the offset at a place leads to, if it lies in this one.
+#[inline(always)]
+#[tactic(auto, unfolding(font_tables::specs::Bytes::table_at_16))]
+fn table_within(set: &[u8], at: usize) -> Option<&[u8]>
+    ensures { IfSome result (λ table. table_at_16 set.now at ≡ Some table.now) }
+{
+    let offset = u16_at(set, at)?;
+    if offset == 0 {
+        return None;
+    }
+    set.get(usize::from(offset)..)
 }
 
 /// The rule of this number in a set, if it fits. One that asks for other glyphs after the cursor is not made.
@@ -209,7 +369,9 @@ fn fit_at<'a>(
         ≡ is_some (rule_at ctx.now rules.now.is_chained rules.now.match_functions rules.now.table.now index) }
 {
     let table = table_at_16(rules.table, 2 + 2 * index)?;
-    if is_told_apart(table, rules.is_chained, seen, beyond) {
+    if let Some(end) = told_apart(table, rules.is_chained, seen) {
+        let _whole = rule_in(table, &rules.match_functions, rules.is_chained)?;
+        beyond.to = beyond.to.max(end);
         return None;
     }
     if let Some(missed) = missed_by(table, rules.is_chained, seen) {
@@ -232,15 +394,15 @@ pub(crate) fn counts_around(ctx: &ApplyContext, glyph: &hb_glyph_info_t) -> bool
     ctx.context.skip(glyph) == Skip::No
 }
 
-/// Whether the rule in these bytes asks for other glyphs than the next two, and that is known to be looked at so far.
+/// How far glyphs were looked at, where the rule in these bytes asks for other glyphs than the next two.
 #[inline(always)]
-fn is_told_apart(table: &[u8], is_chained: bool, seen: &Seen, beyond: &Beyond) -> bool
-    ensures { IsTrue result → (m : MatchFunctions) → (p : Pattern) → IfSome seen.now.told (IsTold seen.now.neighbours m)
+fn told_apart(table: &[u8], is_chained: bool, seen: &Seen) -> Option<usize>
+    ensures { is_some result ≡ true → (m : MatchFunctions) → (p : Pattern) → IfSome seen.now.told (IsTold seen.now.neighbours m)
         → rule_pattern is_chained m table.now ≡ Some p → may_fit seen.now.neighbours p ≡ false }
 {
     match &seen.told {
-        Some(told) => told.is_passed(table, is_chained, beyond),
-        None => false,
+        Some(told) => told.apart(table, is_chained),
+        None => None,
     }
 }
 
@@ -250,7 +412,7 @@ fn missed_by(table: &[u8], is_chained: bool, seen: &Seen) -> Option<Beside>
     ensures { IfSome result (λ beside. (s : ApplyContext) → (m : MatchFunctions) → IfSome seen.now.input (IsInput s m)
         → IfSome seen.now.lookahead (IsLookahead s m) → rule_fits s (rule_pattern is_chained m table.now) ≡ false) }
 {
-    match asked_at(table, is_chained, 0)? {
+    match asked_next(table, is_chained)? {
         Asked::Input(asked) => seen.input?.other_than(asked),
         Asked::Lookahead(asked) => seen.lookahead?.other_than(asked),
     }

@@ -1,6 +1,6 @@
 //! The next glyphs in the numbers of rules, found out once for all rules of a set.
 
-ghost use Rattle.std.specs.Prelude.{◌≡◌, ◌≢◌, ◌<◌, length, IfSome, IsTrue, Some, false};
+ghost use Rattle.std.specs.Prelude.{◌≡◌, ◌≢◌, ◌<◌, length, IfSome, IsTrue, Some, is_some, true, false};
 ghost use Rattle.glyph_layout.specs.Asked.{AreNumbersOf, IsApart, IsBeside, IsNumberOf, IsTold, is_other};
 ghost use Rattle.glyph_layout.specs.Neighbours.{may_fit};
 ghost use Rattle.glyph_layout.specs.Pattern.{Pattern, rule_pattern};
@@ -8,9 +8,9 @@ ghost use Rattle.glyph_layout.specs.declared.neighbours.Neighbours.{Neighbours};
 ghost use Rattle.glyph_layout.specs.declared.neighbours.Neighbours.TheVariants.{Seen};
 ghost use Rattle.glyph_layout.specs.declared.rule.MatchFunctions.{MatchFunctions};
 
-use crate::asked::{Asked, asked_at};
+use crate::asked::{Asked, asked_at, asked_next};
 use crate::matcher::{Matcher, class_of};
-use crate::neighbours::{Beyond, NO_GLYPH, Neighbours, Next};
+use crate::neighbours::{NO_GLYPH, Neighbours, Next};
 use crate::rule::{MatchFunction, MatchFunctions};
 use crate::skipping_iterator::{Found, Skip, SkippingIterator};
 use rb_glyph::hb_glyph_info_t;
@@ -58,8 +58,19 @@ impl Numbers {
         }
     }
 
-    /// Whether the rule in these bytes asks for something else at this number after the cursor.
+    /// Whether the rule in these bytes asks for something else right after the cursor, as far as its first bytes tell.
     #[inline(always)]
+    pub(crate) fn is_next_apart(&self, table: &[u8], is_chained: bool) -> bool
+        ensures { IsTrue result → (neighbours : Neighbours) → (m : MatchFunctions) → (p : Pattern) → IsApart neighbours m 0 self.now
+            → rule_pattern is_chained m table.now ≡ Some p → may_fit neighbours p ≡ false }
+    {
+        match asked_next(table, is_chained) {
+            Some(asked) => self.is_other(&asked),
+            None => false,
+        }
+    }
+
+    /// Whether the rule in these bytes asks for something else at this number after the cursor.
     fn is_apart(&self, table: &[u8], is_chained: bool, number: usize) -> bool
         requires { number < 2 }
         ensures { IsTrue result → (neighbours : Neighbours) → (m : MatchFunctions) → (p : Pattern) → IsApart neighbours m number self.now
@@ -125,18 +136,35 @@ impl Told {
         }
     }
 
-    /// Whether the rule in these bytes asks for other glyphs, and that is known to be looked at so far.
+    /// The first glyph, if glyphs are known to be looked at so far.
+    pub(crate) fn first_within(&self, known: usize) -> Option<&Numbers>
+        ensures { IfSome result (λ first. first.now ≡ self.now.first) }
+    {
+        if self.first.end <= known {
+            Some(&self.first)
+        } else {
+            None
+        }
+    }
+
+    /// How far glyphs were looked at, where the rule in these bytes asks for other ones.
     #[inline(always)]
-    pub(crate) fn is_passed(&self, table: &[u8], is_chained: bool, beyond: &Beyond) -> bool
-        ensures { IsTrue result → (neighbours : Neighbours) → (m : MatchFunctions) → (p : Pattern) → IsTold neighbours m self.now
+    pub(crate) fn apart(&self, table: &[u8], is_chained: bool) -> Option<usize>
+        ensures { is_some result ≡ true → (neighbours : Neighbours) → (m : MatchFunctions) → (p : Pattern) → IsTold neighbours m self.now
             → rule_pattern is_chained m table.now ≡ Some p → may_fit neighbours p ≡ false }
     {
-        if self.first.is_apart(table, is_chained, 0) {
-            return beyond.to != 0 || self.first.end == 0;
+        if self.first.is_next_apart(table, is_chained) {
+            return Some(self.first.end);
         }
         match self.second {
-            Some(second) if beyond.to == second.end => second.is_apart(table, is_chained, 1),
-            _ => false,
+            Some(second) => {
+                if second.is_apart(table, is_chained, 1) {
+                    Some(second.end)
+                } else {
+                    None
+                }
+            }
+            None => None,
         }
     }
 }

@@ -1,4 +1,4 @@
-use Rattle.std.proofs.Common.{◌≡◌, ◌<◌, None}
+use Rattle.std.proofs.Common.{◌≡◌, ◌<◌, ◌≤◌, ◌-◌, None}
 use Rattle.glyph_layout.specs.Budget.{IsNotMore}
 use Rattle.glyph_layout.specs.RuleSet.{first_rule}
 use Rattle.glyph_layout.proofs.rule_set.first_fit.Given as goal
@@ -6,4 +6,8 @@ use Rattle.glyph_layout.proofs.rule_set.first_fit.Given as goal
 abbrev pub invariant-loop-index : goal.invariant-loop-index
 invariant-loop-index l =
     IsNotMore l.fn.search.budget l.search.budget
+    × (l.index ≤ l.count)
     × (0 < l.search.budget.steps → first_rule l.ctx l.rules.is_chained l.rules.match_functions l.rules.table.now l.index ≡ None)
+
+abbrev pub decreases-loop-index : goal.decreases-loop-index
+decreases-loop-index l = l.count - l.index

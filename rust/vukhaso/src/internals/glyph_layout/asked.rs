@@ -30,6 +30,60 @@ pub(crate) fn asked_at(table: &[u8], is_chained: bool, number: usize) -> Option<
     }
 }
 
+/// What the rule in these bytes asks of the glyph after the cursor, where its first bytes tell that:
+/// they are read at once.
+#[inline(always)]
+pub(crate) fn asked_next(table: &[u8], is_chained: bool) -> Option<Asked> {
+    if is_chained {
+        chained_next(table)
+    } else {
+        plain_next(table)
+    }
+}
+
+/// What a rule without context asks of the next glyph.
+#[inline(always)]
+fn plain_next(table: &[u8]) -> Option<Asked> {
+    let (input, _records, asked) = three_at(table, 0)?;
+    if 1 < input && usize::from(input) <= MAX_CONTEXT_LENGTH {
+        Some(Asked::Input(asked))
+    } else {
+        None
+    }
+}
+
+/// What a rule with context asks of the next glyph.
+#[inline(always)]
+fn chained_next(table: &[u8]) -> Option<Asked> {
+    let input_at = 2 + 2 * usize::from(u16_at(table, 0)?);
+    let (input, second, third) = three_at(table, input_at)?;
+    if 1 < input {
+        if usize::from(input) <= MAX_CONTEXT_LENGTH {
+            Some(Asked::Input(second))
+        } else {
+            None
+        }
+    } else if 0 < second {
+        Some(Asked::Lookahead(third))
+    } else {
+        None
+    }
+}
+
+/// The three numbers of 16 bits from a place on.
+#[inline(always)]
+fn three_at(table: &[u8], at: usize) -> Option<(u16, u16, u16)> {
+    match table.get(at..)? {
+        [a, b, c, d, e, f, ..] => {
+            let first = u16::from(*a) * 256 + u16::from(*b);
+            let second = u16::from(*c) * 256 + u16::from(*d);
+            let third = u16::from(*e) * 256 + u16::from(*f);
+            Some((first, second, third))
+        }
+        _ => None,
+    }
+}
+
 /// What a rule without context asks for.
 ///
 /// # Requires

@@ -4,14 +4,14 @@
 
 use crate::font_tables::bytes::{table_at_16, u16_at};
 use crate::glyph::hb_glyph_info_t;
-use crate::glyph_layout::asked::{Asked, asked_at};
+use crate::glyph_layout::asked::{Asked, asked_next};
 use crate::glyph_layout::context::Fit;
 use crate::glyph_layout::matching::{match_backtrack, match_input, match_lookahead};
 use crate::glyph_layout::neighbours::{Beyond, Neighbours, looks_first, may_fit, seen_ahead};
 use crate::glyph_layout::rule::{MatchFunctions, Rule, rule_in};
 use crate::glyph_layout::search::{ApplyContext, Search};
 use crate::glyph_layout::skipping_iterator::Skip;
-use crate::glyph_layout::told::{Beside, Told};
+use crate::glyph_layout::told::{Beside, Numbers, Told};
 
 /// The rule, if it fits at the cursor.
 ///
@@ -144,7 +144,11 @@ pub(crate) fn first_fit<'a>(
     let count = usize::from(u16_at(rules.table, 0)?);
     let seen = seen_by(rules, count, ctx);
     let mut beyond = Beyond::new(&seen.neighbours, rules.is_chained);
-    for index in 0..count {
+    let mut index = first_unpassed(rules, 0, count, &seen, known(&seen, &beyond, search), ctx);
+    if !search.budget.pay_for(index) {
+        return None;
+    }
+    while index < count {
         if !search.budget.pay(1) {
             return None;
         }
@@ -154,9 +158,165 @@ pub(crate) fn first_fit<'a>(
                 ..found
             });
         }
+        let known = known(&seen, &beyond, search);
+        let next = first_unpassed(rules, index + 1, count, &seen, known, ctx);
+        if !search.budget.pay_for(next - (index + 1)) {
+            return None;
+        }
+        index = next;
     }
     search.reach.extend(ctx.out.len(), beyond.to);
     None
+}
+
+/// How far glyphs are known to be looked at.
+fn known(seen: &Seen, beyond: &Beyond, search: &Search) -> usize {
+    if seen.told.is_some() {
+        beyond.to
+    } else {
+        search.reach.to
+    }
+}
+
+/// The first rule from this number on that is not passed over by its bytes alone, or how many rules
+/// there are.
+///
+/// # Requires
+///
+/// - `within: index ≤ count`
+/// - `few: count < 65536`
+/// - `neighbours: (p : Pattern) → may_fit seen.now.neighbours p ≡ (not (looks_first _ctx.now rules.now.is_chained (rule_count rules.now.table.now)) || fits_next _ctx.now p)`
+/// - `told: IfSome seen.now.told (IsTold seen.now.neighbours rules.now.match_functions)`
+/// - `input: IfSome seen.now.input (IsInput _ctx.now rules.now.match_functions)`
+/// - `lookahead: IfSome seen.now.lookahead (IsLookahead _ctx.now rules.now.match_functions)`
+fn first_unpassed(
+    rules: &RuleSet,
+    index: usize,
+    count: usize,
+    seen: &Seen,
+    known: usize,
+    _ctx: &ApplyContext,
+) -> usize {
+    debug_assert!(index <= count);
+    debug_assert!(count < 65536);
+    match &seen.told {
+        Some(told) => match told.first_within(known) {
+            Some(first) => first_unparted(rules, index, count, first, seen, _ctx),
+            None => index,
+        },
+        None => first_unmissed(rules, index, count, seen, known, _ctx),
+    }
+}
+
+/// The same where the next glyph was looked at before the rules: it is this one in the numbers of
+/// rules.
+///
+/// # Requires
+///
+/// - `within: index ≤ count`
+/// - `few: count < 65536`
+/// - `neighbours: (p : Pattern) → may_fit _seen.now.neighbours p ≡ (not (looks_first _ctx.now rules.now.is_chained (rule_count rules.now.table.now)) || fits_next _ctx.now p)`
+/// - `apart: IsApart _seen.now.neighbours rules.now.match_functions 0 first.now`
+fn first_unparted(
+    rules: &RuleSet,
+    index: usize,
+    count: usize,
+    first: &Numbers,
+    _seen: &Seen,
+    _ctx: &ApplyContext,
+) -> usize {
+    debug_assert!(index <= count);
+    debug_assert!(count < 65536);
+    for at in index..count {
+        if !is_parted(rules, at, first, _seen, _ctx) {
+            return at;
+        }
+    }
+    count
+}
+
+/// Whether the rule of this number asks for another next glyph than this one.
+///
+/// # Requires
+///
+/// - `few: index < 65536`
+/// - `neighbours: (p : Pattern) → may_fit _seen.now.neighbours p ≡ (not (looks_first _ctx.now rules.now.is_chained (rule_count rules.now.table.now)) || fits_next _ctx.now p)`
+/// - `apart: IsApart _seen.now.neighbours rules.now.match_functions 0 first.now`
+#[inline(always)]
+fn is_parted(
+    rules: &RuleSet,
+    index: usize,
+    first: &Numbers,
+    _seen: &Seen,
+    _ctx: &ApplyContext,
+) -> bool {
+    debug_assert!(index < 65536);
+    match table_within(rules.table, 2 + 2 * index) {
+        Some(table) => first.is_next_apart(table, rules.is_chained),
+        None => false,
+    }
+}
+
+/// The same where it was not.
+///
+/// # Requires
+///
+/// - `within: index ≤ count`
+/// - `few: count < 65536`
+/// - `input: IfSome seen.now.input (IsInput _ctx.now rules.now.match_functions)`
+/// - `lookahead: IfSome seen.now.lookahead (IsLookahead _ctx.now rules.now.match_functions)`
+fn first_unmissed(
+    rules: &RuleSet,
+    index: usize,
+    count: usize,
+    seen: &Seen,
+    known: usize,
+    _ctx: &ApplyContext,
+) -> usize {
+    debug_assert!(index <= count);
+    debug_assert!(count < 65536);
+    for at in index..count {
+        if !is_missed(rules, at, seen, known, _ctx) {
+            return at;
+        }
+    }
+    count
+}
+
+/// Whether the rule of this number asks for another glyph after the cursor, and glyphs are known to be
+/// looked at so far.
+///
+/// # Requires
+///
+/// - `few: index < 65536`
+/// - `input: IfSome seen.now.input (IsInput _ctx.now rules.now.match_functions)`
+/// - `lookahead: IfSome seen.now.lookahead (IsLookahead _ctx.now rules.now.match_functions)`
+#[inline(always)]
+fn is_missed(
+    rules: &RuleSet,
+    index: usize,
+    seen: &Seen,
+    known: usize,
+    _ctx: &ApplyContext,
+) -> bool {
+    debug_assert!(index < 65536);
+    let Some(table) = table_within(rules.table, 2 + 2 * index) else {
+        return false;
+    };
+    match missed_by(table, rules.is_chained, seen) {
+        Some(missed) => missed.end <= known,
+        None => false,
+    }
+}
+
+/// The table that the offset at a place leads to, if it lies in this one.
+#[inline(always)]
+fn table_within(set: &[u8], at: usize) -> Option<&[u8]> {
+    let offset = u16_at(set, at)?;
+    if offset == 0 {
+        return None;
+    }
+    set.get(usize::from(offset)..)
 }
 
 /// The rule of this number in a set, if it fits. One that asks for other glyphs after the cursor is not
@@ -180,7 +340,9 @@ fn fit_at<'a>(
 ) -> Option<Fit<'a>> {
     debug_assert!(index < 65536);
     let table = table_at_16(rules.table, 2 + 2 * index)?;
-    if is_told_apart(table, rules.is_chained, seen, beyond) {
+    if let Some(end) = told_apart(table, rules.is_chained, seen) {
+        let _whole = rule_in(table, &rules.match_functions, rules.is_chained)?;
+        beyond.to = beyond.to.max(end);
         return None;
     }
     if let Some(missed) = missed_by(table, rules.is_chained, seen) {
@@ -200,20 +362,20 @@ pub(crate) fn counts_around(ctx: &ApplyContext, glyph: &hb_glyph_info_t) -> bool
     ctx.context.skip(glyph) == Skip::No
 }
 
-/// Whether the rule in these bytes asks for other glyphs than the next two, and that is known to be
-/// looked at so far.
+/// How far glyphs were looked at, where the rule in these bytes asks for other glyphs than the next
+/// two.
 #[inline(always)]
-fn is_told_apart(table: &[u8], is_chained: bool, seen: &Seen, beyond: &Beyond) -> bool {
+fn told_apart(table: &[u8], is_chained: bool, seen: &Seen) -> Option<usize> {
     match &seen.told {
-        Some(told) => told.is_passed(table, is_chained, beyond),
-        None => false,
+        Some(told) => told.apart(table, is_chained),
+        None => None,
     }
 }
 
 /// What stands right after the cursor, where the rule in these bytes asks for something else there.
 #[inline(always)]
 fn missed_by(table: &[u8], is_chained: bool, seen: &Seen) -> Option<Beside> {
-    match asked_at(table, is_chained, 0)? {
+    match asked_next(table, is_chained)? {
         Asked::Input(asked) => seen.input?.other_than(asked),
         Asked::Lookahead(asked) => seen.lookahead?.other_than(asked),
     }

@@ -3,9 +3,9 @@
 //! The next glyphs in the numbers of rules, found out once for all rules of a set.
 
 use crate::glyph::hb_glyph_info_t;
-use crate::glyph_layout::asked::{Asked, asked_at};
+use crate::glyph_layout::asked::{Asked, asked_at, asked_next};
 use crate::glyph_layout::matcher::{Matcher, class_of};
-use crate::glyph_layout::neighbours::{Beyond, NO_GLYPH, Neighbours, Next};
+use crate::glyph_layout::neighbours::{NO_GLYPH, Neighbours, Next};
 use crate::glyph_layout::rule::{MatchFunction, MatchFunctions};
 use crate::glyph_layout::skipping_iterator::{Found, Skip, SkippingIterator};
 
@@ -48,12 +48,21 @@ impl Numbers {
         }
     }
 
+    /// Whether the rule in these bytes asks for something else right after the cursor, as far as its first
+    /// bytes tell.
+    #[inline(always)]
+    pub(crate) fn is_next_apart(&self, table: &[u8], is_chained: bool) -> bool {
+        match asked_next(table, is_chained) {
+            Some(asked) => self.is_other(&asked),
+            None => false,
+        }
+    }
+
     /// Whether the rule in these bytes asks for something else at this number after the cursor.
     ///
     /// # Requires
     ///
     /// - `number < 2`
-    #[inline(always)]
     fn is_apart(&self, table: &[u8], is_chained: bool, number: usize) -> bool {
         debug_assert!(number < 2);
         match asked_at(table, is_chained, number) {
@@ -110,15 +119,30 @@ impl Told {
         }
     }
 
-    /// Whether the rule in these bytes asks for other glyphs, and that is known to be looked at so far.
+    /// The first glyph, if glyphs are known to be looked at so far.
+    pub(crate) fn first_within(&self, known: usize) -> Option<&Numbers> {
+        if self.first.end <= known {
+            Some(&self.first)
+        } else {
+            None
+        }
+    }
+
+    /// How far glyphs were looked at, where the rule in these bytes asks for other ones.
     #[inline(always)]
-    pub(crate) fn is_passed(&self, table: &[u8], is_chained: bool, beyond: &Beyond) -> bool {
-        if self.first.is_apart(table, is_chained, 0) {
-            return beyond.to != 0 || self.first.end == 0;
+    pub(crate) fn apart(&self, table: &[u8], is_chained: bool) -> Option<usize> {
+        if self.first.is_next_apart(table, is_chained) {
+            return Some(self.first.end);
         }
         match self.second {
-            Some(second) if beyond.to == second.end => second.is_apart(table, is_chained, 1),
-            _ => false,
+            Some(second) => {
+                if second.is_apart(table, is_chained, 1) {
+                    Some(second.end)
+                } else {
+                    None
+                }
+            }
+            None => None,
         }
     }
 }

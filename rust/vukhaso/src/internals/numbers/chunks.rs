@@ -16,7 +16,10 @@ impl<'a, const N: usize> Chunks<'a, N> {
     /// The chunk of this number.
     #[inline(always)]
     pub fn get(&self, row: usize) -> Option<&'a [u8; N]> {
-        self.0.get(row.checked_mul(N)?..)?.first_chunk()
+        if row >= usize::MAX / N {
+            return None;
+        }
+        self.0.get(row * N..row * N + N)?.first_chunk()
     }
 }
 
