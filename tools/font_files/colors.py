@@ -79,7 +79,7 @@ PAINTS = [
     layers(0, MANY),
     layers(OWN, 200),
     made(11, 1),  # E01E: a glyph with no paint
-    made(11, 0x1000),
+    composite(3, moved(40, -30, made(11, len(LETTERS) + 0x1F)), glyph(A)),  # E01F: itself, moved
     made(11, 0x1001),  # E020: to be replaced by glyphs with paints
     made(11, 0x1002),
     made(11, 0x1003),
@@ -118,7 +118,7 @@ COUNT = FIRST + len(PAINTS) + len(OLD)
 
 def base_paints():
     """The paints, of which three are of other glyphs."""
-    at = {0x1000: FIRST + 0x1F, 0x1001: FIRST + 0x21, 0x1002: FIRST + 0x20, 0x1003: FIRST + 0x3B}
+    at = {0x1001: FIRST + 0x21, 0x1002: FIRST + 0x20, 0x1003: FIRST + 0x3B}
     found = [made(11, at[int.from_bytes(it[1:3], "big")]) if it[0] == 11 and int.from_bytes(it[1:3], "big") in at else it for it in PAINTS]
     rows = [item for number, it in enumerate(found) for item in (FIRST + number, ot.Offset(it, 4))]
     return ot.table(ot.long_numbers(len(found)), *rows)

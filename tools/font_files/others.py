@@ -80,6 +80,7 @@ HINTED = {
     "h": "40 hmoveto 10 20 30 40 50 60 70 hflex 11 21 31 41 51 61 71 81 91 hflex1 1 2 3 4 5 6 7 8 9 10 21 flex1 endchar",
     "i": "10 10 rmoveto 10 20 30 40 50 60 70 80 vhcurveto 15 25 35 45 55 65 75 85 95 hvcurveto 10 20 30 hlineto 5 15 25 vlineto endchar",
     "j": "10 20 10 20 10 20 10 20 hstemhm cntrmask:1100000000 20 20 rmoveto 40 50 60 hlineto endchar",
+    "k": "10 20 10 20 10 20 10 20 hstemhm 10 20 10 20 10 20 10 20 hintmask:11111111 30 40 rmoveto 60 70 80 hlineto endchar",
 }
 
 

@@ -126,15 +126,16 @@ def mvar(some, values):
     return ot.numbers(1, 0, 0, 8, len(values), 12 + len(rows)) + rows + some
 
 
-def variable(axis_maps=None, without=()):
-    """The font, with other maps of axes, or without some of its tables."""
+def variable(axis_maps=None, without=(), more=()):
+    """The font, with other maps of axes, without some of its tables, or with more of them."""
     count = len(NAMES)
     rows = [(0 if name == "acute" else 500 + 10 * at, 20) for at, name in enumerate(NAMES)]
     glyf, loca = ot.glyf_and_loca([outline(name) for name in NAMES])
     peaks = [[(0, 1, 1), (0, 0, 0)], [(-1, -1, 0), (0, 0, 0)], [(0, 0.5, 1), (0, 1, 1)], [(0, 0, 0), (0, 1, 1)]]
     some = store(2, peaks, ([0, 1], [(at * 20, -at) for at in range(8)]), ([2, 3, 0], [(at * 10 - 50, at, 100 - at) for at in range(6)]))
     hvar = ot.table(1, 0, ot.Offset(some, 4), ot.Offset(index_map([(at % 2, at % 6) for at in range(count)]), 4), ot.long_numbers(0, 0))
-    vvar = ot.table(1, 0, ot.Offset(some, 4), *[ot.long_numbers(0)] * 4)
+    origins = ot.Offset(index_map([(at % 2, at % 6) for at in range(count)]), 4) if "VORG" in dict(more) else ot.long_numbers(0)
+    vvar = ot.table(1, 0, ot.Offset(some, 4), *[ot.long_numbers(0)] * 3, origins)
     moved = {
         PLACE["a"]: glyph_variations(((1, 0), None, [40, 60, 80, 20, 0, 90, 0, 0], [0, 30, 70, 0, 0, 0, 30, -20]),
                                      ((0, 1), [0, 2], [10, 35], [0, -50])),
@@ -163,7 +164,7 @@ def variable(axis_maps=None, without=()):
         "avar": axis_maps or avar([(-1, -1), (0, 0), (0.5, 0.8), (1, 1)], [(-1, -1), (0, 0), (1, 1)]),
         "HVAR": hvar, "VVAR": vvar, "gvar": gvar(2, moved, count), "GDEF": gdef,
         "GSUB": with_variations(gsub, [([(0, 0.4, 1)], 1, [1]), ([(0, -1, -0.5), (1, 0, 1)], 1, [2])]),
-        "GPOS": with_variations(gpos, [([(1, 0.5, 1)], 0, [0, 2])]), "MVAR": mvar(some, {"hasc": (0, 4), "hdsc": (0, 7)}),
+        "GPOS": with_variations(gpos, [([(1, 0.5, 1)], 0, [0, 2])]), "MVAR": mvar(some, {"hasc": (0, 4), "hdsc": (0, 7)}), **dict(more),
     }
     return ot.font({tag: data for tag, data in tables.items() if tag not in without})
 
@@ -183,4 +184,9 @@ def without_advances():
     return variable(None, ("HVAR", "VVAR"))
 
 
-FONTS = {"variable.ttf": variable, "variable-second.ttf": second_map, "variable-outlines.ttf": without_advances}
+def with_origins():
+    """The same, with vertical origins that vary."""
+    return variable(more={"VORG": ot.numbers(1, 0, 850, 1, PLACE["b"], 880)})
+
+
+FONTS = {"variable.ttf": variable, "variable-second.ttf": second_map, "variable-outlines.ttf": without_advances, "variable-origins.ttf": with_origins}

@@ -129,7 +129,7 @@ fn kern_by(
                 if pair.is_cross_stream && first_crossed.is_none() {
                     first_crossed = Some(left);
                 }
-            } else if left.abs_diff(pair.right) > 1 {
+            } else if passes_over_pair(buffer.info(), subtable, iterator, &pair) {
                 mark_passed(buffer, &pair);
             }
         }
@@ -193,6 +193,24 @@ fn neighbour(
         iterator.previous(&Matcher::Shown, glyphs, left)
     } else {
         iterator.next(&Matcher::Shown, glyphs, left)
+    }
+}
+
+/// Whether one of the glyphs between those of a pair would be kerned with its right glyph, if the line began there.
+fn passes_over_pair(
+    glyphs: &[hb_glyph_info_t],
+    subtable: &KernSubtable,
+    iterator: &SkippingIterator,
+    pair: &KernPair,
+) -> bool {
+    let (first, last) = (pair.left.min(pair.right), pair.left.max(pair.right));
+    let Some(right) = glyphs.get(pair.right) else {
+        return false;
+    };
+    match glyphs.get(first.saturating_add(1)..last) {
+        Some(passed) => passed.iter().any(|glyph| glyph.mask & iterator.mask != 0
+            && value_of(subtable, glyph, right) != 0),
+        None => false,
     }
 }
 

@@ -177,6 +177,7 @@ fn place_by_subtable<'a>(
     ensures spent { IsNotMore search.old.budget search.new.budget }
 {
     let turn = Turn {
+        lookup: task.lookup,
         subtable,
         iterator: SkippingIterator::over_input(task.lookup.lookup_props, task.options, true),
         instance: &task.setting.instance,

@@ -108,7 +108,7 @@ pub(crate) fn place_pair(buffer: &mut hb_buffer_t, turn: &Turn) -> Option<usize>
                 return Some(second);
             }
         } else if let Some(pair) = pair_with(turn, glyphs, second) {
-            move_pair(buffer, &pair, turn.instance);
+            move_pair(buffer, turn, &pair);
             return Some(if pair.uses_second { end } else { second });
         }
     }
@@ -151,12 +151,12 @@ fn kern_pair(buffer: &mut hb_buffer_t, turn: &Turn, end: usize, advance: i16)
         advance_at(buffer.pos_mut(), turn.place, advance, turn.instance);
         mark_break(buffer, turn.place, end);
     } else {
-        mark_unmoved(buffer, turn.place, end, turn.subtable.format == 2);
+        mark_unmoved(buffer, turn, end, turn.subtable.format == 2);
     }
 }
 
 /// Marks a pair that is not moved, which ends before a place. A glyph that it passes over might be moved, if the line began there.
-fn mark_unmoved(buffer: &mut hb_buffer_t, first: usize, end: usize, is_classed: bool)
+fn mark_unmoved(buffer: &mut hb_buffer_t, turn: &Turn, end: usize, is_classed: bool)
     requires closed { buffer.old.have_output ≡ false }
     requires placed { IsSome buffer.old.positions }
     ensures closed { buffer.new.have_output ≡ false }
@@ -164,11 +164,21 @@ fn mark_unmoved(buffer: &mut hb_buffer_t, first: usize, end: usize, is_classed: 
     ensures level { buffer.new.cluster_level ≡ buffer.old.cluster_level }
     ensures glyphs { reset_masks 0 buffer.new.input ≡ reset_masks 0 buffer.old.input }
 {
-    if end.saturating_sub(first) > 2 {
-        mark_break(buffer, first, end - 1);
+    if passes_over_first(buffer.info(), turn, end) {
+        mark_break(buffer, turn.place, end.saturating_sub(1));
     }
     if is_classed {
-        mark_concat(buffer, first, end);
+        mark_concat(buffer, turn.place, end);
+    }
+}
+
+/// Whether the lookup may do something at a glyph within a pair, which ends before a place.
+fn passes_over_first(glyphs: &[hb_glyph_info_t], turn: &Turn, end: usize) -> bool {
+    match glyphs.get(turn.place.saturating_add(1)..end.saturating_sub(1)) {
+        Some(passed) => passed
+            .iter()
+            .any(|glyph| turn.lookup.is_for(turn.iterator.mask, glyph)),
+        None => false,
     }
 }
 
@@ -245,7 +255,7 @@ fn values_of(turn: &Turn, base: &[u8], glyphs: (u32, u32)) -> Option<PairValues>
 }
 
 /// Moves the glyphs of a pair, and marks what may not be parted any more.
-fn move_pair(buffer: &mut hb_buffer_t, pair: &Pair, instance: &Instance<'_>)
+fn move_pair(buffer: &mut hb_buffer_t, turn: &Turn, pair: &Pair)
     requires closed { buffer.old.have_output ≡ false }
     requires placed { IsSome buffer.old.positions }
     ensures closed { buffer.new.have_output ≡ false }
@@ -253,7 +263,7 @@ fn move_pair(buffer: &mut hb_buffer_t, pair: &Pair, instance: &Instance<'_>)
     ensures level { buffer.new.cluster_level ≡ buffer.old.cluster_level }
     ensures glyphs { reset_masks 0 buffer.new.input ≡ reset_masks 0 buffer.old.input }
 {
-    let is_horizontal = buffer.direction.is_horizontal();
+    let (is_horizontal, instance) = (buffer.direction.is_horizontal(), turn.instance);
     move_both(buffer.pos_mut(), pair, instance, is_horizontal);
     let end = pair.second.saturating_add(1);
     if pair.values.first.has_effect(instance, is_horizontal)
@@ -261,7 +271,7 @@ fn move_pair(buffer: &mut hb_buffer_t, pair: &Pair, instance: &Instance<'_>)
     {
         mark_break(buffer, pair.first, end);
     } else {
-        mark_unmoved(buffer, pair.first, end, pair.is_classed);
+        mark_unmoved(buffer, turn, end, pair.is_classed);
     }
     if pair.uses_second {
         mark_break(buffer, pair.first, end.saturating_add(1));

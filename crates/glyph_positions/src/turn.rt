@@ -1,6 +1,6 @@
 //! What a subtable is given at a glyph.
 
-use glyph_layout::lookup_list::LookupList;
+use glyph_layout::lookup_list::{Lookup, LookupList};
 use glyph_layout::skipping_iterator::SkippingIterator;
 use glyph_layout::subtable::Subtable;
 use position_tables::instance::Instance;
@@ -17,6 +17,8 @@ pub struct Setting<'a> {
 /// A subtable at a glyph.
 #[derive(Clone, Copy, Debug)]
 pub(crate) struct Turn<'a> {
+    /// The lookup that the subtable is of.
+    pub lookup: &'a Lookup<'a>,
     /// The subtable.
     pub subtable: &'a Subtable<'a>,
     /// The iterator over the glyphs that the lookup does not pass over.

@@ -173,6 +173,7 @@ fn place_by_subtable<'a>(
     debug_assert!(!buffer.have_output());
     debug_assert!(buffer.have_positions());
     let turn = Turn {
+        lookup: task.lookup,
         subtable,
         iterator: SkippingIterator::over_input(task.lookup.lookup_props, task.options, true),
         instance: &task.setting.instance,

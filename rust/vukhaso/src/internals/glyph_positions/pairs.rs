@@ -95,7 +95,7 @@ pub(crate) fn place_pair(buffer: &mut hb_buffer_t, turn: &Turn) -> Option<usize>
                     return Some(second);
                 }
             } else if let Some(pair) = pair_with(turn, glyphs, second) {
-                move_pair(buffer, &pair, turn.instance);
+                move_pair(buffer, turn, &pair);
                 return Some(if pair.uses_second { end } else { second });
             }
         }
@@ -139,7 +139,7 @@ fn kern_pair(buffer: &mut hb_buffer_t, turn: &Turn, end: usize, advance: i16) {
         advance_at(buffer.pos_mut(), turn.place, advance, turn.instance);
         mark_break(buffer, turn.place, end);
     } else {
-        mark_unmoved(buffer, turn.place, end, turn.subtable.format == 2);
+        mark_unmoved(buffer, turn, end, turn.subtable.format == 2);
     }
 }
 
@@ -150,14 +150,24 @@ fn kern_pair(buffer: &mut hb_buffer_t, turn: &Turn, end: usize, advance: i16) {
 ///
 /// - `closed: buffer.old.have_output ≡ false`
 /// - `placed: IsSome buffer.old.positions`
-fn mark_unmoved(buffer: &mut hb_buffer_t, first: usize, end: usize, is_classed: bool) {
+fn mark_unmoved(buffer: &mut hb_buffer_t, turn: &Turn, end: usize, is_classed: bool) {
     debug_assert!(!buffer.have_output());
     debug_assert!(buffer.have_positions());
-    if end.saturating_sub(first) > 2 {
-        mark_break(buffer, first, end - 1);
+    if passes_over_first(buffer.info(), turn, end) {
+        mark_break(buffer, turn.place, end.saturating_sub(1));
     }
     if is_classed {
-        mark_concat(buffer, first, end);
+        mark_concat(buffer, turn.place, end);
+    }
+}
+
+/// Whether the lookup may do something at a glyph within a pair, which ends before a place.
+fn passes_over_first(glyphs: &[hb_glyph_info_t], turn: &Turn, end: usize) -> bool {
+    match glyphs.get(turn.place.saturating_add(1)..end.saturating_sub(1)) {
+        Some(passed) => passed
+            .iter()
+            .any(|glyph| turn.lookup.is_for(turn.iterator.mask, glyph)),
+        None => false,
     }
 }
 
@@ -241,10 +251,10 @@ fn values_of(turn: &Turn, base: &[u8], glyphs: (u32, u32)) -> Option<PairValues>
 ///
 /// - `closed: buffer.old.have_output ≡ false`
 /// - `placed: IsSome buffer.old.positions`
-fn move_pair(buffer: &mut hb_buffer_t, pair: &Pair, instance: &Instance<'_>) {
+fn move_pair(buffer: &mut hb_buffer_t, turn: &Turn, pair: &Pair) {
     debug_assert!(!buffer.have_output());
     debug_assert!(buffer.have_positions());
-    let is_horizontal = buffer.direction.is_horizontal();
+    let (is_horizontal, instance) = (buffer.direction.is_horizontal(), turn.instance);
     move_both(buffer.pos_mut(), pair, instance, is_horizontal);
     let end = pair.second.saturating_add(1);
     if pair.values.first.has_effect(instance, is_horizontal)
@@ -252,7 +262,7 @@ fn move_pair(buffer: &mut hb_buffer_t, pair: &Pair, instance: &Instance<'_>) {
     {
         mark_break(buffer, pair.first, end);
     } else {
-        mark_unmoved(buffer, pair.first, end, pair.is_classed);
+        mark_unmoved(buffer, turn, end, pair.is_classed);
     }
     if pair.uses_second {
         mark_break(buffer, pair.first, end.saturating_add(1));

@@ -2,7 +2,7 @@
 
 //! What a subtable is given at a glyph.
 
-use crate::glyph_layout::lookup_list::LookupList;
+use crate::glyph_layout::lookup_list::{Lookup, LookupList};
 use crate::glyph_layout::skipping_iterator::SkippingIterator;
 use crate::glyph_layout::subtable::Subtable;
 use crate::position_tables::instance::Instance;
@@ -19,6 +19,8 @@ pub struct Setting<'a> {
 /// A subtable at a glyph.
 #[derive(Clone, Copy, Debug)]
 pub(crate) struct Turn<'a> {
+    /// The lookup that the subtable is of.
+    pub lookup: &'a Lookup<'a>,
     /// The subtable.
     pub subtable: &'a Subtable<'a>,
     /// The iterator over the glyphs that the lookup does not pass over.
