@@ -33,6 +33,9 @@ typedef hb_bool_t (*hb_font_get_glyph_v_origin_func_t)(hb_font_t *, void *, hb_c
 typedef hb_bool_t (*hb_font_get_nominal_glyph_func_t)(hb_font_t *, void *, hb_codepoint_t, hb_codepoint_t *, void *);
 typedef hb_bool_t (*hb_font_get_glyph_contour_point_func_t)(
     hb_font_t *, void *, hb_codepoint_t, unsigned, hb_position_t *, hb_position_t *, void *);
+typedef struct { hb_position_t x_bearing, y_bearing, width, height; } hb_glyph_extents_t;
+typedef hb_bool_t (*hb_font_get_glyph_extents_func_t)(hb_font_t *, void *, hb_codepoint_t, hb_glyph_extents_t *, void *);
+typedef hb_bool_t (*hb_font_get_glyph_func_t)(hb_font_t *, void *, hb_codepoint_t, hb_codepoint_t, hb_codepoint_t *, void *);
 typedef hb_blob_t *(*hb_reference_table_func_t)(hb_face_t *, hb_tag_t, void *);
 
 #define HB_DIRECTION_LTR 4
@@ -70,6 +73,7 @@ void hb_font_set_scale(hb_font_t *, int, int);
 void hb_font_set_ppem(hb_font_t *, unsigned, unsigned);
 void hb_font_set_variations(hb_font_t *, const hb_variation_t *, unsigned);
 hb_bool_t hb_font_get_nominal_glyph(hb_font_t *, hb_codepoint_t, hb_codepoint_t *);
+hb_bool_t hb_font_get_variation_glyph(hb_font_t *, hb_codepoint_t, hb_codepoint_t, hb_codepoint_t *);
 hb_position_t hb_font_get_glyph_h_advance(hb_font_t *, hb_codepoint_t);
 void hb_font_glyph_to_string(hb_font_t *, hb_codepoint_t, char *, unsigned);
 hb_bool_t hb_font_glyph_from_string(hb_font_t *, const char *, int, hb_codepoint_t *);
@@ -81,6 +85,8 @@ void hb_font_funcs_set_glyph_v_advance_func(hb_font_funcs_t *, hb_font_get_glyph
 void hb_font_funcs_set_glyph_v_origin_func(hb_font_funcs_t *, hb_font_get_glyph_v_origin_func_t, void *, hb_destroy_func_t);
 void hb_font_funcs_set_nominal_glyph_func(hb_font_funcs_t *, hb_font_get_nominal_glyph_func_t, void *, hb_destroy_func_t);
 void hb_font_funcs_set_glyph_contour_point_func(hb_font_funcs_t *, hb_font_get_glyph_contour_point_func_t, void *, hb_destroy_func_t);
+void hb_font_funcs_set_glyph_extents_func(hb_font_funcs_t *, hb_font_get_glyph_extents_func_t, void *, hb_destroy_func_t);
+void hb_font_funcs_set_glyph_func(hb_font_funcs_t *, hb_font_get_glyph_func_t, void *, hb_destroy_func_t);
 hb_buffer_t *hb_buffer_create(void);
 void hb_buffer_destroy(hb_buffer_t *);
 void hb_buffer_reset(hb_buffer_t *);
