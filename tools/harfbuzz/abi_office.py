@@ -30,6 +30,10 @@ mv "$2/page.pdf" "$3"
 # What says when a document was made, and its numbers that are drawn by lot.
 DATES = re.compile(rb"/CreationDate\(.*?\)|/ID *\[.*?\]|/DocChecksum */\w+", re.DOTALL)
 
+# An object of the file with its number, and the number of another that it names.
+OBJECTS = re.compile(rb"^\d+ 0 obj\n(.*?)^endobj\n", re.DOTALL | re.MULTILINE)
+NAMED = re.compile(rb"\b\d+ 0 R\b")
+
 
 def office_page(lines):
     """A page of lines, each a family, a size and a text."""
@@ -56,5 +60,6 @@ def converted(tree, room, out):
     return ["unshare", "-m", "sh", "-c", CONVERTED, "sh", tree, room, out]
 
 
-def without_dates(pdf):
-    return DATES.sub(b"", pdf)
+def without_order(pdf):
+    """The objects of a file without dates, in an order of their own: LibreOffice writes fonts in the order of their addresses."""
+    return b"".join(sorted(NAMED.sub(b"R", DATES.sub(b"", body)) for body in OBJECTS.findall(pdf)))

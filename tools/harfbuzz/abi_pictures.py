@@ -14,7 +14,7 @@ from collections.abc import Callable
 from dataclasses import dataclass, field
 from pathlib import Path
 
-from abi_office import converted, installed, office_page, without_dates
+from abi_office import converted, installed, office_page, without_order
 from abi_texts import ASS_LINES, GTK_TEXTS, HB_VIEW_TEXTS, PANGO_TEXTS, PIL_TEXTS, QT_TEXTS
 from sources import FETCHED, SOURCES, apt, unpacked, with_lists
 
@@ -171,7 +171,7 @@ def libreoffice(out):
     tree, room = installed(needed("libreoffice-writer"), KEPT / "office"), KEPT / "office-room"
     room.mkdir(exist_ok=True)
     (room / "page.fodt").write_text(office_page(QT_TEXTS))
-    yield Picture("a page", converted(tree, room, out), {"HOME": str(room)}, without_dates)
+    yield Picture("a page", converted(tree, room, out), {"HOME": str(room)}, without_order)
 
 
 PROGRAMS = {

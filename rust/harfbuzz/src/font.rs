@@ -7,6 +7,7 @@ pub mod asking;
 mod calls;
 mod drawing;
 pub mod functions;
+mod glyph_function;
 mod names;
 pub mod opentype;
 mod settings;

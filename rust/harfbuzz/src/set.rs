@@ -157,6 +157,12 @@ impl hb_set_t {
         self.ranges.iter().map(|(first, last)| last - first + 1).sum()
     }
 
+    /// Its numbers of 16 bits.
+    pub fn short_numbers(&self) -> impl Iterator<Item = u16> + '_ {
+        let ranges = self.ranges.range(..=0xFFFF).map(|(&first, &last)| first as u16..=last.min(0xFFFF) as u16);
+        ranges.flatten()
+    }
+
     fn first(&self) -> Option<u32> {
         self.ranges.first_key_value().map(|(first, _)| *first)
     }

@@ -8,7 +8,7 @@ mod watching;
 use crate::buffer::{GLYPHS, Listener, changing, hb_buffer_t, hb_glyph_info_t, hb_glyph_position_t};
 use crate::common::features::hb_feature_t;
 use crate::common::languages::shaper_language;
-use crate::common::scripts::UNKNOWN;
+use crate::common::scripts::shaper_script;
 use crate::font::hb_font_t;
 use crate::shape::asked_font::AskedFont;
 use crate::shape::watching::Telling;
@@ -17,9 +17,7 @@ use std::ffi::{CStr, c_char, c_uint};
 use vukhaso::internals::font_shaper::{
     KeptPlans, shape_watched, shape_with_functions_and_plans, shape_with_functions_watched, shape_with_kept_plans,
 };
-use vukhaso::{
-    BufferClusterLevel, BufferFlags, Direction, Face, Feature, GlyphBuffer, GlyphId, Script, ShapeError, Tag, UnicodeBuffer,
-};
+use vukhaso::{BufferClusterLevel, BufferFlags, Direction, Face, Feature, GlyphBuffer, GlyphId, ShapeError, UnicodeBuffer};
 
 /// How a text is shaped.
 #[derive(Clone, Copy, PartialEq, Debug)]
@@ -114,8 +112,7 @@ fn text_of(buffer: &hb_buffer_t) -> Option<UnicodeBuffer> {
     let behind: String = buffer.context[1].iter().map(|codepoint| character(*codepoint)).collect();
     text.set_post_context(&behind);
     text.set_direction(direction_of(buffer.properties.direction));
-    let script = if buffer.properties.script == 0 { UNKNOWN } else { buffer.properties.script };
-    if let Some(script) = Script::from_iso15924_tag(Tag(script)) {
+    if let Some(script) = shaper_script(buffer.properties.script) {
         text.set_script(script);
     }
     if let Some(language) = shaper_language(buffer.properties.language) {

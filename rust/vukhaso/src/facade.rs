@@ -21,6 +21,8 @@ pub use crate::runs::{Answer, Call, RenderFault, Stopped, render, render_at, rep
 pub use crate::text::{Feature, Language, LanguageError};
 pub use crate::unicode_tables::UNICODE_VERSION;
 
+use crate::layout_plan::PlannedLookup;
+use alloc::vec::Vec;
 use core::ops::{
     BitAnd, BitAndAssign, BitOr, BitOrAssign, BitXor, BitXorAssign, Not, Sub, SubAssign,
 };
@@ -67,6 +69,15 @@ impl<'a> Face<'a> {
     /// [`Face::parse`] says.
     pub fn from_slice(data: &'a [u8], index: u32) -> Option<Face<'a>> {
         Face::parse(data, index).ok()
+    }
+}
+
+impl ShapePlan {
+    /// The numbers of the lookups of `GSUB` by which texts are shaped, and those of `GPOS`, in the order in which they are applied.
+    pub fn lookups(&self) -> (Vec<u16>, Vec<u16>) {
+        let layout = &self.made.shape.layout;
+        let numbers = |lookups: &[PlannedLookup]| lookups.iter().map(|lookup| lookup.index).collect();
+        (numbers(&layout.gsub_lookups), numbers(&layout.gpos_lookups))
     }
 }
 

@@ -112,6 +112,16 @@ fn a_plan_is_not_for_other_texts() {
     rustybuzz::shape_with_plan(&face, &plan, buffer);
 }
 
+/// The numbers of lookups of `GSUB` and `GPOS` are those that HarfBuzz tells of the same plan.
+#[test]
+fn a_plan_tells_its_lookups() {
+    let face = vukhaso::Face::from_slice(FONT, 0).unwrap();
+    let script = vukhaso::script::LATIN;
+    let direction = vukhaso::Direction::LeftToRight;
+    let plan = vukhaso::ShapePlan::new(&face, direction, Some(script), None, &[]).unwrap();
+    assert_eq!(plan.lookups(), (vec![7, 23, 24], vec![3, 8, 9, 10]));
+}
+
 /// A font that changes its mind: whether a character has a glyph too, and each measure, is otherwise each time.
 struct Fickle(std::cell::Cell<i32>);
 

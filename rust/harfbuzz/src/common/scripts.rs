@@ -14,6 +14,11 @@ pub fn is_of_text(script: hb_script_t) -> bool {
     !matches!(script, COMMON | INHERITED | UNKNOWN)
 }
 
+/// A script as the shaper takes it.
+pub fn shaper_script(script: hb_script_t) -> Option<Script> {
+    Script::from_iso15924_tag(Tag(if script == 0 { UNKNOWN } else { script }))
+}
+
 #[unsafe(no_mangle)]
 pub extern "C" fn hb_script_from_iso15924_tag(tag: hb_tag_t) -> hb_script_t {
     Script::from_iso15924_tag(Tag(tag)).map_or(0, |script| script.tag().as_u32())

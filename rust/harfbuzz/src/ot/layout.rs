@@ -3,11 +3,14 @@
 
 mod baselines;
 mod classes;
+mod closure;
 mod collect;
 mod collected;
 mod features;
 mod glyphs;
+mod rules;
 
+pub use closure::hb_ot_layout_lookups_substitute_closure;
 pub use features::hb_ot_layout_get_size_params;
 
 use crate::face::hb_face_t;
@@ -20,8 +23,8 @@ use vukhaso::internals::position_tables::devices::device_delta;
 
 /// The index that stands for none, and for the default language of a script.
 const NONE: c_uint = 0xFFFF;
-const GSUB: hb_tag_t = tag(b"GSUB");
-const GPOS: hb_tag_t = tag(b"GPOS");
+pub const GSUB: hb_tag_t = tag(b"GSUB");
+pub const GPOS: hb_tag_t = tag(b"GPOS");
 /// The form of a device table that names a delta of variations.
 const VARIATION: u16 = 0x8000;
 

@@ -1,6 +1,8 @@
 //! Shape plans: what a text is shaped by, said once. The proved shaper keeps the plan of the last text of each font, and so a plan here
 //! is no more than what it was made for.
 
+pub mod lookups;
+
 use crate::buffer::hb_buffer_t;
 use crate::buffer::properties::hb_segment_properties_t;
 use crate::common::features::hb_feature_t;
@@ -16,6 +18,10 @@ pub struct hb_shape_plan_t {
     header: Header,
     face: *mut hb_face_t,
     shaper: Option<Shaper>,
+    properties: hb_segment_properties_t,
+    features: Vec<hb_feature_t>,
+    /// The normalized coordinates of the variations that are chosen.
+    coordinates: Vec<i32>,
 }
 
 impl Object for hb_shape_plan_t {
@@ -25,7 +31,14 @@ impl Object for hb_shape_plan_t {
 
     fn empty() -> *mut Self {
         static EMPTY: Empty<hb_shape_plan_t> = Empty::new();
-        EMPTY.get(|| hb_shape_plan_t { header: Header::of_empty(), face: hb_face_t::empty(), shaper: None })
+        EMPTY.get(|| hb_shape_plan_t {
+            header: Header::of_empty(),
+            face: hb_face_t::empty(),
+            shaper: None,
+            properties: hb_segment_properties_t::default(),
+            features: Vec::new(),
+            coordinates: Vec::new(),
+        })
     }
 }
 
@@ -40,21 +53,30 @@ impl Drop for hb_shape_plan_t {
 
 /// # Safety
 ///
-/// `face` is alive or null, `properties` has properties, and `shapers` is null or a list of names.
+/// `face` is alive or null, `properties` has properties or is null, and `shapers` is null or a list of names.
 unsafe fn created(
     face: *mut hb_face_t,
     properties: *const hb_segment_properties_t,
+    features: &[hb_feature_t],
+    coordinates: &[c_int],
     shapers: *const *const c_char,
 ) -> *mut hb_shape_plan_t {
     // SAFETY: the caller's word.
     unsafe {
-        if !properties.as_ref().is_some_and(|properties| is_valid(properties.direction)) {
+        let Some(properties) = properties.as_ref().copied().filter(|properties| is_valid(properties.direction)) else {
             return hb_shape_plan_t::empty();
-        }
+        };
         let face = if face.is_null() { hb_face_t::empty() } else { face };
         crate::face::hb_face_make_immutable(face);
         match Shaper::of_list(shapers) {
-            Some(shaper) => given(hb_shape_plan_t { header: Header::new(), face: reference(face), shaper: Some(shaper) }),
+            Some(shaper) => given(hb_shape_plan_t {
+                header: Header::new(),
+                face: reference(face),
+                shaper: Some(shaper),
+                properties,
+                features: features.to_vec(),
+                coordinates: coordinates.to_vec(),
+            }),
             None => hb_shape_plan_t::empty(),
         }
     }
@@ -62,29 +84,30 @@ unsafe fn created(
 
 /// The calls that make a plan.
 macro_rules! create {
-    ($($call:ident($($coordinates:ident: $type:ty),*);)*) => {
+    ($($call:ident($($coordinates:ident: $type:ty),*) $chosen:expr;)*) => {
         $(
             #[unsafe(no_mangle)]
             pub unsafe extern "C" fn $call(
                 face: *mut hb_face_t,
                 properties: *const hb_segment_properties_t,
-                _features: *const hb_feature_t,
-                _count: c_uint,
+                features: *const hb_feature_t,
+                count: c_uint,
                 $($coordinates: $type,)*
                 shapers: *const *const c_char,
             ) -> *mut hb_shape_plan_t {
-                // SAFETY: HarfBuzz's terms: a face that is alive, properties, and a list of names or null.
-                unsafe { created(face, properties, shapers) }
+                // SAFETY: HarfBuzz's terms: a face that is alive, properties, so many features and coordinates, and a list of names or
+                // null.
+                unsafe { created(face, properties, slice(features, count as usize), $chosen, shapers) }
             }
         )*
     };
 }
 
 create! {
-    hb_shape_plan_create();
-    hb_shape_plan_create_cached();
-    hb_shape_plan_create2(_coordinates: *const c_int, _coordinate_count: c_uint);
-    hb_shape_plan_create_cached2(_coordinates: *const c_int, _coordinate_count: c_uint);
+    hb_shape_plan_create() &[];
+    hb_shape_plan_create_cached() &[];
+    hb_shape_plan_create2(coordinates: *const c_int, chosen: c_uint) slice(coordinates, chosen as usize);
+    hb_shape_plan_create_cached2(coordinates: *const c_int, chosen: c_uint) slice(coordinates, chosen as usize);
 }
 
 #[unsafe(no_mangle)]

@@ -52,7 +52,32 @@ static hb_bool_t glyph(hb_font_t *font, void *data, hb_codepoint_t character, hb
     return *found != 0;
 }
 
+static hb_bool_t any_form(
+    hb_font_t *font, void *data, hb_codepoint_t character, hb_codepoint_t selector, hb_codepoint_t *found, void *user) {
+    (void) font, (void) data, (void) user;
+    *found = selector ? 9 : 8;
+    return character == 'T';
+}
+
 static void set_flag(void *flag) { *(int *) flag = 1; }
+
+/* One function for characters, alone and before a variation selector. */
+static void test_glyph_function(const char *folder) {
+    int released = 0;
+    hb_codepoint_t found = 0;
+    hb_font_t *font = font_of(folder, "letters.ttf");
+    hb_font_funcs_t *functions = hb_font_funcs_create();
+    hb_font_funcs_set_glyph_func(functions, any_form, &released, set_flag);
+    hb_font_set_funcs(font, functions, NULL, NULL);
+    check(hb_font_get_nominal_glyph(font, 'T', &found) && found == 8, "a glyph of the only function");
+    check(hb_font_get_variation_glyph(font, 'T', 0xFE00, &found) && found == 9, "a glyph of a variation, of the same");
+    check(!hb_font_get_nominal_glyph(font, 'U', &found), "no glyph of the only function");
+    hb_font_funcs_set_nominal_glyph_func(functions, glyph, NULL, NULL);
+    check(!released, "data that a function still has is kept");
+    hb_font_funcs_destroy(functions);
+    hb_font_destroy(font);
+    check(released, "data that no function has is given back");
+}
 
 static void test_functions(const char *folder) {
     char text[1000];
@@ -103,6 +128,12 @@ static hb_bool_t any_origin(hb_font_t *font, void *state, hb_codepoint_t glyph, 
     return *x & 1;
 }
 
+static hb_bool_t any_extents(hb_font_t *font, void *state, hb_codepoint_t glyph, hb_glyph_extents_t *extents, void *data) {
+    (void) font, (void) glyph, (void) data;
+    *extents = (hb_glyph_extents_t) {(int) any_number(state), (int) any_number(state), (int) any_number(state), (int) any_number(state)};
+    return extents->width & 1;
+}
+
 static void test_any_functions(const char *folder) {
     static const char *texts[] = {"a\u0301\u0327 b\u2011\u2003c", "\u0628\u0644\u0627\u064e", "\u1112\u1161\u11ab\ud55c", "\u0915\u094d\u0937\u093f"};
     unsigned state = 1;
@@ -112,6 +143,7 @@ static void test_any_functions(const char *folder) {
     hb_font_funcs_set_glyph_h_advance_func(functions, any_advance, NULL, NULL);
     hb_font_funcs_set_glyph_v_advance_func(functions, any_advance, NULL, NULL);
     hb_font_funcs_set_glyph_v_origin_func(functions, any_origin, NULL, NULL);
+    hb_font_funcs_set_glyph_extents_func(functions, any_extents, NULL, NULL);
     hb_font_set_funcs(font, functions, &state, NULL);
     hb_font_funcs_destroy(functions);
     int all = 1;
@@ -227,6 +259,7 @@ int main(int count, char **words) {
     if (count != 2) return 2;
     test_shape(words[1]);
     test_functions(words[1]);
+    test_glyph_function(words[1]);
     test_any_functions(words[1]);
     test_tables(words[1]);
     test_buffer();

@@ -1,9 +1,10 @@
 //! The glyphs that a lookup is about (OpenType specification, `GSUB`, `GPOS`, "OpenType Layout Common Table Formats").
 
 use crate::face::hb_face_t;
+use crate::ot::layout::glyphs::extended;
 use crate::ot::layout::{GPOS, GSUB, table};
 use crate::set::hb_set_t;
-use crate::sfnt::{at_16, at_32, tail, u16_at};
+use crate::sfnt::{at_16, tail, u16_at};
 use crate::types::hb_tag_t;
 use std::ffi::c_uint;
 
@@ -21,10 +22,20 @@ enum Role {
 
 /// How the numbers of a rule name glyphs: by themselves, by a class of a table, or by the offset of a coverage.
 #[derive(Clone, Copy)]
-enum Naming<'a> {
+pub enum Naming<'a> {
     Glyph,
     Class(&'a [u8]),
     Coverage(&'a [u8]),
+}
+
+impl<'a> Naming<'a> {
+    /// The coverage that an offset leads to; an empty one for 0, or where numbers are not offsets.
+    pub fn coverage(self, offset: u16) -> &'a [u8] {
+        match self {
+            Naming::Coverage(base) if offset != 0 => tail(base, offset.into()),
+            _ => &[],
+        }
+    }
 }
 
 #[derive(Default)]
@@ -42,20 +53,20 @@ struct Collected<'a> {
 }
 
 /// The numbers of a list whose count stands at a place, and the place behind it.
-fn list(table: &[u8], at: usize, fewer: usize) -> (impl Iterator<Item = u16> + '_, usize) {
+pub fn list(table: &[u8], at: usize, fewer: usize) -> (impl Iterator<Item = u16> + '_, usize) {
     let count = usize::from(u16_at(table, at)).saturating_sub(fewer);
     let numbers = tail(table, at + 2).chunks_exact(2).take(count);
     (numbers.map(|number| u16::from_be_bytes([number[0], number[1]])), at + 2 + 2 * count)
 }
 
 /// The tables of a list of offsets whose count stands at a place.
-fn tables(table: &[u8], at: usize) -> impl Iterator<Item = &[u8]> {
+pub fn tables(table: &[u8], at: usize) -> impl Iterator<Item = &[u8]> {
     let offsets = tail(table, at + 2).chunks_exact(2).take(u16_at(table, at).into());
     offsets.enumerate().map(move |(place, _)| at_16(table, at + 2 + 2 * place))
 }
 
 /// The ranges of a table of coverage.
-fn covered(coverage: &[u8]) -> Vec<(u16, u16)> {
+pub fn covered(coverage: &[u8]) -> Vec<(u16, u16)> {
     match u16_at(coverage, 0) {
         1 => list(coverage, 2, 0).0.map(|glyph| (glyph, glyph)).collect(),
         2 => ranges(coverage).map(|(range, _)| range).collect(),
@@ -70,7 +81,7 @@ fn ranges(table: &[u8]) -> impl Iterator<Item = ((u16, u16), u16)> + '_ {
 }
 
 /// The glyphs that a table of classes names, each with its class.
-fn classified(classes: &[u8]) -> Vec<((u16, u16), u16)> {
+pub fn classified(classes: &[u8]) -> Vec<((u16, u16), u16)> {
     match u16_at(classes, 0) {
         1 => list(classes, 4, 0).0.zip(u16_at(classes, 2)..).map(|(class, glyph)| ((glyph, glyph), class)).collect(),
         2 => ranges(classes).collect(),
@@ -78,7 +89,7 @@ fn classified(classes: &[u8]) -> Vec<((u16, u16), u16)> {
     }
 }
 
-fn glyphs(ranges: Vec<(u16, u16)>) -> impl Iterator<Item = u16> {
+pub fn glyphs(ranges: Vec<(u16, u16)>) -> impl Iterator<Item = u16> {
     ranges.into_iter().flat_map(|(first, last)| first..=last)
 }
 
@@ -101,7 +112,7 @@ impl<'a> Collected<'a> {
                     let named = classified(classes).into_iter().filter(|(_, class)| *class == number);
                     self.add(role, named.map(|(range, _)| range));
                 }
-                Naming::Coverage(base) => self.add(role, covered(if number == 0 { &[] } else { tail(base, number.into()) })),
+                Naming::Coverage(_) => self.add(role, covered(naming.coverage(number))),
             }
         }
     }
@@ -114,7 +125,7 @@ impl<'a> Collected<'a> {
         for subtable in tables(lookup, 4) {
             let kind = u16_at(lookup, 0);
             let (kind, subtable) = match (self.is_gsub, kind) {
-                (true, 7) | (false, 9) => (u16_at(subtable, 2), at_32(subtable, 4)),
+                (true, 7) | (false, 9) => extended(subtable),
                 _ => (kind, subtable),
             };
             match (self.is_gsub, kind) {

@@ -11,7 +11,15 @@ use vukhaso::internals::glyph_layout::{Budget, would_substitute};
 
 const SINGLE: u16 = 1;
 const ALTERNATE: u16 = 3;
-const EXTENSION: u16 = 7;
+pub const EXTENSION: u16 = 7;
+
+/// The kind and the subtable that stand behind an extension; of no kind where its format is unknown.
+pub fn extended(extension: &[u8]) -> (u16, &[u8]) {
+    match u16_at(extension, 0) {
+        1 => (u16_at(extension, 2), at_32(extension, 4)),
+        _ => (0, &[]),
+    }
+}
 
 /// The subtables of a lookup, each with its kind, which stands behind the offset of an extension. `extension` is the kind of those.
 pub fn subtables(table: Table<'_>, lookup: c_uint, extension: u16) -> Vec<(u16, &[u8])> {
@@ -23,7 +31,7 @@ pub fn subtables(table: Table<'_>, lookup: c_uint, extension: u16) -> Vec<(u16, 
     let kind = u16_at(list, 0);
     let whole = |offset: c_uint| {
         let subtable = tail(list, offset as usize);
-        if kind == extension { (u16_at(subtable, 2), at_32(subtable, 4)) } else { (kind, subtable) }
+        if kind == extension { extended(subtable) } else { (kind, subtable) }
     };
     numbers(list, 4).map(whole).collect()
 }

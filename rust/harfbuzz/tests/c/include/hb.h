@@ -25,10 +25,17 @@ typedef struct { hb_tag_t tag; uint32_t value; unsigned start, end; } hb_feature
 typedef struct { hb_tag_t tag; float value; } hb_variation_t;
 typedef struct { hb_codepoint_t codepoint; uint32_t mask, cluster, var1, var2; } hb_glyph_info_t;
 typedef struct { hb_position_t x_advance, y_advance, x_offset, y_offset; uint32_t var; } hb_glyph_position_t;
+typedef struct hb_shape_plan_t hb_shape_plan_t;
+typedef struct { hb_direction_t direction; hb_script_t script; const void *language, *reserved1, *reserved2; } hb_segment_properties_t;
 typedef hb_position_t (*hb_font_get_glyph_h_advance_func_t)(hb_font_t *, void *, hb_codepoint_t, void *);
 typedef hb_position_t (*hb_font_get_glyph_v_advance_func_t)(hb_font_t *, void *, hb_codepoint_t, void *);
 typedef hb_bool_t (*hb_font_get_glyph_v_origin_func_t)(hb_font_t *, void *, hb_codepoint_t, hb_position_t *, hb_position_t *, void *);
 typedef hb_bool_t (*hb_font_get_nominal_glyph_func_t)(hb_font_t *, void *, hb_codepoint_t, hb_codepoint_t *, void *);
+typedef hb_bool_t (*hb_font_get_glyph_contour_point_func_t)(
+    hb_font_t *, void *, hb_codepoint_t, unsigned, hb_position_t *, hb_position_t *, void *);
+typedef struct { hb_position_t x_bearing, y_bearing, width, height; } hb_glyph_extents_t;
+typedef hb_bool_t (*hb_font_get_glyph_extents_func_t)(hb_font_t *, void *, hb_codepoint_t, hb_glyph_extents_t *, void *);
+typedef hb_bool_t (*hb_font_get_glyph_func_t)(hb_font_t *, void *, hb_codepoint_t, hb_codepoint_t, hb_codepoint_t *, void *);
 typedef hb_blob_t *(*hb_reference_table_func_t)(hb_face_t *, hb_tag_t, void *);
 
 #define HB_DIRECTION_LTR 4
@@ -39,6 +46,7 @@ typedef hb_blob_t *(*hb_reference_table_func_t)(hb_face_t *, hb_tag_t, void *);
 #define HB_BUFFER_CONTENT_TYPE_GLYPHS 2
 #define HB_BUFFER_SERIALIZE_FORMAT_JSON HB_TAG('J', 'S', 'O', 'N')
 #define HB_FEATURE_GLOBAL_END ((unsigned) -1)
+#define HB_SET_VALUE_INVALID ((hb_codepoint_t) -1)
 
 hb_blob_t *hb_blob_create(const char *, unsigned, hb_memory_mode_t, void *, hb_destroy_func_t);
 hb_blob_t *hb_blob_create_from_file(const char *);
@@ -62,8 +70,10 @@ hb_font_t *hb_font_create_sub_font(hb_font_t *);
 hb_font_t *hb_font_reference(hb_font_t *);
 void hb_font_destroy(hb_font_t *);
 void hb_font_set_scale(hb_font_t *, int, int);
+void hb_font_set_ppem(hb_font_t *, unsigned, unsigned);
 void hb_font_set_variations(hb_font_t *, const hb_variation_t *, unsigned);
 hb_bool_t hb_font_get_nominal_glyph(hb_font_t *, hb_codepoint_t, hb_codepoint_t *);
+hb_bool_t hb_font_get_variation_glyph(hb_font_t *, hb_codepoint_t, hb_codepoint_t, hb_codepoint_t *);
 hb_position_t hb_font_get_glyph_h_advance(hb_font_t *, hb_codepoint_t);
 void hb_font_glyph_to_string(hb_font_t *, hb_codepoint_t, char *, unsigned);
 hb_bool_t hb_font_glyph_from_string(hb_font_t *, const char *, int, hb_codepoint_t *);
@@ -74,6 +84,9 @@ void hb_font_funcs_set_glyph_h_advance_func(hb_font_funcs_t *, hb_font_get_glyph
 void hb_font_funcs_set_glyph_v_advance_func(hb_font_funcs_t *, hb_font_get_glyph_v_advance_func_t, void *, hb_destroy_func_t);
 void hb_font_funcs_set_glyph_v_origin_func(hb_font_funcs_t *, hb_font_get_glyph_v_origin_func_t, void *, hb_destroy_func_t);
 void hb_font_funcs_set_nominal_glyph_func(hb_font_funcs_t *, hb_font_get_nominal_glyph_func_t, void *, hb_destroy_func_t);
+void hb_font_funcs_set_glyph_contour_point_func(hb_font_funcs_t *, hb_font_get_glyph_contour_point_func_t, void *, hb_destroy_func_t);
+void hb_font_funcs_set_glyph_extents_func(hb_font_funcs_t *, hb_font_get_glyph_extents_func_t, void *, hb_destroy_func_t);
+void hb_font_funcs_set_glyph_func(hb_font_funcs_t *, hb_font_get_glyph_func_t, void *, hb_destroy_func_t);
 hb_buffer_t *hb_buffer_create(void);
 void hb_buffer_destroy(hb_buffer_t *);
 void hb_buffer_reset(hb_buffer_t *);
@@ -85,6 +98,7 @@ hb_glyph_info_t *hb_buffer_get_glyph_infos(hb_buffer_t *, unsigned *);
 hb_glyph_position_t *hb_buffer_get_glyph_positions(hb_buffer_t *, unsigned *);
 void hb_buffer_set_direction(hb_buffer_t *, hb_direction_t);
 void hb_buffer_guess_segment_properties(hb_buffer_t *);
+void hb_buffer_get_segment_properties(const hb_buffer_t *, hb_segment_properties_t *);
 void hb_buffer_reverse_clusters(hb_buffer_t *);
 unsigned hb_buffer_serialize(
     hb_buffer_t *, unsigned, unsigned, char *, unsigned, unsigned *, hb_font_t *, hb_buffer_serialize_format_t,
@@ -99,8 +113,12 @@ hb_bool_t hb_buffer_deserialize_glyphs(
 unsigned hb_buffer_diff(hb_buffer_t *, hb_buffer_t *, hb_codepoint_t, unsigned);
 void hb_shape(hb_font_t *, hb_buffer_t *, const hb_feature_t *, unsigned);
 hb_bool_t hb_feature_from_string(const char *, int, hb_feature_t *);
+hb_shape_plan_t *hb_shape_plan_create(
+    hb_face_t *, const hb_segment_properties_t *, const hb_feature_t *, unsigned, const char *const *);
+void hb_shape_plan_destroy(hb_shape_plan_t *);
 hb_set_t *hb_set_create(void);
 void hb_set_destroy(hb_set_t *);
+void hb_set_add(hb_set_t *, hb_codepoint_t);
 void hb_set_add_range(hb_set_t *, hb_codepoint_t, hb_codepoint_t);
 void hb_set_del(hb_set_t *, hb_codepoint_t);
 hb_bool_t hb_set_has(const hb_set_t *, hb_codepoint_t);
