@@ -1,5 +1,5 @@
 -- The first number below a bound that passes a test, and rows that rise.
-use Rattle.std.proofs.Common.{◌≡◌, ℕ, zero, suc, ◌+◌, ◌<◌, ◌≤◌, Bool, true, false, Option, Some, None, refl, sym, arith, subst, inl, inr}
+use Rattle.std.proofs.Common.{◌≡◌, ℕ, zero, suc, ◌<◌, ◌≤◌, Bool, true, false, Option, Some, None, refl, sym, arith, subst, inl, inr}
 use Rattle.std.proofs.lemmas.Bool.{cases_lt, cases_Bool}
 use Rattle.std.proofs.lemmas.Grind.{common_steps}
 use Rattle.std.specs.Prelude.{nat_le, if◌then◌else◌}
@@ -123,41 +123,3 @@ first_row-none_higher last key other count order is =
 pub record RisesTo (last : ℕ → Option ℕ) (row before : ℕ) : Type 0 where
   pub rise : Rises last row
   pub most : (i key : ℕ) → i < row → reaches last key i ≡ true → key ≤ before
-
-reached_most : (last : ℕ → Option ℕ) (key row k : ℕ) → last row ≡ Some k → reaches last key row ≡ true → key ≤ k
-reached_most last key row k is reached =
-    let here : nat_le key k ≡ true = rw is at reached in
-    grind (arith, common_steps)
-
-reaches_up_to : (last : ℕ → Option ℕ) (key row k : ℕ) → last row ≡ Some k → key ≤ k → reaches last key row ≡ true
-reaches_up_to last key row k is order = rw is (grind (arith, common_steps))
-
-pub rises_to-none : (last : ℕ → Option ℕ) → RisesTo last 0 0
-rises_to-none last = record {
-  rise = λ i j key order less reached. absurd (omega arith);
-  most = λ i key less reached. absurd (omega arith);
-}
-
-most_next : (last : ℕ → Option ℕ) (row before next i key : ℕ) → RisesTo last row before → last row ≡ Some next
-    → before ≤ next → i < row + 1 → reaches last key i ≡ true → key ≤ next
-most_next last row before next i key so is order less reached =
-    elim (cases_lt i row) [
-      | inl lower ↦ let most = so.most i key lower reached in omega (arith, most)
-      | inr same ↦
-          let here : i ≡ row = omega arith in
-          reached_most last key row next is (subst (λ k. reaches last key k ≡ true) here reached)
-    ]
-
-pub rises_to-next : (last : ℕ → Option ℕ) (row before next : ℕ) → RisesTo last row before → last row ≡ Some next
-    → before ≤ next → RisesTo last (row + 1) next
-rises_to-next last row before next so is order = record {
-  rise = λ i j key upto less reached.
-      elim (cases_lt j row) [
-        | inl below ↦ so.rise i j key upto below reached
-        | inr same ↦
-            let here : j ≡ row = omega arith in
-            let most = most_next last row before next i key so is order (omega arith) reached in
-            subst (λ k. reaches last key k ≡ true) (sym here) (reaches_up_to last key row next is most)
-      ];
-  most = λ i key less reached. most_next last row before next i key so is order less reached;
-}

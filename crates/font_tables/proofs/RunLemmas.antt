@@ -10,19 +10,19 @@ use Rattle.font_tables.specs.Run.{IsRunFrom}
 use Rattle.font_tables.specs.declared.glyph_ranges.Run.{Run}
 use Rattle.font_tables.proofs.RowLemmas.{first_row-higher, first_row-none_higher, is_first}
 
-class_in_row : (table : List ℕ) (glyph row : ℕ) → first_row (range_last table) glyph (range_count table) ≡ Some row
+unwrap_or-in_row : (table : List ℕ) (glyph row : ℕ) → first_row (range_last table) glyph (range_count table) ≡ Some row
     → unwrap_or (ranged_class table glyph) 0
     ≡ (if is_within (range_first table row) glyph then unwrap_or (range_value table row) 0 else 0)
-class_in_row table glyph row is =
+unwrap_or-in_row table glyph row is =
     elim (cases_Bool (is_within (range_first table row) glyph)) [
       | inl within ↦ rw (is, within) refl
       | inr above ↦ rw (is, above) refl
     ]
 
-within_first : (first : Option ℕ) (glyph : ℕ) → glyph < 4294967295
+is_within-first : (first : Option ℕ) (glyph : ℕ) → glyph < 4294967295
     → is_within first glyph ≡ nat_le (unwrap_or first 4294967295) glyph
-within_first None glyph less = grind (arith, common_steps)
-within_first (Some f) glyph less = refl
+is_within-first None glyph less = grind (arith, common_steps)
+is_within-first (Some f) glyph less = refl
 
 reach_end : (other glyph end : ℕ) (last : Option ℕ) → end ≡ unwrap_or last 0 + 1 → other < end → is_at_most glyph last ≡ true
     → is_at_most other last ≡ true
@@ -54,8 +54,8 @@ run_of_row table run row glyph of is = λ other from before.
     reach_end other glyph run.end (range_last table row) of.end before it.passes in
     let same = first_row-higher (range_last table) glyph other (range_count table) row from is reached in
     let small : other < 4294967295 = (let most = of.small in omega (arith, before, most)) in
-    let begins = within_first (range_first table row) other small in
-    class_in_row table other row same ∙ rw (begins, of.first, of.value) refl
+    let begins = is_within-first (range_first table row) other small in
+    unwrap_or-in_row table other row same ∙ rw (begins, of.first, of.value) refl
 
 pub run_of_none : (table : List ℕ) (run : Run) (glyph : ℕ) → run.value ≡ 0
     → first_row (range_last table) glyph (range_count table) ≡ None → IsRunFrom table run glyph
