@@ -2,7 +2,7 @@
 
 ghost use Rattle.std.specs.Prelude.{◌≡◌, ◌<◌, ◌≤◌, ◌||◌, not, Bool, true, false, length, IfSome, IsTrue, None, Some, is_some};
 ghost use Rattle.font_tables.specs.Bytes.{table_at_16};
-ghost use Rattle.glyph_layout.specs.Asked.{IsApart, IsLookahead, IsInput, IsTold};
+ghost use Rattle.glyph_layout.specs.Asked.{IsLookahead, IsInput, IsTold};
 ghost use Rattle.glyph_layout.specs.Budget.{IsNotMore};
 ghost use Rattle.glyph_layout.specs.Context.{IsFitWithin};
 ghost use Rattle.glyph_layout.specs.Neighbours.{may_fit};
@@ -21,7 +21,7 @@ use crate::neighbours::{Beyond, Neighbours, looks_first, may_fit, seen_ahead};
 use crate::rule::{MatchFunctions, Rule, rule_in};
 use crate::search::{ApplyContext, Search};
 use crate::skipping_iterator::Skip;
-use crate::told::{Beside, Numbers, Told};
+use crate::told::{Beside, Told};
 use font_tables::bytes::{table_at_16, u16_at};
 use rb_glyph::hb_glyph_info_t;
 
@@ -227,8 +227,8 @@ fn first_unpassed(
 {
     match &seen.told {
         Some(told) => {
-            match told.first_within(known) {
-                Some(first) => first_unparted(rules, index, count, first, seen, _ctx),
+            match told.within(known) {
+                Some(told) => first_unparted(rules, index, count, &told, seen, _ctx),
                 None => index,
             }
         }
@@ -236,13 +236,13 @@ fn first_unpassed(
     }
 }
 
-/// The same where the next glyph was looked at before the rules: it is this one in the numbers of rules.
+/// The same where the next glyphs were looked at before the rules: these are they in the numbers of rules.
 #[tactic(auto, using(crate::proofs::RuleSetLemmas::first_steps))]
 fn first_unparted(
     rules: &RuleSet,
     index: usize,
     count: usize,
-    first: &Numbers,
+    told: &Told,
     _seen: &Seen,
     _ctx: &ApplyContext,
 ) -> usize
@@ -250,38 +250,32 @@ fn first_unparted(
     requires few { count < 65536 }
     requires neighbours { (p : Pattern) → may_fit _seen.now.neighbours p
         ≡ (not (looks_first _ctx.now rules.now.is_chained (rule_count rules.now.table.now)) || fits_next _ctx.now p) }
-    requires apart { IsApart _seen.now.neighbours rules.now.match_functions 0 first.now }
+    requires told { IsTold _seen.now.neighbours rules.now.match_functions told.now }
     ensures from { index ≤ result }
     ensures within { result ≤ count }
     ensures passed { first_rule _ctx.now rules.now.is_chained rules.now.match_functions rules.now.table.now index ≡ None
         → first_rule _ctx.now rules.now.is_chained rules.now.match_functions rules.now.table.now result ≡ None }
 {
     for at in index..count {
-        if !is_parted(rules, at, first, _seen, _ctx) {
+        if !is_parted(rules, at, told, _seen, _ctx) {
             return at;
         }
     }
     count
 }
 
-/// Whether the rule of this number asks for another next glyph than this one.
+/// Whether the rule of this number asks for other next glyphs than these.
 #[inline(always)]
-fn is_parted(
-    rules: &RuleSet,
-    index: usize,
-    first: &Numbers,
-    _seen: &Seen,
-    _ctx: &ApplyContext,
-) -> bool
+fn is_parted(rules: &RuleSet, index: usize, told: &Told, _seen: &Seen, _ctx: &ApplyContext) -> bool
     requires few { index < 65536 }
     requires neighbours { (p : Pattern) → may_fit _seen.now.neighbours p
         ≡ (not (looks_first _ctx.now rules.now.is_chained (rule_count rules.now.table.now)) || fits_next _ctx.now p) }
-    requires apart { IsApart _seen.now.neighbours rules.now.match_functions 0 first.now }
+    requires told { IsTold _seen.now.neighbours rules.now.match_functions told.now }
     ensures { IsTrue result
         → rule_at _ctx.now rules.now.is_chained rules.now.match_functions rules.now.table.now index ≡ None }
 {
     match table_within(rules.table, 2 + 2 * index) {
-        Some(table) => first.is_next_apart(table, rules.is_chained),
+        Some(table) => told.is_apart(table, rules.is_chained),
         None => false,
     }
 }
@@ -370,8 +364,10 @@ fn fit_at<'a>(
 {
     let table = table_at_16(rules.table, 2 + 2 * index)?;
     if let Some(end) = told_apart(table, rules.is_chained, seen) {
-        let _whole = rule_in(table, &rules.match_functions, rules.is_chained)?;
-        beyond.to = beyond.to.max(end);
+        if beyond.to < end {
+            let _whole = rule_in(table, &rules.match_functions, rules.is_chained)?;
+            beyond.to = end;
+        }
         return None;
     }
     if let Some(missed) = missed_by(table, rules.is_chained, seen) {

@@ -60,7 +60,7 @@ impl Numbers {
 
     /// Whether the rule in these bytes asks for something else right after the cursor, as far as its first bytes tell.
     #[inline(always)]
-    pub(crate) fn is_next_apart(&self, table: &[u8], is_chained: bool) -> bool
+    fn is_next_apart(&self, table: &[u8], is_chained: bool) -> bool
         ensures { IsTrue result → (neighbours : Neighbours) → (m : MatchFunctions) → (p : Pattern) → IsApart neighbours m 0 self.now
             → rule_pattern is_chained m table.now ≡ Some p → may_fit neighbours p ≡ false }
     {
@@ -136,14 +136,43 @@ impl Told {
         }
     }
 
-    /// The first glyph, if glyphs are known to be looked at so far.
-    pub(crate) fn first_within(&self, known: usize) -> Option<&Numbers>
-        ensures { IfSome result (λ first. first.now ≡ self.now.first) }
+    /// Those of these glyphs up to which glyphs are known to be looked at.
+    pub(crate) fn within(&self, known: usize) -> Option<Self>
+        ensures { IfSome result (λ told. (neighbours : Neighbours) → (m : MatchFunctions) → IsTold neighbours m self.now → IsTold neighbours m told) }
     {
-        if self.first.end <= known {
-            Some(&self.first)
-        } else {
-            None
+        if self.first.end > known {
+            return None;
+        }
+        match self.second {
+            Some(second) if second.end <= known => Some(*self),
+            _ => Some(Told {
+                first: self.first,
+                second: None,
+            }),
+        }
+    }
+
+    /// Whether the rule in these bytes asks for other glyphs.
+    #[inline(always)]
+    pub(crate) fn is_apart(&self, table: &[u8], is_chained: bool) -> bool
+        ensures { IsTrue result → (neighbours : Neighbours) → (m : MatchFunctions) → (p : Pattern) → IsTold neighbours m self.now
+            → rule_pattern is_chained m table.now ≡ Some p → may_fit neighbours p ≡ false }
+    {
+        if self.first.is_next_apart(table, is_chained) {
+            return true;
+        }
+        self.is_second_apart(table, is_chained)
+    }
+
+    /// Whether it asks for another second glyph.
+    #[inline(never)]
+    fn is_second_apart(&self, table: &[u8], is_chained: bool) -> bool
+        ensures { IsTrue result → (neighbours : Neighbours) → (m : MatchFunctions) → (p : Pattern) → IsTold neighbours m self.now
+            → rule_pattern is_chained m table.now ≡ Some p → may_fit neighbours p ≡ false }
+    {
+        match self.second {
+            Some(second) => second.is_apart(table, is_chained, 1),
+            None => false,
         }
     }
 

@@ -11,7 +11,7 @@ use crate::glyph_layout::neighbours::{Beyond, Neighbours, looks_first, may_fit, 
 use crate::glyph_layout::rule::{MatchFunctions, Rule, rule_in};
 use crate::glyph_layout::search::{ApplyContext, Search};
 use crate::glyph_layout::skipping_iterator::Skip;
-use crate::glyph_layout::told::{Beside, Numbers, Told};
+use crate::glyph_layout::told::{Beside, Told};
 
 /// The rule, if it fits at the cursor.
 ///
@@ -200,15 +200,15 @@ fn first_unpassed(
     debug_assert!(index <= count);
     debug_assert!(count < 65536);
     match &seen.told {
-        Some(told) => match told.first_within(known) {
-            Some(first) => first_unparted(rules, index, count, first, seen, _ctx),
+        Some(told) => match told.within(known) {
+            Some(told) => first_unparted(rules, index, count, &told, seen, _ctx),
             None => index,
         },
         None => first_unmissed(rules, index, count, seen, known, _ctx),
     }
 }
 
-/// The same where the next glyph was looked at before the rules: it is this one in the numbers of
+/// The same where the next glyphs were looked at before the rules: these are they in the numbers of
 /// rules.
 ///
 /// # Requires
@@ -216,43 +216,43 @@ fn first_unpassed(
 /// - `within: index ≤ count`
 /// - `few: count < 65536`
 /// - `neighbours: (p : Pattern) → may_fit _seen.now.neighbours p ≡ (not (looks_first _ctx.now rules.now.is_chained (rule_count rules.now.table.now)) || fits_next _ctx.now p)`
-/// - `apart: IsApart _seen.now.neighbours rules.now.match_functions 0 first.now`
+/// - `told: IsTold _seen.now.neighbours rules.now.match_functions told.now`
 fn first_unparted(
     rules: &RuleSet,
     index: usize,
     count: usize,
-    first: &Numbers,
+    told: &Told,
     _seen: &Seen,
     _ctx: &ApplyContext,
 ) -> usize {
     debug_assert!(index <= count);
     debug_assert!(count < 65536);
     for at in index..count {
-        if !is_parted(rules, at, first, _seen, _ctx) {
+        if !is_parted(rules, at, told, _seen, _ctx) {
             return at;
         }
     }
     count
 }
 
-/// Whether the rule of this number asks for another next glyph than this one.
+/// Whether the rule of this number asks for other next glyphs than these.
 ///
 /// # Requires
 ///
 /// - `few: index < 65536`
 /// - `neighbours: (p : Pattern) → may_fit _seen.now.neighbours p ≡ (not (looks_first _ctx.now rules.now.is_chained (rule_count rules.now.table.now)) || fits_next _ctx.now p)`
-/// - `apart: IsApart _seen.now.neighbours rules.now.match_functions 0 first.now`
+/// - `told: IsTold _seen.now.neighbours rules.now.match_functions told.now`
 #[inline(always)]
 fn is_parted(
     rules: &RuleSet,
     index: usize,
-    first: &Numbers,
+    told: &Told,
     _seen: &Seen,
     _ctx: &ApplyContext,
 ) -> bool {
     debug_assert!(index < 65536);
     match table_within(rules.table, 2 + 2 * index) {
-        Some(table) => first.is_next_apart(table, rules.is_chained),
+        Some(table) => told.is_apart(table, rules.is_chained),
         None => false,
     }
 }
@@ -341,8 +341,10 @@ fn fit_at<'a>(
     debug_assert!(index < 65536);
     let table = table_at_16(rules.table, 2 + 2 * index)?;
     if let Some(end) = told_apart(table, rules.is_chained, seen) {
-        let _whole = rule_in(table, &rules.match_functions, rules.is_chained)?;
-        beyond.to = beyond.to.max(end);
+        if beyond.to < end {
+            let _whole = rule_in(table, &rules.match_functions, rules.is_chained)?;
+            beyond.to = end;
+        }
         return None;
     }
     if let Some(missed) = missed_by(table, rules.is_chained, seen) {

@@ -51,7 +51,7 @@ impl Numbers {
     /// Whether the rule in these bytes asks for something else right after the cursor, as far as its first
     /// bytes tell.
     #[inline(always)]
-    pub(crate) fn is_next_apart(&self, table: &[u8], is_chained: bool) -> bool {
+    fn is_next_apart(&self, table: &[u8], is_chained: bool) -> bool {
         match asked_next(table, is_chained) {
             Some(asked) => self.is_other(&asked),
             None => false,
@@ -119,12 +119,35 @@ impl Told {
         }
     }
 
-    /// The first glyph, if glyphs are known to be looked at so far.
-    pub(crate) fn first_within(&self, known: usize) -> Option<&Numbers> {
-        if self.first.end <= known {
-            Some(&self.first)
-        } else {
-            None
+    /// Those of these glyphs up to which glyphs are known to be looked at.
+    pub(crate) fn within(&self, known: usize) -> Option<Self> {
+        if self.first.end > known {
+            return None;
+        }
+        match self.second {
+            Some(second) if second.end <= known => Some(*self),
+            _ => Some(Told {
+                first: self.first,
+                second: None,
+            }),
+        }
+    }
+
+    /// Whether the rule in these bytes asks for other glyphs.
+    #[inline(always)]
+    pub(crate) fn is_apart(&self, table: &[u8], is_chained: bool) -> bool {
+        if self.first.is_next_apart(table, is_chained) {
+            return true;
+        }
+        self.is_second_apart(table, is_chained)
+    }
+
+    /// Whether it asks for another second glyph.
+    #[inline(never)]
+    fn is_second_apart(&self, table: &[u8], is_chained: bool) -> bool {
+        match self.second {
+            Some(second) => second.is_apart(table, is_chained, 1),
+            None => false,
         }
     }
 
