@@ -36,4 +36,8 @@ pub trait FontFunctions {
 
     /// The bounds of a glyph; `None` where the font has none of it.
     fn glyph_extents(&self, glyph: GlyphId) -> Result<Option<GlyphExtents>, AllocError>;
+
+    /// Where a point of a glyph's outline is, to the right and upwards; `None` where the font does not know it. It is asked for at
+    /// sizes in pixels, for anchors of format 2.
+    fn glyph_contour_point(&self, glyph: GlyphId, point: u16) -> Option<(i32, i32)>;
 }

@@ -7,12 +7,15 @@ ghost use Rattle.shaping_buffer.specs.KeepsClusters.{KeepsClusters};
 
 use crate::watch::{Step, Watch};
 use font_face::Face;
+use font_functions::FontFunctions;
 use font_variations::Deltas;
 use glyph_layout::{Budget, Digest, LookupOptions, Search};
 use glyph_positions::{Setting, position_start};
 use layout_plan::{LayoutPlan, PlannedLookup, ShapePlan};
+use position_tables::contour_points::{ContourPoint, ContourPoints};
 use position_tables::instance::Instance;
 use position_tables::kern_table::KernTable;
+use rb_common::GlyphId;
 use shaping_buffer::hb_buffer_t;
 use std::alloc::AllocError;
 
@@ -47,11 +50,26 @@ fn instance_of<'a>(face: &'a Face) -> Instance<'a> {
     }
 }
 
+/// A font, as its lookups ask it for points of outlines.
+#[derive(Drop)]
+struct FontPoints<'a, F> {
+    font: &'a F,
+}
+
+impl<F: FontFunctions> ContourPoints for FontPoints<'_, F> {
+    fn contour_point(&self, glyph: u32, point: u16) -> Option<ContourPoint> {
+        let glyph = GlyphId(u16::try_from(glyph).unwrap_or(0));
+        let (x, y) = self.font.glyph_contour_point(glyph, point)?;
+        Some(ContourPoint { x, y })
+    }
+}
+
 /// Positions the glyphs by the lookups of `GPOS`, and by the table `kern` where `GPOS` does not kern.
 #[tactic(auto, using(shaping_buffer::proofs::ClosedKeepsLemmas::kept))]
-pub(crate) fn position_by_lookups<W: Watch>(
+pub(crate) fn position_by_lookups<F: FontFunctions, W: Watch>(
     buffer: &mut hb_buffer_t,
     face: &Face,
+    font: &F,
     plan: &ShapePlan,
     watch: &mut W,
 ) -> Result<(), AllocError>
@@ -62,15 +80,16 @@ pub(crate) fn position_by_lookups<W: Watch>(
     ensures keeps { KeepsClusters buffer.old buffer.new }
 {
     position_start(buffer);
-    position_by_gpos(buffer, face, plan, watch)?;
+    position_by_gpos(buffer, face, font, plan, watch)?;
     kern_by_table(buffer, face, plan, watch)
 }
 
 /// Applies the lookups of `GPOS`, where the plan has them.
 #[tactic(auto, using(shaping_buffer::proofs::ClosedKeepsLemmas::kept))]
-fn position_by_gpos<W: Watch>(
+fn position_by_gpos<F: FontFunctions, W: Watch>(
     buffer: &mut hb_buffer_t,
     face: &Face,
+    font: &F,
     plan: &ShapePlan,
     watch: &mut W,
 ) -> Result<(), AllocError>
@@ -81,7 +100,7 @@ fn position_by_gpos<W: Watch>(
     ensures keeps { KeepsClusters buffer.old buffer.new }
 {
     if plan.apply_gpos {
-        apply_positions(buffer, face, &plan.layout, watch)?;
+        apply_positions(buffer, face, font, &plan.layout, watch)?;
     }
     Ok(())
 }
@@ -109,9 +128,10 @@ fn kern_by_table<W: Watch>(
 
 /// Applies the lookups of `GPOS`.
 #[tactic(auto, using(shaping_buffer::proofs::ClosedKeepsLemmas::kept))]
-fn apply_positions<W: Watch>(
+fn apply_positions<F: FontFunctions, W: Watch>(
     buffer: &mut hb_buffer_t,
     face: &Face,
+    font: &F,
     layout: &LayoutPlan,
     watch: &mut W,
 ) -> Result<(), AllocError>
@@ -121,9 +141,11 @@ fn apply_positions<W: Watch>(
     ensures placed { IsSome buffer.new.positions }
     ensures keeps { KeepsClusters buffer.old buffer.new }
 {
+    let points = FontPoints { font };
     let setting = Setting {
         list: &face.lookups.positions,
         instance: instance_of(face),
+        points: &points,
     };
     let mut search = Search::new(budget_of(buffer));
     let glyphs = Digest::of_glyphs(buffer.info());
@@ -135,9 +157,9 @@ fn apply_positions<W: Watch>(
 
 /// Applies a lookup of `GPOS` of the plan, where it may be for one of the glyphs.
 #[tactic(auto, using(shaping_buffer::proofs::ClosedKeepsLemmas::kept))]
-fn apply_planned<W: Watch>(
+fn apply_planned<F: FontFunctions, W: Watch>(
     buffer: &mut hb_buffer_t,
-    setting: &Setting,
+    setting: &Setting<FontPoints<F>>,
     planned: &PlannedLookup,
     glyphs: &Digest,
     search: &mut Search,

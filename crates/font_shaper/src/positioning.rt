@@ -39,7 +39,7 @@ pub(crate) fn position<F: FontFunctions, W: Watch>(
     watch.step(Step::Advances, buffer)?;
     let adjusts = adjusts_marks(buffer, &plan.shape);
     zero_marks(buffer, zeroes_marks(plan, ZeroWidthMarks::Early), adjusts);
-    position_by_lookups(buffer, face, &plan.shape, watch)?;
+    position_by_lookups(buffer, face, font, &plan.shape, watch)?;
     track(buffer, face, plan.trak_mask);
     zero_marks(buffer, zeroes_marks(plan, ZeroWidthMarks::Late), adjusts);
     zero_deleted(buffer, plan);

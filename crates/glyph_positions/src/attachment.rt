@@ -8,8 +8,10 @@ use crate::chains::{ATTACH_TYPE_MARK, attach};
 use crate::flags::{mark_attached, mark_break, mark_concat};
 use crate::turn::Turn;
 use font_tables::bytes::{table_at_16, u16_at};
-use position_tables::anchors::{Anchor, anchor_in, mark_anchor, mark_class};
-use rb_glyph::GlyphPosition;
+use position_tables::anchors::{Anchor, anchor_in, mark_anchor, mark_class, named_point};
+use position_tables::contour_points::ContourPoints;
+use position_tables::instance::Instance;
+use rb_glyph::{GlyphPosition, hb_glyph_info_t};
 use shaping_buffer::hb_buffer_t;
 
 /// What a subtable finds at a mark.
@@ -34,22 +36,52 @@ pub(crate) struct Attachment {
     y: i32,
 }
 
+/// The anchor of the glyph at a place in a table.
+pub(crate) fn anchor_at<P: ContourPoints>(
+    table: &[u8],
+    instance: &Instance,
+    glyphs: &[hb_glyph_info_t],
+    place: usize,
+    points: &P,
+) -> Option<Anchor> {
+    let point = match (named_point(table, &instance.scale), glyphs.get(place)) {
+        (Some(point), Some(glyph)) => points.contour_point(glyph.glyph_id, point),
+        _ => None,
+    };
+    Anchor::read(table, instance, point)
+}
+
 /// The attachment of the mark to the glyph at a place, by the anchors of this row of a matrix.
-pub(crate) fn attachment_by(turn: &Turn, matrix: &[u8], row: u32, base: usize) -> AttachmentFound {
-    match offsets_of(turn, matrix, row) {
+pub(crate) fn attachment_by<P: ContourPoints>(
+    glyphs: &[hb_glyph_info_t],
+    turn: &Turn,
+    matrix: &[u8],
+    row: u32,
+    base: usize,
+    points: &P,
+) -> AttachmentFound {
+    match offsets_of(glyphs, turn, matrix, row, base, points) {
         Some((x, y)) => AttachmentFound::Attached(Attachment { base, x, y }),
         None => AttachmentFound::Nothing,
     }
 }
 
 /// From the anchor of the mark to the anchor of this row for the mark's class; `None` where the row has none.
-fn offsets_of(turn: &Turn, matrix: &[u8], row: u32) -> Option<(i32, i32)> {
+fn offsets_of<P: ContourPoints>(
+    glyphs: &[hb_glyph_info_t],
+    turn: &Turn,
+    matrix: &[u8],
+    row: u32,
+    base: usize,
+    points: &P,
+) -> Option<(i32, i32)> {
     let table = turn.subtable.table;
     let class_count = u16_at(table, 6)?;
     let marks = table_at_16(table, 8).unwrap_or(&[]);
     let anchor = anchor_in(matrix, row, mark_class(marks, turn.index), class_count)?;
-    let anchor = Anchor::read(anchor, turn.instance)?;
-    match Anchor::read(mark_anchor(marks, turn.index), turn.instance) {
+    let anchor = anchor_at(anchor, turn.instance, glyphs, base, points)?;
+    let own = mark_anchor(marks, turn.index);
+    match anchor_at(own, turn.instance, glyphs, turn.place, points) {
         Some(own) => Some((
             own.x_to(&anchor, &turn.instance.scale),
             own.y_to(&anchor, &turn.instance.scale),

@@ -3,8 +3,9 @@
 ghost use Rattle.std.specs.Prelude.{◌≡◌, false, IsSome};
 ghost use Rattle.glyph_layout.specs.Budget.{IsNotMore};
 
-use crate::turn::{Setting, Turn};
+use crate::turn::Turn;
 use glyph_layout::context::{Fit, fitting_rule};
+use glyph_layout::lookup_list::LookupList;
 use glyph_layout::search::{ApplyContext, Reach, Search};
 use glyph_layout::skipping_iterator::SkippingIterator;
 use rb_glyph::hb_glyph_info_t;
@@ -16,7 +17,7 @@ pub(crate) const CHAINED_CONTEXT: u16 = 8;
 /// are counted from the glyph.
 pub(crate) fn fit_at<'a>(
     glyphs: &[hb_glyph_info_t],
-    setting: &Setting<'a>,
+    list: &'a LookupList<'a>,
     turn: &Turn<'a>,
     context: &SkippingIterator<'a>,
     search: &mut Search,
@@ -36,12 +37,5 @@ pub(crate) fn fit_at<'a>(
         is_level: true,
     };
     let is_chained = turn.subtable.lookup_type == CHAINED_CONTEXT;
-    fitting_rule(
-        setting.list,
-        turn.subtable,
-        turn.index,
-        is_chained,
-        &ctx,
-        search,
-    )
+    fitting_rule(list, turn.subtable, turn.index, is_chained, &ctx, search)
 }

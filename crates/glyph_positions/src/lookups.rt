@@ -20,6 +20,7 @@ use glyph_layout::lookup_props::covered_index;
 use glyph_layout::search::{MatchPositions, Search};
 use glyph_layout::skipping_iterator::{LookupOptions, SkippingIterator};
 use glyph_layout::subtable::Subtable;
+use position_tables::contour_points::ContourPoints;
 use rb_glyph::hb_glyph_info_t;
 use shaping_buffer::hb_buffer_t;
 use std::mem;
@@ -28,10 +29,10 @@ use std::mem;
 const MAX_NESTING_LEVEL: u32 = 64;
 
 /// A lookup at a glyph.
-#[derive(Clone, Copy, Debug)]
-struct Task<'a> {
+#[derive(Drop)]
+struct Task<'a, P> {
     /// The font's lookups and its size.
-    setting: &'a Setting<'a>,
+    setting: &'a Setting<'a, P>,
     /// The lookup.
     lookup: &'a Lookup<'a>,
     /// How it is applied.
@@ -45,9 +46,9 @@ struct Task<'a> {
 /// Positions the glyphs by the lookup of this index, where the buffer's glyphs have one of the options' bits. A budget that is spent
 /// ends the iterator, and `buffer.shaping_failed` says so.
 #[tactic(auto, using(crate::proofs::FlagLemmas::keeps_by))]
-pub fn position(
+pub fn position<P: ContourPoints>(
     buffer: &mut hb_buffer_t,
-    setting: &Setting,
+    setting: &Setting<P>,
     lookup: u16,
     options: &LookupOptions,
     search: &mut Search,
@@ -69,9 +70,9 @@ pub fn position(
 }
 
 /// Positions the glyphs by a lookup, one after the other.
-fn place_all<'a>(
+fn place_all<'a, P: ContourPoints>(
     buffer: &mut hb_buffer_t,
-    setting: &'a Setting<'a>,
+    setting: &'a Setting<'a, P>,
     lookup: u16,
     options: &'a LookupOptions,
     search: &mut Search,
@@ -118,9 +119,9 @@ fn next_place(glyphs: &[hb_glyph_info_t], lookup: &Lookup, mask: u32, from: usiz
 
 /// Positions the glyph by the first subtable that does, and says where the iterator goes on.
 #[cycle(nested)]
-fn place_by_lookup<'a>(
+fn place_by_lookup<'a, P: ContourPoints>(
     buffer: &mut hb_buffer_t,
-    task: &Task<'a>,
+    task: &Task<'a, P>,
     search: &mut Search,
     last: &mut LastBase,
 ) -> Option<usize>
@@ -160,9 +161,9 @@ fn index_in(subtable: &Subtable, glyph: u32) -> Option<u32>
 /// Positions the glyph, which has this coverage index in a subtable, by the subtable, and says where the iterator goes on; `None` where the subtable does not fit.
 #[cycle(nested)]
 #[inline(never)]
-fn place_by_subtable<'a>(
+fn place_by_subtable<'a, P: ContourPoints>(
     buffer: &mut hb_buffer_t,
-    task: &Task<'a>,
+    task: &Task<'a, P>,
     subtable: &'a Subtable<'a>,
     index: u32,
     search: &mut Search,
@@ -184,13 +185,14 @@ fn place_by_subtable<'a>(
         place: task.place,
         index,
     };
+    let points = task.setting.points;
     match subtable.lookup_type {
         1 => place_single(buffer, &turn),
         2 => place_pair(buffer, &turn),
-        3 => place_cursive(buffer, &turn),
-        4 => place_on_base(buffer, &turn, last),
-        5 => place_on_ligature(buffer, &turn, last),
-        6 => place_on_mark(buffer, &turn),
+        3 => place_cursive(buffer, &turn, points),
+        4 => place_on_base(buffer, &turn, last, points),
+        5 => place_on_ligature(buffer, &turn, last, points),
+        6 => place_on_mark(buffer, &turn, points),
         7 | 8 => place_by_context(buffer, task, &turn, search, last),
         _ => None,
     }
@@ -198,9 +200,9 @@ fn place_by_subtable<'a>(
 
 /// Applies the lookups of the rule that fits at the glyph, and says where the iterator goes on.
 #[cycle(nested)]
-fn place_by_context<'a>(
+fn place_by_context<'a, P: ContourPoints>(
     buffer: &mut hb_buffer_t,
-    task: &Task<'a>,
+    task: &Task<'a, P>,
     turn: &Turn<'a>,
     search: &mut Search,
     last: &mut LastBase,
@@ -214,7 +216,7 @@ fn place_by_context<'a>(
     ensures spent { IsNotMore search.old.budget search.new.budget }
 {
     let context = SkippingIterator::over_context(task.lookup.lookup_props, task.options, true);
-    let fit = fit_at(buffer.info(), task.setting, turn, &context, search);
+    let fit = fit_at(buffer.info(), task.setting.list, turn, &context, search);
     let reached = turn.place.saturating_add(search.reach.to);
     mark_concat(buffer, search.reach.from, reached);
     let fit = fit?;
@@ -228,9 +230,9 @@ fn place_by_context<'a>(
 
 /// Applies the lookups of a rule at the glyphs that it names, whose places are counted from the rule's first glyph.
 #[cycle(nested)]
-fn apply_records<'a>(
+fn apply_records<'a, P: ContourPoints>(
     buffer: &mut hb_buffer_t,
-    task: &Task<'a>,
+    task: &Task<'a, P>,
     fit: &Fit<'a>,
     places: &MatchPositions,
     search: &mut Search,
@@ -256,12 +258,12 @@ fn apply_records<'a>(
 }
 
 /// The lookup of a record, at the glyph that the record names; `None` where there is no such lookup or glyph.
-fn nested_task<'a>(
-    task: &Task<'a>,
+fn nested_task<'a, P>(
+    task: &Task<'a, P>,
     fit: &Fit,
     places: &MatchPositions,
     index: usize,
-) -> Option<Task<'a>>
+) -> Option<Task<'a, P>>
     ensures { IfSome result (λ nested. nested.depth ≡ task.now.depth - 1) }
 {
     let record = fit.record(index)?;

@@ -12,6 +12,7 @@ use glyph_layout::lookup_props::{LookupProps, covered_index};
 use glyph_layout::matcher::Matcher;
 use glyph_layout::skipping_iterator::{Found, Skip, SkippingIterator};
 use position_tables::anchors::ligature_matrix;
+use position_tables::contour_points::ContourPoints;
 use rb_glyph::{Flags, GlyphPropsFlags, hb_glyph_info_t};
 use shaping_buffer::hb_buffer_t;
 
@@ -41,10 +42,11 @@ impl LastBase {
 }
 
 /// Attaches a mark to the last base before it.
-pub(crate) fn place_on_base(
+pub(crate) fn place_on_base<P: ContourPoints>(
     buffer: &mut hb_buffer_t,
     turn: &Turn,
     last: &mut LastBase,
+    points: &P,
 ) -> Option<usize>
     requires closed { buffer.old.have_output ≡ false }
     requires placed { IsSome buffer.old.positions }
@@ -53,27 +55,33 @@ pub(crate) fn place_on_base(
     ensures level { buffer.new.cluster_level ≡ buffer.old.cluster_level }
     ensures glyphs { reset_masks 0 buffer.new.input ≡ reset_masks 0 buffer.old.input }
 {
-    let found = base_of(buffer.info(), turn, last);
+    let found = base_of(buffer.info(), turn, last, points);
     attach_mark(buffer, turn.place, &found)
 }
 
 /// The attachment to a base.
-fn base_of(glyphs: &[hb_glyph_info_t], turn: &Turn, last: &mut LastBase) -> AttachmentFound {
+fn base_of<P: ContourPoints>(
+    glyphs: &[hb_glyph_info_t],
+    turn: &Turn,
+    last: &mut LastBase,
+    points: &P,
+) -> AttachmentFound {
     find_base(glyphs, turn, last, true);
     match base_index(glyphs, turn, last.base) {
         Ok((base, row)) => {
             let bases = table_at_16(turn.subtable.table, 10).unwrap_or(&[]);
-            attachment_by(turn, bases, row, base)
+            attachment_by(glyphs, turn, bases, row, base, points)
         }
         Err(from) => AttachmentFound::NoBase(from),
     }
 }
 
 /// Attaches a mark to a component of the last ligature before it.
-pub(crate) fn place_on_ligature(
+pub(crate) fn place_on_ligature<P: ContourPoints>(
     buffer: &mut hb_buffer_t,
     turn: &Turn,
     last: &mut LastBase,
+    points: &P,
 ) -> Option<usize>
     requires closed { buffer.old.have_output ≡ false }
     requires placed { IsSome buffer.old.positions }
@@ -82,19 +90,24 @@ pub(crate) fn place_on_ligature(
     ensures level { buffer.new.cluster_level ≡ buffer.old.cluster_level }
     ensures glyphs { reset_masks 0 buffer.new.input ≡ reset_masks 0 buffer.old.input }
 {
-    let found = ligature_of(buffer.info(), turn, last);
+    let found = ligature_of(buffer.info(), turn, last, points);
     attach_mark(buffer, turn.place, &found)
 }
 
 /// The attachment to a ligature.
-fn ligature_of(glyphs: &[hb_glyph_info_t], turn: &Turn, last: &mut LastBase) -> AttachmentFound {
+fn ligature_of<P: ContourPoints>(
+    glyphs: &[hb_glyph_info_t],
+    turn: &Turn,
+    last: &mut LastBase,
+    points: &P,
+) -> AttachmentFound {
     find_base(glyphs, turn, last, false);
     match base_index(glyphs, turn, last.base) {
         Ok((base, index)) => {
             let ligatures = table_at_16(turn.subtable.table, 10).unwrap_or(&[]);
             let matrix = ligature_matrix(ligatures, index).unwrap_or(&[]);
             match ligature_row(glyphs, matrix, base, turn.place) {
-                Some(row) => attachment_by(turn, matrix, row, base),
+                Some(row) => attachment_by(glyphs, turn, matrix, row, base, points),
                 None => AttachmentFound::NoBase(base),
             }
         }
@@ -103,7 +116,11 @@ fn ligature_of(glyphs: &[hb_glyph_info_t], turn: &Turn, last: &mut LastBase) -> 
 }
 
 /// Attaches a mark to the mark before it.
-pub(crate) fn place_on_mark(buffer: &mut hb_buffer_t, turn: &Turn) -> Option<usize>
+pub(crate) fn place_on_mark<P: ContourPoints>(
+    buffer: &mut hb_buffer_t,
+    turn: &Turn,
+    points: &P,
+) -> Option<usize>
     requires closed { buffer.old.have_output ≡ false }
     requires placed { IsSome buffer.old.positions }
     ensures closed { buffer.new.have_output ≡ false }
@@ -111,18 +128,22 @@ pub(crate) fn place_on_mark(buffer: &mut hb_buffer_t, turn: &Turn) -> Option<usi
     ensures level { buffer.new.cluster_level ≡ buffer.old.cluster_level }
     ensures glyphs { reset_masks 0 buffer.new.input ≡ reset_masks 0 buffer.old.input }
 {
-    let found = mark_of(buffer.info(), turn);
+    let found = mark_of(buffer.info(), turn, points);
     attach_mark(buffer, turn.place, &found)
 }
 
 /// The attachment to a mark.
-fn mark_of(glyphs: &[hb_glyph_info_t], turn: &Turn) -> AttachmentFound {
+fn mark_of<P: ContourPoints>(
+    glyphs: &[hb_glyph_info_t],
+    turn: &Turn,
+    points: &P,
+) -> AttachmentFound {
     match mark_before(glyphs, turn) {
         Found::At(before) if is_fellow(glyphs, before, turn.place) => {
             match base_index(glyphs, turn, Some(before)) {
                 Ok((base, row)) => {
                     let marks = table_at_16(turn.subtable.table, 10).unwrap_or(&[]);
-                    attachment_by(turn, marks, row, base)
+                    attachment_by(glyphs, turn, marks, row, base, points)
                 }
                 Err(from) => AttachmentFound::NoBase(from),
             }

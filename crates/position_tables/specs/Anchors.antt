@@ -1,12 +1,15 @@
 -- Anchors: points of glyphs, at which others are attached.
-use Rattle.std.specs.Prelude.{ℕ, ℤ, List, Option, None, Some, ◌+◌, ◌*◌, ◌&&◌, ◌-ℤ◌, nat_eq, nat_le, nat_lt, length, []}
-use Rattle.std.specs.Prelude.{if◌then◌else◌, unwrap_or, pos, option_and_then}
+use Rattle.std.specs.Prelude.{ℕ, ℤ, List, Option, None, Some, ◌+◌, ◌*◌, ◌&&◌, ◌||◌, ◌-ℤ◌, nat_eq, nat_le, nat_lt, length, []}
+use Rattle.std.specs.Prelude.{if◌then◌else◌, unwrap_or, pos, option_and_then, option_map}
+use Rattle.std.specs.Option.{option_map_or}
 use Rattle.std.specs.Int.{w32, int_wrapping_add, int_wrapping_sub}
-use Rattle.font_tables.specs.Bytes.{number_16, signed_16, table_at_16}
+use Rattle.font_tables.specs.Bytes.{number_16, signed_16, table_at_16, is_number}
 use Rattle.font_tables.specs.Scale.{distance}
+use Rattle.font_tables.specs.declared.scale.Scale.{Scale}
 use Rattle.position_tables.specs.Corrections.{x_correction, y_correction}
 use Rattle.position_tables.specs.declared.instance.Instance.{Instance}
 use Rattle.position_tables.specs.declared.anchors.Anchor.{Anchor}
+use Rattle.position_tables.specs.declared.contour_points.ContourPoint.{ContourPoint}
 
 -- how many bytes an anchor of this format has
 abbrev pub anchor_size : ℕ → ℕ
@@ -30,10 +33,29 @@ known_anchor table format instance =
       y_delta = y_correction table (device_offset table format 8) instance;
     }) else None
 
--- the anchor in a table; one of an unknown format is the origin
-unfoldable pub anchor : List ℕ → Instance → Option Anchor
-anchor table instance = option_and_then (λ format.
-    if nat_le 1 format && nat_le format 3 then known_anchor table format instance
+-- the point of the outline that format 2 names, where glyphs are drawn in pixels
+abbrev pub named_point : List ℕ → Scale → Option ℕ
+named_point table scale =
+    if is_number (number_16 table 0) 2 && (nat_lt 0 scale.x_ppem || nat_lt 0 scale.y_ppem) then number_16 table 6 else None
+
+-- an anchor at a point, in the directions that have pixels
+abbrev pub at_point : Anchor → Scale → ContourPoint → Anchor
+at_point own scale point = record {
+  x = if nat_lt 0 scale.x_ppem then pos 0 else own.x;
+  y = if nat_lt 0 scale.y_ppem then pos 0 else own.y;
+  x_delta = if nat_lt 0 scale.x_ppem then point.x else own.x_delta;
+  y_delta = if nat_lt 0 scale.y_ppem then point.y else own.y_delta;
+}
+
+-- an anchor of this format, which in format 2 is at the point where there is one
+abbrev pub moved_to : Anchor → ℕ → Scale → Option ContourPoint → Anchor
+moved_to own format scale point = if nat_eq format 2 then option_map_or (at_point own scale) point own else own
+
+-- the anchor in a table, where the font knows this point of the outline; one of an unknown format is the origin
+unfoldable pub anchor : List ℕ → Instance → Option ContourPoint → Option Anchor
+anchor table instance point = option_and_then (λ format.
+    if nat_le 1 format && nat_le format 3
+    then option_map (λ own. moved_to own format instance.scale point) (known_anchor table format instance)
     else Some (record { x = pos 0; y = pos 0; x_delta = pos 0; y_delta = pos 0 })) (number_16 table 0)
 
 -- where a number of font units is at a size, with its correction

@@ -6,8 +6,9 @@ ghost use Rattle.std.specs.Prelude.{◌-ℤ◌};
 ghost use Rattle.std.specs.Int.{w32, int_wrapping_add, int_wrapping_sub};
 ghost use Rattle.std.specs.Option.{option_copied};
 ghost use Rattle.position_tables.specs.Anchors.{anchor, known_anchor, anchor_size, device_offset, coordinate, between, anchor_in, mark_class, mark_anchor};
-ghost use Rattle.position_tables.specs.Anchors.{ligature_matrix, placed};
+ghost use Rattle.position_tables.specs.Anchors.{ligature_matrix, placed, named_point, at_point, moved_to};
 
+use crate::contour_points::ContourPoint;
 use crate::devices::{x_correction, y_correction};
 use crate::instance::Instance;
 use font_tables::bytes::{i16_at, table_at_16, u16_at};
@@ -27,15 +28,20 @@ pub struct Anchor {
 }
 
 impl Anchor {
-    /// The anchor in a table. One of an unknown format is the origin; `None` where the table is cut short. The point of an
-    /// outline that format 2 names is not used, as HarfBuzz's own functions do not know it.
+    /// The anchor in a table. One of an unknown format is the origin; `None` where the table is cut short. In pixels one of format 2
+    /// is the point of the outline that `named_point` names, where the font knows it.
     #[tactic(auto, unfolding(crate::specs::Anchors::anchor))]
-    pub fn read(table: &[u8], instance: &Instance<'_>) -> Option<Anchor>
-        ensures { result ≡ anchor table.now instance.now }
+    pub fn read(
+        table: &[u8],
+        instance: &Instance<'_>,
+        point: Option<ContourPoint>,
+    ) -> Option<Anchor>
+        ensures { result ≡ anchor table.now instance.now point }
     {
         let format = u16_at(table, 0)?;
         if 1 <= format && format <= 3 {
-            known_anchor(table, format, instance)
+            let own = known_anchor(table, format, instance)?;
+            Some(moved_to(own, format, &instance.scale, point))
         } else {
             Some(Anchor {
                 x: 0,
@@ -78,6 +84,49 @@ impl Anchor {
     {
         let distance = scale.distance_y(difference(self.y, other.y));
         moved(distance, other.y_delta, self.y_delta)
+    }
+}
+
+/// The point of an outline that is the anchor of format 2 where glyphs are drawn in pixels; `None` where a table names none.
+pub fn named_point(table: &[u8], scale: &Scale) -> Option<u16>
+    ensures { result ≡ named_point table.now scale.now }
+{
+    if matches!(u16_at(table, 0), Some(2)) && (scale.x_ppem > 0 || scale.y_ppem > 0) {
+        u16_at(table, 6)
+    } else {
+        None
+    }
+}
+
+/// An anchor of this format, which in format 2 is at the point where there is one.
+fn moved_to(own: Anchor, format: u16, scale: &Scale, point: Option<ContourPoint>) -> Anchor
+    ensures { result ≡ moved_to own format scale.now point }
+{
+    match point {
+        Some(point) if format == 2 => at_point(own, scale, point),
+        _ => own,
+    }
+}
+
+/// The anchor at a point, in the directions that have pixels.
+fn at_point(own: Anchor, scale: &Scale, point: ContourPoint) -> Anchor
+    ensures { result ≡ at_point own scale.now point }
+{
+    let (x, x_delta) = if scale.x_ppem > 0 {
+        (0, point.x)
+    } else {
+        (own.x, own.x_delta)
+    };
+    let (y, y_delta) = if scale.y_ppem > 0 {
+        (0, point.y)
+    } else {
+        (own.y, own.y_delta)
+    };
+    Anchor {
+        x,
+        y,
+        x_delta,
+        y_delta,
     }
 }
 

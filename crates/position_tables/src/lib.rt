@@ -5,6 +5,7 @@
 #![tactic(auto)]
 
 pub mod anchors;
+pub mod contour_points;
 pub mod devices;
 pub mod instance;
 pub mod kern_table;

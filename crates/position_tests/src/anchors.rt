@@ -3,49 +3,71 @@
 use crate::bytes::bytes_of;
 use font_tables::scale::Scale;
 use font_variations::Deltas;
-use position_tables::anchors::{Anchor, anchor_in, ligature_matrix, mark_anchor, mark_class};
+use position_tables::anchors::{
+    Anchor, anchor_in, ligature_matrix, mark_anchor, mark_class, named_point,
+};
+use position_tables::contour_points::{ContourPoint, ContourPoints, NoPoints};
 use position_tables::instance::Instance;
 use std::alloc::AllocError;
 
 /// Where an anchor is: across and up, and how far it is moved.
 type Place = (i16, i16, i32, i32);
 
-/// An anchor in numbers of 16 bits, where an em of 1,000 units has 12 pixels across and 10 up, and where it is.
+/// An anchor in numbers of 16 bits, where an em of 1,000 units has 12 pixels across and 10 up, a point of an outline, and where it is.
 struct Row {
     name: &'static str,
     words: &'static [u16],
+    point: Option<ContourPoint>,
     place: Option<Place>,
 }
 
-static ROWS: [Row; 6] = [
+static ROWS: [Row; 8] = [
     Row {
         name: "format 1 is two numbers",
         words: &[1, 189, 0xFF99],
+        point: None,
         place: Some((189, -103, 0, 0)),
     },
     Row {
-        name: "the point of format 2 is not used",
+        name: "format 2 is two numbers where the font does not know its point",
         words: &[2, 322, 900, 13],
+        point: None,
         place: Some((322, 900, 0, 0)),
+    },
+    Row {
+        name: "format 2 is its point",
+        words: &[2, 322, 900, 13],
+        point: Some(ContourPoint { x: 190, y: -45 }),
+        place: Some((0, 0, 190, -45)),
+    },
+    Row {
+        name: "format 1 is no point",
+        words: &[1, 189, 0xFF99],
+        point: Some(ContourPoint { x: 190, y: -45 }),
+        place: Some((189, -103, 0, 0)),
     },
     Row {
         name: "format 3 has a device table for each number: one pixel across, and three down",
         words: &[3, 279, 1301, 10, 18, 11, 15, 1, 0x5540, 9, 11, 2, 0x0D00],
+        point: None,
         place: Some((279, 1301, 83, -300)),
     },
     Row {
         name: "an offset of 0 is no device table",
         words: &[3, 279, 1301, 0, 10, 9, 11, 2, 0x0D00],
+        point: None,
         place: Some((279, 1301, 0, -300)),
     },
     Row {
         name: "one of an unknown format is the origin",
         words: &[4, 7, 7],
+        point: None,
         place: Some((0, 0, 0, 0)),
     },
     Row {
         name: "one that is cut short is none",
         words: &[3, 279, 1301, 0],
+        point: None,
         place: None,
     },
 ];
@@ -66,12 +88,39 @@ fn anchors_are_read(rt: HostRuntime) -> Result<(), AllocError> {
     let instance = in_pixels();
     for row in &ROWS {
         let table = bytes_of(rt.alloc(), row.words)?;
-        let place = match Anchor::read(&table, &instance) {
+        let place = match Anchor::read(&table, &instance, row.point) {
             Some(anchor) => Some((anchor.x, anchor.y, anchor.x_delta, anchor.y_delta)),
             None => None,
         };
         assert!(rt; place == row.place, "{}", row.name);
     }
+    Ok(())
+}
+
+/// The point that a table names, at a size in pixels and at others.
+#[test]
+fn points_are_named(rt: HostRuntime) -> Result<(), AllocError> {
+    let named = bytes_of(rt.alloc(), &[2, 322, 900, 13])?;
+    let other = bytes_of(rt.alloc(), &[1, 322, 900, 13])?;
+    let mut scale = Scale::of_em(1000);
+    assert!(rt; named_point(&named, &scale).is_none());
+    scale.y_ppem = 10;
+    assert!(rt; named_point(&named, &scale) == Some(13));
+    assert!(rt; named_point(&other, &scale).is_none());
+    assert!(rt; NoPoints.contour_point(7, 13).is_none());
+    Ok(())
+}
+
+/// An anchor is at its point only in the direction that has pixels.
+#[test]
+fn points_are_of_directions_with_pixels(rt: HostRuntime) -> Result<(), AllocError> {
+    let named = bytes_of(rt.alloc(), &[2, 322, 900, 13])?;
+    let mut instance = in_pixels();
+    instance.scale.x_ppem = 0;
+    let point = ContourPoint { x: 190, y: -45 };
+    let place = Anchor::read(&named, &instance, Some(point));
+    assert!(rt; place.is_some_and(|anchor| anchor.x == 322 && anchor.x_delta == 0));
+    assert!(rt; place.is_some_and(|anchor| anchor.y == 0 && anchor.y_delta == -45));
     Ok(())
 }
 

@@ -13,6 +13,7 @@ use glyph_layout::lookup_list::LookupList;
 use glyph_layout::search::Search;
 use glyph_layout::skipping_iterator::LookupOptions;
 use glyph_positions::{Setting, kern, position, position_finish_offsets, position_start};
+use position_tables::contour_points::NoPoints;
 use position_tables::instance::Instance;
 use position_tables::kern_table::KernTable;
 use rb_common::Direction;
@@ -110,6 +111,7 @@ fn position_all(buffer: &mut hb_buffer_t, list: &LookupList, budget: Budget)
             scale: Scale::of_em(1000),
             deltas: Deltas::NONE,
         },
+        points: &NoPoints,
     };
     let mut search = Search::new(budget);
     position_start(buffer);

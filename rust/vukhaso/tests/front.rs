@@ -161,6 +161,11 @@ impl vukhaso::FontFunctions for Fickle {
     ) -> Result<Option<vukhaso::GlyphExtents>, vukhaso::AllocError> {
         Ok(None)
     }
+
+    fn glyph_contour_point(&self, _glyph: vukhaso::GlyphId, point: u16) -> Option<(i32, i32)> {
+        let number = self.number();
+        (point % 2 == 0).then_some((number, self.number()))
+    }
 }
 
 /// This is tested: what is proved is of fonts whose characters have glyphs or have none.

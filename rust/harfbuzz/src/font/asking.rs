@@ -215,6 +215,19 @@ impl hb_font_t {
         self.parent()?.contour_point(glyph, point).map(|(x, y)| (self.scaled_across(x), self.scaled_upwards(y)))
     }
 
+    /// Where a point of an outline is from the glyph's origin in lines of a direction.
+    pub fn contour_point_for(
+        &self,
+        glyph: hb_codepoint_t,
+        point: c_uint,
+        direction: hb_direction_t,
+    ) -> Option<(hb_position_t, hb_position_t)> {
+        self.contour_point(glyph, point).map(|found| {
+            let origin = self.origin_for(glyph, direction);
+            (found.0.wrapping_sub(origin.0), found.1.wrapping_sub(origin.1))
+        })
+    }
+
     /// The name of a glyph, cut to as many bytes as there is room for.
     pub fn glyph_name(&self, glyph: hb_codepoint_t, size: usize) -> Option<Vec<u8>> {
         if let Some(slot) = self.class().slots.name.get() {

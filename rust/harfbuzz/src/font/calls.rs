@@ -177,11 +177,7 @@ ask! {
         font, glyph: hb_codepoint_t, point: c_uint, direction: hb_direction_t, x: *mut hb_position_t,
         y: *mut hb_position_t
     ) -> hb_bool_t {
-        let moved = font.contour_point(glyph, point).map(|found| {
-            let origin = font.origin_for(glyph, direction);
-            (found.0 - origin.0, found.1 - origin.1)
-        });
-        answered_pair(moved, x, y)
+        answered_pair(font.contour_point_for(glyph, point, direction), x, y)
     }
 }
 

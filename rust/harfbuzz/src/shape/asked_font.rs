@@ -7,7 +7,7 @@ use crate::buffer::{hb_buffer_t, hb_glyph_info_t, hb_glyph_position_t};
 use crate::font::functions::Slots;
 use crate::font::{hb_font_t, opentype};
 use crate::shape::Shaped;
-use crate::types::{TOP_TO_BOTTOM, is_backward, is_horizontal};
+use crate::types::{LEFT_TO_RIGHT, TOP_TO_BOTTOM, is_backward, is_horizontal};
 use std::cell::RefCell;
 use std::collections::HashMap;
 use vukhaso::{AllocError, FontFunctions, GlyphExtents, GlyphId};
@@ -29,8 +29,8 @@ impl hb_font_t {
     fn is_own(&self, is_set: impl Fn(&Slots) -> bool) -> bool {
         self.answering(is_set).is_some_and(|font| {
             let (x, y, _) = font.strength();
-            let is_at_size = std::ptr::eq(font, self)
-                || font.scale() == self.scale() && *font.coordinates() == *self.coordinates();
+            let is_at_size =
+                std::ptr::eq(font, self) || font.scale() == self.scale() && *font.coordinates() == *self.coordinates();
             let is_plain = (x, y) == (0, 0) && font.slant() == 0.0;
             std::ptr::eq(font.functions(), opentype::functions()) && is_plain && is_at_size
         })
@@ -44,6 +44,7 @@ impl hb_font_t {
             && self.is_own(|slots| slots.v_advance.get().is_some() || slots.v_advances.get().is_some())
             && self.is_own(|slots| slots.v_origin.get().is_some())
             && self.is_own(|slots| slots.extents.get().is_some())
+            && self.answering(|slots| slots.contour_point.get().is_some()).is_none()
     }
 }
 
@@ -149,6 +150,10 @@ impl FontFunctions for AskedFont<'_> {
             width: bounds.width,
             height: bounds.height,
         }))
+    }
+
+    fn glyph_contour_point(&self, glyph: GlyphId, point: u16) -> Option<(i32, i32)> {
+        self.font.contour_point_for(self.widen(glyph.0.into()), point.into(), LEFT_TO_RIGHT)
     }
 }
 

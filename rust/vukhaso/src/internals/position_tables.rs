@@ -6,6 +6,7 @@
 //! hold whole is passed over.
 
 pub mod anchors;
+pub mod contour_points;
 pub mod devices;
 pub mod instance;
 pub mod kern_table;

@@ -5,7 +5,7 @@ use Rattle.glyph_layout.specs.Budget.{IsNotMore}
 use Rattle.glyph_positions.proofs.lookups.place_all.Given as goal
 
 abbrev pub invariant-loop-turn : goal.invariant-loop-turn
-invariant-loop-turn l = record {
+invariant-loop-turn g l = record {
   closed : l.buffer.have_output ≡ false;
   placed : IsSome l.buffer.positions;
   level : l.buffer.cluster_level ≡ l.fn.buffer.cluster_level;

@@ -69,4 +69,12 @@ pub trait FontFunctions {
     ///
     /// That it returns.
     fn glyph_extents(&self, glyph: GlyphId) -> Result<Option<GlyphExtents>, AllocError>;
+
+    /// Where a point of a glyph's outline is, to the right and upwards; `None` where the font does not know
+    /// it. It is asked for at sizes in pixels, for anchors of format 2.
+    ///
+    /// # Proved
+    ///
+    /// That it returns.
+    fn glyph_contour_point(&self, glyph: GlyphId, point: u16) -> Option<(i32, i32)>;
 }

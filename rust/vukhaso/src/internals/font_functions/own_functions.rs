@@ -48,4 +48,8 @@ impl FontFunctions for OwnFunctions<'_> {
     fn glyph_extents(&self, glyph: GlyphId) -> Result<Option<GlyphExtents>, AllocError> {
         self.face.glyph_extents(glyph)
     }
+
+    fn glyph_contour_point(&self, _glyph: GlyphId, _point: u16) -> Option<(i32, i32)> {
+        None
+    }
 }

@@ -3,13 +3,16 @@
 //! The lookups that position glyphs, applied to a text in the order of its plan.
 
 use crate::buffer::hb_buffer_t;
+use crate::common::GlyphId;
 use crate::font_face::Face;
+use crate::font_functions::FontFunctions;
 use crate::font_shaper::watch::{Step, Watch};
 use crate::font_variations::Deltas;
 use crate::glyph_layout::{Budget, Digest, LookupOptions, Search};
 use crate::glyph_positions::{Setting, position_start};
 use crate::layout_plan::{LayoutPlan, PlannedLookup, ShapePlan};
 use crate::memory::AllocError;
+use crate::position_tables::contour_points::{ContourPoint, ContourPoints};
 use crate::position_tables::instance::Instance;
 use crate::position_tables::kern_table::KernTable;
 
@@ -41,22 +44,36 @@ fn instance_of<'a>(face: &'a Face) -> Instance<'a> {
     }
 }
 
+/// A font, as its lookups ask it for points of outlines.
+struct FontPoints<'a, F> {
+    font: &'a F,
+}
+
+impl<F: FontFunctions> ContourPoints for FontPoints<'_, F> {
+    fn contour_point(&self, glyph: u32, point: u16) -> Option<ContourPoint> {
+        let glyph = GlyphId(u16::try_from(glyph).unwrap_or(0));
+        let (x, y) = self.font.glyph_contour_point(glyph, point)?;
+        Some(ContourPoint { x, y })
+    }
+}
+
 /// Positions the glyphs by the lookups of `GPOS`, and by the table `kern` where `GPOS` does not kern.
 ///
 /// # Requires
 ///
 /// - `closed: buffer.old.have_output ≡ false`
 /// - `placed: IsSome buffer.old.positions`
-pub(crate) fn position_by_lookups<W: Watch>(
+pub(crate) fn position_by_lookups<F: FontFunctions, W: Watch>(
     buffer: &mut hb_buffer_t,
     face: &Face,
+    font: &F,
     plan: &ShapePlan,
     watch: &mut W,
 ) -> Result<(), AllocError> {
     debug_assert!(!buffer.have_output());
     debug_assert!(buffer.have_positions());
     position_start(buffer);
-    position_by_gpos(buffer, face, plan, watch)?;
+    position_by_gpos(buffer, face, font, plan, watch)?;
     kern_by_table(buffer, face, plan, watch)
 }
 
@@ -66,16 +83,17 @@ pub(crate) fn position_by_lookups<W: Watch>(
 ///
 /// - `closed: buffer.old.have_output ≡ false`
 /// - `placed: IsSome buffer.old.positions`
-fn position_by_gpos<W: Watch>(
+fn position_by_gpos<F: FontFunctions, W: Watch>(
     buffer: &mut hb_buffer_t,
     face: &Face,
+    font: &F,
     plan: &ShapePlan,
     watch: &mut W,
 ) -> Result<(), AllocError> {
     debug_assert!(!buffer.have_output());
     debug_assert!(buffer.have_positions());
     if plan.apply_gpos {
-        apply_positions(buffer, face, &plan.layout, watch)?;
+        apply_positions(buffer, face, font, &plan.layout, watch)?;
     }
     Ok(())
 }
@@ -107,17 +125,20 @@ fn kern_by_table<W: Watch>(
 ///
 /// - `closed: buffer.old.have_output ≡ false`
 /// - `placed: IsSome buffer.old.positions`
-fn apply_positions<W: Watch>(
+fn apply_positions<F: FontFunctions, W: Watch>(
     buffer: &mut hb_buffer_t,
     face: &Face,
+    font: &F,
     layout: &LayoutPlan,
     watch: &mut W,
 ) -> Result<(), AllocError> {
     debug_assert!(!buffer.have_output());
     debug_assert!(buffer.have_positions());
+    let points = FontPoints { font };
     let setting = Setting {
         list: &face.lookups.positions,
         instance: instance_of(face),
+        points: &points,
     };
     let mut search = Search::new(budget_of(buffer));
     let glyphs = Digest::of_glyphs(buffer.info());
@@ -133,9 +154,9 @@ fn apply_positions<W: Watch>(
 ///
 /// - `closed: buffer.old.have_output ≡ false`
 /// - `placed: IsSome buffer.old.positions`
-fn apply_planned<W: Watch>(
+fn apply_planned<F: FontFunctions, W: Watch>(
     buffer: &mut hb_buffer_t,
-    setting: &Setting,
+    setting: &Setting<FontPoints<F>>,
     planned: &PlannedLookup,
     glyphs: &Digest,
     search: &mut Search,

@@ -4,9 +4,10 @@
 
 use crate::glyph::hb_glyph_info_t;
 use crate::glyph_layout::context::{Fit, fitting_rule};
+use crate::glyph_layout::lookup_list::LookupList;
 use crate::glyph_layout::search::{ApplyContext, Reach, Search};
 use crate::glyph_layout::skipping_iterator::SkippingIterator;
-use crate::glyph_positions::turn::{Setting, Turn};
+use crate::glyph_positions::turn::Turn;
 
 /// The kind of chained contexts.
 pub(crate) const CHAINED_CONTEXT: u16 = 8;
@@ -15,7 +16,7 @@ pub(crate) const CHAINED_CONTEXT: u16 = 8;
 /// places of the rule's glyphs are counted from the glyph.
 pub(crate) fn fit_at<'a>(
     glyphs: &[hb_glyph_info_t],
-    setting: &Setting<'a>,
+    list: &'a LookupList<'a>,
     turn: &Turn<'a>,
     context: &SkippingIterator<'a>,
     search: &mut Search,
@@ -33,12 +34,5 @@ pub(crate) fn fit_at<'a>(
         is_level: true,
     };
     let is_chained = turn.subtable.lookup_type == CHAINED_CONTEXT;
-    fitting_rule(
-        setting.list,
-        turn.subtable,
-        turn.index,
-        is_chained,
-        &ctx,
-        search,
-    )
+    fitting_rule(list, turn.subtable, turn.index, is_chained, &ctx, search)
 }

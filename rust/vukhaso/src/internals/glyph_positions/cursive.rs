@@ -10,10 +10,12 @@ use crate::glyph::{GlyphPosition, hb_glyph_info_t};
 use crate::glyph_layout::lookup_props::covered_index;
 use crate::glyph_layout::matcher::Matcher;
 use crate::glyph_layout::skipping_iterator::Found;
+use crate::glyph_positions::attachment::anchor_at;
 use crate::glyph_positions::chains::{ATTACH_TYPE_CURSIVE, attach, reverse_chain};
 use crate::glyph_positions::flags::{mark_attached, mark_break, mark_concat};
 use crate::glyph_positions::turn::Turn;
 use crate::position_tables::anchors::Anchor;
+use crate::position_tables::contour_points::ContourPoints;
 
 /// The bit of a lookup's flag by which the last glyph of a chain stays on the baseline, as in lines from right to left.
 const RIGHT_TO_LEFT: u16 = 0x0001;
@@ -51,11 +53,15 @@ struct Join {
 ///
 /// - `closed: buffer.old.have_output ≡ false`
 /// - `placed: IsSome buffer.old.positions`
-pub(crate) fn place_cursive(buffer: &mut hb_buffer_t, turn: &Turn) -> Option<usize> {
+pub(crate) fn place_cursive<P: ContourPoints>(
+    buffer: &mut hb_buffer_t,
+    turn: &Turn,
+    points: &P,
+) -> Option<usize> {
     debug_assert!(!buffer.have_output());
     debug_assert!(buffer.have_positions());
     let end = turn.place.saturating_add(1);
-    match join_of(buffer.info(), turn) {
+    match join_of(buffer.info(), turn, points) {
         JoinFound::Nothing => None,
         JoinFound::NoExit(from) => {
             mark_concat(buffer, from, end);
@@ -72,15 +78,15 @@ pub(crate) fn place_cursive(buffer: &mut hb_buffer_t, turn: &Turn) -> Option<usi
 }
 
 /// The join of the glyph and the one before it that is not passed over.
-fn join_of(glyphs: &[hb_glyph_info_t], turn: &Turn) -> JoinFound {
-    let Some(entry) = anchor_of(turn, turn.index, 6) else {
+fn join_of<P: ContourPoints>(glyphs: &[hb_glyph_info_t], turn: &Turn, points: &P) -> JoinFound {
+    let Some(entry) = entry_of(glyphs, turn, points) else {
         return JoinFound::Nothing;
     };
     if turn.place > glyphs.len() {
         return JoinFound::Nothing;
     }
     match turn.iterator.previous(&Matcher::Shown, glyphs, turn.place) {
-        Found::At(before) => match exit_of(glyphs, turn, before) {
+        Found::At(before) => match exit_of(glyphs, turn, before, points) {
             Some(exit) => JoinFound::Joined(Join {
                 before,
                 place: turn.place,
@@ -95,19 +101,33 @@ fn join_of(glyphs: &[hb_glyph_info_t], turn: &Turn) -> JoinFound {
     }
 }
 
-/// The exit of the glyph at a place.
-fn exit_of(glyphs: &[hb_glyph_info_t], turn: &Turn, place: usize) -> Option<Anchor> {
-    let index = covered_index(&turn.subtable.coverage, glyphs.get(place)?.glyph_id)?;
-    anchor_of(turn, index, 8)
+/// The entry of the glyph.
+fn entry_of<P: ContourPoints>(
+    glyphs: &[hb_glyph_info_t],
+    turn: &Turn,
+    points: &P,
+) -> Option<Anchor> {
+    let table = anchor_table(turn.subtable.table, turn.index, 6)?;
+    anchor_at(table, turn.instance, glyphs, turn.place, points)
 }
 
-/// An anchor of a glyph, by the glyph's coverage index: the offsets of entries stand from the byte 6
-/// on, those of exits from the byte 8 on.
-fn anchor_of(turn: &Turn, index: u32, at: usize) -> Option<Anchor> {
-    let table = turn.subtable.table;
+/// The exit of the glyph at a place.
+fn exit_of<P: ContourPoints>(
+    glyphs: &[hb_glyph_info_t],
+    turn: &Turn,
+    place: usize,
+    points: &P,
+) -> Option<Anchor> {
+    let index = covered_index(&turn.subtable.coverage, glyphs.get(place)?.glyph_id)?;
+    let table = anchor_table(turn.subtable.table, index, 8)?;
+    anchor_at(table, turn.instance, glyphs, place, points)
+}
+
+/// The table of an anchor of a glyph, by the glyph's coverage index: the offsets of entries stand from
+/// the byte 6 on, those of exits from the byte 8 on.
+fn anchor_table(table: &[u8], index: u32, at: usize) -> Option<&[u8]> {
     if index < u32::from(u16_at(table, 4)?) {
-        let row = at.saturating_add(4 * index as usize);
-        Anchor::read(table_at_16(table, row)?, turn.instance)
+        table_at_16(table, at.saturating_add(4 * index as usize))
     } else {
         None
     }

@@ -18,16 +18,16 @@ use crate::glyph_positions::flags::{mark_break, mark_concat};
 use crate::glyph_positions::marks::{LastBase, place_on_base, place_on_ligature, place_on_mark};
 use crate::glyph_positions::pairs::{place_pair, place_single};
 use crate::glyph_positions::turn::{Setting, Turn};
+use crate::position_tables::contour_points::ContourPoints;
 use core::mem;
 
 /// How deep lookups may apply others (HarfBuzz, `HB_MAX_NESTING_LEVEL`).
 const MAX_NESTING_LEVEL: u32 = 64;
 
 /// A lookup at a glyph.
-#[derive(Clone, Copy, Debug)]
-struct Task<'a> {
+struct Task<'a, P> {
     /// The font's lookups and its size.
-    setting: &'a Setting<'a>,
+    setting: &'a Setting<'a, P>,
     /// The lookup.
     lookup: &'a Lookup<'a>,
     /// How it is applied.
@@ -58,9 +58,9 @@ struct Task<'a> {
 /// ensures keeps { KeepsClusters buffer.old buffer.new }
 /// ```
 #[inline]
-pub fn position(
+pub fn position<P: ContourPoints>(
     buffer: &mut hb_buffer_t,
-    setting: &Setting,
+    setting: &Setting<P>,
     lookup: u16,
     options: &LookupOptions,
     search: &mut Search,
@@ -79,9 +79,9 @@ pub fn position(
 ///
 /// - `closed: buffer.old.have_output ≡ false`
 /// - `placed: IsSome buffer.old.positions`
-fn place_all<'a>(
+fn place_all<'a, P: ContourPoints>(
     buffer: &mut hb_buffer_t,
-    setting: &'a Setting<'a>,
+    setting: &'a Setting<'a, P>,
     lookup: u16,
     options: &'a LookupOptions,
     search: &mut Search,
@@ -124,9 +124,9 @@ fn next_place(glyphs: &[hb_glyph_info_t], lookup: &Lookup, mask: u32, from: usiz
 ///
 /// - `closed: buffer.old.have_output ≡ false`
 /// - `placed: IsSome buffer.old.positions`
-fn place_by_lookup<'a>(
+fn place_by_lookup<'a, P: ContourPoints>(
     buffer: &mut hb_buffer_t,
-    task: &Task<'a>,
+    task: &Task<'a, P>,
     search: &mut Search,
     last: &mut LastBase,
 ) -> Option<usize> {
@@ -162,9 +162,9 @@ fn index_in(subtable: &Subtable, glyph: u32) -> Option<u32> {
 /// - `closed: buffer.old.have_output ≡ false`
 /// - `placed: IsSome buffer.old.positions`
 #[inline(never)]
-fn place_by_subtable<'a>(
+fn place_by_subtable<'a, P: ContourPoints>(
     buffer: &mut hb_buffer_t,
-    task: &Task<'a>,
+    task: &Task<'a, P>,
     subtable: &'a Subtable<'a>,
     index: u32,
     search: &mut Search,
@@ -180,13 +180,14 @@ fn place_by_subtable<'a>(
         place: task.place,
         index,
     };
+    let points = task.setting.points;
     match subtable.lookup_type {
         1 => place_single(buffer, &turn),
         2 => place_pair(buffer, &turn),
-        3 => place_cursive(buffer, &turn),
-        4 => place_on_base(buffer, &turn, last),
-        5 => place_on_ligature(buffer, &turn, last),
-        6 => place_on_mark(buffer, &turn),
+        3 => place_cursive(buffer, &turn, points),
+        4 => place_on_base(buffer, &turn, last, points),
+        5 => place_on_ligature(buffer, &turn, last, points),
+        6 => place_on_mark(buffer, &turn, points),
         7 | 8 => place_by_context(buffer, task, &turn, search, last),
         _ => None,
     }
@@ -198,9 +199,9 @@ fn place_by_subtable<'a>(
 ///
 /// - `closed: buffer.old.have_output ≡ false`
 /// - `placed: IsSome buffer.old.positions`
-fn place_by_context<'a>(
+fn place_by_context<'a, P: ContourPoints>(
     buffer: &mut hb_buffer_t,
-    task: &Task<'a>,
+    task: &Task<'a, P>,
     turn: &Turn<'a>,
     search: &mut Search,
     last: &mut LastBase,
@@ -208,7 +209,7 @@ fn place_by_context<'a>(
     debug_assert!(!buffer.have_output());
     debug_assert!(buffer.have_positions());
     let context = SkippingIterator::over_context(task.lookup.lookup_props, task.options, true);
-    let fit = fit_at(buffer.info(), task.setting, turn, &context, search);
+    let fit = fit_at(buffer.info(), task.setting.list, turn, &context, search);
     let reached = turn.place.saturating_add(search.reach.to);
     mark_concat(buffer, search.reach.from, reached);
     let fit = fit?;
@@ -227,9 +228,9 @@ fn place_by_context<'a>(
 ///
 /// - `closed: buffer.old.have_output ≡ false`
 /// - `placed: IsSome buffer.old.positions`
-fn apply_records<'a>(
+fn apply_records<'a, P: ContourPoints>(
     buffer: &mut hb_buffer_t,
-    task: &Task<'a>,
+    task: &Task<'a, P>,
     fit: &Fit<'a>,
     places: &MatchPositions,
     search: &mut Search,
@@ -250,12 +251,12 @@ fn apply_records<'a>(
 
 /// The lookup of a record, at the glyph that the record names; `None` where there is no such lookup or
 /// glyph.
-fn nested_task<'a>(
-    task: &Task<'a>,
+fn nested_task<'a, P>(
+    task: &Task<'a, P>,
     fit: &Fit,
     places: &MatchPositions,
     index: usize,
-) -> Option<Task<'a>> {
+) -> Option<Task<'a, P>> {
     let record = fit.record(index)?;
     let at = *places.as_slice().get(record.sequence_index)?;
     let lookup = task.setting.list.lookup(record.lookup)?;

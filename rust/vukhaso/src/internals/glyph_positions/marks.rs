@@ -12,6 +12,7 @@ use crate::glyph_positions::attachment::{AttachmentFound, attach_mark, attachmen
 use crate::glyph_positions::ligatures::{are_of_one_part, is_first_of_many, ligature_row};
 use crate::glyph_positions::turn::Turn;
 use crate::position_tables::anchors::ligature_matrix;
+use crate::position_tables::contour_points::ContourPoints;
 
 /// The bits of a lookup's flag that pass over classes of glyphs.
 const IGNORED_CLASSES: u16 = 0x000E;
@@ -44,24 +45,30 @@ impl LastBase {
 ///
 /// - `closed: buffer.old.have_output ≡ false`
 /// - `placed: IsSome buffer.old.positions`
-pub(crate) fn place_on_base(
+pub(crate) fn place_on_base<P: ContourPoints>(
     buffer: &mut hb_buffer_t,
     turn: &Turn,
     last: &mut LastBase,
+    points: &P,
 ) -> Option<usize> {
     debug_assert!(!buffer.have_output());
     debug_assert!(buffer.have_positions());
-    let found = base_of(buffer.info(), turn, last);
+    let found = base_of(buffer.info(), turn, last, points);
     attach_mark(buffer, turn.place, &found)
 }
 
 /// The attachment to a base.
-fn base_of(glyphs: &[hb_glyph_info_t], turn: &Turn, last: &mut LastBase) -> AttachmentFound {
+fn base_of<P: ContourPoints>(
+    glyphs: &[hb_glyph_info_t],
+    turn: &Turn,
+    last: &mut LastBase,
+    points: &P,
+) -> AttachmentFound {
     find_base(glyphs, turn, last, true);
     match base_index(glyphs, turn, last.base) {
         Ok((base, row)) => {
             let bases = table_at_16(turn.subtable.table, 10).unwrap_or(&[]);
-            attachment_by(turn, bases, row, base)
+            attachment_by(glyphs, turn, bases, row, base, points)
         }
         Err(from) => AttachmentFound::NoBase(from),
     }
@@ -73,26 +80,32 @@ fn base_of(glyphs: &[hb_glyph_info_t], turn: &Turn, last: &mut LastBase) -> Atta
 ///
 /// - `closed: buffer.old.have_output ≡ false`
 /// - `placed: IsSome buffer.old.positions`
-pub(crate) fn place_on_ligature(
+pub(crate) fn place_on_ligature<P: ContourPoints>(
     buffer: &mut hb_buffer_t,
     turn: &Turn,
     last: &mut LastBase,
+    points: &P,
 ) -> Option<usize> {
     debug_assert!(!buffer.have_output());
     debug_assert!(buffer.have_positions());
-    let found = ligature_of(buffer.info(), turn, last);
+    let found = ligature_of(buffer.info(), turn, last, points);
     attach_mark(buffer, turn.place, &found)
 }
 
 /// The attachment to a ligature.
-fn ligature_of(glyphs: &[hb_glyph_info_t], turn: &Turn, last: &mut LastBase) -> AttachmentFound {
+fn ligature_of<P: ContourPoints>(
+    glyphs: &[hb_glyph_info_t],
+    turn: &Turn,
+    last: &mut LastBase,
+    points: &P,
+) -> AttachmentFound {
     find_base(glyphs, turn, last, false);
     match base_index(glyphs, turn, last.base) {
         Ok((base, index)) => {
             let ligatures = table_at_16(turn.subtable.table, 10).unwrap_or(&[]);
             let matrix = ligature_matrix(ligatures, index).unwrap_or(&[]);
             match ligature_row(glyphs, matrix, base, turn.place) {
-                Some(row) => attachment_by(turn, matrix, row, base),
+                Some(row) => attachment_by(glyphs, turn, matrix, row, base, points),
                 None => AttachmentFound::NoBase(base),
             }
         }
@@ -106,21 +119,29 @@ fn ligature_of(glyphs: &[hb_glyph_info_t], turn: &Turn, last: &mut LastBase) -> 
 ///
 /// - `closed: buffer.old.have_output ≡ false`
 /// - `placed: IsSome buffer.old.positions`
-pub(crate) fn place_on_mark(buffer: &mut hb_buffer_t, turn: &Turn) -> Option<usize> {
+pub(crate) fn place_on_mark<P: ContourPoints>(
+    buffer: &mut hb_buffer_t,
+    turn: &Turn,
+    points: &P,
+) -> Option<usize> {
     debug_assert!(!buffer.have_output());
     debug_assert!(buffer.have_positions());
-    let found = mark_of(buffer.info(), turn);
+    let found = mark_of(buffer.info(), turn, points);
     attach_mark(buffer, turn.place, &found)
 }
 
 /// The attachment to a mark.
-fn mark_of(glyphs: &[hb_glyph_info_t], turn: &Turn) -> AttachmentFound {
+fn mark_of<P: ContourPoints>(
+    glyphs: &[hb_glyph_info_t],
+    turn: &Turn,
+    points: &P,
+) -> AttachmentFound {
     match mark_before(glyphs, turn) {
         Found::At(before) if is_fellow(glyphs, before, turn.place) => {
             match base_index(glyphs, turn, Some(before)) {
                 Ok((base, row)) => {
                     let marks = table_at_16(turn.subtable.table, 10).unwrap_or(&[]);
-                    attachment_by(turn, marks, row, base)
+                    attachment_by(glyphs, turn, marks, row, base, points)
                 }
                 Err(from) => AttachmentFound::NoBase(from),
             }

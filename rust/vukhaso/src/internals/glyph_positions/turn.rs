@@ -7,13 +7,14 @@ use crate::glyph_layout::skipping_iterator::SkippingIterator;
 use crate::glyph_layout::subtable::Subtable;
 use crate::position_tables::instance::Instance;
 
-/// A font's lookups of `GPOS`, and the size and the variations at which it is used.
-#[derive(Clone, Copy, Debug)]
-pub struct Setting<'a> {
+/// A font's lookups of `GPOS`, the size and the variations at which it is used, and who knows the points of its outlines.
+pub struct Setting<'a, P> {
     /// The lookups.
     pub list: &'a LookupList<'a>,
     /// The size and the variations.
     pub instance: Instance<'a>,
+    /// The points of outlines.
+    pub points: &'a P,
 }
 
 /// A subtable at a glyph.

@@ -5,6 +5,7 @@
 
 use crate::font_tables::bytes::{i16_at, table_at_16, u16_at};
 use crate::font_tables::scale::Scale;
+use crate::position_tables::contour_points::ContourPoint;
 use crate::position_tables::devices::{x_correction, y_correction};
 use crate::position_tables::instance::Instance;
 
@@ -23,18 +24,24 @@ pub struct Anchor {
 
 impl Anchor {
     /// The anchor in a table. One of an unknown format is the origin; `None` where the table is cut short.
-    /// The point of an outline that format 2 names is not used, as HarfBuzz's own functions do not know it.
+    /// In pixels one of format 2 is the point of the outline that `named_point` names, where the font knows
+    /// it.
     ///
     /// # Proved
     ///
     /// ```text
-    /// ensures { result ≡ anchor table.now instance.now }
+    /// ensures { result ≡ anchor table.now instance.now point }
     /// ```
     #[inline]
-    pub fn read(table: &[u8], instance: &Instance<'_>) -> Option<Anchor> {
+    pub fn read(
+        table: &[u8],
+        instance: &Instance<'_>,
+        point: Option<ContourPoint>,
+    ) -> Option<Anchor> {
         let format = u16_at(table, 0)?;
         if 1 <= format && format <= 3 {
-            known_anchor(table, format, instance)
+            let own = known_anchor(table, format, instance)?;
+            Some(moved_to(own, format, &instance.scale, point))
         } else {
             Some(Anchor {
                 x: 0,
@@ -97,6 +104,51 @@ impl Anchor {
     pub fn y_to(&self, other: &Anchor, scale: &Scale) -> i32 {
         let distance = scale.distance_y(difference(self.y, other.y));
         moved(distance, other.y_delta, self.y_delta)
+    }
+}
+
+/// The point of an outline that is the anchor of format 2 where glyphs are drawn in pixels; `None`
+/// where a table names none.
+///
+/// # Proved
+///
+/// ```text
+/// ensures { result ≡ named_point table.now scale.now }
+/// ```
+#[inline]
+pub fn named_point(table: &[u8], scale: &Scale) -> Option<u16> {
+    if matches!(u16_at(table, 0), Some(2)) && (scale.x_ppem > 0 || scale.y_ppem > 0) {
+        u16_at(table, 6)
+    } else {
+        None
+    }
+}
+
+/// An anchor of this format, which in format 2 is at the point where there is one.
+fn moved_to(own: Anchor, format: u16, scale: &Scale, point: Option<ContourPoint>) -> Anchor {
+    match point {
+        Some(point) if format == 2 => at_point(own, scale, point),
+        _ => own,
+    }
+}
+
+/// The anchor at a point, in the directions that have pixels.
+fn at_point(own: Anchor, scale: &Scale, point: ContourPoint) -> Anchor {
+    let (x, x_delta) = if scale.x_ppem > 0 {
+        (0, point.x)
+    } else {
+        (own.x, own.x_delta)
+    };
+    let (y, y_delta) = if scale.y_ppem > 0 {
+        (0, point.y)
+    } else {
+        (own.y, own.y_delta)
+    };
+    Anchor {
+        x,
+        y,
+        x_delta,
+        y_delta,
     }
 }
 

@@ -18,6 +18,7 @@ use vukhaso::internals::glyph_layout::skipping_iterator::LookupOptions;
 use vukhaso::internals::glyph_positions::{
     Setting, kern, position, position_finish_offsets, position_start,
 };
+use vukhaso::internals::position_tables::contour_points::NoPoints;
 use vukhaso::internals::position_tables::instance::Instance;
 use vukhaso::internals::position_tables::kern_table::KernTable;
 use vukhaso::memory::{AllocError, Vec};
@@ -109,6 +110,7 @@ fn position_all(buffer: &mut hb_buffer_t, list: &LookupList, budget: Budget) {
             scale: Scale::of_em(1000),
             deltas: Deltas::NONE,
         },
+        points: &NoPoints,
     };
     let mut search = Search::new(budget);
     position_start(buffer);
