@@ -9,7 +9,7 @@ LETTERS = [chr(at) for at in range(ord("a"), ord("z") + 1)] + list("TVW")
 NAMES = [".notdef", "space", *LETTERS, "acute", "grave", "below", "A", "B", "C", "D", "E", "O", "X", "Y", "Z", "vertical"]
 PLACE = {name: at for at, name in enumerate(NAMES)}
 MARKS = {"acute": 0x301, "grave": 0x300, "below": 0x323}
-X_ADVANCE = 4
+X_PLACEMENT, X_ADVANCE = 1, 4
 
 
 def g(text):
@@ -172,6 +172,14 @@ def breaks_pairs():
     return whole("Vukhaso Breaks Pairs", {"GPOS": gpos}, {0x200C: joiner})
 
 
+def breaks_hidden():
+    """A font without a space, so that what is invisible is taken out, and a pair of the glyph of a zero width joiner."""
+    joiner = PLACE["vertical"]
+    pair = lay.lookup(2, 0, lay.pairs_of_glyphs({joiner: {PLACE["g"]: [14, 7]}}, X_ADVANCE, X_PLACEMENT))
+    gpos = lay.layout({"DFLT": {"dflt": (None, ["kern"])}}, {"kern": ["0"]}, {"0": pair})
+    return whole("Vukhaso Breaks Hidden", {"GPOS": gpos}, {0x20: 0, 0x200D: joiner})
+
+
 def breaks_lookups():
     """Lookups that drop a glyph of which something hangs on the glyphs beside it: by itself, within a context, and as a component of a ligature."""
     order = ["gone", "part", "part.then", "part.last", "nest", "nes2", "fall", "fall.last", "frac", "_none", "_a_to_c", "_e_to_f", "_f_to_g"]
@@ -197,4 +205,4 @@ def breaks_lookups():
     return whole("Vukhaso Breaks Lookups", {"GSUB": gsub}, {0x31: PLACE["a"], 0x32: PLACE["g"], 0x2044: PLACE["c"], 0x200D: PLACE["vertical"]})
 
 
-FONTS = {"breaks-lookups.ttf": breaks_lookups, "breaks-kern.ttf": breaks_kern, "breaks-pairs.ttf": breaks_pairs, "special.ttf": special, "scripts.ttf": scripts, "ligated.ttf": ligated}
+FONTS = {"breaks-lookups.ttf": breaks_lookups, "breaks-hidden.ttf": breaks_hidden, "breaks-kern.ttf": breaks_kern, "breaks-pairs.ttf": breaks_pairs, "special.ttf": special, "scripts.ttf": scripts, "ligated.ttf": ligated}

@@ -1,5 +1,5 @@
 -- What normalization asks of a font and of the rules of a script.
-use Rattle.std.specs.Prelude.{ℕ, Bool, ◌&&◌, Option, Some, None, option_map, unwrap_or, if◌then◌else◌}
+use Rattle.std.specs.Prelude.{ℕ, Bool, false, ◌&&◌, ◌==◌, Option, Some, None, option_map, unwrap_or, if◌then◌else◌}
 use Rattle.std.specs.Option.{option_or}
 use Rattle.ucd_normal.specs.Decomposition.{canonical_mapping}
 use Rattle.unicode_tables.specs.Mapping as mapping
@@ -47,3 +47,20 @@ pairs_of has shaper has_gpos_mark starter g =
     if is_mark g && (is_character starter.glyph_id && is_character g.glyph_id)
     then if_there has (composite_of shaper has_gpos_mark starter.glyph_id g.glyph_id)
     else None
+
+-- ---- what is composed again
+
+-- what two code points compose to, if both are characters and the font has it
+abbrev pub composite_of_codes : (ℕ → Bool) → ScriptShaper → Bool → ℕ → ℕ → Option ℕ
+composite_of_codes has shaper has_gpos_mark a b =
+    if is_character a && is_character b then if_there has (composite_of shaper has_gpos_mark a b) else None
+
+-- parts that compose to a character, with a font that has it and the second part
+abbrev pub compose_to : (ℕ → Bool) → ScriptShaper → Bool → ℕ → Option (ℕ × ℕ) → Bool
+compose_to has shaper has_gpos_mark c None = false
+compose_to has shaper has_gpos_mark c (Some p) =
+    has p.1 && (unwrap_or (composite_of_codes has shaper has_gpos_mark p.0 p.1) 0 == c)
+
+-- the parts of the character compose to it again
+abbrev pub is_composed_again : (ℕ → Bool) → ScriptShaper → Bool → ℕ → Bool
+is_composed_again has shaper has_gpos_mark c = compose_to has shaper has_gpos_mark c (parts_of shaper c)

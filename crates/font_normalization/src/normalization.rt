@@ -5,6 +5,7 @@
 ghost use Rattle.std.specs.Prelude.{◌≡◌, ◌<◌, true, false, length, IfOk};
 ghost use Rattle.shaping_buffer.specs.KeepsClusters.{KeepsClusters};
 
+mod composed_again;
 mod decomposition;
 mod pairs;
 mod parts;
@@ -14,6 +15,7 @@ mod variations;
 
 use crate::cluster_level::allows_any_order;
 use crate::glyph_info::is_unicode_mark;
+use composed_again::keep_composed_again;
 use decomposition::decompose_all;
 use font_functions::FontFunctions;
 use recomposition::recompose_all;
@@ -38,6 +40,7 @@ pub fn normalize<F: FontFunctions>(
     ensures keeps { KeepsClusters buffer.old buffer.new }
 {
     let has_marks = has_marks(buffer.info());
+    keep_composed_again(buffer, font, script, has_marks);
     let composes = script.shaper.normalization_mode() != NormalizationMode::Nothing;
     if !decompose_all(buffer, font, script.shaper)? {
         return Ok(false);

@@ -1,2 +1,3 @@
 pub mod FallbackMarks
 pub mod FontPositions
+pub mod SharedFlags

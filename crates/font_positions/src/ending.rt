@@ -1,6 +1,9 @@
 //! The last steps of shaping: glyphs that are not to be seen, and glyph flags of whole clusters.
 
-ghost use Rattle.std.specs.Prelude.{◌≡◌, ◌<◌, ◌≤◌, false, length, IsSome};
+ghost use Rattle.std.specs.Prelude.{◌≡◌, ◌<◌, ◌≤◌, false, length, map, IsSome};
+ghost use Rattle.glyph_lists.specs.Marks.{with_glyph_flags};
+ghost use Rattle.glyph_lists.specs.Parts.{part, map_range};
+ghost use Rattle.font_positions.specs.SharedFlags.{flags_of, shared_flags};
 ghost use Rattle.shaping_buffer.specs.Clusters.{clusters};
 ghost use Rattle.shaping_buffer.specs.KeepsClusters.{KeepsClusters};
 
@@ -93,8 +96,107 @@ pub fn hide_ignorables<F: FontFunctions>(buffer: &mut hb_buffer_t, font: &F)
         None => font.nominal_glyph(0x20),
     };
     set_invisible(buffer, glyph);
+    share_flags_of_removed(buffer);
     hide_all(buffer);
     set_invisible(buffer, invisible);
+}
+
+/// Shares the glyph flags of clusters where the glyphs that are not to be seen are taken out.
+#[tactic(auto, using(shaping_buffer::proofs::ClosedKeepsLemmas::kept))]
+fn share_flags_of_removed(buffer: &mut hb_buffer_t)
+    requires closed { buffer.old.have_output ≡ false }
+    requires placed { IsSome buffer.old.positions }
+    ensures closed { buffer.new.have_output ≡ false }
+    ensures placed { IsSome buffer.new.positions }
+    ensures keeps { KeepsClusters buffer.old buffer.new }
+{
+    if buffer.invisible.is_none()
+        || buffer
+            .flags
+            .contains(BufferFlags::REMOVE_DEFAULT_IGNORABLES)
+    {
+        share_flags(buffer);
+    }
+}
+
+/// Gives all glyphs of a cluster the glyph flags that one of them has, if one is unsafe to break: so a glyph that is taken out leaves its
+/// own. Requires positions, and that no output is open.
+#[tactic(auto, using(shaping_buffer::proofs::ClosedKeepsLemmas::kept))]
+pub fn share_flags(buffer: &mut hb_buffer_t)
+    requires closed { buffer.old.have_output ≡ false }
+    requires placed { IsSome buffer.old.positions }
+    ensures closed { buffer.new.have_output ≡ false }
+    ensures placed { IsSome buffer.new.positions }
+    ensures keeps { KeepsClusters buffer.old buffer.new }
+{
+    if buffer.scratch_flags & HB_BUFFER_SCRATCH_FLAG_HAS_GLYPH_FLAGS != 0 {
+        share_in(buffer);
+    }
+}
+
+/// Shares the glyph flags of each cluster of a buffer.
+fn share_in(buffer: &mut hb_buffer_t)
+    requires closed { buffer.old.have_output ≡ false }
+    requires placed { IsSome buffer.old.positions }
+    ensures closed { buffer.new.have_output ≡ false }
+    ensures placed { IsSome buffer.new.positions }
+    ensures keeps { KeepsClusters buffer.old buffer.new }
+{
+    share_all(buffer.info_slice_mut());
+}
+
+/// Shares the glyph flags of each cluster.
+#[tactic(auto, using(crate::proofs::ClusterLemmas::shared))]
+fn share_all(infos: &mut [hb_glyph_info_t])
+    ensures { clusters infos.new ≡ clusters infos.old }
+{
+    let mut start = 0;
+    while start < infos.len() {
+        let end = cluster_end(infos, start);
+        share_from(infos, start, end);
+        start = end;
+    }
+}
+
+/// Gives the glyphs from a place to another one the glyph flags that one of them has, if one is unsafe to break.
+fn share_from(infos: &mut [hb_glyph_info_t], start: usize, end: usize)
+    requires order { start ≤ end }
+    requires within { end ≤ length infos.old }
+    ensures { infos.new
+        ≡ map_range (with_glyph_flags (shared_flags (part infos.old start end))) infos.old start end }
+{
+    let flags = shared_flags(&infos[start..end]);
+    add_flags(&mut infos[start..end], flags);
+}
+
+/// All glyph flags of some glyphs, if one is unsafe to break.
+fn shared_flags(infos: &[hb_glyph_info_t]) -> u32
+    ensures { result ≡ shared_flags infos.now }
+{
+    let flags = all_flags(infos);
+    if flags & glyph_flag::UNSAFE_TO_BREAK != 0 {
+        flags
+    } else {
+        0
+    }
+}
+
+/// Adds glyph flags to those of each glyph.
+#[tactic(auto, using(glyph_lists::proofs::MapLemmas::walks))]
+fn add_flags(infos: &mut [hb_glyph_info_t], flags: u32)
+    ensures { infos.new ≡ map (with_glyph_flags flags) infos.old }
+{
+    for info in infos.iter_mut() {
+        add_flags_to(info, flags);
+    }
+}
+
+/// Adds glyph flags to those of a glyph.
+#[tactic(auto, unfolding(glyph_lists::specs::Marks::with_glyph_flags))]
+fn add_flags_to(info: &mut hb_glyph_info_t, flags: u32)
+    ensures { info.new ≡ with_glyph_flags flags info.old }
+{
+    info.mask |= flags;
 }
 
 /// Sets the glyph that stands for what is not to be seen.
@@ -177,7 +279,10 @@ fn set_own_flags(infos: &mut [hb_glyph_info_t], place: usize, flags: BufferFlags
 }
 
 /// All glyph flags of some glyphs.
-fn all_flags(infos: &[hb_glyph_info_t]) -> u32 {
+#[tactic(auto, using(std::proofs::lemmas::List::Sums::fold_more))]
+fn all_flags(infos: &[hb_glyph_info_t]) -> u32
+    ensures { result ≡ flags_of infos.now }
+{
     let mut all = 0;
     for info in infos.iter() {
         all = all | info.mask & glyph_flag::DEFINED;

@@ -1,8 +1,10 @@
 //! What the steps of shaping ask of a character, and set: its Unicode properties, in the bits that HarfBuzz's
 //! `hb-ot-layout.hh` gives them.
 
-ghost use Rattle.std.specs.Prelude.{◌≡◌};
+ghost use Rattle.std.specs.Prelude.{◌≡◌, ◌==◌, ◌&&◌, nat_le};
+ghost use Rattle.font_normalization.specs.Marks.{category};
 ghost use Rattle.font_normalization.specs.Graphemes.{is_same_grapheme};
+ghost use Rattle.font_shaper.specs.Numbers as numbers;
 
 use font_normalization::glyph_info::{general_category, is_continuation};
 use shaping_buffer::rb_glyph::hb_gc::{
@@ -12,20 +14,33 @@ use shaping_buffer::rb_glyph::hb_gc::{
 use shaping_buffer::{Flags, UnicodeProps, hb_glyph_info_t};
 
 /// Whether the character is a letter.
-pub(crate) fn is_letter(info: &hb_glyph_info_t) -> bool {
+pub(crate) fn is_letter(info: &hb_glyph_info_t) -> bool
+    ensures { result ≡ numbers.is_letter info.now }
+{
     let category = general_category(info);
     RB_UNICODE_GENERAL_CATEGORY_LOWERCASE_LETTER <= category
         && category <= RB_UNICODE_GENERAL_CATEGORY_UPPERCASE_LETTER
 }
 
 /// Whether the character is a decimal digit.
-pub(crate) fn is_decimal_number(info: &hb_glyph_info_t) -> bool {
+pub(crate) fn is_decimal_number(info: &hb_glyph_info_t) -> bool
+    ensures { result ≡ (category info.now == 13) }
+{
     general_category(info) == RB_UNICODE_GENERAL_CATEGORY_DECIMAL_NUMBER
 }
 
 /// Whether the character is a regional indicator, two of which make a flag.
-pub(crate) fn is_regional_indicator(info: &hb_glyph_info_t) -> bool {
+pub(crate) fn is_regional_indicator(info: &hb_glyph_info_t) -> bool
+    ensures { result ≡ (nat_le 0x1F1E6 info.now.glyph_id && nat_le info.now.glyph_id 0x1F1FF) }
+{
     0x1F1E6 <= info.glyph_id && info.glyph_id <= 0x1F1FF
+}
+
+/// Whether the character is a digit or a regional indicator.
+pub(crate) fn is_number(info: &hb_glyph_info_t) -> bool
+    ensures { result ≡ numbers.is_number info.now }
+{
+    is_decimal_number(info) || is_regional_indicator(info)
 }
 
 /// Says that the character goes on with the grapheme before it.

@@ -11,6 +11,7 @@ ghost use Rattle.shaping_buffer.specs.KeepsClusters.{KeepsClusters};
 
 use crate::glyphs_of_font::{FaceGlyphs, stretch_marks};
 use crate::masks::set_masks;
+use crate::numbers::keep_numbers;
 use crate::planning::{TextPlan, plan_of_text};
 use crate::positioning::position;
 use crate::rotation::rotate_characters;
@@ -25,7 +26,7 @@ use font_face::Face;
 use font_functions::{FontFunctions, OwnFunctions};
 use font_normalization::normalize;
 use font_positions::{
-    hide_ignorables, propagate_flags, recategorize_marks, show_variation_selectors,
+    hide_ignorables, propagate_flags, recategorize_marks, share_flags, show_variation_selectors,
 };
 use glyph_substitution::substitute_start;
 use shaping_buffer::{
@@ -388,6 +389,7 @@ fn remove_deleted(buffer: &mut hb_buffer_t, plan: &TextPlan)
     ensures keeps { KeepsClusters buffer.old buffer.new }
 {
     if plan.chain_flags.is_some() && !plan.shape.apply_gpos {
+        share_flags(buffer);
         remove_deleted_glyphs(buffer);
     }
 }
@@ -409,6 +411,7 @@ fn begin_characters<F: FontFunctions>(
         return Ok(false);
     }
     form_clusters(buffer);
+    keep_numbers(buffer);
     Ok(true)
 }
 

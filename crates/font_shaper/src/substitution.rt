@@ -6,6 +6,7 @@ ghost use Rattle.font_shaper.specs.ClusterOrder.{KeepsStage};
 
 use crate::cluster_order::ClusterCourse;
 use crate::forms_of_font::work_on_syllables;
+use crate::joined_syllables::keep_joined;
 use crate::lookups::{budget_of, options_of};
 use crate::planning::TextPlan;
 use crate::watch::{Step, Watch};
@@ -119,6 +120,7 @@ fn apply_stages<F: FontFunctions, W: Watch>(
     for stage in &plan.shape.layout.stages {
         let lookups = &plan.shape.layout.gsub_lookups;
         let lookups = lookups.get(start..stage.end).unwrap_or(&[]);
+        keep_joined(buffer, face, plan, lookups);
         if !apply_stage(buffer, face, lookups, &mut glyphs, &mut progress, watch)? {
             return Ok(false);
         }

@@ -5,9 +5,8 @@ ghost use Rattle.shaping_buffer.specs.Clusters.{clusters};
 ghost use Rattle.shaping_buffer.specs.KeepsClusters.{KeepsClusters, TurnsClusters};
 ghost use Rattle.font_shaper.specs.ShapedClusters.{KeepsOrTurns};
 
-use crate::glyph_info::{
-    is_decimal_number, is_letter, is_regional_indicator, is_same_grapheme, is_zwj, set_continuation,
-};
+use crate::glyph_info::{is_regional_indicator, is_same_grapheme, is_zwj, set_continuation};
+use crate::numbers::{are_numbers, is_against_script};
 use font_functions::FontFunctions;
 use font_normalization::allows_any_order;
 use font_normalization::glyph_info::{
@@ -217,21 +216,11 @@ pub(crate) fn set_direction(buffer: &mut hb_buffer_t, direction: Direction)
 /// The direction in which the script runs, if it has one: numbers in a script that runs from right to left run from
 /// left to right, and so does a text of no script.
 fn native_direction(buffer: &hb_buffer_t) -> Option<Direction> {
-    let native = match buffer.script {
-        Some(script) => Direction::from_script(script)?,
-        None => Direction::LeftToRight,
-    };
-    if native == Direction::RightToLeft
-        && buffer.direction == Direction::LeftToRight
-        && are_numbers(buffer.info())
-    {
+    if is_against_script(buffer) && are_numbers(buffer.info()) {
         return Some(Direction::LeftToRight);
     }
-    Some(native)
-}
-
-/// Whether the text has digits or regional indicators, and no letters.
-fn are_numbers(infos: &[hb_glyph_info_t]) -> bool {
-    !infos.iter().any(|info| is_letter(info))
-        && infos.iter().any(|info| is_decimal_number(info) || is_regional_indicator(info))
+    match buffer.script {
+        Some(script) => Direction::from_script(script),
+        None => Some(Direction::LeftToRight),
+    }
 }

@@ -10,6 +10,7 @@ pub use indic::plan::{IndicMasks, IndicPlan};
 pub use khmer::plan::KhmerPlan;
 pub use plan::{SyllablePause, SyllablePlan};
 pub use universal::plan::{FormMasks, UniversalPlan};
+pub use universal::{FormLookup, flag_forms};
 pub use vowels::part_vowels;
 
 mod clusters;

@@ -1,7 +1,8 @@
 //! The syllables of a text.
 
-ghost use Rattle.std.specs.Prelude.{◌≡◌, ◌<◌, ◌≤◌, false, length};
+ghost use Rattle.std.specs.Prelude.{◌≡◌, ◌<◌, ◌≤◌, ◌-◌, false, length};
 ghost use Rattle.glyph_lists.specs.Clusters.{clusters};
+ghost use Rattle.glyph_lists.specs.Groups.{group_end, share_cluster};
 ghost use Rattle.shaping_buffer.specs.KeepsClusters.{KeepsClusters};
 
 use crate::machine::Grammar;
@@ -79,9 +80,35 @@ fn flag_syllables(buffer: &mut hb_buffer_t)
             break;
         }
         let end = buffer.next_syllable(start);
-        buffer.unsafe_to_break(Some(start), Some(end));
+        flag_syllable(buffer, start, end);
         start = end;
     }
+}
+
+/// Flags a syllable as unsafe to break, with what goes on with the cluster of its last item: that may be parted from it where its items
+/// are put in order.
+#[tactic(auto, using(shaping_buffer::proofs::ClosedKeepsLemmas::kept))]
+fn flag_syllable(buffer: &mut hb_buffer_t, start: usize, end: usize)
+    requires { buffer.old.have_output ≡ false }
+    ensures closed { buffer.new.have_output ≡ false }
+    ensures keeps { KeepsClusters buffer.old buffer.new }
+{
+    let end = cluster_end(buffer.info(), end);
+    if start <= end && end <= buffer.len() {
+        buffer.unsafe_to_break(Some(start), Some(end));
+    }
+}
+
+/// The end of the cluster that goes on behind a place with the item before it.
+fn cluster_end(infos: &[hb_glyph_info_t], place: usize) -> usize
+    ensures from { place ≤ result }
+    ensures is { 0 < place → place ≤ length infos.now
+        → result ≡ group_end share_cluster (place - 1) infos.now }
+{
+    if place == 0 || place > infos.len() {
+        return place;
+    }
+    group_end(infos, place - 1, &|a, b| a.cluster == b.cluster)
 }
 
 /// The end of the syllable that the item at a place is in.

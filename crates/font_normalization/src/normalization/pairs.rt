@@ -65,7 +65,11 @@ fn pair_of<F: FontFunctions>(
 }
 
 /// What two characters compose to, if the font has it.
-fn composite_of<F: FontFunctions>(composing: &Composing<F>, a: char, b: char) -> Option<u32>
+pub(crate) fn composite_of<F: FontFunctions>(
+    composing: &Composing<F>,
+    a: char,
+    b: char,
+) -> Option<u32>
     ensures { result ≡ rules.if_there (F.has composing.now.font.now)
         (rules.composite_of composing.now.shaper composing.now.has_gpos_mark a b) }
 {

@@ -37,7 +37,7 @@ impl<F: FontFunctions> FontCharacters for Decomposer<'_, F> {
 }
 
 /// The two parts of a code point, the second U+0000 where there is none.
-fn parts_of(shaper: ScriptShaper, character: u32) -> Option<(u32, u32)>
+pub(crate) fn parts_of(shaper: ScriptShaper, character: u32) -> Option<(u32, u32)>
     ensures { result ≡ rules.parts_of shaper character }
 {
     match char::from_u32(character) {

@@ -51,6 +51,13 @@ pub struct FormMasks {
     pub fina: u32,
 }
 
+impl FormMasks {
+    /// Those of all forms.
+    pub fn all(&self) -> u32 {
+        self.isol | self.init | self.medi | self.fina
+    }
+}
+
 impl UniversalPlan {
     /// What is done at a pause. `Ok(false)` where the text would become too long.
     #[tactic(auto, using(crate::proofs::NumbersLemmas::numbered))]

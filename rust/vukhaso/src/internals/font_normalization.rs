@@ -5,6 +5,8 @@
 mod cluster_level;
 pub mod glyph_info;
 mod normalization;
+mod ties;
 
 pub use cluster_level::allows_any_order;
 pub use normalization::normalize;
+pub use ties::{Tie, Ties, keep_tied};

@@ -4,6 +4,7 @@
 //! taken apart where the font lacks them, marks are put in order, and pairs are composed where the font has the
 //! composed character.
 
+mod composed_again;
 mod decomposition;
 mod pairs;
 mod parts;
@@ -17,6 +18,7 @@ use crate::font_normalization::cluster_level::allows_any_order;
 use crate::font_normalization::glyph_info::is_unicode_mark;
 use crate::memory::AllocError;
 use crate::script_shapers::{NormalizationMode, ScriptPlan};
+use composed_again::keep_composed_again;
 use decomposition::decompose_all;
 use recomposition::recompose_all;
 use reordering::{reorder_marks, unhide_joiners};
@@ -51,6 +53,7 @@ pub fn normalize<F: FontFunctions>(
 ) -> Result<bool, AllocError> {
     debug_assert!(!buffer.have_output());
     let has_marks = has_marks(buffer.info());
+    keep_composed_again(buffer, font, script, has_marks);
     let composes = script.shaper.normalization_mode() != NormalizationMode::Nothing;
     if !decompose_all(buffer, font, script.shaper)? {
         return Ok(false);

@@ -112,8 +112,111 @@ pub fn hide_ignorables<F: FontFunctions>(buffer: &mut hb_buffer_t, font: &F) {
         None => font.nominal_glyph(0x20),
     };
     set_invisible(buffer, glyph);
+    share_flags_of_removed(buffer);
     hide_all(buffer);
     set_invisible(buffer, invisible);
+}
+
+/// Shares the glyph flags of clusters where the glyphs that are not to be seen are taken out.
+///
+/// # Requires
+///
+/// - `closed: buffer.old.have_output ≡ false`
+/// - `placed: IsSome buffer.old.positions`
+fn share_flags_of_removed(buffer: &mut hb_buffer_t) {
+    debug_assert!(!buffer.have_output());
+    debug_assert!(buffer.have_positions());
+    if buffer.invisible.is_none()
+        || buffer
+            .flags
+            .contains(BufferFlags::REMOVE_DEFAULT_IGNORABLES)
+    {
+        share_flags(buffer);
+    }
+}
+
+/// Gives all glyphs of a cluster the glyph flags that one of them has, if one is unsafe to break: so a
+/// glyph that is taken out leaves its own.
+///
+/// # Requires
+///
+/// Positions, and that no output is open.
+///
+/// - `closed: buffer.old.have_output ≡ false`
+/// - `placed: IsSome buffer.old.positions`
+///
+/// # Proved
+///
+/// ```text
+/// ensures closed { buffer.new.have_output ≡ false }
+/// ensures placed { IsSome buffer.new.positions }
+/// ensures keeps { KeepsClusters buffer.old buffer.new }
+/// ```
+#[inline]
+pub fn share_flags(buffer: &mut hb_buffer_t) {
+    debug_assert!(!buffer.have_output());
+    debug_assert!(buffer.have_positions());
+    if buffer.scratch_flags & HB_BUFFER_SCRATCH_FLAG_HAS_GLYPH_FLAGS != 0 {
+        share_in(buffer);
+    }
+}
+
+/// Shares the glyph flags of each cluster of a buffer.
+///
+/// # Requires
+///
+/// - `closed: buffer.old.have_output ≡ false`
+/// - `placed: IsSome buffer.old.positions`
+fn share_in(buffer: &mut hb_buffer_t) {
+    debug_assert!(!buffer.have_output());
+    debug_assert!(buffer.have_positions());
+    share_all(buffer.info_slice_mut());
+}
+
+/// Shares the glyph flags of each cluster.
+fn share_all(infos: &mut [hb_glyph_info_t]) {
+    let mut start = 0;
+    while start < infos.len() {
+        let end = cluster_end(infos, start);
+        share_from(infos, start, end);
+        start = end;
+    }
+}
+
+/// Gives the glyphs from a place to another one the glyph flags that one of them has, if one is unsafe
+/// to break.
+///
+/// # Requires
+///
+/// - `order: start ≤ end`
+/// - `within: end ≤ length infos.old`
+fn share_from(infos: &mut [hb_glyph_info_t], start: usize, end: usize) {
+    debug_assert!(start <= end);
+    debug_assert!(end <= infos.len());
+    let flags = shared_flags(&infos[start..end]);
+    add_flags(&mut infos[start..end], flags);
+}
+
+/// All glyph flags of some glyphs, if one is unsafe to break.
+fn shared_flags(infos: &[hb_glyph_info_t]) -> u32 {
+    let flags = all_flags(infos);
+    if flags & glyph_flag::UNSAFE_TO_BREAK != 0 {
+        flags
+    } else {
+        0
+    }
+}
+
+/// Adds glyph flags to those of each glyph.
+fn add_flags(infos: &mut [hb_glyph_info_t], flags: u32) {
+    for info in infos.iter_mut() {
+        add_flags_to(info, flags);
+    }
+}
+
+/// Adds glyph flags to those of a glyph.
+fn add_flags_to(info: &mut hb_glyph_info_t, flags: u32) {
+    info.mask |= flags;
 }
 
 /// Sets the glyph that stands for what is not to be seen.

@@ -27,6 +27,11 @@ pub(crate) fn is_regional_indicator(info: &hb_glyph_info_t) -> bool {
     0x1F1E6 <= info.glyph_id && info.glyph_id <= 0x1F1FF
 }
 
+/// Whether the character is a digit or a regional indicator.
+pub(crate) fn is_number(info: &hb_glyph_info_t) -> bool {
+    is_decimal_number(info) || is_regional_indicator(info)
+}
+
 /// Says that the character goes on with the grapheme before it.
 pub(crate) fn set_continuation(info: &mut hb_glyph_info_t) {
     info.set_unicode_props(info.unicode_props() | UnicodeProps::CONTINUATION.bits());

@@ -10,10 +10,11 @@ use crate::font_face::Face;
 use crate::font_functions::{FontFunctions, OwnFunctions};
 use crate::font_normalization::normalize;
 use crate::font_positions::{
-    hide_ignorables, propagate_flags, recategorize_marks, show_variation_selectors,
+    hide_ignorables, propagate_flags, recategorize_marks, share_flags, show_variation_selectors,
 };
 use crate::font_shaper::glyphs_of_font::{FaceGlyphs, stretch_marks};
 use crate::font_shaper::masks::set_masks;
+use crate::font_shaper::numbers::keep_numbers;
 use crate::font_shaper::planning::{TextPlan, plan_of_text};
 use crate::font_shaper::positioning::position;
 use crate::font_shaper::rotation::rotate_characters;
@@ -433,6 +434,7 @@ fn remove_deleted(buffer: &mut hb_buffer_t, plan: &TextPlan) {
     debug_assert!(!buffer.have_output());
     debug_assert!(buffer.have_positions());
     if plan.chain_flags.is_some() && !plan.shape.apply_gpos {
+        share_flags(buffer);
         remove_deleted_glyphs(buffer);
     }
 }
@@ -458,6 +460,7 @@ fn begin_characters<F: FontFunctions>(
         return Ok(false);
     }
     form_clusters(buffer);
+    keep_numbers(buffer);
     Ok(true)
 }
 

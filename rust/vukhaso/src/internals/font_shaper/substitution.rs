@@ -8,6 +8,7 @@ use crate::font_face::Face;
 use crate::font_functions::FontFunctions;
 use crate::font_shaper::cluster_order::ClusterCourse;
 use crate::font_shaper::forms_of_font::work_on_syllables;
+use crate::font_shaper::joined_syllables::keep_joined;
 use crate::font_shaper::lookups::{budget_of, options_of};
 use crate::font_shaper::planning::TextPlan;
 use crate::font_shaper::watch::{Step, Watch};
@@ -136,6 +137,7 @@ fn apply_stages<F: FontFunctions, W: Watch>(
     for stage in &plan.shape.layout.stages {
         let lookups = &plan.shape.layout.gsub_lookups;
         let lookups = lookups.get(start..stage.end).unwrap_or(&[]);
+        keep_joined(buffer, face, plan, lookups);
         if !apply_stage(buffer, face, lookups, &mut glyphs, &mut progress, watch)? {
             return Ok(false);
         }

@@ -73,9 +73,31 @@ fn flag_syllables(buffer: &mut hb_buffer_t) {
             break;
         }
         let end = buffer.next_syllable(start);
-        buffer.unsafe_to_break(Some(start), Some(end));
+        flag_syllable(buffer, start, end);
         start = end;
     }
+}
+
+/// Flags a syllable as unsafe to break, with what goes on with the cluster of its last item: that may
+/// be parted from it where its items are put in order.
+///
+/// # Requires
+///
+/// - `buffer.old.have_output ≡ false`
+fn flag_syllable(buffer: &mut hb_buffer_t, start: usize, end: usize) {
+    debug_assert!(!buffer.have_output());
+    let end = cluster_end(buffer.info(), end);
+    if start <= end && end <= buffer.len() {
+        buffer.unsafe_to_break(Some(start), Some(end));
+    }
+}
+
+/// The end of the cluster that goes on behind a place with the item before it.
+fn cluster_end(infos: &[hb_glyph_info_t], place: usize) -> usize {
+    if place == 0 || place > infos.len() {
+        return place;
+    }
+    group_end(infos, place - 1, &|a, b| a.cluster == b.cluster)
 }
 
 /// The end of the syllable that the item at a place is in.

@@ -66,7 +66,11 @@ fn pair_of<F: FontFunctions>(
 }
 
 /// What two characters compose to, if the font has it.
-fn composite_of<F: FontFunctions>(composing: &Composing<F>, a: char, b: char) -> Option<u32> {
+pub(crate) fn composite_of<F: FontFunctions>(
+    composing: &Composing<F>,
+    a: char,
+    b: char,
+) -> Option<u32> {
     match compose(composing, a, b) {
         Some(composed) => if_there(composing.font, composed as u32),
         None => None,

@@ -71,7 +71,7 @@ pub(crate) fn mask_forms(buffer: &mut hb_buffer_t, masks: &FormMasks) {
 
 /// Does that in a list.
 fn set_forms(infos: &mut [hb_glyph_info_t], masks: &FormMasks) {
-    if masks.isol | masks.init | masks.medi | masks.fina == 0 {
+    if masks.all() == 0 {
         return;
     }
     let (mut before, mut start) = (0, 0);
@@ -107,9 +107,14 @@ fn own_mask(form: Form, masks: &FormMasks) -> u32 {
     }
 }
 
+/// Whether syllables of a kind join.
+pub(crate) fn joins(kind: u8) -> bool {
+    kind <= SYMBOL || kind == BROKEN
+}
+
 /// The form of a syllable of a kind, behind one of the form `last`.
 fn next_form(kind: u8, last: Form) -> Form {
-    if kind > SYMBOL && kind != BROKEN {
+    if !joins(kind) {
         Form::Unformed
     } else if last == Form::Unformed {
         Form::Alone
@@ -120,7 +125,7 @@ fn next_form(kind: u8, last: Form) -> Form {
 
 /// Gives the items from `start` to `end` the mask of a form, and takes those of the other forms.
 fn set_form(infos: &mut [hb_glyph_info_t], start: usize, end: usize, masks: &FormMasks, mask: u32) {
-    let all = masks.isol | masks.init | masks.medi | masks.fina;
+    let all = masks.all();
     for place in start..end.min(infos.len()) {
         infos[place].mask = infos[place].mask & !all | mask;
     }

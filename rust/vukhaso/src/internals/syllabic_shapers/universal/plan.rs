@@ -51,6 +51,18 @@ pub struct FormMasks {
     pub fina: u32,
 }
 
+impl FormMasks {
+    /// Those of all forms.
+    ///
+    /// # Proved
+    ///
+    /// That it returns.
+    #[inline]
+    pub fn all(&self) -> u32 {
+        self.isol | self.init | self.medi | self.fina
+    }
+}
+
 impl UniversalPlan {
     /// What is done at a pause.
     ///
