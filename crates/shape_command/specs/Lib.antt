@@ -8,4 +8,6 @@ pub mod Lines
 pub mod Numbered
 pub mod Prepared
 pub mod Status
+pub mod Synthetic
+pub mod SyntheticFont
 pub mod Variations

@@ -3,13 +3,18 @@
 //! What a line is answered with.
 
 use crate::buffer::{
-    GlyphBuffer, GlyphNames, NoGlyphNames, SerializeFlags, UnicodeBuffer, hb_glyph_info_t,
+    Direction, GlyphBuffer, GlyphNames, NoGlyphNames, SerializeFlags, UnicodeBuffer,
+    hb_glyph_info_t,
 };
-use crate::command::options::LineOptions;
+use crate::command::edits::Edits;
+use crate::command::fallback::shape_fallback;
+use crate::command::options::{LineOptions, Shaper};
 use crate::command::output::{Output, OutputFormat};
+use crate::command::synthetic_font::SyntheticFont;
 use crate::command::text::{emptied, empty_text, fill, lossy_text};
 use crate::font_shaper::{
-    Face, FaceNames, KeptPlans, ShapeError, VerifyError, shape_with_kept_plans,
+    Face, FaceNames, KeptPlans, ShapeError, VerifyError, shape_with_functions_and_plans,
+    shape_with_kept_plans,
 };
 use crate::line_formats::characters::characters_list;
 use crate::line_formats::json::glyphs_json;
@@ -139,6 +144,8 @@ pub struct LineState<N> {
 pub struct LineShaper<'a> {
     /// The font.
     pub face: &'a Face<'a>,
+    /// What it answers, as its glyphs are to be drawn.
+    pub font: SyntheticFont<'a>,
     /// How each line is shaped.
     pub options: &'a LineOptions<'a>,
     /// How often each line is shaped.
@@ -215,8 +222,7 @@ impl LineShaper<'_> {
             if !fill(self.options, line, &mut text)? {
                 return Ok(());
             }
-            let features = self.options.features.as_slice();
-            match shape_with_kept_plans(self.face, features, &mut state.kept.plans, text) {
+            match self.shape_text(&mut state.kept.plans, text) {
                 Ok(glyphs) => state.kept.text = Some(glyphs.clear()),
                 Err(ShapeError::Memory) => return Err(AllocError),
                 Err(_) => return Ok(()),
@@ -236,13 +242,56 @@ impl LineShaper<'_> {
         if !fill(self.options, line, &mut text)? {
             return Ok(Answer::Failed);
         }
-        let features = self.options.features.as_slice();
-        match shape_with_kept_plans(self.face, features, &mut state.kept.plans, text) {
-            Ok(glyphs) => self.print_and_keep(state, glyphs),
+        let edits = self.edits(text.direction());
+        match self.shape_text(&mut state.kept.plans, text) {
+            Ok(glyphs) => self.print_edited(state, &edits, glyphs),
             Err(ShapeError::TooLong) => Ok(Answer::Failed),
             Err(ShapeError::OtherPlan) => Ok(Answer::Failed),
             Err(ShapeError::Unverified(error)) => Ok(Answer::Unverified(error)),
             Err(ShapeError::Memory) => Err(AllocError),
+        }
+    }
+
+    /// Shapes a text by the shaper that is chosen.
+    fn shape_text(
+        &self,
+        plans: &mut KeptPlans,
+        text: UnicodeBuffer,
+    ) -> Result<GlyphBuffer, ShapeError> {
+        let features = self.options.features.as_slice();
+        if self.options.shaper == Shaper::Fallback {
+            return Ok(shape_fallback(&self.font, text)?);
+        }
+        if self.font.is_plain() {
+            return shape_with_kept_plans(self.face, features, plans, text);
+        }
+        shape_with_functions_and_plans(self.face, &self.font, features, plans, text)
+    }
+
+    /// What the options change of the glyphs of a text in this direction. In a horizontal line the lookups
+    /// alone move glyphs up that are slanted with them.
+    fn edits(&self, direction: Direction) -> Edits {
+        let is_slanted = self.options.shaper == Shaper::OpenType
+            && (direction.is_vertical() || self.face.has_gpos);
+        Edits {
+            not_found: self.font.not_found,
+            slant: if is_slanted { self.font.slant } else { 0.0 },
+            normalizes: self.options.normalize_glyphs,
+            is_backward: direction.is_backward(),
+        }
+    }
+
+    /// What is printed of glyphs with the changes that options ask for.
+    fn print_edited<N: LineNames>(
+        &self,
+
+        state: &mut LineState<N>,
+        edits: &Edits,
+        glyphs: GlyphBuffer,
+    ) -> Result<Answer, AllocError> {
+        match edits.edited(glyphs)? {
+            Some(glyphs) => self.print_and_keep(state, glyphs),
+            None => Ok(Answer::Failed),
         }
     }
 
