@@ -7,6 +7,8 @@ mod errors;
 #[cfg(test)]
 mod lines;
 #[cfg(test)]
+mod normalized;
+#[cfg(test)]
 mod options;
 #[cfg(test)]
 mod texts;

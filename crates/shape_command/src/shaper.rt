@@ -5,8 +5,9 @@ ghost use Rattle.shape_command.specs.Answer.{answer_text, is_shaped};
 ghost use Rattle.shape_command.specs.Lines.{IsAnswer, IsList, glyphs_in, glyphs_line};
 ghost use Rattle.shape_command.specs.declared.output.OutputFormat.TheVariants.{Text, Json};
 
-use crate::edits::Edits;
+use crate::edits::{Edits, buffer_of};
 use crate::fallback::shape_fallback;
+use crate::glyph_line::read_glyphs;
 use crate::options::{LineOptions, Shaper};
 use crate::output::{Output, OutputFormat};
 use crate::synthetic_font::SyntheticFont;
@@ -18,8 +19,8 @@ use font_shaper::{
 use line_formats::characters::characters_list;
 use line_formats::json::glyphs_json;
 use shaping_buffer::{
-    Direction, Flags, GlyphBuffer, GlyphNames, NoGlyphNames, SerializeFlags, UnicodeBuffer,
-    hb_glyph_info_t,
+    Direction, Flags, GlyphBuffer, GlyphId, GlyphNames, NoGlyphNames, SerializeFlags,
+    UnicodeBuffer, hb_glyph_info_t,
 };
 use std::alloc::{AllocError, Global};
 
@@ -127,7 +128,7 @@ pub struct LineShaper<'a> {
     /// The font.
     pub face: &'a Face<'a>,
     /// What it answers, as its glyphs are to be drawn.
-    pub font: SyntheticFont<'a>,
+    pub(crate) font: SyntheticFont<'a>,
     /// How each line is shaped.
     pub options: &'a LineOptions<'a>,
     /// How often each line is shaped.
@@ -168,10 +169,39 @@ impl LineShaper<'_> {
         ensures answer { IfOk result (λ answered. IsAnswer self.now.output (answer_text answered.answer)) }
         ensures list { IfOk result (λ answered. IsList answered.characters.items) }
     {
-        self.shape_unprinted(alloc, state, line)?;
         let characters = self.characters(alloc, line)?;
-        let answer = self.shape(alloc, state, line)?;
+        let answer = if self.options.glyphs {
+            self.answer_to_glyphs(alloc, state, line)?
+        } else {
+            self.shape_unprinted(alloc, state, line)?;
+            self.shape(alloc, state, line)?
+        };
         Ok(Answered { characters, answer })
+    }
+
+    /// The answer to a line that writes glyphs.
+    fn answer_to_glyphs<N: LineNames>(
+        &self,
+        alloc: Global,
+        state: &mut LineState<N>,
+        line: &str,
+    ) -> Result<Answer, AllocError>
+        ensures { IfOk result (λ answer. IsAnswer self.now.output (answer_text answer)) }
+    {
+        let mut text = state.kept.take_text(alloc, self.options);
+        // An empty text is not too long.
+        let _fits = fill(alloc, self.options, "", &mut text)?;
+        let direction = text.direction();
+        let read = read_glyphs(alloc, self.face, &self.font, &state.names, direction, line)?;
+        let edits = Edits {
+            not_found: GlyphId(0),
+            slant: 0.0,
+            ..self.edits(direction)
+        };
+        match buffer_of(text, read.infos.as_slice(), read.positions.as_slice())? {
+            Some(glyphs) => self.print_edited(alloc, state, &edits, glyphs),
+            None => Ok(Answer::Failed),
+        }
     }
 
     /// The list of a line's characters, where that is shown; else it is empty.

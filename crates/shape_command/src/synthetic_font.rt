@@ -16,7 +16,7 @@ use std::num::saturating_f32_to_i32;
 /// A font at its size, of which the glyphs are drawn bolder and slanted. Glyph 0 has the measures of the glyph that stands for
 /// characters that the font lacks.
 #[derive(Clone, Copy, Debug)]
-pub struct SyntheticFont<'a> {
+pub(crate) struct SyntheticFont<'a> {
     /// The font.
     own: OwnFunctions<'a>,
     /// How much bolder its glyphs are across: a negative number where they are turned round.
@@ -33,7 +33,7 @@ pub struct SyntheticFont<'a> {
 
 impl<'a> SyntheticFont<'a> {
     /// A font of which glyphs are drawn so, at its size.
-    pub fn new(face: &'a Face<'a>, synthetic: Synthetic, not_found: GlyphId) -> Self {
+    pub(crate) fn new(face: &'a Face<'a>, synthetic: Synthetic, not_found: GlyphId) -> Self {
         let (x, y) = (face.scale.x, face.scale.y);
         SyntheticFont {
             own: OwnFunctions { face },
@@ -46,7 +46,7 @@ impl<'a> SyntheticFont<'a> {
     }
 
     /// Whether it answers as the font alone does.
-    pub fn is_plain(&self) -> bool {
+    pub(crate) fn is_plain(&self) -> bool {
         self.x == 0 && self.y == 0 && self.slant == 0.0 && self.not_found.0 == 0
     }
 
@@ -219,7 +219,7 @@ impl FontFunctions for SyntheticFont<'_> {
 
 /// The names of a font's glyphs, and the extents of glyphs that are drawn bolder and slanted.
 #[derive(Drop)]
-pub struct SyntheticNames<'a, N> {
+pub(crate) struct SyntheticNames<'a, N> {
     /// The names.
     pub names: N,
     font: SyntheticFont<'a>,
@@ -228,7 +228,7 @@ pub struct SyntheticNames<'a, N> {
 
 impl<'a, N: LineNames> SyntheticNames<'a, N> {
     /// The names, and no extents yet.
-    pub fn new(alloc: Global, names: N, font: SyntheticFont<'a>) -> Self {
+    pub(crate) fn new(alloc: Global, names: N, font: SyntheticFont<'a>) -> Self {
         SyntheticNames {
             names,
             font,
@@ -237,7 +237,7 @@ impl<'a, N: LineNames> SyntheticNames<'a, N> {
     }
 
     /// The names alone.
-    pub fn into_names(self) -> N
+    pub(crate) fn into_names(self) -> N
         ensures { result ≡ self.names }
     {
         let SyntheticNames {

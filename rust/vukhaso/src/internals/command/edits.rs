@@ -16,6 +16,8 @@ pub(crate) struct Edits {
     pub not_found: GlyphId,
     /// How far to the right what a position moves up is moved.
     pub slant: f32,
+    /// Whether lookups placed the marks, which are slanted then.
+    pub has_lookups: bool,
     /// Whether the glyphs of a cluster are put in their nominal order.
     pub normalizes: bool,
     /// Whether the line runs backward.
@@ -51,7 +53,9 @@ impl Edits {
         }
         if self.slant != 0.0 {
             for position in positions.iter_mut() {
-                slant_offset(position, self.slant);
+                if self.has_lookups || has_advance(position) {
+                    slant_offset(position, self.slant);
+                }
             }
         }
         if self.normalizes {
@@ -70,18 +74,14 @@ fn show(info: &mut hb_glyph_info_t, not_found: GlyphId) {
 /// Moves to the right what stands higher than the line.
 fn slant_offset(position: &mut GlyphPosition, slant: f32) {
     if position.y_offset != 0 {
-        let moved = nearest(slant * float(position.y_offset));
+        let moved = rounded(slant * float(position.y_offset));
         position.x_offset = position.x_offset.wrapping_add(moved);
     }
 }
 
-/// The whole number that is nearest, and the one that is farther from 0 between two.
-fn nearest(number: f32) -> i32 {
-    if number < 0.0 {
-        rounded(-number).wrapping_neg()
-    } else {
-        rounded(number)
-    }
+/// Whether a glyph moves the pen.
+fn has_advance(position: &GlyphPosition) -> bool {
+    position.x_advance != 0 || position.y_advance != 0
 }
 
 /// A buffer of glyphs, in the room of an empty text; `None` where it does not hold as many.

@@ -39,7 +39,7 @@ pub(crate) const GROUPS: [(&str, &str, &str); 9] = [
 ];
 
 /// The options. Those of no group are shown in the help on all.
-pub(crate) const OPTIONS: [Row; 59] = [
+pub(crate) const OPTIONS: [Row; 60] = [
     ("face", "font-file", "FILE", "The font"),
     (
         "face",
@@ -254,6 +254,12 @@ pub(crate) const OPTIONS: [Row; 59] = [
         "safe-to-insert-tatweel",
         "",
         "Produce the glyph flag safe-to-insert-tatweel",
+    ),
+    (
+        "shape",
+        "glyphs",
+        "",
+        "Read glyphs, as they are printed, in place of a text",
     ),
     (
         "shape",

@@ -137,6 +137,8 @@ pub struct LineOptions<'a> {
     pub not_found_glyph: GlyphId,
     /// The glyph of variation selectors that the font does not know.
     pub not_found_variation_selector_glyph: Option<u32>,
+    /// Whether lines write glyphs, and no text.
+    pub glyphs: bool,
     /// Whether the glyphs of a cluster are put in their nominal order.
     pub normalize_glyphs: bool,
     /// Whether clusters are numbers of bytes, and not of characters.
@@ -326,6 +328,7 @@ fn line_options<'a>(matches: &ArgMatches<'a>) -> Result<LineOptions<'a>, Options
         invisible_glyph: glyph(matches, "invisible-glyph")?,
         not_found_glyph: glyph(matches, "not-found-glyph")?.unwrap_or(GlyphId(0)),
         not_found_variation_selector_glyph: number(matches, "not-found-variation-selector-glyph")?,
+        glyphs: matches.get_flag("glyphs"),
         normalize_glyphs: matches.get_flag("normalize-glyphs"),
         utf8_clusters: matches.get_flag("utf8-clusters"),
         before: context(matches, "before", ("text-before", "unicodes-before"))?,

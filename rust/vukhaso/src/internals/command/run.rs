@@ -240,7 +240,7 @@ fn answer_into<'a, F: Files + AllocGlobal, R: BufRead, W: Write>(
     if options.svg {
         return draw_text(options, font, output);
     }
-    if !asks_font(options.output.flags) {
+    if !asks_font(options.output.flags) && !options.line.glyphs {
         answer_numbered(rt, options, font, input, output)
     } else if synthetic_of(font, options).is_plain() {
         answer_named(rt, options, font, input, output)
@@ -341,8 +341,8 @@ fn unless_given_up<'a>(
 /// The font as its glyphs are to be drawn.
 fn synthetic_of<'a>(font: &'a LoadedFont<'_>, options: &Options<'_>) -> SyntheticFont<'a> {
     let not_found = match options.line.shaper {
-        Shaper::OpenType => options.line.not_found_glyph,
-        Shaper::Fallback => GlyphId(0),
+        Shaper::OpenType if !options.line.glyphs => options.line.not_found_glyph,
+        _ => GlyphId(0),
     };
     SyntheticFont::new(&font.face, options.font.synthetic, not_found)
 }

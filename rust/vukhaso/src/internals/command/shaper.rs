@@ -3,11 +3,12 @@
 //! What a line is answered with.
 
 use crate::buffer::{
-    Direction, GlyphBuffer, GlyphNames, NoGlyphNames, SerializeFlags, UnicodeBuffer,
+    Direction, GlyphBuffer, GlyphId, GlyphNames, NoGlyphNames, SerializeFlags, UnicodeBuffer,
     hb_glyph_info_t,
 };
-use crate::command::edits::Edits;
+use crate::command::edits::{Edits, buffer_of};
 use crate::command::fallback::shape_fallback;
+use crate::command::glyph_line::read_glyphs;
 use crate::command::options::{LineOptions, Shaper};
 use crate::command::output::{Output, OutputFormat};
 use crate::command::synthetic_font::SyntheticFont;
@@ -145,7 +146,7 @@ pub struct LineShaper<'a> {
     /// The font.
     pub face: &'a Face<'a>,
     /// What it answers, as its glyphs are to be drawn.
-    pub font: SyntheticFont<'a>,
+    pub(crate) font: SyntheticFont<'a>,
     /// How each line is shaped.
     pub options: &'a LineOptions<'a>,
     /// How often each line is shaped.
@@ -192,10 +193,37 @@ impl LineShaper<'_> {
         state: &mut LineState<N>,
         line: &str,
     ) -> Result<Answered, AllocError> {
-        self.shape_unprinted(state, line)?;
         let characters = self.characters(line)?;
-        let answer = self.shape(state, line)?;
+        let answer = if self.options.glyphs {
+            self.answer_to_glyphs(state, line)?
+        } else {
+            self.shape_unprinted(state, line)?;
+            self.shape(state, line)?
+        };
         Ok(Answered { characters, answer })
+    }
+
+    /// The answer to a line that writes glyphs.
+    fn answer_to_glyphs<N: LineNames>(
+        &self,
+
+        state: &mut LineState<N>,
+        line: &str,
+    ) -> Result<Answer, AllocError> {
+        let mut text = state.kept.take_text(self.options);
+        // An empty text is not too long.
+        let _fits = fill(self.options, "", &mut text)?;
+        let direction = text.direction();
+        let read = read_glyphs(self.face, &self.font, &state.names, direction, line)?;
+        let edits = Edits {
+            not_found: GlyphId(0),
+            slant: 0.0,
+            ..self.edits(direction)
+        };
+        match buffer_of(text, read.infos.as_slice(), read.positions.as_slice())? {
+            Some(glyphs) => self.print_edited(state, &edits, glyphs),
+            None => Ok(Answer::Failed),
+        }
     }
 
     /// The list of a line's characters, where that is shown; else it is empty.
@@ -268,14 +296,16 @@ impl LineShaper<'_> {
         shape_with_functions_and_plans(self.face, &self.font, features, plans, text)
     }
 
-    /// What the options change of the glyphs of a text in this direction. In a horizontal line the lookups
-    /// alone move glyphs up that are slanted with them.
+    /// What the options change of the glyphs of a text in this direction.
     fn edits(&self, direction: Direction) -> Edits {
-        let is_slanted = self.options.shaper == Shaper::OpenType
-            && (direction.is_vertical() || self.face.has_gpos);
+        let slant = match self.options.shaper {
+            Shaper::OpenType => self.font.slant,
+            Shaper::Fallback => 0.0,
+        };
         Edits {
             not_found: self.font.not_found,
-            slant: if is_slanted { self.font.slant } else { 0.0 },
+            slant,
+            has_lookups: self.face.has_gpos,
             normalizes: self.options.normalize_glyphs,
             is_backward: direction.is_backward(),
         }

@@ -14,7 +14,7 @@ use crate::numbers::saturating_f32_to_i32;
 /// A font at its size, of which the glyphs are drawn bolder and slanted. Glyph 0 has the measures of the glyph that stands for
 /// characters that the font lacks.
 #[derive(Clone, Copy, Debug)]
-pub struct SyntheticFont<'a> {
+pub(crate) struct SyntheticFont<'a> {
     /// The font.
     own: OwnFunctions<'a>,
     /// How much bolder its glyphs are across: a negative number where they are turned round.
@@ -31,12 +31,7 @@ pub struct SyntheticFont<'a> {
 
 impl<'a> SyntheticFont<'a> {
     /// A font of which glyphs are drawn so, at its size.
-    ///
-    /// # Proved
-    ///
-    /// That it returns.
-    #[inline]
-    pub fn new(face: &'a Face<'a>, synthetic: Synthetic, not_found: GlyphId) -> Self {
+    pub(crate) fn new(face: &'a Face<'a>, synthetic: Synthetic, not_found: GlyphId) -> Self {
         let (x, y) = (face.scale.x, face.scale.y);
         SyntheticFont {
             own: OwnFunctions { face },
@@ -49,12 +44,7 @@ impl<'a> SyntheticFont<'a> {
     }
 
     /// Whether it answers as the font alone does.
-    ///
-    /// # Proved
-    ///
-    /// That it returns.
-    #[inline]
-    pub fn is_plain(&self) -> bool {
+    pub(crate) fn is_plain(&self) -> bool {
         self.x == 0 && self.y == 0 && self.slant == 0.0 && self.not_found.0 == 0
     }
 
@@ -132,12 +122,11 @@ fn is_empty(bounds: GlyphExtents) -> bool {
 
 /// How much bolder glyphs are where an em is so long. What is turned round grows the other way.
 fn strength(size: i32, bold: f32) -> i32 {
-    let exact = float(size) * bold;
-    let strength = rounded(if exact < 0.0 { -exact } else { exact });
-    if size < 0 {
-        strength.saturating_neg()
-    } else {
+    let strength = rounded(float(size) * bold);
+    if (strength < 0) == (size < 0) {
         strength
+    } else {
+        strength.saturating_neg()
     }
 }
 
@@ -223,7 +212,7 @@ impl FontFunctions for SyntheticFont<'_> {
 }
 
 /// The names of a font's glyphs, and the extents of glyphs that are drawn bolder and slanted.
-pub struct SyntheticNames<'a, N> {
+pub(crate) struct SyntheticNames<'a, N> {
     /// The names.
     pub names: N,
     font: SyntheticFont<'a>,
@@ -232,12 +221,7 @@ pub struct SyntheticNames<'a, N> {
 
 impl<'a, N: LineNames> SyntheticNames<'a, N> {
     /// The names, and no extents yet.
-    ///
-    /// # Proved
-    ///
-    /// That it returns.
-    #[inline]
-    pub fn new(names: N, font: SyntheticFont<'a>) -> Self {
+    pub(crate) fn new(names: N, font: SyntheticFont<'a>) -> Self {
         SyntheticNames {
             names,
             font,
@@ -246,14 +230,7 @@ impl<'a, N: LineNames> SyntheticNames<'a, N> {
     }
 
     /// The names alone.
-    ///
-    /// # Proved
-    ///
-    /// ```text
-    /// ensures { result ≡ self.names }
-    /// ```
-    #[inline]
-    pub fn into_names(self) -> N {
+    pub(crate) fn into_names(self) -> N {
         let SyntheticNames {
             names,
             font: _,
