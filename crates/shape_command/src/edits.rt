@@ -105,27 +105,39 @@ pub(crate) fn buffer_of(
 }
 
 /// Puts glyphs in the places of those of a buffer.
-#[tactic(auto, using(shaping_buffer::proofs::ClosedKeepsLemmas::kept))]
 fn put_infos(buffer: &mut hb_buffer_t, infos: &[hb_glyph_info_t])
     requires closed { buffer.old.have_output ≡ false }
     requires placed { IsSome buffer.old.positions }
     ensures closed { buffer.new.have_output ≡ false }
     ensures placed { IsSome buffer.new.positions }
 {
-    for (own, info) in buffer.info_slice_mut().iter_mut().zip(infos) {
-        *own = *info;
-    }
+    copy_infos(buffer.info_slice_mut(), infos);
 }
 
 /// Puts positions in the places of those of a buffer.
-#[tactic(auto, using(shaping_buffer::proofs::ClosedKeepsLemmas::kept))]
 fn put_positions(buffer: &mut hb_buffer_t, positions: &[GlyphPosition])
     requires closed { buffer.old.have_output ≡ false }
     requires placed { IsSome buffer.old.positions }
     ensures closed { buffer.new.have_output ≡ false }
     ensures placed { IsSome buffer.new.positions }
 {
-    for (own, position) in buffer.pos_mut().iter_mut().zip(positions) {
-        *own = *position;
+    copy_positions(buffer.pos_mut(), positions);
+}
+
+/// Puts glyphs in the places of others.
+fn copy_infos(own: &mut [hb_glyph_info_t], infos: &[hb_glyph_info_t]) {
+    for i in 0..own.len() {
+        if let Some(info) = infos.get(i) {
+            own[i] = *info;
+        }
+    }
+}
+
+/// Puts positions in the places of others.
+fn copy_positions(own: &mut [GlyphPosition], positions: &[GlyphPosition]) {
+    for i in 0..own.len() {
+        if let Some(position) = positions.get(i) {
+            own[i] = *position;
+        }
     }
 }

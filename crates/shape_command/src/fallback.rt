@@ -1,10 +1,13 @@
 //! The shaper `fallback`, which asks nothing of a font but the glyphs of characters, and their advances.
 
-ghost use Rattle.std.specs.Prelude.{◌≡◌, false, IsSome};
+ghost use Rattle.std.specs.Prelude.{◌≡◌, false, IfOk, IsSome};
+ghost use Rattle.shaping_buffer.specs.Clusters.{clusters};
+ghost use Rattle.shaping_buffer.specs.KeepsClusters.{KeepsClusters};
 
 use font_shaper::FontFunctions;
 use shaping_buffer::{
     CharExt, Direction, GlyphBuffer, GlyphId, GlyphPosition, UnicodeBuffer, hb_buffer_t,
+    hb_glyph_info_t,
 };
 use std::alloc::AllocError;
 
@@ -41,6 +44,7 @@ pub(crate) fn shape_fallback<F: FontFunctions>(
 }
 
 /// Puts the glyph of each character in its place.
+#[tactic(auto, using(shaping_buffer::proofs::ClosedKeepsLemmas::kept))]
 fn place_all<F: FontFunctions>(
     buffer: &mut hb_buffer_t,
     font: &F,
@@ -48,8 +52,9 @@ fn place_all<F: FontFunctions>(
 ) -> Result<(), AllocError>
     requires closed { buffer.old.have_output ≡ false }
     requires placed { IsSome buffer.old.positions }
-    ensures closed { buffer.new.have_output ≡ false }
-    ensures placed { IsSome buffer.new.positions }
+    ensures closed { IfOk result (λ _. buffer.new.have_output ≡ false) }
+    ensures placed { IfOk result (λ _. IsSome buffer.new.positions) }
+    ensures keeps { KeepsClusters buffer.old buffer.new }
 {
     let space = font.nominal_glyph(0x20);
     for i in 0..buffer.len() {
@@ -118,10 +123,19 @@ fn put(buffer: &mut hb_buffer_t, place: usize, placed: Placed)
     requires placed { IsSome buffer.old.positions }
     ensures closed { buffer.new.have_output ≡ false }
     ensures placed { IsSome buffer.new.positions }
+    ensures keeps { KeepsClusters buffer.old buffer.new }
 {
     put_position(buffer, place, placed.position);
-    if let Some(info) = buffer.info_slice_mut().get_mut(place) {
-        info.glyph_id = u32::from(placed.glyph.0);
+    put_glyph(buffer.info_slice_mut(), place, placed.glyph);
+}
+
+/// Puts a glyph at a place, in the cluster of the character there.
+#[tactic(auto, using(shaping_buffer::proofs::ClosedKeepsLemmas::clusters_written))]
+fn put_glyph(infos: &mut [hb_glyph_info_t], place: usize, glyph: GlyphId)
+    ensures { clusters infos.new ≡ clusters infos.old }
+{
+    if place < infos.len() {
+        infos[place].glyph_id = u32::from(glyph.0);
     }
 }
 
@@ -132,6 +146,7 @@ fn put_position(buffer: &mut hb_buffer_t, place: usize, position: GlyphPosition)
     requires placed { IsSome buffer.old.positions }
     ensures closed { buffer.new.have_output ≡ false }
     ensures placed { IsSome buffer.new.positions }
+    ensures keeps { KeepsClusters buffer.old buffer.new }
 {
     if let Some(own) = buffer.pos_mut().get_mut(place) {
         *own = position;

@@ -4,6 +4,7 @@
 
 use crate::buffer::{
     CharExt, Direction, GlyphBuffer, GlyphId, GlyphPosition, UnicodeBuffer, hb_buffer_t,
+    hb_glyph_info_t,
 };
 use crate::font_shaper::FontFunctions;
 use crate::memory::AllocError;
@@ -124,8 +125,13 @@ fn put(buffer: &mut hb_buffer_t, place: usize, placed: Placed) {
     debug_assert!(!buffer.have_output());
     debug_assert!(buffer.have_positions());
     put_position(buffer, place, placed.position);
-    if let Some(info) = buffer.info_slice_mut().get_mut(place) {
-        info.glyph_id = u32::from(placed.glyph.0);
+    put_glyph(buffer.info_slice_mut(), place, placed.glyph);
+}
+
+/// Puts a glyph at a place, in the cluster of the character there.
+fn put_glyph(infos: &mut [hb_glyph_info_t], place: usize, glyph: GlyphId) {
+    if place < infos.len() {
+        infos[place].glyph_id = u32::from(glyph.0);
     }
 }
 

@@ -84,11 +84,8 @@ fn at_size(face: &Face<'_>, written: GlyphPosition) -> GlyphPosition {
 
 /// A number of font units where an em is so long, without its fraction.
 fn scaled(number: i32, size: i32, units: u16) -> i32 {
-    if units == 0 {
-        return 0;
-    }
-    let exact = i64::from(number) * i64::from(size) / i64::from(units);
-    i32::try_from(exact).unwrap_or(0)
+    let product = i64::from(number).saturating_mul(i64::from(size));
+    i32::try_from(product / i64::from(units.max(1))).unwrap_or(i32::MAX)
 }
 
 /// Gives a glyph the font's advance in a line of this direction.
