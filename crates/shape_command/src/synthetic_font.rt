@@ -6,7 +6,7 @@ ghost use Rattle.shape_command.specs.Synthetic as synthetic;
 
 use crate::shaper::LineNames;
 use crate::synthetic::Synthetic;
-use font_shaper::{Face, FontFunctions, OwnFunctions};
+use font_shaper::{Face, FaceNames, FontFunctions, OwnFunctions};
 use font_variations::rounding::{float, rounded};
 use shaping_buffer::{GlyphExtents, GlyphId, GlyphNames, hb_glyph_info_t};
 use std::alloc::{AllocError, Global};
@@ -219,42 +219,30 @@ impl FontFunctions for SyntheticFont<'_> {
 
 /// The names of a font's glyphs, and the extents of glyphs that are drawn bolder and slanted.
 #[derive(Drop)]
-pub(crate) struct SyntheticNames<'a, N> {
-    /// The names.
-    pub names: N,
+pub(crate) struct SyntheticNames<'a> {
+    names: &'a FaceNames<'a>,
     font: SyntheticFont<'a>,
     extents: BTreeMap<u16, Option<GlyphExtents>>,
 }
 
-impl<'a, N: LineNames> SyntheticNames<'a, N> {
+impl<'a> SyntheticNames<'a> {
     /// The names, and no extents yet.
-    pub(crate) fn new(alloc: Global, names: N, font: SyntheticFont<'a>) -> Self {
+    pub(crate) fn new(alloc: Global, names: &'a FaceNames<'a>, font: SyntheticFont<'a>) -> Self {
         SyntheticNames {
             names,
             font,
             extents: BTreeMap::new(alloc),
         }
     }
-
-    /// The names alone.
-    pub(crate) fn into_names(self) -> N
-        ensures { result ≡ self.names }
-    {
-        let SyntheticNames {
-            names,
-            font: _,
-            extents: _,
-        } = self;
-        names
-    }
 }
 
-impl<N: GlyphNames> GlyphNames for SyntheticNames<'_, N> {
+impl GlyphNames for SyntheticNames<'_> {
     ghost use Rattle.std.specs.BTreeMap.{get};
     ghost use Rattle.std.specs.Prelude.{option_and_then};
     ghost use Rattle.std.specs.Ordering.{nat_cmp};
+    ghost use Rattle.font_face.specs.FaceNames.{name_of};
 
-    ghost name_of = { λ names glyph. N.name_of names.names glyph };
+    ghost name_of = { λ names glyph. name_of names.names.now.post.table.now names.names.now.outlines glyph };
 
     ghost extents_of = { λ names glyph. option_and_then (λ found. found) (get nat_cmp names.extents glyph) };
 
@@ -267,7 +255,7 @@ impl<N: GlyphNames> GlyphNames for SyntheticNames<'_, N> {
     }
 }
 
-impl<N: LineNames> LineNames for SyntheticNames<'_, N> {
+impl LineNames for SyntheticNames<'_> {
     fn find(&mut self, infos: &[hb_glyph_info_t]) -> Result<(), AllocError> {
         for info in infos {
             if let Ok(number) = u16::try_from(info.glyph_id)
