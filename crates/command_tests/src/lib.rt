@@ -7,6 +7,4 @@ mod errors;
 #[cfg(test)]
 mod lines;
 #[cfg(test)]
-mod options;
-#[cfg(test)]
 mod texts;

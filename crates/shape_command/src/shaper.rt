@@ -3,14 +3,14 @@
 ghost use Rattle.std.specs.Prelude.{◌≡◌, [], None, false, IfOk};
 ghost use Rattle.shape_command.specs.Answer.{answer_text, is_shaped};
 ghost use Rattle.shape_command.specs.Lines.{IsAnswer, IsList, glyphs_in, glyphs_line};
-ghost use Rattle.shape_command.specs.declared.output.OutputFormat.TheVariants.{Text, Json};
+ghost use Rattle.shape_options.specs.declared.output.OutputFormat.TheVariants.{Text, Json};
 
-use crate::options::LineOptions;
-use crate::output::{Output, OutputFormat};
 use crate::text::{emptied, empty_text, fill, lossy_text};
 use font_shaper::{Face, FaceNames, KeptPlans, ShapeError, VerifyError, shape_with_kept_plans};
 use line_formats::characters::characters_list;
 use line_formats::json::glyphs_json;
+use shape_options::options::LineOptions;
+use shape_options::output::{Output, OutputFormat};
 use shaping_buffer::{
     Flags, GlyphBuffer, GlyphNames, NoGlyphNames, SerializeFlags, UnicodeBuffer, hb_glyph_info_t,
 };

@@ -2,22 +2,13 @@
 
 //! The program `vukhaso_shape`, used as HarfBuzz's `hb-shape` is: options, lines of a text, and what is printed.
 
-pub(crate) mod arguments;
-pub mod batch;
 mod batch_answers;
-pub mod code_points;
 mod drawing;
 pub mod ending;
-pub mod features;
 pub mod font_file;
 pub mod lines;
 pub(crate) mod loaded_font;
-mod option_table;
-pub mod options;
-pub mod output;
 mod picture;
 pub mod run;
 pub mod shaper;
-mod sizes;
 pub mod text;
-pub mod variations;

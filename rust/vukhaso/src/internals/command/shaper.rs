@@ -5,8 +5,6 @@
 use crate::buffer::{
     GlyphBuffer, GlyphNames, NoGlyphNames, SerializeFlags, UnicodeBuffer, hb_glyph_info_t,
 };
-use crate::command::options::LineOptions;
-use crate::command::output::{Output, OutputFormat};
 use crate::command::text::{emptied, empty_text, fill, lossy_text};
 use crate::font_shaper::{
     Face, FaceNames, KeptPlans, ShapeError, VerifyError, shape_with_kept_plans,
@@ -14,6 +12,8 @@ use crate::font_shaper::{
 use crate::line_formats::characters::characters_list;
 use crate::line_formats::json::glyphs_json;
 use crate::memory::{AllocError, String, Vec};
+use crate::options::options::LineOptions;
+use crate::options::output::{Output, OutputFormat};
 
 /// Names and extents of glyphs, where the extents are found before they are asked for.
 pub trait LineNames: GlyphNames {

@@ -14,6 +14,7 @@ use vukhaso::internals::font_normalization::glyph_info::{
 use vukhaso::internals::font_normalization::{allows_any_order, normalize};
 use vukhaso::internals::font_shaper::{Face, OwnFunctions};
 use vukhaso::internals::script_shapers::{ScriptPlan, ScriptShaper};
+use vukhaso::memory::AllocError;
 
 /// The characters of a text with their properties, in a buffer whose invisible glyph is 1.
 fn buffer_of(text: &str) -> hb_buffer_t {
@@ -94,16 +95,22 @@ fn assert_properties(infos: &mut [hb_glyph_info_t]) {
     }
 }
 
+/// Normalizes characters with the font's own functions.
+///
+/// # Requires
+///
+/// - `buffer.old.have_output ≡ false`
+fn normalize_by(face: &Face, buffer: &mut hb_buffer_t) -> Result<bool, AllocError> {
+    debug_assert!(!buffer.have_output());
+    normalize(buffer, &OwnFunctions { face }, &plan())
+}
+
 /// A mark, a space, and a variation selector that the font does not know.
 #[test]
 fn properties_are_kept() -> Result<(), Fail> {
     let face = Face::parse_if_there(UPRIGHT, 0)?.ok_or("no font")?;
     let mut buffer = buffer_of("a\u{301}\u{2003}b\u{fe01}");
-    assert!(normalize(
-        &mut buffer,
-        &OwnFunctions { face: &face },
-        &plan()
-    )?);
+    assert!(normalize_by(&face, &mut buffer)?);
     assert_properties(buffer.info_slice_mut());
     Ok(())
 }
