@@ -7,4 +7,6 @@ mod errors;
 #[cfg(test)]
 mod lines;
 #[cfg(test)]
+mod normalized;
+#[cfg(test)]
 mod texts;

@@ -1,9 +1,9 @@
 //! What a command line asks for.
 
-use shape_options::options::TextSource;
+use shape_options::options::{Shaper, TextSource};
 use shape_options::output::OutputFormat;
 use shape_options::words::options_of;
-use shaping_buffer::{BufferClusterLevel, Direction, Flags, SerializeFlags};
+use shaping_buffer::{BufferClusterLevel, Direction, Flags, GlyphId, SerializeFlags};
 use std::test::Fail;
 
 #[test]
@@ -85,7 +85,7 @@ fn formats_are_read(rt: HostRuntime) -> Result<(), Fail> {
 
 /// Words that ask for a text, and how it begins.
 static ASKED: [(&[&str], &str); 4] = [
-    (&["program", "--list-shapers"], "ot\n"),
+    (&["program", "--list-shapers"], "ot\nfallback\n"),
     (&["program", "--version"], "vukhaso_shape (Vukhaso) "),
     (&["program", "--help-text"], "Options of the text"),
     (&["program", "--help-all"], "Shapes the lines of a text"),
@@ -104,7 +104,7 @@ fn texts_are_told(rt: HostRuntime) -> Result<(), Fail> {
 }
 
 /// Words behind the name of the program, and what is said of them.
-static REFUSED: [(&[&str], &str); 14] = [
+static REFUSED: [(&[&str], &str); 17] = [
     (&["program"], "No font file set"),
     (
         &["program", "font", "a", "b"],
@@ -127,8 +127,20 @@ static REFUSED: [(&[&str], &str); 14] = [
         "--font-size argument should be one or two space-separated numbers, and not 'x'",
     ),
     (
-        &["program", "font", "--shaper=fallback"],
-        "Unknown or unsupported shaper: fallback",
+        &["program", "font", "--shapers=ot,uniscribe"],
+        "Unknown or unsupported shaper: uniscribe",
+    ),
+    (
+        &["program", "font", "--font-slant=x"],
+        "--font-slant argument should be one or two space-separated numbers, and not 'x'",
+    ),
+    (
+        &["program", "font", "--font-bold=.1", "--font-grade=.1"],
+        "Only one of --font-bold and --font-grade can be set",
+    ),
+    (
+        &["program", "font", "--not-found-glyph=x"],
+        "Cannot parse integer value 'x' for --not-found-glyph",
     ),
     (
         &["program", "font", "--font-funcs=ft"],
@@ -166,6 +178,42 @@ fn mistakes_are_told(rt: HostRuntime) -> Result<(), Fail> {
         let error = options_of(rt.alloc(), words).err().ok_or("refused")?;
         assert_eq!(rt; error.to_string(rt.alloc())?.as_str(), *message);
     }
+    Ok(())
+}
+
+#[test]
+fn ways_to_draw_glyphs_are_read(rt: HostRuntime) -> Result<(), Fail> {
+    let plain = ["program", "font"];
+    let bold = ["program", "font", "--font-bold=.5 1e1", "--font-slant=-.25"];
+    let grade = ["program", "font", "--font-grade=2"];
+    let options = options_of(rt.alloc(), &plain).ok().ok_or("read")?;
+    let drawn = options.font.synthetic;
+    assert!(rt; drawn.bold == (0.0, 0.0) && !drawn.in_place && drawn.slant == 0.0);
+    let options = options_of(rt.alloc(), &bold).ok().ok_or("read")?;
+    let drawn = options.font.synthetic;
+    assert!(rt; drawn.bold == (0.5, 10.0) && !drawn.in_place && drawn.slant == -0.25);
+    let options = options_of(rt.alloc(), &grade).ok().ok_or("read")?;
+    let drawn = options.font.synthetic;
+    assert!(rt; drawn.bold == (2.0, 2.0) && drawn.in_place);
+    Ok(())
+}
+
+#[test]
+fn the_first_shaper_is_read(rt: HostRuntime) -> Result<(), Fail> {
+    let words = [
+        "program",
+        "font",
+        "--shapers=fallback,ot",
+        "--not-found-glyph=3",
+        "--normalize-glyphs",
+    ];
+    let options = options_of(rt.alloc(), &words).ok().ok_or("read")?;
+    assert!(rt; options.line.shaper == Shaper::Fallback);
+    assert!(rt; options.line.not_found_glyph == GlyphId(3) && options.line.normalize_glyphs);
+    let words = ["program", "font"];
+    let options = options_of(rt.alloc(), &words).ok().ok_or("read")?;
+    assert!(rt; options.line.shaper == Shaper::OpenType);
+    assert!(rt; options.line.not_found_glyph == GlyphId(0) && !options.line.normalize_glyphs);
     Ok(())
 }
 

@@ -4,3 +4,5 @@ pub mod Lines
 pub mod Numbered
 pub mod Prepared
 pub mod Status
+pub mod Synthetic
+pub mod SyntheticFont

@@ -3,11 +3,16 @@
 
 mod batch_answers;
 mod drawing;
+mod edits;
 pub mod ending;
+mod fallback;
 pub mod font_file;
+mod glyph_line;
 pub mod lines;
 mod loaded_font;
+pub mod normalized;
 mod picture;
 pub mod run;
 pub mod shaper;
+mod synthetic_font;
 pub mod text;

@@ -9,10 +9,10 @@ const ABOUT: &str =
     "Shapes the lines of a text with a font, and prints their glyphs as HarfBuzz's hb-shape does";
 
 /// The shapers, as `--list-shapers` prints them.
-const SHAPERS: &str = "ot\n";
+const SHAPERS: &str = "ot\nfallback\n";
 
 /// What `--version` prints.
-const VERSION: &str = "vukhaso_shape (Vukhaso) 0.1.0\nAvailable shapers: ot\n";
+const VERSION: &str = "vukhaso_shape (Vukhaso) 0.1.0\nAvailable shapers: ot,fallback\n";
 
 /// What the words of a command line say; the first is the name of the program.
 pub(crate) fn matches_of<'a, S: AsStr>(

@@ -10,5 +10,6 @@ mod option_table;
 pub mod options;
 pub mod output;
 mod sizes;
+pub mod synthetic;
 pub mod variations;
 pub mod words;

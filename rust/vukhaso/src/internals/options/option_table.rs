@@ -39,7 +39,7 @@ pub(crate) const GROUPS: [(&str, &str, &str); 9] = [
 ];
 
 /// The options. Those of no group are shown in the help on all.
-pub(crate) const OPTIONS: [Row; 53] = [
+pub(crate) const OPTIONS: [Row; 60] = [
     ("face", "font-file", "FILE", "The font"),
     (
         "face",
@@ -73,9 +73,33 @@ pub(crate) const OPTIONS: [Row; 53] = [
     ),
     (
         "font",
+        "font-bold",
+        "STRENGTH",
+        "How much bolder glyphs are drawn, in ems: one or two numbers, as 0.05 [default: 0]",
+    ),
+    (
+        "font",
+        "font-grade",
+        "STRENGTH",
+        "The same, and advances stay as they are [default: 0]",
+    ),
+    (
+        "font",
+        "font-slant",
+        "SLANT",
+        "How far glyphs are slanted, as 0.2 [default: 0]",
+    ),
+    (
+        "font",
         "font-funcs",
         "NAME",
         "Accepted for hb-shape's sake: ot",
+    ),
+    (
+        "font",
+        "sub-font",
+        "",
+        "Accepted for hb-shape's sake, and changes nothing",
     ),
     (
         "font",
@@ -134,17 +158,12 @@ pub(crate) const OPTIONS: [Row; 53] = [
         "The text after each line, as hexadecimal numbers of characters",
     ),
     ("shape", "list-shapers", "", "Print the shapers, and end"),
-    (
-        "shape",
-        "shaper",
-        "NAME",
-        "Accepted for hb-shape's sake: ot",
-    ),
+    ("shape", "shaper", "NAME", "The same as --shapers"),
     (
         "shape",
         "shapers",
         "NAMES",
-        "Accepted for hb-shape's sake: ot",
+        "What shapes the text, the first of those that are named: ot or fallback [default: ot]",
     ),
     (
         "shape",
@@ -196,6 +215,12 @@ pub(crate) const OPTIONS: [Row; 53] = [
     ),
     (
         "shape",
+        "not-found-glyph",
+        "GLYPH",
+        "The glyph of characters that the font does not have",
+    ),
+    (
+        "shape",
         "not-found-variation-selector-glyph",
         "GLYPH",
         "The glyph of variation selectors that the font does not know",
@@ -214,6 +239,12 @@ pub(crate) const OPTIONS: [Row; 53] = [
     ),
     (
         "shape",
+        "normalize-glyphs",
+        "",
+        "Put the glyphs of each cluster in their nominal order",
+    ),
+    (
+        "shape",
         "unsafe-to-concat",
         "",
         "Produce the glyph flag unsafe-to-concat",
@@ -223,6 +254,12 @@ pub(crate) const OPTIONS: [Row; 53] = [
         "safe-to-insert-tatweel",
         "",
         "Produce the glyph flag safe-to-insert-tatweel",
+    ),
+    (
+        "shape",
+        "glyphs",
+        "",
+        "Read glyphs, as they are printed, in place of a text",
     ),
     (
         "shape",

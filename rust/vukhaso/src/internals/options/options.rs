@@ -10,6 +10,7 @@ use crate::options::code_points::{CodePointsError, code_points, text_of_code_poi
 use crate::options::features::{features, unquoted};
 use crate::options::output::{Output, output_of};
 use crate::options::sizes::{one_or_two, sizes};
+use crate::options::synthetic::{Synthetic, synthetic_of};
 use crate::options::variations::{value, variations};
 
 /// Why the words of a command line ask for nothing that can be done.
@@ -29,6 +30,8 @@ pub enum OptionsError<'a> {
     Number(&'static str, &'a str),
     /// A value is not one or two numbers.
     Size(&'static str, &'a str),
+    /// Glyphs are to be bolder, and bolder in place.
+    TwoBolds,
     /// A shaper of this name is not known.
     Shaper(&'a str),
     /// Functions of a font of this name are not known.
@@ -60,6 +63,7 @@ impl<'a> core::fmt::Display for OptionsError<'a> {
                 f,
                 "--{n0} argument should be one or two space-separated numbers, and not '{n1}'"
             ),
+            Self::TwoBolds => write!(f, "Only one of --font-bold and --font-grade can be set"),
             Self::Shaper(n0) => write!(f, "Unknown or unsupported shaper: {n0}"),
             Self::FontFuncs(n0) => write!(
                 f,
@@ -103,9 +107,20 @@ pub enum TextSource<'a> {
     Input,
 }
 
+/// What makes glyphs of a text.
+#[derive(Clone, Copy, PartialEq, Eq, Debug)]
+pub enum Shaper {
+    /// The tables of the font.
+    OpenType,
+    /// The glyphs of characters, and their advances alone.
+    Fallback,
+}
+
 /// How lines are made into texts that are shaped, and how they are shaped.
 #[derive(Debug)]
 pub struct LineOptions<'a> {
+    /// What makes glyphs of them.
+    pub shaper: Shaper,
     /// The direction, or `Invalid` where it is guessed.
     pub direction: Direction,
     /// The script, unless it is guessed.
@@ -118,8 +133,14 @@ pub struct LineOptions<'a> {
     pub cluster_level: BufferClusterLevel,
     /// The glyph of characters that are invisible by default.
     pub invisible_glyph: Option<GlyphId>,
+    /// The glyph of characters that the font lacks; glyph 0 where none is named.
+    pub not_found_glyph: GlyphId,
     /// The glyph of variation selectors that the font does not know.
     pub not_found_variation_selector_glyph: Option<u32>,
+    /// Whether lines write glyphs, and no text.
+    pub glyphs: bool,
+    /// Whether the glyphs of a cluster are put in their nominal order.
+    pub normalize_glyphs: bool,
     /// Whether clusters are numbers of bytes, and not of characters.
     pub utf8_clusters: bool,
     /// What stands before each line.
@@ -143,6 +164,8 @@ pub struct FontChoice {
     pub points: Option<f32>,
     /// The number of the named instance of a variable font, unless it is used with its defaults.
     pub named_instance: Option<u32>,
+    /// How its glyphs are drawn otherwise than it has them.
+    pub synthetic: Synthetic,
 }
 
 /// What a command line asks for.
@@ -183,6 +206,7 @@ impl<'a> Options<'a> {
                 pixels: pixels(matches)?,
                 points: points(matches)?,
                 named_instance: number(matches, "named-instance")?,
+                synthetic: synthetic_of(matches)?,
             },
             variations: variations(unquoted(matches.get_str("variations").unwrap_or("")))?,
             text: text_source(matches, text)?,
@@ -198,14 +222,6 @@ impl<'a> Options<'a> {
 
 /// Refuses the values of options that are there for HarfBuzz's sake alone, unless they change nothing.
 fn refuse_unsupported<'a>(matches: &ArgMatches<'a>) -> Result<(), OptionsError<'a>> {
-    for name in ["shaper", "shapers"] {
-        // The first one shapes whatever the text is, and no other is asked.
-        for (i, shaper) in matches.get_str(name).unwrap_or("ot").split(',').enumerate() {
-            if shaper != "ot" && (i == 0 || shaper != "fallback") {
-                return Err(OptionsError::Shaper(shaper));
-            }
-        }
-    }
     let face_loader = matches.get_str("face-loader").unwrap_or("ot");
     if !face_loader.eq_ignore_ascii_case("ot") {
         return Err(OptionsError::FaceLoader(face_loader));
@@ -220,6 +236,23 @@ fn refuse_unsupported<'a>(matches: &ArgMatches<'a>) -> Result<(), OptionsError<'
         return Err(OptionsError::FontFuncs(font_funcs));
     }
     Ok(())
+}
+
+/// What makes glyphs: the first shaper that is named, since each of them shapes whatever the text is.
+pub(crate) fn shaper_of<'a>(matches: &ArgMatches<'a>) -> Result<Shaper, OptionsError<'a>> {
+    let mut first = None;
+    for name in ["shapers", "shaper"] {
+        for named in matches.get_str(name).unwrap_or("").split(',') {
+            let shaper = match named {
+                "ot" => Shaper::OpenType,
+                "fallback" => Shaper::Fallback,
+                "" if matches.get_str(name).is_none() => continue,
+                _ => return Err(OptionsError::Shaper(named)),
+            };
+            first = first.or(Some(shaper));
+        }
+    }
+    Ok(first.unwrap_or(Shaper::OpenType))
 }
 
 /// The file of the font, and the text that is a word, if one is.
@@ -286,13 +319,17 @@ fn context<'a>(
 fn line_options<'a>(matches: &ArgMatches<'a>) -> Result<LineOptions<'a>, OptionsError<'a>> {
     let direction = matches.get_str("direction").unwrap_or("");
     Ok(LineOptions {
+        shaper: shaper_of(matches)?,
         direction: direction.parse::<Direction>().unwrap_or(Direction::Invalid),
         script: script_of(matches.get_str("script").unwrap_or("")),
         language: matches.get_str("language").unwrap_or(""),
         flags: buffer_flags(matches),
         cluster_level: cluster_level(matches)?,
         invisible_glyph: glyph(matches, "invisible-glyph")?,
+        not_found_glyph: glyph(matches, "not-found-glyph")?.unwrap_or(GlyphId(0)),
         not_found_variation_selector_glyph: number(matches, "not-found-variation-selector-glyph")?,
+        glyphs: matches.get_flag("glyphs"),
+        normalize_glyphs: matches.get_flag("normalize-glyphs"),
         utf8_clusters: matches.get_flag("utf8-clusters"),
         before: context(matches, "before", ("text-before", "unicodes-before"))?,
         after: context(matches, "after", ("text-after", "unicodes-after"))?,
