@@ -9,6 +9,4 @@ mod lines;
 #[cfg(test)]
 mod normalized;
 #[cfg(test)]
-mod options;
-#[cfg(test)]
 mod texts;

@@ -1,8 +1,4 @@
 pub mod Answer
-pub mod Batch
-pub mod CodePoints
-pub mod Errors
-pub mod Features
 pub mod HeldFile
 pub mod Lines
 pub mod Numbered
@@ -10,4 +6,3 @@ pub mod Prepared
 pub mod Status
 pub mod Synthetic
 pub mod SyntheticFont
-pub mod Variations

@@ -1,16 +1,15 @@
 //! What the program does.
 
-ghost use Rattle.std.specs.Prelude.{◌≡◌, Some, true, false, IfErr, IsErr, IsSome, OnOk};
-ghost use Rattle.shape_command.specs.Errors.{concerns_words};
+ghost use Rattle.std.specs.Prelude.{◌≡◌, Some, true, false, IsErr, IsSome, OnOk};
 
-use crate::arguments::{asked_for, matches_of};
 use crate::drawing::draw_text;
 use crate::font_file::FontFile;
 use crate::lines::{LinesError, answer_lines, answer_paragraph};
 use crate::loaded_font::LoadedFont;
-use crate::options::{Options, OptionsError, Shaper, TextSource};
 use crate::shaper::{KeptLine, LineNames, LineShaper, LineState};
 use crate::synthetic_font::{SyntheticFont, SyntheticNames};
+use shape_options::options::{Options, Shaper, TextSource};
+use shape_options::words::{WordsError, options_of};
 use shaping_buffer::{Flags, GlyphId, NoGlyphNames, SerializeFlags};
 use std::alloc::{AllocError, Global};
 use std::convert::AsStr;
@@ -22,15 +21,9 @@ use thiserror::Error;
 /// Why a command line was not answered to its end.
 #[derive(Debug, Drop, Error)]
 pub enum CommandError<'a> {
-    /// The words are no command line.
+    /// The words are not answered; no file was read.
     #[error("{0}")]
-    Words(clap::Error),
-    /// The words ask for nothing that can be done.
-    #[error("{0}")]
-    Options(OptionsError<'a>),
-    /// The words ask for this text.
-    #[error("{0}")]
-    Asked(String),
+    Words(WordsError<'a>),
     /// The file of the font was not read.
     #[error("{file}: {error}")]
     Font {
@@ -75,16 +68,11 @@ impl From<AllocError> for CommandError<'_> {
     }
 }
 
-impl<'a> From<OptionsError<'a>> for CommandError<'a> {
-    ghost use Rattle.std.specs.Prelude.{◌≡◌, true};
-    ghost use Rattle.shape_command.specs.Errors.{concerns_words};
-
-    ghost from_gives = { λ _ e. concerns_words e ≡ true };
-
-    fn from(error: OptionsError<'a>) -> Self {
+impl<'a> From<WordsError<'a>> for CommandError<'a> {
+    fn from(error: WordsError<'a>) -> Self {
         match error {
-            OptionsError::Memory => CommandError::Memory,
-            error => CommandError::Options(error),
+            WordsError::Memory => CommandError::Memory,
+            error => CommandError::Words(error),
         }
     }
 }
@@ -94,7 +82,7 @@ impl<'a> CommandError<'a> {
     pub(crate) fn wants_help(&self) -> bool {
         matches!(
             self,
-            CommandError::Options(_)
+            CommandError::Words(WordsError::Options(_))
                 | CommandError::Font { .. }
                 | CommandError::Face(_)
                 | CommandError::OutputFile { .. }
@@ -128,24 +116,6 @@ pub fn answer_command<'a, F: Files + AllocGlobal, S: AsStr, R: BufRead, W: Write
         Some(mut font) => answer_options(rt, &options, &mut font, input, output),
         None => Err(CommandError::Face(options.font_file)),
     }
-}
-
-/// What a command line asks for; its first word is the name of the program. An error is one of the words, or says that there is
-/// no memory: no file is read.
-pub fn options_of<'a, S: AsStr>(
-    alloc: Global,
-    words: &'a [S],
-) -> Result<Options<'a>, CommandError<'a>>
-    ensures { IfErr result (λ e. concerns_words e ≡ true) }
-{
-    let matches = match matches_of(alloc, words) {
-        Ok(matches) => matches,
-        Err(error) => return Err(CommandError::Words(error)),
-    };
-    if let Some(asked) = asked_for(alloc, &matches) {
-        return Err(asked);
-    }
-    Ok(Options::from_matches(alloc, &matches)?)
 }
 
 /// Reads the file of the font, unless it was read last.

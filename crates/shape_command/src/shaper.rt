@@ -3,13 +3,11 @@
 ghost use Rattle.std.specs.Prelude.{◌≡◌, [], None, false, IfOk};
 ghost use Rattle.shape_command.specs.Answer.{answer_text, is_shaped};
 ghost use Rattle.shape_command.specs.Lines.{IsAnswer, IsList, glyphs_in, glyphs_line};
-ghost use Rattle.shape_command.specs.declared.output.OutputFormat.TheVariants.{Text, Json};
+ghost use Rattle.shape_options.specs.declared.output.OutputFormat.TheVariants.{Text, Json};
 
 use crate::edits::{Edits, buffer_of};
 use crate::fallback::shape_fallback;
 use crate::glyph_line::read_glyphs;
-use crate::options::{LineOptions, Shaper};
-use crate::output::{Output, OutputFormat};
 use crate::synthetic_font::SyntheticFont;
 use crate::text::{emptied, empty_text, fill, lossy_text};
 use font_shaper::{
@@ -18,6 +16,8 @@ use font_shaper::{
 };
 use line_formats::characters::characters_list;
 use line_formats::json::glyphs_json;
+use shape_options::options::{LineOptions, Shaper};
+use shape_options::output::{Output, OutputFormat};
 use shaping_buffer::{
     Direction, Flags, GlyphBuffer, GlyphId, GlyphNames, NoGlyphNames, SerializeFlags,
     UnicodeBuffer, hb_glyph_info_t,

@@ -5,9 +5,9 @@ ghost use Rattle.font_functions.specs.OwnFunctions.{IsOwnAdvance};
 ghost use Rattle.shape_command.specs.Synthetic as synthetic;
 
 use crate::shaper::LineNames;
-use crate::synthetic::Synthetic;
 use font_shaper::{Face, FaceNames, FontFunctions, OwnFunctions};
 use font_variations::rounding::{float, rounded};
+use shape_options::synthetic::Synthetic;
 use shaping_buffer::{GlyphExtents, GlyphId, GlyphNames, hb_glyph_info_t};
 use std::alloc::{AllocError, Global};
 use std::collections::BTreeMap;

@@ -3,29 +3,25 @@
 //! What the program does.
 
 use crate::buffer::{GlyphId, NoGlyphNames, SerializeFlags};
-use crate::command::arguments::{asked_for, matches_of};
 use crate::command::drawing::draw_text;
 use crate::command::font_file::FontFile;
 use crate::command::lines::{LinesError, answer_lines, answer_paragraph};
 use crate::command::loaded_font::LoadedFont;
-use crate::command::options::{Options, OptionsError, Shaper, TextSource};
 use crate::command::shaper::{KeptLine, LineNames, LineShaper, LineState};
 use crate::command::synthetic_font::{SyntheticFont, SyntheticNames};
 use crate::host::Files;
 use crate::host::fs;
 use crate::host::io::{self, BufRead, BufReader, BufWriter, Write};
 use crate::host::{AllocGlobal, AsStr};
-use crate::memory::{AllocError, String};
+use crate::memory::AllocError;
+use crate::options::options::{Options, Shaper, TextSource};
+use crate::options::words::{WordsError, options_of};
 
 /// Why a command line was not answered to its end.
 #[derive(Debug)]
 pub enum CommandError<'a> {
-    /// The words are no command line.
-    Words(crate::clap::Error),
-    /// The words ask for nothing that can be done.
-    Options(OptionsError<'a>),
-    /// The words ask for this text.
-    Asked(String),
+    /// The words are not answered; no file was read.
+    Words(WordsError<'a>),
     /// The file of the font was not read.
     Font {
         /// The file.
@@ -61,8 +57,6 @@ impl<'a> core::fmt::Display for CommandError<'a> {
     fn fmt(&self, f: &mut core::fmt::Formatter<'_>) -> core::fmt::Result {
         match self {
             Self::Words(n0) => write!(f, "{n0}"),
-            Self::Options(n0) => write!(f, "{n0}"),
-            Self::Asked(n0) => write!(f, "{n0}"),
             Self::Font { file, error, .. } => write!(f, "{file}: {error}"),
             Self::Face(n0) => write!(f, "{n0}: Failed loading font face"),
             Self::Text { file, error, .. } => write!(f, "Failed reading text: {file}: {error}"),
@@ -87,17 +81,11 @@ impl From<AllocError> for CommandError<'_> {
     }
 }
 
-///
-/// # Proved
-///
-/// ```text
-/// ghost from_gives = { λ _ e. concerns_words e ≡ true }
-/// ```
-impl<'a> From<OptionsError<'a>> for CommandError<'a> {
-    fn from(error: OptionsError<'a>) -> Self {
+impl<'a> From<WordsError<'a>> for CommandError<'a> {
+    fn from(error: WordsError<'a>) -> Self {
         match error {
-            OptionsError::Memory => CommandError::Memory,
-            error => CommandError::Options(error),
+            WordsError::Memory => CommandError::Memory,
+            error => CommandError::Words(error),
         }
     }
 }
@@ -107,7 +95,7 @@ impl<'a> CommandError<'a> {
     pub(crate) fn wants_help(&self) -> bool {
         matches!(
             self,
-            CommandError::Options(_)
+            CommandError::Words(WordsError::Options(_))
                 | CommandError::Font { .. }
                 | CommandError::Face(_)
                 | CommandError::OutputFile { .. }
@@ -150,30 +138,6 @@ pub fn answer_command<'a, F: Files + AllocGlobal, S: AsStr, R: BufRead, W: Write
         Some(mut font) => answer_options(rt, &options, &mut font, input, output),
         None => Err(CommandError::Face(options.font_file)),
     }
-}
-
-/// What a command line asks for; its first word is the name of the program. An error is one of the
-/// words, or says that there is no memory: no file is read.
-///
-/// # Errors
-///
-/// `Err`: the clauses below say when.
-///
-/// # Proved
-///
-/// ```text
-/// ensures { IfErr result (λ e. concerns_words e ≡ true) }
-/// ```
-#[inline]
-pub fn options_of<'a, S: AsStr>(words: &'a [S]) -> Result<Options<'a>, CommandError<'a>> {
-    let matches = match matches_of(words) {
-        Ok(matches) => matches,
-        Err(error) => return Err(CommandError::Words(error)),
-    };
-    if let Some(asked) = asked_for(&matches) {
-        return Err(asked);
-    }
-    Ok(Options::from_matches(&matches)?)
 }
 
 /// Reads the file of the font, unless it was read last.

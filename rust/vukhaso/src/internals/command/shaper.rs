@@ -9,8 +9,6 @@ use crate::buffer::{
 use crate::command::edits::{Edits, buffer_of};
 use crate::command::fallback::shape_fallback;
 use crate::command::glyph_line::read_glyphs;
-use crate::command::options::{LineOptions, Shaper};
-use crate::command::output::{Output, OutputFormat};
 use crate::command::synthetic_font::SyntheticFont;
 use crate::command::text::{emptied, empty_text, fill, lossy_text};
 use crate::font_shaper::{
@@ -20,6 +18,8 @@ use crate::font_shaper::{
 use crate::line_formats::characters::characters_list;
 use crate::line_formats::json::glyphs_json;
 use crate::memory::{AllocError, String, Vec};
+use crate::options::options::{LineOptions, Shaper};
+use crate::options::output::{Output, OutputFormat};
 
 /// Names and extents of glyphs, where the extents are found before they are asked for.
 pub trait LineNames: GlyphNames {
