@@ -32,7 +32,7 @@ pub(crate) fn read_glyphs<F: FontFunctions, N: GlyphNames>(
         infos: Vec::new(alloc),
         positions: Vec::new(alloc),
     };
-    let has_advances = line.contains('+');
+    let has_advances = line.split_once('+').is_some();
     let items: Vec<&str> = items_of(line).split('|').collect(alloc)?;
     for item in items.as_slice() {
         let Some((info, written)) = read_item(face, names, item) else {
@@ -165,10 +165,9 @@ fn two(text: &str) -> Option<(i32, i32)> {
 
 /// One number, with which the other is 0, or two with a comma between them.
 fn one_or_two(text: &str) -> Option<(i32, i32)> {
-    if text.contains(',') {
-        two(text)
-    } else {
-        Some((signed(text)?, 0))
+    match text.split_once(',') {
+        Some((x, y)) => Some((signed(x)?, signed(y)?)),
+        None => Some((signed(text)?, 0)),
     }
 }
 

@@ -170,13 +170,25 @@ impl LineShaper<'_> {
         ensures list { IfOk result (λ answered. IsList answered.characters.items) }
     {
         let characters = self.characters(alloc, line)?;
-        let answer = if self.options.glyphs {
-            self.answer_to_glyphs(alloc, state, line)?
-        } else {
-            self.shape_unprinted(alloc, state, line)?;
-            self.shape(alloc, state, line)?
-        };
+        let answer = self.answer_to_line(alloc, state, line)?;
         Ok(Answered { characters, answer })
+    }
+
+    /// What a line is answered with, which is a text or writes glyphs.
+    fn answer_to_line<N: LineNames>(
+        &self,
+        alloc: Global,
+        state: &mut LineState<N>,
+        line: &str,
+    ) -> Result<Answer, AllocError>
+        ensures { IfOk result (λ answer. IsAnswer self.now.output (answer_text answer)) }
+    {
+        if self.options.glyphs {
+            return self.answer_to_glyphs(alloc, state, line);
+        }
+        self.shape_unprinted(alloc, state, line)?;
+        let answer = self.shape(alloc, state, line)?;
+        Ok(answer)
     }
 
     /// The answer to a line that writes glyphs.

@@ -1,7 +1,7 @@
 //! What a font answers whose glyphs are drawn bolder and slanted, and in which another glyph stands for glyph 0.
 
-ghost use Rattle.std.specs.Prelude.{◌≡◌, if◌then◌else◌, ◌==◌};
-ghost use Rattle.font_functions.specs.OwnFunctions.{IsOwnAdvance};
+ghost use Rattle.std.specs.Prelude.{◌≡◌};
+ghost use Rattle.shape_command.specs.SyntheticFont.{IsBolderAdvance};
 ghost use Rattle.shape_command.specs.Synthetic as synthetic;
 
 use crate::shaper::LineNames;
@@ -55,6 +55,15 @@ impl<'a> SyntheticFont<'a> {
         ensures { result.0 ≡ synthetic.shown self.now.not_found.0 glyph.0 }
     {
         if glyph.0 == 0 { self.not_found } else { glyph }
+    }
+
+    /// How far a glyph moves the pen to the right.
+    fn advance_across(&self, glyph: GlyphId) -> i32
+        ensures { IsBolderAdvance self.now glyph.0 result }
+    {
+        let shown = self.shown(glyph);
+        let plain = self.own.glyph_h_advance(shown);
+        bolder_advance(self.in_place, self.x, plain)
     }
 
     /// How much higher lines are than those of the font, where the font says how high these are.
@@ -191,8 +200,7 @@ impl FontFunctions for SyntheticFont<'_> {
     }
 
     fn glyph_h_advance(&self, glyph: GlyphId) -> i32 {
-        let plain = self.own.glyph_h_advance(self.shown(glyph));
-        bolder_advance(self.in_place, self.x, plain)
+        self.advance_across(glyph)
     }
 
     fn glyph_v_advance(&self, glyph: GlyphId) -> i32 {

@@ -264,13 +264,11 @@ fn answer_drawn<'a, F: Files + AllocGlobal, R: BufRead, W: Write>(
     let kept = font.take_kept();
     let shaper = shaper_of(font, options);
     let mut state = LineState {
-        names: SyntheticNames::new(names, shaper.font),
+        names: SyntheticNames::new(&names, shaper.font),
         kept,
     };
     let answered = answer_shown(rt, &shaper, &mut state, options, input, output);
-    let LineState { names, kept } = state;
-    let names = names.into_names();
-    font.kept = kept;
+    font.kept = state.kept;
     font.names = Some(names);
     answered
 }

@@ -194,13 +194,23 @@ impl LineShaper<'_> {
         line: &str,
     ) -> Result<Answered, AllocError> {
         let characters = self.characters(line)?;
-        let answer = if self.options.glyphs {
-            self.answer_to_glyphs(state, line)?
-        } else {
-            self.shape_unprinted(state, line)?;
-            self.shape(state, line)?
-        };
+        let answer = self.answer_to_line(state, line)?;
         Ok(Answered { characters, answer })
+    }
+
+    /// What a line is answered with, which is a text or writes glyphs.
+    fn answer_to_line<N: LineNames>(
+        &self,
+
+        state: &mut LineState<N>,
+        line: &str,
+    ) -> Result<Answer, AllocError> {
+        if self.options.glyphs {
+            return self.answer_to_glyphs(state, line);
+        }
+        self.shape_unprinted(state, line)?;
+        let answer = self.shape(state, line)?;
+        Ok(answer)
     }
 
     /// The answer to a line that writes glyphs.

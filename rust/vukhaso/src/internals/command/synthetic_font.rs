@@ -4,7 +4,7 @@
 
 use crate::buffer::{GlyphExtents, GlyphId, GlyphNames, hb_glyph_info_t};
 use crate::command::shaper::LineNames;
-use crate::font_shaper::{Face, FontFunctions, OwnFunctions};
+use crate::font_shaper::{Face, FaceNames, FontFunctions, OwnFunctions};
 use crate::font_variations::rounding::{float, rounded};
 use crate::memory::AllocError;
 use crate::memory::BTreeMap;
@@ -51,6 +51,13 @@ impl<'a> SyntheticFont<'a> {
     /// The glyph of which the measures are asked.
     fn shown(&self, glyph: GlyphId) -> GlyphId {
         if glyph.0 == 0 { self.not_found } else { glyph }
+    }
+
+    /// How far a glyph moves the pen to the right.
+    fn advance_across(&self, glyph: GlyphId) -> i32 {
+        let shown = self.shown(glyph);
+        let plain = self.own.glyph_h_advance(shown);
+        bolder_advance(self.in_place, self.x, plain)
     }
 
     /// How much higher lines are than those of the font, where the font says how high these are.
@@ -185,8 +192,7 @@ impl FontFunctions for SyntheticFont<'_> {
     }
 
     fn glyph_h_advance(&self, glyph: GlyphId) -> i32 {
-        let plain = self.own.glyph_h_advance(self.shown(glyph));
-        bolder_advance(self.in_place, self.x, plain)
+        self.advance_across(glyph)
     }
 
     fn glyph_v_advance(&self, glyph: GlyphId) -> i32 {
@@ -212,31 +218,20 @@ impl FontFunctions for SyntheticFont<'_> {
 }
 
 /// The names of a font's glyphs, and the extents of glyphs that are drawn bolder and slanted.
-pub(crate) struct SyntheticNames<'a, N> {
-    /// The names.
-    pub names: N,
+pub(crate) struct SyntheticNames<'a> {
+    names: &'a FaceNames<'a>,
     font: SyntheticFont<'a>,
     extents: BTreeMap<u16, Option<GlyphExtents>>,
 }
 
-impl<'a, N: LineNames> SyntheticNames<'a, N> {
+impl<'a> SyntheticNames<'a> {
     /// The names, and no extents yet.
-    pub(crate) fn new(names: N, font: SyntheticFont<'a>) -> Self {
+    pub(crate) fn new(names: &'a FaceNames<'a>, font: SyntheticFont<'a>) -> Self {
         SyntheticNames {
             names,
             font,
             extents: BTreeMap::new(),
         }
-    }
-
-    /// The names alone.
-    pub(crate) fn into_names(self) -> N {
-        let SyntheticNames {
-            names,
-            font: _,
-            extents: _,
-        } = self;
-        names
     }
 }
 
@@ -244,10 +239,10 @@ impl<'a, N: LineNames> SyntheticNames<'a, N> {
 /// # Proved
 ///
 /// ```text
-/// ghost name_of = { λ names glyph. N.name_of names.names glyph }
+/// ghost name_of = { λ names glyph. name_of names.names.now.post.table.now names.names.now.outlines glyph }
 /// ghost extents_of = { λ names glyph. option_and_then (λ found. found) (get nat_cmp names.extents glyph) }
 /// ```
-impl<N: GlyphNames> GlyphNames for SyntheticNames<'_, N> {
+impl GlyphNames for SyntheticNames<'_> {
     fn glyph_name(&self, glyph: GlyphId) -> Option<&str> {
         self.names.glyph_name(glyph)
     }
@@ -257,7 +252,7 @@ impl<N: GlyphNames> GlyphNames for SyntheticNames<'_, N> {
     }
 }
 
-impl<N: LineNames> LineNames for SyntheticNames<'_, N> {
+impl LineNames for SyntheticNames<'_> {
     fn find(&mut self, infos: &[hb_glyph_info_t]) -> Result<(), AllocError> {
         for info in infos {
             if let Ok(number) = u16::try_from(info.glyph_id) {
