@@ -7,6 +7,6 @@ mod errors;
 #[cfg(test)]
 mod lines;
 #[cfg(test)]
-mod options;
+mod normalized;
 #[cfg(test)]
 mod texts;

@@ -9,8 +9,8 @@ use Rattle.rb_glyph.specs.declared.position.GlyphPosition.{GlyphPosition}
 use Rattle.glyph_text.specs.Text.{Font}
 use Rattle.line_formats.specs.Json.{glyphs_json}
 use Rattle.shaping_buffer.specs.State.{State}
-use Rattle.shape_command.specs.declared.output.Output.{Output}
-use Rattle.shape_command.specs.declared.output.OutputFormat.TheVariants.{Json}
+use Rattle.shape_options.specs.declared.output.Output.{Output}
+use Rattle.shape_options.specs.declared.output.OutputFormat.TheVariants.{Json}
 use Rattle.shape_command.specs.Lines.{glyphs_in, glyphs_line}
 
 pub line-none : (font : Font) (o : Output) (s : State) → length s.input ≡ 0 → [] ≡ glyphs_line font o s

@@ -8,7 +8,7 @@ use Rattle.std.proofs.Math.Seq.{take-length}
 use Rattle.std.specs.Io.BufRead.{take_through, drop_through, ends_with_byte, DropsThrough}
 use Rattle.std.specs.Io.KnownBytes.{Appends, Consumes, IsAtEnd}
 use Rattle.line_formats.specs.Heads.{head}
-use Rattle.shape_command.specs.declared.output.Output.{Output}
+use Rattle.shape_options.specs.declared.output.Output.{Output}
 use Rattle.shape_command.specs.Lines.{lines_of, with_first, EachAnswered, transcript, TakesLine, AnswersAll}
 use Rattle.shape_command.specs.Lines.{AnswersParagraph, paragraph_of, IsAnswer, IsList, IsShown, Shows}
 use Rattle.shape_command.specs.Lines.{without_line_feed}

@@ -1,11 +1,8 @@
 pub mod Answer
-pub mod Batch
-pub mod CodePoints
-pub mod Errors
-pub mod Features
 pub mod HeldFile
 pub mod Lines
 pub mod Numbered
 pub mod Prepared
 pub mod Status
-pub mod Variations
+pub mod Synthetic
+pub mod SyntheticFont

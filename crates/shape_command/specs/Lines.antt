@@ -13,9 +13,9 @@ use Rattle.shaping_buffer.specs.Text.{glyphs_of, text_of}
 use Rattle.line_formats.specs.Json.{glyphs_json}
 use Rattle.line_formats.specs.Characters.{characters_list}
 use Rattle.line_formats.specs.Heads.{head}
-use Rattle.shape_command.specs.declared.output.Output.{Output}
-use Rattle.shape_command.specs.declared.output.OutputFormat.{OutputFormat}
-use Rattle.shape_command.specs.declared.output.OutputFormat.TheVariants.{Text, Json, Nothing}
+use Rattle.shape_options.specs.declared.output.Output.{Output}
+use Rattle.shape_options.specs.declared.output.OutputFormat.{OutputFormat}
+use Rattle.shape_options.specs.declared.output.OutputFormat.TheVariants.{Text, Json, Nothing}
 
 -- a byte at the front of the first line
 abbrev pub with_first : ℕ → List (List ℕ) → List (List ℕ)

@@ -4,7 +4,7 @@ use Rattle.std.specs.Char.{to_ascii_lowercase}
 use Rattle.shaping_buffer.specs.ClusterLevel.{level_of}
 use Rattle.shaping_buffer.specs.Properties.{with_pre_context, with_post_context, with_clusters_reset, guessed, or_else}
 use Rattle.shaping_buffer.specs.State.{State}
-use Rattle.shape_command.specs.declared.options.LineOptions.{LineOptions}
+use Rattle.shape_options.specs.declared.options.LineOptions.{LineOptions}
 
 -- clusters are numbers of characters, or of bytes, as a text that is pushed has them
 abbrev pub numbered : Bool → State → State

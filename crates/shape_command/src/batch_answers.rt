@@ -1,12 +1,13 @@
 //! The answers to the lines of a batch. A font is kept for all lines in a row that name it.
 
-use crate::batch::words_of_line;
 use crate::ending::NAME;
 use crate::font_file::FontFile;
 use crate::lines::{LinesError, next_line};
 use crate::loaded_font::LoadedFont;
-use crate::options::FontChoice;
-use crate::run::{CommandError, answer_options, options_of, read_font_file};
+use crate::run::{CommandError, answer_options, read_font_file};
+use shape_options::batch::words_of_line;
+use shape_options::options::FontChoice;
+use shape_options::words::{WordsError, options_of};
 use std::alloc::Global;
 use std::io::{self, BufRead, ErrorKind, Write};
 use std::rt::Files;
@@ -89,7 +90,7 @@ fn read_named_font<F: Files + AllocGlobal, W: Write>(
             Ok(()) => Ok(options.font),
             Err(error) => Err(error),
         },
-        Err(error) => Err(error),
+        Err(error) => Err(CommandError::from(error)),
     };
     match chosen {
         Ok(choice) => Ok(Some(choice)),
@@ -150,7 +151,7 @@ fn answer_line<F: Files + AllocGlobal, R: BufRead, W: Write>(
             }
             answer_options(rt, &options, font, input, output)
         }
-        Err(error) => Err(error),
+        Err(error) => Err(CommandError::from(error)),
     };
     match answered {
         Ok(all_shaped) => Ok(Some(all_shaped)),
@@ -166,7 +167,7 @@ fn answer_line<F: Files + AllocGlobal, R: BufRead, W: Write>(
 fn say<W: Write>(alloc: Global, output: &mut W, error: CommandError<'_>) -> io::Result<()> {
     let error = match error {
         CommandError::Output(error) => return Err(error),
-        CommandError::Asked(text) => return output.write_all(text.as_bytes()),
+        CommandError::Words(WordsError::Asked(text)) => return output.write_all(text.as_bytes()),
         error => error,
     };
     let message = error.to_string(alloc)?;

@@ -1,11 +1,12 @@
 //! A text whose shaping is drawn step by step.
 
 use crate::loaded_font::LoadedFont;
-use crate::options::{LineOptions, Options, OptionsError, TextSource};
 use crate::picture::Picture;
 use crate::run::CommandError;
 use crate::text::{empty_text, fill};
 use font_shaper::{Face, FaceNames, ShapeError, shape_watched};
+use shape_options::options::{LineOptions, Options, OptionsError, TextSource};
+use shape_options::words::WordsError;
 use std::alloc::{AllocError, Global};
 use std::io::Write;
 
@@ -45,7 +46,7 @@ fn given_text<'a, 't>(text: &'t TextSource<'a>) -> Result<&'t str, CommandError<
         TextSource::Given(text) => Ok(text),
         TextSource::CodePoints(text) => Ok(text.as_str()),
         TextSource::File(_) | TextSource::Input => {
-            Err(CommandError::Options(OptionsError::DrawnFile))
+            Err(CommandError::Words(WordsError::Options(OptionsError::DrawnFile)))
         }
     }
 }

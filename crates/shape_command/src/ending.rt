@@ -7,6 +7,7 @@ ghost use Rattle.shape_command.specs.Status.{status_after};
 use crate::batch_answers::answer_batch;
 use crate::font_file::FontFile;
 use crate::run::{CommandError, answer_command};
+use shape_options::words::WordsError;
 use std::env;
 use std::io::{self, BufReader, BufWriter, Write};
 use std::process::ExitCode;
@@ -56,8 +57,8 @@ fn run<F: Files + AllocGlobal + Env + Input + Print + Eprint>(rt: &F) -> io::Res
     output.flush()?;
     match answered {
         Ok(all_shaped) => Ok(all_shaped),
-        Err(CommandError::Words(error)) => say(rt, &error),
-        Err(CommandError::Asked(text)) => {
+        Err(CommandError::Words(WordsError::Words(error))) => say(rt, &error),
+        Err(CommandError::Words(WordsError::Asked(text))) => {
             rt.print(&text)?;
             Ok(true)
         }

@@ -5,10 +5,10 @@ ghost use Rattle.font_shaper.specs.Face.{KeepsItsTables};
 ghost use Rattle.shape_command.specs.Numbered.{numbered_font};
 
 use crate::font_file::FontFile;
-use crate::options::{FontChoice, Options};
 use crate::shaper::KeptLine;
 use font_shaper::{Face, FaceNames, Variation};
 use font_tables::directory::face_count;
+use shape_options::options::{FontChoice, Options};
 use std::alloc::{AllocError, Global};
 use std::mem;
 

@@ -1,16 +1,16 @@
 //! What the program does.
 
-ghost use Rattle.std.specs.Prelude.{◌≡◌, Some, true, false, IfErr, IsErr, IsSome, OnOk};
-ghost use Rattle.shape_command.specs.Errors.{concerns_words};
+ghost use Rattle.std.specs.Prelude.{◌≡◌, Some, true, false, IsErr, IsSome, OnOk};
 
-use crate::arguments::{asked_for, matches_of};
 use crate::drawing::draw_text;
 use crate::font_file::FontFile;
 use crate::lines::{LinesError, answer_lines, answer_paragraph};
 use crate::loaded_font::LoadedFont;
-use crate::options::{Options, OptionsError, TextSource};
 use crate::shaper::{KeptLine, LineNames, LineShaper, LineState};
-use shaping_buffer::{Flags, NoGlyphNames, SerializeFlags};
+use crate::synthetic_font::{SyntheticFont, SyntheticNames};
+use shape_options::options::{Options, Shaper, TextSource};
+use shape_options::words::{WordsError, options_of};
+use shaping_buffer::{Flags, GlyphId, NoGlyphNames, SerializeFlags};
 use std::alloc::{AllocError, Global};
 use std::convert::AsStr;
 use std::fs;
@@ -21,15 +21,9 @@ use thiserror::Error;
 /// Why a command line was not answered to its end.
 #[derive(Debug, Drop, Error)]
 pub enum CommandError<'a> {
-    /// The words are no command line.
+    /// The words are not answered; no file was read.
     #[error("{0}")]
-    Words(clap::Error),
-    /// The words ask for nothing that can be done.
-    #[error("{0}")]
-    Options(OptionsError<'a>),
-    /// The words ask for this text.
-    #[error("{0}")]
-    Asked(String),
+    Words(WordsError<'a>),
     /// The file of the font was not read.
     #[error("{file}: {error}")]
     Font {
@@ -74,16 +68,11 @@ impl From<AllocError> for CommandError<'_> {
     }
 }
 
-impl<'a> From<OptionsError<'a>> for CommandError<'a> {
-    ghost use Rattle.std.specs.Prelude.{◌≡◌, true};
-    ghost use Rattle.shape_command.specs.Errors.{concerns_words};
-
-    ghost from_gives = { λ _ e. concerns_words e ≡ true };
-
-    fn from(error: OptionsError<'a>) -> Self {
+impl<'a> From<WordsError<'a>> for CommandError<'a> {
+    fn from(error: WordsError<'a>) -> Self {
         match error {
-            OptionsError::Memory => CommandError::Memory,
-            error => CommandError::Options(error),
+            WordsError::Memory => CommandError::Memory,
+            error => CommandError::Words(error),
         }
     }
 }
@@ -93,7 +82,7 @@ impl<'a> CommandError<'a> {
     pub(crate) fn wants_help(&self) -> bool {
         matches!(
             self,
-            CommandError::Options(_)
+            CommandError::Words(WordsError::Options(_))
                 | CommandError::Font { .. }
                 | CommandError::Face(_)
                 | CommandError::OutputFile { .. }
@@ -127,24 +116,6 @@ pub fn answer_command<'a, F: Files + AllocGlobal, S: AsStr, R: BufRead, W: Write
         Some(mut font) => answer_options(rt, &options, &mut font, input, output),
         None => Err(CommandError::Face(options.font_file)),
     }
-}
-
-/// What a command line asks for; its first word is the name of the program. An error is one of the words, or says that there is
-/// no memory: no file is read.
-pub fn options_of<'a, S: AsStr>(
-    alloc: Global,
-    words: &'a [S],
-) -> Result<Options<'a>, CommandError<'a>>
-    ensures { IfErr result (λ e. concerns_words e ≡ true) }
-{
-    let matches = match matches_of(alloc, words) {
-        Ok(matches) => matches,
-        Err(error) => return Err(CommandError::Words(error)),
-    };
-    if let Some(asked) = asked_for(alloc, &matches) {
-        return Err(asked);
-    }
-    Ok(Options::from_matches(alloc, &matches)?)
 }
 
 /// Reads the file of the font, unless it was read last.
@@ -212,29 +183,85 @@ fn answer_into<'a, F: Files + AllocGlobal, R: BufRead, W: Write>(
     if options.svg {
         return draw_text(rt.alloc(), options, font, output);
     }
-    if asks_font(options.output.flags) {
-        let names = font.take_names(rt.alloc())?;
-        let mut state = LineState {
-            names,
-            kept: font.take_kept(),
-        };
-        let shaper = shaper_of(font, options);
-        let answered = answer_text(rt, &shaper, &mut state, &options.text, input, output);
-        let answered = unless_given_up(answered, &mut state.kept);
-        font.kept = state.kept;
-        font.names = Some(state.names);
-        answered
+    if !asks_font(options.output.flags) && !options.line.glyphs {
+        answer_numbered(rt, options, font, input, output)
+    } else if synthetic_of(font, options).is_plain() {
+        answer_named(rt, options, font, input, output)
     } else {
-        let mut state = LineState {
-            names: NoGlyphNames,
-            kept: font.take_kept(),
-        };
-        let shaper = shaper_of(font, options);
-        let answered = answer_text(rt, &shaper, &mut state, &options.text, input, output);
-        let answered = unless_given_up(answered, &mut state.kept);
-        font.kept = state.kept;
-        answered
+        answer_drawn(rt, options, font, input, output)
     }
+}
+
+/// Answers what asks for no names of glyphs.
+fn answer_numbered<'a, F: Files + AllocGlobal, R: BufRead, W: Write>(
+    rt: &F,
+    options: &Options<'a>,
+    font: &mut LoadedFont<'_>,
+    input: &mut R,
+    output: &mut W,
+) -> Result<bool, CommandError<'a>> {
+    let mut state = LineState {
+        names: NoGlyphNames,
+        kept: font.take_kept(),
+    };
+    let shaper = shaper_of(font, options);
+    let answered = answer_shown(rt, &shaper, &mut state, options, input, output);
+    font.kept = state.kept;
+    answered
+}
+
+/// Answers what asks for names of glyphs, or for their extents.
+fn answer_named<'a, F: Files + AllocGlobal, R: BufRead, W: Write>(
+    rt: &F,
+    options: &Options<'a>,
+    font: &mut LoadedFont<'_>,
+    input: &mut R,
+    output: &mut W,
+) -> Result<bool, CommandError<'a>> {
+    let names = font.take_names(rt.alloc())?;
+    let mut state = LineState {
+        names,
+        kept: font.take_kept(),
+    };
+    let shaper = shaper_of(font, options);
+    let answered = answer_shown(rt, &shaper, &mut state, options, input, output);
+    font.kept = state.kept;
+    font.names = Some(state.names);
+    answered
+}
+
+/// Answers what asks for names of glyphs that are drawn otherwise than the font has them, or for their extents.
+fn answer_drawn<'a, F: Files + AllocGlobal, R: BufRead, W: Write>(
+    rt: &F,
+    options: &Options<'a>,
+    font: &mut LoadedFont<'_>,
+    input: &mut R,
+    output: &mut W,
+) -> Result<bool, CommandError<'a>> {
+    let names = font.take_names(rt.alloc())?;
+    let kept = font.take_kept();
+    let shaper = shaper_of(font, options);
+    let mut state = LineState {
+        names: SyntheticNames::new(rt.alloc(), &names, shaper.font),
+        kept,
+    };
+    let answered = answer_shown(rt, &shaper, &mut state, options, input, output);
+    font.kept = state.kept;
+    font.names = Some(names);
+    answered
+}
+
+/// Answers a text, and gives an error where the shaping of one of its lines was given up.
+fn answer_shown<'a, F: Files + AllocGlobal, N: LineNames, R: BufRead, W: Write>(
+    rt: &F,
+    shaper: &LineShaper<'_>,
+    state: &mut LineState<N>,
+    options: &Options<'a>,
+    input: &mut R,
+    output: &mut W,
+) -> Result<bool, CommandError<'a>> {
+    let answered = answer_text(rt, shaper, state, &options.text, input, output);
+    unless_given_up(answered, &mut state.kept)
 }
 
 /// What became of a text: an error where the shaping of one of its lines was given up, which is said once.
@@ -254,10 +281,20 @@ fn unless_given_up<'a>(
     answered
 }
 
+/// The font as its glyphs are to be drawn.
+fn synthetic_of<'a>(font: &'a LoadedFont<'_>, options: &Options<'_>) -> SyntheticFont<'a> {
+    let not_found = match options.line.shaper {
+        Shaper::OpenType if !options.line.glyphs => options.line.not_found_glyph,
+        _ => GlyphId(0),
+    };
+    SyntheticFont::new(&font.face, options.font.synthetic, not_found)
+}
+
 /// How lines are shaped with a font and printed.
 fn shaper_of<'a>(font: &'a LoadedFont<'_>, options: &'a Options<'_>) -> LineShaper<'a> {
     LineShaper {
         face: &font.face,
+        font: synthetic_of(font, options),
         options: &options.line,
         iterations: options.iterations,
         output: options.output,

@@ -3,16 +3,24 @@
 ghost use Rattle.std.specs.Prelude.{◌≡◌, [], None, false, IfOk};
 ghost use Rattle.shape_command.specs.Answer.{answer_text, is_shaped};
 ghost use Rattle.shape_command.specs.Lines.{IsAnswer, IsList, glyphs_in, glyphs_line};
-ghost use Rattle.shape_command.specs.declared.output.OutputFormat.TheVariants.{Text, Json};
+ghost use Rattle.shape_options.specs.declared.output.OutputFormat.TheVariants.{Text, Json};
 
-use crate::options::LineOptions;
-use crate::output::{Output, OutputFormat};
+use crate::edits::{Edits, buffer_of};
+use crate::fallback::shape_fallback;
+use crate::glyph_line::read_glyphs;
+use crate::synthetic_font::SyntheticFont;
 use crate::text::{emptied, empty_text, fill, lossy_text};
-use font_shaper::{Face, FaceNames, KeptPlans, ShapeError, VerifyError, shape_with_kept_plans};
+use font_shaper::{
+    Face, FaceNames, KeptPlans, ShapeError, VerifyError, shape_with_functions_and_plans,
+    shape_with_kept_plans,
+};
 use line_formats::characters::characters_list;
 use line_formats::json::glyphs_json;
+use shape_options::options::{LineOptions, Shaper};
+use shape_options::output::{Output, OutputFormat};
 use shaping_buffer::{
-    Flags, GlyphBuffer, GlyphNames, NoGlyphNames, SerializeFlags, UnicodeBuffer, hb_glyph_info_t,
+    Direction, Flags, GlyphBuffer, GlyphId, GlyphNames, NoGlyphNames, SerializeFlags,
+    UnicodeBuffer, hb_glyph_info_t,
 };
 use std::alloc::{AllocError, Global};
 
@@ -119,6 +127,8 @@ pub struct LineState<N> {
 pub struct LineShaper<'a> {
     /// The font.
     pub face: &'a Face<'a>,
+    /// What it answers, as its glyphs are to be drawn.
+    pub(crate) font: SyntheticFont<'a>,
     /// How each line is shaped.
     pub options: &'a LineOptions<'a>,
     /// How often each line is shaped.
@@ -159,10 +169,51 @@ impl LineShaper<'_> {
         ensures answer { IfOk result (λ answered. IsAnswer self.now.output (answer_text answered.answer)) }
         ensures list { IfOk result (λ answered. IsList answered.characters.items) }
     {
-        self.shape_unprinted(alloc, state, line)?;
         let characters = self.characters(alloc, line)?;
-        let answer = self.shape(alloc, state, line)?;
+        let answer = self.answer_to_line(alloc, state, line)?;
         Ok(Answered { characters, answer })
+    }
+
+    /// What a line is answered with, which is a text or writes glyphs.
+    fn answer_to_line<N: LineNames>(
+        &self,
+        alloc: Global,
+        state: &mut LineState<N>,
+        line: &str,
+    ) -> Result<Answer, AllocError>
+        ensures { IfOk result (λ answer. IsAnswer self.now.output (answer_text answer)) }
+    {
+        if self.options.glyphs {
+            return self.answer_to_glyphs(alloc, state, line);
+        }
+        self.shape_unprinted(alloc, state, line)?;
+        let answer = self.shape(alloc, state, line)?;
+        Ok(answer)
+    }
+
+    /// The answer to a line that writes glyphs.
+    fn answer_to_glyphs<N: LineNames>(
+        &self,
+        alloc: Global,
+        state: &mut LineState<N>,
+        line: &str,
+    ) -> Result<Answer, AllocError>
+        ensures { IfOk result (λ answer. IsAnswer self.now.output (answer_text answer)) }
+    {
+        let mut text = state.kept.take_text(alloc, self.options);
+        // An empty text is not too long.
+        let _fits = fill(alloc, self.options, "", &mut text)?;
+        let direction = text.direction();
+        let read = read_glyphs(alloc, self.face, &self.font, &state.names, direction, line)?;
+        let edits = Edits {
+            not_found: GlyphId(0),
+            slant: 0.0,
+            ..self.edits(direction)
+        };
+        match buffer_of(text, read.infos.as_slice(), read.positions.as_slice())? {
+            Some(glyphs) => self.print_edited(alloc, state, &edits, glyphs),
+            None => Ok(Answer::Failed),
+        }
     }
 
     /// The list of a line's characters, where that is shown; else it is empty.
@@ -191,8 +242,7 @@ impl LineShaper<'_> {
             if !fill(alloc, self.options, line, &mut text)? {
                 return Ok(());
             }
-            let features = self.options.features.as_slice();
-            match shape_with_kept_plans(self.face, features, &mut state.kept.plans, text) {
+            match self.shape_text(&mut state.kept.plans, text) {
                 Ok(glyphs) => state.kept.text = Some(glyphs.clear()),
                 Err(ShapeError::Memory) => return Err(AllocError),
                 Err(_) => return Ok(()),
@@ -214,13 +264,60 @@ impl LineShaper<'_> {
         if !fill(alloc, self.options, line, &mut text)? {
             return Ok(Answer::Failed);
         }
-        let features = self.options.features.as_slice();
-        match shape_with_kept_plans(self.face, features, &mut state.kept.plans, text) {
-            Ok(glyphs) => self.print_and_keep(alloc, state, glyphs),
+        let edits = self.edits(text.direction());
+        match self.shape_text(&mut state.kept.plans, text) {
+            Ok(glyphs) => self.print_edited(alloc, state, &edits, glyphs),
             Err(ShapeError::TooLong) => Ok(Answer::Failed),
             Err(ShapeError::OtherPlan) => Ok(Answer::Failed),
             Err(ShapeError::Unverified(error)) => Ok(Answer::Unverified(error)),
             Err(ShapeError::Memory) => Err(AllocError),
+        }
+    }
+
+    /// Shapes a text by the shaper that is chosen.
+    fn shape_text(
+        &self,
+        plans: &mut KeptPlans,
+        text: UnicodeBuffer,
+    ) -> Result<GlyphBuffer, ShapeError> {
+        let features = self.options.features.as_slice();
+        if self.options.shaper == Shaper::Fallback {
+            return Ok(shape_fallback(&self.font, text)?);
+        }
+        if self.font.is_plain() {
+            return shape_with_kept_plans(self.face, features, plans, text);
+        }
+        shape_with_functions_and_plans(self.face, &self.font, features, plans, text)
+    }
+
+    /// What the options change of the glyphs of a text in this direction.
+    fn edits(&self, direction: Direction) -> Edits {
+        let slant = match self.options.shaper {
+            Shaper::OpenType => self.font.slant,
+            Shaper::Fallback => 0.0,
+        };
+        Edits {
+            not_found: self.font.not_found,
+            slant,
+            has_lookups: self.face.has_gpos,
+            normalizes: self.options.normalize_glyphs,
+            is_backward: direction.is_backward(),
+        }
+    }
+
+    /// What is printed of glyphs with the changes that options ask for.
+    fn print_edited<N: LineNames>(
+        &self,
+        alloc: Global,
+        state: &mut LineState<N>,
+        edits: &Edits,
+        glyphs: GlyphBuffer,
+    ) -> Result<Answer, AllocError>
+        ensures { IfOk result (λ answer. IsAnswer self.now.output (answer_text answer)) }
+    {
+        match edits.edited(alloc, glyphs)? {
+            Some(glyphs) => self.print_and_keep(alloc, state, glyphs),
+            None => Ok(Answer::Failed),
         }
     }
 

@@ -8,7 +8,7 @@ ghost use Rattle.shaping_buffer.specs.State.{State, cleared};
 ghost use Rattle.shaping_buffer.specs.Step.{GrowthMeets};
 ghost use Rattle.shape_command.specs.Prepared.{prepared, with_properties, language_of};
 
-use crate::options::LineOptions;
+use shape_options::options::LineOptions;
 use shaping_buffer::{GlyphBuffer, Language, LanguageError, UnicodeBuffer};
 use std::alloc::{AllocError, Global};
 

@@ -40,6 +40,9 @@ pub mod text;
 pub mod unicode_tables;
 
 #[cfg(feature = "std")]
+pub(crate) mod options;
+
+#[cfg(feature = "std")]
 pub(crate) mod command;
 #[cfg(feature = "std")]
 pub mod program;

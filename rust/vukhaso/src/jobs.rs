@@ -6,15 +6,16 @@
 mod rounds;
 
 use crate::clap::{Arg, ArgMatches};
-use crate::command::arguments::matches_of;
 use crate::command::ending;
 use crate::command::font_file::FontFile;
 use crate::command::loaded_font::LoadedFont;
-use crate::command::options::{Options, TextSource};
-use crate::command::run::{CommandError, options_of, read_font_file, shaper_of};
+use crate::command::run::{CommandError, read_font_file, shaper_of};
 use crate::host::io::{BufRead, BufReader, BufWriter};
 use crate::host::{Env, Host, fs};
 use crate::memory::String;
+use crate::options::arguments::matches_of;
+use crate::options::options::{Options, TextSource};
+use crate::options::words::options_of;
 use core::fmt::Display;
 use rounds::Rounds;
 use std::io::{self, Write};

@@ -62,6 +62,8 @@ mod jobs;
 
 #[cfg(feature = "std")]
 use internals::command;
+#[cfg(feature = "std")]
+use internals::options;
 use internals::{
     apple_substitution, apple_tables, arrayvec, bitflags, buffer, character_maps, color_glyphs,
     common, font_face, font_functions, font_normalization, font_positions, font_shaper,

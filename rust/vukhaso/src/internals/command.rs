@@ -2,22 +2,18 @@
 
 //! The program `vukhaso_shape`, used as HarfBuzz's `hb-shape` is: options, lines of a text, and what is printed.
 
-pub(crate) mod arguments;
-pub mod batch;
 mod batch_answers;
-pub mod code_points;
 mod drawing;
+mod edits;
 pub mod ending;
-pub mod features;
+mod fallback;
 pub mod font_file;
+mod glyph_line;
 pub mod lines;
 pub(crate) mod loaded_font;
-mod option_table;
-pub mod options;
-pub mod output;
+pub mod normalized;
 mod picture;
 pub mod run;
 pub mod shaper;
-mod sizes;
+mod synthetic_font;
 pub mod text;
-pub mod variations;

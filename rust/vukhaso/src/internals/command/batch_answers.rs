@@ -2,16 +2,17 @@
 
 //! The answers to the lines of a batch. A font is kept for all lines in a row that name it.
 
-use crate::command::batch::words_of_line;
 use crate::command::ending::NAME;
 use crate::command::font_file::FontFile;
 use crate::command::lines::{LinesError, next_line};
 use crate::command::loaded_font::LoadedFont;
-use crate::command::options::FontChoice;
-use crate::command::run::{CommandError, answer_options, options_of, read_font_file};
+use crate::command::run::{CommandError, answer_options, read_font_file};
 use crate::host::io::{self, BufRead, ErrorKind, Write};
 use crate::host::{AllocGlobal, Files};
 use crate::memory::{TryDisplay, Vec};
+use crate::options::batch::words_of_line;
+use crate::options::options::FontChoice;
+use crate::options::words::{WordsError, options_of};
 
 /// How the lines of one font were answered.
 struct Run {
@@ -90,7 +91,7 @@ fn read_named_font<F: Files + AllocGlobal, W: Write>(
             Ok(()) => Ok(options.font),
             Err(error) => Err(error),
         },
-        Err(error) => Err(error),
+        Err(error) => Err(CommandError::from(error)),
     };
     match chosen {
         Ok(choice) => Ok(Some(choice)),
@@ -152,7 +153,7 @@ fn answer_line<F: Files + AllocGlobal, R: BufRead, W: Write>(
             }
             answer_options(rt, &options, font, input, output)
         }
-        Err(error) => Err(error),
+        Err(error) => Err(CommandError::from(error)),
     };
     match answered {
         Ok(all_shaped) => Ok(Some(all_shaped)),
@@ -169,7 +170,7 @@ fn answer_line<F: Files + AllocGlobal, R: BufRead, W: Write>(
 fn say<W: Write>(output: &mut W, error: CommandError<'_>) -> io::Result<()> {
     let error = match error {
         CommandError::Output(error) => return Err(error),
-        CommandError::Asked(text) => return output.write_all(text.as_bytes()),
+        CommandError::Words(WordsError::Asked(text)) => return output.write_all(text.as_bytes()),
         error => error,
     };
     let message = error.try_to_string()?;

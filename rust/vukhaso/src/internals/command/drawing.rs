@@ -3,13 +3,14 @@
 //! A text whose shaping is drawn step by step.
 
 use crate::command::loaded_font::LoadedFont;
-use crate::command::options::{LineOptions, Options, OptionsError, TextSource};
 use crate::command::picture::Picture;
 use crate::command::run::CommandError;
 use crate::command::text::{empty_text, fill};
 use crate::font_shaper::{Face, FaceNames, ShapeError, shape_watched};
 use crate::host::io::Write;
 use crate::memory::AllocError;
+use crate::options::options::{LineOptions, Options, OptionsError, TextSource};
+use crate::options::words::WordsError;
 
 /// Draws the steps of shaping a text with a font, as a picture in SVG, and says whether the text was
 /// shaped.
@@ -45,9 +46,9 @@ fn given_text<'a, 't>(text: &'t TextSource<'a>) -> Result<&'t str, CommandError<
     match text {
         TextSource::Given(text) => Ok(text),
         TextSource::CodePoints(text) => Ok(text.as_str()),
-        TextSource::File(_) | TextSource::Input => {
-            Err(CommandError::Options(OptionsError::DrawnFile))
-        }
+        TextSource::File(_) | TextSource::Input => Err(CommandError::Words(WordsError::Options(
+            OptionsError::DrawnFile,
+        ))),
     }
 }
 

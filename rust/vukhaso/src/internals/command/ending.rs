@@ -9,6 +9,7 @@ use crate::host::io::{self, BufReader, BufWriter, Write};
 use crate::host::{AllocGlobal, Eprint, Input, Print, env};
 use crate::host::{Env, Files};
 use crate::memory::{String, TryIterator, Vec};
+use crate::options::words::WordsError;
 use std::process::ExitCode;
 
 /// The name of the program where it is not told.
@@ -56,8 +57,8 @@ fn run<F: Files + AllocGlobal + Env + Input + Print + Eprint>(rt: &F) -> io::Res
     output.flush()?;
     match answered {
         Ok(all_shaped) => Ok(all_shaped),
-        Err(CommandError::Words(error)) => say(rt, &error),
-        Err(CommandError::Asked(text)) => {
+        Err(CommandError::Words(WordsError::Words(error))) => say(rt, &error),
+        Err(CommandError::Words(WordsError::Asked(text))) => {
             rt.print(&text)?;
             Ok(true)
         }

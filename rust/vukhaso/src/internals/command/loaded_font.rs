@@ -3,11 +3,11 @@
 //! A font of a file, which is kept for all command lines in a row that name it.
 
 use crate::command::font_file::FontFile;
-use crate::command::options::{FontChoice, Options};
 use crate::command::shaper::KeptLine;
 use crate::font_shaper::{Face, FaceNames, Variation};
 use crate::font_tables::directory::face_count;
 use crate::memory::{AllocError, Vec};
+use crate::options::options::{FontChoice, Options};
 use std::mem;
 
 /// A font at a size, with the names of its glyphs once they were asked for.

@@ -2,29 +2,26 @@
 
 //! What the program does.
 
-use crate::buffer::{NoGlyphNames, SerializeFlags};
-use crate::command::arguments::{asked_for, matches_of};
+use crate::buffer::{GlyphId, NoGlyphNames, SerializeFlags};
 use crate::command::drawing::draw_text;
 use crate::command::font_file::FontFile;
 use crate::command::lines::{LinesError, answer_lines, answer_paragraph};
 use crate::command::loaded_font::LoadedFont;
-use crate::command::options::{Options, OptionsError, TextSource};
 use crate::command::shaper::{KeptLine, LineNames, LineShaper, LineState};
+use crate::command::synthetic_font::{SyntheticFont, SyntheticNames};
 use crate::host::Files;
 use crate::host::fs;
 use crate::host::io::{self, BufRead, BufReader, BufWriter, Write};
 use crate::host::{AllocGlobal, AsStr};
-use crate::memory::{AllocError, String};
+use crate::memory::AllocError;
+use crate::options::options::{Options, Shaper, TextSource};
+use crate::options::words::{WordsError, options_of};
 
 /// Why a command line was not answered to its end.
 #[derive(Debug)]
 pub enum CommandError<'a> {
-    /// The words are no command line.
-    Words(crate::clap::Error),
-    /// The words ask for nothing that can be done.
-    Options(OptionsError<'a>),
-    /// The words ask for this text.
-    Asked(String),
+    /// The words are not answered; no file was read.
+    Words(WordsError<'a>),
     /// The file of the font was not read.
     Font {
         /// The file.
@@ -60,8 +57,6 @@ impl<'a> core::fmt::Display for CommandError<'a> {
     fn fmt(&self, f: &mut core::fmt::Formatter<'_>) -> core::fmt::Result {
         match self {
             Self::Words(n0) => write!(f, "{n0}"),
-            Self::Options(n0) => write!(f, "{n0}"),
-            Self::Asked(n0) => write!(f, "{n0}"),
             Self::Font { file, error, .. } => write!(f, "{file}: {error}"),
             Self::Face(n0) => write!(f, "{n0}: Failed loading font face"),
             Self::Text { file, error, .. } => write!(f, "Failed reading text: {file}: {error}"),
@@ -86,17 +81,11 @@ impl From<AllocError> for CommandError<'_> {
     }
 }
 
-///
-/// # Proved
-///
-/// ```text
-/// ghost from_gives = { λ _ e. concerns_words e ≡ true }
-/// ```
-impl<'a> From<OptionsError<'a>> for CommandError<'a> {
-    fn from(error: OptionsError<'a>) -> Self {
+impl<'a> From<WordsError<'a>> for CommandError<'a> {
+    fn from(error: WordsError<'a>) -> Self {
         match error {
-            OptionsError::Memory => CommandError::Memory,
-            error => CommandError::Options(error),
+            WordsError::Memory => CommandError::Memory,
+            error => CommandError::Words(error),
         }
     }
 }
@@ -106,7 +95,7 @@ impl<'a> CommandError<'a> {
     pub(crate) fn wants_help(&self) -> bool {
         matches!(
             self,
-            CommandError::Options(_)
+            CommandError::Words(WordsError::Options(_))
                 | CommandError::Font { .. }
                 | CommandError::Face(_)
                 | CommandError::OutputFile { .. }
@@ -149,30 +138,6 @@ pub fn answer_command<'a, F: Files + AllocGlobal, S: AsStr, R: BufRead, W: Write
         Some(mut font) => answer_options(rt, &options, &mut font, input, output),
         None => Err(CommandError::Face(options.font_file)),
     }
-}
-
-/// What a command line asks for; its first word is the name of the program. An error is one of the
-/// words, or says that there is no memory: no file is read.
-///
-/// # Errors
-///
-/// `Err`: the clauses below say when.
-///
-/// # Proved
-///
-/// ```text
-/// ensures { IfErr result (λ e. concerns_words e ≡ true) }
-/// ```
-#[inline]
-pub fn options_of<'a, S: AsStr>(words: &'a [S]) -> Result<Options<'a>, CommandError<'a>> {
-    let matches = match matches_of(words) {
-        Ok(matches) => matches,
-        Err(error) => return Err(CommandError::Words(error)),
-    };
-    if let Some(asked) = asked_for(&matches) {
-        return Err(asked);
-    }
-    Ok(Options::from_matches(&matches)?)
 }
 
 /// Reads the file of the font, unless it was read last.
@@ -239,29 +204,86 @@ fn answer_into<'a, F: Files + AllocGlobal, R: BufRead, W: Write>(
     if options.svg {
         return draw_text(options, font, output);
     }
-    if asks_font(options.output.flags) {
-        let names = font.take_names()?;
-        let mut state = LineState {
-            names,
-            kept: font.take_kept(),
-        };
-        let shaper = shaper_of(font, options);
-        let answered = answer_text(rt, &shaper, &mut state, &options.text, input, output);
-        let answered = unless_given_up(answered, &mut state.kept);
-        font.kept = state.kept;
-        font.names = Some(state.names);
-        answered
+    if !asks_font(options.output.flags) && !options.line.glyphs {
+        answer_numbered(rt, options, font, input, output)
+    } else if synthetic_of(font, options).is_plain() {
+        answer_named(rt, options, font, input, output)
     } else {
-        let mut state = LineState {
-            names: NoGlyphNames,
-            kept: font.take_kept(),
-        };
-        let shaper = shaper_of(font, options);
-        let answered = answer_text(rt, &shaper, &mut state, &options.text, input, output);
-        let answered = unless_given_up(answered, &mut state.kept);
-        font.kept = state.kept;
-        answered
+        answer_drawn(rt, options, font, input, output)
     }
+}
+
+/// Answers what asks for no names of glyphs.
+fn answer_numbered<'a, F: Files + AllocGlobal, R: BufRead, W: Write>(
+    rt: &F,
+    options: &Options<'a>,
+    font: &mut LoadedFont<'_>,
+    input: &mut R,
+    output: &mut W,
+) -> Result<bool, CommandError<'a>> {
+    let mut state = LineState {
+        names: NoGlyphNames,
+        kept: font.take_kept(),
+    };
+    let shaper = shaper_of(font, options);
+    let answered = answer_shown(rt, &shaper, &mut state, options, input, output);
+    font.kept = state.kept;
+    answered
+}
+
+/// Answers what asks for names of glyphs, or for their extents.
+fn answer_named<'a, F: Files + AllocGlobal, R: BufRead, W: Write>(
+    rt: &F,
+    options: &Options<'a>,
+    font: &mut LoadedFont<'_>,
+    input: &mut R,
+    output: &mut W,
+) -> Result<bool, CommandError<'a>> {
+    let names = font.take_names()?;
+    let mut state = LineState {
+        names,
+        kept: font.take_kept(),
+    };
+    let shaper = shaper_of(font, options);
+    let answered = answer_shown(rt, &shaper, &mut state, options, input, output);
+    font.kept = state.kept;
+    font.names = Some(state.names);
+    answered
+}
+
+/// Answers what asks for names of glyphs that are drawn otherwise than the font has them, or for their
+/// extents.
+fn answer_drawn<'a, F: Files + AllocGlobal, R: BufRead, W: Write>(
+    rt: &F,
+    options: &Options<'a>,
+    font: &mut LoadedFont<'_>,
+    input: &mut R,
+    output: &mut W,
+) -> Result<bool, CommandError<'a>> {
+    let names = font.take_names()?;
+    let kept = font.take_kept();
+    let shaper = shaper_of(font, options);
+    let mut state = LineState {
+        names: SyntheticNames::new(&names, shaper.font),
+        kept,
+    };
+    let answered = answer_shown(rt, &shaper, &mut state, options, input, output);
+    font.kept = state.kept;
+    font.names = Some(names);
+    answered
+}
+
+/// Answers a text, and gives an error where the shaping of one of its lines was given up.
+fn answer_shown<'a, F: Files + AllocGlobal, N: LineNames, R: BufRead, W: Write>(
+    rt: &F,
+    shaper: &LineShaper<'_>,
+    state: &mut LineState<N>,
+    options: &Options<'a>,
+    input: &mut R,
+    output: &mut W,
+) -> Result<bool, CommandError<'a>> {
+    let answered = answer_text(rt, shaper, state, &options.text, input, output);
+    unless_given_up(answered, &mut state.kept)
 }
 
 /// What became of a text: an error where the shaping of one of its lines was given up, which is said
@@ -278,10 +300,20 @@ fn unless_given_up<'a>(
     answered
 }
 
+/// The font as its glyphs are to be drawn.
+fn synthetic_of<'a>(font: &'a LoadedFont<'_>, options: &Options<'_>) -> SyntheticFont<'a> {
+    let not_found = match options.line.shaper {
+        Shaper::OpenType if !options.line.glyphs => options.line.not_found_glyph,
+        _ => GlyphId(0),
+    };
+    SyntheticFont::new(&font.face, options.font.synthetic, not_found)
+}
+
 /// How lines are shaped with a font and printed.
 pub(crate) fn shaper_of<'a>(font: &'a LoadedFont<'_>, options: &'a Options<'_>) -> LineShaper<'a> {
     LineShaper {
         face: &font.face,
+        font: synthetic_of(font, options),
         options: &options.line,
         iterations: options.iterations,
         output: options.output,

@@ -3,17 +3,23 @@
 //! What a line is answered with.
 
 use crate::buffer::{
-    GlyphBuffer, GlyphNames, NoGlyphNames, SerializeFlags, UnicodeBuffer, hb_glyph_info_t,
+    Direction, GlyphBuffer, GlyphId, GlyphNames, NoGlyphNames, SerializeFlags, UnicodeBuffer,
+    hb_glyph_info_t,
 };
-use crate::command::options::LineOptions;
-use crate::command::output::{Output, OutputFormat};
+use crate::command::edits::{Edits, buffer_of};
+use crate::command::fallback::shape_fallback;
+use crate::command::glyph_line::read_glyphs;
+use crate::command::synthetic_font::SyntheticFont;
 use crate::command::text::{emptied, empty_text, fill, lossy_text};
 use crate::font_shaper::{
-    Face, FaceNames, KeptPlans, ShapeError, VerifyError, shape_with_kept_plans,
+    Face, FaceNames, KeptPlans, ShapeError, VerifyError, shape_with_functions_and_plans,
+    shape_with_kept_plans,
 };
 use crate::line_formats::characters::characters_list;
 use crate::line_formats::json::glyphs_json;
 use crate::memory::{AllocError, String, Vec};
+use crate::options::options::{LineOptions, Shaper};
+use crate::options::output::{Output, OutputFormat};
 
 /// Names and extents of glyphs, where the extents are found before they are asked for.
 pub trait LineNames: GlyphNames {
@@ -139,6 +145,8 @@ pub struct LineState<N> {
 pub struct LineShaper<'a> {
     /// The font.
     pub face: &'a Face<'a>,
+    /// What it answers, as its glyphs are to be drawn.
+    pub(crate) font: SyntheticFont<'a>,
     /// How each line is shaped.
     pub options: &'a LineOptions<'a>,
     /// How often each line is shaped.
@@ -185,10 +193,47 @@ impl LineShaper<'_> {
         state: &mut LineState<N>,
         line: &str,
     ) -> Result<Answered, AllocError> {
-        self.shape_unprinted(state, line)?;
         let characters = self.characters(line)?;
-        let answer = self.shape(state, line)?;
+        let answer = self.answer_to_line(state, line)?;
         Ok(Answered { characters, answer })
+    }
+
+    /// What a line is answered with, which is a text or writes glyphs.
+    fn answer_to_line<N: LineNames>(
+        &self,
+
+        state: &mut LineState<N>,
+        line: &str,
+    ) -> Result<Answer, AllocError> {
+        if self.options.glyphs {
+            return self.answer_to_glyphs(state, line);
+        }
+        self.shape_unprinted(state, line)?;
+        let answer = self.shape(state, line)?;
+        Ok(answer)
+    }
+
+    /// The answer to a line that writes glyphs.
+    fn answer_to_glyphs<N: LineNames>(
+        &self,
+
+        state: &mut LineState<N>,
+        line: &str,
+    ) -> Result<Answer, AllocError> {
+        let mut text = state.kept.take_text(self.options);
+        // An empty text is not too long.
+        let _fits = fill(self.options, "", &mut text)?;
+        let direction = text.direction();
+        let read = read_glyphs(self.face, &self.font, &state.names, direction, line)?;
+        let edits = Edits {
+            not_found: GlyphId(0),
+            slant: 0.0,
+            ..self.edits(direction)
+        };
+        match buffer_of(text, read.infos.as_slice(), read.positions.as_slice())? {
+            Some(glyphs) => self.print_edited(state, &edits, glyphs),
+            None => Ok(Answer::Failed),
+        }
     }
 
     /// The list of a line's characters, where that is shown; else it is empty.
@@ -215,8 +260,7 @@ impl LineShaper<'_> {
             if !fill(self.options, line, &mut text)? {
                 return Ok(());
             }
-            let features = self.options.features.as_slice();
-            match shape_with_kept_plans(self.face, features, &mut state.kept.plans, text) {
+            match self.shape_text(&mut state.kept.plans, text) {
                 Ok(glyphs) => state.kept.text = Some(glyphs.clear()),
                 Err(ShapeError::Memory) => return Err(AllocError),
                 Err(_) => return Ok(()),
@@ -236,13 +280,58 @@ impl LineShaper<'_> {
         if !fill(self.options, line, &mut text)? {
             return Ok(Answer::Failed);
         }
-        let features = self.options.features.as_slice();
-        match shape_with_kept_plans(self.face, features, &mut state.kept.plans, text) {
-            Ok(glyphs) => self.print_and_keep(state, glyphs),
+        let edits = self.edits(text.direction());
+        match self.shape_text(&mut state.kept.plans, text) {
+            Ok(glyphs) => self.print_edited(state, &edits, glyphs),
             Err(ShapeError::TooLong) => Ok(Answer::Failed),
             Err(ShapeError::OtherPlan) => Ok(Answer::Failed),
             Err(ShapeError::Unverified(error)) => Ok(Answer::Unverified(error)),
             Err(ShapeError::Memory) => Err(AllocError),
+        }
+    }
+
+    /// Shapes a text by the shaper that is chosen.
+    fn shape_text(
+        &self,
+        plans: &mut KeptPlans,
+        text: UnicodeBuffer,
+    ) -> Result<GlyphBuffer, ShapeError> {
+        let features = self.options.features.as_slice();
+        if self.options.shaper == Shaper::Fallback {
+            return Ok(shape_fallback(&self.font, text)?);
+        }
+        if self.font.is_plain() {
+            return shape_with_kept_plans(self.face, features, plans, text);
+        }
+        shape_with_functions_and_plans(self.face, &self.font, features, plans, text)
+    }
+
+    /// What the options change of the glyphs of a text in this direction.
+    fn edits(&self, direction: Direction) -> Edits {
+        let slant = match self.options.shaper {
+            Shaper::OpenType => self.font.slant,
+            Shaper::Fallback => 0.0,
+        };
+        Edits {
+            not_found: self.font.not_found,
+            slant,
+            has_lookups: self.face.has_gpos,
+            normalizes: self.options.normalize_glyphs,
+            is_backward: direction.is_backward(),
+        }
+    }
+
+    /// What is printed of glyphs with the changes that options ask for.
+    fn print_edited<N: LineNames>(
+        &self,
+
+        state: &mut LineState<N>,
+        edits: &Edits,
+        glyphs: GlyphBuffer,
+    ) -> Result<Answer, AllocError> {
+        match edits.edited(glyphs)? {
+            Some(glyphs) => self.print_and_keep(state, glyphs),
+            None => Ok(Answer::Failed),
         }
     }
 

@@ -3,8 +3,8 @@
 //! The text that a line is shaped as.
 
 use crate::buffer::{GlyphBuffer, Language, LanguageError, UnicodeBuffer};
-use crate::command::options::LineOptions;
 use crate::memory::{AllocError, String};
+use crate::options::options::LineOptions;
 
 /// The bytes as a text, in which each byte that is no part of a character in UTF-8 is a replacement
 /// character, as in HarfBuzz. Of bytes that are UTF-8 it is the text.

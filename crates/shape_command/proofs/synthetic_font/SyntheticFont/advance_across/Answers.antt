@@ -1,0 +1,12 @@
+use Rattle.std.proofs.Common.{ℕ, subst}
+use Rattle.font_functions.specs.OwnFunctions.{IsOwnAdvance}
+use Rattle.shape_command.proofs.synthetic_font.SyntheticFont.advance_across.Goals as goal
+
+pub returns : goal.returns
+returns c =
+    let P : ℕ → Type 0 = λ glyph. IsOwnAdvance c.args.self.now.own.face.now glyph _ in
+    record {
+      plain = _;
+      own = subst P c.«shown».ensures c.glyph_h_advance-plain.ensures;
+      is = c.bolder_advance.ensures;
+    }

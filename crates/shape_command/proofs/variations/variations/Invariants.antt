@@ -1,6 +1,0 @@
-use Rattle.std.proofs.Common.{All}
-use Rattle.shape_command.specs.Variations.{HasTag}
-use Rattle.shape_command.proofs.variations.variations.Given as goal
-
-abbrev pub invariant-loop-part : goal.invariant-loop-part
-invariant-loop-part l = All HasTag l.variations.items

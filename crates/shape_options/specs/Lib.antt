@@ -1,0 +1,4 @@
+pub mod Batch
+pub mod CodePoints
+pub mod Features
+pub mod Variations

@@ -1,0 +1,14 @@
+//! The command line of `vukhaso_shape`: its words, its options, and the lists that their values hold.
+#![tactic(auto)]
+
+mod arguments;
+pub mod batch;
+pub mod code_points;
+pub mod features;
+mod option_table;
+pub mod options;
+pub mod output;
+mod sizes;
+pub mod synthetic;
+pub mod variations;
+pub mod words;
