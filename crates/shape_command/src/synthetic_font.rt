@@ -223,6 +223,10 @@ impl FontFunctions for SyntheticFont<'_> {
             None => Ok(None),
         }
     }
+
+    fn glyph_contour_point(&self, glyph: GlyphId, point: u16) -> Option<(i32, i32)> {
+        self.own.glyph_contour_point(self.shown(glyph), point)
+    }
 }
 
 /// The names of a font's glyphs, and the extents of glyphs that are drawn bolder and slanted.
