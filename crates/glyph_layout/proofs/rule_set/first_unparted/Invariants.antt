@@ -1,4 +1,4 @@
-use Rattle.std.proofs.Common.{◌≡◌, ◌≤◌, None}
+use Rattle.std.proofs.Common.{◌≡◌, None}
 use Rattle.glyph_layout.specs.RuleSet.{first_rule}
 use Rattle.glyph_layout.proofs.rule_set.first_unparted.Given as goal
 

@@ -1,4 +1,4 @@
-use Rattle.std.proofs.Common.{◌≡◌, ◌∙◌, ap, sym, Some}
+use Rattle.std.proofs.Common.{◌≡◌, ◌∙◌, ap, Some}
 use Rattle.glyph_layout.specs.Asked.{asked_at}
 use Rattle.glyph_layout.specs.declared.asked.Asked.TheVariants.{Input, Lookahead}
 use Rattle.glyph_layout.proofs.AskedLemmas.{if_some-more, rule_fits-input, rule_fits-lookahead}
