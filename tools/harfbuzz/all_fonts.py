@@ -18,7 +18,7 @@ FOLDER = Path(tempfile.gettempdir()) / "vukhaso-all-fonts"
 KINDS = {".ttf", ".otf", ".ttc", ".otc", ".dfont"}
 
 # Fonts of scripts that shaping has rules for, first those of families that have many.
-PATTERNS = ["fonts-noto-core", "fonts-sil-*", "fonts-lohit-*", "fonts-noto-*", "fonts-*"]
+PATTERNS = ["fonts-noto-core", "fonts-sil-*", "fonts-lohit-*", "fonts-noto-*", "fonts-*", "culmus*"]
 
 # A script counts from so many characters on, and a font has texts of so many scripts at most.
 FEWEST_CHARACTERS, MOST_SCRIPTS = 8, 6
@@ -37,7 +37,7 @@ class FoundFont:
 
 def packages(patterns):
     """The names of Debian's packages that fit a pattern, in the order of the patterns."""
-    said = subprocess.run(["apt-cache", "search", "--names-only", "^fonts-"], capture_output=True, text=True, check=True).stdout
+    said = subprocess.run(["apt-cache", "search", "--names-only", "^(fonts-|culmus)"], capture_output=True, text=True, check=True).stdout
     names = sorted(line.split()[0] for line in said.splitlines())
     return list(dict.fromkeys(name for pattern in patterns or PATTERNS for name in names if fnmatch.fnmatch(name, pattern)))
 
