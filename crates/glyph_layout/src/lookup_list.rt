@@ -1,12 +1,10 @@
 //! The lookups of `GSUB` or `GPOS` (OpenType specification, "OpenType Layout Common Table Formats", "Lookup List table").
 
-ghost use Rattle.std.specs.Prelude.{ℕ, ◌≡◌, ◌<◌, ◌≤◌, true, false, All, IfSome, IsFalse, IsTrue, Some, is_some, ◌+◌, drop, length, slice_get, option_copied};
-ghost use Rattle.glyph_layout.specs.Digest.{HasMore};
-ghost use Rattle.glyph_layout.specs.FirstGlyphs.{HasMoreFirst};
+ghost use Rattle.std.specs.Prelude.{ℕ, ◌≡◌, ◌<◌, ◌≤◌, true, false, All, IfSome, IsFalse, Some, is_some, ◌+◌, drop, length, slice_get, option_copied};
 ghost use Rattle.glyph_layout.specs.Lookup.{IsForNone, is_for};
 ghost use Rattle.glyph_layout.specs.declared.lookup_list.Lookup.{Lookup};
 ghost use Rattle.glyph_layout.specs.Forms.{is_chained_form, is_chained_type, is_covered_form};
-ghost use Rattle.glyph_layout.specs.NextAsked.{IsNextAt, IsNextOf, lookahead_number, backtrack_number, input_number};
+ghost use Rattle.glyph_layout.specs.NextAsked.{IsNextAt, IsNextOf};
 ghost use Rattle.glyph_layout.specs.Seconds.{AreSeconds};
 ghost use Rattle.glyph_layout.specs.Subtables.{subtables_of};
 ghost use Rattle.glyph_layout.specs.SkippingIterator.{glyph_at};
@@ -16,13 +14,15 @@ use crate::first_glyphs::FirstGlyphs;
 use crate::formats::has_format;
 use crate::known::{Known, Summed, coverage_of, make_room, quick_coverage};
 use crate::lookup_props::LookupProps;
+use crate::reading::{
+    coverage_numbers, digest_of, firsts_of, has_next, quick_classes, subtable_count,
+};
 use crate::search::MAX_CONTEXT_LENGTH;
 use crate::seconds::seconds_of;
 use crate::subtable::{
     Form, NextAsked, Subtable, behind_extension, behind_list, positioning_form, substitution_form,
     table_or_empty,
 };
-use crate::summary::Summary;
 use font_tables::bytes::{table_at_16, u16_at};
 use font_tables::class_definition::ClassDefinition;
 use font_tables::coverage::Coverage;
@@ -483,76 +483,4 @@ impl<'a> LookupList<'a> {
         self.room -= bytes;
         true
     }
-}
-
-/// The classes in these bytes, or none where they are slow to ask.
-fn quick_classes(table: &[u8]) -> ClassDefinition<'_> {
-    let classes = ClassDefinition::new(table);
-    if classes.is_quick() {
-        classes
-    } else {
-        ClassDefinition::new(&[])
-    }
-}
-
-/// How many subtables the lookups of a list have, of which there are so many.
-fn subtable_count(list: &[u8], count: usize) -> usize
-    requires { count < 65536 }
-{
-    let mut subtables: usize = 0;
-    for index in 0..count {
-        let lookup = table_or_empty(list, 2 + 2 * index);
-        let own = usize::from(u16_at(lookup, 4).unwrap_or(0));
-        subtables = subtables.saturating_add(own);
-    }
-    subtables
-}
-
-/// How many coverages a context by coverages has before the cursor, for its input and after it.
-fn coverage_numbers(form: Form, table: &[u8]) -> Option<(u16, u16, u16)>
-    ensures covered { is_some result ≡ true → is_covered_form form ≡ true }
-    ensures backtrack { IfSome result (λ numbers. numbers.0 ≡ backtrack_number (is_chained_form form) table.now) }
-    ensures input { IfSome result (λ numbers. numbers.1 ≡ input_number (is_chained_form form) table.now) }
-    ensures lookahead { IfSome result (λ numbers. numbers.2 ≡ lookahead_number (is_chained_form form) table.now) }
-{
-    match form {
-        Form::Coverages => Some((0, u16_at(table, 2)?, 0)),
-        Form::ChainedCoverages => {
-            let backtrack = u16_at(table, 2)?;
-            let input_at = 4 + 2 * usize::from(backtrack);
-            let input = u16_at(table, input_at)?;
-            let lookahead = u16_at(table, input_at + 2 + 2 * usize::from(input))?;
-            Some((backtrack, input, lookahead))
-        }
-        _ => None,
-    }
-}
-
-/// Whether a context with so many glyphs in its input and after it asks for one after the cursor.
-fn has_next(input: u16, lookahead: u16) -> bool
-    ensures { IsTrue result → input < 2 → 0 < lookahead }
-{
-    input > 1 || lookahead > 0
-}
-
-/// The digest of the glyphs that any of these subtables is for.
-fn digest_of(subtables: &[Subtable]) -> Digest
-    ensures { All (λ subtable. HasMore subtable.digest result) subtables.now }
-{
-    let mut digest = Digest::new();
-    for subtable in subtables {
-        digest.add_all(&subtable.digest);
-    }
-    digest
-}
-
-/// Those of the first 256 glyphs that any of these subtables is for.
-fn firsts_of(subtables: &[Subtable]) -> FirstGlyphs
-    ensures { All (λ subtable. HasMoreFirst subtable.firsts result) subtables.now }
-{
-    let mut firsts = FirstGlyphs::none();
-    for subtable in subtables {
-        firsts.add_all(&subtable.firsts);
-    }
-    firsts
 }

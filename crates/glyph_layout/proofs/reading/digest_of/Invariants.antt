@@ -1,6 +1,6 @@
 use Rattle.std.specs.List.{AllWithin}
 use Rattle.glyph_layout.specs.Digest.{HasMore}
-use Rattle.glyph_layout.proofs.lookup_list.digest_of.Given as goal
+use Rattle.glyph_layout.proofs.reading.digest_of.Given as goal
 
 -- the digest has the glyphs of the subtables so far
 abbrev pub invariant-loop-subtable : goal.invariant-loop-subtable

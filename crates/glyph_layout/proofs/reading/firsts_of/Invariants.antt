@@ -1,6 +1,6 @@
 use Rattle.std.specs.List.{AllWithin}
 use Rattle.glyph_layout.specs.FirstGlyphs.{HasMoreFirst}
-use Rattle.glyph_layout.proofs.lookup_list.firsts_of.Given as goal
+use Rattle.glyph_layout.proofs.reading.firsts_of.Given as goal
 
 -- the first glyphs of the subtables so far are there
 abbrev pub invariant-loop-subtable : goal.invariant-loop-subtable
