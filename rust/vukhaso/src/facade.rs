@@ -76,7 +76,8 @@ impl ShapePlan {
     /// The numbers of the lookups of `GSUB` by which texts are shaped, and those of `GPOS`, in the order in which they are applied.
     pub fn lookups(&self) -> (Vec<u16>, Vec<u16>) {
         let layout = &self.made.shape.layout;
-        let numbers = |lookups: &[PlannedLookup]| lookups.iter().map(|lookup| lookup.index).collect();
+        let numbers =
+            |lookups: &[PlannedLookup]| lookups.iter().map(|lookup| lookup.index).collect();
         (numbers(&layout.gsub_lookups), numbers(&layout.gpos_lookups))
     }
 }

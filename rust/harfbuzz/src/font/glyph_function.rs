@@ -16,6 +16,11 @@ struct Shared {
     destroy: hb_destroy_func_t,
 }
 
+// SAFETY: C passes data for whatever thread uses the font: HarfBuzz's terms.
+unsafe impl Send for Shared {}
+// SAFETY: the same.
+unsafe impl Sync for Shared {}
+
 impl Drop for Shared {
     fn drop(&mut self) {
         release(self.data, self.destroy);
