@@ -21,6 +21,7 @@ pub mod lookup_props;
 pub mod matcher;
 mod matching;
 mod neighbours;
+mod reading;
 mod rule;
 mod rule_set;
 pub mod search;
