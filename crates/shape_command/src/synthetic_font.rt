@@ -16,7 +16,7 @@ use std::num::saturating_f32_to_i32;
 /// A font at its size, of which the glyphs are drawn bolder and slanted. Glyph 0 has the measures of the glyph that stands for
 /// characters that the font lacks.
 #[derive(Clone, Copy, Debug)]
-pub(crate) struct SyntheticFont<'a> {
+pub struct SyntheticFont<'a> {
     /// The font.
     own: OwnFunctions<'a>,
     /// How much bolder its glyphs are across: a negative number where they are turned round.
@@ -232,19 +232,23 @@ impl FontFunctions for SyntheticFont<'_> {
 /// The names of a font's glyphs, and the extents of glyphs that are drawn bolder and slanted.
 #[derive(Drop)]
 pub(crate) struct SyntheticNames<'a> {
-    names: &'a FaceNames<'a>,
-    font: SyntheticFont<'a>,
+    names: FaceNames<'a>,
     extents: BTreeMap<u16, Option<GlyphExtents>>,
 }
 
 impl<'a> SyntheticNames<'a> {
     /// The names, and no extents yet.
-    pub(crate) fn new(alloc: Global, names: &'a FaceNames<'a>, font: SyntheticFont<'a>) -> Self {
+    pub(crate) fn new(alloc: Global, names: FaceNames<'a>) -> Self {
         SyntheticNames {
             names,
-            font,
             extents: BTreeMap::new(alloc),
         }
+    }
+
+    /// The names alone.
+    pub(crate) fn into_names(self) -> FaceNames<'a> {
+        let SyntheticNames { names, extents: _ } = self;
+        names
     }
 }
 
@@ -254,7 +258,7 @@ impl GlyphNames for SyntheticNames<'_> {
     ghost use Rattle.std.specs.Ordering.{nat_cmp};
     ghost use Rattle.font_face.specs.FaceNames.{name_of};
 
-    ghost name_of = { λ names glyph. name_of names.names.now.post.table.now names.names.now.outlines glyph };
+    ghost name_of = { λ names glyph. name_of names.names.post.table.now names.names.outlines glyph };
 
     ghost extents_of = { λ names glyph. option_and_then (λ found. found) (get nat_cmp names.extents glyph) };
 
@@ -268,12 +272,16 @@ impl GlyphNames for SyntheticNames<'_> {
 }
 
 impl LineNames for SyntheticNames<'_> {
-    fn find(&mut self, infos: &[hb_glyph_info_t]) -> Result<(), AllocError> {
+    fn find(
+        &mut self,
+        font: &SyntheticFont<'_>,
+        infos: &[hb_glyph_info_t],
+    ) -> Result<(), AllocError> {
         for info in infos {
             if let Ok(number) = u16::try_from(info.glyph_id)
                 && !self.extents.contains_key(&number)
             {
-                let extents = self.font.glyph_extents(GlyphId(number))?;
+                let extents = font.glyph_extents(GlyphId(number))?;
                 let _ = self.extents.insert(number, extents)?;
             }
         }

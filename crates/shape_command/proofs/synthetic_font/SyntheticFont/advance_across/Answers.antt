@@ -4,9 +4,9 @@ use Rattle.shape_command.proofs.synthetic_font.SyntheticFont.advance_across.Goal
 
 pub returns : goal.returns
 returns c =
-    let P : ℕ → Type 0 = λ glyph. IsOwnAdvance c.args.self.now.own.face.now glyph _ in
+    let P : ℕ → Type 0 = λ glyph. IsOwnAdvance c.args.self.now.own.face.now glyph c.glyph_h_advance-plain.result in
     record {
-      plain = _;
-      own = subst P c.«shown».ensures c.glyph_h_advance-plain.ensures;
+      plain = c.glyph_h_advance-plain.result;
+      own = subst P c.shown-shown.ensures c.glyph_h_advance-plain.ensures;
       is = c.bolder_advance.ensures;
     }
