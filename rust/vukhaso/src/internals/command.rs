@@ -15,5 +15,5 @@ pub mod normalized;
 mod picture;
 pub mod run;
 pub mod shaper;
-mod synthetic_font;
+pub mod synthetic_font;
 pub mod text;

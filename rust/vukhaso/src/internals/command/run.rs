@@ -264,12 +264,13 @@ fn answer_drawn<'a, F: Files + AllocGlobal, R: BufRead, W: Write>(
     let kept = font.take_kept();
     let shaper = shaper_of(font, options);
     let mut state = LineState {
-        names: SyntheticNames::new(&names, shaper.font),
+        names: SyntheticNames::new(names),
         kept,
     };
     let answered = answer_shown(rt, &shaper, &mut state, options, input, output);
-    font.kept = state.kept;
-    font.names = Some(names);
+    let LineState { names, kept } = state;
+    font.kept = kept;
+    font.names = Some(names.into_names());
     answered
 }
 

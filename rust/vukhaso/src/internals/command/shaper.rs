@@ -23,7 +23,7 @@ use crate::options::output::{Output, OutputFormat};
 
 /// Names and extents of glyphs, where the extents are found before they are asked for.
 pub trait LineNames: GlyphNames {
-    /// Finds the extents of glyphs.
+    /// Finds the extents of glyphs as a font draws them.
     ///
     /// # Errors
     ///
@@ -32,17 +32,30 @@ pub trait LineNames: GlyphNames {
     /// # Proved
     ///
     /// That it returns.
-    fn find(&mut self, infos: &[hb_glyph_info_t]) -> Result<(), AllocError>;
+    fn find(
+        &mut self,
+        font: &SyntheticFont<'_>,
+        infos: &[hb_glyph_info_t],
+    ) -> Result<(), AllocError>;
 }
 
 impl LineNames for NoGlyphNames {
-    fn find(&mut self, _infos: &[hb_glyph_info_t]) -> Result<(), AllocError> {
+    fn find(
+        &mut self,
+        _font: &SyntheticFont<'_>,
+        _infos: &[hb_glyph_info_t],
+    ) -> Result<(), AllocError> {
         Ok(())
     }
 }
 
 impl LineNames for FaceNames<'_> {
-    fn find(&mut self, infos: &[hb_glyph_info_t]) -> Result<(), AllocError> {
+    /// Finds them as the font has them, which draws them so.
+    fn find(
+        &mut self,
+        _font: &SyntheticFont<'_>,
+        infos: &[hb_glyph_info_t],
+    ) -> Result<(), AllocError> {
         self.find_extents(infos)
     }
 }
@@ -411,7 +424,7 @@ impl LineShaper<'_> {
         infos: &[hb_glyph_info_t],
     ) -> Result<(), AllocError> {
         if self.output.flags.contains(SerializeFlags::GLYPH_EXTENTS) {
-            names.find(infos)?;
+            names.find(&self.font, infos)?;
         }
         Ok(())
     }

@@ -14,7 +14,7 @@ use crate::options::synthetic::Synthetic;
 /// A font at its size, of which the glyphs are drawn bolder and slanted. Glyph 0 has the measures of the glyph that stands for
 /// characters that the font lacks.
 #[derive(Clone, Copy, Debug)]
-pub(crate) struct SyntheticFont<'a> {
+pub struct SyntheticFont<'a> {
     /// The font.
     own: OwnFunctions<'a>,
     /// How much bolder its glyphs are across: a negative number where they are turned round.
@@ -219,19 +219,23 @@ impl FontFunctions for SyntheticFont<'_> {
 
 /// The names of a font's glyphs, and the extents of glyphs that are drawn bolder and slanted.
 pub(crate) struct SyntheticNames<'a> {
-    names: &'a FaceNames<'a>,
-    font: SyntheticFont<'a>,
+    names: FaceNames<'a>,
     extents: BTreeMap<u16, Option<GlyphExtents>>,
 }
 
 impl<'a> SyntheticNames<'a> {
     /// The names, and no extents yet.
-    pub(crate) fn new(names: &'a FaceNames<'a>, font: SyntheticFont<'a>) -> Self {
+    pub(crate) fn new(names: FaceNames<'a>) -> Self {
         SyntheticNames {
             names,
-            font,
             extents: BTreeMap::new(),
         }
+    }
+
+    /// The names alone.
+    pub(crate) fn into_names(self) -> FaceNames<'a> {
+        let SyntheticNames { names, extents: _ } = self;
+        names
     }
 }
 
@@ -239,7 +243,7 @@ impl<'a> SyntheticNames<'a> {
 /// # Proved
 ///
 /// ```text
-/// ghost name_of = { λ names glyph. name_of names.names.now.post.table.now names.names.now.outlines glyph }
+/// ghost name_of = { λ names glyph. name_of names.names.post.table.now names.names.outlines glyph }
 /// ghost extents_of = { λ names glyph. option_and_then (λ found. found) (get nat_cmp names.extents glyph) }
 /// ```
 impl GlyphNames for SyntheticNames<'_> {
@@ -253,11 +257,15 @@ impl GlyphNames for SyntheticNames<'_> {
 }
 
 impl LineNames for SyntheticNames<'_> {
-    fn find(&mut self, infos: &[hb_glyph_info_t]) -> Result<(), AllocError> {
+    fn find(
+        &mut self,
+        font: &SyntheticFont<'_>,
+        infos: &[hb_glyph_info_t],
+    ) -> Result<(), AllocError> {
         for info in infos {
             if let Ok(number) = u16::try_from(info.glyph_id) {
                 if !self.extents.contains_key(&number) {
-                    let extents = self.font.glyph_extents(GlyphId(number))?;
+                    let extents = font.glyph_extents(GlyphId(number))?;
                     let _ = self.extents.insert(number, extents)?;
                 }
             }
