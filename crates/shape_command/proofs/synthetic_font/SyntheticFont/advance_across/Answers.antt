@@ -1,4 +1,4 @@
-use Rattle.std.proofs.Common.{ℕ, subst}
+use Rattle.std.proofs.Common.{ℕ, rules, subst}
 use Rattle.font_functions.specs.OwnFunctions.{IsOwnAdvance}
 use Rattle.shape_command.proofs.synthetic_font.SyntheticFont.advance_across.Goals as goal
 
@@ -8,5 +8,5 @@ returns c =
     record {
       plain = c.glyph_h_advance-plain.result;
       own = subst P c.shown-shown.ensures c.glyph_h_advance-plain.ensures;
-      is = c.bolder_advance.ensures;
+      is = search rules;
     }
