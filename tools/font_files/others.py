@@ -113,9 +113,8 @@ def positions(gpos):
     })
 
 
-def collection():
-    """Two fonts in one file: `kern.ttf` and `hinted.otf`."""
-    fonts = [kern(), hinted()]
+def collected(fonts):
+    """Fonts in one file."""
     start = 12 + 4 * len(fonts)
     places = [start + sum(len(it) for it in fonts[:at]) for at in range(len(fonts))]
     made = b"ttcf" + ot.numbers(1, 0) + ot.long_numbers(len(fonts), *places)
@@ -126,6 +125,11 @@ def collection():
             moved[row:row + 4] = ot.long_numbers(int.from_bytes(data[row:row + 4], "big") + place)
         made += bytes(moved)
     return made
+
+
+def collection():
+    """Two fonts in one file: `kern.ttf` and `hinted.otf`."""
+    return collected([kern(), hinted()])
 
 
 FONTS = {f"gpos-{name}.ttf": functools.partial(positions, gpos) for name, gpos in POSITIONS.items()}

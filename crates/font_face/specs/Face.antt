@@ -1,11 +1,12 @@
 -- What is kept of a font: its tables, by their tags, and what they say.
-use Rattle.std.specs.Prelude.{ℕ, List, Bool, [], length, nat_le, nat_lt, not, ◌≡◌, ◌/◌, ◌==◌, codes, unwrap_or, if◌then◌else◌, bit_and}
+use Rattle.std.specs.Prelude.{ℕ, List, Bool, [], length, nat_le, nat_lt, not, ◌&&◌, ◌≡◌, ◌/◌, ◌==◌, codes, unwrap_or, if◌then◌else◌, bit_and}
 use Rattle.font_tables.specs.Bytes.{number_16, number_32, is_number}
 use Rattle.font_tables.specs.Head.{units_per_em, glyph_count, index_to_loc_format}
 use Rattle.font_tables.specs.IgnoredGdef.{is_ignored}
 use Rattle.font_tables.specs.Extents.{long_metric_count, horizontal_extents}
 use Rattle.font_tables.specs.declared.metrics.Metrics.{Metrics}
 use Rattle.font_tables.specs.declared.directory.Tables.{Tables}
+use Rattle.glyph_layout.specs.SubtableLimit.{is_refused}
 use Rattle.character_maps.specs.Choice.{chosen_subtable, chosen_encoding, variation_subtable}
 use Rattle.color_glyphs.specs.Strikes.{wanted_size}
 use Rattle.font_face.specs.declared.color.ColorTables.{ColorTables}
@@ -18,10 +19,12 @@ use Rattle.font_face.specs.declared.layout.Layout.{Layout}
 abbrev pub table : Face → List ℕ → List ℕ
 table face letters = table_in face.tables letters
 
--- whether a table of lookups is read: one of version 1 holds its header, with the offset of feature variations from version 1.1 on
+-- whether a table of lookups is read: one of version 1 holds its header, with the offset of feature variations from version 1.1 on,
+-- and is not refused for its subtables
 abbrev pub is_read : List ℕ → Bool
 is_read table =
-    if is_number (number_16 table 0) 1 then nat_le (if is_number (number_16 table 2) 0 then 10 else 14) (length table)
+    if is_number (number_16 table 0) 1
+    then nat_le (if is_number (number_16 table 2) 0 then 10 else 14) (length table) && not (is_refused table)
     else nat_lt 0 (unwrap_or (number_32 table 0) 0)
 
 -- a table of lookups, if it is read

@@ -7,6 +7,7 @@ ghost use Rattle.font_face.specs.Face.{IsLayoutOf, is_read, read_table};
 
 use font_tables::bytes::{u16_at, u32_at};
 use font_tables::directory::Tables;
+use glyph_layout::subtable_limit::is_refused;
 use rb_common::Tag;
 
 /// The tables that substitute and position glyphs, each empty where the font has none.
@@ -49,8 +50,8 @@ fn read_table(table: &[u8]) -> &[u8]
     if is_read(table) { table } else { &[] }
 }
 
-/// Whether a table of lookups is read: one of version 1 holds its header, with the offset of feature variations from version 1.1 on.
-/// One of an unknown version is read as one without lookups.
+/// Whether a table of lookups is read: one of version 1 holds its header, with the offset of feature variations from version 1.1 on,
+/// and is not refused for its subtables. One of an unknown version is read as one without lookups.
 pub(crate) fn is_read(table: &[u8]) -> bool
     ensures { result ≡ is_read table.now }
 {
@@ -61,7 +62,7 @@ pub(crate) fn is_read(table: &[u8]) -> bool
             } else {
                 14
             };
-            header <= table.len()
+            header <= table.len() && !is_refused(table)
         }
         _ => u32_at(table, 0).unwrap_or(0) > 0,
     }

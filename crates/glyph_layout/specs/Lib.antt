@@ -18,5 +18,6 @@ pub mod RuleSet
 pub mod Seconds
 pub mod Sets
 pub mod Substitution
+pub mod SubtableLimit
 pub mod Subtables
 pub mod SkippingIterator

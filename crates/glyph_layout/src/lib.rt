@@ -28,6 +28,7 @@ mod seconds;
 pub mod skipping_iterator;
 pub mod substitution;
 pub mod subtable;
+pub mod subtable_limit;
 pub mod summary;
 mod told;
 mod would;

@@ -1,11 +1,12 @@
 //! The lookups of `GSUB` or `GPOS` (OpenType specification, "OpenType Layout Common Table Formats", "Lookup List table").
 
-ghost use Rattle.std.specs.Prelude.{ℕ, ◌≡◌, ◌<◌, ◌≤◌, true, false, All, IfSome, IsFalse, Some, is_some, ◌+◌, drop, length, slice_get, option_copied};
+ghost use Rattle.std.specs.Prelude.{ℕ, ◌≡◌, ◌<◌, ◌≤◌, true, false, All, IfOk, IfSome, [], IsFalse, Some, is_some, ◌+◌, drop, length, slice_get, option_copied};
 ghost use Rattle.glyph_layout.specs.Lookup.{IsForNone, is_for};
 ghost use Rattle.glyph_layout.specs.declared.lookup_list.Lookup.{Lookup};
 ghost use Rattle.glyph_layout.specs.Forms.{is_chained_form, is_chained_type, is_covered_form};
 ghost use Rattle.glyph_layout.specs.NextAsked.{IsNextAt, IsNextOf};
 ghost use Rattle.glyph_layout.specs.Seconds.{AreSeconds};
+ghost use Rattle.glyph_layout.specs.SubtableLimit.{has_too_many, lookup_list};
 ghost use Rattle.glyph_layout.specs.Subtables.{subtables_of};
 ghost use Rattle.glyph_layout.specs.SkippingIterator.{glyph_at};
 
@@ -14,15 +15,14 @@ use crate::first_glyphs::FirstGlyphs;
 use crate::formats::has_format;
 use crate::known::{Known, Summed, coverage_of, make_room, quick_coverage};
 use crate::lookup_props::LookupProps;
-use crate::reading::{
-    coverage_numbers, digest_of, firsts_of, has_next, quick_classes, subtable_count,
-};
+use crate::reading::{coverage_numbers, digest_of, firsts_of, has_next, quick_classes};
 use crate::search::MAX_CONTEXT_LENGTH;
 use crate::seconds::seconds_of;
 use crate::subtable::{
     Form, NextAsked, Subtable, behind_extension, behind_list, positioning_form, substitution_form,
     table_or_empty,
 };
+use crate::subtable_limit::{MAX_SUBTABLES, lookup_count, subtables_of_first};
 use font_tables::bytes::{table_at_16, u16_at};
 use font_tables::class_definition::ClassDefinition;
 use font_tables::coverage::Coverage;
@@ -121,13 +121,15 @@ pub struct LookupList<'a> {
 
 impl<'a> LookupList<'a> {
     /// The lookups of a table in which `extension` is the kind of an extension: 7 in `GSUB`, 9 in `GPOS`. A table that is
-    /// empty has none. `Err` where memory runs out.
+    /// empty, or whose lookups have 16,384 subtables, has none. `Err` where memory runs out.
     pub fn new(
         alloc: Global,
         table: &'a [u8],
         extension: u16,
         gdef: &Gdef<'a>,
-    ) -> Result<Self, AllocError> {
+    ) -> Result<Self, AllocError>
+        ensures { has_too_many (lookup_list table.now) ≡ true → IfOk result (λ list. list.lookups.items ≡ []) }
+    {
         let mut list = LookupList {
             table,
             lookups: Vec::new(alloc),
@@ -210,10 +212,16 @@ impl<'a> LookupList<'a> {
         }
     }
 
-    /// Reads the lookups of a list.
-    fn read_all(&mut self, list: &'a [u8], gdef: &Gdef<'a>) -> Result<(), AllocError> {
-        let count = usize::from(u16_at(list, 0).unwrap_or(0));
-        self.make_room(list, count)?;
+    /// Reads the lookups of a list, unless they have too many subtables.
+    fn read_all(&mut self, list: &'a [u8], gdef: &Gdef<'a>) -> Result<(), AllocError>
+        ensures { has_too_many list.now ≡ true → self.new.lookups.items ≡ self.old.lookups.items }
+    {
+        let count = lookup_count(list);
+        let subtables = subtables_of_first(list, count);
+        if subtables >= MAX_SUBTABLES {
+            return Ok(());
+        }
+        self.make_room(list, count, subtables)?;
         for index in 0..count {
             if let Some(_offset) = u16_at(list, 2 + 2 * index) {
                 self.read_lookup(table_or_empty(list, 2 + 2 * index), gdef)?;
@@ -222,13 +230,10 @@ impl<'a> LookupList<'a> {
         Ok(())
     }
 
-    /// Makes room for the lookups of a list, of which there are so many, and for their subtables, as far as these are not too many.
-    fn make_room(&mut self, list: &[u8], count: usize) -> Result<(), AllocError>
-        requires { count < 65536 }
-    {
+    /// Makes room for so many lookups of a list, and for so many subtables, as far as these are not too many.
+    fn make_room(&mut self, list: &[u8], count: usize, subtables: usize) -> Result<(), AllocError> {
         self.lookups.reserve(count.min(list.len() / 2))?;
-        self.subtables
-            .reserve(subtable_count(list, count).min(MOST_RESERVED))?;
+        self.subtables.reserve(subtables.min(MOST_RESERVED))?;
         if count > 0 {
             make_room(&mut self.known)?;
         }

@@ -8,7 +8,7 @@ ghost use Rattle.glyph_layout.specs.NextAsked.{lookahead_number, backtrack_numbe
 
 use crate::digest::Digest;
 use crate::first_glyphs::FirstGlyphs;
-use crate::subtable::{Form, Subtable, table_or_empty};
+use crate::subtable::{Form, Subtable};
 use crate::summary::Summary;
 use font_tables::bytes::u16_at;
 use font_tables::class_definition::ClassDefinition;
@@ -21,19 +21,6 @@ pub(crate) fn quick_classes(table: &[u8]) -> ClassDefinition<'_> {
     } else {
         ClassDefinition::new(&[])
     }
-}
-
-/// How many subtables the lookups of a list have, of which there are so many.
-pub(crate) fn subtable_count(list: &[u8], count: usize) -> usize
-    requires { count < 65536 }
-{
-    let mut subtables: usize = 0;
-    for index in 0..count {
-        let lookup = table_or_empty(list, 2 + 2 * index);
-        let own = usize::from(u16_at(lookup, 4).unwrap_or(0));
-        subtables = subtables.saturating_add(own);
-    }
-    subtables
 }
 
 /// How many coverages a context by coverages has before the cursor, for its input and after it.

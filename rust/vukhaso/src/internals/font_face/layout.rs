@@ -5,6 +5,7 @@
 use crate::common::Tag;
 use crate::font_tables::bytes::{u16_at, u32_at};
 use crate::font_tables::directory::Tables;
+use crate::glyph_layout::subtable_limit::is_refused;
 
 /// The tables that substitute and position glyphs, each empty where the font has none.
 #[derive(Clone, Copy, Debug)]
@@ -43,7 +44,8 @@ fn read_table(table: &[u8]) -> &[u8] {
 }
 
 /// Whether a table of lookups is read: one of version 1 holds its header, with the offset of feature
-/// variations from version 1.1 on. One of an unknown version is read as one without lookups.
+/// variations from version 1.1 on, and is not refused for its subtables. One of an unknown version is
+/// read as one without lookups.
 pub(crate) fn is_read(table: &[u8]) -> bool {
     match u16_at(table, 0) {
         Some(1) => {
@@ -52,7 +54,7 @@ pub(crate) fn is_read(table: &[u8]) -> bool {
             } else {
                 14
             };
-            header <= table.len()
+            header <= table.len() && !is_refused(table)
         }
         _ => u32_at(table, 0).unwrap_or(0) > 0,
     }

@@ -13,7 +13,7 @@ use crate::glyph_layout::formats::has_format;
 use crate::glyph_layout::known::{Known, Summed, coverage_of, make_room, quick_coverage};
 use crate::glyph_layout::lookup_props::LookupProps;
 use crate::glyph_layout::reading::{
-    coverage_numbers, digest_of, firsts_of, has_next, quick_classes, subtable_count,
+    coverage_numbers, digest_of, firsts_of, has_next, quick_classes,
 };
 use crate::glyph_layout::search::MAX_CONTEXT_LENGTH;
 use crate::glyph_layout::seconds::seconds_of;
@@ -21,6 +21,7 @@ use crate::glyph_layout::subtable::{
     Form, NextAsked, Subtable, behind_extension, behind_list, positioning_form, substitution_form,
     table_or_empty,
 };
+use crate::glyph_layout::subtable_limit::{MAX_SUBTABLES, lookup_count, subtables_of_first};
 use crate::memory::{AllocError, Vec};
 use core::mem;
 
@@ -133,7 +134,7 @@ pub struct LookupList<'a> {
 
 impl<'a> LookupList<'a> {
     /// The lookups of a table in which `extension` is the kind of an extension: 7 in `GSUB`, 9 in `GPOS`. A
-    /// table that is empty has none.
+    /// table that is empty, or whose lookups have 16,384 subtables, has none.
     ///
     /// # Errors
     ///
@@ -141,7 +142,9 @@ impl<'a> LookupList<'a> {
     ///
     /// # Proved
     ///
-    /// That it returns.
+    /// ```text
+    /// ensures { has_too_many (lookup_list table.now) ≡ true → IfOk result (λ list. list.lookups.items ≡ []) }
+    /// ```
     #[inline]
     pub fn new(table: &'a [u8], extension: u16, gdef: &Gdef<'a>) -> Result<Self, AllocError> {
         let mut list = LookupList {
@@ -248,10 +251,14 @@ impl<'a> LookupList<'a> {
         }
     }
 
-    /// Reads the lookups of a list.
+    /// Reads the lookups of a list, unless they have too many subtables.
     fn read_all(&mut self, list: &'a [u8], gdef: &Gdef<'a>) -> Result<(), AllocError> {
-        let count = usize::from(u16_at(list, 0).unwrap_or(0));
-        self.make_room(list, count)?;
+        let count = lookup_count(list);
+        let subtables = subtables_of_first(list, count);
+        if subtables >= MAX_SUBTABLES {
+            return Ok(());
+        }
+        self.make_room(list, count, subtables)?;
         for index in 0..count {
             if let Some(_offset) = u16_at(list, 2 + 2 * index) {
                 self.read_lookup(table_or_empty(list, 2 + 2 * index), gdef)?;
@@ -260,17 +267,11 @@ impl<'a> LookupList<'a> {
         Ok(())
     }
 
-    /// Makes room for the lookups of a list, of which there are so many, and for their subtables, as far as
-    /// these are not too many.
-    ///
-    /// # Requires
-    ///
-    /// - `count < 65536`
-    fn make_room(&mut self, list: &[u8], count: usize) -> Result<(), AllocError> {
-        debug_assert!(count < 65536);
+    /// Makes room for so many lookups of a list, and for so many subtables, as far as these are not too
+    /// many.
+    fn make_room(&mut self, list: &[u8], count: usize, subtables: usize) -> Result<(), AllocError> {
         self.lookups.reserve(count.min(list.len() / 2))?;
-        self.subtables
-            .reserve(subtable_count(list, count).min(MOST_RESERVED))?;
+        self.subtables.reserve(subtables.min(MOST_RESERVED))?;
         if count > 0 {
             make_room(&mut self.known)?;
         }

@@ -6,7 +6,7 @@ use crate::font_tables::bytes::u16_at;
 use crate::font_tables::class_definition::ClassDefinition;
 use crate::glyph_layout::digest::Digest;
 use crate::glyph_layout::first_glyphs::FirstGlyphs;
-use crate::glyph_layout::subtable::{Form, Subtable, table_or_empty};
+use crate::glyph_layout::subtable::{Form, Subtable};
 use crate::glyph_layout::summary::Summary;
 
 /// The classes in these bytes, or none where they are slow to ask.
@@ -17,22 +17,6 @@ pub(crate) fn quick_classes(table: &[u8]) -> ClassDefinition<'_> {
     } else {
         ClassDefinition::new(&[])
     }
-}
-
-/// How many subtables the lookups of a list have, of which there are so many.
-///
-/// # Requires
-///
-/// - `count < 65536`
-pub(crate) fn subtable_count(list: &[u8], count: usize) -> usize {
-    debug_assert!(count < 65536);
-    let mut subtables: usize = 0;
-    for index in 0..count {
-        let lookup = table_or_empty(list, 2 + 2 * index);
-        let own = usize::from(u16_at(lookup, 4).unwrap_or(0));
-        subtables = subtables.saturating_add(own);
-    }
-    subtables
 }
 
 /// How many coverages a context by coverages has before the cursor, for its input and after it.
