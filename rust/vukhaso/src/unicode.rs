@@ -14,70 +14,93 @@ use general_category::{GENERAL_CATEGORY_RUNS, GeneralCategory};
 use script::{SCRIPT_RUNS, Script};
 
 /// How many code points a block has.
-const BLOCK: u32 = 0x40;
+const BLOCK: usize = 0x40;
 
-const BLOCKS: usize = 0x11_0000 / BLOCK as usize;
+const BLOCKS: usize = 0x11_0000 / BLOCK;
 
-/// For each block the run that its first code point lies in, and behind them the last run.
-type Index = [u16; BLOCKS + 1];
+/// For each block the page of its values. Neighbours that lie whole in one run have the same page.
+type Pages = [u16; BLOCKS];
 
-static SCRIPT_INDEX: Index = index_of(&SCRIPT_RUNS);
-static GENERAL_CATEGORY_INDEX: Index = index_of(&GENERAL_CATEGORY_RUNS);
+static SCRIPT_PAGES: Pages = pages_of(&SCRIPT_RUNS);
+static SCRIPTS: [[Script; BLOCK]; page_count(&SCRIPT_RUNS)] = values_of(&SCRIPT_RUNS);
+static CATEGORY_PAGES: Pages = pages_of(&GENERAL_CATEGORY_RUNS);
+static CATEGORIES: [[GeneralCategory; BLOCK]; page_count(&GENERAL_CATEGORY_RUNS)] =
+    values_of(&GENERAL_CATEGORY_RUNS);
 
-const fn index_of<V: Copy>(runs: &[(u32, V)]) -> Index {
-    let mut index = [0; BLOCKS + 1];
-    let (mut block, mut run) = (0, 0);
-    while block < BLOCKS {
-        while run + 1 < runs.len() && runs[run + 1].0 <= block as u32 * BLOCK {
-            run += 1;
-        }
-        index[block] = run as u16;
-        block += 1;
+/// The run of the code point behind a block, when its first one lies in a run.
+const fn run_behind<V: Copy>(runs: &[(u32, V)], block: usize, mut run: usize) -> usize {
+    let end = ((block + 1) * BLOCK) as u32;
+    while run + 1 < runs.len() && runs[run + 1].0 <= end {
+        run += 1;
     }
-    index[BLOCKS] = (runs.len() - 1) as u16;
-    index
+    run
 }
 
-/// How many code points have a value of their own in a table: those of the scripts that are written most.
-const FIRST: usize = 0x800;
+/// Whether a block that begins in a run has the page of the block before it: both lie in that run.
+const fn has_page_before<V: Copy>(runs: &[(u32, V)], block: usize, run: usize) -> bool {
+    let ends = run + 1 < runs.len() && runs[run + 1].0 < ((block + 1) * BLOCK) as u32;
+    !ends && block > 0 && runs[run].0 <= ((block - 1) * BLOCK) as u32
+}
 
-static FIRST_SCRIPTS: [Script; FIRST] = first_values(&SCRIPT_RUNS);
-static FIRST_CATEGORIES: [GeneralCategory; FIRST] = first_values(&GENERAL_CATEGORY_RUNS);
-
-const fn first_values<V: Copy>(runs: &[(u32, V)]) -> [V; FIRST] {
-    let mut values = [runs[0].1; FIRST];
-    let (mut code, mut run) = (0, 0);
-    while code < FIRST {
-        if run + 1 < runs.len() && runs[run + 1].0 <= code as u32 {
-            run += 1;
+const fn pages_of<V: Copy>(runs: &[(u32, V)]) -> Pages {
+    let mut pages = [0; BLOCKS];
+    let (mut block, mut run) = (0, 0);
+    while block < BLOCKS {
+        if block > 0 {
+            let is_new = !has_page_before(runs, block, run);
+            pages[block] = pages[block - 1] + is_new as u16;
         }
-        values[code] = runs[run].1;
-        code += 1;
+        run = run_behind(runs, block, run);
+        block += 1;
+    }
+    pages
+}
+
+/// How many pages there are.
+const fn page_count<V: Copy>(runs: &[(u32, V)]) -> usize {
+    pages_of(runs)[BLOCKS - 1] as usize + 1
+}
+
+const fn values_of<V: Copy, const COUNT: usize>(runs: &[(u32, V)]) -> [[V; BLOCK]; COUNT] {
+    let pages = pages_of(runs);
+    let mut values = [[runs[0].1; BLOCK]; COUNT];
+    let (mut block, mut run) = (0, 0);
+    while block < BLOCKS {
+        if block == 0 || pages[block] != pages[block - 1] {
+            values[pages[block] as usize] = page_at(runs, block, run);
+        }
+        run = run_behind(runs, block, run);
+        block += 1;
     }
     values
 }
 
-/// The value of a code point.
-#[inline]
-fn value_of<V: Copy>(first: &[V; FIRST], runs: &[(u32, V)], index: &Index, code: u32) -> V {
-    match first.get(code as usize) {
-        Some(value) => *value,
-        None => value_in(runs, index, code),
+/// The values of a block that begins in a run.
+const fn page_at<V: Copy>(runs: &[(u32, V)], block: usize, mut run: usize) -> [V; BLOCK] {
+    let mut page = [runs[run].1; BLOCK];
+    let mut at = 0;
+    while at < BLOCK {
+        if run + 1 < runs.len() && runs[run + 1].0 <= (block * BLOCK + at) as u32 {
+            run += 1;
+        }
+        page[at] = runs[run].1;
+        at += 1;
     }
+    page
 }
 
-/// The value of the run that a code point lies in: one of those of its block. The first run begins at 0.
-fn value_in<V: Copy>(runs: &[(u32, V)], index: &Index, code: u32) -> V {
-    let block = (code / BLOCK) as usize;
-    let near = &runs[index[block] as usize..=index[block + 1] as usize];
-    near[near.partition_point(|run| run.0 <= code) - 1].1
+/// The value of a character.
+#[inline]
+fn value_of<V: Copy>(pages: &Pages, values: &[[V; BLOCK]], c: char) -> V {
+    let code = c as usize;
+    values[pages[code / BLOCK] as usize][code % BLOCK]
 }
 
 impl Script {
     /// The script of a character.
     #[inline]
     pub fn for_char(c: char) -> Self {
-        value_of(&FIRST_SCRIPTS, &SCRIPT_RUNS, &SCRIPT_INDEX, c as u32)
+        value_of(&SCRIPT_PAGES, &SCRIPTS, c)
     }
 }
 
@@ -85,12 +108,7 @@ impl GeneralCategory {
     /// The general category of a character.
     #[inline]
     pub fn for_char(c: char) -> Self {
-        value_of(
-            &FIRST_CATEGORIES,
-            &GENERAL_CATEGORY_RUNS,
-            &GENERAL_CATEGORY_INDEX,
-            c as u32,
-        )
+        value_of(&CATEGORY_PAGES, &CATEGORIES, c)
     }
 }
 

@@ -8,6 +8,7 @@ use crate::font::FontForms;
 use crate::indic::configuration::IndicConfiguration;
 use crate::indic::final_order::order_finally;
 use crate::indic::reordering::order_initially;
+use crate::item::{is_ligated, is_multiplied};
 use crate::machine::Grammar;
 use crate::syllables::find_syllables;
 use rb_common::{Script, Tag, script};
@@ -107,7 +108,16 @@ impl IndicPlan {
         ensures closed { buffer.new.have_output ≡ false }
         ensures keeps { KeepsNumbers buffer.old buffer.new }
     {
-        order_finally(buffer, self, self.virama_glyph(font));
+        let virama = if buffer
+            .info()
+            .iter()
+            .any(|info| is_ligated(info) && is_multiplied(info))
+        {
+            self.virama_glyph(font)
+        } else {
+            None
+        };
+        order_finally(buffer, self, virama);
     }
 
     /// The glyph of the halant; `None` where the font has none.

@@ -9,6 +9,7 @@ use crate::syllabic_shapers::font::FontForms;
 use crate::syllabic_shapers::indic::configuration::IndicConfiguration;
 use crate::syllabic_shapers::indic::final_order::order_finally;
 use crate::syllabic_shapers::indic::reordering::order_initially;
+use crate::syllabic_shapers::item::{is_ligated, is_multiplied};
 use crate::syllabic_shapers::machine::Grammar;
 use crate::syllabic_shapers::syllables::find_syllables;
 use crate::syllable_tables::machines::indic_machine;
@@ -146,7 +147,16 @@ impl IndicPlan {
     #[inline]
     pub fn final_reordering<F: FontForms>(&self, buffer: &mut hb_buffer_t, font: &F) {
         debug_assert!(!buffer.have_output());
-        order_finally(buffer, self, self.virama_glyph(font));
+        let virama = if buffer
+            .info()
+            .iter()
+            .any(|info| is_ligated(info) && is_multiplied(info))
+        {
+            self.virama_glyph(font)
+        } else {
+            None
+        };
+        order_finally(buffer, self, virama);
     }
 
     /// The glyph of the halant; `None` where the font has none.
