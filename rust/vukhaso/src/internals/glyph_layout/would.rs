@@ -106,14 +106,25 @@ fn ligature_would(subtable: &Subtable, glyphs: &[u32], budget: &mut Budget) -> b
     false
 }
 
-/// Whether a ligature has these components.
+/// Whether a ligature has these components. Mostly the second is another one.
 fn is_made_of(ligature: &[u8], glyphs: &[u32]) -> bool {
+    if has_other_second(ligature, glyphs) {
+        return false;
+    }
     let components = tail(ligature, 4);
     u16_at(ligature, 2).is_some_and(|count| usize::from(count) == glyphs.len())
         && glyphs.iter().skip(1).enumerate().all(|(number, glyph)| {
             u16_at(components, number.saturating_mul(2))
                 .is_some_and(|component| u32::from(component) == *glyph)
         })
+}
+
+/// Whether the second component of a ligature is not the second of these glyphs.
+fn has_other_second(ligature: &[u8], glyphs: &[u32]) -> bool {
+    match (u16_at(ligature, 4), glyphs.get(1)) {
+        (Some(own), Some(second)) => u32::from(own) != *second,
+        _ => false,
+    }
 }
 
 /// Whether a context has a rule for these glyphs.
