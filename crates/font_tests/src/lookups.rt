@@ -4,6 +4,7 @@
 mod contexts;
 mod edits;
 mod glyphs;
+mod limits;
 
 use font_tables::bytes::tail;
 use font_tables::gdef::Gdef;

@@ -6,6 +6,7 @@
 mod contexts;
 mod edits;
 mod glyphs;
+mod limits;
 
 use vukhaso::internals::font_tables::bytes::tail;
 use vukhaso::internals::font_tables::gdef::Gdef;
