@@ -34,6 +34,7 @@ fn options_are_read(rt: HostRuntime) -> Result<(), Fail> {
     let ned = SerializeFlags::NO_CLUSTERS.union(SerializeFlags::NO_ADVANCES);
     assert_eq!(rt; options.output.flags.bits(), ned.bits());
     assert!(rt; options.output.format == OutputFormat::Text);
+    assert!(rt; !options.output.trace);
     assert_eq!(rt; options.iterations, 1);
     assert!(rt; options.line.direction == Direction::TopToBottom);
     assert!(rt; options.line.cluster_level == BufferClusterLevel::MonotoneCharacters);
@@ -46,7 +47,7 @@ fn options_are_read(rt: HostRuntime) -> Result<(), Fail> {
 #[test]
 fn options_of_one_letter_are_read(rt: HostRuntime) -> Result<(), Fail> {
     let words = [
-        "program", "font", "-y", "2", "-n3", "-u", "41", "-v", "-o", "a.json",
+        "program", "font", "-y", "2", "-n3", "-u", "41", "-v", "-V", "-o", "a.json",
     ];
     let options = options_of(rt.alloc(), &words).ok().ok_or("read")?;
     let shown = options.output.shown;
@@ -54,6 +55,7 @@ fn options_of_one_letter_are_read(rt: HostRuntime) -> Result<(), Fail> {
     assert_eq!(rt; options.iterations, 3);
     assert!(rt; matches!(&options.text, TextSource::CodePoints(_)));
     assert!(rt; shown.text && shown.characters && shown.number);
+    assert!(rt; options.output.trace);
     let ned = SerializeFlags::NO_CLUSTERS.union(SerializeFlags::NO_ADVANCES);
     assert_eq!(rt; options.output.flags.bits(), ned.bits());
     assert!(rt; options.output_file == Some("a.json"));

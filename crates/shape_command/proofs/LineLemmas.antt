@@ -10,7 +10,7 @@ use Rattle.std.specs.Io.KnownBytes.{Appends, Consumes, IsAtEnd}
 use Rattle.line_formats.specs.Heads.{head}
 use Rattle.shape_options.specs.declared.output.Output.{Output}
 use Rattle.shape_command.specs.Lines.{lines_of, with_first, EachAnswered, transcript, TakesLine, AnswersAll}
-use Rattle.shape_command.specs.Lines.{AnswersParagraph, paragraph_of, IsAnswer, IsList, IsShown, Shows}
+use Rattle.shape_command.specs.Lines.{AnswersParagraph, paragraph_of, IsAnswer, IsList, IsShown, IsTrace, Shows}
 use Rattle.shape_command.specs.Lines.{without_line_feed}
 use Rattle.std.proofs.Common.{nat_lt, ◌&&◌}
 use Rattle.std.proofs.lemmas.Bool.Decides.{nat_tests}
@@ -272,18 +272,22 @@ one_paragraph is_answer (Some text) (Some rest) w x old taken bytes line none e 
     one (b ∷ more) q = (subst (λ line. is_answer 1 line shown.0) (same ∙ q) shown.1, tt)
 
 -- what stands before an answer, and the answer
-pub shows : (o : Output) (n : ℕ) (line characters answer before : List ℕ) (x y z : Option (List ℕ)) → IsList characters
-    → IsAnswer o answer → before ≡ head o.shown n line characters → Appends x y before → Appends y z (answer ++ 10 ∷ [])
-    → Shows (IsShown o) n line x z
-shows o n line characters answer before x y z list printed e told more = (
-  before ++ answer,
+pub shows : (o : Output) (n : ℕ) (line trace characters answer before : List ℕ) (w x y z : Option (List ℕ)) → IsTrace o trace
+    → IsList characters → IsAnswer o answer → before ≡ head o.shown n line characters → Appends w x trace
+    → Appends x y before → Appends y z (answer ++ 10 ∷ []) → Shows (IsShown o) n line w z
+shows o n line trace characters answer before w x y z traced list printed e steps told more = (
+  trace ++ (before ++ answer),
   record {
+    trace = trace;
     characters = characters;
     answer = answer;
+    is_trace = traced;
     is_list = list;
     is_answer = printed;
-    is = ap (λ l. l ++ answer) e;
+    is = ap (λ l. trace ++ (l ++ answer)) e;
   },
-  subst (Appends x z) (sym (append_assoc before answer (10 ∷ [])))
-      (appends_both x y z before (answer ++ 10 ∷ []) told more),
+  subst (Appends w z) (sym (append_assoc trace (before ++ answer) (10 ∷ [])))
+      (appends_both w x z trace ((before ++ answer) ++ 10 ∷ []) steps
+      (subst (Appends x z) (sym (append_assoc before answer (10 ∷ [])))
+      (appends_both x y z before (answer ++ 10 ∷ []) told more))),
 )

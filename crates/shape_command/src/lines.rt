@@ -7,6 +7,7 @@ ghost use Rattle.shape_command.specs.Answer.{answer_text};
 ghost use Rattle.shape_command.specs.Lines.{TakesLine, without_line_feed, AnswersAll, AnswersParagraph, IsShown, Shows, unverified_line};
 
 use crate::shaper::{Answer, LineNames, LineShaper, LineState};
+use crate::trace::trace_lines;
 use font_shaper::VerifyError;
 use line_formats::heads::head;
 use std::alloc::{AllocError, Global};
@@ -100,6 +101,8 @@ fn answer_line<N: LineNames, W: Write>(
         (W.contents writer.old) (W.contents writer.new)) }
 {
     let answered = shaper.answer(alloc, state, line)?;
+    let trace = trace_lines(alloc, shaper, &mut state.names, number, &answered.trace)?;
+    put(writer, trace.as_slice())?;
     let characters = answered.characters.as_slice();
     let before = head(alloc, shaper.output.shown, number, line, characters)?;
     put(writer, before.as_slice())?;

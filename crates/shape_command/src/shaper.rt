@@ -10,9 +10,10 @@ use crate::fallback::shape_fallback;
 use crate::glyph_line::read_glyphs;
 use crate::synthetic_font::SyntheticFont;
 use crate::text::{emptied, empty_text, fill, lossy_text};
+use crate::trace::Trace;
 use font_shaper::{
-    Face, FaceNames, KeptPlans, ShapeError, VerifyError, shape_with_functions_and_plans,
-    shape_with_kept_plans,
+    Face, FaceNames, KeptPlans, ShapeError, VerifyError, shape_watched,
+    shape_with_functions_and_plans, shape_with_functions_watched, shape_with_kept_plans,
 };
 use line_formats::characters::characters_list;
 use line_formats::json::glyphs_json;
@@ -82,6 +83,8 @@ impl Answer {
 /// What is printed of a line.
 #[derive(Debug, Drop)]
 pub struct Answered {
+    /// The steps of its shaping; none where they are not printed.
+    pub trace: Trace,
     /// The list of its characters; empty where that is not shown.
     pub characters: Vec<u8>,
     /// What it is answered with.
@@ -183,8 +186,13 @@ impl LineShaper<'_> {
         ensures list { IfOk result (λ answered. IsList answered.characters.items) }
     {
         let characters = self.characters(alloc, line)?;
-        let answer = self.answer_to_line(alloc, state, line)?;
-        Ok(Answered { characters, answer })
+        let mut trace = Trace::new(alloc);
+        let answer = self.answer_to_line(alloc, state, &mut trace, line)?;
+        Ok(Answered {
+            trace,
+            characters,
+            answer,
+        })
     }
 
     /// What a line is answered with, which is a text or writes glyphs.
@@ -192,6 +200,7 @@ impl LineShaper<'_> {
         &self,
         alloc: Global,
         state: &mut LineState<N>,
+        trace: &mut Trace,
         line: &str,
     ) -> Result<Answer, AllocError>
         ensures { IfOk result (λ answer. IsAnswer self.now.output (answer_text answer)) }
@@ -199,8 +208,8 @@ impl LineShaper<'_> {
         if self.options.glyphs {
             return self.answer_to_glyphs(alloc, state, line);
         }
-        self.shape_unprinted(alloc, state, line)?;
-        let answer = self.shape(alloc, state, line)?;
+        self.shape_unprinted(alloc, state, trace, line)?;
+        let answer = self.shape(alloc, state, trace, line)?;
         Ok(answer)
     }
 
@@ -248,6 +257,7 @@ impl LineShaper<'_> {
         &self,
         alloc: Global,
         state: &mut LineState<N>,
+        trace: &mut Trace,
         line: &str,
     ) -> Result<(), AllocError> {
         for _ in 1..self.iterations {
@@ -255,7 +265,7 @@ impl LineShaper<'_> {
             if !fill(alloc, self.options, line, &mut text)? {
                 return Ok(());
             }
-            match self.shape_text(&mut state.kept.plans, text) {
+            match self.shape_text(&mut state.kept.plans, trace, text) {
                 Ok(glyphs) => state.kept.text = Some(glyphs.clear()),
                 Err(ShapeError::Memory) => return Err(AllocError),
                 Err(_) => return Ok(()),
@@ -269,6 +279,7 @@ impl LineShaper<'_> {
         &self,
         alloc: Global,
         state: &mut LineState<N>,
+        trace: &mut Trace,
         line: &str,
     ) -> Result<Answer, AllocError>
         ensures { IfOk result (λ answer. IsAnswer self.now.output (answer_text answer)) }
@@ -278,7 +289,7 @@ impl LineShaper<'_> {
             return Ok(Answer::Failed);
         }
         let edits = self.edits(text.direction());
-        match self.shape_text(&mut state.kept.plans, text) {
+        match self.shape_text(&mut state.kept.plans, trace, text) {
             Ok(glyphs) => self.print_edited(alloc, state, &edits, glyphs),
             Err(ShapeError::TooLong) => Ok(Answer::Failed),
             Err(ShapeError::OtherPlan) => Ok(Answer::Failed),
@@ -291,16 +302,33 @@ impl LineShaper<'_> {
     fn shape_text(
         &self,
         plans: &mut KeptPlans,
+        trace: &mut Trace,
         text: UnicodeBuffer,
     ) -> Result<GlyphBuffer, ShapeError> {
-        let features = self.options.features.as_slice();
         if self.options.shaper == Shaper::Fallback {
             return Ok(shape_fallback(&self.font, text)?);
         }
+        if self.output.trace {
+            return self.shape_traced(trace, text);
+        }
+        let features = self.options.features.as_slice();
         if self.font.is_plain() {
             return shape_with_kept_plans(self.face, features, plans, text);
         }
         shape_with_functions_and_plans(self.face, &self.font, features, plans, text)
+    }
+
+    /// Shapes a text, whose steps are kept to be printed.
+    fn shape_traced(
+        &self,
+        trace: &mut Trace,
+        text: UnicodeBuffer,
+    ) -> Result<GlyphBuffer, ShapeError> {
+        let features = self.options.features.as_slice();
+        if self.font.is_plain() {
+            return shape_watched(self.face, features, text, trace);
+        }
+        shape_with_functions_watched(self.face, &self.font, features, text, trace)
     }
 
     /// What the options change of the glyphs of a text in this direction.

@@ -25,6 +25,8 @@ pub struct Output {
     pub flags: SerializeFlags,
     /// What stands before the answer to a line.
     pub shown: Shown,
+    /// Whether the steps of shaping are printed before that.
+    pub trace: bool,
 }
 
 /// What the words of a command line say of the output.
@@ -33,6 +35,7 @@ pub(crate) fn output_of<'a>(matches: &ArgMatches<'a>) -> Result<Output, OptionsE
         format: format_of(matches)?,
         flags: flags_of(matches),
         shown: shown_of(matches),
+        trace: matches.get_flag("trace"),
     })
 }
 

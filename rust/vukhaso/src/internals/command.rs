@@ -17,3 +17,4 @@ pub mod run;
 pub mod shaper;
 pub mod synthetic_font;
 pub mod text;
+pub mod trace;

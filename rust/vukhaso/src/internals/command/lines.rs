@@ -3,6 +3,7 @@
 //! The lines of a text, and their answers.
 
 use crate::command::shaper::{Answer, LineNames, LineShaper, LineState};
+use crate::command::trace::trace_lines;
 use crate::font_shaper::VerifyError;
 use crate::host::io::{self, BufRead, ErrorKind, Read, Write};
 use crate::line_formats::heads::head;
@@ -108,6 +109,8 @@ fn answer_line<N: LineNames, W: Write>(
     writer: &mut W,
 ) -> Result<bool, LinesError> {
     let answered = shaper.answer(state, line)?;
+    let trace = trace_lines(shaper, &mut state.names, number, &answered.trace)?;
+    put(writer, trace.as_slice())?;
     let characters = answered.characters.as_slice();
     let before = head(shaper.output.shown, number, line, characters)?;
     put(writer, before.as_slice())?;

@@ -11,9 +11,10 @@ use crate::command::fallback::shape_fallback;
 use crate::command::glyph_line::read_glyphs;
 use crate::command::synthetic_font::SyntheticFont;
 use crate::command::text::{emptied, empty_text, fill, lossy_text};
+use crate::command::trace::Trace;
 use crate::font_shaper::{
-    Face, FaceNames, KeptPlans, ShapeError, VerifyError, shape_with_functions_and_plans,
-    shape_with_kept_plans,
+    Face, FaceNames, KeptPlans, ShapeError, VerifyError, shape_watched,
+    shape_with_functions_and_plans, shape_with_functions_watched, shape_with_kept_plans,
 };
 use crate::line_formats::characters::characters_list;
 use crate::line_formats::json::glyphs_json;
@@ -92,6 +93,8 @@ impl Answer {
 /// What is printed of a line.
 #[derive(Debug)]
 pub struct Answered {
+    /// The steps of its shaping; none where they are not printed.
+    pub trace: Trace,
     /// The list of its characters; empty where that is not shown.
     pub characters: Vec<u8>,
     /// What it is answered with.
@@ -207,8 +210,13 @@ impl LineShaper<'_> {
         line: &str,
     ) -> Result<Answered, AllocError> {
         let characters = self.characters(line)?;
-        let answer = self.answer_to_line(state, line)?;
-        Ok(Answered { characters, answer })
+        let mut trace = Trace::new();
+        let answer = self.answer_to_line(state, &mut trace, line)?;
+        Ok(Answered {
+            trace,
+            characters,
+            answer,
+        })
     }
 
     /// What a line is answered with, which is a text or writes glyphs.
@@ -216,13 +224,14 @@ impl LineShaper<'_> {
         &self,
 
         state: &mut LineState<N>,
+        trace: &mut Trace,
         line: &str,
     ) -> Result<Answer, AllocError> {
         if self.options.glyphs {
             return self.answer_to_glyphs(state, line);
         }
-        self.shape_unprinted(state, line)?;
-        let answer = self.shape(state, line)?;
+        self.shape_unprinted(state, trace, line)?;
+        let answer = self.shape(state, trace, line)?;
         Ok(answer)
     }
 
@@ -266,6 +275,7 @@ impl LineShaper<'_> {
         &self,
 
         state: &mut LineState<N>,
+        trace: &mut Trace,
         line: &str,
     ) -> Result<(), AllocError> {
         for _ in 1..self.iterations {
@@ -273,7 +283,7 @@ impl LineShaper<'_> {
             if !fill(self.options, line, &mut text)? {
                 return Ok(());
             }
-            match self.shape_text(&mut state.kept.plans, text) {
+            match self.shape_text(&mut state.kept.plans, trace, text) {
                 Ok(glyphs) => state.kept.text = Some(glyphs.clear()),
                 Err(ShapeError::Memory) => return Err(AllocError),
                 Err(_) => return Ok(()),
@@ -287,6 +297,7 @@ impl LineShaper<'_> {
         &self,
 
         state: &mut LineState<N>,
+        trace: &mut Trace,
         line: &str,
     ) -> Result<Answer, AllocError> {
         let mut text = state.kept.take_text(self.options);
@@ -294,7 +305,7 @@ impl LineShaper<'_> {
             return Ok(Answer::Failed);
         }
         let edits = self.edits(text.direction());
-        match self.shape_text(&mut state.kept.plans, text) {
+        match self.shape_text(&mut state.kept.plans, trace, text) {
             Ok(glyphs) => self.print_edited(state, &edits, glyphs),
             Err(ShapeError::TooLong) => Ok(Answer::Failed),
             Err(ShapeError::OtherPlan) => Ok(Answer::Failed),
@@ -307,16 +318,33 @@ impl LineShaper<'_> {
     fn shape_text(
         &self,
         plans: &mut KeptPlans,
+        trace: &mut Trace,
         text: UnicodeBuffer,
     ) -> Result<GlyphBuffer, ShapeError> {
-        let features = self.options.features.as_slice();
         if self.options.shaper == Shaper::Fallback {
             return Ok(shape_fallback(&self.font, text)?);
         }
+        if self.output.trace {
+            return self.shape_traced(trace, text);
+        }
+        let features = self.options.features.as_slice();
         if self.font.is_plain() {
             return shape_with_kept_plans(self.face, features, plans, text);
         }
         shape_with_functions_and_plans(self.face, &self.font, features, plans, text)
+    }
+
+    /// Shapes a text, whose steps are kept to be printed.
+    fn shape_traced(
+        &self,
+        trace: &mut Trace,
+        text: UnicodeBuffer,
+    ) -> Result<GlyphBuffer, ShapeError> {
+        let features = self.options.features.as_slice();
+        if self.font.is_plain() {
+            return shape_watched(self.face, features, text, trace);
+        }
+        shape_with_functions_watched(self.face, &self.font, features, text, trace)
     }
 
     /// What the options change of the glyphs of a text in this direction.

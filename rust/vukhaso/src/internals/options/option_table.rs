@@ -39,7 +39,7 @@ pub(crate) const GROUPS: [(&str, &str, &str); 9] = [
 ];
 
 /// The options. Those of no group are shown in the help on all.
-pub(crate) const OPTIONS: [Row; 60] = [
+pub(crate) const OPTIONS: [Row; 61] = [
     ("face", "font-file", "FILE", "The font"),
     (
         "face",
@@ -339,6 +339,12 @@ pub(crate) const OPTIONS: [Row; 60] = [
     ),
     (
         "output-syntax",
+        "trace",
+        "",
+        "Print before each answer the glyphs after each step of shaping",
+    ),
+    (
+        "output-syntax",
         "svg",
         "",
         "Draw each step of shaping as a picture in SVG, in place of the glyphs",
@@ -365,6 +371,7 @@ pub(crate) fn letter_of(name: &str) -> Option<char> {
         "num-iterations" => Some('n'),
         "output-file" => Some('o'),
         "output-format" => Some('O'),
+        "trace" => Some('V'),
         _ => None,
     }
 }

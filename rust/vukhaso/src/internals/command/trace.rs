@@ -1,0 +1,152 @@
+// Written by tools/plain_rust from crates/shape_command. Do not edit.
+
+//! The steps of shaping a line, and how they are printed.
+
+use crate::buffer::{GlyphPosition, SerializeFlags, hb_buffer_t, hb_glyph_info_t};
+use crate::command::edits::buffer_of;
+use crate::command::shaper::{Answer, LineNames, LineShaper};
+use crate::command::text::empty_text;
+use crate::font_shaper::{Step, Watch};
+use crate::line_formats::characters::characters_list;
+use crate::line_formats::heads::{Shown, head};
+use crate::memory::{AllocError, String, Vec};
+use crate::options::output::Output;
+
+/// What the buffer is after a step.
+#[derive(Debug)]
+struct Told {
+    step: Step,
+    items: Vec<hb_glyph_info_t>,
+    /// The positions, where they are on.
+    positions: Option<Vec<GlyphPosition>>,
+}
+
+/// The steps of shaping a line, which it is told as the line is shaped.
+#[derive(Debug)]
+pub struct Trace {
+    steps: Vec<Told>,
+}
+
+impl Trace {
+    /// No step yet.
+    pub(crate) fn new() -> Self {
+        Trace { steps: Vec::new() }
+    }
+}
+
+impl Watch for Trace {
+    /// Keeps what the step left.
+    fn step(&mut self, step: Step, buffer: &hb_buffer_t) -> Result<(), AllocError> {
+        let items = Vec::from_slice(buffer.info())?;
+        let positions = if buffer.have_positions() {
+            Some(Vec::from_slice(buffer.pos())?)
+        } else {
+            None
+        };
+        self.steps.push(Told {
+            step,
+            items,
+            positions,
+        })
+    }
+}
+
+/// What is printed of the steps of shaping the line of this number: nothing where that is not asked
+/// for.
+pub(crate) fn trace_lines<N: LineNames>(
+    shaper: &LineShaper<'_>,
+    names: &mut N,
+    number: u64,
+    trace: &Trace,
+) -> Result<Vec<u8>, AllocError> {
+    let mut text = Vec::new();
+    if !shaper.output.trace {
+        return Ok(text);
+    }
+    let shown = Shown {
+        text: false,
+        characters: false,
+        number: shaper.output.shown.number,
+    };
+    let before = head(shown, number, b"", b"")?;
+    for told in trace.steps.iter() {
+        text.extend_from_slice(before.as_slice())?;
+        let words = words_of(told.step)?;
+        text.extend_from_slice(words.as_bytes())?;
+        write_items(shaper, names, told, &mut text)?;
+        text.push(b'\n')?;
+    }
+    Ok(text)
+}
+
+/// What stands before the items that a step left: its message, in HarfBuzz's words where it has one.
+fn words_of(step: Step) -> Result<String, AllocError> {
+    let mut words = String::from_str("trace: ")?;
+    match step {
+        Step::Characters => words.push_str("end normalize")?,
+        Step::Glyphs => words.push_str("end map glyphs")?,
+        Step::Substituted(lookup) | Step::Positioned(lookup) => {
+            write!(words, "end lookup {lookup}")?;
+        }
+        Step::Advances => words.push_str("end position")?,
+        Step::Kerned => words.push_str("end table kern")?,
+        Step::Shaped => words.push_str("end shape")?,
+    }
+    words.push_str("\tbuffer: ")?;
+    Ok(words)
+}
+
+/// Writes the items that a step left.
+fn write_items<N: LineNames>(
+    shaper: &LineShaper<'_>,
+    names: &mut N,
+    told: &Told,
+    text: &mut Vec<u8>,
+) -> Result<(), AllocError> {
+    if matches!(told.step, Step::Characters) {
+        let list = characters_list(told.items.as_slice())?;
+        return text.extend_from_slice(list.as_slice());
+    }
+    match glyphs_answer(shaper, names, told)? {
+        Answer::Glyphs(glyphs) => write_in_brackets(text, glyphs.as_bytes()),
+        Answer::Objects(objects) => write_in_brackets(text, objects.as_slice()),
+        Answer::Empty | Answer::Failed | Answer::Unverified(_) => Ok(()),
+    }
+}
+
+/// Writes bytes in brackets.
+fn write_in_brackets(text: &mut Vec<u8>, bytes: &[u8]) -> Result<(), AllocError> {
+    text.push(b'[')?;
+    text.extend_from_slice(bytes)?;
+    text.push(b']')
+}
+
+/// The glyphs that a step left, as glyphs are answered; without positions where there are none yet.
+fn glyphs_answer<N: LineNames>(
+    shaper: &LineShaper<'_>,
+    names: &mut N,
+    told: &Told,
+) -> Result<Answer, AllocError> {
+    let (positions, flags) = match &told.positions {
+        Some(positions) => (positions.as_slice(), shaper.output.flags),
+        None => {
+            let none: &[GlyphPosition] = &[];
+            (
+                none,
+                shaper.output.flags.union(SerializeFlags::NO_POSITIONS),
+            )
+        }
+    };
+    let text = empty_text(shaper.options);
+    let Some(glyphs) = buffer_of(text, told.items.as_slice(), positions)? else {
+        return Ok(Answer::Failed);
+    };
+    let printer = LineShaper {
+        output: Output {
+            flags,
+            ..shaper.output
+        },
+        ..*shaper
+    };
+    printer.print(names, &glyphs)
+}
