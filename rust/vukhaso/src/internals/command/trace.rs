@@ -47,7 +47,8 @@ impl Watch for Trace {
             step,
             items,
             positions,
-        })
+        })?;
+        Ok(())
     }
 }
 
@@ -118,7 +119,8 @@ fn write_items<N: LineNames>(
 fn write_in_brackets(text: &mut Vec<u8>, bytes: &[u8]) -> Result<(), AllocError> {
     text.push(b'[')?;
     text.extend_from_slice(bytes)?;
-    text.push(b']')
+    text.push(b']')?;
+    Ok(())
 }
 
 /// The glyphs that a step left, as glyphs are answered; without positions where there are none yet.
