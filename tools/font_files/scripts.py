@@ -120,6 +120,15 @@ def indic(name, old=False, bare=False):
     return font(f"Vukhaso {name.title()}", c.codes, tags[:1] if old else tags[1:], rules)
 
 
+def parted(name):
+    """A font of a script of India in which a form below is taken apart again, so that its halant is one, and a half form looks like a halant."""
+    c = Letters(name, False)
+    halant, ra = c(c.HALANT), c(c.RA)
+    rules = {"akhn": [[f"{c(0x15)} {halant} {c(0x37)} > k_ssa"]], "rkrf": [[f"k_ssa > {c(0x15)} {halant} {c(0x37)}"]],
+             "half": [[f"{c(0x16)} {halant} > {halant}"]], "rphf": [[f"{ra} {halant} > reph"]]}
+    return font(f"Vukhaso {name.title()} Parted", c.codes, c.tags.split()[1:], rules)
+
+
 # ---- others with syllables
 
 
@@ -291,7 +300,7 @@ def lao():
 FONTS = {
     **{f"{name}.ttf": partial(indic, name) for name in INDIC},
     **{f"{name}-old.ttf": partial(indic, name, True) for name in ("devanagari", "bengali", "malayalam", "kannada", "oriya", "tamil")},
-    "devanagari-bare.ttf": partial(indic, "devanagari", False, True),
+    "devanagari-bare.ttf": partial(indic, "devanagari", False, True), "devanagari-parted.ttf": partial(parted, "devanagari"),
     "sinhala.ttf": sinhala, "khmer.ttf": khmer, "khmer-stages.ttf": khmer_stages, "myanmar.ttf": myanmar, "myanmar-old.ttf": partial(myanmar, "mymr"),
     **{f"{name}.ttf": partial(universal, name) for name in UNIVERSAL},
     "arabic.ttf": arabic, "arabic-fallback.ttf": arabic_fallback, "syriac.ttf": syriac,
