@@ -2,13 +2,16 @@
 
 The answer of such a row has HarfBuzz's glyphs, positions and flags, and where the parts differ from the whole, the first glyphs of the
 cluster there are marked as unsafe to break and to concatenate too. A row names its script and direction, which are those of the parts.
+
+Beside these it may have marks of what is unsafe to concatenate, and no others. In the files `concatenation-*` those are all that HarfBuzz's
+answers lack: its marks of breaks are the row's, the parts are not asked for, and a row need not name its script.
 """
 
 import re
 from collections import defaultdict
 from dataclasses import replace
 
-UNSAFE = 3
+UNSAFE, UNSAFE_TO_CONCAT = 3, 2
 GLYPH = re.compile(r"(?P<name>[^=|]+)=(?P<cluster>\d+)(?P<rest>[^#|]*)(?:#(?P<flags>\w+))?")
 
 
@@ -46,6 +49,14 @@ def marked(row, whole, said):
         if sum(reversed(halves) if is_backward else halves, []) != shapes(glyphs):
             unsafe.add(cut)
     return written((name, cluster, rest, flags | UNSAFE if cluster in unsafe else flags) for name, cluster, rest, flags in glyphs)
+
+
+def has_marks(answer, wanted):
+    """Whether an answer has the glyphs, positions and flags that are wanted, and no other flag but that of what is unsafe to concatenate."""
+    given, least = ([glyph.partition("#")[::2] for glyph in (said or "").strip("[]").split("|")] for said in (answer, wanted))
+    flags = [(int(own or "0", 16), int(least or "0", 16)) for (_, own), (_, least) in zip(given, least)]
+    is_same = [glyph for glyph, _ in given] == [glyph for glyph, _ in least]
+    return is_same and all(own in (least, least | UNSAFE_TO_CONCAT) for own, least in flags)
 
 
 def answers(program, rows):

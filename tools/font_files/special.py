@@ -182,7 +182,7 @@ def breaks_hidden():
 
 def breaks_lookups():
     """Lookups that drop a glyph of which something hangs on the glyphs beside it: by itself, within a context, and as a component of a ligature."""
-    order = ["gone", "part", "part.then", "part.last", "nest", "nes2", "fall", "fall.last", "frac", "_none", "_a_to_c", "_e_to_f", "_f_to_g"]
+    order = ["gone", "part", "part.then", "part.last", "nest", "nes2", "fall", "fall.last", "frac", "back", "_none", "_a_to_c", "_e_to_f", "_f_to_g"]
 
     def calls(*rows):
         return [(place, order.index(name)) for place, name in rows]
@@ -197,6 +197,7 @@ def breaks_lookups():
         "fall": lay.lookup(6, lay.IGNORE_MARKS, lay.chained_of_coverage([], each("f"), each("b"), calls((0, "_f_to_g")))),
         "fall.last": ligature(lay.IGNORE_MARKS, ("h g", "X"), ("h h g", "Y")),
         "frac": ligature(0, ("g c", "C")),
+        "back": lay.lookup(8, 0, lay.reverse_chained(each("c"), {PLACE["a"]: PLACE["x"]}, [])),
         "_none": lay.lookup(2, 0, lay.sequences({PLACE["m"]: [], PLACE["d"]: []})),
         "_a_to_c": single(a="c"), "_e_to_f": single(e="f"), "_f_to_g": single(f="g"),
     }

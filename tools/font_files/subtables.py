@@ -64,4 +64,21 @@ def one():
     return font([16384], [512] * 32)
 
 
-FONTS = {"subtables.ttc": many, "subtables.ttf": one}
+def sharing(count):
+    """A lookup that makes an a a b, and so many contexts of 60 letters that share one coverage."""
+    context = ot.numbers(6, 0, 1, 8, 3, 0, 60, *[130] * 60, 0, 0) + lay.coverage([A, B, C])
+    single = lookup(1, lay.by_difference([A], B - A))
+    start = 2 + 2 * (count + 1)
+    rows = ot.numbers(count + 1, start, *[start + len(single)] * count) + single + context
+    return ot.font({
+        **tables(NAMES, "Vukhaso Sharing"), "post": ot.post(), "GSUB": layout(rows),
+        "cmap": ot.cmap({(3, 1): ot.segment_mapping({0x20: 1, 0x61: A, 0x62: B, 0x63: C})}),
+    })
+
+
+def shared():
+    """Lookups that share as much as HarfBuzz reads, and more."""
+    return collected([sharing(4), sharing(200)])
+
+
+FONTS = {"subtables.ttc": many, "subtables.ttf": one, "sharing.ttc": shared}

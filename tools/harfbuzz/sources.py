@@ -52,19 +52,29 @@ def with_lists(lists, *more):
     return words
 
 
-def fetched_sources():
-    """The folder of HarfBuzz's sources, which are fetched where they are missing."""
-    found = sorted(FETCHED.glob("harfbuzz-10*/src"))
+def source_of(suite, folder, pattern):
+    """The folder of HarfBuzz's sources of a suite of Debian, which are fetched where they are missing."""
+    found = sorted(folder.glob(f"harfbuzz-{pattern}/src"))
     if not found:
-        FETCHED.mkdir(exist_ok=True)
-        (FETCHED / "harfbuzz.sources").write_text(SOURCES)
-        sources = {"Dir::Etc::sourcelist": FETCHED / "harfbuzz.sources", "Dir::Etc::sourceparts": "-"}
-        words = apt(FETCHED / "lists", *sources.items())
+        folder.mkdir(parents=True, exist_ok=True)
+        (folder / "harfbuzz.sources").write_text(SOURCES.replace("trixie", suite))
+        sources = {"Dir::Etc::sourcelist": folder / "harfbuzz.sources", "Dir::Etc::sourceparts": "-"}
+        words = apt(folder / "lists", *sources.items())
         subprocess.run([*words, "update"], check=True)
-        subprocess.run([*words, "source", "--download-only", "harfbuzz"], cwd=FETCHED, check=True)
-        subprocess.run(["tar", "xf", *FETCHED.glob("harfbuzz_10*.orig.tar.xz")], cwd=FETCHED, check=True)
-        found = sorted(FETCHED.glob("harfbuzz-10*/src"))
+        subprocess.run([*words, "source", "--download-only", "harfbuzz"], cwd=folder, check=True)
+        subprocess.run(["tar", "xf", *folder.glob(f"harfbuzz_{pattern}.orig.tar.xz")], cwd=folder, check=True)
+        found = sorted(folder.glob(f"harfbuzz-{pattern}/src"))
     return found[-1]
+
+
+def fetched_sources():
+    """The folder of HarfBuzz 10's sources."""
+    return source_of("trixie", FETCHED, "10*")
+
+
+def newest_sources():
+    """The folder of the sources of the newest HarfBuzz in Debian."""
+    return source_of("sid", FETCHED / "newest", "*")
 
 
 def unpacked(packages, folder, suites=None, versions=None):

@@ -23,8 +23,8 @@ FONTS = {
 LINES = 3_000
 JOBS = (1, 2, 3, 4, 16)
 
-# A line that is no UTF-8, an empty one, and one that is longer than the piece of a thread.
-ODD = [b"ab\xffc\xc3", b"", b"office " * 4_000]
+# A line that is no UTF-8, an empty one, one that is longer than the piece of a thread, and lines that C's strings cut.
+ODD = [b"ab\xffc\xc3", b"", b"office " * 4_000, b"ab\0cd", b"\0", b"\0" + b"office " * 2_000]
 
 # Words that come to nothing, each behind a font.
 REFUSED = [["--text-file=/"], ["--text-file=/nowhere"], ["--face-index=9", "ab"], ["--nothing"], ["--text=a", "--unicodes=61"], ["--help"]]

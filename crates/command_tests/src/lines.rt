@@ -1,37 +1,84 @@
 //! Lines that are read, and answers that are written.
 
 use shape_command::lines::{LinesError, next_line, write_answer};
+use shape_command::reading::Reading;
 use shape_command::shaper::Answer;
+use shape_options::options::TextSource;
 use std::io::{self, BufRead, ErrorKind, Read, Write};
 use std::test::Fail;
 
-/// A text, and its lines.
-static LINES: [(&[u8], &[&[u8]]); 5] = [
-    (b"", &[]),
-    (b"a", &[b"a"]),
-    (b"a\n", &[b"a"]),
-    (b"a\n\nbc", &[b"a", b"", b"bc"]),
-    (b"\n\n", &[b"", b""]),
+/// A text, how it is read, and its lines.
+static LINES: [(&[u8], Reading, &[&[u8]]); 14] = [
+    (b"", Reading::Strings, &[]),
+    (b"a", Reading::Strings, &[b"a"]),
+    (b"a\n", Reading::Strings, &[b"a"]),
+    (b"a\n\nbc", Reading::Strings, &[b"a", b"", b"bc"]),
+    (b"\n\n", Reading::Strings, &[b"", b""]),
+    (b"ab\0cd\nef\ng", Reading::Strings, &[b"abef", b"g"]),
+    (b"ab\0cd\n\0\n\nef", Reading::Strings, &[b"ab", b"ef"]),
+    (b"\0", Reading::Strings, &[]),
+    (b"x\n\0\n\0", Reading::Strings, &[b"x"]),
+    (b"\n\0", Reading::Strings, &[b""]),
+    (b"ab\0", Reading::Strings, &[b"ab"]),
+    (b"", Reading::Whole, &[]),
+    (b"\0", Reading::Whole, &[b"\0"]),
+    (b"ab\0cd\n\nef", Reading::Whole, &[b"ab\0cd", b"", b"ef"]),
 ];
 
 #[test]
 fn lines_are_taken(rt: HostRuntime) -> Result<(), Fail> {
-    for (text, lines) in &LINES {
+    for (text, reading, lines) in &LINES {
         let mut reader: &[u8] = text;
         let mut line = Vec::new(rt.alloc());
         for wanted in *lines {
             assert!(rt;
-                next_line(&mut reader, &mut line).is_ok_and(|found| found),
+                next_line(rt.alloc(), &mut reader, *reading, &mut line).is_ok_and(|found| found),
                 "{text:?}"
             );
             assert!(rt; line.as_slice() == *wanted, "{text:?}");
         }
         assert!(rt;
-            next_line(&mut reader, &mut line).is_ok_and(|found| !found),
+            next_line(rt.alloc(), &mut reader, *reading, &mut line).is_ok_and(|found| !found),
             "{text:?}"
         );
     }
     Ok(())
+}
+
+/// How many bytes are read before a byte 0 in a line, how many behind it, and how many of these are seen.
+const LONG_LINES: [(usize, usize, usize); 5] = [
+    (5, 8185, 0),
+    (5, 8186, 1),
+    (5, 16_376, 8191),
+    (8190, 3, 3),
+    (8191, 3, 0),
+];
+
+#[test]
+fn strings_have_room_for_8_191_bytes(rt: HostRuntime) -> Result<(), Fail> {
+    for (before, behind, seen) in LONG_LINES {
+        let mut text = Vec::from_elem(rt.alloc(), b'a', before)?;
+        text.push(0)?;
+        text.resize(before + 1 + behind, b'b')?;
+        let mut reader: &[u8] = text.as_slice();
+        let mut line = Vec::new(rt.alloc());
+        let found = next_line(rt.alloc(), &mut reader, Reading::Strings, &mut line);
+        assert!(rt; found.is_ok_and(|found| found));
+        assert!(rt;
+            line.len() == before + seen,
+            "{before} and {behind}: {}",
+            line.len()
+        );
+    }
+    Ok(())
+}
+
+#[test]
+fn words_are_read_whole(rt: HostRuntime) {
+    assert!(rt; Reading::of(&TextSource::Given("a")) == Reading::Whole);
+    assert!(rt; Reading::of(&TextSource::CodePoints(String::new(rt.alloc()))) == Reading::Whole);
+    assert!(rt; Reading::of(&TextSource::File("a")) == Reading::Strings);
+    assert!(rt; Reading::of(&TextSource::Input) == Reading::Strings);
 }
 
 #[test]
@@ -90,8 +137,10 @@ impl Write for Broken<'_> {
 fn failures_are_told(rt: HostRuntime) {
     let mut reader = Broken(b"a\nb");
     let mut line = Vec::new(rt.alloc());
-    assert!(rt; next_line(&mut reader, &mut line).is_ok_and(|found| found));
-    let failed = next_line(&mut reader, &mut line);
+    assert!(rt;
+        next_line(rt.alloc(), &mut reader, Reading::Strings, &mut line).is_ok_and(|found| found)
+    );
+    let failed = next_line(rt.alloc(), &mut reader, Reading::Strings, &mut line);
     assert!(rt; matches!(&failed, Err(LinesError::Read(_))));
     let failed = write_answer(&mut Broken(b""), &Answer::Empty);
     assert!(rt; matches!(&failed, Err(LinesError::Write(_))));

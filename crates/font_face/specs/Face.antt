@@ -6,9 +6,9 @@ use Rattle.font_tables.specs.IgnoredGdef.{is_ignored}
 use Rattle.font_tables.specs.Extents.{long_metric_count, horizontal_extents}
 use Rattle.font_tables.specs.declared.metrics.Metrics.{Metrics}
 use Rattle.font_tables.specs.declared.directory.Tables.{Tables}
-use Rattle.glyph_layout.specs.SubtableLimit.{is_refused}
-use Rattle.character_maps.specs.Choice.{chosen_subtable, chosen_encoding, variation_subtable}
-use Rattle.color_glyphs.specs.Strikes.{wanted_size}
+use Rattle.ot_layout.specs.SubtableLimit.{is_refused}
+use Rattle.font_cmap.specs.Choice.{chosen_subtable, chosen_encoding, variation_subtable}
+use Rattle.font_colors.specs.Strikes.{wanted_size}
 use Rattle.font_face.specs.declared.color.ColorTables.{ColorTables}
 use Rattle.font_face.specs.Tables.{table_in}
 use Rattle.font_face.specs.FaceVariations.{AreVariationsOf}

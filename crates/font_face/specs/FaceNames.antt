@@ -3,8 +3,8 @@ use Rattle.std.specs.Prelude.{ℕ, List, Option, Some, None, option_and_then, if
 use Rattle.std.specs.Option.{option_or}
 use Rattle.std.specs.Str.{is_utf8}
 use Rattle.font_tables.specs.GlyphNames.{glyph_name}
-use Rattle.glyph_outlines.specs.Outlines.{cff_name}
-use Rattle.glyph_outlines.specs.declared.outlines.Outlines.{Outlines}
+use Rattle.font_outlines.specs.Outlines.{cff_name}
+use Rattle.font_outlines.specs.declared.outlines.Outlines.{Outlines}
 
 -- the bytes, if they are text
 abbrev pub text_of : List ℕ → Option (List ℕ)

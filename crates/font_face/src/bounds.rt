@@ -3,11 +3,11 @@
 use crate::color::ColorTables;
 use crate::face::Face;
 use crate::measures::scaled_bounds;
-use color_glyphs::DrawnOutlines;
+use font_colors::DrawnOutlines;
+use font_gvar::{GlyphSources, GlyphVariations, varied_outline};
+use font_outlines::{Cff2Table, Outlines};
 use font_tables::metrics::Metrics;
 use font_tables::scale::Scale;
-use glyph_outlines::{Cff2Table, Outlines};
-use glyph_variations::{GlyphSources, GlyphVariations, varied_outline};
 use rb_common::GlyphId;
 use rb_glyph::GlyphExtents;
 use std::alloc::{AllocError, Global};

@@ -1,11 +1,11 @@
 //! Bounds of bitmaps, and of glyphs that are drawn in colours.
 
-ghost use Rattle.color_glyphs.specs.Strikes.{wanted_size};
+ghost use Rattle.font_colors.specs.Strikes.{wanted_size};
 ghost use Rattle.font_face.specs.Face.{AreColorsOf};
 
 use crate::measures::scaled_bounds;
-use color_glyphs::strikes::wanted_size;
-use color_glyphs::{CbdtTables, ColrTable, PixelBox, SbixTable};
+use font_colors::strikes::wanted_size;
+use font_colors::{CbdtTables, ColrTable, PixelBox, SbixTable};
 use font_tables::directory::Tables;
 use font_tables::scale::Scale;
 use rb_common::{GlyphId, Tag};

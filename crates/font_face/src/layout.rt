@@ -7,7 +7,7 @@ ghost use Rattle.font_face.specs.Face.{IsLayoutOf, is_read, read_table};
 
 use font_tables::bytes::{u16_at, u32_at};
 use font_tables::directory::Tables;
-use glyph_layout::subtable_limit::is_refused;
+use ot_layout::subtable_limit::is_refused;
 use rb_common::Tag;
 
 /// The tables that substitute and position glyphs, each empty where the font has none.

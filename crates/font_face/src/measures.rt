@@ -6,10 +6,10 @@ ghost use Rattle.font_face.specs.Measures.{hor_advance, hor_units, short, extent
 
 use crate::bounds::BoundsSource;
 use crate::face::Face;
+use font_gvar::{Phantoms, VariedOutline, varied_outline, varied_phantoms};
 use font_tables::extents::FontExtents;
 use font_tables::scale::Scale;
 use font_variations::rounding::{float, rounded};
-use glyph_variations::{Phantoms, VariedOutline, varied_outline, varied_phantoms};
 use rb_common::{GlyphId, Tag};
 use rb_glyph::GlyphExtents;
 use std::alloc::AllocError;

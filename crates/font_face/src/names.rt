@@ -6,8 +6,8 @@ ghost use Rattle.font_face.specs.FaceNames.{name_of, name_bytes, text_of};
 
 use crate::bounds::BoundsSource;
 use crate::face::Face;
+use font_outlines::Outlines;
 use font_tables::glyph_names::PostNames;
-use glyph_outlines::Outlines;
 use rb_common::{GlyphId, Tag};
 use rb_glyph::{GlyphExtents, GlyphNames, hb_glyph_info_t};
 use std::alloc::{AllocError, Global};

@@ -5,13 +5,13 @@ ghost use Rattle.font_face.specs.Face.{KeepsItsTables};
 ghost use Rattle.font_face.specs.FaceVariations.{AreVariationsOf, DiffersInChoice};
 
 use crate::face::Face;
+use font_gvar::GlyphVariations;
+use font_outlines::Cff2Table;
 use font_tables::directory::Tables;
 use font_variations::user_variations::value_on;
 use font_variations::{
     AxisMaps, MetricsVariations, ValueVariations, Variation, VariationAxes, VariationStore,
 };
-use glyph_outlines::Cff2Table;
-use glyph_variations::GlyphVariations;
 use rb_common::Tag;
 use std::alloc::{AllocError, Global};
 

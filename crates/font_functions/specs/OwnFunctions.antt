@@ -1,6 +1,6 @@
 -- What a font's own tables answer.
 use Rattle.std.specs.Prelude.{ℕ, ℤ, Bool, [], IsSome, is_some, ◌≡◌}
-use Rattle.character_maps.specs.Codes.{glyph_index}
+use Rattle.font_cmap.specs.Codes.{glyph_index}
 use Rattle.font_face.specs.declared.face.Face.{Face}
 use Rattle.font_face.specs.Measures.{hor_advance}
 

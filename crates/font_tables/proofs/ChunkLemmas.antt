@@ -3,10 +3,11 @@ use Rattle.std.proofs.Common.{◌≡◌, ℕ, zero, suc, ◌+◌, ◌*◌, ◌/�
 use Rattle.std.proofs.lemmas.List.{get_or-take, get_or-drop, length-drop, length-take-le}
 use Rattle.std.proofs.lemmas.Option.{slice_get-get_or}
 use Rattle.std.proofs.Math.Nat.{div-mul-le_self}
-use Rattle.std.specs.Prelude.{slice_get, option_and_then}
+use Rattle.std.specs.Prelude.{slice_get, option_and_then, option_map}
 use Rattle.std.specs.Simd.{first_chunks}
-use Rattle.font_tables.specs.Bytes.{number_16}
+use Rattle.font_tables.specs.Bytes.{number_16, number_32}
 use Rattle.font_tables.specs.Rows.{first_row, Rises}
+use Rattle.std.proofs.lemmas.Grind.{common_steps}
 
 -- a number behind the first bytes of a table
 pub number_16-drop : (first at : ℕ) (bytes : List ℕ) → number_16 (drop first bytes) at ≡ number_16 bytes (first + at)
@@ -119,3 +120,22 @@ rows_cut_16 start size count whole place at bytes rest chunks behind are many wi
       let there : start + (place + size * row) ≡ at + size * row = omega arith in
       rw are (in_rest ∙ cut ∙ number_16-drop start (place + size * row) bytes ∙ ap (number_16 bytes) there);
 }
+
+-- a number of 32 bits is two of 16 bits
+number_32-halves : (bytes : List ℕ) (at : ℕ)
+    → number_32 bytes at
+    ≡ option_and_then (λ high. option_map (λ low. high * 65536 + low) (number_16 bytes (at + 2))) (number_16 bytes at)
+unfolding number_16 number_32
+number_32-halves bytes at = grind (arith, common_steps)
+
+-- the number of 32 bits in a row that is read
+pub number_32-row : (start size row place at : ℕ) (bytes rest chunk : List ℕ) (chunks : List (List ℕ))
+    → rest ≡ drop start bytes
+    → chunks ≡ first_chunks size (length rest / size) rest → row < length chunks → row < (length bytes - start) / size
+    → place + 4 ≤ size → start + place ≡ at → number_32 (get_or chunks row chunk) place ≡ number_32 bytes (at + size * row)
+number_32-row start size row place at bytes rest chunk chunks behind are read inside fits begins =
+    let high = number_16-row start size row place at bytes rest chunk chunks behind are read inside (omega arith) begins in
+    let low =
+    number_16-row start size row (place + 2) (at + 2) bytes rest chunk chunks behind are read inside (omega arith) (omega arith) in
+    let there : at + 2 + size * row ≡ at + size * row + 2 = omega arith in
+    rw (number_32-halves (get_or chunks row chunk) place, number_32-halves bytes (at + size * row), high, low, there) refl

@@ -1,19 +1,17 @@
 //! Class definition tables: a class for each glyph (OpenType specification, "OpenType Layout Common Table Formats", "Class
 //! Definition table").
 
-ghost use Rattle.std.specs.Prelude.{◌≡◌, ◌<◌, ◌+◌, ◌*◌, ◌-◌, ℕ, IsTrue, slice_index, unwrap_or};
+ghost use Rattle.std.specs.Prelude.{◌≡◌, ◌<◌, ◌+◌, ◌*◌, ◌-◌, ℕ, IsTrue, unwrap_or};
 ghost use Rattle.font_tables.specs.Bytes.{number_16};
 ghost use Rattle.font_tables.specs.Rows.{Rises};
 ghost use Rattle.font_tables.specs.ClassDefinition.{listed_class, ranged_class};
 ghost use Rattle.font_tables.specs.GlyphRanges.{range_last, range_count};
+ghost use Rattle.font_tables.specs.Run.{IsClassRun};
 
 use crate::bytes::u16_at;
 use crate::glyph_ranges::{Run, range_count, range_of, ranges_rise, run_from};
 use crate::rows::FEW_ROWS;
 use rb_common::GlyphId;
-
-/// The glyphs whose classes are found at once.
-pub(crate) const FIRST_COUNT: usize = 256;
 
 /// A class definition table.
 ///
@@ -66,15 +64,24 @@ impl<'a> ClassDefinition<'a> {
         self.count <= FEW_ROWS || self.are_rising
     }
 
-    /// The classes of the first glyphs.
+    /// The run of a glyph: itself and those behind it that have their classes of one range, or of none.
     #[tactic(auto, unfolding(crate::specs::ClassDefinition::class_of))]
-    pub(crate) fn first_classes(&self) -> [u16; FIRST_COUNT]
-        ensures { (glyph : ℕ) → glyph < 256 → slice_index result glyph ≡ class_of self.now.table.now glyph }
+    pub(crate) fn run_from(&self, glyph: GlyphId) -> Run
+        ensures goes { glyph.0 < result.end }
+        ensures classes { IsClassRun self.now.table.now result glyph.0 }
     {
         match self.format {
-            1 => listed_classes(self.table),
-            2 => ranged_classes(self.table, self.count, self.are_rising),
-            _ => [0; FIRST_COUNT],
+            1 => Run {
+                first: 0,
+                end: u32::from(glyph.0) + 1,
+                value: listed_class(self.table, glyph).unwrap_or(0),
+            },
+            2 => run_from(self.table, self.count, self.are_rising, glyph),
+            _ => Run {
+                first: 0,
+                end: u32::MAX,
+                value: 0,
+            },
         }
     }
 
@@ -111,36 +118,4 @@ fn ranged_class(table: &[u8], count: u16, are_rising: bool, glyph: GlyphId) -> O
     ensures { result ≡ ranged_class table.now glyph.0 }
 {
     range_of(table, count, are_rising, glyph).map(|range| range.value)
-}
-
-/// The classes of the first glyphs in a list.
-fn listed_classes(table: &[u8]) -> [u16; FIRST_COUNT]
-    ensures { (glyph : ℕ) → glyph < 256 → slice_index result glyph ≡ unwrap_or (listed_class table.now glyph) 0 }
-{
-    let mut classes = [0; FIRST_COUNT];
-    for glyph in 0..FIRST_COUNT {
-        classes[glyph] = listed_class(table, GlyphId(glyph as u16)).unwrap_or(0);
-    }
-    classes
-}
-
-/// The classes of the first glyphs in ranges.
-fn ranged_classes(table: &[u8], count: u16, are_rising: bool) -> [u16; FIRST_COUNT]
-    requires counts { count ≡ range_count table.now }
-    requires rise { IsTrue are_rising → Rises (range_last table.now) count }
-    ensures { (glyph : ℕ) → glyph < 256 → slice_index result glyph ≡ unwrap_or (ranged_class table.now glyph) 0 }
-{
-    let mut classes = [0; FIRST_COUNT];
-    let mut run = Run {
-        first: 0,
-        end: 0,
-        value: 0,
-    };
-    for glyph in 0..FIRST_COUNT {
-        if run.end <= glyph as u32 {
-            run = run_from(table, count, are_rising, GlyphId(glyph as u16));
-        }
-        classes[glyph] = run.value_of(glyph as u32);
-    }
-    classes
 }

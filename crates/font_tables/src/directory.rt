@@ -1,6 +1,6 @@
 //! The fonts of a file and their tables, by their tags (OpenType specification, "OpenType Font File").
 
-ghost use Rattle.std.specs.Prelude.{◌≡◌, IfSome, option_map, unwrap_or, false};
+ghost use Rattle.std.specs.Prelude.{◌≡◌, ◌<◌, ◌+◌, ◌*◌, IfSome, option_map, unwrap_or, false};
 ghost use Rattle.std.specs.Option.{option_map_or};
 ghost use Rattle.font_tables.specs.Bytes.{number_32};
 ghost use Rattle.font_tables.specs.Directory.{face_count, font_of, directory_of, record_count, record_has, table_of_record, is_font_tag};
@@ -128,8 +128,9 @@ fn record_count(file: &[u8], directory: u32) -> u16
     rows_within(file, directory as usize + 12, 16, usize::from(declared)) as u16
 }
 
-/// The first of so many records that has a tag, by its number.
+/// The first of the records that has a tag, by its number.
 fn first_record(file: &[u8], directory: u32, count: u16, tag: Tag) -> Option<u16>
+    requires { count ≡ record_count file.now directory }
     ensures { result ≡ first_below (record_has file.now directory tag.0) count }
 {
     for row in 0..count {
@@ -142,12 +143,22 @@ fn first_record(file: &[u8], directory: u32, count: u16, tag: Tag) -> Option<u16
 
 /// Whether a record has a tag.
 fn has_tag(file: &[u8], directory: u32, row: u16, tag: Tag) -> bool
+    requires { row < record_count file.now directory }
     ensures { result ≡ record_has file.now directory tag.0 row }
 {
-    match u32_at(file, directory as usize + 12 + 16 * usize::from(row)) {
+    match record_tag(file, directory, usize::from(row)) {
         Some(number) => number == tag.0,
         None => false,
     }
+}
+
+/// The tag of a record.
+fn record_tag(file: &[u8], directory: u32, row: usize) -> Option<u32>
+    requires { row < record_count file.now directory }
+    ensures { result ≡ number_32 file.now (directory + 12 + 16 * row) }
+{
+    let (records, _) = tail(file, directory as usize + 12).as_chunks::<16>();
+    u32_at(&records[row], 0)
 }
 
 /// The bytes that a record leads to.

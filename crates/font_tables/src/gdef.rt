@@ -7,9 +7,12 @@ ghost use Rattle.font_tables.specs.Gdef.{glyph_props};
 ghost use Rattle.font_tables.specs.ClassDefinition.{class_of};
 
 use crate::bytes::{table_at_16, table_at_32, u16_at};
-use crate::class_definition::{ClassDefinition, FIRST_COUNT};
+use crate::class_definition::ClassDefinition;
 use crate::coverage::Coverage;
 use rb_common::GlyphId;
+
+/// The glyphs whose properties are found at once.
+const FIRST_COUNT: usize = 256;
 
 /// A table `GDEF`, of version 1.
 #[derive(Clone, Copy, Debug)]
@@ -97,22 +100,17 @@ impl<'a> Gdef<'a> {
 fn props_of(classes: &ClassDefinition<'_>, attachments: &ClassDefinition<'_>, glyph: GlyphId) -> u16
     ensures { result ≡ props (class_of classes.now.table.now glyph.0) (class_of attachments.now.table.now glyph.0) }
 {
-    match classes.class(glyph) {
-        1 => 2,
-        2 => 4,
-        3 => 8 + 256 * (attachments.class(glyph) % 256),
-        _ => 0,
-    }
+    props_for(classes.class(glyph), attachments, glyph)
 }
 
-/// The properties of a glyph of these classes.
-fn props_for(class: u16, attachment: u16) -> u16
-    ensures { result ≡ props class attachment }
+/// The properties of a glyph of this class. Marks alone have an attachment class.
+fn props_for(class: u16, attachments: &ClassDefinition<'_>, glyph: GlyphId) -> u16
+    ensures { result ≡ props class (class_of attachments.now.table.now glyph.0) }
 {
     match class {
         1 => 2,
         2 => 4,
-        3 => 8 + 256 * (attachment % 256),
+        3 => 8 + 256 * (attachments.class(glyph) % 256),
         _ => 0,
     }
 }
@@ -125,11 +123,14 @@ fn first_props(
     ensures { (glyph : ℕ) → glyph < 256 → slice_index result glyph
         ≡ props (class_of classes.now.table.now glyph) (class_of attachments.now.table.now glyph) }
 {
-    let classes = classes.first_classes();
-    let attachments = attachments.first_classes();
     let mut props = [0; FIRST_COUNT];
+    let mut run = classes.run_from(GlyphId(0));
     for glyph in 0..FIRST_COUNT {
-        props[glyph] = props_for(classes[glyph], attachments[glyph]);
+        if run.end <= glyph as u32 {
+            run = classes.run_from(GlyphId(glyph as u16));
+        }
+        let class = run.value_of(glyph as u32);
+        props[glyph] = props_for(class, attachments, GlyphId(glyph as u16));
     }
     props
 }

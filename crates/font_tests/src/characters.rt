@@ -1,7 +1,7 @@
 //! Characters and their glyphs, by the table `cmap`. What is expected comes from the OpenType specification, from the
 //! tests of Annotated OpenType Specification that HarfBuzz has, or from HarfBuzz itself over the same table.
 
-use character_maps::{CharacterMap, Encoding, GlyphVariant};
+use font_cmap::{CharacterMap, Encoding, GlyphVariant};
 use rb_common::GlyphId;
 use std::alloc::{AllocError, Global};
 use std::test::Fail;

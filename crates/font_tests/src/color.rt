@@ -1,7 +1,7 @@
-//! Tests of `color_glyphs`. The boxes in font units are those that HarfBuzz's `hb-shape --show-extents` prints for a font of six
+//! Tests of `font_colors`. The boxes in font units are those that HarfBuzz's `hb-shape --show-extents` prints for a font of six
 //! glyphs with these tables, of which an em has 1,000 units.
-use color_glyphs::strikes::{Strikes, best_strike, wanted_size};
-use color_glyphs::{CbdtTables, ColrTable, PixelBox, SbixTable};
+use font_colors::strikes::{Strikes, best_strike, wanted_size};
+use font_colors::{CbdtTables, ColrTable, PixelBox, SbixTable};
 use rb_common::GlyphId;
 use rb_glyph::GlyphExtents;
 

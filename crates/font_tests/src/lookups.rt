@@ -8,8 +8,8 @@ mod limits;
 
 use font_tables::bytes::tail;
 use font_tables::gdef::Gdef;
-use glyph_layout::lookup_list::SUBSTITUTION_EXTENSION;
-use glyph_layout::{LookupList, LookupOptions};
+use ot_layout::lookup_list::SUBSTITUTION_EXTENSION;
+use ot_layout::{LookupList, LookupOptions};
 use rb_glyph::hb_glyph_info_t;
 use std::alloc::{AllocError, Global};
 

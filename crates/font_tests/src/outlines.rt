@@ -1,9 +1,9 @@
-//! Tests of `glyph_outlines`. The boxes of charstrings are those that HarfBuzz's `hb-shape --show-extents` prints.
-use glyph_outlines::charset::{predefined_charset, string_number, string_of};
-use glyph_outlines::glyf::outline;
-use glyph_outlines::index::{index_count, index_item, index_size, number_of_size};
-use glyph_outlines::standard_strings::standard_string;
-use glyph_outlines::{CffTable, GlyfTables, Outlines};
+//! Tests of `font_outlines`. The boxes of charstrings are those that HarfBuzz's `hb-shape --show-extents` prints.
+use font_outlines::charset::{predefined_charset, string_number, string_of};
+use font_outlines::glyf::outline;
+use font_outlines::index::{index_count, index_item, index_size, number_of_size};
+use font_outlines::standard_strings::standard_string;
+use font_outlines::{CffTable, GlyfTables, Outlines};
 use rb_common::GlyphId;
 use rb_glyph::GlyphExtents;
 

@@ -9,7 +9,7 @@ use Rattle.rb_glyph.specs.declared.flag_sets.SerializeFlags.{SerializeFlags}
 use Rattle.rb_glyph.specs.declared.flag_sets.TheConstants.SerializeFlags.{NO_POSITIONS, NO_ADVANCES}
 use Rattle.rb_glyph.specs.declared.info.hb_glyph_info_t.{hb_glyph_info_t}
 use Rattle.rb_glyph.specs.declared.position.GlyphPosition.{GlyphPosition}
-use Rattle.glyph_text.specs.declared.serialize.Point.{Point}
+use Rattle.glyph_text.specs.declared.parts.Pen.{Pen}
 use Rattle.glyph_text.specs.Text.{Font, has, glyph_text, glyph_texts, glyphs_text, x_advances, y_advances}
 use Rattle.glyph_text.specs.Text.{bar_before, offset_text, advance_text, position_text}
 
@@ -22,7 +22,7 @@ no_position = record { x_advance = pos 0; y_advance = pos 0; x_offset = pos 0; y
 
 -- the glyphs before i are written, and under `NO_ADVANCES` their advances are summed
 pub record Written (font : Font) (flags : SerializeFlags) (infos : List hb_glyph_info_t)
-    (positions : List GlyphPosition) (i : ℕ) (text : List ℕ) (pen : Point) : Type 0 where
+    (positions : List GlyphPosition) (i : ℕ) (text : List ℕ) (pen : Pen) : Type 0 where
   pub written : text ≡ glyphs_text font flags (take i (zip infos positions))
   pub x : has flags NO_ADVANCES ≡ true → pen.x ≡ x_advances (take i positions)
   pub y : has flags NO_ADVANCES ≡ true → pen.y ≡ y_advances (take i positions)

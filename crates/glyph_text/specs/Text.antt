@@ -60,6 +60,10 @@ abbrev pub flags_text : SerializeFlags → ℕ → List ℕ
 flags_text flags mask =
     if not (has flags GLYPH_FLAGS) || bit_and mask DEFINED == 0 then [] else 35 ∷ decimal (bit_and mask DEFINED)
 
+-- the pen moves by the advance of a glyph under `NO_ADVANCES` alone
+abbrev pub moved : SerializeFlags → ℤ → ℤ → ℤ
+moved flags place advance = if has flags NO_ADVANCES then place +ℤ advance else place
+
 -- the extents of a glyph of which the font knows none
 abbrev pub zero_extents : GlyphExtents
 zero_extents = record { x_bearing = pos 0; y_bearing = pos 0; width = pos 0; height = pos 0 }

@@ -6,4 +6,5 @@
 
 pub mod laws;
 mod number_text;
+pub mod parts;
 pub mod serialize;

@@ -1,74 +1,22 @@
 //! Glyphs as a text.
 
-ghost use Rattle.std.specs.Prelude.{◌≡◌, ◌++◌, ◌∷◌, [], true, false, length, IfOk, OnOk, OnErr, ◌+ℤ◌, ◌+◌, ◌<◌, ◌≤◌};
-ghost use Rattle.std.specs.Prelude.{codes, nat_abs, string_bytes, unwrap_or, IfSome, IsSome, ◌↔◌};
+ghost use Rattle.std.specs.Prelude.{◌≡◌, ◌++◌, ◌∷◌, [], length, IfOk, OnOk, OnErr, ◌<◌};
+ghost use Rattle.std.specs.Prelude.{codes, string_bytes, unwrap_or};
 ghost use Rattle.std.specs.Fmt.{decimal, signed_decimal};
 ghost use Rattle.std.specs.List.{zip};
-ghost use Rattle.std.specs.Option.{option_copied};
 ghost use Rattle.glyph_text.specs.Text as texts;
-ghost use Rattle.glyph_text.specs.Text.{has, said_of, bar_before, name_text, cluster_text, offset_text};
+ghost use Rattle.glyph_text.specs.Text.{said_of, bar_before, name_text, cluster_text, offset_text};
 ghost use Rattle.glyph_text.specs.Text.{advance_text, position_text, flags_text, extents_text, box_text};
-ghost use Rattle.glyph_text.specs.Point.{IsNear};
-ghost use Rattle.rb_glyph.specs.declared.flag_sets.TheConstants.SerializeFlags.{NO_ADVANCES, NO_GLYPH_NAMES};
-ghost use Rattle.rb_glyph.specs.declared.flag_sets.TheConstants.SerializeFlags.{GLYPH_EXTENTS};
+ghost use Rattle.glyph_text.specs.Pen.{IsNear};
 
 use crate::number_text::NumberText;
+use crate::parts::{Pen, extents_of, name_of};
 use bitflags::Flags;
 use itoa::{Buffer, Integer};
-use rb_common::GlyphId;
 use rb_glyph::{
     GlyphExtents, GlyphNames, GlyphPosition, SerializeFlags, glyph_flag, hb_glyph_info_t,
 };
 use std::alloc::{AllocError, Global};
-
-/// A place relative to the start of the line.
-#[derive(Clone, Copy)]
-struct Point {
-    x: i128,
-    y: i128,
-}
-
-impl Point {
-    fn of_offset(position: &GlyphPosition) -> Point
-        ensures x { result.x ≡ position.now.x_offset }
-        ensures y { result.y ≡ position.now.y_offset }
-    {
-        Point {
-            x: i128::from(position.x_offset),
-            y: i128::from(position.y_offset),
-        }
-    }
-
-    fn plus_offset(self, position: &GlyphPosition) -> Point
-        requires { IsNear self }
-        ensures x { result.x ≡ self.x +ℤ position.now.x_offset }
-        ensures y { result.y ≡ self.y +ℤ position.now.y_offset }
-    {
-        Point {
-            x: self.x + i128::from(position.x_offset),
-            y: self.y + i128::from(position.y_offset),
-        }
-    }
-
-    /// The place after a glyph's advance. It is written only under `NO_ADVANCES`: otherwise it stays, and no position
-    /// is read.
-    #[inline(always)]
-    fn place_behind(self, flags: SerializeFlags, position: &GlyphPosition) -> Point
-        requires { IsNear self }
-        ensures x { has flags NO_ADVANCES ≡ true → result.x ≡ self.x +ℤ position.now.x_advance }
-        ensures y { has flags NO_ADVANCES ≡ true → result.y ≡ self.y +ℤ position.now.y_advance }
-        ensures near_x { nat_abs result.x ≤ nat_abs self.x + 2147483648 }
-        ensures near_y { nat_abs result.y ≤ nat_abs self.y + 2147483648 }
-    {
-        if !flags.contains(SerializeFlags::NO_ADVANCES) {
-            return self;
-        }
-        Point {
-            x: self.x + i128::from(position.x_advance),
-            y: self.y + i128::from(position.y_advance),
-        }
-    }
-}
 
 /// The room that is made for each glyph's text at first. Where the texts are longer, they make more.
 const LIKELY_LENGTH: usize = 16;
@@ -120,14 +68,14 @@ fn write_glyphs<F: GlyphNames>(
         (zip infos.now positions.now)) }
     ensures wants { OnErr result (0 < length infos.now) }
 {
-    let mut pen = Point { x: 0, y: 0 };
+    let mut pen = Pen { x: 0, y: 0 };
     for (i, info) in infos.iter().enumerate() {
         let position = &positions[i];
         write_head(text, font, flags, i, info)?;
         write_position(text, flags, pen, position)?;
         write_flags(text, flags, info)?;
         write_extents(text, font, flags, info)?;
-        pen = pen.place_behind(flags, position);
+        pen = pen.behind(flags, position);
     }
     Ok(())
 }
@@ -222,35 +170,6 @@ fn write_name<F: GlyphNames>(
     }
 }
 
-/// The glyph of this number; none past 16 bits.
-fn glyph_of(info: &hb_glyph_info_t) -> Option<GlyphId>
-    ensures glyph { IfSome result (λ glyph. glyph.0 ≡ info.now.glyph_id) }
-    ensures within { IsSome result ↔ (info.now.glyph_id ≤ 65535) }
-{
-    let number = u16::try_from(info.glyph_id).ok()?;
-    Some(GlyphId(number))
-}
-
-/// The name of a glyph, where the font has one for it.
-fn name_of<'a, F: GlyphNames>(font: &'a F, info: &hb_glyph_info_t) -> Option<&'a str>
-    ensures { option_copied result ≡ said_of (F.name_of font.now) info.now.glyph_id }
-{
-    match glyph_of(info) {
-        Some(glyph) => font.glyph_name(glyph),
-        None => None,
-    }
-}
-
-/// The extents of a glyph, where the font knows them.
-fn extents_of<F: GlyphNames>(font: &F, info: &hb_glyph_info_t) -> Option<GlyphExtents>
-    ensures { result ≡ said_of (F.extents_of font.now) info.now.glyph_id }
-{
-    match glyph_of(info) {
-        Some(glyph) => font.glyph_extents(glyph),
-        None => None,
-    }
-}
-
 fn write_cluster(
     text: &mut String,
     flags: SerializeFlags,
@@ -268,7 +187,7 @@ fn write_cluster(
 fn write_position(
     text: &mut String,
     flags: SerializeFlags,
-    pen: Point,
+    pen: Pen,
     position: &GlyphPosition,
 ) -> Result<(), AllocError>
     requires { IsNear pen }
@@ -281,11 +200,22 @@ fn write_position(
     if flags.contains(SerializeFlags::NO_ADVANCES) {
         return write_offset(text, pen.plus_offset(position));
     }
-    write_offset(text, Point::of_offset(position))?;
+    write_offset(text, offset_of(position))?;
     write_advance(text, position)
 }
 
-fn write_offset(text: &mut String, offset: Point) -> Result<(), AllocError>
+/// The offsets of a glyph.
+fn offset_of(position: &GlyphPosition) -> Pen
+    ensures x { result.x ≡ position.now.x_offset }
+    ensures y { result.y ≡ position.now.y_offset }
+{
+    Pen {
+        x: i128::from(position.x_offset),
+        y: i128::from(position.y_offset),
+    }
+}
+
+fn write_offset(text: &mut String, offset: Pen) -> Result<(), AllocError>
     ensures { OnOk result (string_bytes text.new
         ≡ string_bytes text.old ++ offset_text offset.x offset.y) }
 {
@@ -334,13 +264,7 @@ fn write_extents<F: GlyphNames>(
     if !flags.contains(SerializeFlags::GLYPH_EXTENTS) {
         return Ok(());
     }
-    let extents = extents_of(font, info).unwrap_or(GlyphExtents {
-        x_bearing: 0,
-        y_bearing: 0,
-        width: 0,
-        height: 0,
-    });
-    write_box(text, extents)
+    write_box(text, extents_of(font, info))
 }
 
 fn write_box(text: &mut String, extents: GlyphExtents) -> Result<(), AllocError>

@@ -1,6 +1,6 @@
 //! The OpenType tags of languages, as OpenType's registry of language systems and HarfBuzz have them.
 
-use language_tags::LanguageTags;
+use ot_tags::LanguageTags;
 use rb_text::{Language, LanguageTable, Tag, tags_from_script_and_language};
 use std::test::Fail;
 

@@ -7,9 +7,9 @@ use Rattle.std.specs.List.{zip}
 use Rattle.rb_glyph.specs.declared.flag_sets.SerializeFlags.{SerializeFlags}
 use Rattle.rb_glyph.specs.declared.info.hb_glyph_info_t.{hb_glyph_info_t}
 use Rattle.rb_glyph.specs.declared.position.GlyphPosition.{GlyphPosition}
-use Rattle.glyph_text.specs.Text.{Font}
-use Rattle.line_formats.specs.declared.json.Pen.{Pen}
-use Rattle.line_formats.specs.Json.{comma_before, object, objects_from, glyphs_json, moved}
+use Rattle.glyph_text.specs.declared.parts.Pen.{Pen}
+use Rattle.glyph_text.specs.Text.{Font, moved}
+use Rattle.line_formats.specs.Json.{comma_before, object, objects_from, glyphs_json}
 
 -- what stands for a glyph and for a position where there is none
 abbrev pub no_glyph : hb_glyph_info_t

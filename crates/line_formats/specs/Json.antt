@@ -10,7 +10,7 @@ use Rattle.rb_glyph.specs.declared.glyph_flag.TheConstants.{DEFINED}
 use Rattle.rb_glyph.specs.declared.info.hb_glyph_info_t.{hb_glyph_info_t}
 use Rattle.rb_glyph.specs.declared.names.GlyphExtents.{GlyphExtents}
 use Rattle.rb_glyph.specs.declared.position.GlyphPosition.{GlyphPosition}
-use Rattle.glyph_text.specs.Text.{Font, said_of, has, zero_extents}
+use Rattle.glyph_text.specs.Text.{Font, said_of, has, moved, zero_extents}
 
 -- ---- a string of JSON
 
@@ -77,10 +77,6 @@ object font flags x y g =
     name_member flags (said_of font.name g.0.glyph_id) g.0.glyph_id ++ cluster_member flags g.0.cluster
     ++ (place_members flags x y g.1 ++ advance_members flags g.1)
     ++ (flags_member flags g.0.mask ++ extents_members flags (said_of font.extents g.0.glyph_id) ++ 125 ∷ [])
-
--- the pen moves by the advance of a glyph under `NO_ADVANCES` alone
-abbrev pub moved : SerializeFlags → ℤ → ℤ → ℤ
-moved flags place advance = if has flags NO_ADVANCES then place +ℤ advance else place
 
 -- what stands before the object at a place: a comma, but before the first nothing
 abbrev pub comma_before : ℕ → List ℕ

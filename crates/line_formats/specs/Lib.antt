@@ -1,7 +1,6 @@
 pub mod Characters
 pub mod Heads
 pub mod Json
-pub mod Pen
 -- what the public clauses name of the crates below
 pub use Rattle.rb_glyph.specs.declared.flag_sets.SerializeFlags
 pub use Rattle.rb_glyph.specs.declared.info.hb_glyph_info_t

@@ -1,63 +1,21 @@
 //! Glyphs as JSON.
 
-ghost use Rattle.std.specs.Prelude.{◌≡◌, ◌++◌, ◌∷◌, [], length, IfOk, OnOk, ◌+◌, ◌<◌, ◌≤◌, ◌↔◌, nat_abs, IfSome, IsSome};
-ghost use Rattle.std.specs.Prelude.{unwrap_or, option_map, codes, pos, ◌+ℤ◌};
+ghost use Rattle.std.specs.Prelude.{◌≡◌, ◌++◌, ◌∷◌, [], length, IfOk, OnOk, codes};
 ghost use Rattle.std.specs.Fmt.{decimal, signed_decimal};
 ghost use Rattle.std.specs.List.{zip};
-ghost use Rattle.std.specs.Option.{option_copied};
 ghost use Rattle.glyph_text.specs.Text.{said_of};
 ghost use Rattle.line_formats.specs.Json as objects;
 ghost use Rattle.line_formats.specs.Json.{escaped, escaped_byte, name_member, cluster_member, place_members, advance_members};
-ghost use Rattle.line_formats.specs.Json.{flags_member, extents_members, moved, comma_before, box_members, quoted_name, two};
-ghost use Rattle.line_formats.specs.Pen.{IsNear};
+ghost use Rattle.line_formats.specs.Json.{flags_member, extents_members, comma_before, box_members, quoted_name, two};
+ghost use Rattle.glyph_text.specs.Pen.{IsNear};
 
 use crate::writing::{write_bytes, write_member, write_number, write_two};
 use bitflags::Flags;
-use rb_common::GlyphId;
+use glyph_text::parts::{Pen, extents_of, name_of};
 use rb_glyph::{
     GlyphExtents, GlyphNames, GlyphPosition, SerializeFlags, glyph_flag, hb_glyph_info_t,
 };
 use std::alloc::{AllocError, Global};
-
-/// Where the next glyph is drawn, from the start of the line, under `NO_ADVANCES`; and else the start.
-#[derive(Clone, Copy)]
-struct Pen {
-    x: i128,
-    y: i128,
-}
-
-impl Pen {
-    /// Where a glyph is drawn.
-    #[inline(always)]
-    fn plus_offset(self, position: &GlyphPosition) -> Pen
-        requires { IsNear self }
-        ensures x { result.x ≡ self.x +ℤ position.now.x_offset }
-        ensures y { result.y ≡ self.y +ℤ position.now.y_offset }
-    {
-        Pen {
-            x: self.x + i128::from(position.x_offset),
-            y: self.y + i128::from(position.y_offset),
-        }
-    }
-
-    /// The pen behind a glyph.
-    #[inline(always)]
-    fn behind(self, flags: SerializeFlags, position: &GlyphPosition) -> Pen
-        requires { IsNear self }
-        ensures x { result.x ≡ moved flags self.x position.now.x_advance }
-        ensures y { result.y ≡ moved flags self.y position.now.y_advance }
-        ensures near_x { nat_abs result.x ≤ nat_abs self.x + 2147483648 }
-        ensures near_y { nat_abs result.y ≤ nat_abs self.y + 2147483648 }
-    {
-        if !flags.contains(SerializeFlags::NO_ADVANCES) {
-            return self;
-        }
-        Pen {
-            x: self.x + i128::from(position.x_advance),
-            y: self.y + i128::from(position.y_advance),
-        }
-    }
-}
 
 /// The glyphs as objects of JSON, joined by `,`, as HarfBuzz's `hb_buffer_serialize_glyphs` writes them between brackets. The members of
 /// an object are, in this order:
@@ -177,35 +135,6 @@ fn write_escaped_byte(text: &mut Vec<u8>, byte: u8) -> Result<(), AllocError>
     }
 }
 
-/// The glyph of this number; none past 16 bits.
-fn glyph_of(info: &hb_glyph_info_t) -> Option<GlyphId>
-    ensures glyph { IfSome result (λ glyph. glyph.0 ≡ info.now.glyph_id) }
-    ensures within { IsSome result ↔ (info.now.glyph_id ≤ 65535) }
-{
-    let number = u16::try_from(info.glyph_id).ok()?;
-    Some(GlyphId(number))
-}
-
-/// The name of a glyph, where the font has one for it.
-fn name_of<'a, F: GlyphNames>(font: &'a F, info: &hb_glyph_info_t) -> Option<&'a str>
-    ensures { option_copied result ≡ said_of (F.name_of font.now) info.now.glyph_id }
-{
-    match glyph_of(info) {
-        Some(glyph) => font.glyph_name(glyph),
-        None => None,
-    }
-}
-
-/// The extents of a glyph, where the font knows them.
-fn extents_of<F: GlyphNames>(font: &F, info: &hb_glyph_info_t) -> Option<GlyphExtents>
-    ensures { result ≡ said_of (F.extents_of font.now) info.now.glyph_id }
-{
-    match glyph_of(info) {
-        Some(glyph) => font.glyph_extents(glyph),
-        None => None,
-    }
-}
-
 fn write_cluster(
     text: &mut Vec<u8>,
     flags: SerializeFlags,
@@ -312,13 +241,7 @@ fn write_extents<F: GlyphNames>(
     if !flags.contains(SerializeFlags::GLYPH_EXTENTS) {
         return Ok(());
     }
-    let extents = extents_of(font, info).unwrap_or(GlyphExtents {
-        x_bearing: 0,
-        y_bearing: 0,
-        width: 0,
-        height: 0,
-    });
-    write_box(text, extents)
+    write_box(text, extents_of(font, info))
 }
 
 fn write_box(text: &mut Vec<u8>, extents: GlyphExtents) -> Result<(), AllocError>

@@ -3,11 +3,11 @@
 use crate::bytes::bytes_of;
 use font_tables::scale::Scale;
 use font_variations::Deltas;
-use position_tables::anchors::{
+use ot_gpos_tables::anchors::{
     Anchor, anchor_in, ligature_matrix, mark_anchor, mark_class, named_point,
 };
-use position_tables::contour_points::{ContourPoint, ContourPoints, NoPoints};
-use position_tables::instance::Instance;
+use ot_gpos_tables::contour_points::{ContourPoint, ContourPoints, NoPoints};
+use ot_gpos_tables::instance::Instance;
 use std::alloc::AllocError;
 
 /// Where an anchor is: across and up, and how far it is moved.

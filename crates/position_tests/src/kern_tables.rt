@@ -1,7 +1,7 @@
 //! The table `kern`, after the OpenType specification and Apple's reference manual.
 
 use crate::bytes::bytes_of;
-use position_tables::kern_table::{KernTable, classed_value, pair_row, pair_value};
+use ot_gpos_tables::kern_table::{KernTable, classed_value, pair_row, pair_value};
 use std::alloc::AllocError;
 
 /// A subtable of pairs with the header of Windows, for horizontal lines: 10 and 11 by -51, and 10 and 12 by 30.

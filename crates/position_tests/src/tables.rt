@@ -3,12 +3,12 @@
 use crate::bytes::bytes_of;
 use font_tables::scale::Scale;
 use font_variations::Deltas;
-use position_tables::devices::{delta_pixels, device_delta, x_correction, y_correction};
-use position_tables::instance::Instance;
-use position_tables::pairs::{
+use ot_gpos_tables::devices::{delta_pixels, device_delta, x_correction, y_correction};
+use ot_gpos_tables::instance::Instance;
+use ot_gpos_tables::pairs::{
     PairValues, classed_pair, listed_pair, pair_formats, pair_set, second_row, single_values,
 };
-use position_tables::values::{ValueRecord, record_size};
+use ot_gpos_tables::values::{ValueRecord, record_size};
 use rb_glyph::GlyphPosition;
 use std::alloc::{AllocError, Global};
 

@@ -1,11 +1,6 @@
-pub mod Item
-pub mod Joining
-pub mod JoiningRows
-pub mod Listed
-pub mod Flags
 pub mod Hangul
 pub mod Hebrew
-pub mod Masks
-pub mod Moves
 pub mod Thai
 pub mod Shapers
+pub mod Stages
+pub mod Syllables

@@ -1,13 +1,17 @@
 -- Which shaper the text of a script has, and what each shaper asks for.
-use Rattle.std.specs.Prelude.{ℕ, Bool, true, false, List, [], ◌∷◌, Option, Some, None, ◌==◌, ◌&&◌, ◌||◌, ◌%◌, not, if◌then◌else◌, codes}
-use Rattle.std.specs.List.{list_any}
+use Rattle.std.specs.Prelude.{ℕ, Bool, true, false, Option, Some, None, ◌==◌, ◌&&◌, ◌||◌, ◌%◌, not, if◌then◌else◌, codes}
 use Rattle.rb_common.specs.Tag.{tag_of}
 use Rattle.rb_common.specs.Direction.{is_horizontal}
 use Rattle.rb_common.specs.declared.direction.Direction.{Direction}
 use Rattle.std.specs.Option.{option_or}
 use Rattle.rb_glyph.specs.Tables.{composition_of}
 use Rattle.ucd_normal.specs.Composition.{composite}
-use Rattle.syllabic_shapers.specs.Composition.{stays_whole, is_two_part, is_yya, is_mark}
+use Rattle.script_syllables.specs.Composition.{is_mark}
+use Rattle.script_syllables.specs.Scripts.{is_listed}
+use Rattle.script_indic.specs.Composition.{stays_whole, is_yya}
+use Rattle.script_indic.specs.Scripts.{indic_scripts}
+use Rattle.script_universal.specs.Composition.{is_two_part}
+use Rattle.script_universal.specs.Scripts.{universal_scripts, joining_scripts}
 use Rattle.script_shapers.specs.Hebrew.{presentation_forms}
 use Rattle.script_shapers.specs.declared.shaper.NormalizationMode.{NormalizationMode}
 use Rattle.script_shapers.specs.declared.shaper.NormalizationMode.TheVariants as mode
@@ -16,39 +20,6 @@ use Rattle.script_shapers.specs.declared.shaper.ZeroWidthMarks.TheVariants as wi
 use Rattle.script_shapers.specs.declared.shaper.ScriptShaper.{ScriptShaper}
 use Rattle.script_shapers.specs.declared.shaper.ScriptShaper.TheVariants.{Default, Arabic, Hebrew, Hangul, Thai, Indic, Khmer}
 use Rattle.script_shapers.specs.declared.shaper.ScriptShaper.TheVariants.{Myanmar, Universal, UniversalJoining, Zawgyi, Plain}
-
--- the scripts that OpenType has the Indic shaper for, by their ISO 15924 tags
-abbrev pub indic_scripts : List ℕ
-indic_scripts =
-    tag_of (codes "Beng") ∷ tag_of (codes "Deva") ∷ tag_of (codes "Gujr") ∷ tag_of (codes "Guru") ∷ tag_of (codes "Knda") ∷ tag_of (codes "Mlym") ∷
-    tag_of (codes "Orya") ∷ tag_of (codes "Taml") ∷ tag_of (codes "Telu") ∷ []
-
--- those that the universal shaper serves
-abbrev pub universal_scripts : List ℕ
-universal_scripts =
-    tag_of (codes "Adlm") ∷ tag_of (codes "Ahom") ∷ tag_of (codes "Bali") ∷ tag_of (codes "Batk") ∷ tag_of (codes "Bhks") ∷ tag_of (codes "Brah") ∷
-    tag_of (codes "Bugi") ∷ tag_of (codes "Buhd") ∷ tag_of (codes "Cakm") ∷ tag_of (codes "Cham") ∷ tag_of (codes "Chrs") ∷ tag_of (codes "Cpmn") ∷
-    tag_of (codes "Diak") ∷ tag_of (codes "Dogr") ∷ tag_of (codes "Dupl") ∷ tag_of (codes "Egyp") ∷ tag_of (codes "Elym") ∷ tag_of (codes "Gara") ∷
-    tag_of (codes "Gong") ∷ tag_of (codes "Gonm") ∷ tag_of (codes "Gran") ∷ tag_of (codes "Gukh") ∷ tag_of (codes "Hano") ∷ tag_of (codes "Hmng") ∷
-    tag_of (codes "Hmnp") ∷ tag_of (codes "Java") ∷ tag_of (codes "Kali") ∷ tag_of (codes "Kawi") ∷ tag_of (codes "Khar") ∷ tag_of (codes "Khoj") ∷
-    tag_of (codes "Kits") ∷ tag_of (codes "Krai") ∷ tag_of (codes "Kthi") ∷ tag_of (codes "Lana") ∷ tag_of (codes "Lepc") ∷ tag_of (codes "Limb") ∷
-    tag_of (codes "Mahj") ∷ tag_of (codes "Maka") ∷ tag_of (codes "Mand") ∷ tag_of (codes "Mani") ∷ tag_of (codes "Marc") ∷ tag_of (codes "Medf") ∷
-    tag_of (codes "Modi") ∷ tag_of (codes "Mong") ∷ tag_of (codes "Mtei") ∷ tag_of (codes "Mult") ∷ tag_of (codes "Nagm") ∷ tag_of (codes "Nand") ∷
-    tag_of (codes "Newa") ∷ tag_of (codes "Nkoo") ∷ tag_of (codes "Onao") ∷ tag_of (codes "Ougr") ∷ tag_of (codes "Phag") ∷ tag_of (codes "Phlp") ∷
-    tag_of (codes "Plrd") ∷ tag_of (codes "Rjng") ∷ tag_of (codes "Rohg") ∷ tag_of (codes "Saur") ∷ tag_of (codes "Shrd") ∷ tag_of (codes "Sidd") ∷
-    tag_of (codes "Sind") ∷ tag_of (codes "Sinh") ∷ tag_of (codes "Sogd") ∷ tag_of (codes "Sogo") ∷ tag_of (codes "Soyo") ∷ tag_of (codes "Sund") ∷
-    tag_of (codes "Sunu") ∷ tag_of (codes "Sylo") ∷ tag_of (codes "Tagb") ∷ tag_of (codes "Takr") ∷ tag_of (codes "Tale") ∷ tag_of (codes "Tavt") ∷
-    tag_of (codes "Tfng") ∷ tag_of (codes "Tglg") ∷ tag_of (codes "Tibt") ∷ tag_of (codes "Tirh") ∷ tag_of (codes "Tnsa") ∷ tag_of (codes "Todr") ∷
-    tag_of (codes "Toto") ∷ tag_of (codes "Tutg") ∷ tag_of (codes "Vith") ∷ tag_of (codes "Wcho") ∷ tag_of (codes "Yezi") ∷ tag_of (codes "Zanb") ∷ []
-
--- those among them whose letters join
-abbrev pub joining_scripts : List ℕ
-joining_scripts =
-    tag_of (codes "Adlm") ∷ tag_of (codes "Chrs") ∷ tag_of (codes "Rohg") ∷ tag_of (codes "Mand") ∷ tag_of (codes "Mani") ∷ tag_of (codes "Mong") ∷
-    tag_of (codes "Nkoo") ∷ tag_of (codes "Ougr") ∷ tag_of (codes "Phag") ∷ tag_of (codes "Phlp") ∷ tag_of (codes "Sogd") ∷ []
-
-abbrev pub is_listed : List ℕ → ℕ → Bool
-is_listed tags script = list_any (λ tag. tag == script) tags
 
 -- whether a font has a script under the tag of all scripts, or of Latin: it was made for others
 abbrev pub is_for_others : ℕ → Bool

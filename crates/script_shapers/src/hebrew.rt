@@ -5,10 +5,10 @@ ghost use Rattle.shaping_buffer.specs.KeepsClusters.{KeepsClusters};
 ghost use Rattle.rb_glyph.specs.Tables.{composition_of};
 ghost use Rattle.script_shapers.specs.Hebrew.{presentation_forms};
 
-use crate::item::modified_combining_class;
-use crate::moves::{merge, move_back};
 use rb_glyph::modified_combining_class::{CCC10, CCC14, CCC17, CCC18, CCC22};
 use rb_glyph::row_search::value_of_pair;
+use script_items::item::modified_combining_class;
+use script_items::moves::{merge, move_back};
 use shaping_buffer::{hb_buffer_t, hb_glyph_info_t};
 
 /// The classes by which these marks are reordered.

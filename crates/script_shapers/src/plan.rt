@@ -1,13 +1,13 @@
 //! What the features of a font make of a script's shaper.
 
-ghost use Rattle.std.specs.Prelude.{◌≡◌, false};
-ghost use Rattle.glyph_lists.specs.Clusters.{clusters};
-ghost use Rattle.shaping_buffer.specs.KeepsClusters.{KeepsClusters};
-ghost use Rattle.script_shapers.specs.Masks.{with_form_mask};
+ghost use Rattle.std.specs.Prelude.{◌≡◌, ◌≢◌, true, false};
+ghost use Rattle.script_shapers.specs.declared.shaper.ScriptShaper.TheVariants.{Arabic};
 
-use crate::item::shaper_byte;
+use crate::hangul::features::JAMO_FEATURES;
 use crate::shaper::ScriptShaper;
-use shaping_buffer::{hb_buffer_t, hb_glyph_info_t};
+use ot_map::LayoutPlan;
+use rb_common::{Script, Tag, script};
+use script_joining::arabic::features::{FORM_FEATURES, lacks_forms};
 
 /// What the features of a font make of a script's shaper: HarfBuzz's `data_create`.
 #[derive(Clone, Copy, Debug)]
@@ -30,32 +30,43 @@ pub struct ScriptPlan {
     pub masks: [u32; 8],
 }
 
-/// Adds to each item's mask that of the number which it keeps.
-pub(crate) fn add_masks(buffer: &mut hb_buffer_t, masks: &[u32; 8])
-    requires { buffer.old.have_output ≡ false }
-    ensures closed { buffer.new.have_output ≡ false }
-    ensures keeps { KeepsClusters buffer.old buffer.new }
+/// The plan of a shaper, for a script and a font's features. `finds_script` says whether the font's table `GSUB` has the script.
+pub fn script_plan(
+    shaper: ScriptShaper,
+    script: Option<Script>,
+    layout: &LayoutPlan,
+    finds_script: bool,
+) -> ScriptPlan
+    ensures shaper { result.shaper ≡ shaper }
+    ensures pieces { shaper ≢ Arabic → result.has_stch ≡ false }
+    ensures fallback { shaper ≢ Arabic → result.does_fallback ≡ false }
+    ensures found { finds_script ≡ true → result.has_private_use ≡ false }
 {
-    add_masks_to(buffer.info_slice_mut(), masks);
-}
-
-/// Does that with these items.
-#[tactic(auto, using(shaping_buffer::proofs::ClosedKeepsLemmas::clusters_written))]
-fn add_masks_to(infos: &mut [hb_glyph_info_t], masks: &[u32; 8])
-    ensures { clusters infos.new ≡ clusters infos.old }
-{
-    for i in 0..infos.len() {
-        add_mask(&mut infos[i], masks);
+    let is_arabic = shaper == ScriptShaper::Arabic;
+    ScriptPlan {
+        shaper,
+        is_mongolian: script == Some(script::MONGOLIAN),
+        has_private_use: script == Some(script::THAI) && !finds_script,
+        has_stch: is_arabic && layout.one_mask(Tag::from_bytes(b"stch")) != 0,
+        does_fallback: is_arabic && script == Some(script::ARABIC) && lacks_forms(layout),
+        has_gpos_mark: layout.one_mask(Tag::from_bytes(b"mark")) != 0,
+        rlig_mask: layout.one_mask(Tag::from_bytes(b"rlig")),
+        masks: match shaper {
+            ScriptShaper::Arabic | ScriptShaper::UniversalJoining => masks_of(
+                &FORM_FEATURES,
+                layout,
+            ),
+            ScriptShaper::Hangul => masks_of(&JAMO_FEATURES, layout),
+            _ => [0; 8],
+        },
     }
 }
 
-/// Adds to an item's mask that of the number which it keeps.
-fn add_mask(info: &mut hb_glyph_info_t, masks: &[u32; 8])
-    ensures is { info.new ≡ with_form_mask masks.now info.old }
-    ensures cluster { info.new.cluster ≡ info.old.cluster }
-{
-    let byte = usize::from(shaper_byte(info));
-    if byte < 8 {
-        info.mask = info.mask | masks[byte];
+/// The masks of features, from the number 1 on.
+fn masks_of(features: &[&[u8; 4]], layout: &LayoutPlan) -> [u32; 8] {
+    let mut masks = [0; 8];
+    for (mask, name) in masks.iter_mut().skip(1).zip(features.iter()) {
+        *mask = layout.one_mask(Tag::from_bytes(name));
     }
+    masks
 }

@@ -11,23 +11,27 @@ ghost use Rattle.ucd_normal.specs.Decomposition.{canonical_mapping};
 ghost use Rattle.unicode_tables.specs.Mapping.{parts_of};
 ghost use Rattle.script_shapers.specs.Hebrew.{presentation_forms};
 ghost use Rattle.script_shapers.specs.Shapers.{shaper_of, other_shaper_of, syllabic_shaper_of, is_arabic, myanmar_of, indic_of};
-ghost use Rattle.script_shapers.specs.Shapers.{universal_of, is_for_others, is_listed, indic_scripts, wanted_script, mode_of};
+ghost use Rattle.script_shapers.specs.Shapers.{universal_of, is_for_others, wanted_script, mode_of};
 ghost use Rattle.script_shapers.specs.Shapers.{width_of, has_fallback, has_own_composite, own_composite, other_composite};
 ghost use Rattle.script_shapers.specs.Shapers.{has_own_parts, own_parts, shaper_with_morx};
 ghost use Rattle.script_shapers.specs.declared.shaper.ScriptShaper.TheVariants.{Default, Hebrew};
 
-use crate::arabic::stretching::{record_pieces, stretch};
-use crate::font::FontGlyphs;
 use crate::hangul::text::prepare;
-use crate::plan::{ScriptPlan, add_masks};
+use crate::hebrew;
+use crate::plan::ScriptPlan;
 use crate::thai::private_use::shape_private_use;
 use crate::thai::sara_am::split_all;
-use crate::universal::{is_universal, joins};
-use crate::{arabic, hebrew};
 use rb_common::{Direction, Script, Tag, script};
+use script_indic::scripts::is_indic;
+use script_items::FontGlyphs;
+use script_items::masks::add_masks;
+use script_joining::arabic;
+use script_joining::arabic::stretching::{record_pieces, stretch};
+use script_syllables::part_vowels;
+use script_universal::khmer;
+use script_universal::universal::scripts::{is_universal, joins};
 use shaping_buffer::hb_buffer_t;
 use std::alloc::{AllocError, Global};
-use syllabic_shapers::{indic, khmer, part_vowels};
 
 /// The shaper of a script.
 #[derive(Clone, Copy, PartialEq, Eq, Debug)]
@@ -158,7 +162,7 @@ impl ScriptShaper {
             → result ≡ other_composite self has_gpos_mark a b }
     {
         match self {
-            Indic => indic::composition::compose(a, b),
+            Indic => script_indic::composition::compose(a, b),
             Khmer | Universal | UniversalJoining => khmer::composition::compose(a, b),
             Hebrew => compose_hebrew(a, b, has_gpos_mark),
             Default | Arabic | Hangul | Thai | Myanmar | Zawgyi | Plain => {
@@ -176,7 +180,7 @@ impl ScriptShaper {
             → result ≡ parts_of (canonical_mapping character) }
     {
         match self {
-            Indic => indic::composition::decompose(character),
+            Indic => script_indic::composition::decompose(character),
             Khmer => khmer::composition::decompose(character),
             _ => unicode_tables::decompose(character),
         }
@@ -261,24 +265,6 @@ fn myanmar_shaper(gsub_script: Tag) -> ScriptShaper
     } else {
         Myanmar
     }
-}
-
-/// Whether a script is one of the nine that OpenType has the Indic shaper for.
-fn is_indic(script: Script) -> bool
-    ensures { result ≡ is_listed indic_scripts script }
-{
-    matches!(
-        script,
-        script::BENGALI
-            | script::DEVANAGARI
-            | script::GUJARATI
-            | script::GURMUKHI
-            | script::KANNADA
-            | script::MALAYALAM
-            | script::ORIYA
-            | script::TAMIL
-            | script::TELUGU
-    )
 }
 
 /// The shaper of an Indic script, by the tag that the font has it under.

@@ -1,11 +1,10 @@
 //! The features that shapers ask for, and what those of a font make of a shaper (OpenType, "Developing OpenType Fonts for Arabic
 //! Script" and "for Hangul Script").
 
-use layout_plan::builder::ChosenTable;
-use layout_plan::{FeatureFlags, Pause, PlanBuilder};
+use ot_map::builder::ChosenTable;
+use ot_map::{FeatureFlags, Pause, PlanBuilder};
 use rb_common::{Script, Tag, script};
-use script_features::{collect_features, override_features, script_plan};
-use script_shapers::{ScriptPlan, ScriptShaper};
+use script_shapers::{ScriptPlan, ScriptShaper, collect_features, override_features, script_plan};
 use std::alloc::{AllocError, Global};
 use std::test::Fail;
 

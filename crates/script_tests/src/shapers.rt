@@ -2,7 +2,8 @@
 //! characters join, by Unicode's ArabicShaping.txt.
 
 use rb_common::{Direction, Script, Tag, script};
-use script_shapers::{JoiningType, NormalizationMode, ScriptShaper, ZeroWidthMarks, joining_type};
+use script_joining::{JoiningType, joining_type};
+use script_shapers::{NormalizationMode, ScriptShaper, ZeroWidthMarks};
 use std::test::Fail;
 
 /// The shaper of a text in a script that the font has.

@@ -1,10 +1,12 @@
 //! Tables of syllables. What is expected is what OpenType's documents and HarfBuzz's tables have.
 
+use script_indic::machine::indic_machine;
+use script_syllables::{Category, Machine, Position, category_of, third_vowel};
+use script_universal::khmer::machine::khmer_machine;
+use script_universal::myanmar::machine::myanmar_machine;
+use script_universal::universal::machine::universal_machine;
+use script_universal::{UniversalCategory, universal_category_of};
 use std::test::Fail;
-use syllable_tables::machines::{indic_machine, khmer_machine, myanmar_machine, universal_machine};
-use syllable_tables::{
-    Category, Machine, Position, UniversalCategory, category_of, third_vowel, universal_category_of,
-};
 
 /// The letter KA, the vowel sign I on its left, the Khmer sign of a subjoined letter, and a Latin letter.
 #[test]

@@ -2,7 +2,8 @@
 
 ghost use Rattle.std.specs.Prelude.{◌≡◌, false};
 
-use script_shapers::{FontGlyphs, ScriptPlan, ScriptShaper};
+use script_items::FontGlyphs;
+use script_shapers::{ScriptPlan, ScriptShaper};
 use shaping_buffer::{CombiningClasses, UnicodeBuffer, hb_buffer_t, hb_glyph_info_t};
 use std::alloc::Global;
 use std::process::Abort;

@@ -1,8 +1,10 @@
 pub mod Answer
 pub mod HeldFile
+pub mod KeptAdvances
 pub mod Lines
 pub mod Numbered
 pub mod Prepared
+pub mod Reading
 pub mod Status
 pub mod Synthetic
 pub mod SyntheticFont

@@ -1,18 +1,19 @@
 -- The lines of a text, and what answers them.
-use Rattle.std.specs.Prelude.{ℕ, ◌+◌, ◌≡◌, ◌==◌, ◌⊎◌, ⊤, List, [], ◌∷◌, ◌++◌, length, take, ◌-◌, flat_map, Bool, true, false, codes}
+use Rattle.std.specs.Prelude.{ℕ, ◌+◌, ◌≡◌, ◌==◌, ◌⊎◌, ⊤, List, [], ◌∷◌, ◌++◌, length, flat_map, Bool, true, false, codes}
 use Rattle.std.specs.Prelude.{Option, Some, None, if◌then◌else◌}
-use Rattle.std.specs.Io.BufRead.{ends_with_byte}
 use Rattle.std.specs.Io.KnownBytes.{Appends}
 use Rattle.rb_glyph.specs.declared.flag_sets.SerializeFlags.{SerializeFlags}
 use Rattle.rb_glyph.specs.declared.info.hb_glyph_info_t.{hb_glyph_info_t}
 use Rattle.glyph_text.specs.Text.{Font}
-use Rattle.font_shaper.specs.declared.verification.VerifyError.{VerifyError}
-use Rattle.font_shaper.specs.declared.verification.VerifyError.TheVariants.{NotMonotone, UnsafeToBreak, UnsafeToConcat}
+use Rattle.shaping_verification.specs.declared.verification.VerifyError.{VerifyError}
+use Rattle.shaping_verification.specs.declared.verification.VerifyError.TheVariants.{NotMonotone, UnsafeToBreak, UnsafeToConcat}
 use Rattle.shaping_buffer.specs.State.{State}
 use Rattle.shaping_buffer.specs.Text.{glyphs_of, text_of}
 use Rattle.line_formats.specs.Json.{glyphs_json}
 use Rattle.line_formats.specs.Characters.{characters_list}
 use Rattle.line_formats.specs.Heads.{head}
+use Rattle.shape_command.specs.Reading.{seen}
+use Rattle.shape_command.specs.declared.reading.Reading.{Reading}
 use Rattle.shape_options.specs.declared.output.Output.{Output}
 use Rattle.shape_options.specs.declared.output.OutputFormat.{OutputFormat}
 use Rattle.shape_options.specs.declared.output.OutputFormat.TheVariants.{Text, Json, Nothing}
@@ -27,16 +28,12 @@ abbrev pub lines_of : List ℕ → List (List ℕ)
 lines_of [] = []
 lines_of (b ∷ bytes) = if b == 10 then [] ∷ lines_of bytes else with_first b (lines_of bytes)
 
--- a line without the line feed at its end
-abbrev pub without_line_feed : List ℕ → List ℕ
-without_line_feed line = if ends_with_byte 10 line then take (length line - 1) line else line
-
--- Where the bytes of a text are known: a line was taken from its front, or there was none.
-abbrev pub TakesLine : Bool → Option (List ℕ) → Option (List ℕ) → List ℕ → Type 0
-TakesLine found None after line = ⊤
-TakesLine found (Some text) None line = ⊥
-TakesLine true (Some text) (Some rest) line = lines_of text ≡ line ∷ lines_of rest
-TakesLine false (Some text) (Some rest) line = (text ≡ []) × (rest ≡ [])
+-- Where the bytes of a text are known: a line was taken from the front of what is seen of it, or there was none.
+abbrev pub TakesLine : Reading → Bool → Option (List ℕ) → Option (List ℕ) → List ℕ → Type 0
+TakesLine reading found None after line = ⊤
+TakesLine reading found (Some text) None line = ⊥
+TakesLine reading true (Some text) (Some rest) line = lines_of (seen reading text) ≡ line ∷ lines_of (seen reading rest)
+TakesLine reading false (Some text) (Some rest) line = (seen reading text ≡ []) × (rest ≡ [])
 
 -- ---- the answers
 
@@ -113,19 +110,21 @@ pub record AnswersLines (is_answer : ℕ → List ℕ → List ℕ → Type 0) (
   pub told : Appends before after (transcript answers)
 
 -- the same of all lines that are left of a text, where its bytes are known
-abbrev pub AnswersAll : (ℕ → List ℕ → List ℕ → Type 0) → Option (List ℕ) → Option (List ℕ) → Option (List ℕ) → Option (List ℕ) → Type 0
-AnswersAll is_answer None rest before after = ⊤
-AnswersAll is_answer (Some text) None before after = ⊥
-AnswersAll is_answer (Some text) (Some rest) before after =
-    (rest ≡ []) × AnswersLines is_answer (lines_of text) before after
+abbrev pub AnswersAll : Reading → (ℕ → List ℕ → List ℕ → Type 0) → Option (List ℕ) → Option (List ℕ) → Option (List ℕ)
+    → Option (List ℕ) → Type 0
+AnswersAll reading is_answer None rest before after = ⊤
+AnswersAll reading is_answer (Some text) None before after = ⊥
+AnswersAll reading is_answer (Some text) (Some rest) before after =
+    (rest ≡ []) × AnswersLines is_answer (lines_of (seen reading text)) before after
 
 -- a text that is one line, unless it is empty
 abbrev pub paragraph_of : List ℕ → List (List ℕ)
 paragraph_of [] = []
 paragraph_of (b ∷ bytes) = (b ∷ bytes) ∷ []
 
-abbrev pub AnswersParagraph : (ℕ → List ℕ → List ℕ → Type 0) → Option (List ℕ) → Option (List ℕ) → Option (List ℕ) → Option (List ℕ) → Type 0
-AnswersParagraph is_answer None rest before after = ⊤
-AnswersParagraph is_answer (Some text) None before after = ⊥
-AnswersParagraph is_answer (Some text) (Some rest) before after =
-    (rest ≡ []) × AnswersLines is_answer (paragraph_of text) before after
+abbrev pub AnswersParagraph : Reading → (ℕ → List ℕ → List ℕ → Type 0) → Option (List ℕ) → Option (List ℕ) → Option (List ℕ)
+    → Option (List ℕ) → Type 0
+AnswersParagraph reading is_answer None rest before after = ⊤
+AnswersParagraph reading is_answer (Some text) None before after = ⊥
+AnswersParagraph reading is_answer (Some text) (Some rest) before after =
+    (rest ≡ []) × AnswersLines is_answer (paragraph_of (seen reading text)) before after

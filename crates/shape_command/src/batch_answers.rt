@@ -4,6 +4,7 @@ use crate::ending::NAME;
 use crate::font_file::FontFile;
 use crate::lines::{LinesError, next_line};
 use crate::loaded_font::LoadedFont;
+use crate::reading::Reading;
 use crate::run::{CommandError, answer_options, read_font_file};
 use shape_options::batch::words_of_line;
 use shape_options::options::FontChoice;
@@ -30,7 +31,7 @@ pub(crate) fn answer_batch<F: Files + AllocGlobal, R: BufRead, W: Write>(
     let mut file = FontFile::new(rt.alloc());
     let mut line = Vec::new(rt.alloc());
     let mut all_shaped = true;
-    let mut has_line = has_next(input, &mut line)?;
+    let mut has_line = has_next(rt.alloc(), input, &mut line)?;
     for _ in 0..u64::MAX {
         if !has_line {
             break;
@@ -42,10 +43,17 @@ pub(crate) fn answer_batch<F: Files + AllocGlobal, R: BufRead, W: Write>(
     Ok(all_shaped)
 }
 
-/// Reads the next line, if there is one.
-fn has_next<R: BufRead>(input: &mut R, line: &mut Vec<u8>) -> io::Result<bool> {
-    match next_line(input, line) {
-        Ok(found) => Ok(found),
+/// Reads the next line, if there is one, up to a byte 0 if it has one.
+fn has_next<R: BufRead>(alloc: Global, input: &mut R, line: &mut Vec<u8>) -> io::Result<bool> {
+    match next_line(alloc, input, Reading::Whole, line) {
+        Ok(found) => {
+            line.truncate(
+                line.iter()
+                    .position(|byte| *byte == 0)
+                    .unwrap_or(line.len()),
+            );
+            Ok(found)
+        }
         Err(LinesError::Read(error) | LinesError::Write(error)) => Err(error),
         Err(LinesError::Memory) => Err(io::Error::from(ErrorKind::OutOfMemory)),
     }
@@ -67,7 +75,7 @@ fn answer_run<F: Files + AllocGlobal, R: BufRead, W: Write>(
     }
     output.flush()?;
     Ok(Run {
-        has_line: has_next(input, line)?,
+        has_line: has_next(rt.alloc(), input, line)?,
         all_shaped: false,
     })
 }
@@ -121,7 +129,7 @@ fn answer_with<F: Files + AllocGlobal, R: BufRead, W: Write>(
             }
         }
         output.flush()?;
-        if !has_next(input, line)? {
+        if !has_next(rt.alloc(), input, line)? {
             break;
         }
     }

@@ -4,7 +4,7 @@ use crate::loaded_font::LoadedFont;
 use crate::picture::Picture;
 use crate::run::CommandError;
 use crate::text::{empty_text, fill};
-use font_shaper::{Face, FaceNames, ShapeError, shape_watched};
+use ot_shape::{Face, FaceNames, ShapeError, shape_watched};
 use shape_options::options::{LineOptions, Options, OptionsError, TextSource};
 use shape_options::words::WordsError;
 use std::alloc::{AllocError, Global};

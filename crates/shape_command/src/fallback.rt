@@ -4,7 +4,7 @@ ghost use Rattle.std.specs.Prelude.{◌≡◌, false, IfOk, IsSome};
 ghost use Rattle.shaping_buffer.specs.Clusters.{clusters};
 ghost use Rattle.shaping_buffer.specs.KeepsClusters.{KeepsClusters};
 
-use font_shaper::FontFunctions;
+use ot_shape::FontFunctions;
 use shaping_buffer::{
     CharExt, Direction, GlyphBuffer, GlyphId, GlyphPosition, UnicodeBuffer, hb_buffer_t,
     hb_glyph_info_t,

@@ -2,7 +2,7 @@
 
 ghost use Rattle.std.specs.Prelude.{◌≡◌, length, IfOk};
 
-use font_shaper::{Face, FontFunctions};
+use ot_shape::{Face, FontFunctions};
 use shaping_buffer::{Direction, GlyphId, GlyphNames, GlyphPosition, hb_glyph_info_t};
 use std::alloc::{AllocError, Global};
 

@@ -4,12 +4,13 @@ ghost use Rattle.std.specs.Prelude.{◌≡◌, ◌++◌, ◌∷◌, [], IfOk, On
 ghost use Rattle.std.specs.Io.BufRead.{ends_with_byte};
 ghost use Rattle.std.specs.Io.KnownBytes.{Appends};
 ghost use Rattle.shape_command.specs.Answer.{answer_text};
-ghost use Rattle.shape_command.specs.Lines.{TakesLine, without_line_feed, AnswersAll, AnswersParagraph, IsShown, Shows, unverified_line};
+ghost use Rattle.shape_command.specs.Lines.{TakesLine, AnswersAll, AnswersParagraph, IsShown, Shows, unverified_line};
 
+use crate::reading::{Reading, keep_seen, read_run};
 use crate::shaper::{Answer, LineNames, LineShaper, LineState};
 use crate::trace::trace_lines;
-use font_shaper::VerifyError;
 use line_formats::heads::head;
+use ot_shape::VerifyError;
 use std::alloc::{AllocError, Global};
 use std::io::{self, BufRead, ErrorKind, Read, Write};
 
@@ -31,7 +32,7 @@ impl From<AllocError> for LinesError {
 }
 
 /// The error of a read.
-fn read_error(error: io::Error) -> LinesError {
+pub(crate) fn read_error(error: io::Error) -> LinesError {
     match error.kind() {
         ErrorKind::OutOfMemory => LinesError::Memory,
         _ => LinesError::Read(error),
@@ -43,18 +44,18 @@ fn read_error(error: io::Error) -> LinesError {
 pub fn answer_lines<N: LineNames, R: BufRead, W: Write>(
     alloc: Global,
     shaper: &LineShaper<'_>,
-    state: &mut LineState<N>,
+    state: &mut LineState<'_, N>,
     reader: &mut R,
     writer: &mut W,
 ) -> Result<bool, LinesError>
-    ensures { OnOk result (AnswersAll (IsShown shaper.now.output)
+    ensures { OnOk result (AnswersAll shaper.now.reading (IsShown shaper.now.output)
         (R.remaining reader.old) (R.remaining reader.new)
         (W.contents writer.old) (W.contents writer.new)) }
 {
     let mut all_shaped = true;
     let mut line = Vec::new(alloc);
     for number in 1..u64::MAX {
-        let found = next_line(reader, &mut line)?;
+        let found = next_line(alloc, reader, shaper.reading, &mut line)?;
         if !found {
             return Ok(all_shaped);
         }
@@ -68,20 +69,21 @@ pub fn answer_lines<N: LineNames, R: BufRead, W: Write>(
 pub fn answer_paragraph<N: LineNames, R: Read, W: Write>(
     alloc: Global,
     shaper: &LineShaper<'_>,
-    state: &mut LineState<N>,
+    state: &mut LineState<'_, N>,
     reader: &mut R,
     writer: &mut W,
 ) -> Result<bool, LinesError>
-    ensures { OnOk result (AnswersParagraph (IsShown shaper.now.output)
+    ensures { OnOk result (AnswersParagraph shaper.now.reading (IsShown shaper.now.output)
         (R.remaining reader.old) (R.remaining reader.new)
         (W.contents writer.old) (W.contents writer.new)) }
 {
     let mut text = Vec::new(alloc);
-    let read = match reader.read_to_end(&mut text) {
-        Ok(read) => read,
+    match reader.read_to_end(&mut text) {
+        Ok(_) => {}
         Err(error) => return Err(read_error(error)),
-    };
-    if read == 0 {
+    }
+    keep_seen(alloc, shaper.reading, &mut text, 0)?;
+    if text.is_empty() {
         return Ok(true);
     }
     let is_shaped = answer_line(alloc, shaper, state, 1, text.as_slice(), writer)?;
@@ -92,7 +94,7 @@ pub fn answer_paragraph<N: LineNames, R: Read, W: Write>(
 fn answer_line<N: LineNames, W: Write>(
     alloc: Global,
     shaper: &LineShaper<'_>,
-    state: &mut LineState<N>,
+    state: &mut LineState<'_, N>,
     number: u64,
     line: &[u8],
     writer: &mut W,
@@ -111,26 +113,26 @@ fn answer_line<N: LineNames, W: Write>(
 }
 
 /// Reads a line in place of the one that is held, without the line feed that ends it. It says whether there was one.
-pub fn next_line<R: BufRead>(reader: &mut R, line: &mut Vec<u8>) -> Result<bool, LinesError>
-    ensures { IfOk result (λ found. TakesLine found (R.remaining reader.old) (R.remaining reader.new)
-        line.new.items) }
+pub fn next_line<R: BufRead>(
+    alloc: Global,
+    reader: &mut R,
+    reading: Reading,
+    line: &mut Vec<u8>,
+) -> Result<bool, LinesError>
+    ensures { IfOk result (λ found. TakesLine reading found
+        (R.remaining reader.old) (R.remaining reader.new) line.new.items) }
 {
     line.clear();
-    let read = match reader.read_until(b'\n', line) {
-        Ok(read) => read,
-        Err(error) => return Err(read_error(error)),
-    };
-    drop_line_feed(line);
-    Ok(read > 0)
-}
-
-/// Drops the line feed at the end, if one stands there.
-fn drop_line_feed(line: &mut Vec<u8>)
-    ensures { line.new.items ≡ without_line_feed line.old.items }
-{
-    if ends_line(line.as_slice()) {
-        line.truncate(line.len() - 1);
+    for _ in 0..u64::MAX {
+        if !read_run(alloc, reader, reading, line)? {
+            return Ok(!line.is_empty());
+        }
+        if ends_line(line.as_slice()) {
+            line.truncate(line.len() - 1);
+            return Ok(true);
+        }
     }
+    Err(LinesError::Read(io::Error::from(ErrorKind::Other)))
 }
 
 /// Whether a line feed stands at the end.

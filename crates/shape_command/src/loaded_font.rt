@@ -1,13 +1,13 @@
 //! A font of a file, which is kept for all command lines in a row that name it.
 
 ghost use Rattle.std.specs.Prelude.{◌≡◌, None, option_map, IfOk, IfSome, OnErr};
-ghost use Rattle.font_shaper.specs.Face.{KeepsItsTables};
+ghost use Rattle.ot_shape.specs.Face.{KeepsItsTables};
 ghost use Rattle.shape_command.specs.Numbered.{numbered_font};
 
 use crate::font_file::FontFile;
 use crate::shaper::KeptLine;
-use font_shaper::{Face, FaceNames, Variation};
 use font_tables::directory::face_count;
+use ot_shape::{Face, FaceNames, Variation};
 use shape_options::options::{FontChoice, Options};
 use std::alloc::{AllocError, Global};
 use std::mem;

@@ -2,7 +2,7 @@
 
 ghost use Rattle.std.specs.Prelude.{◌≡◌, false};
 
-use font_shaper::{Step, Watch};
+use ot_shape::{Step, Watch};
 use shaping_buffer::{
     CharExt, GeneralCategoryExt, GlyphId, GlyphNames, GlyphPosition, hb_buffer_t, hb_glyph_info_t,
 };

@@ -6,6 +6,7 @@ use crate::drawing::draw_text;
 use crate::font_file::FontFile;
 use crate::lines::{LinesError, answer_lines, answer_paragraph};
 use crate::loaded_font::LoadedFont;
+use crate::reading::Reading;
 use crate::shaper::{KeptLine, LineNames, LineShaper, LineState};
 use crate::synthetic_font::{SyntheticFont, SyntheticNames};
 use shape_options::options::{Options, Shaper, TextSource};
@@ -172,7 +173,7 @@ fn create<F: Files + AllocGlobal>(rt: &F, file: &str) -> io::Result<BufWriter<F:
     BufWriter::new(rt.alloc(), fs::create(rt, file)?)
 }
 
-/// Answers what a command line asks for.
+/// Answers what a command line asks for. The names of glyphs are found where they are asked for, or their extents.
 fn answer_into<'a, F: Files + AllocGlobal, R: BufRead, W: Write>(
     rt: &F,
     options: &Options<'a>,
@@ -184,85 +185,46 @@ fn answer_into<'a, F: Files + AllocGlobal, R: BufRead, W: Write>(
         return draw_text(rt.alloc(), options, font, output);
     }
     if !asks_font(options.output.flags) && !options.line.glyphs {
-        answer_numbered(rt, options, font, input, output)
-    } else if synthetic_of(font, options).is_plain() {
-        answer_named(rt, options, font, input, output)
-    } else {
-        answer_drawn(rt, options, font, input, output)
+        return answer_named(rt, options, font, NoGlyphNames, input, output).0;
     }
-}
-
-/// Answers what asks for no names of glyphs.
-fn answer_numbered<'a, F: Files + AllocGlobal, R: BufRead, W: Write>(
-    rt: &F,
-    options: &Options<'a>,
-    font: &mut LoadedFont<'_>,
-    input: &mut R,
-    output: &mut W,
-) -> Result<bool, CommandError<'a>> {
-    let mut state = LineState {
-        names: NoGlyphNames,
-        kept: font.take_kept(),
-    };
-    let shaper = shaper_of(font, options);
-    let answered = answer_shown(rt, &shaper, &mut state, options, input, output);
-    font.kept = state.kept;
-    answered
-}
-
-/// Answers what asks for names of glyphs, or for their extents.
-fn answer_named<'a, F: Files + AllocGlobal, R: BufRead, W: Write>(
-    rt: &F,
-    options: &Options<'a>,
-    font: &mut LoadedFont<'_>,
-    input: &mut R,
-    output: &mut W,
-) -> Result<bool, CommandError<'a>> {
     let names = font.take_names(rt.alloc())?;
-    let mut state = LineState {
-        names,
-        kept: font.take_kept(),
-    };
-    let shaper = shaper_of(font, options);
-    let answered = answer_shown(rt, &shaper, &mut state, options, input, output);
-    font.kept = state.kept;
-    font.names = Some(state.names);
-    answered
-}
-
-/// Answers what asks for names of glyphs that are drawn otherwise than the font has them, or for their extents.
-fn answer_drawn<'a, F: Files + AllocGlobal, R: BufRead, W: Write>(
-    rt: &F,
-    options: &Options<'a>,
-    font: &mut LoadedFont<'_>,
-    input: &mut R,
-    output: &mut W,
-) -> Result<bool, CommandError<'a>> {
-    let names = font.take_names(rt.alloc())?;
-    let kept = font.take_kept();
-    let shaper = shaper_of(font, options);
-    let mut state = LineState {
-        names: SyntheticNames::new(rt.alloc(), names),
-        kept,
-    };
-    let answered = answer_shown(rt, &shaper, &mut state, options, input, output);
-    let LineState { names, kept } = state;
-    font.kept = kept;
+    if synthetic_of(font, options).is_plain() {
+        let (answered, names) = answer_named(rt, options, font, names, input, output);
+        font.names = Some(names);
+        return answered;
+    }
+    let names = SyntheticNames::new(rt.alloc(), names);
+    let (answered, names) = answer_named(rt, options, font, names, input, output);
     font.names = Some(names.into_names());
     answered
 }
 
-/// Answers a text, and gives an error where the shaping of one of its lines was given up.
-fn answer_shown<'a, F: Files + AllocGlobal, N: LineNames, R: BufRead, W: Write>(
+/// Answers what a command line asks for, with the names of glyphs, which it gives back. There is an error where the shaping of a line
+/// was given up.
+fn answer_named<'a, F: Files + AllocGlobal, N: LineNames, R: BufRead, W: Write>(
     rt: &F,
-    shaper: &LineShaper<'_>,
-    state: &mut LineState<N>,
     options: &Options<'a>,
+    font: &mut LoadedFont<'_>,
+    names: N,
     input: &mut R,
     output: &mut W,
-) -> Result<bool, CommandError<'a>> {
-    let answered = answer_text(rt, shaper, state, &options.text, input, output);
-    unless_given_up(answered, &mut state.kept)
+) -> (Result<bool, CommandError<'a>>, N) {
+    let kept = font.take_kept();
+    let shaper = shaper_of(font, options);
+    let mut state = LineState {
+        names,
+        kept,
+        advances: shaper.advances(),
+    };
+    let answered = answer_text(rt, &shaper, &mut state, &options.text, input, output);
+    let LineState {
+        names,
+        mut kept,
+        advances: _,
+    } = state;
+    let answered = unless_given_up(answered, &mut kept);
+    font.kept = kept;
+    (answered, names)
 }
 
 /// What became of a text: an error where the shaping of one of its lines was given up, which is said once.
@@ -300,6 +262,7 @@ fn shaper_of<'a>(font: &'a LoadedFont<'_>, options: &'a Options<'_>) -> LineShap
         iterations: options.iterations,
         output: options.output,
         single_par: options.single_par,
+        reading: Reading::of(&options.text),
     }
 }
 
@@ -312,26 +275,23 @@ fn asks_font(flags: SerializeFlags) -> bool {
 fn answer_text<'a, F: Files + AllocGlobal, N: LineNames, R: BufRead, W: Write>(
     rt: &F,
     shaper: &LineShaper<'_>,
-    state: &mut LineState<N>,
+    state: &mut LineState<'_, N>,
     text: &TextSource<'a>,
     input: &mut R,
     output: &mut W,
 ) -> Result<bool, CommandError<'a>> {
-    match text {
-        TextSource::Given(text) => {
-            let mut bytes = text.as_bytes();
-            answer_all(rt.alloc(), shaper, state, "TEXT", &mut bytes, output)
+    let mut given = match text {
+        TextSource::Given(text) => text.as_bytes(),
+        TextSource::CodePoints(text) => text.as_bytes(),
+        TextSource::Input => return answer_all(rt.alloc(), shaper, state, "-", input, output),
+        TextSource::File(file) => {
+            return match open(rt, file) {
+                Ok(mut reader) => answer_all(rt.alloc(), shaper, state, *file, &mut reader, output),
+                Err(error) => Err(CommandError::Text { file: *file, error }),
+            };
         }
-        TextSource::CodePoints(text) => {
-            let mut bytes = text.as_bytes();
-            answer_all(rt.alloc(), shaper, state, "TEXT", &mut bytes, output)
-        }
-        TextSource::Input => answer_all(rt.alloc(), shaper, state, "-", input, output),
-        TextSource::File(file) => match open(rt, file) {
-            Ok(mut reader) => { answer_all(rt.alloc(), shaper, state, *file, &mut reader, output) }
-            Err(error) => Err(CommandError::Text { file: *file, error }),
-        },
-    }
+    };
+    answer_all(rt.alloc(), shaper, state, "TEXT", &mut given, output)
 }
 
 /// A file that is read piece by piece.
@@ -343,7 +303,7 @@ fn open<F: Files + AllocGlobal>(rt: &F, file: &str) -> io::Result<BufReader<F::F
 fn answer_all<'a, N: LineNames, R: BufRead, W: Write>(
     alloc: Global,
     shaper: &LineShaper<'_>,
-    state: &mut LineState<N>,
+    state: &mut LineState<'_, N>,
     file: &'a str,
     reader: &mut R,
     writer: &mut W,

@@ -8,15 +8,17 @@ ghost use Rattle.shape_options.specs.declared.output.OutputFormat.TheVariants.{T
 use crate::edits::{Edits, buffer_of};
 use crate::fallback::shape_fallback;
 use crate::glyph_line::read_glyphs;
+use crate::kept_advances::KeptAdvances;
+use crate::reading::Reading;
 use crate::synthetic_font::SyntheticFont;
 use crate::text::{emptied, empty_text, fill, lossy_text};
 use crate::trace::Trace;
-use font_shaper::{
+use line_formats::characters::characters_list;
+use line_formats::json::glyphs_json;
+use ot_shape::{
     Face, FaceNames, KeptPlans, ShapeError, VerifyError, shape_watched,
     shape_with_functions_and_plans, shape_with_functions_watched, shape_with_kept_plans,
 };
-use line_formats::characters::characters_list;
-use line_formats::json::glyphs_json;
 use shape_options::options::{LineOptions, Shaper};
 use shape_options::output::{Output, OutputFormat};
 use shaping_buffer::{
@@ -131,11 +133,13 @@ impl KeptLine {
 
 /// What lines are answered by that changes from line to line.
 #[derive(Drop)]
-pub struct LineState<N> {
+pub struct LineState<'a, N> {
     /// Names and extents of glyphs.
     pub names: N,
     /// What is kept of the line before.
     pub kept: KeptLine,
+    /// The advances of glyphs of the lines before, where the font is varied.
+    pub advances: Option<KeptAdvances<'a>>,
 }
 
 /// A font, and how lines are shaped with it and printed.
@@ -153,14 +157,36 @@ pub struct LineShaper<'a> {
     pub output: Output,
     /// Whether the text is a single line.
     pub single_par: bool,
+    /// What is seen of the bytes of the text.
+    pub reading: Reading,
 }
 
-impl LineShaper<'_> {
+impl<'a> LineShaper<'a> {
+    /// A font that keeps the advances of its glyphs, where these are asked for and may cost much.
+    pub fn advances(&self) -> Option<KeptAdvances<'a>> {
+        let is_varied = self.font.is_plain() && !self.face.coordinates().is_empty();
+        if is_varied && self.asks_advances() {
+            Some(KeptAdvances::new(self.face))
+        } else {
+            None
+        }
+    }
+
+    /// Whether lines are shaped horizontally, and their steps not printed.
+    fn asks_advances(&self) -> bool {
+        let options = self.options;
+        let is_down = matches!(
+            options.direction,
+            Direction::TopToBottom | Direction::BottomToTop
+        );
+        options.shaper == Shaper::OpenType && !options.glyphs && !is_down && !self.output.trace
+    }
+
     /// The answer to a line.
     pub fn answer<N: LineNames>(
         &self,
         alloc: Global,
-        state: &mut LineState<N>,
+        state: &mut LineState<'_, N>,
         line: &[u8],
     ) -> Result<Answered, AllocError>
         ensures answer { IfOk result (λ answered. IsAnswer self.now.output (answer_text answered.answer)) }
@@ -179,7 +205,7 @@ impl LineShaper<'_> {
     fn answer_to_text<N: LineNames>(
         &self,
         alloc: Global,
-        state: &mut LineState<N>,
+        state: &mut LineState<'_, N>,
         line: &str,
     ) -> Result<Answered, AllocError>
         ensures answer { IfOk result (λ answered. IsAnswer self.now.output (answer_text answered.answer)) }
@@ -199,7 +225,7 @@ impl LineShaper<'_> {
     fn answer_to_line<N: LineNames>(
         &self,
         alloc: Global,
-        state: &mut LineState<N>,
+        state: &mut LineState<'_, N>,
         trace: &mut Trace,
         line: &str,
     ) -> Result<Answer, AllocError>
@@ -207,6 +233,9 @@ impl LineShaper<'_> {
     {
         if self.options.glyphs {
             return self.answer_to_glyphs(alloc, state, line);
+        }
+        if let Some(advances) = &mut state.advances {
+            advances.keep_characters(line);
         }
         self.shape_unprinted(alloc, state, trace, line)?;
         let answer = self.shape(alloc, state, trace, line)?;
@@ -217,7 +246,7 @@ impl LineShaper<'_> {
     fn answer_to_glyphs<N: LineNames>(
         &self,
         alloc: Global,
-        state: &mut LineState<N>,
+        state: &mut LineState<'_, N>,
         line: &str,
     ) -> Result<Answer, AllocError>
         ensures { IfOk result (λ answer. IsAnswer self.now.output (answer_text answer)) }
@@ -256,7 +285,7 @@ impl LineShaper<'_> {
     fn shape_unprinted<N: LineNames>(
         &self,
         alloc: Global,
-        state: &mut LineState<N>,
+        state: &mut LineState<'_, N>,
         trace: &mut Trace,
         line: &str,
     ) -> Result<(), AllocError> {
@@ -265,7 +294,7 @@ impl LineShaper<'_> {
             if !fill(alloc, self.options, line, &mut text)? {
                 return Ok(());
             }
-            match self.shape_text(&mut state.kept.plans, trace, text) {
+            match self.shape_text(state, trace, text) {
                 Ok(glyphs) => state.kept.text = Some(glyphs.clear()),
                 Err(ShapeError::Memory) => return Err(AllocError),
                 Err(_) => return Ok(()),
@@ -278,7 +307,7 @@ impl LineShaper<'_> {
     fn shape<N: LineNames>(
         &self,
         alloc: Global,
-        state: &mut LineState<N>,
+        state: &mut LineState<'_, N>,
         trace: &mut Trace,
         line: &str,
     ) -> Result<Answer, AllocError>
@@ -289,7 +318,7 @@ impl LineShaper<'_> {
             return Ok(Answer::Failed);
         }
         let edits = self.edits(text.direction());
-        match self.shape_text(&mut state.kept.plans, trace, text) {
+        match self.shape_text(state, trace, text) {
             Ok(glyphs) => self.print_edited(alloc, state, &edits, glyphs),
             Err(ShapeError::TooLong) => Ok(Answer::Failed),
             Err(ShapeError::OtherPlan) => Ok(Answer::Failed),
@@ -299,9 +328,9 @@ impl LineShaper<'_> {
     }
 
     /// Shapes a text by the shaper that is chosen.
-    fn shape_text(
+    fn shape_text<N: LineNames>(
         &self,
-        plans: &mut KeptPlans,
+        state: &mut LineState<'_, N>,
         trace: &mut Trace,
         text: UnicodeBuffer,
     ) -> Result<GlyphBuffer, ShapeError> {
@@ -312,6 +341,14 @@ impl LineShaper<'_> {
             return self.shape_traced(trace, text);
         }
         let features = self.options.features.as_slice();
+        let plans = &mut state.kept.plans;
+        if let Some(advances) = &mut state.advances {
+            let glyphs = shape_with_functions_and_plans(
+                self.face, advances, features, plans, text,
+            )?;
+            advances.keep_glyphs(glyphs.glyph_infos());
+            return Ok(glyphs);
+        }
         if self.font.is_plain() {
             return shape_with_kept_plans(self.face, features, plans, text);
         }
@@ -350,7 +387,7 @@ impl LineShaper<'_> {
     fn print_edited<N: LineNames>(
         &self,
         alloc: Global,
-        state: &mut LineState<N>,
+        state: &mut LineState<'_, N>,
         edits: &Edits,
         glyphs: GlyphBuffer,
     ) -> Result<Answer, AllocError>
@@ -366,7 +403,7 @@ impl LineShaper<'_> {
     fn print_and_keep<N: LineNames>(
         &self,
         alloc: Global,
-        state: &mut LineState<N>,
+        state: &mut LineState<'_, N>,
         glyphs: GlyphBuffer,
     ) -> Result<Answer, AllocError>
         ensures { IfOk result (λ answer. IsAnswer self.now.output (answer_text answer)) }

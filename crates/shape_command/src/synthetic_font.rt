@@ -5,8 +5,8 @@ ghost use Rattle.shape_command.specs.SyntheticFont.{IsBolderAdvance};
 ghost use Rattle.shape_command.specs.Synthetic as synthetic;
 
 use crate::shaper::LineNames;
-use font_shaper::{Face, FaceNames, FontFunctions, OwnFunctions};
 use font_variations::rounding::{float, rounded};
+use ot_shape::{Face, FaceNames, FontFunctions, OwnFunctions};
 use shape_options::synthetic::Synthetic;
 use shaping_buffer::{GlyphExtents, GlyphId, GlyphNames, hb_glyph_info_t};
 use std::alloc::{AllocError, Global};

@@ -275,8 +275,22 @@ fn text_source<'a>(
 
 /// The text of a list of characters.
 fn listed<'a>(alloc: Global, list: &'a str) -> Result<String, OptionsError<'a>> {
+    let numbers = numbers_of(alloc, list)?;
+    Ok(text_of_code_points(alloc, numbers.as_slice())?)
+}
+
+/// The text of a list of characters, which ends before U+0000, as a string of C does.
+fn listed_string<'a>(alloc: Global, list: &'a str) -> Result<String, OptionsError<'a>> {
+    let mut numbers = numbers_of(alloc, list)?;
+    let end = numbers.iter().position(|number| *number == 0);
+    numbers.truncate(end.unwrap_or(numbers.len()));
+    Ok(text_of_code_points(alloc, numbers.as_slice())?)
+}
+
+/// The numbers of a list of characters.
+fn numbers_of<'a>(alloc: Global, list: &'a str) -> Result<Vec<u32>, OptionsError<'a>> {
     match code_points(alloc, list) {
-        Ok(numbers) => Ok(text_of_code_points(alloc, numbers.as_slice())?),
+        Ok(numbers) => Ok(numbers),
         Err(CodePointsError::Number) => Err(OptionsError::CodePoints(list)),
         Err(CodePointsError::Memory) => Err(OptionsError::Memory),
     }
@@ -292,7 +306,7 @@ fn context<'a>(
     match (matches.get_str(text), matches.get_str(unicodes)) {
         (Some(_), Some(_)) => Err(OptionsError::TwoContexts(side)),
         (Some(text), None) => Ok(String::from_str(alloc, text)?),
-        (None, Some(list)) => listed(alloc, list),
+        (None, Some(list)) => listed_string(alloc, list),
         (None, None) => Ok(String::new(alloc)),
     }
 }

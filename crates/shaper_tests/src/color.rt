@@ -1,6 +1,6 @@
 //! Bounds of bitmaps, and of glyphs drawn in colours, of a font with no outlines.
 
-use font_shaper::{Face, FaceNames};
+use ot_shape::{Face, FaceNames};
 use rb_common::GlyphId;
 use rb_glyph::{GlyphNames, hb_glyph_info_t};
 use std::test::Fail;

@@ -1,7 +1,7 @@
 //! What a font says of its glyphs.
 
 use crate::upright::UPRIGHT;
-use font_shaper::{Face, FaceNames};
+use ot_shape::{Face, FaceNames};
 use rb_common::GlyphId;
 use rb_glyph::{GlyphNames, hb_glyph_info_t};
 use std::test::Fail;

@@ -3,13 +3,13 @@
 ghost use Rattle.std.specs.Prelude.{◌≡◌, true, false, IfOk};
 
 use crate::upright::UPRIGHT;
-use font_normalization::glyph_info::{
+use ot_normalization::glyph_info::{
     clear_variation_selector, general_category, is_continuation, is_nonspacing_mark,
     is_unicode_mark, is_unicode_space, is_variation_selector, modified_combining_class,
     set_modified_combining_class, set_unicode_props, space_fallback,
 };
-use font_normalization::{allows_any_order, normalize};
-use font_shaper::{Face, OwnFunctions};
+use ot_normalization::{allows_any_order, normalize};
+use ot_shape::{Face, OwnFunctions};
 use rb_common::GlyphId;
 use script_shapers::{ScriptPlan, ScriptShaper};
 use shaping_buffer::{BufferClusterLevel, UnicodeBuffer, hb_buffer_t, hb_glyph_info_t};

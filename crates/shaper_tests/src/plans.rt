@@ -1,7 +1,7 @@
 //! Plans that are made for texts, and kept.
 
 use crate::upright::UPRIGHT;
-use font_shaper::{
+use ot_shape::{
     Face, FaceNames, KeptPlans, ShapeError, ShapePlan, Unwatched, shape_with_kept_plans,
     shape_with_plan, shape_with_plan_watched,
 };

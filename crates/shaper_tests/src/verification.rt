@@ -1,7 +1,7 @@
 //! Glyphs that are verified.
 
 use crate::upright::UPRIGHT;
-use font_shaper::{Face, ShapeError, VerifyError, shape};
+use ot_shape::{Face, ShapeError, VerifyError, shape};
 use shaping_buffer::{BufferFlags, Direction, Flags, UnicodeBuffer};
 use std::alloc::Global;
 use std::test::Fail;

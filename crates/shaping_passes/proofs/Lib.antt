@@ -1,8 +1,8 @@
 -- Why each pass leaves what its definition over lists says.
 --
 -- The rules of Hangul are given as relations, and the functions meet them (`NormalizationPartsLemmas`).
--- A decomposition puts out the parts of one character after the other: what was put out is the decomposition of what was
--- read (`NormalizationDecompositionLemmas`).
+-- A character gives way to its parts that a font has (`NormalizationCharacterLemmas`). A decomposition puts out the parts of one
+-- after the other: what was put out is the decomposition of what was read (`NormalizationDecompositionLemmas`).
 -- The marks of a run are sorted one by one (`NormalizationSortLemmas`), and the runs one after the other
 -- (`NormalizationOrderLemmas`). In the buffer a mark is first merged with those that it passes, so that it moves within
 -- one cluster and the list stays coarse (`NormalizationGlyphsLemmas`); mark after mark, this leaves the sorted list
@@ -12,6 +12,7 @@
 -- A line is measured glyph by glyph, and the ends that are still to come are those of greedy lines from here on
 -- (`LinesLemmas`).
 pub mod NormalizationPartsLemmas
+pub mod NormalizationCharacterLemmas
 pub mod NormalizationDecompositionLemmas
 pub mod NormalizationSortLemmas
 pub mod NormalizationOrderLemmas

@@ -1,9 +1,9 @@
-//! Tests of `glyph_variations`: a triangle whose corner and advance move to the right, and a paint that fills it.
-use color_glyphs::{ColrTable, DrawnOutlines};
+//! Tests of `font_gvar`: a triangle whose corner and advance move to the right, and a paint that fills it.
+use font_colors::{ColrTable, DrawnOutlines};
+use font_gvar::{GlyphSources, GlyphVariations, Point, varied_outline, varied_phantoms};
+use font_outlines::GlyfTables;
 use font_tables::metrics::Metrics;
 use font_tables::scale::Scale;
-use glyph_outlines::GlyfTables;
-use glyph_variations::{GlyphSources, GlyphVariations, Point, varied_outline, varied_phantoms};
 use rb_common::GlyphId;
 
 /// A triangle from the origin to 100 across and 100 up.

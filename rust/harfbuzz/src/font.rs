@@ -25,7 +25,7 @@ use std::cell::Cell;
 use std::ffi::{c_uint, c_void};
 use std::ptr::null_mut;
 use std::sync::{Mutex, PoisonError, RwLock, RwLockReadGuard};
-use vukhaso::internals::font_shaper::KeptPlans;
+use vukhaso::internals::ot_shape::KeptPlans;
 
 const NO_INSTANCE: u32 = u32::MAX;
 

@@ -14,7 +14,7 @@ use crate::shape::asked_font::AskedFont;
 use crate::shape::watching::Telling;
 use crate::types::{BOTTOM_TO_TOP, LEFT_TO_RIGHT, RIGHT_TO_LEFT, TOP_TO_BOTTOM, hb_bool_t, hb_direction_t, is_valid, slice};
 use std::ffi::{CStr, c_char, c_uint};
-use vukhaso::internals::font_shaper::{
+use vukhaso::internals::ot_shape::{
     KeptPlans, shape_watched, shape_with_functions_and_plans, shape_with_functions_watched, shape_with_kept_plans,
 };
 use vukhaso::{BufferClusterLevel, BufferFlags, Direction, Face, Feature, GlyphBuffer, GlyphId, ShapeError, UnicodeBuffer};

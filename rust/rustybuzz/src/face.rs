@@ -6,22 +6,11 @@ use alloc::vec::Vec;
 use core::ops::{Deref, DerefMut};
 use ttf_parser::{NormalizedCoordinate, RawFace, VariationAxis};
 
-/// A font, as it is read by `ttf-parser` and as it is shaped with. A copy shares what is read, until something else is chosen of one
-/// of the two.
+/// A font, as it is read by `ttf-parser` and as it is shaped with. A copy shares what is read.
 #[derive(Clone)]
 pub struct Face<'a> {
     parsed: ttf_parser::Face<'a>,
     pub(crate) shaped: Arc<vukhaso::rustybuzz::Face<'a>>,
-    index: u32,
-    chosen: Chosen,
-}
-
-/// What was chosen of a font.
-#[derive(Clone, Default)]
-struct Chosen {
-    variations: Vec<Variation>,
-    pixels: Option<(u16, u16)>,
-    points: Option<f32>,
 }
 
 impl<'a> Face<'a> {
@@ -48,35 +37,12 @@ impl<'a> Face<'a> {
         Some(Face {
             parsed,
             shaped: Arc::new(vukhaso::rustybuzz::Face::from_slice(data, index)?),
-            index,
-            chosen: Chosen::default(),
         })
     }
 
-    /// What is shaped with, of this face alone: where a copy shares it, it is read again.
+    /// What is shaped with, of this face alone.
     fn own(&mut self) -> &mut vukhaso::rustybuzz::Face<'a> {
-        if Arc::get_mut(&mut self.shaped).is_none() {
-            self.shaped = Arc::new(self.read_again());
-        }
-        Arc::get_mut(&mut self.shaped).expect("nothing else has it")
-    }
-
-    /// The font again, with what is chosen of it.
-    fn read_again(&self) -> vukhaso::rustybuzz::Face<'a> {
-        let data = self.parsed.raw_face().data;
-        let Some(mut face) = vukhaso::rustybuzz::Face::from_slice(data, self.index) else {
-            panic!("out of memory");
-        };
-        for variation in &self.chosen.variations {
-            let tag = vukhaso::Tag(variation.tag.0);
-            if face.set_variation(tag, variation.value).is_err() {
-                panic!("out of memory");
-            }
-        }
-        let (x, y) = self.chosen.pixels.unwrap_or_default();
-        face.set_pixels_per_em(x, y);
-        face.set_points_per_em(self.chosen.points.unwrap_or_default());
-        face
+        Arc::make_mut(&mut self.shaped)
     }
 
     /// How many units an em has.
@@ -87,13 +53,11 @@ impl<'a> Face<'a> {
     /// Says how many pixels an em has across and upwards, or that it is not drawn in pixels.
     pub fn set_pixels_per_em(&mut self, pixels: Option<(u16, u16)>) {
         let (x, y) = pixels.unwrap_or_default();
-        self.chosen.pixels = pixels;
         self.own().set_pixels_per_em(x, y);
     }
 
     /// Says how many points an em has, by which glyphs stand closer or farther apart, or that it is not known.
     pub fn set_points_per_em(&mut self, points: Option<f32>) {
-        self.chosen.points = points;
         self.own().set_points_per_em(points.unwrap_or_default());
     }
 
@@ -112,10 +76,6 @@ impl<'a> Face<'a> {
             if self.own().set_variation(tag, variation.value).is_err() {
                 panic!("out of memory");
             }
-            self.chosen
-                .variations
-                .retain(|other| other.tag != variation.tag);
-            self.chosen.variations.push(*variation);
         }
     }
 

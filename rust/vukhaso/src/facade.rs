@@ -7,21 +7,23 @@ pub use crate::buffer::{
     hb_glyph_info_t,
 };
 pub use crate::common::{Direction, GlyphId, Script, Tag, TagExt, script};
-pub use crate::font_shaper::{
-    Face, FaceNames, FontFunctions, OwnFunctions, ShapeError, ShapePlan, Variation, VerifyError,
-    shape, shape_with_functions, shape_with_plan,
-};
+pub use crate::font::Font;
 pub use crate::glyph::{
     BufferFlags, CharExt, CombiningClasses, Compositions, Decompositions, GlyphExtents, GlyphInfo,
     GlyphNames, GlyphPosition, GlyphPropsFlags, Mirrors, NoGlyphNames, SerializeFlags,
     UnicodeProps, glyph_flag, hb_buffer_scratch_flags_t, hb_unicode_general_category_t, space_t,
 };
 pub use crate::memory::AllocError;
+pub use crate::ot_shape::{
+    Face, FaceNames, FontFunctions, OwnFunctions, ShapeError, ShapePlan, Variation, VerifyError,
+    shape, shape_with_functions, shape_with_plan,
+};
 pub use crate::runs::{Answer, Call, RenderFault, Stopped, render, render_at, replay};
 pub use crate::text::{Feature, Language, LanguageError};
 pub use crate::unicode_tables::UNICODE_VERSION;
 
-use crate::layout_plan::PlannedLookup;
+use crate::ot_map::PlannedLookup;
+use crate::ot_plan::text_plan;
 use alloc::vec::Vec;
 use core::ops::{
     BitAnd, BitAndAssign, BitOr, BitOrAssign, BitXor, BitXorAssign, Not, Sub, SubAssign,
@@ -60,9 +62,12 @@ impl<'a> Face<'a> {
     ///
     /// # Errors
     ///
-    /// [`FaceError::NoFont`] where the file has no such font, and [`FaceError::Memory`] where memory runs out.
+    /// [`FaceError::NoFont`] where the file has no such font, and [`FaceError::Memory`] where memory runs out. The count of those that
+    /// share the face is kept by an `Arc` of std, which ends the program where there is no memory for it.
     pub fn parse(data: &'a [u8], index: u32) -> Result<Face<'a>, FaceError> {
-        Face::parse_if_there(data, index)?.ok_or(FaceError::NoFont)
+        let mut face = Face::parse_if_there(data, index)?.ok_or(FaceError::NoFont)?;
+        face.lookups = face.lookups.counted();
+        Ok(face)
     }
 
     /// The font of this number in a file, as rustybuzz finds it: `None` also where memory runs out, which
@@ -75,7 +80,7 @@ impl<'a> Face<'a> {
 impl ShapePlan {
     /// The numbers of the lookups of `GSUB` by which texts are shaped, and those of `GPOS`, in the order in which they are applied.
     pub fn lookups(&self) -> (Vec<u16>, Vec<u16>) {
-        let layout = &self.made.shape.layout;
+        let layout = &text_plan(self).shape.layout;
         let numbers =
             |lookups: &[PlannedLookup]| lookups.iter().map(|lookup| lookup.index).collect();
         (numbers(&layout.gsub_lookups), numbers(&layout.gpos_lookups))
@@ -126,7 +131,7 @@ impl core::fmt::Debug for GlyphBuffer {
     fn fmt(&self, f: &mut core::fmt::Formatter<'_>) -> core::fmt::Result {
         f.debug_struct("GlyphBuffer")
             .field("glyph_infos", &self.glyph_infos())
-            .field("glyph_positions", &self.glyph_positions())
+            .field("ot_gpos", &self.glyph_positions())
             .finish()
     }
 }

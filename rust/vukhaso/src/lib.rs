@@ -39,6 +39,7 @@ extern crate std;
     clippy::question_mark,
     clippy::redundant_closure,
     clippy::should_implement_trait,
+    clippy::single_match,
     clippy::type_complexity,
     clippy::wrong_self_convention,
     reason = "written in the forms that a prover reads best"
@@ -49,6 +50,7 @@ pub mod memory;
 pub mod rustybuzz;
 
 mod facade;
+mod font;
 mod itoa;
 mod ucd_normal;
 mod unicode;
@@ -65,12 +67,12 @@ use internals::command;
 #[cfg(feature = "std")]
 use internals::options;
 use internals::{
-    apple_substitution, apple_tables, arrayvec, bitflags, buffer, character_maps, color_glyphs,
-    common, font_face, font_functions, font_normalization, font_positions, font_shaper,
-    font_tables, font_variations, glyph, glyph_layout, glyph_lists, glyph_outlines,
-    glyph_positions, glyph_sides, glyph_substitution, glyph_text, glyph_variations, language_tags,
-    layout_plan, line_formats, numbers, position_tables, runs, script_features, script_shapers,
-    syllabic_shapers, syllable_tables, text,
+    aat_substitution, aat_tables, arrayvec, bitflags, buffer, common, font_cmap, font_colors,
+    font_face, font_functions, font_gvar, font_outlines, font_tables, font_variations, glyph,
+    glyph_lists, glyph_sides, glyph_text, line_formats, numbers, ot_apply, ot_characters, ot_gpos,
+    ot_gpos_tables, ot_gsub, ot_layout, ot_map, ot_normalization, ot_plan, ot_positions, ot_shape,
+    ot_tags, runs, script_indic, script_items, script_joining, script_shapers, script_syllables,
+    script_universal, text, verification,
 };
 
 pub use facade::*;

@@ -4,10 +4,13 @@
 //! and as `str`, and handed over to std's types with no copy.
 
 mod map;
+mod shared;
 mod string;
 mod vec;
 
 pub use map::BTreeMap;
+#[doc(hidden)]
+pub use shared::Shared;
 pub use string::{String, TryDisplay, TryText};
 pub use vec::{TryIterator, Vec};
 

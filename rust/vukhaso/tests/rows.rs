@@ -138,7 +138,7 @@ fn script_tags_by_language() {
 }
 
 #[test]
-fn language_tags() {
+fn ot_tags() {
     for (language, wanted) in [
         ("abc", "ABC "),
         ("xyz", "XYZ "),

@@ -1,8 +1,8 @@
 //! Which rule of a chained context is taken at a glyph.
 
 use crate::lookups::{JOINER, NON_JOINER, OPTIONS, bytes_of, fill, list_of};
-use glyph_layout::context::fitting_rule;
-use glyph_layout::{ApplyContext, Budget, LookupList, Search, SkippingIterator};
+use ot_layout::context::fitting_rule;
+use ot_layout::{ApplyContext, Budget, LookupList, Search, SkippingIterator};
 use rb_glyph::hb_glyph_info_t;
 use std::alloc::{AllocError, Global};
 

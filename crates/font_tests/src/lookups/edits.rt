@@ -1,9 +1,9 @@
 //! What a lookup of ligatures does, and for which glyphs it has a rule.
 
 use crate::lookups::{JOINER, OPTIONS, bytes_of, fill, list_of};
-use glyph_layout::substitution::{Edit, edit_at};
-use glyph_layout::subtable::{Form, positioning_form, substitution_form};
-use glyph_layout::{
+use ot_layout::substitution::{Edit, edit_at};
+use ot_layout::subtable::{Form, positioning_form, substitution_form};
+use ot_layout::{
     ApplyContext, Budget, Digest, LookupList, Search, SkippingIterator, would_substitute,
 };
 use rb_glyph::hb_glyph_info_t;

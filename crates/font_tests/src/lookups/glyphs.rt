@@ -2,15 +2,15 @@
 
 use crate::lookups::bytes_of;
 use font_tables::coverage::Coverage;
-use glyph_layout::first_glyphs::FirstGlyphs;
-use glyph_layout::glyph_table::Glyphs;
-use glyph_layout::ligature_parts::{
+use ot_layout::first_glyphs::FirstGlyphs;
+use ot_layout::glyph_table::Glyphs;
+use ot_layout::ligature_parts::{
     component_count, ligature_component, ligature_id, ligature_properties, mark_properties,
 };
-use glyph_layout::lookup_props::covered_index;
-use glyph_layout::subtable::{behind_list, table_or_empty};
-use glyph_layout::summary::{Summary, summary_of};
-use glyph_layout::{Budget, Digest, LookupOptions, LookupProps, Reach, SkippingIterator};
+use ot_layout::lookup_props::covered_index;
+use ot_layout::subtable::{behind_list, table_or_empty};
+use ot_layout::summary::{Summary, summary_of};
+use ot_layout::{Budget, Digest, LookupOptions, LookupProps, Reach, SkippingIterator};
 use rb_glyph::hb_glyph_info_t;
 use std::alloc::AllocError;
 

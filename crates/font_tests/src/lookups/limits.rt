@@ -3,7 +3,7 @@
 ghost use Rattle.std.specs.Prelude.{◌<◌};
 
 use crate::lookups::{bytes_of, list_of};
-use glyph_layout::subtable_limit::is_refused;
+use ot_layout::subtable_limit::is_refused;
 use std::alloc::{AllocError, Global};
 
 /// A table `GSUB` of so many lookups, which share one of 512 subtables.

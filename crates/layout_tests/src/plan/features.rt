@@ -1,8 +1,8 @@
 //! Features that are asked for, and the plan that is made of them.
 
 use crate::plan::TABLE;
-use layout_plan::builder::ChosenTable;
-use layout_plan::{
+use ot_map::builder::ChosenTable;
+use ot_map::{
     FeatureFlags, FontLayout, KernLayout, LayoutPlan, Pause, PlanBuilder, ShapePlan, ShaperRules,
     TextProperties,
 };

@@ -1,7 +1,7 @@
 //! The bits of features, and what is asked of one tag.
 
-use layout_plan::bits::{FeatureBits, bits_needed};
-use layout_plan::{FeatureFlags, FeatureRequest};
+use ot_map::bits::{FeatureBits, bits_needed};
+use ot_map::{FeatureFlags, FeatureRequest};
 use rb_common::Tag;
 use std::test::Fail;
 

@@ -1,9 +1,9 @@
 //! Which script and which language system is chosen.
 
 use crate::plan::TABLE;
-use layout_plan::LayoutTable;
-use layout_plan::builder::ChosenTable;
-use layout_plan::choice::{feature_count, required_feature, select_language, select_script};
+use ot_map::LayoutTable;
+use ot_map::builder::ChosenTable;
+use ot_map::choice::{feature_count, required_feature, select_language, select_script};
 use rb_common::Tag;
 use std::test::Fail;
 

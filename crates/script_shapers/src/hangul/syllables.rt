@@ -3,8 +3,8 @@
 ghost use Rattle.std.specs.Prelude.{◌≡◌, ◌≤◌};
 ghost use Rattle.script_shapers.specs.Hangul as hangul;
 
-use crate::font::FontGlyphs;
 use crate::hangul::jamo::{composed, decomposed, is_leading, is_trailing, is_vowel};
+use script_items::font::FontGlyphs;
 
 /// What is done with the characters at the cursor.
 #[derive(Clone, Copy, PartialEq, Eq, Debug)]

@@ -5,11 +5,11 @@ ghost use Rattle.shaping_buffer.specs.KeepsClusters.{KeepsClusters};
 ghost use Rattle.glyph_lists.specs.Clusters.{clusters};
 ghost use Rattle.shaping_buffer.specs.State.{len};
 
-use crate::font::FontGlyphs;
 use crate::hangul::jamo::is_tone;
 use crate::hangul::syllables::{Step, next_step, unsafe_length};
 use crate::hangul::tones::read_tone;
-use crate::item::set_shaper_byte;
+use script_items::font::FontGlyphs;
+use script_items::item::set_shaper_byte;
 use shaping_buffer::{HB_BUFFER_CLUSTER_LEVEL_MONOTONE_GRAPHEMES, hb_buffer_t, hb_glyph_info_t};
 use std::alloc::AllocError;
 

@@ -3,9 +3,9 @@
 ghost use Rattle.std.specs.Prelude.{◌≡◌, ◌<◌, ◌≤◌, ◌+◌, false, true, length, IfOk};
 ghost use Rattle.shaping_buffer.specs.KeepsClusters.{KeepsClusters};
 
-use crate::font::{FontGlyphs, has_no_width};
 use crate::hangul::text::Syllable;
-use crate::moves::{merge_out, move_out_back};
+use script_items::font::{FontGlyphs, has_no_width};
+use script_items::moves::{merge_out, move_out_back};
 use shaping_buffer::{BufferFlags, Flags, hb_buffer_t};
 use std::alloc::AllocError;
 

@@ -5,7 +5,7 @@ ghost use Rattle.std.specs.Prelude.{◌≡◌, ◌<◌, ◌≤◌, false, length
 ghost use Rattle.glyph_lists.specs.Clusters.{clusters};
 ghost use Rattle.shaping_buffer.specs.KeepsClusters.{KeepsClusters};
 
-use crate::font::FontGlyphs;
+use script_items::font::FontGlyphs;
 use shaping_buffer::{hb_buffer_t, hb_glyph_info_t};
 
 /// A consonant, by what stands in the way of marks.

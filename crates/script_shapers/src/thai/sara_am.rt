@@ -7,8 +7,8 @@ ghost use Rattle.shaping_buffer.specs.KeepsClusters.{KeepsClusters};
 ghost use Rattle.rb_glyph.specs.declared.info.hb_glyph_info_t.{hb_glyph_info_t};
 ghost use Rattle.script_shapers.specs.Thai.{is_sara_am, is_above_base, parts_of};
 
-use crate::item::become_mark;
-use crate::moves::{merge_out, move_out_back};
+use script_items::item::become_mark;
+use script_items::moves::{merge_out, move_out_back};
 use shaping_buffer::{HB_BUFFER_CLUSTER_LEVEL_MONOTONE_GRAPHEMES, hb_buffer_t, hb_glyph_info_t};
 use std::alloc::AllocError;
 
@@ -152,7 +152,7 @@ fn become_last_mark(infos: &mut [hb_glyph_info_t])
 
 /// Moves the ring, which was put out last but one, in front of the marks above the consonant. Where there are none, both parts are in
 /// one cluster with the character before them.
-#[tactic(auto, using(shaping_buffer::proofs::ClosedKeepsLemmas::kept, crate::proofs::MoveLemmas::part_is_one))]
+#[tactic(auto, using(shaping_buffer::proofs::ClosedKeepsLemmas::kept, script_items::proofs::MoveLemmas::part_is_one))]
 fn move_ring(buffer: &mut hb_buffer_t)
     requires { buffer.old.have_output ≡ true }
     ensures opened { buffer.new.have_output ≡ true }

@@ -1,9 +1,9 @@
-//! The shaper's fonts of a face. Each is parsed once, lent to one caller at a time, and set to the size and the variations that the
-//! caller asks for. Threads that share a face have one each.
+//! The shaper's fonts of a face. The face is parsed once, and its fonts share what was read. Each is lent to one caller at a time,
+//! and set to the size and the variations that the caller asks for. Threads that share a face have one each.
 
-use std::sync::Mutex;
+use std::sync::{Mutex, OnceLock};
 use vukhaso::Face;
-use vukhaso::internals::font_shaper::KeptPlans;
+use vukhaso::internals::ot_shape::KeptPlans;
 
 /// How a font is set.
 #[derive(Clone, PartialEq, Debug, Default)]
@@ -23,19 +23,22 @@ struct Set {
     plan: KeptPlans,
 }
 
-/// Fonts that nobody uses at the moment.
-pub struct Pool(Mutex<Vec<Set>>);
+/// Fonts that nobody uses at the moment, and the face that they are clones of.
+pub struct Pool {
+    sets: Mutex<Vec<Set>>,
+    parsed: OnceLock<Face<'static>>,
+}
 
 /// A font without a table, for bytes that are none.
 static NO_TABLES: [u8; 12] = [0, 1, 0, 0, 0, 0, 0, 0, 0, 0, 0, 0];
 
 impl Pool {
     pub fn new() -> Self {
-        Pool(Mutex::default())
+        Pool { sets: Mutex::default(), parsed: OnceLock::new() }
     }
 
     fn sets(&self) -> std::sync::MutexGuard<'_, Vec<Set>> {
-        self.0.lock().unwrap_or_else(std::sync::PoisonError::into_inner)
+        self.sets.lock().unwrap_or_else(std::sync::PoisonError::into_inner)
     }
 
     pub fn clear(&self) {
@@ -61,7 +64,10 @@ impl Pool {
         };
         let mut set = match found {
             Some(set) => set,
-            None => Set { face: Box::new(parsed(bytes, index)), settings: Settings::default(), plan: KeptPlans::new() },
+            None => {
+                let parsed = self.parsed.get_or_init(|| parsed(bytes, index));
+                Set { face: Box::new(parsed.clone()), settings: Settings::default(), plan: KeptPlans::new() }
+            }
         };
         if set.settings != *settings {
             apply(&mut set.face, settings);

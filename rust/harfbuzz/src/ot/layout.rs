@@ -19,7 +19,7 @@ use crate::sfnt::{at_16, at_32, tail, u16_at, u32_at};
 use crate::types::{hb_bool_t, hb_tag_t, put, put_part, slice, tag};
 use std::ffi::c_uint;
 use vukhaso::internals::font_variations::VariationStore;
-use vukhaso::internals::position_tables::devices::device_delta;
+use vukhaso::internals::ot_gpos_tables::devices::device_delta;
 
 /// The index that stands for none, and for the default language of a script.
 const NONE: c_uint = 0xFFFF;

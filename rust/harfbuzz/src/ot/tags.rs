@@ -7,7 +7,7 @@ use std::collections::HashMap;
 use std::ffi::c_uint;
 use std::ptr::null;
 use std::sync::OnceLock;
-use vukhaso::internals::language_tags::LanguageTags;
+use vukhaso::internals::ot_tags::LanguageTags;
 use vukhaso::internals::text::{LanguageTable, tags::tags_from_script_and_language};
 use vukhaso::{Language, Script, Tag};
 

@@ -9,7 +9,7 @@ use crate::shape::Shaped;
 use std::ffi::{CString, c_void};
 use std::ptr::from_ref;
 use vukhaso::AllocError;
-use vukhaso::internals::font_shaper::{Step, Watch};
+use vukhaso::internals::ot_shape::{Step, Watch};
 
 type Function = unsafe extern "C" fn(*mut hb_buffer_t, *mut hb_font_t, *const std::ffi::c_char, *mut c_void) -> i32;
 

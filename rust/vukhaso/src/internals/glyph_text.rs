@@ -6,4 +6,5 @@
 //! Nothing here knows of a buffer: `shaping_buffer` gives the text of what it holds.
 
 mod number_text;
+pub mod parts;
 pub mod serialize;

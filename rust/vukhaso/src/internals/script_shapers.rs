@@ -1,26 +1,20 @@
 // Written by tools/plain_rust from crates/script_shapers. Do not edit.
 
-//! What the scripts with shapers of their own ask beyond the default shaper: letters that join, as in Arabic and Syriac, Hebrew's
-//! presentation forms, Hangul syllables, and the vowel AM of Thai and Lao.
+//! Which shaper a script has, and what it asks beyond the default one, with the shapers that are no family: Hebrew's presentation
+//! forms, Hangul syllables, and the vowel AM of Thai and Lao.
 //!
-//! A text's [`ScriptShaper`] says by its methods what is done at each step of shaping, and [`ScriptPlan`] keeps what the features
-//! of a font make of it. The font is asked by [`FontGlyphs`].
+//! A text's [`ScriptShaper`] says by its methods what is done at each step of shaping; [`ScriptPlan`] and [`SyllablePlan`] keep what
+//! the features of a font make of it.
 
-pub use arabic::fallback::FallbackLookups;
-pub use font::FontGlyphs;
-pub use joining::form::Form;
-pub use joining::kind::{JoiningType, joining_type};
-pub use plan::ScriptPlan;
+pub use features::{collect_features, override_features};
+pub use plan::{ScriptPlan, script_plan};
 pub use shaper::{NormalizationMode, ScriptShaper, ZeroWidthMarks};
+pub use syllables::{SyllablePlan, syllable_plan};
 
-mod arabic;
-mod font;
+mod features;
 mod hangul;
 mod hebrew;
-mod item;
-mod joining;
-mod moves;
 mod plan;
 mod shaper;
+mod syllables;
 mod thai;
-mod universal;

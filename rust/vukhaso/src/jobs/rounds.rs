@@ -1,10 +1,11 @@
 //! Rounds of lines, which threads answer.
 
-use crate::command::lines::{LinesError, answer_lines, read_error};
+use crate::command::lines::{LinesError, answer_lines};
+use crate::command::reading::{Reading, read_run};
 use crate::command::shaper::{KeptLine, LineShaper, LineState};
-use crate::font_shaper::FaceNames;
 use crate::host::io::BufRead;
 use crate::memory::{AllocError, Vec};
+use crate::ot_shape::FaceNames;
 use std::io::{self, Write};
 use std::slice::IterMut;
 use std::sync::{Mutex, PoisonError};
@@ -26,7 +27,7 @@ pub(super) struct Shaped {
 /// Threads that answer lines, each with what it keeps of the line before.
 pub(super) struct Rounds<'a> {
     shaper: LineShaper<'a>,
-    states: Vec<LineState<FaceNames<'a>>>,
+    states: Vec<LineState<'a, FaceNames<'a>>>,
 }
 
 impl<'a> Rounds<'a> {
@@ -35,7 +36,12 @@ impl<'a> Rounds<'a> {
         let mut states = Vec::with_capacity(jobs)?;
         for _ in 0..jobs {
             let (names, kept) = (FaceNames::new(shaper.face)?, KeptLine::new());
-            states.push(LineState { names, kept })?;
+            let advances = shaper.advances();
+            states.push(LineState {
+                names,
+                kept,
+                advances,
+            })?;
         }
         Ok(Rounds { shaper, states })
     }
@@ -48,7 +54,12 @@ impl<'a> Rounds<'a> {
     ) -> Result<Shaped, LinesError> {
         let (mut lines, mut all) = (Vec::new(), true);
         loop {
-            let read = read_round(reader, self.states.len() * BYTES, &mut lines);
+            let read = read_round(
+                reader,
+                self.shaper.reading,
+                self.states.len() * BYTES,
+                &mut lines,
+            );
             for piece in self.answered(&lines)? {
                 let Answers(text) = &piece.answers;
                 output.write_all(text).map_err(LinesError::Write)?;
@@ -108,18 +119,20 @@ impl Write for Answers {
 /// before it are held.
 fn read_round(
     reader: &mut impl BufRead,
+    reading: Reading,
     bytes: usize,
     lines: &mut Vec<u8>,
 ) -> Result<(), LinesError> {
     lines.clear();
-    while lines.len() < bytes {
-        let held = lines.len();
-        match reader.read_until(b'\n', lines) {
-            Ok(0) => break,
-            Ok(_) => {}
+    let mut held = 0;
+    while held < bytes {
+        match read_run(reader, reading, lines) {
+            Ok(true) if !lines.ends_with(b"\n") => {}
+            Ok(true) => held = lines.len(),
+            Ok(false) => break,
             Err(error) => {
                 lines.truncate(held);
-                return Err(read_error(error));
+                return Err(error);
             }
         }
     }
@@ -145,7 +158,7 @@ fn pieces_of(mut lines: &[u8], pieces: usize) -> Result<Vec<Piece<'_>>, AllocErr
 /// Answers pieces until none is left.
 fn answer_pieces(
     shaper: LineShaper<'_>,
-    state: &mut LineState<FaceNames<'_>>,
+    state: &mut LineState<'_, FaceNames<'_>>,
     rest: &Mutex<IterMut<'_, Piece<'_>>>,
 ) {
     let next = || rest.lock().unwrap_or_else(PoisonError::into_inner).next();

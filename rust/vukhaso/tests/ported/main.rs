@@ -15,7 +15,7 @@
 
 type Fail = Box<dyn std::error::Error>;
 
-mod apple_tests;
+mod aat_tests;
 mod buffer_tests;
 mod font_tests;
 mod format_tests;

@@ -1,5 +1,6 @@
 use Rattle.std.proofs.Common.{ap, sym, ◌∙◌, ◌++◌, ◌+ℤ◌, get_or, take, arith, pos, string_bytes}
 use Rattle.std.specs.List.{zip}
+use Rattle.std.proofs.lemmas.Bool.{cond-true}
 use Rattle.std.proofs.lemmas.List.Sums.{fold_more}
 use Rattle.rb_glyph.specs.declared.info.hb_glyph_info_t.{hb_glyph_info_t}
 use Rattle.rb_glyph.specs.declared.position.GlyphPosition.{GlyphPosition}
@@ -21,7 +22,7 @@ loop-i-preserved g c =
     let position : GlyphPosition = get_or positions i no_position in
     let earlier = take i positions in
     let place = c.loop-i.pen in
-    let moved = c.place_behind-pen.ensures in
+    let moved = c.behind-pen.ensures in
     record {
       written = pieces_more (string_bytes c.loop-i.text) _ _ _ _ (bar_before i) _ _ _ _ _ c.in_ok-write_head.ensures
           c.in_ok-write_position.ensures c.in_ok-write_flags.ensures c.in_ok-write_extents.ensures
@@ -34,10 +35,10 @@ loop-i-preserved g c =
           (position_text-same flags place.x place.y (x_advances earlier) (y_advances earlier) position old.x old.y)
           ∙ sym (glyphs_text-more font flags infos positions i no_glyph no_position c.loop-i-test.true
           c.requires.as_many);
-      x = λ h. moved.x h ∙ ap (λ x. x +ℤ position.x_advance) (old.x h)
+      x = λ h. moved.x ∙ cond-true _ _ _ h ∙ ap (λ x. x +ℤ position.x_advance) (old.x h)
           ∙ sym (fold_more (λ sum p. sum +ℤ p.x_advance) (pos 0) positions i no_position
           (omega (arith, c.requires.as_many)));
-      y = λ h. moved.y h ∙ ap (λ y. y +ℤ position.y_advance) (old.y h)
+      y = λ h. moved.y ∙ cond-true _ _ _ h ∙ ap (λ y. y +ℤ position.y_advance) (old.y h)
           ∙ sym (fold_more (λ sum p. sum +ℤ p.y_advance) (pos 0) positions i no_position
           (omega (arith, c.requires.as_many)));
       x_near = omega (arith, moved.near_x, old.x_near);

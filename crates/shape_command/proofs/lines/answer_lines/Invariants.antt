@@ -5,5 +5,5 @@ use Rattle.shape_command.proofs.lines.answer_lines.Given as goal
 -- each line so far has its answer
 abbrev pub invariant-loop-number : goal.invariant-loop-number
 invariant-loop-number g l =
-    AnswersSoFar (IsShown l.shaper.output) l.number (g.R.Read.remaining l.initial.reader) (g.R.Read.remaining l.reader)
+    AnswersSoFar l.shaper.reading (IsShown l.shaper.output) l.number (g.R.Read.remaining l.initial.reader) (g.R.Read.remaining l.reader)
     (g.W.Write.contents l.initial.writer) (g.W.Write.contents l.writer)

@@ -1,12 +1,32 @@
-use Rattle.std.proofs.Common.{◌≡◌, length, rules, sym, subst}
-use Rattle.shape_command.specs.Lines.{TakesLine}
-use Rattle.shape_command.proofs.LineLemmas.{takes}
+use Rattle.std.proofs.Common.{rules, ◌≡◌, true, false, subst}
+use Rattle.std.specs.Io.BufRead.{ends_with_byte}
+use Rattle.shape_command.specs.Reading.{AddsRun}
+use Rattle.shape_command.proofs.ReadingLemmas.{read-last, read-end, read-more}
 use Rattle.shape_command.proofs.lines.next_line.Goals as goal
 
-pub returns : goal.returns
-returns g c =
-    let count : length c.read_until.new.buf.items ≡ c.in-Ok.read = search rules in
-    subst (TakesLine _ (g.R.Read.remaining c.args.reader.now) (g.R.Read.remaining c.read_until.new.self))
-    (sym c.drop_line_feed.ensures)
-    (takes c.in-Ok.read _ _ c.clear.new.self.items c.read_until.new.buf.items c.clear.ensures.items c.in-Ok.ensures.bytes
-    c.in-Ok.ensures.rest c.in-Ok.ensures.end count)
+pub returns-then-not-branch : goal.returns-then-not-branch
+returns-then-not-branch g c =
+    let none : c.in_ok-read_run.field-0 ≡ false = search rules in
+    read-last _ _ _ _ _ _ _ c.loop.invariant
+    (subst (λ found. AddsRun c.args.reading found (g.R.Read.remaining c.loop.reader) (g.R.Read.remaining c.read_run.new.reader)
+    c.loop.line.items c.read_run.new.line.items) none c.in_ok-read_run.ensures)
+    (search rules)
+
+pub returns-then-ends_line : goal.returns-then-ends_line
+returns-then-ends_line g c =
+    let some : c.in_ok-read_run.field-0 ≡ true = search rules in
+    let ends : ends_with_byte 10 c.read_run.new.line.items ≡ true = search rules in
+    let cut = read-end _ _ _ _ _ _ c.loop.invariant
+    (subst (λ found. AddsRun c.args.reading found (g.R.Read.remaining c.loop.reader) (g.R.Read.remaining c.read_run.new.reader)
+    c.loop.line.items c.read_run.new.line.items) some c.in_ok-read_run.ensures)
+    ends in
+    search (rules, cut)
+
+pub loop-preserved : goal.loop-preserved
+loop-preserved g c =
+    let some : c.in_ok-read_run.field-0 ≡ true = search rules in
+    let open_still : ends_with_byte 10 c.read_run.new.line.items ≡ false = search rules in
+    read-more _ _ _ _ _ _ c.loop.invariant
+    (subst (λ found. AddsRun c.args.reading found (g.R.Read.remaining c.loop.reader) (g.R.Read.remaining c.read_run.new.reader)
+    c.loop.line.items c.read_run.new.line.items) some c.in_ok-read_run.ensures)
+    open_still

@@ -6,6 +6,7 @@ use crate::command::ending::NAME;
 use crate::command::font_file::FontFile;
 use crate::command::lines::{LinesError, next_line};
 use crate::command::loaded_font::LoadedFont;
+use crate::command::reading::Reading;
 use crate::command::run::{CommandError, answer_options, read_font_file};
 use crate::host::io::{self, BufRead, ErrorKind, Write};
 use crate::host::{AllocGlobal, Files};
@@ -43,10 +44,17 @@ pub(crate) fn answer_batch<F: Files + AllocGlobal, R: BufRead, W: Write>(
     Ok(all_shaped)
 }
 
-/// Reads the next line, if there is one.
+/// Reads the next line, if there is one, up to a byte 0 if it has one.
 fn has_next<R: BufRead>(input: &mut R, line: &mut Vec<u8>) -> io::Result<bool> {
-    match next_line(input, line) {
-        Ok(found) => Ok(found),
+    match next_line(input, Reading::Whole, line) {
+        Ok(found) => {
+            line.truncate(
+                line.iter()
+                    .position(|byte| *byte == 0)
+                    .unwrap_or(line.len()),
+            );
+            Ok(found)
+        }
         Err(LinesError::Read(error) | LinesError::Write(error)) => Err(error),
         Err(LinesError::Memory) => Err(io::Error::from(ErrorKind::OutOfMemory)),
     }

@@ -6,11 +6,11 @@ use crate::command::loaded_font::LoadedFont;
 use crate::command::picture::Picture;
 use crate::command::run::CommandError;
 use crate::command::text::{empty_text, fill};
-use crate::font_shaper::{Face, FaceNames, ShapeError, shape_watched};
 use crate::host::io::Write;
 use crate::memory::AllocError;
 use crate::options::options::{LineOptions, Options, OptionsError, TextSource};
 use crate::options::words::WordsError;
+use crate::ot_shape::{Face, FaceNames, ShapeError, shape_watched};
 
 /// Draws the steps of shaping a text with a font, as a picture in SVG, and says whether the text was
 /// shaped.

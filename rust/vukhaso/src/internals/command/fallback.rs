@@ -6,8 +6,8 @@ use crate::buffer::{
     CharExt, Direction, GlyphBuffer, GlyphId, GlyphPosition, UnicodeBuffer, hb_buffer_t,
     hb_glyph_info_t,
 };
-use crate::font_shaper::FontFunctions;
 use crate::memory::AllocError;
+use crate::ot_shape::FontFunctions;
 
 /// A glyph at its position.
 #[derive(Clone, Copy)]

@@ -3,8 +3,8 @@
 //! Lines that write glyphs, as `[f_i=0+900|a=2@-5,0+410]`.
 
 use crate::buffer::{Direction, GlyphId, GlyphNames, GlyphPosition, hb_glyph_info_t};
-use crate::font_shaper::{Face, FontFunctions};
 use crate::memory::{AllocError, TryIterator, Vec};
+use crate::ot_shape::{Face, FontFunctions};
 
 /// Glyphs that are read, and where each is drawn.
 #[derive(Debug)]

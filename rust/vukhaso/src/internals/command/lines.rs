@@ -2,12 +2,13 @@
 
 //! The lines of a text, and their answers.
 
+use crate::command::reading::{Reading, keep_seen, read_run};
 use crate::command::shaper::{Answer, LineNames, LineShaper, LineState};
 use crate::command::trace::trace_lines;
-use crate::font_shaper::VerifyError;
 use crate::host::io::{self, BufRead, ErrorKind, Read, Write};
 use crate::line_formats::heads::head;
 use crate::memory::{AllocError, Vec};
+use crate::ot_shape::VerifyError;
 
 /// Why not each line of a text was answered.
 #[derive(Debug)]
@@ -44,21 +45,21 @@ pub(crate) fn read_error(error: io::Error) -> LinesError {
 /// # Proved
 ///
 /// ```text
-/// ensures { OnOk result (AnswersAll (IsShown shaper.now.output)
+/// ensures { OnOk result (AnswersAll shaper.now.reading (IsShown shaper.now.output)
 ///     (R.remaining reader.old) (R.remaining reader.new)
 ///     (W.contents writer.old) (W.contents writer.new)) }
 /// ```
 #[inline]
 pub fn answer_lines<N: LineNames, R: BufRead, W: Write>(
     shaper: &LineShaper<'_>,
-    state: &mut LineState<N>,
+    state: &mut LineState<'_, N>,
     reader: &mut R,
     writer: &mut W,
 ) -> Result<bool, LinesError> {
     let mut all_shaped = true;
     let mut line = Vec::new();
     for number in 1..u64::MAX {
-        let found = next_line(reader, &mut line)?;
+        let found = next_line(reader, shaper.reading, &mut line)?;
         if !found {
             return Ok(all_shaped);
         }
@@ -77,23 +78,24 @@ pub fn answer_lines<N: LineNames, R: BufRead, W: Write>(
 /// # Proved
 ///
 /// ```text
-/// ensures { OnOk result (AnswersParagraph (IsShown shaper.now.output)
+/// ensures { OnOk result (AnswersParagraph shaper.now.reading (IsShown shaper.now.output)
 ///     (R.remaining reader.old) (R.remaining reader.new)
 ///     (W.contents writer.old) (W.contents writer.new)) }
 /// ```
 #[inline]
 pub fn answer_paragraph<N: LineNames, R: Read, W: Write>(
     shaper: &LineShaper<'_>,
-    state: &mut LineState<N>,
+    state: &mut LineState<'_, N>,
     reader: &mut R,
     writer: &mut W,
 ) -> Result<bool, LinesError> {
     let mut text = Vec::new();
-    let read = match reader.read_to_end(&mut text) {
-        Ok(read) => read,
+    match reader.read_to_end(&mut text) {
+        Ok(_) => {}
         Err(error) => return Err(read_error(error)),
-    };
-    if read == 0 {
+    }
+    keep_seen(shaper.reading, &mut text, 0)?;
+    if text.is_empty() {
         return Ok(true);
     }
     let is_shaped = answer_line(shaper, state, 1, text.as_slice(), writer)?;
@@ -103,7 +105,7 @@ pub fn answer_paragraph<N: LineNames, R: Read, W: Write>(
 /// Answers a line of this number, and says whether it was shaped.
 fn answer_line<N: LineNames, W: Write>(
     shaper: &LineShaper<'_>,
-    state: &mut LineState<N>,
+    state: &mut LineState<'_, N>,
     number: u64,
     line: &[u8],
     writer: &mut W,
@@ -128,25 +130,26 @@ fn answer_line<N: LineNames, W: Write>(
 /// # Proved
 ///
 /// ```text
-/// ensures { IfOk result (λ found. TakesLine found (R.remaining reader.old) (R.remaining reader.new)
-///     line.new.items) }
+/// ensures { IfOk result (λ found. TakesLine reading found
+///     (R.remaining reader.old) (R.remaining reader.new) line.new.items) }
 /// ```
 #[inline]
-pub fn next_line<R: BufRead>(reader: &mut R, line: &mut Vec<u8>) -> Result<bool, LinesError> {
+pub fn next_line<R: BufRead>(
+    reader: &mut R,
+    reading: Reading,
+    line: &mut Vec<u8>,
+) -> Result<bool, LinesError> {
     line.clear();
-    let read = match reader.read_until(b'\n', line) {
-        Ok(read) => read,
-        Err(error) => return Err(read_error(error)),
-    };
-    drop_line_feed(line);
-    Ok(read > 0)
-}
-
-/// Drops the line feed at the end, if one stands there.
-fn drop_line_feed(line: &mut Vec<u8>) {
-    if ends_line(line.as_slice()) {
-        line.truncate(line.len() - 1);
+    for _ in 0..u64::MAX {
+        if !read_run(reader, reading, line)? {
+            return Ok(!line.is_empty());
+        }
+        if ends_line(line.as_slice()) {
+            line.truncate(line.len() - 1);
+            return Ok(true);
+        }
     }
+    Err(LinesError::Read(io::Error::from(ErrorKind::Other)))
 }
 
 /// Whether a line feed stands at the end.

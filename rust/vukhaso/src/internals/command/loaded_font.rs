@@ -4,10 +4,10 @@
 
 use crate::command::font_file::FontFile;
 use crate::command::shaper::KeptLine;
-use crate::font_shaper::{Face, FaceNames, Variation};
 use crate::font_tables::directory::face_count;
 use crate::memory::{AllocError, Vec};
 use crate::options::options::{FontChoice, Options};
+use crate::ot_shape::{Face, FaceNames, Variation};
 use std::mem;
 
 /// A font at a size, with the names of its glyphs once they were asked for.

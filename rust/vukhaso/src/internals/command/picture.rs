@@ -5,8 +5,8 @@
 use crate::buffer::{
     CharExt, GeneralCategoryExt, GlyphId, GlyphNames, GlyphPosition, hb_buffer_t, hb_glyph_info_t,
 };
-use crate::font_shaper::{Step, Watch};
 use crate::memory::{AllocError, String, Vec};
+use crate::ot_shape::{Step, Watch};
 
 /// The colours of clusters.
 const COLOURS: [&str; 8] = [

@@ -9,18 +9,20 @@ use crate::buffer::{
 use crate::command::edits::{Edits, buffer_of};
 use crate::command::fallback::shape_fallback;
 use crate::command::glyph_line::read_glyphs;
+use crate::command::kept_advances::KeptAdvances;
+use crate::command::reading::Reading;
 use crate::command::synthetic_font::SyntheticFont;
 use crate::command::text::{emptied, empty_text, fill, lossy_text};
 use crate::command::trace::Trace;
-use crate::font_shaper::{
-    Face, FaceNames, KeptPlans, ShapeError, VerifyError, shape_watched,
-    shape_with_functions_and_plans, shape_with_functions_watched, shape_with_kept_plans,
-};
 use crate::line_formats::characters::characters_list;
 use crate::line_formats::json::glyphs_json;
 use crate::memory::{AllocError, String, Vec};
 use crate::options::options::{LineOptions, Shaper};
 use crate::options::output::{Output, OutputFormat};
+use crate::ot_shape::{
+    Face, FaceNames, KeptPlans, ShapeError, VerifyError, shape_watched,
+    shape_with_functions_and_plans, shape_with_functions_watched, shape_with_kept_plans,
+};
 
 /// Names and extents of glyphs, where the extents are found before they are asked for.
 pub trait LineNames: GlyphNames {
@@ -149,11 +151,13 @@ impl KeptLine {
 }
 
 /// What lines are answered by that changes from line to line.
-pub struct LineState<N> {
+pub struct LineState<'a, N> {
     /// Names and extents of glyphs.
     pub names: N,
     /// What is kept of the line before.
     pub kept: KeptLine,
+    /// The advances of glyphs of the lines before, where the font is varied.
+    pub advances: Option<KeptAdvances<'a>>,
 }
 
 /// A font, and how lines are shaped with it and printed.
@@ -171,9 +175,36 @@ pub struct LineShaper<'a> {
     pub output: Output,
     /// Whether the text is a single line.
     pub single_par: bool,
+    /// What is seen of the bytes of the text.
+    pub reading: Reading,
 }
 
-impl LineShaper<'_> {
+impl<'a> LineShaper<'a> {
+    /// A font that keeps the advances of its glyphs, where these are asked for and may cost much.
+    ///
+    /// # Proved
+    ///
+    /// That it returns.
+    #[inline]
+    pub fn advances(&self) -> Option<KeptAdvances<'a>> {
+        let is_varied = self.font.is_plain() && !self.face.coordinates().is_empty();
+        if is_varied && self.asks_advances() {
+            Some(KeptAdvances::new(self.face))
+        } else {
+            None
+        }
+    }
+
+    /// Whether lines are shaped horizontally, and their steps not printed.
+    fn asks_advances(&self) -> bool {
+        let options = self.options;
+        let is_down = matches!(
+            options.direction,
+            Direction::TopToBottom | Direction::BottomToTop
+        );
+        options.shaper == Shaper::OpenType && !options.glyphs && !is_down && !self.output.trace
+    }
+
     /// The answer to a line.
     ///
     /// # Errors
@@ -190,7 +221,7 @@ impl LineShaper<'_> {
     pub fn answer<N: LineNames>(
         &self,
 
-        state: &mut LineState<N>,
+        state: &mut LineState<'_, N>,
         line: &[u8],
     ) -> Result<Answered, AllocError> {
         match std::str::from_utf8(line) {
@@ -206,7 +237,7 @@ impl LineShaper<'_> {
     fn answer_to_text<N: LineNames>(
         &self,
 
-        state: &mut LineState<N>,
+        state: &mut LineState<'_, N>,
         line: &str,
     ) -> Result<Answered, AllocError> {
         let characters = self.characters(line)?;
@@ -223,12 +254,15 @@ impl LineShaper<'_> {
     fn answer_to_line<N: LineNames>(
         &self,
 
-        state: &mut LineState<N>,
+        state: &mut LineState<'_, N>,
         trace: &mut Trace,
         line: &str,
     ) -> Result<Answer, AllocError> {
         if self.options.glyphs {
             return self.answer_to_glyphs(state, line);
+        }
+        if let Some(advances) = &mut state.advances {
+            advances.keep_characters(line);
         }
         self.shape_unprinted(state, trace, line)?;
         let answer = self.shape(state, trace, line)?;
@@ -239,7 +273,7 @@ impl LineShaper<'_> {
     fn answer_to_glyphs<N: LineNames>(
         &self,
 
-        state: &mut LineState<N>,
+        state: &mut LineState<'_, N>,
         line: &str,
     ) -> Result<Answer, AllocError> {
         let mut text = state.kept.take_text(self.options);
@@ -274,7 +308,7 @@ impl LineShaper<'_> {
     fn shape_unprinted<N: LineNames>(
         &self,
 
-        state: &mut LineState<N>,
+        state: &mut LineState<'_, N>,
         trace: &mut Trace,
         line: &str,
     ) -> Result<(), AllocError> {
@@ -283,7 +317,7 @@ impl LineShaper<'_> {
             if !fill(self.options, line, &mut text)? {
                 return Ok(());
             }
-            match self.shape_text(&mut state.kept.plans, trace, text) {
+            match self.shape_text(state, trace, text) {
                 Ok(glyphs) => state.kept.text = Some(glyphs.clear()),
                 Err(ShapeError::Memory) => return Err(AllocError),
                 Err(_) => return Ok(()),
@@ -296,7 +330,7 @@ impl LineShaper<'_> {
     fn shape<N: LineNames>(
         &self,
 
-        state: &mut LineState<N>,
+        state: &mut LineState<'_, N>,
         trace: &mut Trace,
         line: &str,
     ) -> Result<Answer, AllocError> {
@@ -305,7 +339,7 @@ impl LineShaper<'_> {
             return Ok(Answer::Failed);
         }
         let edits = self.edits(text.direction());
-        match self.shape_text(&mut state.kept.plans, trace, text) {
+        match self.shape_text(state, trace, text) {
             Ok(glyphs) => self.print_edited(state, &edits, glyphs),
             Err(ShapeError::TooLong) => Ok(Answer::Failed),
             Err(ShapeError::OtherPlan) => Ok(Answer::Failed),
@@ -315,9 +349,9 @@ impl LineShaper<'_> {
     }
 
     /// Shapes a text by the shaper that is chosen.
-    fn shape_text(
+    fn shape_text<N: LineNames>(
         &self,
-        plans: &mut KeptPlans,
+        state: &mut LineState<'_, N>,
         trace: &mut Trace,
         text: UnicodeBuffer,
     ) -> Result<GlyphBuffer, ShapeError> {
@@ -328,6 +362,13 @@ impl LineShaper<'_> {
             return self.shape_traced(trace, text);
         }
         let features = self.options.features.as_slice();
+        let plans = &mut state.kept.plans;
+        if let Some(advances) = &mut state.advances {
+            let glyphs =
+                shape_with_functions_and_plans(self.face, advances, features, plans, text)?;
+            advances.keep_glyphs(glyphs.glyph_infos());
+            return Ok(glyphs);
+        }
         if self.font.is_plain() {
             return shape_with_kept_plans(self.face, features, plans, text);
         }
@@ -366,7 +407,7 @@ impl LineShaper<'_> {
     fn print_edited<N: LineNames>(
         &self,
 
-        state: &mut LineState<N>,
+        state: &mut LineState<'_, N>,
         edits: &Edits,
         glyphs: GlyphBuffer,
     ) -> Result<Answer, AllocError> {
@@ -380,7 +421,7 @@ impl LineShaper<'_> {
     fn print_and_keep<N: LineNames>(
         &self,
 
-        state: &mut LineState<N>,
+        state: &mut LineState<'_, N>,
         glyphs: GlyphBuffer,
     ) -> Result<Answer, AllocError> {
         let answer = self.print(&mut state.names, &glyphs)?;

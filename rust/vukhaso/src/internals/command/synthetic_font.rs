@@ -4,12 +4,12 @@
 
 use crate::buffer::{GlyphExtents, GlyphId, GlyphNames, hb_glyph_info_t};
 use crate::command::shaper::LineNames;
-use crate::font_shaper::{Face, FaceNames, FontFunctions, OwnFunctions};
 use crate::font_variations::rounding::{float, rounded};
 use crate::memory::AllocError;
 use crate::memory::BTreeMap;
 use crate::numbers::saturating_f32_to_i32;
 use crate::options::synthetic::Synthetic;
+use crate::ot_shape::{Face, FaceNames, FontFunctions, OwnFunctions};
 
 /// A font at its size, of which the glyphs are drawn bolder and slanted. Glyph 0 has the measures of the glyph that stands for
 /// characters that the font lacks.

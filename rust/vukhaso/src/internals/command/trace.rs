@@ -6,11 +6,11 @@ use crate::buffer::{GlyphPosition, SerializeFlags, hb_buffer_t, hb_glyph_info_t}
 use crate::command::edits::buffer_of;
 use crate::command::shaper::{Answer, LineNames, LineShaper};
 use crate::command::text::empty_text;
-use crate::font_shaper::{Step, Watch};
 use crate::line_formats::characters::characters_list;
 use crate::line_formats::heads::{Shown, head};
 use crate::memory::{AllocError, String, Vec};
 use crate::options::output::Output;
+use crate::ot_shape::{Step, Watch};
 
 /// What the buffer is after a step.
 #[derive(Debug)]

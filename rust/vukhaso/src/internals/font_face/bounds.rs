@@ -2,16 +2,16 @@
 
 //! The bounds of glyphs at the size at which a font is used, and at the place that is chosen in its variations.
 
-use crate::color_glyphs::DrawnOutlines;
 use crate::common::GlyphId;
+use crate::font_colors::DrawnOutlines;
 use crate::font_face::color::ColorTables;
 use crate::font_face::face::Face;
 use crate::font_face::measures::scaled_bounds;
+use crate::font_gvar::{GlyphSources, GlyphVariations, varied_outline};
+use crate::font_outlines::{Cff2Table, Outlines};
 use crate::font_tables::metrics::Metrics;
 use crate::font_tables::scale::Scale;
 use crate::glyph::GlyphExtents;
-use crate::glyph_outlines::{Cff2Table, Outlines};
-use crate::glyph_variations::{GlyphSources, GlyphVariations, varied_outline};
 use crate::memory::AllocError;
 
 /// What the bounds of a font's glyphs are found from.

@@ -2,9 +2,9 @@
 
 //! Bounds of bitmaps, and of glyphs that are drawn in colours.
 
-use crate::color_glyphs::strikes::wanted_size;
-use crate::color_glyphs::{CbdtTables, ColrTable, PixelBox, SbixTable};
 use crate::common::{GlyphId, Tag};
+use crate::font_colors::strikes::wanted_size;
+use crate::font_colors::{CbdtTables, ColrTable, PixelBox, SbixTable};
 use crate::font_face::measures::scaled_bounds;
 use crate::font_tables::directory::Tables;
 use crate::font_tables::scale::Scale;

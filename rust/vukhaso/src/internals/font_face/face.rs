@@ -2,12 +2,13 @@
 
 //! A font, as far as shaping asks it.
 
-use crate::apple_tables::Metamorphosis;
-use crate::character_maps::CharacterMap;
+use crate::aat_tables::Metamorphosis;
 use crate::common::{GlyphId, Tag};
+use crate::font_cmap::CharacterMap;
 use crate::font_face::color::ColorTables;
 use crate::font_face::layout::{Layout, is_read};
 use crate::font_face::variations::FaceVariations;
+use crate::font_outlines::{GlyfTables, Outlines};
 use crate::font_tables::bytes::u16_at;
 use crate::font_tables::directory::Tables;
 use crate::font_tables::extents::{FontExtents, horizontal_extents, long_metric_count};
@@ -17,10 +18,9 @@ use crate::font_tables::ignored_gdef::is_ignored;
 use crate::font_tables::metrics::Metrics;
 use crate::font_tables::scale::Scale;
 use crate::font_tables::vertical_origins::VerticalOrigins;
-use crate::glyph_layout::LookupList;
-use crate::glyph_layout::lookup_list::{POSITIONING_EXTENSION, SUBSTITUTION_EXTENSION};
-use crate::glyph_outlines::{GlyfTables, Outlines};
-use crate::memory::AllocError;
+use crate::memory::{AllocError, Shared};
+use crate::ot_layout::LookupList;
+use crate::ot_layout::lookup_list::{POSITIONING_EXTENSION, SUBSTITUTION_EXTENSION};
 
 /// The lookups of a font.
 #[derive(Debug)]
@@ -74,7 +74,7 @@ pub struct Face<'a> {
     pub layout: Layout<'a>,
     /// The lookups.
     #[doc(hidden)]
-    pub lookups: Lookups<'a>,
+    pub lookups: Shared<Lookups<'a>>,
     /// Whether the font positions its marks itself: whether it has a table `GPOS` that is read.
     #[doc(hidden)]
     pub has_gpos: bool,
@@ -289,7 +289,7 @@ fn face_of<'a>(
         color: ColorTables::new(&tables, glyph_count, 0, 0),
         has_gpos: is_read(tables.table(Tag::from_bytes(b"GPOS"))),
         layout,
-        lookups,
+        lookups: Shared::new(lookups),
 
         scale: Scale::of_em(units_per_em),
         points_per_em: 0.0,

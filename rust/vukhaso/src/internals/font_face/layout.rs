@@ -5,7 +5,7 @@
 use crate::common::Tag;
 use crate::font_tables::bytes::{u16_at, u32_at};
 use crate::font_tables::directory::Tables;
-use crate::glyph_layout::subtable_limit::is_refused;
+use crate::ot_layout::subtable_limit::is_refused;
 
 /// The tables that substitute and position glyphs, each empty where the font has none.
 #[derive(Clone, Copy, Debug)]

@@ -6,11 +6,11 @@
 use crate::common::{GlyphId, Tag};
 use crate::font_face::bounds::BoundsSource;
 use crate::font_face::face::Face;
+use crate::font_gvar::{Phantoms, VariedOutline, varied_outline, varied_phantoms};
 use crate::font_tables::extents::FontExtents;
 use crate::font_tables::scale::Scale;
 use crate::font_variations::rounding::{float, rounded};
 use crate::glyph::GlyphExtents;
-use crate::glyph_variations::{Phantoms, VariedOutline, varied_outline, varied_phantoms};
 use crate::memory::AllocError;
 #[cfg(not(any(test, feature = "std")))]
 use crate::numbers::Round;

@@ -5,9 +5,9 @@
 use crate::common::{GlyphId, Tag};
 use crate::font_face::bounds::BoundsSource;
 use crate::font_face::face::Face;
+use crate::font_outlines::Outlines;
 use crate::font_tables::glyph_names::PostNames;
 use crate::glyph::{GlyphExtents, GlyphNames, hb_glyph_info_t};
-use crate::glyph_outlines::Outlines;
 use crate::memory::BTreeMap;
 use crate::memory::{AllocError, Vec};
 

@@ -4,13 +4,13 @@
 
 use crate::common::Tag;
 use crate::font_face::face::Face;
+use crate::font_gvar::GlyphVariations;
+use crate::font_outlines::Cff2Table;
 use crate::font_tables::directory::Tables;
 use crate::font_variations::user_variations::value_on;
 use crate::font_variations::{
     AxisMaps, MetricsVariations, ValueVariations, Variation, VariationAxes, VariationStore,
 };
-use crate::glyph_outlines::Cff2Table;
-use crate::glyph_variations::GlyphVariations;
 use crate::memory::{AllocError, Vec};
 
 /// What a font says of its variations, found once, and the place that is chosen in them.

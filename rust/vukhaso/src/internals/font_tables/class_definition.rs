@@ -8,9 +8,6 @@ use crate::font_tables::bytes::u16_at;
 use crate::font_tables::glyph_ranges::{Run, range_count, range_of, ranges_rise, run_from};
 use crate::font_tables::rows::FEW_ROWS;
 
-/// The glyphs whose classes are found at once.
-pub(crate) const FIRST_COUNT: usize = 256;
-
 /// A class definition table.
 ///
 /// By the specification ranges rise: the class is then found by bisection. Where they do not, it is found by a walk.
@@ -75,12 +72,20 @@ impl<'a> ClassDefinition<'a> {
         self.count <= FEW_ROWS || self.are_rising
     }
 
-    /// The classes of the first glyphs.
-    pub(crate) fn first_classes(&self) -> [u16; FIRST_COUNT] {
+    /// The run of a glyph: itself and those behind it that have their classes of one range, or of none.
+    pub(crate) fn run_from(&self, glyph: GlyphId) -> Run {
         match self.format {
-            1 => listed_classes(self.table),
-            2 => ranged_classes(self.table, self.count, self.are_rising),
-            _ => [0; FIRST_COUNT],
+            1 => Run {
+                first: 0,
+                end: u32::from(glyph.0) + 1,
+                value: listed_class(self.table, glyph).unwrap_or(0),
+            },
+            2 => run_from(self.table, self.count, self.are_rising, glyph),
+            _ => Run {
+                first: 0,
+                end: u32::MAX,
+                value: 0,
+            },
         }
     }
 
@@ -120,35 +125,4 @@ fn listed_class(table: &[u8], glyph: GlyphId) -> Option<u16> {
 /// - `rise: IsTrue are_rising → Rises (range_last table.now) count`
 fn ranged_class(table: &[u8], count: u16, are_rising: bool, glyph: GlyphId) -> Option<u16> {
     range_of(table, count, are_rising, glyph).map(|range| range.value)
-}
-
-/// The classes of the first glyphs in a list.
-fn listed_classes(table: &[u8]) -> [u16; FIRST_COUNT] {
-    let mut classes = [0; FIRST_COUNT];
-    for glyph in 0..FIRST_COUNT {
-        classes[glyph] = listed_class(table, GlyphId(glyph as u16)).unwrap_or(0);
-    }
-    classes
-}
-
-/// The classes of the first glyphs in ranges.
-///
-/// # Requires
-///
-/// - `counts: count ≡ range_count table.now`
-/// - `rise: IsTrue are_rising → Rises (range_last table.now) count`
-fn ranged_classes(table: &[u8], count: u16, are_rising: bool) -> [u16; FIRST_COUNT] {
-    let mut classes = [0; FIRST_COUNT];
-    let mut run = Run {
-        first: 0,
-        end: 0,
-        value: 0,
-    };
-    for glyph in 0..FIRST_COUNT {
-        if run.end <= glyph as u32 {
-            run = run_from(table, count, are_rising, GlyphId(glyph as u16));
-        }
-        classes[glyph] = run.value_of(glyph as u32);
-    }
-    classes
 }

@@ -6,6 +6,7 @@ use crate::common::Tag;
 use crate::font_tables::bytes::{part, tail, u16_at, u32_at};
 use crate::font_tables::resources::{is_resource_file, resource_font, resource_fonts};
 use crate::font_tables::rows::rows_within;
+use crate::numbers::Chunks;
 
 /// The tags that a file with one font begins with: TrueType outlines, Apple's `true`, CFF outlines (`OTTO`) and Type 1
 /// outlines (`typ1`).
@@ -123,7 +124,11 @@ fn record_count(file: &[u8], directory: u32) -> u16 {
     rows_within(file, directory as usize + 12, 16, usize::from(declared)) as u16
 }
 
-/// The first of so many records that has a tag, by its number.
+/// The first of the records that has a tag, by its number.
+///
+/// # Requires
+///
+/// - `count ≡ record_count file.now directory`
 fn first_record(file: &[u8], directory: u32, count: u16, tag: Tag) -> Option<u16> {
     for row in 0..count {
         if has_tag(file, directory, row, tag) {
@@ -134,11 +139,25 @@ fn first_record(file: &[u8], directory: u32, count: u16, tag: Tag) -> Option<u16
 }
 
 /// Whether a record has a tag.
+///
+/// # Requires
+///
+/// - `row < record_count file.now directory`
 fn has_tag(file: &[u8], directory: u32, row: u16, tag: Tag) -> bool {
-    match u32_at(file, directory as usize + 12 + 16 * usize::from(row)) {
+    match record_tag(file, directory, usize::from(row)) {
         Some(number) => number == tag.0,
         None => false,
     }
+}
+
+/// The tag of a record.
+///
+/// # Requires
+///
+/// - `row < record_count file.now directory`
+fn record_tag(file: &[u8], directory: u32, row: usize) -> Option<u32> {
+    let (records, _) = Chunks::<16>::split(tail(file, directory as usize + 12));
+    u32_at(&records[row], 0)
 }
 
 /// The bytes that a record leads to.

@@ -4,8 +4,11 @@
 
 use crate::common::GlyphId;
 use crate::font_tables::bytes::{table_at_16, table_at_32, u16_at};
-use crate::font_tables::class_definition::{ClassDefinition, FIRST_COUNT};
+use crate::font_tables::class_definition::ClassDefinition;
 use crate::font_tables::coverage::Coverage;
+
+/// The glyphs whose properties are found at once.
+const FIRST_COUNT: usize = 256;
 
 /// A table `GDEF`, of version 1.
 ///
@@ -124,20 +127,15 @@ fn props_of(
     attachments: &ClassDefinition<'_>,
     glyph: GlyphId,
 ) -> u16 {
-    match classes.class(glyph) {
-        1 => 2,
-        2 => 4,
-        3 => 8 + 256 * (attachments.class(glyph) % 256),
-        _ => 0,
-    }
+    props_for(classes.class(glyph), attachments, glyph)
 }
 
-/// The properties of a glyph of these classes.
-fn props_for(class: u16, attachment: u16) -> u16 {
+/// The properties of a glyph of this class. Marks alone have an attachment class.
+fn props_for(class: u16, attachments: &ClassDefinition<'_>, glyph: GlyphId) -> u16 {
     match class {
         1 => 2,
         2 => 4,
-        3 => 8 + 256 * (attachment % 256),
+        3 => 8 + 256 * (attachments.class(glyph) % 256),
         _ => 0,
     }
 }
@@ -147,11 +145,14 @@ fn first_props(
     classes: &ClassDefinition<'_>,
     attachments: &ClassDefinition<'_>,
 ) -> [u16; FIRST_COUNT] {
-    let classes = classes.first_classes();
-    let attachments = attachments.first_classes();
     let mut props = [0; FIRST_COUNT];
+    let mut run = classes.run_from(GlyphId(0));
     for glyph in 0..FIRST_COUNT {
-        props[glyph] = props_for(classes[glyph], attachments[glyph]);
+        if run.end <= glyph as u32 {
+            run = classes.run_from(GlyphId(glyph as u16));
+        }
+        let class = run.value_of(glyph as u32);
+        props[glyph] = props_for(class, attachments, GlyphId(glyph as u16));
     }
     props
 }

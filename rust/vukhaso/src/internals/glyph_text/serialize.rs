@@ -2,56 +2,13 @@
 
 //! Glyphs as a text.
 
-use crate::common::GlyphId;
 use crate::glyph::{
     GlyphExtents, GlyphNames, GlyphPosition, SerializeFlags, glyph_flag, hb_glyph_info_t,
 };
 use crate::glyph_text::number_text::NumberText;
+use crate::glyph_text::parts::{Pen, extents_of, name_of};
 use crate::itoa::{Buffer, Integer};
 use crate::memory::{AllocError, String};
-
-/// A place relative to the start of the line.
-#[derive(Clone, Copy)]
-struct Point {
-    x: i128,
-    y: i128,
-}
-
-impl Point {
-    fn of_offset(position: &GlyphPosition) -> Point {
-        Point {
-            x: i128::from(position.x_offset),
-            y: i128::from(position.y_offset),
-        }
-    }
-
-    /// # Requires
-    ///
-    /// - `IsNear self`
-    fn plus_offset(self, position: &GlyphPosition) -> Point {
-        Point {
-            x: self.x + i128::from(position.x_offset),
-            y: self.y + i128::from(position.y_offset),
-        }
-    }
-
-    /// The place after a glyph's advance. It is written only under `NO_ADVANCES`: otherwise it stays, and
-    /// no position is read.
-    ///
-    /// # Requires
-    ///
-    /// - `IsNear self`
-    #[inline(always)]
-    fn place_behind(self, flags: SerializeFlags, position: &GlyphPosition) -> Point {
-        if !flags.contains(SerializeFlags::NO_ADVANCES) {
-            return self;
-        }
-        Point {
-            x: self.x + i128::from(position.x_advance),
-            y: self.y + i128::from(position.y_advance),
-        }
-    }
-}
 
 /// The room that is made for each glyph's text at first. Where the texts are longer, they make more.
 const LIKELY_LENGTH: usize = 16;
@@ -114,14 +71,14 @@ fn write_glyphs<F: GlyphNames>(
     positions: &[GlyphPosition],
 ) -> Result<(), AllocError> {
     debug_assert!(positions.len() == infos.len());
-    let mut pen = Point { x: 0, y: 0 };
+    let mut pen = Pen { x: 0, y: 0 };
     for (i, info) in infos.iter().enumerate() {
         let position = &positions[i];
         write_head(text, font, flags, i, info)?;
         write_position(text, flags, pen, position)?;
         write_flags(text, flags, info)?;
         write_extents(text, font, flags, info)?;
-        pen = pen.place_behind(flags, position);
+        pen = pen.behind(flags, position);
     }
     Ok(())
 }
@@ -202,28 +159,6 @@ fn write_name<F: GlyphNames>(
     }
 }
 
-/// The glyph of this number; none past 16 bits.
-fn glyph_of(info: &hb_glyph_info_t) -> Option<GlyphId> {
-    let number = u16::try_from(info.glyph_id).ok()?;
-    Some(GlyphId(number))
-}
-
-/// The name of a glyph, where the font has one for it.
-fn name_of<'a, F: GlyphNames>(font: &'a F, info: &hb_glyph_info_t) -> Option<&'a str> {
-    match glyph_of(info) {
-        Some(glyph) => font.glyph_name(glyph),
-        None => None,
-    }
-}
-
-/// The extents of a glyph, where the font knows them.
-fn extents_of<F: GlyphNames>(font: &F, info: &hb_glyph_info_t) -> Option<GlyphExtents> {
-    match glyph_of(info) {
-        Some(glyph) => font.glyph_extents(glyph),
-        None => None,
-    }
-}
-
 fn write_cluster(
     text: &mut String,
     flags: SerializeFlags,
@@ -241,7 +176,7 @@ fn write_cluster(
 fn write_position(
     text: &mut String,
     flags: SerializeFlags,
-    pen: Point,
+    pen: Pen,
     position: &GlyphPosition,
 ) -> Result<(), AllocError> {
     if flags.contains(SerializeFlags::NO_POSITIONS) {
@@ -250,11 +185,19 @@ fn write_position(
     if flags.contains(SerializeFlags::NO_ADVANCES) {
         return write_offset(text, pen.plus_offset(position));
     }
-    write_offset(text, Point::of_offset(position))?;
+    write_offset(text, offset_of(position))?;
     write_advance(text, position)
 }
 
-fn write_offset(text: &mut String, offset: Point) -> Result<(), AllocError> {
+/// The offsets of a glyph.
+fn offset_of(position: &GlyphPosition) -> Pen {
+    Pen {
+        x: i128::from(position.x_offset),
+        y: i128::from(position.y_offset),
+    }
+}
+
+fn write_offset(text: &mut String, offset: Pen) -> Result<(), AllocError> {
     if offset.x == 0 && offset.y == 0 {
         return Ok(());
     }
@@ -291,13 +234,7 @@ fn write_extents<F: GlyphNames>(
     if !flags.contains(SerializeFlags::GLYPH_EXTENTS) {
         return Ok(());
     }
-    let extents = extents_of(font, info).unwrap_or(GlyphExtents {
-        x_bearing: 0,
-        y_bearing: 0,
-        width: 0,
-        height: 0,
-    });
-    write_box(text, extents)
+    write_box(text, extents_of(font, info))
 }
 
 fn write_box(text: &mut String, extents: GlyphExtents) -> Result<(), AllocError> {

@@ -2,50 +2,12 @@
 
 //! Glyphs as JSON.
 
-use crate::common::GlyphId;
 use crate::glyph::{
     GlyphExtents, GlyphNames, GlyphPosition, SerializeFlags, glyph_flag, hb_glyph_info_t,
 };
+use crate::glyph_text::parts::{Pen, extents_of, name_of};
 use crate::line_formats::writing::{write_bytes, write_member, write_number, write_two};
 use crate::memory::{AllocError, Vec};
-
-/// Where the next glyph is drawn, from the start of the line, under `NO_ADVANCES`; and else the start.
-#[derive(Clone, Copy)]
-struct Pen {
-    x: i128,
-    y: i128,
-}
-
-impl Pen {
-    /// Where a glyph is drawn.
-    ///
-    /// # Requires
-    ///
-    /// - `IsNear self`
-    #[inline(always)]
-    fn plus_offset(self, position: &GlyphPosition) -> Pen {
-        Pen {
-            x: self.x + i128::from(position.x_offset),
-            y: self.y + i128::from(position.y_offset),
-        }
-    }
-
-    /// The pen behind a glyph.
-    ///
-    /// # Requires
-    ///
-    /// - `IsNear self`
-    #[inline(always)]
-    fn behind(self, flags: SerializeFlags, position: &GlyphPosition) -> Pen {
-        if !flags.contains(SerializeFlags::NO_ADVANCES) {
-            return self;
-        }
-        Pen {
-            x: self.x + i128::from(position.x_advance),
-            y: self.y + i128::from(position.y_advance),
-        }
-    }
-}
 
 /// The glyphs as objects of JSON, joined by `,`, as HarfBuzz's `hb_buffer_serialize_glyphs` writes them
 /// between brackets. The members of an object are, in this order:
@@ -161,28 +123,6 @@ fn write_escaped_byte(text: &mut Vec<u8>, byte: u8) -> Result<(), AllocError> {
     }
 }
 
-/// The glyph of this number; none past 16 bits.
-fn glyph_of(info: &hb_glyph_info_t) -> Option<GlyphId> {
-    let number = u16::try_from(info.glyph_id).ok()?;
-    Some(GlyphId(number))
-}
-
-/// The name of a glyph, where the font has one for it.
-fn name_of<'a, F: GlyphNames>(font: &'a F, info: &hb_glyph_info_t) -> Option<&'a str> {
-    match glyph_of(info) {
-        Some(glyph) => font.glyph_name(glyph),
-        None => None,
-    }
-}
-
-/// The extents of a glyph, where the font knows them.
-fn extents_of<F: GlyphNames>(font: &F, info: &hb_glyph_info_t) -> Option<GlyphExtents> {
-    match glyph_of(info) {
-        Some(glyph) => font.glyph_extents(glyph),
-        None => None,
-    }
-}
-
 fn write_cluster(
     text: &mut Vec<u8>,
     flags: SerializeFlags,
@@ -275,13 +215,7 @@ fn write_extents<F: GlyphNames>(
     if !flags.contains(SerializeFlags::GLYPH_EXTENTS) {
         return Ok(());
     }
-    let extents = extents_of(font, info).unwrap_or(GlyphExtents {
-        x_bearing: 0,
-        y_bearing: 0,
-        width: 0,
-        height: 0,
-    });
-    write_box(text, extents)
+    write_box(text, extents_of(font, info))
 }
 
 fn write_box(text: &mut Vec<u8>, extents: GlyphExtents) -> Result<(), AllocError> {

@@ -5,8 +5,8 @@
 use crate::buffer::{hb_buffer_t, hb_glyph_info_t};
 use crate::glyph::modified_combining_class::{CCC10, CCC14, CCC17, CCC18, CCC22};
 use crate::glyph::row_search::value_of_pair;
-use crate::script_shapers::item::modified_combining_class;
-use crate::script_shapers::moves::{merge, move_back};
+use crate::script_items::item::modified_combining_class;
+use crate::script_items::moves::{merge, move_back};
 
 /// The classes by which these marks are reordered.
 const PATAH: u16 = CCC17 as u16;

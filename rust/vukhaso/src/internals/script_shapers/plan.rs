@@ -2,8 +2,10 @@
 
 //! What the features of a font make of a script's shaper.
 
-use crate::buffer::{hb_buffer_t, hb_glyph_info_t};
-use crate::script_shapers::item::shaper_byte;
+use crate::common::{Script, Tag, script};
+use crate::ot_map::LayoutPlan;
+use crate::script_joining::arabic::features::{FORM_FEATURES, lacks_forms};
+use crate::script_shapers::hangul::features::JAMO_FEATURES;
 use crate::script_shapers::shaper::ScriptShaper;
 
 /// What the features of a font make of a script's shaper: HarfBuzz's `data_create`.
@@ -27,27 +29,47 @@ pub struct ScriptPlan {
     pub masks: [u32; 8],
 }
 
-/// Adds to each item's mask that of the number which it keeps.
+/// The plan of a shaper, for a script and a font's features. `finds_script` says whether the font's
+/// table `GSUB` has the script.
 ///
-/// # Requires
+/// # Proved
 ///
-/// - `buffer.old.have_output ≡ false`
-pub(crate) fn add_masks(buffer: &mut hb_buffer_t, masks: &[u32; 8]) {
-    debug_assert!(!buffer.have_output());
-    add_masks_to(buffer.info_slice_mut(), masks);
-}
-
-/// Does that with these items.
-fn add_masks_to(infos: &mut [hb_glyph_info_t], masks: &[u32; 8]) {
-    for i in 0..infos.len() {
-        add_mask(&mut infos[i], masks);
+/// ```text
+/// ensures shaper { result.shaper ≡ shaper }
+/// ensures pieces { shaper ≢ Arabic → result.has_stch ≡ false }
+/// ensures fallback { shaper ≢ Arabic → result.does_fallback ≡ false }
+/// ensures found { finds_script ≡ true → result.has_private_use ≡ false }
+/// ```
+pub fn script_plan(
+    shaper: ScriptShaper,
+    script: Option<Script>,
+    layout: &LayoutPlan,
+    finds_script: bool,
+) -> ScriptPlan {
+    let is_arabic = shaper == ScriptShaper::Arabic;
+    ScriptPlan {
+        shaper,
+        is_mongolian: script == Some(script::MONGOLIAN),
+        has_private_use: script == Some(script::THAI) && !finds_script,
+        has_stch: is_arabic && layout.one_mask(Tag::from_bytes(b"stch")) != 0,
+        does_fallback: is_arabic && script == Some(script::ARABIC) && lacks_forms(layout),
+        has_gpos_mark: layout.one_mask(Tag::from_bytes(b"mark")) != 0,
+        rlig_mask: layout.one_mask(Tag::from_bytes(b"rlig")),
+        masks: match shaper {
+            ScriptShaper::Arabic | ScriptShaper::UniversalJoining => {
+                masks_of(&FORM_FEATURES, layout)
+            }
+            ScriptShaper::Hangul => masks_of(&JAMO_FEATURES, layout),
+            _ => [0; 8],
+        },
     }
 }
 
-/// Adds to an item's mask that of the number which it keeps.
-fn add_mask(info: &mut hb_glyph_info_t, masks: &[u32; 8]) {
-    let byte = usize::from(shaper_byte(info));
-    if byte < 8 {
-        info.mask = info.mask | masks[byte];
+/// The masks of features, from the number 1 on.
+fn masks_of(features: &[&[u8; 4]], layout: &LayoutPlan) -> [u32; 8] {
+    let mut masks = [0; 8];
+    for (mask, name) in masks.iter_mut().skip(1).zip(features.iter()) {
+        *mask = layout.one_mask(Tag::from_bytes(name));
     }
+    masks
 }

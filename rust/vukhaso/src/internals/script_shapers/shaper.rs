@@ -5,15 +5,19 @@
 use crate::buffer::hb_buffer_t;
 use crate::common::{Direction, Script, Tag, script};
 use crate::memory::AllocError;
-use crate::script_shapers::arabic::stretching::{record_pieces, stretch};
-use crate::script_shapers::font::FontGlyphs;
+use crate::script_indic::scripts::is_indic;
+use crate::script_items::FontGlyphs;
+use crate::script_items::masks::add_masks;
+use crate::script_joining::arabic;
+use crate::script_joining::arabic::stretching::{record_pieces, stretch};
 use crate::script_shapers::hangul::text::prepare;
-use crate::script_shapers::plan::{ScriptPlan, add_masks};
+use crate::script_shapers::hebrew;
+use crate::script_shapers::plan::ScriptPlan;
 use crate::script_shapers::thai::private_use::shape_private_use;
 use crate::script_shapers::thai::sara_am::split_all;
-use crate::script_shapers::universal::{is_universal, joins};
-use crate::script_shapers::{arabic, hebrew};
-use crate::syllabic_shapers::{indic, khmer, part_vowels};
+use crate::script_syllables::part_vowels;
+use crate::script_universal::khmer;
+use crate::script_universal::universal::scripts::{is_universal, joins};
 
 /// The shaper of a script.
 #[derive(Clone, Copy, PartialEq, Eq, Debug)]
@@ -181,7 +185,7 @@ impl ScriptShaper {
     #[inline]
     pub fn compose(self, a: char, b: char, has_gpos_mark: bool) -> Option<char> {
         match self {
-            Indic => indic::composition::compose(a, b),
+            Indic => crate::script_indic::composition::compose(a, b),
             Khmer | Universal | UniversalJoining => khmer::composition::compose(a, b),
             Hebrew => compose_hebrew(a, b, has_gpos_mark),
             Default | Arabic | Hangul | Thai | Myanmar | Zawgyi | Plain => {
@@ -204,7 +208,7 @@ impl ScriptShaper {
     #[inline]
     pub fn decompose(self, character: char) -> Option<(char, Option<char>)> {
         match self {
-            Indic => indic::composition::decompose(character),
+            Indic => crate::script_indic::composition::decompose(character),
             Khmer => khmer::composition::decompose(character),
             _ => crate::unicode_tables::decompose(character),
         }
@@ -286,22 +290,6 @@ fn myanmar_shaper(gsub_script: Tag) -> ScriptShaper {
     } else {
         Myanmar
     }
-}
-
-/// Whether a script is one of the nine that OpenType has the Indic shaper for.
-fn is_indic(script: Script) -> bool {
-    matches!(
-        script,
-        script::BENGALI
-            | script::DEVANAGARI
-            | script::GUJARATI
-            | script::GURMUKHI
-            | script::KANNADA
-            | script::MALAYALAM
-            | script::ORIYA
-            | script::TAMIL
-            | script::TELUGU
-    )
 }
 
 /// The shaper of an Indic script, by the tag that the font has it under.

@@ -4,8 +4,8 @@
 //! tests of Annotated OpenType Specification that HarfBuzz has, or from HarfBuzz itself over the same table.
 
 use crate::Fail;
-use vukhaso::internals::character_maps::{CharacterMap, Encoding, GlyphVariant};
 use vukhaso::internals::common::GlyphId;
+use vukhaso::internals::font_cmap::{CharacterMap, Encoding, GlyphVariant};
 use vukhaso::memory::{AllocError, Vec};
 
 /// A table in numbers of 16 bits, the font page of `OS/2`, and the glyphs of characters, 0 where there is none.

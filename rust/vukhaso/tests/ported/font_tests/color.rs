@@ -1,10 +1,10 @@
 // Written by tools/plain_rust from crates/font_tests. Do not edit.
 
-//! Tests of `color_glyphs`. The boxes in font units are those that HarfBuzz's `hb-shape --show-extents` prints for a font of six
+//! Tests of `font_colors`. The boxes in font units are those that HarfBuzz's `hb-shape --show-extents` prints for a font of six
 //! glyphs with these tables, of which an em has 1,000 units.
-use vukhaso::internals::color_glyphs::strikes::{Strikes, best_strike, wanted_size};
-use vukhaso::internals::color_glyphs::{CbdtTables, ColrTable, PixelBox, SbixTable};
 use vukhaso::internals::common::GlyphId;
+use vukhaso::internals::font_colors::strikes::{Strikes, best_strike, wanted_size};
+use vukhaso::internals::font_colors::{CbdtTables, ColrTable, PixelBox, SbixTable};
 use vukhaso::internals::glyph::GlyphExtents;
 
 /// The numbers of a box: its left side, its top, its width and its height.

@@ -11,8 +11,8 @@ mod limits;
 use vukhaso::internals::font_tables::bytes::tail;
 use vukhaso::internals::font_tables::gdef::Gdef;
 use vukhaso::internals::glyph::hb_glyph_info_t;
-use vukhaso::internals::glyph_layout::lookup_list::SUBSTITUTION_EXTENSION;
-use vukhaso::internals::glyph_layout::{LookupList, LookupOptions};
+use vukhaso::internals::ot_layout::lookup_list::SUBSTITUTION_EXTENSION;
+use vukhaso::internals::ot_layout::{LookupList, LookupOptions};
 use vukhaso::memory::{AllocError, Vec};
 
 /// A table in numbers of 16 bits.

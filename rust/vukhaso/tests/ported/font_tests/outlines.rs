@@ -1,15 +1,15 @@
 // Written by tools/plain_rust from crates/font_tests. Do not edit.
 
-//! Tests of `glyph_outlines`. The boxes of charstrings are those that HarfBuzz's `hb-shape --show-extents` prints.
+//! Tests of `font_outlines`. The boxes of charstrings are those that HarfBuzz's `hb-shape --show-extents` prints.
 use vukhaso::internals::common::GlyphId;
-use vukhaso::internals::glyph::GlyphExtents;
-use vukhaso::internals::glyph_outlines::charset::{predefined_charset, string_number, string_of};
-use vukhaso::internals::glyph_outlines::glyf::outline;
-use vukhaso::internals::glyph_outlines::index::{
+use vukhaso::internals::font_outlines::charset::{predefined_charset, string_number, string_of};
+use vukhaso::internals::font_outlines::glyf::outline;
+use vukhaso::internals::font_outlines::index::{
     index_count, index_item, index_size, number_of_size,
 };
-use vukhaso::internals::glyph_outlines::standard_strings::standard_string;
-use vukhaso::internals::glyph_outlines::{CffTable, GlyfTables, Outlines};
+use vukhaso::internals::font_outlines::standard_strings::standard_string;
+use vukhaso::internals::font_outlines::{CffTable, GlyfTables, Outlines};
+use vukhaso::internals::glyph::GlyphExtents;
 
 /// The numbers of a box: its left side, its top, its width and its height.
 fn box_of(extents: Option<GlyphExtents>) -> Option<[i32; 4]> {

@@ -3,7 +3,7 @@
 //! The OpenType tags of languages, as OpenType's registry of language systems and HarfBuzz have them.
 
 use crate::Fail;
-use vukhaso::internals::language_tags::LanguageTags;
+use vukhaso::internals::ot_tags::LanguageTags;
 use vukhaso::internals::text::{Language, LanguageTable, Tag, tags_from_script_and_language};
 
 /// Languages, and their tags of four bytes each.

@@ -1,6 +1,6 @@
 // Written by tools/plain_rust from crates/layout_tests. Do not edit.
 
-//! Tests of `layout_plan`, over a small table `GSUB` that is made by hand after the OpenType specification. Its list of scripts has
+//! Tests of `ot_map`, over a small table `GSUB` that is made by hand after the OpenType specification. Its list of scripts has
 //! `DFLT` and `latn`, its list of features `liga`, `locl`, `frac` and `smcp`, and it declares three lookups.
 
 mod features;

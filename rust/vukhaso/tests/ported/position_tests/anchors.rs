@@ -5,11 +5,11 @@
 use crate::position_tests::bytes::bytes_of;
 use vukhaso::internals::font_tables::scale::Scale;
 use vukhaso::internals::font_variations::Deltas;
-use vukhaso::internals::position_tables::anchors::{
+use vukhaso::internals::ot_gpos_tables::anchors::{
     Anchor, anchor_in, ligature_matrix, mark_anchor, mark_class, named_point,
 };
-use vukhaso::internals::position_tables::contour_points::{ContourPoint, ContourPoints, NoPoints};
-use vukhaso::internals::position_tables::instance::Instance;
+use vukhaso::internals::ot_gpos_tables::contour_points::{ContourPoint, ContourPoints, NoPoints};
+use vukhaso::internals::ot_gpos_tables::instance::Instance;
 use vukhaso::memory::AllocError;
 
 /// Where an anchor is: across and up, and how far it is moved.

@@ -3,7 +3,7 @@
 //! The table `kern`, after the OpenType specification and Apple's reference manual.
 
 use crate::position_tests::bytes::bytes_of;
-use vukhaso::internals::position_tables::kern_table::{
+use vukhaso::internals::ot_gpos_tables::kern_table::{
     KernTable, classed_value, pair_row, pair_value,
 };
 use vukhaso::memory::AllocError;

@@ -11,16 +11,16 @@ use vukhaso::internals::font_tables::gdef::Gdef;
 use vukhaso::internals::font_tables::scale::Scale;
 use vukhaso::internals::font_variations::Deltas;
 use vukhaso::internals::glyph::GlyphPosition;
-use vukhaso::internals::glyph_layout::budget::Budget;
-use vukhaso::internals::glyph_layout::lookup_list::LookupList;
-use vukhaso::internals::glyph_layout::search::Search;
-use vukhaso::internals::glyph_layout::skipping_iterator::LookupOptions;
-use vukhaso::internals::glyph_positions::{
+use vukhaso::internals::ot_gpos::{
     Setting, kern, position, position_finish_offsets, position_start,
 };
-use vukhaso::internals::position_tables::contour_points::NoPoints;
-use vukhaso::internals::position_tables::instance::Instance;
-use vukhaso::internals::position_tables::kern_table::KernTable;
+use vukhaso::internals::ot_gpos_tables::contour_points::NoPoints;
+use vukhaso::internals::ot_gpos_tables::instance::Instance;
+use vukhaso::internals::ot_gpos_tables::kern_table::KernTable;
+use vukhaso::internals::ot_layout::budget::Budget;
+use vukhaso::internals::ot_layout::lookup_list::LookupList;
+use vukhaso::internals::ot_layout::search::Search;
+use vukhaso::internals::ot_layout::skipping_iterator::LookupOptions;
 use vukhaso::memory::{AllocError, Vec};
 
 /// The bits of the only feature.

@@ -6,14 +6,14 @@ use crate::position_tests::bytes::bytes_of;
 use vukhaso::internals::font_tables::scale::Scale;
 use vukhaso::internals::font_variations::Deltas;
 use vukhaso::internals::glyph::GlyphPosition;
-use vukhaso::internals::position_tables::devices::{
+use vukhaso::internals::ot_gpos_tables::devices::{
     delta_pixels, device_delta, x_correction, y_correction,
 };
-use vukhaso::internals::position_tables::instance::Instance;
-use vukhaso::internals::position_tables::pairs::{
+use vukhaso::internals::ot_gpos_tables::instance::Instance;
+use vukhaso::internals::ot_gpos_tables::pairs::{
     PairValues, classed_pair, listed_pair, pair_formats, pair_set, second_row, single_values,
 };
-use vukhaso::internals::position_tables::values::{ValueRecord, record_size};
+use vukhaso::internals::ot_gpos_tables::values::{ValueRecord, record_size};
 use vukhaso::memory::{AllocError, Vec};
 
 /// A device table, and by how many pixels a number is corrected at sizes in pixels.

@@ -5,10 +5,11 @@
 
 use crate::Fail;
 use vukhaso::internals::common::{Script, Tag, script};
-use vukhaso::internals::layout_plan::builder::ChosenTable;
-use vukhaso::internals::layout_plan::{FeatureFlags, Pause, PlanBuilder};
-use vukhaso::internals::script_features::{collect_features, override_features, script_plan};
-use vukhaso::internals::script_shapers::{ScriptPlan, ScriptShaper};
+use vukhaso::internals::ot_map::builder::ChosenTable;
+use vukhaso::internals::ot_map::{FeatureFlags, Pause, PlanBuilder};
+use vukhaso::internals::script_shapers::{
+    ScriptPlan, ScriptShaper, collect_features, override_features, script_plan,
+};
 use vukhaso::memory::AllocError;
 
 /// A table `GSUB` whose script `DFLT` has one feature, of the tag at the places 32 to 35, with the table's one lookup.

@@ -1,6 +1,6 @@
 // Written by tools/plain_rust from crates/script_tests. Do not edit.
 
-//! Tests of `syllable_tables`, `script_shapers` and `script_features`, as in the `tests/` folder of a Rust crate: what rows of shaping
+//! Tests of the crates of scripts, as in the `tests/` folder of a Rust crate: what rows of shaping
 //! (`rows/shaping`) cannot say. What is expected comes from the Unicode Standard, the OpenType specification and HarfBuzz's tests.
 
 #[cfg(test)]

@@ -5,9 +5,8 @@
 
 use crate::Fail;
 use vukhaso::internals::common::{Direction, Script, Tag, script};
-use vukhaso::internals::script_shapers::{
-    JoiningType, NormalizationMode, ScriptShaper, ZeroWidthMarks, joining_type,
-};
+use vukhaso::internals::script_joining::{JoiningType, joining_type};
+use vukhaso::internals::script_shapers::{NormalizationMode, ScriptShaper, ZeroWidthMarks};
 
 /// The shaper of a text in a script that the font has.
 fn shaper_of(script: Script, direction: Direction) -> ScriptShaper {

@@ -3,7 +3,8 @@
 //! Texts, a font and plans for tests.
 
 use vukhaso::internals::buffer::{CombiningClasses, UnicodeBuffer, hb_buffer_t, hb_glyph_info_t};
-use vukhaso::internals::script_shapers::{FontGlyphs, ScriptPlan, ScriptShaper};
+use vukhaso::internals::script_items::FontGlyphs;
+use vukhaso::internals::script_shapers::{ScriptPlan, ScriptShaper};
 
 /// The class of a mark, since a table of classes has a row.
 static CLASSES: [(char, u8); 1] = [('\u{302e}', 224)];

@@ -4,8 +4,8 @@
 
 use crate::Fail;
 use vukhaso::internals::common::GlyphId;
-use vukhaso::internals::font_shaper::{Face, FaceNames};
 use vukhaso::internals::glyph::{GlyphNames, hb_glyph_info_t};
+use vukhaso::internals::ot_shape::{Face, FaceNames};
 
 /// A font of four glyphs: one that is clipped to a box of `COLR`, one with a PNG in each of two strikes of `sbix`, of 16 and of 40
 /// pixels, one with a bitmap of `CBDT`, and one of which nothing is said.

@@ -5,8 +5,8 @@
 use crate::Fail;
 use crate::shaper_tests::upright::UPRIGHT;
 use vukhaso::internals::common::GlyphId;
-use vukhaso::internals::font_shaper::{Face, FaceNames};
 use vukhaso::internals::glyph::{GlyphNames, hb_glyph_info_t};
+use vukhaso::internals::ot_shape::{Face, FaceNames};
 
 /// The glyphs, advances and origins of a letter.
 #[test]

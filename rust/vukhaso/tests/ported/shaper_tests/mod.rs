@@ -1,6 +1,6 @@
 // Written by tools/plain_rust from crates/shaper_tests. Do not edit.
 
-//! Tests of `font_shaper` and of the crates that it was parted from, over small fonts, as in the `tests/` folder of a Rust crate: what
+//! Tests of `ot_shape` and of the crates that it was parted from, over small fonts, as in the `tests/` folder of a Rust crate: what
 //! rows of shaping (`rows/shaping`) cannot say. What is expected comes from HarfBuzz's `hb-shape` over the same fonts.
 
 #[cfg(test)]

@@ -6,13 +6,13 @@ use crate::Fail;
 use crate::shaper_tests::upright::UPRIGHT;
 use vukhaso::internals::buffer::{BufferClusterLevel, UnicodeBuffer, hb_buffer_t, hb_glyph_info_t};
 use vukhaso::internals::common::GlyphId;
-use vukhaso::internals::font_normalization::glyph_info::{
+use vukhaso::internals::ot_normalization::glyph_info::{
     clear_variation_selector, general_category, is_continuation, is_nonspacing_mark,
     is_unicode_mark, is_unicode_space, is_variation_selector, modified_combining_class,
     set_modified_combining_class, set_unicode_props, space_fallback,
 };
-use vukhaso::internals::font_normalization::{allows_any_order, normalize};
-use vukhaso::internals::font_shaper::{Face, OwnFunctions};
+use vukhaso::internals::ot_normalization::{allows_any_order, normalize};
+use vukhaso::internals::ot_shape::{Face, OwnFunctions};
 use vukhaso::internals::script_shapers::{ScriptPlan, ScriptShaper};
 use vukhaso::memory::AllocError;
 

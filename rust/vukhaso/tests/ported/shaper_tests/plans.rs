@@ -9,7 +9,7 @@ use vukhaso::internals::buffer::{
     BufferFlags, Direction, Feature, Language, SerializeFlags, UnicodeBuffer,
 };
 use vukhaso::internals::common::{Tag, script};
-use vukhaso::internals::font_shaper::{
+use vukhaso::internals::ot_shape::{
     Face, FaceNames, KeptPlans, ShapeError, ShapePlan, Unwatched, shape_with_kept_plans,
     shape_with_plan, shape_with_plan_watched,
 };

@@ -5,7 +5,7 @@
 use crate::Fail;
 use crate::shaper_tests::upright::UPRIGHT;
 use vukhaso::internals::buffer::{BufferFlags, Direction, UnicodeBuffer};
-use vukhaso::internals::font_shaper::{Face, ShapeError, VerifyError, shape};
+use vukhaso::internals::ot_shape::{Face, ShapeError, VerifyError, shape};
 
 /// A text that runs in a direction.
 fn text_of(text: &str, direction: Direction) -> Result<UnicodeBuffer, Fail> {

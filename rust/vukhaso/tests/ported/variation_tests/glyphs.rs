@@ -1,14 +1,14 @@
 // Written by tools/plain_rust from crates/variation_tests. Do not edit.
 
-//! Tests of `glyph_variations`: a triangle whose corner and advance move to the right, and a paint that fills it.
-use vukhaso::internals::color_glyphs::{ColrTable, DrawnOutlines};
+//! Tests of `font_gvar`: a triangle whose corner and advance move to the right, and a paint that fills it.
 use vukhaso::internals::common::GlyphId;
-use vukhaso::internals::font_tables::metrics::Metrics;
-use vukhaso::internals::font_tables::scale::Scale;
-use vukhaso::internals::glyph_outlines::GlyfTables;
-use vukhaso::internals::glyph_variations::{
+use vukhaso::internals::font_colors::{ColrTable, DrawnOutlines};
+use vukhaso::internals::font_gvar::{
     GlyphSources, GlyphVariations, Point, varied_outline, varied_phantoms,
 };
+use vukhaso::internals::font_outlines::GlyfTables;
+use vukhaso::internals::font_tables::metrics::Metrics;
+use vukhaso::internals::font_tables::scale::Scale;
 
 /// A triangle from the origin to 100 across and 100 up.
 static GLYF: [u8; 20] = [

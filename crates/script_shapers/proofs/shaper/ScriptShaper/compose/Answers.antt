@@ -1,6 +1,7 @@
 use Rattle.std.proofs.Common.{◌≡◌, inl, inr, Bool, true, false, ◌||◌, refl, sym, subst}
 use Rattle.std.proofs.lemmas.Bool.{false≢true}
-use Rattle.syllabic_shapers.specs.Composition.{is_yya, is_mark}
+use Rattle.script_indic.specs.Composition.{is_yya}
+use Rattle.script_syllables.specs.Composition.{is_mark}
 use Rattle.script_shapers.specs.Shapers.{has_own_composite}
 use Rattle.script_shapers.proofs.shaper.ScriptShaper.compose.Goals as goal
 

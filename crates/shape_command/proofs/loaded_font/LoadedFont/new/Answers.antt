@@ -1,7 +1,7 @@
 use Rattle.std.proofs.Common.{◌≡◌, Ok, Some, subst, arith}
 use Rattle.std.proofs.lemmas.Grind.{common_steps}
 use Rattle.std.specs.Prelude.{IfOk, IfSome}
-use Rattle.font_shaper.specs.Face.{KeepsItsTables}
+use Rattle.ot_shape.specs.Face.{KeepsItsTables}
 use Rattle.shape_command.proofs.loaded_font.LoadedFont.new.Goals as goal
 
 pub returns-clause-keeps : goal.returns-clause-keeps

@@ -4,9 +4,9 @@
 use Rattle.std.proofs.Common.{◌-◌, ◌++◌, List, ℕ, [], Option, sym, ap, ◌∙◌, arith, length, length-append}
 use Rattle.std.specs.Prelude.{is_some, unwrap_or}
 use Rattle.shaping_passes.specs.NormalizationDecomposition.{parts_with, first_parts}
-use Rattle.shaping_passes.proofs.NormalizationDecompositionLemmas.{parts_last, parts_none, parts_some, told_none, held_none}
-use Rattle.shaping_passes.proofs.NormalizationDecompositionLemmas.{none_of, second_lacks, first_lacks, both_told, both_held}
-use Rattle.shaping_passes.proofs.NormalizationDecompositionLemmas.{first_room}
+use Rattle.shaping_passes.proofs.NormalizationCharacterLemmas.{parts_last, parts_none, parts_some, told_none, held_none}
+use Rattle.shaping_passes.proofs.NormalizationCharacterLemmas.{none_of, second_lacks, first_lacks, both_told, both_held}
+use Rattle.shaping_passes.proofs.NormalizationCharacterLemmas.{first_room}
 use Rattle.shaping_passes.proofs.normalization.decomposition.+parts.Goals as goal
 
 pub add_parts-returns-then-steps-eq0 : goal.add_parts-returns-then-steps-eq0

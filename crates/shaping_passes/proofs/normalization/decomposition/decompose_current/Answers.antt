@@ -7,7 +7,7 @@ use Rattle.glyph_lists.specs.Replacement.{copies}
 use Rattle.shaping_buffer.specs.ClusterStep.{head_of}
 use Rattle.shaping_buffer.specs.Step.{Outcome, Meets, put_out, skip_glyph, replace_glyphs}
 use Rattle.shaping_passes.specs.NormalizationDecomposition.{decomposition_with, parts_with, most_steps}
-use Rattle.shaping_passes.proofs.NormalizationDecompositionLemmas.{stays_whole, keeps_whole, gives_way}
+use Rattle.shaping_passes.proofs.NormalizationCharacterLemmas.{stays_whole, keeps_whole, gives_way}
 use Rattle.shaping_passes.proofs.NormalizationDecompositionLemmas.{next_glyph-put_out}
 use Rattle.shaping_passes.proofs.NormalizationDecompositionLemmas.{replace_glyphs-one, left, head_is}
 use Rattle.shaping_passes.proofs.normalization.decomposition.decompose_current.Goals as goal

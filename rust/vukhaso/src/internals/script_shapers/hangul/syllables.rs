@@ -2,7 +2,7 @@
 
 //! What is done with a syllable, by the glyphs that the font has.
 
-use crate::script_shapers::font::FontGlyphs;
+use crate::script_items::font::FontGlyphs;
 use crate::script_shapers::hangul::jamo::{
     composed, decomposed, is_leading, is_trailing, is_vowel,
 };

@@ -4,11 +4,11 @@
 
 use crate::buffer::{HB_BUFFER_CLUSTER_LEVEL_MONOTONE_GRAPHEMES, hb_buffer_t, hb_glyph_info_t};
 use crate::memory::AllocError;
-use crate::script_shapers::font::FontGlyphs;
+use crate::script_items::font::FontGlyphs;
+use crate::script_items::item::set_shaper_byte;
 use crate::script_shapers::hangul::jamo::is_tone;
 use crate::script_shapers::hangul::syllables::{Step, next_step, unsafe_length};
 use crate::script_shapers::hangul::tones::read_tone;
-use crate::script_shapers::item::set_shaper_byte;
 
 /// The syllable that was put out last: from its first character to behind its last. None where it is empty.
 #[derive(Clone, Copy, Debug)]

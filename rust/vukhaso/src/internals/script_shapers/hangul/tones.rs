@@ -4,9 +4,9 @@
 
 use crate::buffer::{BufferFlags, hb_buffer_t};
 use crate::memory::AllocError;
-use crate::script_shapers::font::{FontGlyphs, has_no_width};
+use crate::script_items::font::{FontGlyphs, has_no_width};
+use crate::script_items::moves::{merge_out, move_out_back};
 use crate::script_shapers::hangul::text::Syllable;
-use crate::script_shapers::moves::{merge_out, move_out_back};
 
 /// The dotted circle, which a mark without a base is put on.
 const DOTTED_CIRCLE: u32 = 0x25CC;

@@ -4,7 +4,7 @@
 //! them in the private use area.
 
 use crate::buffer::{hb_buffer_t, hb_glyph_info_t};
-use crate::script_shapers::font::FontGlyphs;
+use crate::script_items::font::FontGlyphs;
 
 /// A consonant, by what stands in the way of marks.
 #[derive(Clone, Copy, PartialEq, Eq, Debug)]

@@ -5,8 +5,8 @@
 
 use crate::buffer::{HB_BUFFER_CLUSTER_LEVEL_MONOTONE_GRAPHEMES, hb_buffer_t, hb_glyph_info_t};
 use crate::memory::AllocError;
-use crate::script_shapers::item::become_mark;
-use crate::script_shapers::moves::{merge_out, move_out_back};
+use crate::script_items::item::become_mark;
+use crate::script_items::moves::{merge_out, move_out_back};
 
 /// A Lao character of these stands so far behind the Thai one.
 const LAO: u32 = 0x80;

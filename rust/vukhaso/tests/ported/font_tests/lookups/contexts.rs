@@ -4,10 +4,8 @@
 
 use crate::font_tests::lookups::{JOINER, NON_JOINER, OPTIONS, bytes_of, fill, list_of};
 use vukhaso::internals::glyph::hb_glyph_info_t;
-use vukhaso::internals::glyph_layout::context::fitting_rule;
-use vukhaso::internals::glyph_layout::{
-    ApplyContext, Budget, LookupList, Search, SkippingIterator,
-};
+use vukhaso::internals::ot_layout::context::fitting_rule;
+use vukhaso::internals::ot_layout::{ApplyContext, Budget, LookupList, Search, SkippingIterator};
 use vukhaso::memory::AllocError;
 
 /// A table `GSUB` with one lookup, a chained context of glyphs, for the glyph 10. Its four rules ask for 11 behind it, for 12, for 13 as

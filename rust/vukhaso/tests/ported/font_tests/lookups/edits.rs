@@ -4,9 +4,9 @@
 
 use crate::font_tests::lookups::{JOINER, OPTIONS, bytes_of, fill, list_of};
 use vukhaso::internals::glyph::hb_glyph_info_t;
-use vukhaso::internals::glyph_layout::substitution::{Edit, edit_at};
-use vukhaso::internals::glyph_layout::subtable::{Form, positioning_form, substitution_form};
-use vukhaso::internals::glyph_layout::{
+use vukhaso::internals::ot_layout::substitution::{Edit, edit_at};
+use vukhaso::internals::ot_layout::subtable::{Form, positioning_form, substitution_form};
+use vukhaso::internals::ot_layout::{
     ApplyContext, Budget, Digest, LookupList, Search, SkippingIterator, would_substitute,
 };
 use vukhaso::memory::AllocError;

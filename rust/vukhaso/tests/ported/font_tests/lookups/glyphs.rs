@@ -5,15 +5,15 @@
 use crate::font_tests::lookups::bytes_of;
 use vukhaso::internals::font_tables::coverage::Coverage;
 use vukhaso::internals::glyph::hb_glyph_info_t;
-use vukhaso::internals::glyph_layout::first_glyphs::FirstGlyphs;
-use vukhaso::internals::glyph_layout::glyph_table::Glyphs;
-use vukhaso::internals::glyph_layout::ligature_parts::{
+use vukhaso::internals::ot_layout::first_glyphs::FirstGlyphs;
+use vukhaso::internals::ot_layout::glyph_table::Glyphs;
+use vukhaso::internals::ot_layout::ligature_parts::{
     component_count, ligature_component, ligature_id, ligature_properties, mark_properties,
 };
-use vukhaso::internals::glyph_layout::lookup_props::covered_index;
-use vukhaso::internals::glyph_layout::subtable::{behind_list, table_or_empty};
-use vukhaso::internals::glyph_layout::summary::{Summary, summary_of};
-use vukhaso::internals::glyph_layout::{
+use vukhaso::internals::ot_layout::lookup_props::covered_index;
+use vukhaso::internals::ot_layout::subtable::{behind_list, table_or_empty};
+use vukhaso::internals::ot_layout::summary::{Summary, summary_of};
+use vukhaso::internals::ot_layout::{
     Budget, Digest, LookupOptions, LookupProps, Reach, SkippingIterator,
 };
 use vukhaso::memory::AllocError;

@@ -3,7 +3,7 @@
 //! Tables with as many subtables as HarfBuzz reads, and with more.
 
 use crate::font_tests::lookups::{bytes_of, list_of};
-use vukhaso::internals::glyph_layout::subtable_limit::is_refused;
+use vukhaso::internals::ot_layout::subtable_limit::is_refused;
 use vukhaso::memory::{AllocError, Vec};
 
 /// A table `GSUB` of so many lookups, which share one of 512 subtables.

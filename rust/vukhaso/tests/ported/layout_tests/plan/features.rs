@@ -6,8 +6,8 @@ use crate::Fail;
 use crate::layout_tests::plan::TABLE;
 use std::ops::Bound;
 use vukhaso::internals::common::{Direction, Tag};
-use vukhaso::internals::layout_plan::builder::ChosenTable;
-use vukhaso::internals::layout_plan::{
+use vukhaso::internals::ot_map::builder::ChosenTable;
+use vukhaso::internals::ot_map::{
     FeatureFlags, FontLayout, KernLayout, LayoutPlan, Pause, PlanBuilder, ShapePlan, ShaperRules,
     TextProperties,
 };

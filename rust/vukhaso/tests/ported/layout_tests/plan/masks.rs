@@ -4,8 +4,8 @@
 
 use crate::Fail;
 use vukhaso::internals::common::Tag;
-use vukhaso::internals::layout_plan::bits::{FeatureBits, bits_needed};
-use vukhaso::internals::layout_plan::{FeatureFlags, FeatureRequest};
+use vukhaso::internals::ot_map::bits::{FeatureBits, bits_needed};
+use vukhaso::internals::ot_map::{FeatureFlags, FeatureRequest};
 
 /// The mask of bits, and values in them.
 #[test]

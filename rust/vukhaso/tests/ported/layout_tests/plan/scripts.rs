@@ -5,9 +5,9 @@
 use crate::Fail;
 use crate::layout_tests::plan::TABLE;
 use vukhaso::internals::common::Tag;
-use vukhaso::internals::layout_plan::LayoutTable;
-use vukhaso::internals::layout_plan::builder::ChosenTable;
-use vukhaso::internals::layout_plan::choice::{
+use vukhaso::internals::ot_map::LayoutTable;
+use vukhaso::internals::ot_map::builder::ChosenTable;
+use vukhaso::internals::ot_map::choice::{
     feature_count, required_feature, select_language, select_script,
 };
 

@@ -1,0 +1,226 @@
+//! Lookup tables, state tables, and the tables `feat`, `morx` and `trak`.
+
+use aat_tables::glyph_rows::GlyphRows;
+use aat_tables::tracking::Tracking;
+use aat_tables::{Entry, FeatureNames, Lookup, Metamorphosis, StateTable, SubtableKind};
+use font_tables::bytes::part;
+use std::alloc::{AllocError, Global};
+
+/// A table in numbers of 16 bits.
+pub(crate) fn bytes_of(alloc: Global, words: &[u16]) -> Result<Vec<u8>, AllocError> {
+    let mut bytes = Vec::new(alloc);
+    for word in words {
+        bytes.push((*word / 256) as u8)?;
+        bytes.push((*word % 256) as u8)?;
+    }
+    Ok(bytes)
+}
+
+#[test]
+fn lists_have_a_value_for_each_glyph(rt: HostRuntime) {
+    let Ok(table) = bytes_of(rt.alloc(), &[0, 7, 8, 9, 10]) else {
+        return;
+    };
+    let lookup = Lookup::new(table.as_slice(), 3);
+    assert!(rt; (lookup.value(0), lookup.value(2), lookup.value(3)) == (Some(7), Some(9), None));
+    assert!(rt; lookup.digest().may_have(2));
+    assert!(rt; lookup.cost() == 1);
+}
+
+#[test]
+fn trimmed_lists_have_values_from_the_first_glyph_on(rt: HostRuntime) {
+    let Ok(table) = bytes_of(rt.alloc(), &[8, 3, 2, 40, 41]) else {
+        return;
+    };
+    let lookup = Lookup::new(table.as_slice(), 10);
+    let values = (
+        lookup.value(2),
+        lookup.value(3),
+        lookup.value(4),
+        lookup.value(5),
+    );
+    assert!(rt; values == (None, Some(40), Some(41), None));
+    assert!(rt; (lookup.digest().may_have(4), lookup.digest().may_have(5)) == (true, false));
+}
+
+#[test]
+fn segments_have_one_value_or_a_list(rt: HostRuntime) {
+    let single = [2, 6, 3, 12, 1, 6, 4, 2, 70, 9, 8, 71, 0xFFFF, 0xFFFF, 0];
+    let Ok(table) = bytes_of(rt.alloc(), &single) else {
+        return;
+    };
+    let lookup = Lookup::new(table.as_slice(), 20);
+    let values = (
+        lookup.value(1),
+        lookup.value(2),
+        lookup.value(4),
+        lookup.value(5),
+    );
+    assert!(rt; values == (None, Some(70), Some(70), None));
+    assert!(rt; (lookup.value(9), lookup.value(0xFFFF)) == (Some(71), None));
+    assert!(rt; (lookup.rows().count, lookup.cost()) == (2, 2));
+    let listed = [4, 6, 1, 6, 0, 0, 4, 2, 18, 80, 81, 82];
+    let Ok(table) = bytes_of(rt.alloc(), &listed) else {
+        return;
+    };
+    let lookup = Lookup::new(table.as_slice(), 20);
+    let values = (lookup.value(2), lookup.value(4), lookup.value(5));
+    assert!(rt; values == (Some(80), Some(82), None));
+}
+
+#[test]
+fn rows_of_one_glyph_are_searched(rt: HostRuntime) {
+    let Ok(table) = bytes_of(rt.alloc(), &[6, 4, 3, 8, 1, 4, 5, 50, 7, 51, 9, 52]) else {
+        return;
+    };
+    let lookup = Lookup::new(table.as_slice(), 20);
+    let values = (
+        lookup.value(5),
+        lookup.value(6),
+        lookup.value(7),
+        lookup.value(9),
+    );
+    assert!(rt; values == (Some(50), None, Some(51), Some(52)));
+    let rows = GlyphRows {
+        table: table.as_slice(),
+        size: 4,
+        skip: 0,
+        count: 3,
+    };
+    assert!(rt;
+        (rows.row_of(9), rows.row_of(8), rows.first(1), rows.last(2))
+            == (Some(2), None, Some(7), Some(9))
+    );
+}
+
+/// An entry with one number.
+fn entry_of(new_state: u16, flags: u16, number: u16) -> Entry {
+    let data = [number, 0xFFFF];
+    Entry {
+        new_state,
+        flags,
+        data,
+    }
+}
+
+#[test]
+fn entries_are_those_of_states_and_classes(rt: HostRuntime) {
+    let words = [
+        0, 5, 0, 16, 0, 26, 0, 56, 8, 10, 2, 4, 9, 0, 0, 0, 0, 1, 0, 0, 0, 0, 0, 1, 1, 1, 1, 0, 0,
+        0, 0, 2, 0x4000, 5,
+    ];
+    let Ok(table) = bytes_of(rt.alloc(), &words) else {
+        return;
+    };
+    let machine = StateTable::new(table.as_slice(), 20, 1);
+    assert!(rt; machine.is_some());
+    let Some(machine) = machine else {
+        return;
+    };
+    let classes = (
+        machine.class(10),
+        machine.class(11),
+        machine.class(12),
+        machine.class(0xFFFF),
+    );
+    assert!(rt; classes == (4, 9, 1, 2));
+    assert!(rt; machine.entry(0, 4) == Some(entry_of(2, 0x4000, 5)));
+    assert!(rt; machine.entry(0, 9) == Some(entry_of(0, 0, 0)));
+    assert!(rt; machine.entry(3, 4).is_none());
+}
+
+#[test]
+fn a_state_table_has_four_classes(rt: HostRuntime) {
+    let Ok(table) = bytes_of(rt.alloc(), &[0, 3, 0, 16, 0, 26, 0, 56]) else {
+        return;
+    };
+    assert!(rt; StateTable::new(table.as_slice(), 20, 0).is_none());
+}
+
+#[test]
+fn features_are_found_by_their_types(rt: HostRuntime) {
+    let words = [
+        1, 0, 2, 0, 0, 0, 1, 2, 0, 36, 0, 300, 17, 3, 0, 44, 0xC002, 301, 2, 256, 4, 257, 0, 258,
+        1, 259, 2, 260,
+    ];
+    let Ok(table) = bytes_of(rt.alloc(), &words) else {
+        return;
+    };
+    let names = FeatureNames::new(table.as_slice());
+    assert!(rt; (names.is_there(), names.feature(2).is_none()) == (true, true));
+    assert!(rt; (names.feature(1).is_some(), names.feature(17).is_some()) == (true, true));
+    let (Some(ligatures), Some(alternates)) = (names.feature(1), names.feature(17)) else {
+        return;
+    };
+    assert!(rt; (ligatures.is_exclusive(), alternates.is_exclusive()) == (false, true));
+    assert!(rt;
+        (
+            ligatures.setting(0),
+            ligatures.setting(1),
+            ligatures.setting(2)
+        ) == (Some(2), Some(4), None)
+    );
+    assert!(rt; (ligatures.default_place(), alternates.default_place()) == (0, 2));
+}
+
+#[test]
+fn chains_have_features_and_subtables(rt: HostRuntime) {
+    let words = [
+        2, 0, 0, 1, 0, 3, 0, 56, 0, 1, 0, 1, 1, 2, 0, 4, 0xFFFF, 0xFFFE, 0, 28, 0x4000, 4, 0, 1, 6,
+        4, 1, 4, 0, 0, 5, 9,
+    ];
+    let Ok(table) = bytes_of(rt.alloc(), &words) else {
+        return;
+    };
+    let Ok(read) = Metamorphosis::new(rt.alloc(), table.as_slice(), 20) else {
+        return;
+    };
+    assert!(rt; (read.chains.len(), read.subtables.len()) == (1, 1));
+    let Some(chain) = read.chains.get(0) else {
+        return;
+    };
+    assert!(rt; (read.is_there(), chain.default_flags, chain.feature_count()) == (true, 3, 1));
+    let feature = chain.feature(0).map(|feature| (
+        feature.kind,
+        feature.setting,
+        feature.enable,
+        feature.disable,
+    ));
+    assert!(rt; feature == Some((1, 2, 4, 0xFFFF_FFFE)));
+    assert!(rt; read.subtables_of(chain).len() == 1);
+    let Some(subtable) = read.subtables_of(chain).first() else {
+        return;
+    };
+    assert!(rt; (subtable.kind == SubtableKind::Noncontextual, subtable.flags) == (true, 1));
+    assert!(rt;
+        (
+            subtable.coverage.is_backwards,
+            subtable.coverage.is_vertical
+        ) == (true, false)
+    );
+    assert!(rt; subtable.kind.data_count() == 0);
+    let Ok(cut) = Metamorphosis::new(rt.alloc(), part(table.as_slice(), 0, 63), 20) else {
+        return;
+    };
+    assert!(rt; !cut.is_there());
+}
+
+#[test]
+fn tracks_are_between_those_of_two_sizes(rt: HostRuntime) {
+    let words = [
+        1, 0, 0, 12, 0, 0, 1, 2, 0, 28, 0, 0, 256, 36, 10, 0, 20, 0, 100, 0xFFCE,
+    ];
+    let Ok(table) = bytes_of(rt.alloc(), &words) else {
+        return;
+    };
+    let tracking = Tracking::new(table.as_slice());
+    assert!(rt; tracking.is_there());
+    assert!(rt;
+        (
+            tracking.at(true, 10.0),
+            tracking.at(true, 15.0),
+            tracking.at(true, 20.0)
+        ) == (100, 25, -50)
+    );
+    assert!(rt; (tracking.at(false, 15.0), tracking.scaled(25, 2000, 1000)) == (0, 50));
+}

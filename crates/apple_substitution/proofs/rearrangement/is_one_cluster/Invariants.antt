@@ -1,5 +1,0 @@
-use Rattle.apple_substitution.specs.Alike.{AreAlike}
-use Rattle.apple_substitution.proofs.rearrangement.is_one_cluster.Given as goal
-
-abbrev pub invariant-loop-place : goal.invariant-loop-place
-invariant-loop-place l = AreAlike l.start l.place l.glyphs

@@ -1,5 +1,0 @@
-pub mod Choice
-pub mod Codes
-pub mod LegacyCodes
-pub mod Subtables
-pub mod Variations

@@ -1,7 +1,0 @@
-use Rattle.font_tables.proofs.RowLemmas.{NoneBelow}
-use Rattle.color_glyphs.specs.Cbdt.{holds}
-use Rattle.color_glyphs.proofs.cbdt.record_of.Given as goal
-
--- the records so far do not hold the glyph
-abbrev pub invariant-loop-row : goal.invariant-loop-row
-invariant-loop-row l = NoneBelow (holds l.records l.glyph.0) l.row

@@ -1,0 +1,11 @@
+use Rattle.std.proofs.Common.{◌≡◌, ◌<◌, ℕ, None, get_or, length}
+use Rattle.font_cmap.specs.Codes.{glyph_index}
+use Rattle.font_cmap.proofs.map.first_glyphs.Given as goal
+
+-- the glyphs so far are those of their characters
+abbrev pub invariant-loop-character : goal.invariant-loop-character
+invariant-loop-character l = record {
+  long : length l.glyphs ≡ 128;
+  found : (character : ℕ) → character < l.character
+      → get_or l.glyphs character None ≡ glyph_index l.codes.subtable.now l.codes.encoding character;
+}

@@ -1,0 +1,6 @@
+pub mod Choice
+pub mod Codes
+pub mod LegacyCodes
+pub mod Runs
+pub mod Subtables
+pub mod Variations

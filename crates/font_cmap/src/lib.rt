@@ -1,0 +1,21 @@
+//! The map from characters to glyphs of an OpenType font (table `cmap`), total over any bytes.
+//!
+//! A font may have several subtables. One is chosen, as HarfBuzz chooses it, and gives the glyphs of characters; another
+//! one says what glyphs variation sequences have.
+#![tactic(auto)]
+
+mod arrays;
+mod choice;
+pub mod codes;
+mod counts;
+mod groups;
+mod legacy_codes;
+pub mod map;
+mod runs;
+mod segments;
+mod subtable;
+pub mod variations;
+
+pub use codes::Encoding;
+pub use map::CharacterMap;
+pub use variations::GlyphVariant;

@@ -1,0 +1,153 @@
+//! The map from characters to glyphs.
+
+ghost use Rattle.std.specs.Prelude.{◌≡◌, ◌<◌, ℕ, None, get_or, option_map, option_and_then};
+ghost use Rattle.font_cmap.specs.Choice.{chosen_subtable, chosen_encoding, variation_subtable};
+ghost use Rattle.font_cmap.specs.Codes.{glyph_index, glyph_variation_index};
+ghost use Rattle.font_cmap.specs.Variations.{glyph_variant};
+ghost use Rattle.font_cmap.specs.Subtables.{subtable_glyph};
+
+use crate::choice::{choose, variation_subtable};
+use crate::codes::{Encoding, other_code, own_code};
+use crate::runs::FIRST_COUNT;
+use crate::subtable::{first_subtable_glyphs, subtable_glyph};
+use crate::variations::{GlyphVariant, glyph_variant};
+use rb_common::GlyphId;
+
+/// A subtable, and what its codes stand for.
+#[derive(Clone, Copy)]
+struct Codes<'a> {
+    subtable: &'a [u8],
+    encoding: Encoding,
+}
+
+impl Codes<'_> {
+    /// The glyph of a character.
+    #[tactic(auto, unfolding(crate::specs::Codes::glyph_index))]
+    fn glyph_of(&self, character: u32) -> Option<u16>
+        ensures { result ≡ glyph_index self.now.subtable.now self.now.encoding character }
+    {
+        match self.glyph_of_code(own_code(self.encoding, character)) {
+            Some(glyph) => Some(glyph),
+            None => self.glyph_of_code(other_code(self.encoding, character)),
+        }
+    }
+
+    /// The glyph of one of the first characters, whose own number is a code of each encoding, by the glyph of that.
+    #[tactic(auto, using(crate::proofs::First::own_code_first), unfolding(crate::specs::Codes::glyph_index))]
+    fn glyph_or_other(&self, own: Option<u16>, character: u32) -> Option<u16>
+        requires first { character < 128 }
+        requires own { own ≡ subtable_glyph self.now.subtable.now character }
+        ensures { result ≡ glyph_index self.now.subtable.now self.now.encoding character }
+    {
+        match own {
+            Some(glyph) => Some(glyph),
+            None => self.glyph_of_code(other_code(self.encoding, character)),
+        }
+    }
+
+    /// The glyph of a code, if there is a code.
+    fn glyph_of_code(&self, code: Option<u32>) -> Option<u16>
+        ensures { result ≡ option_and_then (subtable_glyph self.now.subtable.now) code }
+    {
+        let code = code?;
+        subtable_glyph(self.subtable, code)
+    }
+}
+
+/// The glyphs of the first characters.
+fn first_glyphs(codes: &Codes<'_>) -> [Option<u16>; FIRST_COUNT]
+    ensures { (character : ℕ) → character < 128
+        → get_or result character None ≡ glyph_index codes.now.subtable.now codes.now.encoding character }
+{
+    let own = first_subtable_glyphs(codes.subtable);
+    let mut glyphs = [None; FIRST_COUNT];
+    for character in 0..FIRST_COUNT {
+        glyphs[character] = codes.glyph_or_other(own[character], character as u32);
+    }
+    glyphs
+}
+
+/// The map from characters to glyphs of a font (OpenType specification, `cmap`).
+#[derive(Clone, Copy, Debug)]
+pub struct CharacterMap<'a> {
+    /// The subtable that was chosen, from its format on; empty where the font has none that is understood.
+    pub subtable: &'a [u8],
+    /// What the codes of the subtable stand for.
+    pub encoding: Encoding,
+    /// The subtable of variation sequences, from its format on; empty where the font has none.
+    pub variations: &'a [u8],
+    first_glyphs: [Option<u16>; FIRST_COUNT],
+    ghost firsts: { (character : ℕ) → character < 128
+        → get_or first_glyphs character None ≡ glyph_index subtable.now encoding character },
+}
+
+impl<'a> CharacterMap<'a> {
+    /// The map of a font, from its table `cmap`.
+    ///
+    /// `font_page` says what the codes of a symbol font are: `fsSelection & 0xFF00` of a table `OS/2` of version 0, and 0
+    /// for any other font.
+    ///
+    /// One subtable is chosen, as HarfBuzz chooses it: symbols, then all of Unicode, then its first 65,536 characters, and
+    /// then the Macintosh's encodings. A subtable that does not lie whole in the table is not there.
+    pub fn parse(cmap: &'a [u8], font_page: u16) -> Self
+        ensures subtable { result.subtable.now ≡ chosen_subtable cmap.now }
+        ensures encoding { result.encoding ≡ chosen_encoding cmap.now font_page }
+        ensures variations { result.variations.now ≡ variation_subtable cmap.now }
+    {
+        let choice = choose(cmap, font_page);
+        let codes = Codes {
+            subtable: choice.subtable,
+            encoding: choice.encoding,
+        };
+        CharacterMap {
+            subtable: codes.subtable,
+            encoding: codes.encoding,
+            variations: variation_subtable(cmap),
+            first_glyphs: first_glyphs(&codes),
+        }
+    }
+
+    /// The glyph of a character; `None` where the font has none.
+    pub fn glyph_index(&self, character: u32) -> Option<GlyphId>
+        ensures { option_map (λ glyph. glyph.0) result
+            ≡ glyph_index self.now.subtable.now self.now.encoding character }
+    {
+        let glyph = match self.first_glyphs.get(character as usize) {
+            Some(glyph) => *glyph,
+            None => self.codes().glyph_of(character),
+        };
+        glyph.map(GlyphId)
+    }
+
+    /// How a glyph is found.
+    fn codes(&self) -> Codes<'a>
+        ensures subtable { result.subtable.now ≡ self.now.subtable.now }
+        ensures encoding { result.encoding ≡ self.now.encoding }
+    {
+        Codes {
+            subtable: self.subtable,
+            encoding: self.encoding,
+        }
+    }
+
+    /// What the font says of a character before a variation selector.
+    pub fn glyph_variant(&self, character: u32, selector: u32) -> GlyphVariant
+        ensures { result ≡ glyph_variant self.now.variations.now character selector }
+    {
+        glyph_variant(self.variations, character, selector)
+    }
+
+    /// The glyph of a character before a variation selector; `None` where the font does not have that variation
+    /// sequence, or no glyph for it.
+    #[tactic(auto, unfolding(crate::specs::Codes::glyph_variation_index))]
+    pub fn glyph_variation_index(&self, character: u32, selector: u32) -> Option<GlyphId>
+        ensures { option_map (λ glyph. glyph.0) result
+            ≡ glyph_variation_index self.now.subtable.now self.now.encoding self.now.variations.now character selector }
+    {
+        match self.glyph_variant(character, selector) {
+            GlyphVariant::NotFound => None,
+            GlyphVariant::Found(glyph) => Some(glyph),
+            GlyphVariant::UseDefault => self.glyph_index(character),
+        }
+    }
+}

@@ -1,0 +1,216 @@
+//! Segments of codes (OpenType specification, `cmap`, "Format 4").
+
+ghost use Rattle.std.specs.Prelude.{◌≡◌, ◌<◌, ◌≤◌, ◌^◌, ℕ, None, IfSome, get_or, option_and_then};
+ghost use Rattle.font_tables.specs.Bisection.{row_with};
+ghost use Rattle.font_cmap.specs.Subtables.{beside_segment, segment_count, number_of_list};
+ghost use Rattle.font_cmap.specs.Subtables.{glyph_behind_range_offset, with_delta, glyph_in_segment};
+ghost use Rattle.font_cmap.specs.Subtables.{segment_glyph, segments_glyph};
+ghost use Rattle.font_cmap.specs.Runs.{glyph_of_segment, IsSegmentRun};
+
+use crate::arrays::some_glyph;
+use crate::counts::count_16;
+use crate::runs::{Beside, CodeRows, FIRST_COUNT, row_run};
+use font_tables::bisection::{KeyedRows, row_with};
+use font_tables::bytes::u16_at;
+use std::cmp::Ordering;
+
+/// The segments of a subtable.
+#[derive(Clone, Copy)]
+struct Segments<'a>(&'a [u8]);
+
+impl KeyedRows for Segments<'_> {
+    ghost use Rattle.font_cmap.specs.Subtables.{beside_segment};
+
+    ghost beside_of = { λ segments code row. beside_segment segments.0.now code row };
+
+    #[inline]
+    fn beside(&self, code: u32, row: usize) -> Option<Ordering> {
+        self.beside_run(code, row).order
+    }
+}
+
+impl CodeRows for Segments<'_> {
+    ghost use Rattle.font_cmap.specs.Subtables.{beside_segment};
+
+    ghost place_of = { λ segments code row. beside_segment segments.0.now code row };
+
+    #[inline]
+    #[tactic(auto, using(crate::proofs::Outside::beside_segment_outside))]
+    fn beside_run(&self, code: u32, row: usize) -> Beside {
+        let order = None;
+        if row >= self.0.len() / 2 {
+            return Beside {
+                order,
+                last: u32::MAX,
+            };
+        }
+        let Some(end) = u16_at(self.0, 14 + 2 * row) else {
+            return Beside {
+                order,
+                last: u32::MAX,
+            };
+        };
+        let end = u32::from(end);
+        if end < code {
+            return Beside {
+                order: Some(Ordering::Greater),
+                last: u32::MAX,
+            };
+        }
+        match number_of_list(self.0, 1, row) {
+            None => Beside { order, last: end },
+            Some(start) if code < u32::from(start) => Beside {
+                order: Some(Ordering::Less),
+                last: end.min(u32::from(start) - 1),
+            },
+            Some(_) => Beside {
+                order: Some(Ordering::Equal),
+                last: end,
+            },
+        }
+    }
+}
+
+/// How many segments there are: the table has twice that number.
+#[tactic(auto, unfolding(crate::specs::Subtables::segment_count))]
+fn segment_count(table: &[u8]) -> usize
+    ensures is { result ≡ segment_count table.now }
+    ensures small { result < 32768 }
+{
+    count_16(table, 6) / 2
+}
+
+/// The number at a place of a list behind the ends: starts (1), deltas (2), range offsets and then glyphs (3).
+#[tactic(auto, using(crate::proofs::Outside::number_of_list_outside), unfolding(crate::specs::Subtables::number_of_list))]
+fn number_of_list(table: &[u8], list: usize, place: usize) -> Option<u16>
+    requires { list < 4 }
+    ensures { result ≡ number_of_list table.now list place }
+{
+    if place < table.len() / 2 {
+        u16_at(table, 16 + list * (2 * segment_count(table)) + 2 * place)
+    } else {
+        None
+    }
+}
+
+/// The glyph that stands so many places behind the range offset of a row: behind all of the range offsets.
+#[tactic(auto, unfolding(crate::specs::Subtables::glyph_behind_range_offset))]
+fn glyph_behind_range_offset(table: &[u8], row: usize, distance: usize) -> Option<u16>
+    requires row { row < 2 ^ 62 }
+    requires distance { distance < 2 ^ 62 }
+    ensures { result ≡ glyph_behind_range_offset table.now row distance }
+{
+    if row + distance < segment_count(table) {
+        None
+    } else {
+        number_of_list(table, 3, row + distance)
+    }
+}
+
+/// The glyph of a number with the delta added: what passes 65,535 goes on from 0.
+fn with_delta(delta: u16, number: u32) -> Option<u16>
+    ensures { result ≡ with_delta delta number }
+{
+    some_glyph((u64::from(number) + u64::from(delta)) % 65536)
+}
+
+/// A segment: its number, its start, its delta and its range offset.
+#[derive(Clone, Copy, Debug)]
+struct Segment {
+    row: usize,
+    start: u32,
+    delta: u16,
+    range_offset: u16,
+}
+
+/// The glyph that a segment gives to a code that it reaches.
+#[tactic(auto, unfolding(crate::specs::Subtables::glyph_in_segment))]
+fn glyph_in_segment(table: &[u8], code: u32, segment: &Segment) -> Option<u16>
+    requires { segment.now.row < 2 ^ 62 }
+    ensures { result ≡ glyph_in_segment table.now code segment.now.row segment.now.start
+        segment.now.delta segment.now.range_offset }
+{
+    if code < segment.start {
+        return None;
+    }
+    if segment.range_offset == 0 {
+        return with_delta(segment.delta, code);
+    }
+    let distance = usize::from(segment.range_offset / 2) + (code - segment.start) as usize;
+    let number = glyph_behind_range_offset(table, segment.row, distance)?;
+    let glyph = some_glyph(u64::from(number))?;
+    with_delta(segment.delta, u32::from(glyph))
+}
+
+/// The segment of a row.
+#[tactic(auto, using(crate::proofs::Outside::segment_glyph_outside), unfolding(crate::specs::Subtables::segment_glyph))]
+fn segment_of(table: &[u8], row: usize) -> Option<Segment>
+    ensures glyphs { (code : ℕ) → glyph_of_segment table.now code result ≡ segment_glyph table.now code row }
+    ensures small { IfSome result (λ segment. segment.row < 2 ^ 62) }
+{
+    if row >= table.len() / 2 {
+        return None;
+    }
+    let start = u32::from(number_of_list(table, 1, row)?);
+    let delta = number_of_list(table, 2, row)?;
+    let range_offset = number_of_list(table, 3, row)?;
+    Some(Segment {
+        row,
+        start,
+        delta,
+        range_offset,
+    })
+}
+
+/// The glyph of a code by format 4.
+#[tactic(auto, unfolding(crate::specs::Subtables::segments_glyph))]
+pub(crate) fn segments_glyph(table: &[u8], code: u32) -> Option<u16>
+    ensures { result ≡ segments_glyph table.now code }
+{
+    let row = row_with(&Segments(table), segment_count(table), code)?;
+    let segment = segment_of(table, row)?;
+    glyph_in_segment(table, code, &segment)
+}
+
+/// The segment that codes have, from one on up to `last`.
+#[derive(Clone, Copy, Debug)]
+struct SegmentRun {
+    segment: Option<Segment>,
+    last: u32,
+}
+
+/// The segment of a code and of those behind it.
+#[tactic(auto, unfolding(crate::specs::Subtables::segments_glyph))]
+fn segment_run(table: &[u8], code: u32) -> SegmentRun
+    ensures goes { code ≤ result.last }
+    ensures glyphs { IsSegmentRun table.now result code }
+    ensures small { IfSome result.segment (λ segment. segment.row < 2 ^ 62) }
+{
+    let run = row_run(&Segments(table), segment_count(table), code);
+    let segment = match run.row {
+        Some(row) => segment_of(table, row),
+        None => None,
+    };
+    SegmentRun {
+        segment,
+        last: run.last,
+    }
+}
+
+/// The glyphs of the first codes by format 4.
+pub(crate) fn first_segments_glyphs(table: &[u8]) -> [Option<u16>; FIRST_COUNT]
+    ensures { (code : ℕ) → code < 128 → get_or result code None ≡ segments_glyph table.now code }
+{
+    let mut glyphs = [None; FIRST_COUNT];
+    let mut run = segment_run(table, 0);
+    for code in 0..FIRST_COUNT {
+        if run.last < code as u32 {
+            run = segment_run(table, code as u32);
+        }
+        glyphs[code] = match &run.segment {
+            Some(segment) => glyph_in_segment(table, code as u32, segment),
+            None => None,
+        };
+    }
+    glyphs
+}

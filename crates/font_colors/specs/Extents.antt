@@ -1,0 +1,33 @@
+-- Boxes of what is drawn.
+use Rattle.std.specs.Prelude.{Bool, ◌||◌, if◌then◌else◌}
+use Rattle.std.specs.Float.Ieee.{Float, le}
+use Rattle.font_colors.specs.declared.extents.Extents.{Extents}
+
+-- the lesser and the greater of two floats; the second one where they are not ordered
+abbrev pub lesser : Float → Float → Float
+lesser one other = if le one other then one else other
+
+abbrev pub greater : Float → Float → Float
+greater one other = if le other one then one else other
+
+-- the least box around two
+abbrev pub joined : Extents → Extents → Extents
+joined one other = record {
+  x_min = lesser one.x_min other.x_min;
+  y_min = lesser one.y_min other.y_min;
+  x_max = greater one.x_max other.x_max;
+  y_max = greater one.y_max other.y_max;
+}
+
+-- what two boxes have in common
+abbrev pub common : Extents → Extents → Extents
+common one other = record {
+  x_min = greater one.x_min other.x_min;
+  y_min = greater one.y_min other.y_min;
+  x_max = lesser one.x_max other.x_max;
+  y_max = lesser one.y_max other.y_max;
+}
+
+-- whether a box has no width or no height
+abbrev pub is_empty : Extents → Bool
+is_empty e = le e.x_max e.x_min || le e.y_max e.y_min

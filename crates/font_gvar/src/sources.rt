@@ -1,0 +1,131 @@
+//! The tables that the outlines of glyphs and their variations are in.
+
+ghost use Rattle.std.specs.Prelude.{◌≡◌, ◌<◌, ◌≤ℤ◌, IsSome, pos, negsuc};
+ghost use Rattle.font_gvar.specs.Phantoms.{across, left_edge, top_edge, upwards};
+
+use crate::gvar::GlyphVariations;
+use crate::phantoms::Phantoms;
+use crate::points::Point;
+use font_outlines::GlyfTables;
+use font_outlines::glyf::outline;
+use font_tables::bytes::{i16_at, u16_at};
+use font_tables::metrics::Metrics;
+use font_variations::rounding::float;
+use rb_common::GlyphId;
+
+/// The tables of a font's outlines, with those of advances and side bearings.
+#[derive(Clone, Copy, Debug)]
+pub struct GlyphSources<'a> {
+    /// The outlines.
+    pub outlines: GlyfTables<'a>,
+    /// Their variations.
+    pub variations: GlyphVariations<'a>,
+    /// Advances and side bearings in horizontal lines.
+    pub horizontal: Metrics<'a>,
+    /// Advances and side bearings in vertical lines.
+    pub vertical: Metrics<'a>,
+}
+
+impl<'a> GlyphSources<'a> {
+    ghost use Rattle.font_gvar.specs.Phantoms.{phantoms};
+
+    /// The outline of a glyph, as it stands in the table `glyf`: no bytes where the glyph has none. `None` where the font has no
+    /// such glyph.
+    pub(crate) fn outline(&self, glyph: GlyphId) -> Option<&'a [u8]>
+        ensures { IsSome result → glyph.0 < self.now.outlines.glyph_count }
+    {
+        let tables = &self.outlines;
+        if glyph.0 >= tables.glyph_count {
+            return None;
+        }
+        let outline = outline(tables.glyf, tables.loca, tables.has_long_offsets, glyph)?;
+        Some(if outline.len() < HEADER_SIZE {
+            &[]
+        } else {
+            outline
+        })
+    }
+
+    /// The phantom points of a glyph with this outline, where nothing varies.
+    #[tactic(auto, unfolding(crate::specs::Phantoms::phantoms))]
+    pub(crate) fn phantoms(&self, glyph: GlyphId, outline: &[u8]) -> Phantoms
+        ensures { result ≡ phantoms self.now glyph.0 outline.now }
+    {
+        let left = left_edge(&self.horizontal, glyph, outline);
+        let top = top_edge(&self.vertical, glyph, outline);
+        Phantoms {
+            left: across(left),
+            right: across(left + i32::from(self.horizontal.advance(glyph))),
+            top: upwards(top),
+            bottom: upwards(top - i32::from(self.vertical.advance(glyph))),
+        }
+    }
+}
+
+/// Where a glyph's origin lies in horizontal lines, in font units.
+fn left_edge(metrics: &Metrics<'_>, glyph: GlyphId, outline: &[u8]) -> i32
+    ensures is { result ≡ left_edge metrics.now glyph.0 outline.now }
+    ensures low { negsuc 65535 ≤ℤ result }
+    ensures high { result ≤ℤ pos 65536 }
+{
+    let x_min = i16_at(outline, 2).unwrap_or(0);
+    match metrics.side_bearing(glyph) {
+        Some(bearing) => i32::from(x_min) - i32::from(bearing),
+        None => 0,
+    }
+}
+
+/// Where a glyph's origin lies in vertical lines, in font units.
+fn top_edge(metrics: &Metrics<'_>, glyph: GlyphId, outline: &[u8]) -> i32
+    ensures is { result ≡ top_edge metrics.now glyph.0 outline.now }
+    ensures low { negsuc 65535 ≤ℤ result }
+    ensures high { result ≤ℤ pos 65536 }
+{
+    let y_max = i16_at(outline, 8).unwrap_or(0);
+    i32::from(y_max) + i32::from(metrics.side_bearing(glyph).unwrap_or(0))
+}
+
+/// A point on the line of the origin.
+#[tactic(auto, using(crate::proofs::ScalarLemmas::literals))]
+fn across(x: i32) -> Point
+    ensures { result ≡ across x }
+{
+    Point {
+        x: float(x),
+        y: 0.0,
+    }
+}
+
+/// A point above or below the origin.
+#[tactic(auto, using(crate::proofs::ScalarLemmas::literals))]
+fn upwards(y: i32) -> Point
+    ensures { result ≡ upwards y }
+{
+    Point {
+        x: 0.0,
+        y: float(y),
+    }
+}
+
+/// How many bytes the header of an outline has.
+pub(crate) const HEADER_SIZE: usize = 10;
+
+/// What an outline is.
+#[derive(Clone, Copy, PartialEq, Eq, Debug)]
+pub(crate) enum OutlineKind {
+    /// It has no points.
+    Empty,
+    /// It has so many contours.
+    Simple(u16),
+    /// It is put together of other glyphs.
+    Composite,
+}
+
+/// What an outline is, by its number of contours.
+pub(crate) fn outline_kind(outline: &[u8]) -> OutlineKind {
+    match u16_at(outline, 0).unwrap_or(0) {
+        0 => OutlineKind::Empty,
+        count if count < 0x8000 => OutlineKind::Simple(count),
+        _ => OutlineKind::Composite,
+    }
+}

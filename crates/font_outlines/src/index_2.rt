@@ -1,0 +1,66 @@
+//! The items of an INDEX of the table `CFF2`, whose count has 32 bits (OpenType specification, "CFF2 - Compact Font Format 2
+//! Table", "INDEX Data").
+
+ghost use Rattle.std.specs.Prelude.{◌≡◌, ◌+◌, ◌<◌, ◌≤◌, ◌^◌};
+ghost use Rattle.std.specs.Option.{option_copied};
+ghost use Rattle.font_outlines.specs.Index2.{base_2, count_2, item_2, offset_2, offset_size_2, subroutine_2};
+
+use crate::glyf::between;
+use crate::index::number_of_size;
+use crate::subroutines::bias;
+use font_tables::bytes::{u8_at, u32_at};
+
+/// How many items an INDEX has; none where the table is empty.
+pub(crate) fn count_2(index: &[u8]) -> u32
+    ensures { result ≡ count_2 index.now }
+{
+    u32_at(index, 0).unwrap_or(0)
+}
+
+/// How many bytes each offset has.
+fn offset_size_2(index: &[u8]) -> u8
+    ensures { result ≡ offset_size_2 index.now }
+{
+    u8_at(index, 4).unwrap_or(0)
+}
+
+/// The offset of a number.
+fn offset_2(index: &[u8], number: u64) -> Option<u32>
+    requires { number ≤ 2 ^ 32 }
+    ensures { result ≡ offset_2 index.now number }
+{
+    let size = offset_size_2(index);
+    number_of_size(size, index, 5 + usize::from(size) * number as usize)
+}
+
+/// The place that offsets count from: the byte before the first item.
+fn base_2(index: &[u8]) -> usize
+    ensures is { result ≡ base_2 index.now }
+    ensures low { result < 2 ^ 41 }
+{
+    4 + usize::from(offset_size_2(index)) * (count_2(index) as usize + 1)
+}
+
+/// The bytes of an item; `None` where the INDEX has no such item.
+#[tactic(auto, unfolding(crate::specs::Index2::item_2))]
+pub(crate) fn item_2(index: &[u8], number: u32) -> Option<&[u8]>
+    ensures { option_copied result ≡ item_2 index.now number }
+{
+    if number < count_2(index) {
+        let start = offset_2(index, u64::from(number))?;
+        let end = offset_2(index, u64::from(number) + 1)?;
+        let base = base_2(index);
+        Some(between(index, base + start as usize, base + end as usize))
+    } else {
+        None
+    }
+}
+
+/// The subroutine that a number calls in an INDEX; `None` where there is no such one.
+#[tactic(auto, unfolding(crate::specs::Index2::subroutine_2))]
+pub(crate) fn subroutine_2(index: &[u8], number: i32) -> Option<&[u8]>
+    ensures { option_copied result ≡ subroutine_2 index.now number }
+{
+    let place = i64::from(number) + i64::from(bias(count_2(index)));
+    item_2(index, u32::try_from(place).ok()?)
+}

@@ -1,6 +1,0 @@
-use Rattle.std.proofs.Common.{◌≡◌}
-use Rattle.shaping_buffer.specs.Clusters.{clusters}
-use Rattle.font_positions.proofs.fallback_marks.recategorize_all.Given as goal
-
-abbrev pub invariant-loop-i : goal.invariant-loop-i
-invariant-loop-i l = clusters l.infos ≡ clusters l.fn.infos

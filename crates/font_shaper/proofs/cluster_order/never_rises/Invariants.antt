@@ -1,5 +1,0 @@
-use Rattle.font_shaper.proofs.CourseLemmas.{FallsBelow}
-use Rattle.font_shaper.proofs.cluster_order.never_rises.Given as goal
-
-abbrev pub invariant-loop-place : goal.invariant-loop-place
-invariant-loop-place l = FallsBelow l.infos l.place

@@ -1,6 +1,0 @@
-use Rattle.std.proofs.Common.{◌≡◌, false}
-use Rattle.font_shaper.specs.ClusterOrder.{KeepsStage}
-use Rattle.font_shaper.proofs.substitution.apply_stages.Given as goal
-
-abbrev pub invariant-loop-stage : goal.invariant-loop-stage
-invariant-loop-stage g l = (l.buffer.have_output ≡ false) × KeepsStage l.plan.syllables l.fn.buffer l.buffer

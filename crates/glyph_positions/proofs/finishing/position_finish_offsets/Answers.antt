@@ -1,7 +1,0 @@
-use Rattle.glyph_positions.proofs.FlagLemmas.{keeps_by}
-use Rattle.glyph_positions.proofs.finishing.position_finish_offsets.Goals as goal
-
-pub returns-clause-keeps : goal.returns-clause-keeps
-returns-clause-keeps c =
-    keeps_by c.args.buffer.now c.follow_all.new.buffer (c.out_len.ensures.closed c.requires.closed)
-    (c.out_len-2.ensures.closed c.follow_all.ensures.closed) c.follow_all.ensures.level c.follow_all.ensures.glyphs

@@ -1,3 +1,0 @@
-pub mod Adjustments
-pub mod Bases
-pub mod Placing

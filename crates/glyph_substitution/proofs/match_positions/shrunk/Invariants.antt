@@ -1,5 +1,0 @@
-use Rattle.glyph_substitution.specs.MatchPositions.{AreAll, shrunk_place}
-use Rattle.glyph_substitution.proofs.match_positions.shrunk.Given as goal
-
-abbrev pub invariant-loop-index : goal.invariant-loop-index
-invariant-loop-index l = AreAll (shrunk_place l.places l.number l.removed) l.index l.shrunk.items

@@ -1,6 +1,0 @@
-use Rattle.glyph_substitution.proofs.BufferLemmas.{glyph_ahead-read}
-use Rattle.glyph_substitution.proofs.writing.glyph_ahead.Goals as goal
-
-pub returns : goal.returns
-returns c =
-    glyph_ahead-read c.args.ahead c.args.buffer.now c.cur.result.now c.requires.opened c.requires.glyph c.cur.ensures

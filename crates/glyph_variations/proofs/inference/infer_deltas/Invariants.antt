@@ -1,6 +1,0 @@
-use Rattle.std.proofs.Common.{◌≤◌}
-use Rattle.glyph_variations.proofs.inference.infer_deltas.Given as goal
-
--- the contour begins no later than the point
-abbrev pub invariant-loop-end : goal.invariant-loop-end
-invariant-loop-end l = l.start ≤ l.end

@@ -1,5 +1,0 @@
-use Rattle.layout_plan.proofs.MaskLemmas.{IsCounted}
-use Rattle.layout_plan.proofs.bits.bits_needed.Given as goal
-
-abbrev pub invariant-loop-bit : goal.invariant-loop-bit
-invariant-loop-bit l = IsCounted l.max_value l.bit l.count

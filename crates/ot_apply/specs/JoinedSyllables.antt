@@ -1,0 +1,13 @@
+-- What a lookup of forms does to a glyph of a joined syllable.
+use Rattle.std.specs.Prelude.{ℕ, ◌-◌, ◌^◌, ◌==◌, ◌&&◌, Bool, not, bit_and, if◌then◌else◌}
+use Rattle.rb_glyph.specs.declared.info.hb_glyph_info_t.{hb_glyph_info_t}
+use Rattle.ot_layout.specs.declared.lookup_list.Lookup.{Lookup}
+use Rattle.ot_layout.specs.Lookup.{is_for}
+
+-- the bits of the lookup's features are in only one of two masks
+abbrev pub is_in_one : ℕ → ℕ → ℕ → Bool
+is_in_one bits one other = if bit_and one bits == 0 then not (bit_and other bits == 0) else bit_and other bits == 0
+
+-- the lookup is for the glyph, and with only one of the masks: its own, and another
+abbrev pub is_parted : Lookup → ℕ → hb_glyph_info_t → ℕ → Bool
+is_parted lookup bits g other = is_in_one bits g.mask other && is_for lookup (2 ^ 32 - 1) g

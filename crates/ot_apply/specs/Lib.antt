@@ -1,0 +1,2 @@
+pub mod ClusterOrder
+pub mod JoinedSyllables

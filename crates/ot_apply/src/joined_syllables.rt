@@ -1,0 +1,83 @@
+//! Joined syllables of which a lookup of a stage hangs on the form.
+
+ghost use Rattle.std.specs.Prelude.{◌≡◌, false};
+ghost use Rattle.shaping_buffer.specs.KeepsClusters.{KeepsClusters};
+ghost use Rattle.ot_apply.specs.JoinedSyllables as joined;
+
+use font_face::Face;
+use ot_layout::lookup_list::Lookup;
+use ot_map::PlannedLookup;
+use ot_plan::TextPlan;
+use script_shapers::SyllablePlan;
+use script_universal::{FormLookup, FormMasks, flag_forms};
+use shaping_buffer::{hb_buffer_t, hb_glyph_info_t};
+
+/// A lookup, and the bits of its features.
+#[derive(Clone, Copy, Drop)]
+struct MaskedLookup<'a> {
+    lookup: &'a Lookup<'a>,
+    mask: u32,
+}
+
+impl FormLookup for MaskedLookup<'_> {
+    fn is_parted(&self, glyph: &hb_glyph_info_t, other: u32) -> bool {
+        is_parted(self.lookup, self.mask, glyph, other)
+    }
+}
+
+/// Whether a lookup with these bits of its features is for a glyph, and is so with only one of the masks: the glyph's own, and another.
+fn is_parted(lookup: &Lookup<'_>, bits: u32, glyph: &hb_glyph_info_t, other: u32) -> bool
+    ensures { result ≡ joined.is_parted lookup.now bits glyph.now other }
+{
+    is_in_one(bits, glyph.mask, other) && lookup.is_for(u32::MAX, glyph)
+}
+
+/// Whether bits are in only one of two masks.
+fn is_in_one(bits: u32, one: u32, other: u32) -> bool
+    ensures { result ≡ joined.is_in_one bits one other }
+{
+    if one & bits == 0 {
+        other & bits != 0
+    } else {
+        other & bits == 0
+    }
+}
+
+/// Marks as unsafe to break joined syllables of which a lookup of a stage hangs on the form.
+#[tactic(auto, using(shaping_buffer::proofs::ClosedKeepsLemmas::kept))]
+pub(crate) fn keep_joined(
+    buffer: &mut hb_buffer_t,
+    face: &Face,
+    plan: &TextPlan,
+    lookups: &[PlannedLookup],
+)
+    requires { buffer.old.have_output ≡ false }
+    ensures closed { buffer.new.have_output ≡ false }
+    ensures keeps { KeepsClusters buffer.old buffer.new }
+{
+    let SyllablePlan::Universal(universal) = &plan.syllables else {
+        return;
+    };
+    for planned in lookups {
+        keep_formed(buffer, face, &universal.forms, planned);
+    }
+}
+
+/// Marks those of which a lookup hangs on the form.
+#[tactic(auto, using(shaping_buffer::proofs::ClosedKeepsLemmas::kept))]
+fn keep_formed(buffer: &mut hb_buffer_t, face: &Face, forms: &FormMasks, planned: &PlannedLookup)
+    requires { buffer.old.have_output ≡ false }
+    ensures closed { buffer.new.have_output ≡ false }
+    ensures keeps { KeepsClusters buffer.old buffer.new }
+{
+    if planned.mask & forms.all() == 0 {
+        return;
+    }
+    if let Some(lookup) = face.lookups.substitutions.lookup(planned.index) {
+        let masked = MaskedLookup {
+            lookup,
+            mask: planned.mask,
+        };
+        flag_forms(buffer, forms, &masked);
+    }
+}

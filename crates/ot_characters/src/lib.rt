@@ -1,0 +1,14 @@
+//! The characters of a text, before they are mapped to glyphs: their properties, graphemes, direction and mirror images.
+#![tactic(auto)]
+
+mod glyph_info;
+mod numbers;
+mod rotation;
+mod text;
+
+pub use glyph_info::is_decimal_number;
+pub use numbers::keep_numbers;
+pub use rotation::rotate_characters;
+pub use text::{
+    ensure_native_direction, form_clusters, insert_dotted_circle, set_direction, set_properties,
+};

@@ -1,0 +1,226 @@
+//! The characters of a text, before they are mapped to glyphs: their properties, graphemes and direction.
+
+ghost use Rattle.std.specs.Prelude.{◌≡◌, ◌<◌, ◌≤◌, true, false, length, IfOk};
+ghost use Rattle.shaping_buffer.specs.Clusters.{clusters};
+ghost use Rattle.shaping_buffer.specs.KeepsClusters.{KeepsClusters, TurnsClusters};
+ghost use Rattle.ot_characters.specs.Turned.{KeepsOrTurns};
+
+use crate::glyph_info::{is_regional_indicator, is_same_grapheme, is_zwj, set_continuation};
+use crate::numbers::{are_numbers, is_against_script};
+use font_functions::FontFunctions;
+use ot_normalization::allows_any_order;
+use ot_normalization::glyph_info::{
+    general_category, is_continuation, is_unicode_mark, set_unicode_props,
+};
+use shaping_buffer::rb_glyph::hb_gc::RB_UNICODE_GENERAL_CATEGORY_MODIFIER_SYMBOL;
+use shaping_buffer::{
+    BufferFlags, CharExt, Direction, Flags, HB_BUFFER_CLUSTER_LEVEL_MONOTONE_GRAPHEMES,
+    HB_BUFFER_SCRATCH_FLAG_HAS_NON_ASCII, hb_buffer_t, hb_glyph_info_t,
+};
+use std::alloc::AllocError;
+
+/// No character before this one goes on with a grapheme: the first that emoji are made from.
+const FIRST_PICTOGRAPHIC: u32 = 0xA9;
+
+/// The dotted circle, which a mark without a base is put on.
+const DOTTED_CIRCLE: u32 = 0x25CC;
+
+/// Sets the properties of each character, and says which go on with the grapheme before them.
+pub fn set_properties(buffer: &mut hb_buffer_t)
+    requires { buffer.old.have_output ≡ false }
+    ensures closed { buffer.new.have_output ≡ false }
+    ensures keeps { KeepsClusters buffer.old buffer.new }
+{
+    let scratch_flags = set_all_in(buffer);
+    buffer.scratch_flags = scratch_flags;
+}
+
+/// Sets the properties of each character of a buffer; the scratch flags that then hold.
+fn set_all_in(buffer: &mut hb_buffer_t) -> u32
+    requires { buffer.old.have_output ≡ false }
+    ensures closed { buffer.new.have_output ≡ false }
+    ensures keeps { KeepsClusters buffer.old buffer.new }
+{
+    let mut scratch_flags = buffer.scratch_flags;
+    set_all_properties(buffer.info_slice_mut(), &mut scratch_flags);
+    scratch_flags
+}
+
+/// Sets the properties of each character.
+#[tactic(auto, using(shaping_buffer::proofs::ClosedKeepsLemmas::clusters_written))]
+fn set_all_properties(infos: &mut [hb_glyph_info_t], scratch_flags: &mut u32)
+    ensures { clusters infos.new ≡ clusters infos.old }
+{
+    for i in 0..infos.len() {
+        set_unicode_props(&mut infos[i], scratch_flags);
+        if continues_grapheme(infos, i) {
+            set_continuation(&mut infos[i]);
+        }
+    }
+}
+
+/// Whether a character that is no mark goes on with the grapheme before it (Unicode Standard Annex 29): a modifier of
+/// an emoji, the second of two regional indicators, the zero width joiner and an emoji behind it, tags, and the voiced
+/// sound marks of halfwidth Katakana.
+fn continues_grapheme(infos: &[hb_glyph_info_t], i: usize) -> bool
+    requires { i < length infos.now }
+{
+    let info = &infos[i];
+    let before = if i > 0 { infos.get(i - 1) } else { None };
+    match info.glyph_id {
+        0..FIRST_PICTOGRAPHIC => false,
+        0x1F3FB..=0x1F3FF => general_category(info) == RB_UNICODE_GENERAL_CATEGORY_MODIFIER_SYMBOL,
+        0x1F1E6..=0x1F1FF => {
+            before.is_some_and(|before| is_regional_indicator(before) && !is_continuation(before))
+        }
+        0xFF9E..=0xFF9F | 0xE0020..=0xE007F => true,
+        _ => is_zwj(info) || before.is_some_and(|before| is_zwj(before)) && is_pictographic(info),
+    }
+}
+
+/// Whether emoji are made from the character.
+fn is_pictographic(info: &hb_glyph_info_t) -> bool {
+    match char::from_u32(info.glyph_id) {
+        Some(character) => character.is_emoji_extended_pictographic(),
+        None => false,
+    }
+}
+
+/// Puts a dotted circle before a text that is the beginning of a paragraph and begins with a mark.
+#[tactic(auto, using(shaping_buffer::proofs::ClosedKeepsLemmas::kept))]
+pub fn insert_dotted_circle<F: FontFunctions>(
+    buffer: &mut hb_buffer_t,
+    font: &F,
+) -> Result<bool, AllocError>
+    requires { buffer.old.have_output ≡ false }
+    ensures closed { IfOk result (λ done. done ≡ true → buffer.new.have_output ≡ false) }
+    ensures keeps { KeepsClusters buffer.old buffer.new }
+{
+    if !wants_dotted_circle(buffer) || font.nominal_glyph(DOTTED_CIRCLE).is_none() {
+        return Ok(true);
+    }
+    buffer.clear_output();
+    put_dotted_circle(buffer)?;
+    buffer.sync()
+}
+
+/// Whether the text begins a paragraph, with a mark.
+fn wants_dotted_circle(buffer: &hb_buffer_t) -> bool {
+    if buffer
+        .flags
+        .contains(BufferFlags::DO_NOT_INSERT_DOTTED_CIRCLE)
+        || !buffer.flags.contains(BufferFlags::BEGINNING_OF_TEXT)
+        || !buffer.context(0).is_empty()
+    {
+        return false;
+    }
+    match buffer.info() {
+        [first, ..] => is_unicode_mark(first),
+        [] => false,
+    }
+}
+
+/// Puts a dotted circle out, in the cluster of the current character.
+fn put_dotted_circle(buffer: &mut hb_buffer_t) -> Result<bool, AllocError>
+    requires { buffer.old.have_output ≡ true }
+    ensures opened { IfOk result (λ _. buffer.new.have_output ≡ true) }
+    ensures keeps { KeepsClusters buffer.old buffer.new }
+{
+    let Some(current) = buffer.info().first() else {
+        return Ok(true);
+    };
+    let mut circle = hb_glyph_info_t {
+        glyph_id: DOTTED_CIRCLE,
+        mask: current.mask,
+        cluster: current.cluster,
+        ..hb_glyph_info_t::default()
+    };
+    set_unicode_props(&mut circle, &mut 0);
+    buffer.output_info(circle)
+}
+
+/// Makes each grapheme one cluster, or unsafe to break where the cluster level keeps its characters apart.
+#[tactic(auto, using(shaping_buffer::proofs::ClosedKeepsLemmas::kept))]
+pub fn form_clusters(buffer: &mut hb_buffer_t)
+    requires { buffer.old.have_output ≡ false }
+    ensures closed { buffer.new.have_output ≡ false }
+    ensures keeps { KeepsClusters buffer.old buffer.new }
+{
+    if buffer.scratch_flags & HB_BUFFER_SCRATCH_FLAG_HAS_NON_ASCII == 0 {
+        return;
+    }
+    let merges = buffer.cluster_level == HB_BUFFER_CLUSTER_LEVEL_MONOTONE_GRAPHEMES;
+    let mut start = 0;
+    for _turn in 0..buffer.len() {
+        if start >= buffer.len() {
+            break;
+        }
+        let end = buffer.group_end(start, is_same_grapheme);
+        form_cluster(buffer, start, end, merges);
+        start = end;
+    }
+}
+
+/// Makes a grapheme one cluster, or unsafe to break.
+fn form_cluster(buffer: &mut hb_buffer_t, start: usize, end: usize, merges: bool)
+    requires closed { buffer.old.have_output ≡ false }
+    requires order { start ≤ end }
+    requires within { end ≤ length buffer.old.input }
+    ensures closed { buffer.new.have_output ≡ false }
+    ensures keeps { KeepsClusters buffer.old buffer.new }
+{
+    if merges {
+        buffer.merge_clusters(start, end);
+    } else {
+        buffer.unsafe_to_break(Some(start), Some(end));
+    }
+}
+
+/// Reverses a text that runs against its script, grapheme by grapheme, and says whether it did.
+pub fn ensure_native_direction(buffer: &mut hb_buffer_t) -> bool
+    requires { buffer.old.have_output ≡ false }
+    ensures closed { buffer.new.have_output ≡ false }
+    ensures runs { KeepsOrTurns result buffer.old buffer.new }
+{
+    let direction = buffer.direction;
+    let native = native_direction(buffer);
+    let is_against = direction.is_horizontal() && native.is_some_and(|native| native != direction)
+        || direction.is_vertical() && direction != Direction::TopToBottom;
+    if is_against {
+        reverse_graphemes(buffer, direction.reverse());
+    }
+    is_against
+}
+
+/// Puts the graphemes into reverse order, each in its own order, so that the text runs in this direction. Where clusters have to
+/// stay in order each grapheme is made one cluster before; at the level of graphemes it is one already.
+fn reverse_graphemes(buffer: &mut hb_buffer_t, direction: Direction)
+    requires { buffer.old.have_output ≡ false }
+    ensures closed { buffer.new.have_output ≡ false }
+    ensures turns { TurnsClusters buffer.old buffer.new }
+{
+    let merges = !allows_any_order(buffer);
+    buffer.reverse_groups(is_same_grapheme, merges);
+    set_direction(buffer, direction);
+}
+
+/// Says how the text runs.
+pub fn set_direction(buffer: &mut hb_buffer_t, direction: Direction)
+    requires { buffer.old.have_output ≡ false }
+    ensures is { buffer.new ≡ record buffer.old { direction = direction } }
+    ensures keeps { KeepsClusters buffer.old buffer.new }
+{
+    buffer.direction = direction;
+}
+
+/// The direction in which the script runs, if it has one: numbers in a script that runs from right to left run from
+/// left to right, and so does a text of no script.
+fn native_direction(buffer: &hb_buffer_t) -> Option<Direction> {
+    if is_against_script(buffer) && are_numbers(buffer.info()) {
+        return Some(Direction::LeftToRight);
+    }
+    match buffer.script {
+        Some(script) => Direction::from_script(script),
+        None => Some(Direction::LeftToRight),
+    }
+}

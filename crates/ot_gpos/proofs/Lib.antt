@@ -1,0 +1,12 @@
+-- Why positioning leaves glyphs and clusters as they are.
+--
+-- Lookups write positions, which the list of glyphs does not have (`PositionsLemmas`), and glyph flags, which change masks
+-- alone (`FlagLemmas`): so the list keeps its length, its glyphs and its clusters. The next glyph of a pair is the one
+-- after, where that counts (`PairLemmas`).
+
+pub mod AttachmentLemmas
+pub mod CursiveLemmas
+pub mod FlagLemmas
+pub mod LookupLemmas
+pub mod PairLemmas
+pub mod PositionsLemmas

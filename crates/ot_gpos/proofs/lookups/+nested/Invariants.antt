@@ -1,0 +1,38 @@
+use Rattle.std.proofs.Common.{◌≡◌, ◌+◌, ◌*◌, false}
+use Rattle.std.specs.Prelude.{IsSome}
+use Rattle.ot_gpos.specs.Flags.{KeepsBits, untouched}
+use Rattle.ot_layout.specs.Budget.{IsNotMore}
+use Rattle.ot_gpos.proofs.lookups.+nested.Given as goal
+
+abbrev pub invariant-place_by_lookup-loop-subtable : goal.invariant-place_by_lookup-loop-subtable
+invariant-place_by_lookup-loop-subtable g l = record {
+  closed : l.buffer.have_output ≡ false;
+  placed : IsSome l.buffer.positions;
+  rest : untouched l.buffer ≡ untouched l.fn.buffer;
+  flags : KeepsBits l.fn.buffer.input l.buffer.input;
+  spent : IsNotMore l.fn.search.budget l.search.budget;
+}
+
+abbrev pub invariant-apply_records-loop-index : goal.invariant-apply_records-loop-index
+invariant-apply_records-loop-index g l = record {
+  closed : l.buffer.have_output ≡ false;
+  placed : IsSome l.buffer.positions;
+  rest : untouched l.buffer ≡ untouched l.fn.buffer;
+  flags : KeepsBits l.fn.buffer.input l.buffer.input;
+  spent : IsNotMore l.fn.search.budget l.search.budget;
+}
+
+abbrev pub decreases-place_by_lookup : goal.decreases-place_by_lookup
+decreases-place_by_lookup g l = 5 * l.task.now.depth + 4
+
+abbrev pub decreases-try_subtable : goal.decreases-try_subtable
+decreases-try_subtable g l = 5 * l.task.now.depth + 3
+
+abbrev pub decreases-place_by_subtable : goal.decreases-place_by_subtable
+decreases-place_by_subtable g l = 5 * l.task.now.depth + 2
+
+abbrev pub decreases-place_by_context : goal.decreases-place_by_context
+decreases-place_by_context g l = 5 * l.task.now.depth + 1
+
+abbrev pub decreases-apply_records : goal.decreases-apply_records
+decreases-apply_records g l = 5 * l.task.now.depth

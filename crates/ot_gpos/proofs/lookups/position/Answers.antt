@@ -1,0 +1,8 @@
+use Rattle.std.proofs.Common.{◌∙◌}
+use Rattle.ot_gpos.proofs.FlagLemmas.{keeps_by}
+use Rattle.ot_gpos.proofs.lookups.position.Goals as goal
+
+pub returns-clause-keeps : goal.returns-clause-keeps
+returns-clause-keeps g c =
+    keeps_by c.args.buffer.now c.fail_if_spent.new.buffer (c.out_len.ensures.closed c.requires.closed)
+    (c.out_len-2.ensures.closed c.fail_if_spent.ensures.closed) (c.fail_if_spent.ensures.rest ∙ c.place_all.ensures.rest)

@@ -1,0 +1,11 @@
+pub mod Adjustments
+pub mod Attachments
+pub mod Bases
+pub mod Chains
+pub mod Cursive
+pub mod Flags
+pub mod Lookups
+pub mod PairAdjustments
+pub mod Placing
+pub mod Subtables
+pub mod Visit

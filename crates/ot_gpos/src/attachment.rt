@@ -1,0 +1,196 @@
+//! Marks that are attached to a base, a ligature or another mark: the step that all three have in common (HarfBuzz, `MarkArray`).
+
+ghost use Rattle.std.specs.Prelude.{◌≡◌, false, IsSome};
+ghost use Rattle.ot_gpos.specs.Flags.{KeepsBits, untouched};
+ghost use Rattle.ot_gpos_tables.specs.Anchors.{anchor};
+ghost use Rattle.ot_gpos.specs.Attachments as marks;
+ghost use Rattle.ot_gpos.specs.Attachments.{HasNoPixels};
+ghost use Rattle.ot_gpos.specs.Placing.{changed_at, mark_put};
+ghost use Rattle.ot_gpos.specs.Visit.{visit_of};
+
+use crate::chains::{ATTACH_TYPE_MARK, attach};
+use crate::flags::{mark_attached, mark_break, mark_concat};
+use crate::turn::Turn;
+use font_tables::bytes::{table_at_16, u16_at};
+use font_tables::scale::Scale;
+use ot_gpos_tables::anchors::{Anchor, anchor_in, mark_anchor, mark_class, named_point};
+use ot_gpos_tables::contour_points::ContourPoints;
+use ot_gpos_tables::instance::Instance;
+use rb_glyph::{GlyphPosition, hb_glyph_info_t};
+use shaping_buffer::hb_buffer_t;
+
+/// What a subtable finds at a mark.
+#[derive(Clone, Copy, Debug)]
+pub(crate) enum AttachmentFound {
+    /// It is not for the mark, or has no anchor for it.
+    Nothing,
+    /// It does not attach the mark to what stands from this place on.
+    NoBase(usize),
+    /// An attachment.
+    Attached(Attachment),
+}
+
+/// An attachment of a mark.
+#[derive(Clone, Copy, Debug)]
+pub(crate) struct Attachment {
+    /// The place of the glyph to which the mark is attached.
+    base: usize,
+    /// How far the mark is moved to the right from that glyph.
+    x: i32,
+    /// How far the mark is moved up from that glyph.
+    y: i32,
+}
+
+/// The anchor of the glyph at a place in a table.
+#[tactic(auto, using(crate::proofs::AttachmentLemmas::named_point_none))]
+pub(crate) fn anchor_at<P: ContourPoints>(
+    table: &[u8],
+    instance: &Instance<'_>,
+    glyphs: &[hb_glyph_info_t],
+    place: usize,
+    points: &P,
+) -> Option<Anchor>
+    ensures { instance.now.scale.x_ppem ≡ 0 → instance.now.scale.y_ppem ≡ 0
+        → result ≡ anchor table.now instance.now None }
+{
+    match named_point(table, &instance.scale) {
+        Some(point) => {
+            let known = match glyphs.get(place) {
+                Some(glyph) => points.contour_point(glyph.glyph_id, point),
+                None => None,
+            };
+            Anchor::read(table, instance, known)
+        }
+        None => Anchor::read(table, instance, None),
+    }
+}
+
+/// The attachment of the mark to the glyph at a place, by the anchors of this row of a matrix.
+#[tactic(auto, unfolding(crate::specs::Attachments::attachment_by))]
+pub(crate) fn attachment_by<P: ContourPoints>(
+    glyphs: &[hb_glyph_info_t],
+    turn: &Turn,
+    matrix: &[u8],
+    row: u32,
+    base: usize,
+    points: &P,
+) -> AttachmentFound
+    ensures { HasNoPixels turn.now.instance.now → result ≡ marks.attachment_by (visit_of turn.now) matrix.now row base }
+{
+    match anchor_for(glyphs, turn, matrix, row, base, points) {
+        Some(anchor) => AttachmentFound::Attached(attachment_to(
+            glyphs, turn, &anchor, base, points,
+        )),
+        None => AttachmentFound::Nothing,
+    }
+}
+
+/// The array of the marks of a subtable.
+fn marks_of<'a>(turn: &Turn<'a>) -> &'a [u8]
+    ensures { result.now ≡ marks.marks_of (visit_of turn.now) }
+{
+    table_at_16(turn.subtable.table, 8).unwrap_or(&[])
+}
+
+/// The anchor of the glyph at a place, in this row and the column of the mark's class; `None` where the row has none.
+fn anchor_for<P: ContourPoints>(
+    glyphs: &[hb_glyph_info_t],
+    turn: &Turn,
+    matrix: &[u8],
+    row: u32,
+    base: usize,
+    points: &P,
+) -> Option<Anchor>
+    ensures { HasNoPixels turn.now.instance.now → result ≡ marks.anchor_for (visit_of turn.now) matrix.now row }
+{
+    let class_count = u16_at(turn.subtable.table, 6)?;
+    let class = mark_class(marks_of(turn), turn.index);
+    let table = anchor_in(matrix, row, class, class_count)?;
+    anchor_at(table, turn.instance, glyphs, base, points)
+}
+
+/// The attachment of the mark to the glyph at a place with this anchor.
+fn attachment_to<P: ContourPoints>(
+    glyphs: &[hb_glyph_info_t],
+    turn: &Turn,
+    anchor: &Anchor,
+    base: usize,
+    points: &P,
+) -> Attachment
+    ensures { HasNoPixels turn.now.instance.now → result ≡ marks.attachment_to (visit_of turn.now) base anchor.now }
+{
+    let own = mark_anchor(marks_of(turn), turn.index);
+    match anchor_at(own, turn.instance, glyphs, turn.place, points) {
+        Some(own) => from_own(&turn.instance.scale, base, &own, anchor),
+        None => Attachment {
+            base,
+            x: anchor.x_at(&turn.instance.scale),
+            y: anchor.y_at(&turn.instance.scale),
+        },
+    }
+}
+
+/// The attachment of a mark to the glyph at a place, from its own anchor to that of the glyph.
+#[tactic(auto, unfolding(crate::specs::Attachments::from_own))]
+fn from_own(scale: &Scale, base: usize, own: &Anchor, anchor: &Anchor) -> Attachment
+    ensures { result ≡ marks.from_own scale.now base own.now anchor.now }
+{
+    Attachment {
+        base,
+        x: own.x_to(anchor, scale),
+        y: own.y_to(anchor, scale),
+    }
+}
+
+/// Attaches the mark, and says where the iterator goes on; `None` where the subtable does not attach it.
+#[tactic(auto, using(crate::proofs::PositionsLemmas::with_positions_changed, crate::proofs::FlagLemmas::untouched_with_positions), unfolding(crate::specs::Attachments::mark_placed))]
+pub(crate) fn attach_mark(
+    buffer: &mut hb_buffer_t,
+    place: usize,
+    found: &AttachmentFound,
+) -> Option<usize>
+    requires closed { buffer.old.have_output ≡ false }
+    requires placed { IsSome buffer.old.positions }
+    ensures next { result ≡ marks.mark_next place found.now }
+    ensures is { buffer.new ≡ marks.mark_placed place found.now buffer.old }
+    ensures closed { buffer.new.have_output ≡ false }
+    ensures placed { IsSome buffer.new.positions }
+    ensures rest { untouched buffer.new ≡ untouched buffer.old }
+    ensures flags { KeepsBits buffer.old.input buffer.new.input }
+{
+    let end = place.saturating_add(1);
+    match *found {
+        AttachmentFound::Nothing => None,
+        AttachmentFound::NoBase(from) => {
+            mark_concat(buffer, from, end);
+            None
+        }
+        AttachmentFound::Attached(attachment) => {
+            mark_break(buffer, attachment.base, end);
+            move_mark(buffer.pos_mut(), place, &attachment);
+            mark_attached(buffer);
+            Some(end)
+        }
+    }
+}
+
+/// Moves the mark at a place from where its base stands, and attaches it there.
+#[tactic(auto, unfolding(crate::specs::Placing::changed_at))]
+fn move_mark(positions: &mut [GlyphPosition], place: usize, attachment: &Attachment)
+    ensures { positions.new ≡ changed_at
+        (mark_put place attachment.now.base attachment.now.x attachment.now.y) place positions.old }
+{
+    if place < positions.len() {
+        put_mark(&mut positions[place], place, attachment);
+    }
+}
+
+/// Puts a mark at a place so far from its base.
+fn put_mark(position: &mut GlyphPosition, place: usize, attachment: &Attachment)
+    ensures { position.new
+        ≡ mark_put place attachment.now.base attachment.now.x attachment.now.y position.old }
+{
+    position.x_offset = attachment.x;
+    position.y_offset = attachment.y;
+    attach(position, place, attachment.base, ATTACH_TYPE_MARK);
+}

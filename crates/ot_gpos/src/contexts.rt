@@ -1,0 +1,41 @@
+//! Contexts: which rule fits at a glyph (HarfBuzz, `ContextPos`, `ChainContextPos`).
+
+ghost use Rattle.std.specs.Prelude.{◌≡◌, false, IsSome};
+ghost use Rattle.ot_layout.specs.Budget.{IsNotMore};
+
+use crate::turn::Turn;
+use ot_layout::context::{Fit, fitting_rule};
+use ot_layout::lookup_list::LookupList;
+use ot_layout::search::{ApplyContext, Reach, Search};
+use ot_layout::skipping_iterator::SkippingIterator;
+use rb_glyph::hb_glyph_info_t;
+
+/// The kind of chained contexts.
+pub(crate) const CHAINED_CONTEXT: u16 = 8;
+
+/// The rule that fits at the glyph; how far rules that do not fit have looked stands in the search. The places of the rule's glyphs
+/// are counted from the glyph.
+pub(crate) fn fit_at<'a>(
+    glyphs: &[hb_glyph_info_t],
+    list: &'a LookupList<'a>,
+    turn: &Turn<'a>,
+    context: &SkippingIterator<'a>,
+    search: &mut Search,
+) -> Option<Fit<'a>>
+    ensures { IsNotMore search.old.budget search.new.budget }
+{
+    search.reach = Reach::none(turn.place);
+    if turn.place >= glyphs.len() {
+        return None;
+    }
+    let ctx = ApplyContext {
+        out: &glyphs[..turn.place],
+        input: &glyphs[turn.place..],
+        iterator: turn.iterator,
+        context: *context,
+        syllable: 0,
+        is_level: true,
+    };
+    let is_chained = turn.subtable.lookup_type == CHAINED_CONTEXT;
+    fitting_rule(list, turn.subtable, turn.index, is_chained, &ctx, search)
+}

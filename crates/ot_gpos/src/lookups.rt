@@ -1,0 +1,386 @@
+//! A lookup of `GPOS` over a buffer: each glyph that it is for is tried with its subtables, one after the other (HarfBuzz,
+//! `apply_forward`).
+
+ghost use Rattle.std.specs.Prelude.{◌≡◌, ◌≤◌, ◌<◌, ◌-◌, true, false, length, IsSome, IfSome};
+ghost use Rattle.ot_layout.specs.Budget.{IsNotMore};
+ghost use Rattle.ot_layout.specs.SkippingIterator.{covered_index};
+ghost use Rattle.ot_gpos.specs.Attachments.{HasNoPixels};
+ghost use Rattle.ot_gpos.specs.Flags.{KeepsBits, untouched};
+ghost use Rattle.ot_gpos.specs.Lookups.{applied, is_simple, one_tried, outcome, outcome_at};
+ghost use Rattle.ot_gpos.specs.Subtables.{bases_at, simple_at, simple_next};
+ghost use Rattle.ot_gpos.specs.Visit.{visit_of};
+ghost use Rattle.shaping_buffer.specs.KeepsClusters.{KeepsClusters};
+
+use crate::contexts::fit_at;
+use crate::cursive::place_cursive;
+use crate::flags::{mark_break, mark_concat};
+use crate::marks::{LastBase, place_on_base, place_on_ligature, place_on_mark};
+use crate::pairs::{place_pair, place_single};
+use crate::turn::{Setting, Turn};
+use ot_gpos_tables::contour_points::ContourPoints;
+use ot_layout::budget::{PASSED_A_STEP, SUBTABLE_STEPS};
+use ot_layout::context::Fit;
+use ot_layout::lookup_list::Lookup;
+use ot_layout::lookup_props::covered_index;
+use ot_layout::search::{MatchPositions, Search};
+use ot_layout::skipping_iterator::{LookupOptions, SkippingIterator};
+use ot_layout::subtable::Subtable;
+use rb_glyph::hb_glyph_info_t;
+use shaping_buffer::hb_buffer_t;
+use std::mem;
+
+/// How deep lookups may apply others (HarfBuzz, `HB_MAX_NESTING_LEVEL`).
+const MAX_NESTING_LEVEL: u32 = 64;
+
+/// A lookup at a glyph.
+#[derive(Drop)]
+struct Task<'a, P> {
+    /// The font's lookups and its size.
+    setting: &'a Setting<'a, P>,
+    /// The lookup.
+    lookup: &'a Lookup<'a>,
+    /// How it is applied.
+    options: &'a LookupOptions,
+    /// The place of the glyph.
+    place: usize,
+    /// How many levels of lookups it may apply.
+    depth: u32,
+}
+
+/// Positions the glyphs by the lookup of this index, where the buffer's glyphs have one of the options' bits. A budget that is spent
+/// ends the iterator, and `buffer.shaping_failed` says so.
+#[tactic(auto, using(crate::proofs::FlagLemmas::keeps_by))]
+pub fn position<P: ContourPoints>(
+    buffer: &mut hb_buffer_t,
+    setting: &Setting<P>,
+    lookup: u16,
+    options: &LookupOptions,
+    search: &mut Search,
+)
+    requires closed { buffer.old.have_output ≡ false }
+    requires placed { IsSome buffer.old.positions }
+    ensures closed { buffer.new.have_output ≡ false }
+    ensures placed { IsSome buffer.new.positions }
+    ensures rest { untouched buffer.new ≡ untouched buffer.old }
+    ensures flags { KeepsBits buffer.old.input buffer.new.input }
+    ensures spent { IsNotMore search.old.budget search.new.budget }
+    ensures says { search.new.budget.steps ≡ 0 → buffer.new.shaping_failed ≡ true }
+    ensures keeps { KeepsClusters buffer.old buffer.new }
+{
+    prove!(buffer.out_len() == 0);
+    place_all(buffer, setting, lookup, options, search);
+    fail_if_spent(buffer, search);
+    prove!(buffer.out_len() == 0);
+}
+
+/// Positions the glyphs by a lookup, one after the other.
+fn place_all<'a, P: ContourPoints>(
+    buffer: &mut hb_buffer_t,
+    setting: &'a Setting<'a, P>,
+    lookup: u16,
+    options: &'a LookupOptions,
+    search: &mut Search,
+)
+    requires closed { buffer.old.have_output ≡ false }
+    requires placed { IsSome buffer.old.positions }
+    ensures closed { buffer.new.have_output ≡ false }
+    ensures placed { IsSome buffer.new.positions }
+    ensures rest { untouched buffer.new ≡ untouched buffer.old }
+    ensures flags { KeepsBits buffer.old.input buffer.new.input }
+    ensures spent { IsNotMore search.old.budget search.new.budget }
+{
+    if let Some(lookup) = setting.list.lookup(lookup) {
+        search.budget.pay_for(1 + buffer.len() / PASSED_A_STEP);
+        place_by_all(buffer, setting, lookup, options, search);
+    }
+}
+
+/// Positions the glyphs by this lookup, one after the other.
+fn place_by_all<'a, P: ContourPoints>(
+    buffer: &mut hb_buffer_t,
+    setting: &'a Setting<'a, P>,
+    lookup: &'a Lookup<'a>,
+    options: &'a LookupOptions,
+    search: &mut Search,
+)
+    requires closed { buffer.old.have_output ≡ false }
+    requires placed { IsSome buffer.old.positions }
+    ensures closed { buffer.new.have_output ≡ false }
+    ensures placed { IsSome buffer.new.positions }
+    ensures rest { untouched buffer.new ≡ untouched buffer.old }
+    ensures flags { KeepsBits buffer.old.input buffer.new.input }
+    ensures spent { IsNotMore search.old.budget search.new.budget }
+{
+    let mut last = LastBase::none();
+    let mut next = 0;
+    for _turn in 0..buffer.len() {
+        let place = next_place(buffer.info(), lookup, options.mask, next);
+        if place == buffer.len() || search.budget.is_spent() {
+            return;
+        }
+        let task = Task {
+            setting,
+            lookup,
+            options,
+            place,
+            depth: MAX_NESTING_LEVEL,
+        };
+        next = place_by_lookup(buffer, &task, search, &mut last)
+            .unwrap_or(0)
+            .max(place + 1);
+    }
+}
+
+/// The first place from this one on at which the lookup may do something, or the number of glyphs.
+fn next_place(glyphs: &[hb_glyph_info_t], lookup: &Lookup, mask: u32, from: usize) -> usize
+    ensures { result ≤ length glyphs.now }
+{
+    lookup.first_place(mask, glyphs, from.min(glyphs.len()))
+}
+
+/// Positions the glyph by the first subtable that does, and says where the iterator goes on.
+#[cycle(nested)]
+fn place_by_lookup<'a, P: ContourPoints>(
+    buffer: &mut hb_buffer_t,
+    task: &Task<'a, P>,
+    search: &mut Search,
+    last: &mut LastBase,
+) -> Option<usize>
+    requires closed { buffer.old.have_output ≡ false }
+    requires placed { IsSome buffer.old.positions }
+    ensures closed { buffer.new.have_output ≡ false }
+    ensures placed { IsSome buffer.new.positions }
+    ensures rest { untouched buffer.new ≡ untouched buffer.old }
+    ensures flags { KeepsBits buffer.old.input buffer.new.input }
+    ensures spent { IsNotMore search.old.budget search.new.budget }
+{
+    if task.place >= buffer.len() {
+        return None;
+    }
+    let glyph = buffer.info()[task.place].glyph_id;
+    let subtables = task.setting.list.subtables_of(task.lookup);
+    search.budget.pay_for(subtables.len() / PASSED_A_STEP);
+    for subtable in subtables {
+        let next = try_subtable(buffer, task, subtable, glyph, search, last);
+        if next.is_some() {
+            return next;
+        }
+    }
+    None
+}
+
+/// Positions the glyph of this number by a subtable, if it covers the glyph, and says where the iterator goes on.
+#[cycle(nested)]
+#[tactic(auto, using(crate::proofs::LookupLemmas::uncovered), unfolding(crate::specs::Lookups::one_tried))]
+fn try_subtable<'a, P: ContourPoints>(
+    buffer: &mut hb_buffer_t,
+    task: &Task<'a, P>,
+    subtable: &'a Subtable<'a>,
+    glyph: u32,
+    search: &mut Search,
+    last: &mut LastBase,
+) -> Option<usize>
+    requires closed { buffer.old.have_output ≡ false }
+    requires placed { IsSome buffer.old.positions }
+    ensures closed { buffer.new.have_output ≡ false }
+    ensures placed { IsSome buffer.new.positions }
+    ensures rest { untouched buffer.new ≡ untouched buffer.old }
+    ensures flags { KeepsBits buffer.old.input buffer.new.input }
+    ensures spent { IsNotMore search.old.budget search.new.budget }
+    ensures exact { is_simple subtable.now ≡ true → HasNoPixels task.now.setting.now.instance
+        → 0 < search.new.budget.steps
+        → outcome buffer.new last.new result
+        ≡ one_tried (applied task.now.lookup.now task.now.options.now task.now.setting.now.instance) task.now.place glyph
+        subtable.now last.old buffer.old }
+{
+    if !subtable.may_be_for(glyph) {
+        return None;
+    }
+    if !search.budget.pay(SUBTABLE_STEPS) {
+        return None;
+    }
+    let index = index_in(subtable, glyph)?;
+    let turn = Turn {
+        lookup: task.lookup,
+        subtable,
+        iterator: SkippingIterator::over_input(task.lookup.lookup_props, task.options, true),
+        instance: &task.setting.instance,
+        place: task.place,
+        index,
+    };
+    place_by_subtable(buffer, task, &turn, search, last)
+}
+
+/// The coverage index of a glyph in a subtable.
+#[inline(never)]
+fn index_in(subtable: &Subtable, glyph: u32) -> Option<u32>
+    ensures { result ≡ covered_index subtable.now.coverage.table.now glyph }
+{
+    covered_index(&subtable.coverage, glyph)
+}
+
+/// Positions the glyph by a subtable that is for it, and says where the iterator goes on; `None` where the subtable does not fit.
+#[cycle(nested)]
+#[inline(never)]
+fn place_by_subtable<'a, P: ContourPoints>(
+    buffer: &mut hb_buffer_t,
+    task: &Task<'a, P>,
+    turn: &Turn<'a>,
+    search: &mut Search,
+    last: &mut LastBase,
+) -> Option<usize>
+    requires closed { buffer.old.have_output ≡ false }
+    requires placed { IsSome buffer.old.positions }
+    ensures closed { buffer.new.have_output ≡ false }
+    ensures placed { IsSome buffer.new.positions }
+    ensures rest { untouched buffer.new ≡ untouched buffer.old }
+    ensures flags { KeepsBits buffer.old.input buffer.new.input }
+    ensures exact { is_simple turn.now.subtable.now ≡ true → HasNoPixels turn.now.instance.now
+        → outcome buffer.new last.new result
+        ≡ outcome_at turn.now.subtable.now (visit_of turn.now) last.old buffer.old }
+    ensures spent { IsNotMore search.old.budget search.new.budget }
+{
+    match turn.subtable.lookup_type {
+        7 | 8 => place_by_context(buffer, task, turn, search, last),
+        kind => place_by_simple(buffer, kind, turn, last, task.setting.points),
+    }
+}
+
+/// Positions the glyph by a subtable of this kind, which is no context.
+#[tactic(auto, using(crate::proofs::AttachmentLemmas::mark_placed_nothing))]
+fn place_by_simple<P: ContourPoints>(
+    buffer: &mut hb_buffer_t,
+    kind: u16,
+    turn: &Turn,
+    last: &mut LastBase,
+    points: &P,
+) -> Option<usize>
+    requires closed { buffer.old.have_output ≡ false }
+    requires placed { IsSome buffer.old.positions }
+    ensures last { last.new ≡ bases_at kind (visit_of turn.now) buffer.old.input last.old }
+    ensures next { HasNoPixels turn.now.instance.now → result ≡ simple_next kind (visit_of turn.now) last.old buffer.old }
+    ensures is { HasNoPixels turn.now.instance.now → buffer.new ≡ simple_at kind (visit_of turn.now) last.old buffer.old }
+    ensures closed { buffer.new.have_output ≡ false }
+    ensures placed { IsSome buffer.new.positions }
+    ensures rest { untouched buffer.new ≡ untouched buffer.old }
+    ensures flags { KeepsBits buffer.old.input buffer.new.input }
+{
+    match kind {
+        1 => place_single(buffer, turn),
+        2 => place_pair(buffer, turn),
+        3 => place_cursive(buffer, turn, points),
+        4 => place_on_base(buffer, turn, last, points),
+        5 => place_on_ligature(buffer, turn, last, points),
+        6 => place_on_mark(buffer, turn, points),
+        _ => None,
+    }
+}
+
+/// Applies the lookups of the rule that fits at the glyph, and says where the iterator goes on.
+#[cycle(nested)]
+fn place_by_context<'a, P: ContourPoints>(
+    buffer: &mut hb_buffer_t,
+    task: &Task<'a, P>,
+    turn: &Turn<'a>,
+    search: &mut Search,
+    last: &mut LastBase,
+) -> Option<usize>
+    requires closed { buffer.old.have_output ≡ false }
+    requires placed { IsSome buffer.old.positions }
+    ensures closed { buffer.new.have_output ≡ false }
+    ensures placed { IsSome buffer.new.positions }
+    ensures rest { untouched buffer.new ≡ untouched buffer.old }
+    ensures flags { KeepsBits buffer.old.input buffer.new.input }
+    ensures spent { IsNotMore search.old.budget search.new.budget }
+{
+    let context = SkippingIterator::over_context(task.lookup.lookup_props, task.options, true);
+    let fit = fit_at(buffer.info(), task.setting.list, turn, &context, search);
+    let reached = turn.place.saturating_add(search.reach.to);
+    mark_concat(buffer, search.reach.from, reached);
+    let fit = fit?;
+    mark_break(buffer, fit.from, turn.place.saturating_add(fit.to));
+    let places = mem::replace(&mut search.places, MatchPositions::new());
+    apply_records(buffer, task, &fit, &places, search, last);
+    let end = turn.place.saturating_add(fit.end);
+    mark_concat(buffer, end, turn.place.saturating_add(fit.beyond));
+    Some(end)
+}
+
+/// Applies the lookups of a rule at the glyphs that it names, whose places are counted from the rule's first glyph.
+#[cycle(nested)]
+fn apply_records<'a, P: ContourPoints>(
+    buffer: &mut hb_buffer_t,
+    task: &Task<'a, P>,
+    fit: &Fit<'a>,
+    places: &MatchPositions,
+    search: &mut Search,
+    last: &mut LastBase,
+)
+    requires closed { buffer.old.have_output ≡ false }
+    requires placed { IsSome buffer.old.positions }
+    ensures closed { buffer.new.have_output ≡ false }
+    ensures placed { IsSome buffer.new.positions }
+    ensures rest { untouched buffer.new ≡ untouched buffer.old }
+    ensures flags { KeepsBits buffer.old.input buffer.new.input }
+    ensures spent { IsNotMore search.old.budget search.new.budget }
+{
+    for index in 0..usize::from(fit.record_count) {
+        if let Some(nested) = nested_task(task, fit, places, index) {
+            if task.depth == 0 || !search.budget.nest() {
+                fail(buffer);
+                return;
+            }
+            let _next = place_by_lookup(buffer, &nested, search, last);
+        }
+    }
+}
+
+/// The lookup of a record, at the glyph that the record names; `None` where there is no such lookup or glyph.
+fn nested_task<'a, P>(
+    task: &Task<'a, P>,
+    fit: &Fit,
+    places: &MatchPositions,
+    index: usize,
+) -> Option<Task<'a, P>>
+    ensures { IfSome result (λ nested. nested.depth ≡ task.now.depth - 1) }
+{
+    let record = fit.record(index)?;
+    let at = *places.as_slice().get(record.sequence_index)?;
+    let lookup = task.setting.list.lookup(record.lookup)?;
+    Some(Task {
+        setting: task.setting,
+        lookup,
+        options: task.options,
+        place: task.place.saturating_add(at),
+        depth: task.depth.saturating_sub(1),
+    })
+}
+
+/// Says that shaping was given up where the budget is spent.
+fn fail_if_spent(buffer: &mut hb_buffer_t, search: &Search)
+    requires closed { buffer.old.have_output ≡ false }
+    requires placed { IsSome buffer.old.positions }
+    ensures closed { buffer.new.have_output ≡ false }
+    ensures placed { IsSome buffer.new.positions }
+    ensures rest { untouched buffer.new ≡ untouched buffer.old }
+    ensures flags { KeepsBits buffer.old.input buffer.new.input }
+    ensures says { search.now.budget.steps ≡ 0 → buffer.new.shaping_failed ≡ true }
+{
+    if search.budget.is_spent() {
+        fail(buffer);
+    }
+}
+
+/// Says that the text could not be shaped as the font asks.
+#[tactic(auto, unfolding(crate::specs::Flags::untouched))]
+fn fail(buffer: &mut hb_buffer_t)
+    requires closed { buffer.old.have_output ≡ false }
+    requires placed { IsSome buffer.old.positions }
+    ensures closed { buffer.new.have_output ≡ false }
+    ensures placed { IsSome buffer.new.positions }
+    ensures rest { untouched buffer.new ≡ untouched buffer.old }
+    ensures flags { KeepsBits buffer.old.input buffer.new.input }
+    ensures says { buffer.new.shaping_failed ≡ true }
+{
+    buffer.shaping_failed = true;
+}

@@ -1,0 +1,34 @@
+//! What a subtable is given at a glyph.
+
+use ot_gpos_tables::instance::Instance;
+use ot_layout::lookup_list::{Lookup, LookupList};
+use ot_layout::skipping_iterator::SkippingIterator;
+use ot_layout::subtable::Subtable;
+
+/// A font's lookups of `GPOS`, the size and the variations at which it is used, and who knows the points of its outlines.
+#[derive(Drop)]
+pub struct Setting<'a, P> {
+    /// The lookups.
+    pub list: &'a LookupList<'a>,
+    /// The size and the variations.
+    pub instance: Instance<'a>,
+    /// The points of outlines.
+    pub points: &'a P,
+}
+
+/// A subtable at a glyph.
+#[derive(Clone, Copy, Debug)]
+pub(crate) struct Turn<'a> {
+    /// The lookup that the subtable is of.
+    pub lookup: &'a Lookup<'a>,
+    /// The subtable.
+    pub subtable: &'a Subtable<'a>,
+    /// The iterator over the glyphs that the lookup does not pass over.
+    pub iterator: SkippingIterator<'a>,
+    /// The size and the variations of the font.
+    pub instance: &'a Instance<'a>,
+    /// The place of the glyph.
+    pub place: usize,
+    /// The glyph's coverage index.
+    pub index: u32,
+}

@@ -1,0 +1,30 @@
+use Rattle.std.proofs.Common.{Ok, Option, List, arith, ap, sym, subst, ◌∙◌, true, ◌<◌}
+use Rattle.rb_glyph.specs.declared.info.hb_glyph_info_t.{hb_glyph_info_t}
+use Rattle.ot_layout.specs.Lookup.{is_for}
+use Rattle.ot_layout.specs.SkippingIterator.{glyph_at}
+use Rattle.ot_layout.specs.declared.lookup_list.Lookup.{Lookup}
+use Rattle.ot_gsub.specs.Singles.{IsSubstituted}
+use Rattle.ot_gsub.proofs.SinglesLemmas.{for_none, is_for-no_mask, len_closed}
+use Rattle.ot_gsub.proofs.substitution.substitute.Goals as goal
+
+pub returns-then-mask-eq0-clause-singles : goal.returns-then-mask-eq0-clause-singles
+returns-then-mask-eq0-clause-singles c = λ steps good single.
+    let s = c.args.buffer.now in
+    let subs = c.args.substitutions.now in
+    let lookup = c.in-Some.lookup.now in
+    subst (λ (o : Option Lookup). IsSubstituted subs o s (Ok true) s) c.in-Some.ensures
+    (for_none subs lookup s
+    (λ k h. is_for-no_mask lookup subs.options.mask (glyph_at s.input k) c.if-mask-eq0.true))
+
+pub returns-then-first-len-clause-singles : goal.returns-then-first-len-clause-singles
+returns-then-first-len-clause-singles c = λ steps good single.
+    let s = c.args.buffer.now in
+    let subs = c.args.substitutions.now in
+    let lookup = c.in-Some.lookup.now in
+    subst (λ (o : Option Lookup). IsSubstituted subs o s (Ok true) s) c.in-Some.ensures
+    (for_none subs lookup s
+    (λ k h.
+    let before : k < c.first_place-first.result
+    = omega (arith, h, c.if-first-len.true, c.len-2.ensures.len, len_closed s c.requires) in
+    ap (λ (l : List hb_glyph_info_t). is_for lookup subs.options.mask (glyph_at l k)) (sym c.info.ensures)
+    ∙ c.first_place-first.ensures.passed k (omega arith) before))

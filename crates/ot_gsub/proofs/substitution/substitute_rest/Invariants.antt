@@ -1,0 +1,14 @@
+use Rattle.std.proofs.Common.{◌≡◌, ◌<◌, true}
+use Rattle.shaping_buffer.specs.KeepsClusters.{KeepsClusters}
+use Rattle.ot_layout.specs.Budget.{IsNotMore}
+use Rattle.ot_gsub.specs.Singles.{HasMoved, IsForNext, IsLevel, IsSingle}
+use Rattle.ot_gsub.proofs.substitution.substitute_rest.Given as goal
+
+abbrev pub invariant-loop-turn : goal.invariant-loop-turn
+invariant-loop-turn l = record {
+  opened : l.buffer.have_output ≡ true;
+  keeps : KeepsClusters l.fn.buffer l.buffer;
+  spent : IsNotMore l.fn.progress.search.budget l.progress.search.budget;
+  moves : 0 < l.progress.search.budget.steps → IsSingle l.substitutions l.lookup l.fn.buffer → IsLevel l.fn.buffer
+      → IsForNext l.substitutions l.lookup l.fn.buffer → HasMoved l.substitutions l.lookup l._turn l.fn.buffer l.buffer;
+}

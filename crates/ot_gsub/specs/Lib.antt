@@ -1,0 +1,9 @@
+pub mod Edits
+pub mod Ligatures
+pub mod Nested
+pub mod Open
+pub mod MatchPositions
+pub mod Properties
+pub mod Singles
+pub mod Turn
+pub mod Writing

@@ -1,0 +1,177 @@
+//! The glyphs of a match while lookups are applied to them: their places follow glyphs that are put in or taken out.
+
+ghost use Rattle.std.specs.Prelude.{◌≡◌, ◌+◌, ◌-◌, ◌<◌, ◌≤◌, false, length, max, min, slice_get, slice_index, true};
+ghost use Rattle.ot_gsub.specs.MatchPositions.{AreAll, AreMovedUp, followed_end, grown_place, is_behind, moved_up, shrunk_place, taken_out};
+
+use ot_layout::MatchPositions;
+
+/// The place of this number after so many glyphs were put in after the glyph `number`: they are the next glyphs of the
+/// match, and those after them move up.
+#[tactic(auto, unfolding(crate::specs::MatchPositions::grown_place))]
+fn grown_place(places: &[usize], number: usize, added: usize, index: usize) -> usize
+    requires number { number < length places.now }
+    requires few { length places.now + added ≤ 64 }
+    requires index { index < length places.now + added }
+    ensures { result ≡ grown_place places.now number added index }
+{
+    if index <= number {
+        places[index]
+    } else if index <= number + added {
+        places[number].saturating_add(index - number)
+    } else {
+        places[index - added].saturating_add(added)
+    }
+}
+
+/// The places after so many glyphs were put in after the glyph `number`.
+fn grown(places: &[usize], number: usize, added: usize) -> MatchPositions
+    requires number { number < length places.now }
+    requires few { length places.now + added ≤ 64 }
+    ensures { AreAll (grown_place places.now number added) (length places.now + added) result.items }
+{
+    let mut grown = MatchPositions::new();
+    for index in 0..places.len() + added {
+        grown.push(grown_place(places, number, added, index));
+    }
+    grown
+}
+
+/// The place of this number after so many glyphs of the match were taken out after the glyph `number`: those after them
+/// move down.
+#[tactic(auto, unfolding(crate::specs::MatchPositions::shrunk_place))]
+fn shrunk_place(places: &[usize], number: usize, removed: usize, index: usize) -> usize
+    requires { index + removed < length places.now }
+    ensures { result ≡ shrunk_place places.now number removed index }
+{
+    if index <= number {
+        places[index]
+    } else {
+        places[index + removed].saturating_sub(removed)
+    }
+}
+
+/// The places after so many glyphs of the match were taken out after the glyph `number`.
+fn shrunk(places: &[usize], number: usize, removed: usize) -> MatchPositions
+    requires removed { removed ≤ length places.now }
+    requires few { length places.now ≤ 64 }
+    ensures { AreAll (shrunk_place places.now number removed) (length places.now - removed) result.items }
+{
+    let mut shrunk = MatchPositions::new();
+    for index in 0..places.len() - removed {
+        shrunk.push(shrunk_place(places, number, removed, index));
+    }
+    shrunk
+}
+
+/// The places, counted from so many glyphs before them.
+fn all_moved_up(places: &[usize], by: usize) -> MatchPositions
+    requires { length places.now ≤ 64 }
+    ensures { AreMovedUp places.now by result.items }
+{
+    let mut moved = MatchPositions::new();
+    for index in 0..places.len() {
+        moved.push(places[index].saturating_add(by));
+    }
+    moved
+}
+
+/// The glyphs of a match, by their places in both sides as one list.
+#[derive(Drop, Debug)]
+pub(crate) struct Matched {
+    /// The places of the glyphs.
+    places: MatchPositions,
+    /// Where the match ends.
+    pub(crate) end: usize,
+}
+
+impl Matched {
+    /// The match with these places and this end, counted from a cursor that so many glyphs stand before.
+    pub(crate) fn new(places: &MatchPositions, end: usize, before: usize) -> Self
+        ensures places { AreMovedUp places.now.items before result.places.items }
+        ensures end { result.end ≡ moved_up before end }
+    {
+        Matched {
+            places: all_moved_up(places.as_slice(), before),
+            end: before.saturating_add(end),
+        }
+    }
+
+    /// The place of the glyph of this number.
+    pub(crate) fn place(&self, number: usize) -> Option<usize>
+        ensures { result ≡ slice_get self.now.places.items number }
+    {
+        self.places.get(number).copied()
+    }
+
+    /// Whether the glyph of this number stands behind the end of the match.
+    pub(crate) fn is_behind(&self, number: usize) -> bool
+        ensures { result ≡ is_behind self.now.places.items self.now.end number }
+    {
+        match self.places.get(number) {
+            Some(place) => *place >= self.end,
+            None => false,
+        }
+    }
+
+    /// Lets the places follow a lookup that was applied to the glyph of this number, where both sides had so many glyphs
+    /// before and have so many after it. Where there would be more places than a match has, the answer is false.
+    ///
+    /// HarfBuzz takes it that glyphs were put in, or taken out, right after the one that the lookup was applied to.
+    pub(crate) fn follow(&mut self, number: usize, before: usize, after: usize) -> bool
+        requires { number < length self.old.places.items }
+        ensures end { self.new.end ≡ followed_end self.old.places.items self.old.end number before after }
+        ensures grown { before < after → length self.old.places.items + (after - before) ≤ 64
+            → (result ≡ true) × AreAll (grown_place self.old.places.items number (after - before))
+            (length self.old.places.items + (after - before)) self.new.places.items }
+        ensures full { before ≤ after → 64 < length self.old.places.items + (after - before)
+            → (result ≡ false) × (self.new.places.items ≡ self.old.places.items) }
+        ensures same { before ≡ after → self.new.places.items ≡ self.old.places.items }
+        ensures shrunk { after < before → (result ≡ true) × AreAll
+            (shrunk_place self.old.places.items number (taken_out self.old.places.items self.old.end number before after))
+            (length self.old.places.items - taken_out self.old.places.items self.old.end number before after)
+            self.new.places.items }
+    {
+        if after < before {
+            self.shrink(number, before - after);
+            return true;
+        }
+        self.grow(number, after - before)
+    }
+
+    /// Lets the places follow so many glyphs that were put in.
+    fn grow(&mut self, number: usize, added: usize) -> bool
+        requires { number < length self.old.places.items }
+        ensures end { self.new.end ≡ moved_up self.old.end added }
+        ensures grown { 0 < added → length self.old.places.items + added ≤ 64
+            → (result ≡ true) × AreAll (grown_place self.old.places.items number added)
+            (length self.old.places.items + added) self.new.places.items }
+        ensures full { 64 < length self.old.places.items + added
+            → (result ≡ false) × (self.new.places.items ≡ self.old.places.items) }
+        ensures same { added ≡ 0 → self.new.places.items ≡ self.old.places.items }
+    {
+        self.end = self.end.saturating_add(added);
+        if self.places.len() > 64 || added > 64 - self.places.len() {
+            return false;
+        }
+        if added > 0 {
+            self.places = grown(self.places.as_slice(), number, added);
+        }
+        true
+    }
+
+    /// Lets the places follow so many glyphs that were taken out. The end does not come before the glyph itself.
+    fn shrink(&mut self, number: usize, removed: usize)
+        requires { number < length self.old.places.items }
+        ensures end { self.new.end ≡ max (self.old.end - removed) (slice_index self.old.places.items number) }
+        ensures shrunk { AreAll (shrunk_place self.old.places.items number
+            (min (self.old.end - self.new.end) (length self.old.places.items - (number + 1))))
+            (length self.old.places.items - min (self.old.end - self.new.end) (length self.old.places.items - (number + 1)))
+            self.new.places.items }
+    {
+        let end = self.end.saturating_sub(removed).max(self.places[number]);
+        let behind = self.places.len() - (number + 1);
+        let taken = self.end.saturating_sub(end).min(behind);
+        self.end = end;
+        self.places = shrunk(self.places.as_slice(), number, taken);
+    }
+}

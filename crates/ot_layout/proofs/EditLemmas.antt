@@ -1,0 +1,76 @@
+-- The first subtable that has an edit.
+use Rattle.std.proofs.Common.{◌≡◌, ℕ, ◌+◌, ◌<◌, Bool, true, false, List, ◌∷◌, drop, length, get_or, Option, Some, None, refl, subst, sym, ap, ◌∙◌, inl, inr, is_some}
+use Rattle.std.proofs.lemmas.List.{drop_more}
+use Rattle.std.proofs.lemmas.List.Elements.{All-drop, All-get_or, All-nil, All-take}
+use Rattle.std.specs.Prelude.{All, [], ◌-◌, ◌&&◌, if◌then◌else◌, nat_le, take}
+use Rattle.ot_layout.specs.NextAsked.{IsNextOf}
+use Rattle.ot_layout.specs.Subtables.{subtables_of}
+use Rattle.ot_layout.specs.declared.lookup_list.Lookup.{Lookup}
+use Rattle.font_tables.specs.declared.coverage.Coverage.{Coverage}
+use Rattle.ot_layout.specs.FirstEdit.{IsEditOf, IsFirstEdit, cursor_index}
+use Rattle.ot_layout.specs.Substitution.{cursor_glyph}
+use Rattle.ot_layout.specs.SkippingIterator.{covered_index}
+use Rattle.ot_layout.specs.declared.search.ApplyContext.{ApplyContext}
+use Rattle.ot_layout.specs.declared.substitution.Edit.{Edit}
+use Rattle.ot_layout.specs.declared.subtable.Subtable.{Subtable}
+use Rattle.ot_layout.specs.declared.skipping_iterator.LookupOptions.{LookupOptions}
+
+none_is : (o : Option ℕ) → (is_some o ≡ true → ⊥) → o ≡ None
+none_is None none = refl
+none_is (Some n) none = absurd (none refl)
+
+-- a subtable that is not for the glyph does nothing
+uncovered : (cs : List Coverage) (o : LookupOptions) (s : ApplyContext) (n : Bool) (t : Subtable) → cursor_index t s ≡ None → IsEditOf cs o s n t None
+uncovered cs o s n t none = record {
+  singles = λ is. rw none refl;
+  multiples = λ is. rw none refl;
+  alternates = λ is chosen. rw none refl;
+  ligatures = λ is. rw none refl;
+  contexts = λ is. rw none refl;
+  chained_contexts = λ is. rw none refl;
+  others = λ is. refl;
+}
+
+-- nor does one that cannot be for it
+pub uncovered_by : (cs : List Coverage) (o : LookupOptions) (s : ApplyContext) (n : Bool) (t : Subtable)
+    → (is_some (covered_index t.coverage.table.now (cursor_glyph s).glyph_id) ≡ true → ⊥) → IsEditOf cs o s n t None
+uncovered_by cs o s n t none = uncovered cs o s n t (none_is _ none)
+
+drop-more : (ts : List Subtable) (i : ℕ) (t : Subtable) → i < length ts → t ≡ get_or ts i t → drop i ts ≡ t ∷ drop (i + 1) ts
+drop-more ts i t within is = drop_more ts i t within ∙ ap (λ x. x ∷ drop (i + 1) ts) (sym is)
+
+-- the edit of a subtable that has one
+pub first_here : (cs : List Coverage) (o : LookupOptions) (s : ApplyContext) (n : Bool) (ts : List Subtable) (i : ℕ) (t : Subtable) (edit : Option Edit)
+    → i < length ts → t ≡ get_or ts i t → is_some edit ≡ true → IsEditOf cs o s n t edit
+    → IsFirstEdit cs o s n (drop i ts) edit
+first_here cs o s n ts i t edit within is some has =
+    subst (λ l. IsFirstEdit cs o s n l edit) (sym (drop-more ts i t within is)) (inl (some, has))
+
+-- that of the subtables after one that has none
+pub first_later : (cs : List Coverage) (o : LookupOptions) (s : ApplyContext) (n : Bool) (ts : List Subtable) (i : ℕ) (t : Subtable) (edit : Option Edit)
+    → i < length ts → t ≡ get_or ts i t → IsEditOf cs o s n t None
+    → IsFirstEdit cs o s n (drop (i + 1) ts) edit → IsFirstEdit cs o s n (drop i ts) edit
+first_later cs o s n ts i t edit within is none rest =
+    subst (λ l. IsFirstEdit cs o s n l edit) (sym (drop-more ts i t within is)) (inr (none, rest))
+
+-- no edit
+pub no_edit : (cs : List Coverage) (o : LookupOptions) (s : ApplyContext) (n : Bool) (t : Subtable) (edit : Option Edit) → IsEditOf cs o s n t edit
+    → is_some edit ≡ false → IsEditOf cs o s n t None
+no_edit cs o s n t None has none = has
+no_edit cs o s n t (Some e) has none = cc
+
+each_if : (cs : List Coverage) (b : Bool) (ts : List Subtable) → All (IsNextOf cs) ts
+    → All (IsNextOf cs) (if b then ts else [])
+each_if cs true ts are = are
+each_if cs false ts are = All-nil (IsNextOf cs)
+
+-- what a subtable of a lookup asks for after the cursor
+pub next_of_each : (cs : List Coverage) (ts read : List Subtable) (lookup : Lookup) (i : ℕ) (t : Subtable)
+    → read ≡ subtables_of ts lookup → All (IsNextOf cs) ts → i < length read → t ≡ get_or read i t → IsNextOf cs t
+next_of_each cs ts read lookup i t same are within is =
+    let those = take (lookup.last - lookup.first) (drop lookup.first ts) in
+    let all : All (IsNextOf cs) (subtables_of ts lookup) =
+    each_if cs (nat_le lookup.first lookup.last && nat_le lookup.last (length ts)) those
+    (All-take (IsNextOf cs) (lookup.last - lookup.first) (drop lookup.first ts) (All-drop (IsNextOf cs) lookup.first ts are)) in
+    let here = subst (λ l. All (IsNextOf cs) l) (sym same) all in
+    subst (λ x. IsNextOf cs x) (sym is) (All-get_or (IsNextOf cs) read i t within here)

@@ -1,0 +1,73 @@
+-- What a lookup of `GSUB` does at the cursor: the edit of the first of its subtables that has one.
+use Rattle.std.specs.Prelude.{◌≡◌, ◌⊎◌, ◌==◌, ◌&&◌, ◌||◌, ℕ, Bool, true, false, not, List, [], ◌∷◌, Option, None, Some, IsTrue, is_some, nat_lt, option_and_then}
+use Rattle.font_tables.specs.declared.coverage.Coverage.{Coverage}
+use Rattle.ot_layout.specs.Context.{context_rule}
+use Rattle.ot_layout.specs.Match.{first_ligature, ligated}
+use Rattle.ot_layout.specs.Pattern.{IsFitBy, Pattern}
+use Rattle.ot_layout.specs.Sets.{set_at}
+use Rattle.ot_layout.specs.Substitution.{IsMultiple, alternate_of, cursor_glyph, feature_value, replaced_by, single}
+use Rattle.ot_layout.specs.SkippingIterator.{covered_index}
+use Rattle.ot_layout.specs.declared.search.ApplyContext.{ApplyContext}
+use Rattle.ot_layout.specs.declared.substitution.Edit.{Edit}
+use Rattle.ot_layout.specs.declared.substitution.Edit.TheVariants.{Replace, Choose, Multiply, Ligate, Apply, ReplaceInPlace}
+use Rattle.ot_layout.specs.declared.subtable.Subtable.{Subtable}
+use Rattle.ot_layout.specs.declared.skipping_iterator.LookupOptions.{LookupOptions}
+
+-- the coverage index of the glyph at the cursor
+abbrev pub cursor_index : Subtable → ApplyContext → Option ℕ
+cursor_index subtable ctx = covered_index subtable.coverage.table.now (cursor_glyph ctx).glyph_id
+
+-- a single substitution of the glyph at the cursor
+abbrev pub single_edit : Subtable → ApplyContext → Option Edit
+single_edit subtable ctx =
+    replaced_by (single subtable.format subtable.table.now (cursor_glyph ctx).glyph_id) (cursor_index subtable ctx)
+
+-- the alternate of the glyph at the cursor that the value of the feature chooses
+abbrev pub alternate_edit : LookupOptions → Subtable → ApplyContext → Option Edit
+alternate_edit options subtable ctx =
+    replaced_by
+    (λ index. alternate_of (set_at subtable.table.now index) (feature_value options.mask (cursor_glyph ctx).mask))
+    (cursor_index subtable ctx)
+
+-- the first ligature of the set of the glyph at the cursor whose components stand there: its glyph, and where they end
+abbrev pub ligature_edit : Subtable → ApplyContext → Option (ℕ × ℕ)
+ligature_edit subtable ctx =
+    option_and_then (λ index. first_ligature ctx (set_at subtable.table.now index)) (cursor_index subtable ctx)
+
+-- whether a subtable of this kind can do anything: kinds from 1 to 6 can, and kind 8, a reverse substitution, where no other lookup
+-- applies it
+abbrev pub is_of_use : ℕ → Bool → Bool
+is_of_use lookup_type is_nested = (nat_lt 0 lookup_type && nat_lt lookup_type 7) || ((lookup_type == 8) && not is_nested)
+
+-- the rule of a context that is taken at the cursor
+abbrev pub context_edit : List Coverage → Subtable → Bool → ApplyContext → Option Pattern
+context_edit coverages subtable is_chained ctx =
+    option_and_then (λ index. context_rule coverages subtable index is_chained ctx) (cursor_index subtable ctx)
+
+-- the lookups of a rule, if there is one, are applied where it fits
+abbrev pub IsRuleEdit : ApplyContext → Option Pattern → Option Edit → Type 0
+IsRuleEdit ctx rule None = rule ≡ None
+IsRuleEdit ctx rule (Some (Apply fit)) = IsFitBy ctx rule fit
+IsRuleEdit ctx rule (Some (Replace glyph)) = IsTrue false
+IsRuleEdit ctx rule (Some (Choose glyphs)) = IsTrue false
+IsRuleEdit ctx rule (Some (Multiply glyphs)) = IsTrue false
+IsRuleEdit ctx rule (Some (Ligate ligation)) = IsTrue false
+IsRuleEdit ctx rule (Some (ReplaceInPlace change)) = IsTrue false
+
+-- what a subtable does at the cursor, by its kind: a single, multiple, alternate or ligature substitution, or the lookups of the rule of
+-- a context
+pub record IsEditOf (coverages : List Coverage) (options : LookupOptions) (ctx : ApplyContext) (is_nested : Bool) (subtable : Subtable) (edit : Option Edit) : Type 0 where
+  pub singles : subtable.lookup_type ≡ 1 → edit ≡ single_edit subtable ctx
+  pub multiples : subtable.lookup_type ≡ 2 → IsMultiple subtable.table.now (cursor_index subtable ctx) edit
+  pub alternates : subtable.lookup_type ≡ 3 → options.random ≡ false → edit ≡ alternate_edit options subtable ctx
+  pub ligatures : subtable.lookup_type ≡ 4 → ligated edit ≡ ligature_edit subtable ctx
+  pub contexts : subtable.lookup_type ≡ 5 → IsRuleEdit ctx (context_edit coverages subtable false ctx) edit
+  pub chained_contexts : subtable.lookup_type ≡ 6 → IsRuleEdit ctx (context_edit coverages subtable true ctx) edit
+  pub others : is_of_use subtable.lookup_type is_nested ≡ false → edit ≡ None
+
+-- the edit of the first of these subtables that has one, or none
+abbrev pub IsFirstEdit : List Coverage → LookupOptions → ApplyContext → Bool → List Subtable → Option Edit → Type 0
+IsFirstEdit coverages options ctx is_nested [] edit = edit ≡ None
+IsFirstEdit coverages options ctx is_nested (subtable ∷ rest) edit =
+    ((is_some edit ≡ true) × IsEditOf coverages options ctx is_nested subtable edit)
+    ⊎ (IsEditOf coverages options ctx is_nested subtable None × IsFirstEdit coverages options ctx is_nested rest edit)

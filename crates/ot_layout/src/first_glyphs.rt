@@ -1,0 +1,129 @@
+//! The first 256 glyphs of a font, told apart, which a digest does not do.
+
+ghost use Rattle.std.specs.Prelude.{ℕ, ◌≡◌, ◌<◌, ◌≤◌, ◌+◌, is_some, true};
+ghost use Rattle.ot_layout.specs.Digest.{HasAll, has_row};
+ghost use Rattle.ot_layout.specs.FirstGlyphs.{HasMoreFirst, may_have_both, may_have_first};
+ghost use Rattle.ot_layout.specs.SkippingIterator.{covered_index};
+
+use crate::digest::{Digest, has_row, with_all, with_row, with_rows};
+use crate::summary::{Summary, summary_of};
+use font_tables::coverage::Coverage;
+
+/// How many glyphs are told apart.
+const COUNT: u32 = 256;
+
+/// Which of the first 256 glyphs are in a set. Any other glyph may be.
+#[derive(Clone, Copy, PartialEq, Eq, Debug)]
+pub struct FirstGlyphs {
+    /// A bit for each glyph, those of 64 glyphs in a word.
+    pub words: [u64; 4],
+}
+
+impl FirstGlyphs {
+    /// Whether a glyph may be in the set: one of the first 256, whether it is.
+    #[tactic(auto, unfolding(crate::specs::FirstGlyphs::may_have_first))]
+    pub fn may_have(&self, glyph: u32) -> bool
+        ensures { result ≡ may_have_first self.now glyph }
+    {
+        glyph >= COUNT || has_row(self.words[glyph as usize / 64], glyph)
+    }
+
+    /// Adds the glyphs of another set.
+    pub fn add_all(&mut self, other: &FirstGlyphs)
+        ensures added { HasMoreFirst other.now self.new }
+        ensures kept { HasMoreFirst self.old self.new }
+    {
+        let (words, others) = (&self.words, &other.words);
+        self.words = [
+            with_all(words[0], others[0]),
+            with_all(words[1], others[1]),
+            with_all(words[2], others[2]),
+            with_all(words[3], others[3]),
+        ];
+    }
+}
+
+impl Summary for FirstGlyphs {
+    ghost has = { may_have_first };
+
+    fn none() -> Self {
+        FirstGlyphs { words: [0; 4] }
+    }
+
+    fn add_glyph(&mut self, glyph: u32) {
+        if glyph < COUNT {
+            let word = glyph as usize / 64;
+            self.words[word] = with_row(self.words[word], glyph);
+        }
+    }
+
+    fn add_range(&mut self, first: u32, last: u32) {
+        if first >= COUNT {
+            return;
+        }
+        if first / 64 == last / 64 {
+            let word = first as usize / 64;
+            self.words[word] = with_rows(self.words[word], first, last);
+            return;
+        }
+        self.words = [
+            with_rows_from(self.words[0], 0, first, last),
+            with_rows_from(self.words[1], 64, first, last),
+            with_rows_from(self.words[2], 128, first, last),
+            with_rows_from(self.words[3], 192, first, last),
+        ];
+    }
+}
+
+/// Both summaries of a set of glyphs, made in one pass.
+#[derive(Clone, Copy, Debug)]
+pub(crate) struct Summaries {
+    /// Its digest.
+    pub(crate) digest: Digest,
+    /// Those of it that are among the first 256.
+    pub(crate) firsts: FirstGlyphs,
+}
+
+impl Summary for Summaries {
+    ghost has = { may_have_both };
+
+    fn none() -> Self {
+        Summaries {
+            digest: Digest::new(),
+            firsts: FirstGlyphs::none(),
+        }
+    }
+
+    fn add_glyph(&mut self, glyph: u32) {
+        self.digest.add_glyph(glyph);
+        self.firsts.add_glyph(glyph);
+    }
+
+    fn add_range(&mut self, first: u32, last: u32) {
+        self.digest.add_range(first, last);
+        self.firsts.add_range(first, last);
+    }
+}
+
+/// Both summaries of the glyphs that a coverage covers.
+pub(crate) fn summaries_of(coverage: &Coverage) -> Summaries
+    ensures digest { HasAll (λ glyph. is_some (covered_index coverage.now.table.now glyph) ≡ true) result.digest }
+    ensures firsts { (glyph : ℕ) → is_some (covered_index coverage.now.table.now glyph) ≡ true
+        → may_have_first result.firsts glyph ≡ true }
+{
+    summary_of(coverage)
+}
+
+/// A word with the bits of the rows from one to another, the last one too, where the word has the 64 rows from this one on.
+fn with_rows_from(word: u64, start: u32, first: u32, last: u32) -> u64
+    requires { start ≤ 192 }
+    ensures added { (row : ℕ) → start ≤ row → row < start + 64 → first ≤ row → row ≤ last → has_row result row ≡ true }
+    ensures kept { (row : ℕ) → has_row word row ≡ true → has_row result row ≡ true }
+{
+    let (low, high) = (first.max(start), last.min(start + 63));
+    if low <= high {
+        with_rows(word, low, high)
+    } else {
+        word
+    }
+}

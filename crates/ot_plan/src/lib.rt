@@ -1,0 +1,15 @@
+//! How texts of a script, a language and a direction are shaped by a font: what is made once for all of them (HarfBuzz's
+//! `hb_shape_plan_t`).
+#![tactic(auto)]
+
+mod form_places;
+mod glyphs_of_font;
+mod kept_plans;
+mod planning;
+mod shape_plan;
+
+pub use form_places::FormPlaces;
+pub use glyphs_of_font::FaceGlyphs;
+pub use kept_plans::KeptPlans;
+pub use planning::{TextPlan, plan_of_text};
+pub use shape_plan::{ShapePlan, text_plan};

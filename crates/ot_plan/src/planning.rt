@@ -1,0 +1,264 @@
+//! How a text is shaped: the plan of its script, its language and its features.
+
+ghost use Rattle.std.specs.Prelude.{◌≡◌, is_some, map, IfOk};
+ghost use Rattle.std.specs.Option.{option_copied};
+ghost use Rattle.rb_text.specs.Tags.{scripts_of};
+ghost use Rattle.ot_plan.specs.Shapers.{IsMadeOf, shaper_in, has_morx, orders_syllables};
+
+use crate::form_places::FormPlaces;
+use crate::glyphs_of_font::FaceGlyphs;
+use aat_substitution::{ChainFlags, selected_features};
+use aat_tables::FeatureNames;
+use font_face::Face;
+use font_functions::FontFunctions;
+use font_variations::substitutions_of;
+use ot_gpos_tables::kern_table::KernTable;
+use ot_map::{
+    FeatureFlags, FontLayout, KernLayout, PlanBuilder, ShapePlan, ShaperRules, TextProperties,
+};
+use ot_tags::LanguageTags;
+use rb_common::{Direction, Script, Tag};
+use rb_text::tags::tags_from_script_and_language;
+use rb_text::{Feature, Language, LanguageTable};
+use script_joining::FallbackLookups;
+use script_shapers::{
+    ScriptPlan, ScriptShaper, SyllablePlan, ZeroWidthMarks, collect_features, override_features,
+    script_plan, syllable_plan,
+};
+use shaping_buffer::hb_buffer_t;
+use std::alloc::AllocError;
+
+/// How a text is shaped by a font: its features and lookups, and what the shaper of its script makes of them.
+#[derive(Debug, Drop)]
+pub struct TextPlan {
+    /// Features, lookups and positions.
+    pub shape: ShapePlan,
+    /// What the shaper of the script does.
+    pub script: ScriptPlan,
+    /// What it does with syllables.
+    pub syllables: SyllablePlan,
+    /// Where the lookups of features stand that it asks of.
+    pub forms: FormPlaces,
+    /// The flags of the chains of Apple's table `morx`, where they stand in the place of the lookups of `GSUB`.
+    pub chain_flags: Option<ChainFlags>,
+    /// The bits of the glyphs that Apple's table `trak` moves.
+    pub trak_mask: u32,
+    /// The lookups that join Arabic letters, where the font has no features for them.
+    pub fallback: Option<FallbackLookups>,
+}
+
+impl TextPlan {
+    /// Whether the glyphs of syllables are put in another order between the stages of substitution.
+    pub fn orders_syllables(&self) -> bool
+        ensures { result ≡ orders_syllables self.now.syllables }
+    {
+        match self.syllables {
+            SyllablePlan::None => false,
+            SyllablePlan::Indic(_)
+            | SyllablePlan::Khmer(_)
+            | SyllablePlan::Myanmar
+            | SyllablePlan::Universal(_) => true,
+        }
+    }
+}
+
+/// What is said of a text, as HarfBuzz's `hb_segment_properties_t`.
+#[derive(Clone, Copy)]
+pub(crate) struct SegmentProperties<'a> {
+    /// The direction.
+    pub direction: Direction,
+    /// The script, if it is known.
+    pub script: Option<Script>,
+    /// The language, if it was said.
+    pub language: Option<&'a Language>,
+}
+
+/// The plan for the text of a buffer.
+pub fn plan_of_text<F: FontFunctions>(
+    face: &Face,
+    font: &F,
+    buffer: &hb_buffer_t,
+    features: &[Feature],
+) -> Result<TextPlan, AllocError>
+    ensures { IfOk result (IsMadeOf face.now buffer.now.direction buffer.now.script
+        (scripts_of buffer.now.script buffer.now.language)) }
+{
+    let segment = SegmentProperties {
+        direction: buffer.direction,
+        script: buffer.script,
+        language: buffer.language.as_ref(),
+    };
+    plan_for(face, font, &segment, features)
+}
+
+/// The plan for texts with these properties. The tags of a language are those that it names itself, or those of OpenType's registry.
+pub(crate) fn plan_for<F: FontFunctions>(
+    face: &Face,
+    font: &F,
+    segment: &SegmentProperties,
+    features: &[Feature],
+) -> Result<TextPlan, AllocError>
+    ensures { IfOk result (IsMadeOf face.now segment.now.direction segment.now.script
+        (scripts_of segment.now.script (option_copied segment.now.language))) }
+{
+    let Some(table) = LanguageTable::new(&[]) else {
+        return Err(AllocError);
+    };
+    let found = LanguageTags::of(segment.language);
+    let (scripts, languages) = tags_from_script_and_language(
+        segment.script,
+        segment.language,
+        &table,
+        &found,
+    );
+    let text = TextProperties {
+        direction: segment.direction,
+        scripts: scripts.as_slice(),
+        languages: languages.as_slice(),
+    };
+    plan_of(face, font, segment, &text, features)
+}
+
+/// The plan for a text with these properties.
+fn plan_of<F: FontFunctions>(
+    face: &Face,
+    font: &F,
+    segment: &SegmentProperties,
+    text: &TextProperties,
+    features: &[Feature],
+) -> Result<TextPlan, AllocError>
+    ensures { IfOk result (IsMadeOf face.now segment.now.direction segment.now.script
+        (map (λ tag. tag.0) text.now.scripts.now)) }
+{
+    let tables = FontLayout {
+        gsub: face.layout.gsub,
+        gpos: face.layout.gpos,
+        kern: kern_layout(face),
+        gsub_substitutions: substitutions_of(face.layout.gsub, face.coordinates()),
+        gpos_substitutions: substitutions_of(face.layout.gpos, face.coordinates()),
+    };
+    let substitutes = substitutes_by_morx(face, segment.direction);
+    let mut builder = ShapePlan::begin(face.alloc, &tables, text)?;
+    let chosen = add_features(&mut builder, segment, features, substitutes)?;
+    let mut shape = ShapePlan::complete(
+        face.alloc,
+        builder,
+        &tables,
+        segment.direction,
+        chosen.rules,
+    )?;
+    let adjusts = shape.adjust_mark_positioning_when_zeroing;
+    shape.adjust_mark_positioning_when_zeroing = adjusts && !substitutes;
+    let chain_flags = chain_flags_of(face, features, substitutes)?;
+    let trak_mask = shape.layout.mask(Tag::from_bytes(b"trak"));
+    let syllables = syllable_plan(chosen.shaper, segment.script, &shape.layout);
+    let script = script_plan(
+        chosen.shaper,
+        segment.script,
+        &shape.layout,
+        chosen.finds_script,
+    );
+    let fallback = fallback_of(face, font, &script)?;
+    let forms = FormPlaces::new(&shape.layout);
+    Ok(TextPlan {
+        shape,
+        script,
+        syllables,
+        forms,
+        chain_flags,
+        trak_mask,
+        fallback,
+    })
+}
+
+/// Whether Apple's table `morx` substitutes glyphs in place of the lookups of `GSUB`: in horizontal lines, and where the font has no
+/// lookups of `GSUB`.
+fn substitutes_by_morx(face: &Face, direction: Direction) -> bool
+    ensures { result ≡ has_morx face.now direction }
+{
+    !face.lookups.morx.chains.is_empty()
+        && (direction.is_horizontal() || face.layout.gsub.is_empty())
+}
+
+/// The flags of the chains of `morx`, where it substitutes glyphs and these features are asked for.
+fn chain_flags_of(
+    face: &Face,
+    features: &[Feature],
+    substitutes_by_morx: bool,
+) -> Result<Option<ChainFlags>, AllocError>
+    ensures { IfOk result (λ flags. is_some flags ≡ substitutes_by_morx) }
+{
+    if !substitutes_by_morx {
+        return Ok(None);
+    }
+    let names = FeatureNames::new(face.layout.feat);
+    let selected = selected_features(face.alloc, &names, features)?;
+    let flags = ChainFlags::new(face.alloc, &face.lookups.morx, selected.as_slice())?;
+    Ok(Some(flags))
+}
+
+/// The lookups that join Arabic letters, where the shaper of the script makes them.
+fn fallback_of<F: FontFunctions>(
+    face: &Face,
+    font: &F,
+    script: &ScriptPlan,
+) -> Result<Option<FallbackLookups>, AllocError> {
+    if !script.does_fallback {
+        return Ok(None);
+    }
+    let glyphs = FaceGlyphs { face, font };
+    Ok(Some(FallbackLookups::new(face.alloc, &glyphs, &script.masks, script.rlig_mask)?))
+}
+
+/// The shaper of a script.
+#[derive(Clone, Copy)]
+struct ChosenShaper {
+    /// The shaper.
+    shaper: ScriptShaper,
+    /// What it says of positions; where glyphs are substituted by `morx`, marks are placed as the script's own shaper places them.
+    rules: ShaperRules,
+    /// Whether the font has the script in its table `GSUB`.
+    finds_script: bool,
+}
+
+/// Chooses the shaper of a script, and asks for its features, those of every text and of a user.
+fn add_features(
+    builder: &mut PlanBuilder,
+    segment: &SegmentProperties,
+    features: &[Feature],
+    substitutes_by_morx: bool,
+) -> Result<ChosenShaper, AllocError>
+    ensures { IfOk result (λ chosen. chosen.shaper
+        ≡ shaper_in substitutes_by_morx segment.now.script segment.now.direction builder.old.gsub.script.tag.0) }
+{
+    let own = ScriptShaper::of(segment.script, segment.direction, builder.gsub.script.tag);
+    let shaper = own.with_morx(substitutes_by_morx);
+    let chosen = ChosenShaper {
+        shaper,
+        rules: ShaperRules {
+            gpos_script: shaper.gpos_script(),
+            zero_marks: own.zero_width_marks() != ZeroWidthMarks::Never,
+            fallback_position: own.fallback_position(),
+        },
+        finds_script: builder.gsub.script.is_found,
+    };
+    let with_fallback = FeatureFlags {
+        has_fallback: true,
+        ..FeatureFlags::NONE
+    };
+    builder.enable_feature(Tag::from_bytes(b"trak"), with_fallback)?;
+    collect_features(chosen.shaper, builder, segment.script)?;
+    ShapePlan::add_common_features(builder, segment.direction, features)?;
+    override_features(chosen.shaper, builder)?;
+    Ok(chosen)
+}
+
+/// What the plan asks of the font's table `kern`.
+fn kern_layout(face: &Face) -> KernLayout {
+    let table = KernTable::new(face.layout.kern);
+    KernLayout {
+        is_there: table.has_kerning(),
+        is_cross_stream: table.has_cross_kerning(),
+        has_machine: table.has_machine_kerning(),
+    }
+}

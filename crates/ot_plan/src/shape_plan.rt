@@ -1,0 +1,260 @@
+//! Plans: how texts of one script, language and direction are shaped by a font, found once for all of them.
+
+ghost use Rattle.std.specs.Prelude.{◌≡◌, ◌↔◌, map, option_map, string_bytes, unwrap_or, IfOk, IsTrue};
+ghost use Rattle.glyph_lists.specs.Guess.{unknown_script};
+ghost use Rattle.std.specs.Option.{option_copied};
+ghost use Rattle.rb_text.specs.Tags.{scripts_of};
+ghost use Rattle.ot_plan.specs.Plans.{IsFor, IsPlanOf, asked};
+ghost use Rattle.ot_plan.specs.Shapers.{IsMadeOf};
+
+use crate::planning::{SegmentProperties, TextPlan, plan_for};
+use font_face::Face;
+use font_functions::{FontFunctions, OwnFunctions};
+use rb_common::{Script, script};
+use shaping_buffer::{Direction, Feature, Language, UnicodeBuffer, hb_buffer_t};
+use std::alloc::{AllocError, Global};
+use std::marker::Model;
+
+/// How texts of a script, a language and a direction are shaped by a font, with some features, and at the variations that were
+/// chosen when it was made.
+#[derive(Debug, Drop)]
+pub struct ShapePlan {
+    made: TextPlan,
+    direction: Direction,
+    script: Option<Script>,
+    language: Option<String>,
+    features: Vec<Feature>,
+    coordinates: Vec<i32>,
+}
+
+impl Model for ShapePlan {
+    ghost use Rattle.std.specs.Prelude.{option_map, string_bytes};
+    ghost use Rattle.ot_plan.specs.Plans.{MadePlan};
+
+    ghost Value = { MadePlan };
+
+    ghost view = { λ p. record {
+      texts = record {
+        direction = p.direction;
+        script = p.script;
+        language = option_map string_bytes p.language;
+        features = p.features.items;
+        coordinates = p.coordinates.items;
+      };
+      made = p.made;
+    } };
+}
+
+impl ShapePlan {
+    /// The plan for texts with these properties. It is for this font alone. `Err(AllocError)` where memory runs out.
+    pub fn new(
+        face: &Face,
+        direction: Direction,
+        script: Option<Script>,
+        language: Option<&Language>,
+        user_features: &[Feature],
+    ) -> Result<Self, AllocError>
+        ensures texts { IfOk result (λ plan. plan.texts ≡ record {
+          direction = direction;
+          script = script;
+          language = option_copied language.entry;
+          features = user_features.now;
+          coordinates = face.now.variations.coordinates.items;
+        }) }
+        ensures made { IfOk result (λ plan. IsMadeOf face.now direction script
+            (scripts_of script (option_copied language.entry)) plan.made) }
+    {
+        let own = OwnFunctions { face };
+        Self::with_functions(face, &own, direction, script, language, user_features)
+    }
+
+    /// The plan for such texts by a font of which these functions answer. It is for this font and these functions alone.
+    pub(crate) fn with_functions<F: FontFunctions>(
+        face: &Face,
+        font: &F,
+        direction: Direction,
+        script: Option<Script>,
+        language: Option<&Language>,
+        user_features: &[Feature],
+    ) -> Result<Self, AllocError>
+        ensures texts { IfOk result (λ plan. plan.texts ≡ record {
+          direction = direction;
+          script = script;
+          language = option_copied language.entry;
+          features = user_features.now;
+          coordinates = face.now.variations.coordinates.items;
+        }) }
+        ensures made { IfOk result (λ plan. IsMadeOf face.now direction script
+            (scripts_of script (option_copied language.entry)) plan.made) }
+    {
+        let segment = SegmentProperties {
+            direction,
+            script,
+            language,
+        };
+        Ok(ShapePlan {
+            made: plan_for(face, font, &segment, user_features)?,
+            direction,
+            script,
+            language: text_of_language(face.alloc, language)?,
+            features: copy_of_features(face.alloc, user_features)?,
+            coordinates: copy_of_coordinates(face)?,
+        })
+    }
+
+    /// The direction of its texts.
+    pub fn direction(&self) -> Direction
+        ensures { result ≡ self.now.texts.direction }
+    {
+        self.direction
+    }
+
+    /// The script of its texts.
+    pub fn script(&self) -> Option<Script>
+        ensures { result ≡ self.now.texts.script }
+    {
+        self.script
+    }
+
+    /// The features that it was made with.
+    pub fn features(&self) -> &[Feature]
+        ensures { result.now ≡ self.now.texts.features }
+    {
+        self.features.as_slice()
+    }
+
+    /// Whether a text has the script, the language and the direction of the plan, a font is at its place in the variations, and
+    /// features are those of the plan but for where a range of the text begins and ends (HarfBuzz's `hb_shape_plan_key_t::equal`).
+    /// That it is the font that the plan was made for is for the caller to know.
+    pub fn is_for(&self, face: &Face, features: &[Feature], text: &UnicodeBuffer) -> bool
+        ensures { IsTrue result ↔ IsFor self.now face.now features.now text.now }
+    {
+        self.is_said(text.direction(), text.script(), text.language())
+            && self.is_with(features, face.coordinates())
+    }
+
+    /// Whether it is the plan that would be made for the text of a buffer.
+    pub(crate) fn is_plan_of(&self, face: &Face, features: &[Feature], buffer: &hb_buffer_t) -> bool
+        ensures { IsTrue result ↔ IsPlanOf self.now face.now features.now buffer.now }
+    {
+        let script = buffer.script.unwrap_or(script::UNKNOWN);
+        self.is_said(buffer.direction, script, buffer.language.as_ref())
+            && self.is_with(features, face.coordinates())
+            && self.script == buffer.script
+    }
+
+    /// Whether its texts have this direction, this script and this language.
+    fn is_said(&self, direction: Direction, script: Script, language: Option<&Language>) -> bool
+        ensures { IsTrue result ↔ (self.now.texts.direction ≡ direction)
+            × (unwrap_or self.now.texts.script unknown_script ≡ script)
+            × (self.now.texts.language ≡ option_copied language.entry) }
+    {
+        self.direction == direction
+            && self.script.unwrap_or(script::UNKNOWN) == script
+            && is_text_of(&self.language, language)
+    }
+
+    /// Whether it was made with these features, at these coordinates.
+    fn is_with(&self, features: &[Feature], coordinates: &[i32]) -> bool
+        ensures { IsTrue result
+            ↔ (map (asked self.now.made) self.now.texts.features ≡ map (asked self.now.made) features.now)
+            × (self.now.texts.coordinates ≡ coordinates.now) }
+    {
+        are_asked(&self.made, self.features.as_slice(), features)
+            && are_same(self.coordinates.as_slice(), coordinates)
+    }
+}
+
+/// What a plan does with a text.
+pub fn text_plan(plan: &ShapePlan) -> &TextPlan
+    ensures { result.now ≡ plan.now.made }
+{
+    &plan.made
+}
+
+/// Whether a plan has the same of two lists of features.
+fn are_asked(plan: &TextPlan, one: &[Feature], other: &[Feature]) -> bool
+    ensures { IsTrue result ↔ (map (asked plan.now) one.now ≡ map (asked plan.now) other.now) }
+{
+    if one.len() != other.len() {
+        return false;
+    }
+    for place in 0..one.len() {
+        if !is_asked_alike(plan, &one[place], &other[place]) {
+            return false;
+        }
+    }
+    true
+}
+
+/// Whether a plan has the same of two features.
+fn is_asked_alike(plan: &TextPlan, one: &Feature, other: &Feature) -> bool
+    ensures { IsTrue result ↔ (asked plan.now one.now ≡ asked plan.now other.now) }
+{
+    asked(plan, one) == asked(plan, other)
+}
+
+/// What a plan has of a feature.
+fn asked(plan: &TextPlan, feature: &Feature) -> Feature
+    ensures { result ≡ asked plan.now feature.now }
+{
+    if plan.chain_flags.is_some() || feature.is_global() {
+        return *feature;
+    }
+    Feature {
+        start: 1,
+        end: 2,
+        ..*feature
+    }
+}
+
+/// Whether coordinates are the same.
+fn are_same(one: &[i32], other: &[i32]) -> bool
+    ensures { IsTrue result ↔ (one.now ≡ other.now) }
+{
+    one == other
+}
+
+/// The text of a language, which is kept with a plan.
+fn text_of_language(
+    alloc: Global,
+    language: Option<&Language>,
+) -> Result<Option<String>, AllocError>
+    ensures { IfOk result (λ text. option_map string_bytes text ≡ option_copied language.entry) }
+{
+    let Some(language) = language else {
+        return Ok(None);
+    };
+    let mut text = String::new(alloc);
+    text.push_str(language.as_str())?;
+    Ok(Some(text))
+}
+
+/// A copy of features, which is kept with a plan.
+fn copy_of_features(alloc: Global, features: &[Feature]) -> Result<Vec<Feature>, AllocError>
+    ensures { IfOk result (λ copy. copy.items ≡ features.now) }
+{
+    let mut copy = Vec::new(alloc);
+    copy.extend_from_slice(features)?;
+    Ok(copy)
+}
+
+/// A copy of the coordinates that are chosen, which is kept with a plan.
+fn copy_of_coordinates(face: &Face) -> Result<Vec<i32>, AllocError>
+    ensures { IfOk result (λ copy. copy.items ≡ face.now.variations.coordinates.items) }
+{
+    let mut copy = Vec::new(face.alloc);
+    copy.extend_from_slice(face.coordinates())?;
+    Ok(copy)
+}
+
+/// Whether a text that is kept is that of a language.
+fn is_text_of(text: &Option<String>, language: Option<&Language>) -> bool
+    ensures { IsTrue result ↔ (option_map string_bytes text.now ≡ option_copied language.entry) }
+{
+    match (text, language) {
+        (Some(text), Some(language)) => text.as_str() == language.as_str(),
+        (None, None) => true,
+        _ => false,
+    }
+}

@@ -1,0 +1,8 @@
+pub mod ShapedClusters
+-- what is said of a plan, and of a font
+pub use Rattle.ot_plan.specs.Plans
+pub use Rattle.font_face.specs.Face
+pub use Rattle.font_face.specs.FaceNames
+pub use Rattle.font_face.specs.FaceVariations
+pub use Rattle.font_face.specs.Measures
+pub use Rattle.font_face.specs.Tables

@@ -1,0 +1,63 @@
+//! The shaping of texts whose glyphs are tested.
+
+ghost use Rattle.std.specs.Prelude.{◌≡◌, ◌≢◌, ◌≤◌, false, length, IfOk, IfErr};
+ghost use Rattle.shaping_buffer.specs.Limits.{enter};
+ghost use Rattle.shaping_buffer.specs.State.{HasPositions};
+ghost use Rattle.ot_shape.specs.ShapedClusters.{ShapedClusters};
+
+use crate::shaping::shape_planned;
+use font_face::Face;
+use font_functions::FontFunctions;
+use ot_apply::Unwatched;
+use ot_plan::TextPlan;
+use shaping_buffer::{Feature, GlyphBuffer, hb_buffer_t};
+use shaping_verification::{Original, ShapeError, ShapesParts, verify};
+
+/// How a text and parts of it are shaped.
+#[derive(Drop)]
+struct Shaping<'a, F> {
+    face: &'a Face<'a>,
+    font: &'a F,
+    plan: &'a TextPlan,
+    features: &'a [Feature],
+}
+
+impl<F: FontFunctions> ShapesParts for Shaping<'_, F> {
+    fn shape(&self, buffer: hb_buffer_t) -> Result<GlyphBuffer, ShapeError> {
+        shape_planned(
+            self.face,
+            self.font,
+            self.plan,
+            self.features,
+            buffer,
+            &mut Unwatched,
+        )
+    }
+}
+
+/// Shapes the text of a buffer by a plan, and tests its glyphs.
+pub(crate) fn shape_verified<F: FontFunctions>(
+    face: &Face,
+    font: &F,
+    plan: &TextPlan,
+    features: &[Feature],
+    buffer: hb_buffer_t,
+) -> Result<GlyphBuffer, ShapeError>
+    requires { buffer.have_output ≡ false }
+    ensures placed { IfOk result HasPositions }
+    ensures within { IfOk result (λ glyphs. length glyphs.input ≤ (enter buffer).max_len) }
+    ensures direction { IfOk result (λ glyphs. glyphs.direction ≡ buffer.direction) }
+    ensures clusters { IfOk result (ShapedClusters buffer) }
+    ensures named { IfErr result (λ e. e ≢ ShapeError.OtherPlan) }
+{
+    let text = Original::of(face.alloc, &buffer)?;
+    let glyphs = shape_planned(face, font, plan, features, buffer, &mut Unwatched)?;
+    let shaping = Shaping {
+        face,
+        font,
+        plan,
+        features,
+    };
+    verify(face.alloc, &shaping, &text, &glyphs)?;
+    Ok(glyphs)
+}

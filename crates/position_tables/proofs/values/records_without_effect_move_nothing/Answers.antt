@@ -1,5 +1,0 @@
-use Rattle.position_tables.proofs.EffectLemmas.{no_effect}
-use Rattle.position_tables.proofs.values.records_without_effect_move_nothing.Goals as goal
-
-pub returns : goal.returns
-returns c = no_effect

@@ -1,8 +1,0 @@
-pub mod Anchors
-pub mod Devices
-pub mod KernTable
-pub mod Pairs
-pub mod SortedRows
-pub mod Values
-pub mod Corrections
-pub mod Instance

@@ -1,1 +1,0 @@
--- Requests of features are lists that grow by one row at a time, so they compute: no lemma is needed.

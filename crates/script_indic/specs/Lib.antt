@@ -1,0 +1,4 @@
+pub mod Composition
+pub mod Placed
+pub mod Scripts
+pub mod Stages

@@ -1,0 +1,84 @@
+//! The features that Indic scripts ask for, in their stages (OpenType, "Developing OpenType Fonts for Devanagari Script").
+
+ghost use Rattle.std.specs.Prelude.{◌≡◌, ◌++◌, IfOk};
+ghost use Rattle.ot_map.specs.Pauses.{HasSamePauses};
+ghost use Rattle.script_indic.specs.Stages.{indic_pauses};
+
+use crate::plan::{IndicMasks, IndicPlan};
+use ot_map::{FeatureFlags, LayoutPlan, Pause, PlanBuilder};
+use rb_common::{Script, Tag};
+use script_syllables::requests::{add_all, add_in_stages};
+use std::alloc::AllocError;
+
+/// The basic features, each in a stage of its own, and whether every glyph has it.
+const BASIC_FEATURES: [(&[u8; 4], bool); 11] = [
+    (b"nukt", true),
+    (b"akhn", true),
+    (b"rphf", false),
+    (b"rkrf", true),
+    (b"pref", false),
+    (b"blwf", false),
+    (b"abvf", false),
+    (b"half", false),
+    (b"pstf", false),
+    (b"vatu", true),
+    (b"cjct", true),
+];
+
+/// The features after the last reordering, all in one stage, and whether every glyph has it.
+const OTHER_FEATURES: [(&[u8; 4], bool); 6] = [
+    (b"init", false),
+    (b"pres", true),
+    (b"abvs", true),
+    (b"blws", true),
+    (b"psts", true),
+    (b"haln", true),
+];
+
+/// A match ends with its syllable.
+const PER_SYLLABLE: FeatureFlags = FeatureFlags {
+    per_syllable: true,
+    ..FeatureFlags::NONE
+};
+
+/// A match ends with its syllable, and passes over no joiner.
+const MANUAL_JOINERS: FeatureFlags = FeatureFlags {
+    manual_zwnj: true,
+    manual_zwj: true,
+    ..PER_SYLLABLE
+};
+
+/// Asks for the features, with the pauses at which syllables are found and reordered.
+pub fn collect_features(builder: &mut PlanBuilder) -> Result<(), AllocError>
+    ensures { IfOk result (λ _. builder.new.pauses.items ≡ builder.old.pauses.items ++ indic_pauses) }
+{
+    builder.add_gsub_pause(Pause::SetUpSyllables)?;
+    builder.enable_feature(Tag::from_bytes(b"locl"), PER_SYLLABLE)?;
+    builder.enable_feature(Tag::from_bytes(b"ccmp"), PER_SYLLABLE)?;
+    builder.add_gsub_pause(Pause::InitialReordering)?;
+    add_in_stages(builder, &BASIC_FEATURES, MANUAL_JOINERS)?;
+    builder.add_gsub_pause(Pause::FinalReordering)?;
+    add_all(builder, &OTHER_FEATURES, MANUAL_JOINERS)
+}
+
+/// Turns standard ligatures off, behind the features of a user.
+pub fn override_features(builder: &mut PlanBuilder) -> Result<(), AllocError>
+    ensures { HasSamePauses builder.old builder.new }
+{
+    builder.disable_feature(Tag::from_bytes(b"liga"))
+}
+
+/// The plan for a script and the features of a font.
+pub fn plan(script: Option<Script>, layout: &LayoutPlan) -> IndicPlan {
+    let mask = |name| layout.one_mask(Tag::from_bytes(name));
+    let masks = IndicMasks {
+        rphf: mask(b"rphf"),
+        pref: mask(b"pref"),
+        blwf: mask(b"blwf"),
+        abvf: mask(b"abvf"),
+        half: mask(b"half"),
+        pstf: mask(b"pstf"),
+        init: mask(b"init"),
+    };
+    IndicPlan::new(script, layout.gsub_script, masks)
+}

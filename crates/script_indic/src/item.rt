@@ -1,0 +1,79 @@
+//! What an item of an Indic syllable is, by its category and by what became of its glyph.
+
+ghost use Rattle.std.specs.Prelude.{◌≡◌};
+
+use rb_glyph::{Flags, GlyphPropsFlags, hb_glyph_info_t};
+use script_syllables::Category;
+use script_syllables::item::{category, has, is_ligated};
+
+/// Whether the glyph is one of several that a lookup made of one.
+pub(crate) fn is_multiplied(info: &hb_glyph_info_t) -> bool {
+    has(info, GlyphPropsFlags::MULTIPLIED)
+}
+
+/// Whether the glyph is a ligature, and not one of several that were made of it.
+pub(crate) fn is_whole_ligature(info: &hb_glyph_info_t) -> bool {
+    is_ligated(info) && !is_multiplied(info)
+}
+
+/// Forgets that the glyph is a ligature and one of several.
+pub(crate) fn forget_ligature(info: &mut hb_glyph_info_t)
+    ensures { info.new.cluster ≡ info.old.cluster }
+{
+    let forgotten = GlyphPropsFlags::LIGATED.bits() | GlyphPropsFlags::MULTIPLIED.bits();
+    info.set_glyph_props(info.glyph_props() & !forgotten);
+}
+
+/// Whether the item is a consonant, or what takes signs as one. What became a ligature is none.
+pub(crate) fn is_consonant(info: &hb_glyph_info_t) -> bool {
+    !is_ligated(info)
+        && matches!(
+            category(info),
+            Category::Consonant
+                | Category::ConsonantWithStacker
+                | Category::Ra
+                | Category::ConsonantMedial
+                | Category::Vowel
+                | Category::Placeholder
+                | Category::DottedCircle
+        )
+}
+
+/// Whether the item is a joiner or a non-joiner, and no ligature.
+pub(crate) fn is_joiner(info: &hb_glyph_info_t) -> bool {
+    !is_ligated(info) && matches!(category(info), Category::Joiner | Category::NonJoiner)
+}
+
+/// Whether the item is a halant, and no ligature.
+pub(crate) fn is_halant(info: &hb_glyph_info_t) -> bool {
+    !is_ligated(info) && category(info) == Category::Halant
+}
+
+/// Whether an item has a category, and is no ligature.
+pub(crate) fn is_one(info: &hb_glyph_info_t, wanted: Category) -> bool {
+    !is_ligated(info) && category(info) == wanted
+}
+
+/// The place behind the joiners that stand from a place on.
+pub(crate) fn behind_joiners(infos: &[hb_glyph_info_t], start: usize) -> usize {
+    let behind = infos.get(start..).unwrap_or(&[]);
+    let count = match behind.iter().position(|info| !is_joiner(info)) {
+        Some(count) => count,
+        None => behind.len(),
+    };
+    start.saturating_add(count)
+}
+
+/// Whether the item is a vowel sign.
+pub(crate) fn is_matra(info: &hb_glyph_info_t) -> bool {
+    matches!(category(info), Category::Matra | Category::MatraPost)
+}
+
+/// Whether the item is a vowel sign or a halant, and no ligature.
+pub(crate) fn is_matra_or_halant(info: &hb_glyph_info_t) -> bool {
+    !is_ligated(info)
+        && matches!(
+            category(info),
+            Category::Matra | Category::MatraPost | Category::Halant
+        )
+}

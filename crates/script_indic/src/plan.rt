@@ -1,0 +1,156 @@
+//! How a text of an Indic script is shaped by a font.
+
+ghost use Rattle.std.specs.Prelude.{◌≡◌, true, false, IfOk};
+ghost use Rattle.shaping_buffer.specs.KeepsClusters.{KeepsClusters};
+ghost use Rattle.script_syllables.specs.KeepsNumbers.{KeepsNumbers};
+
+use crate::configuration::IndicConfiguration;
+use crate::final_order::order_finally;
+use crate::item::is_multiplied;
+use crate::machine::indic_machine;
+use crate::reordering::order_initially;
+use rb_common::{Script, Tag, script};
+use script_syllables::grammar::Grammar;
+use script_syllables::item::is_ligated;
+use script_syllables::syllables::find_syllables;
+use script_syllables::{FontForms, SyllablePause};
+use shaping_buffer::hb_buffer_t;
+use std::alloc::{AllocError, Global};
+
+/// The kind of syllables without a base.
+pub(crate) const BROKEN: u8 = 4;
+
+/// The masks of the features that not every glyph has.
+#[derive(Clone, Copy, PartialEq, Eq, Debug, Default)]
+pub struct IndicMasks {
+    /// Rephs.
+    pub rphf: u32,
+    /// A RA that stands before its base.
+    pub pref: u32,
+    /// Forms below the base.
+    pub blwf: u32,
+    /// Forms above the base.
+    pub abvf: u32,
+    /// Half forms.
+    pub half: u32,
+    /// Forms behind the base.
+    pub pstf: u32,
+    /// Forms at the start of a word.
+    pub init: u32,
+}
+
+/// How a text of an Indic script is shaped by a font.
+#[derive(Clone, Copy, PartialEq, Eq, Debug)]
+pub struct IndicPlan {
+    /// The script of the text.
+    pub script: Option<Script>,
+    /// What differs from script to script.
+    pub configuration: IndicConfiguration,
+    /// Whether the font was made by the old specification.
+    pub is_old_spec: bool,
+    /// The masks.
+    pub masks: IndicMasks,
+}
+
+impl IndicPlan {
+    /// The plan for a script and a font, of which `gsub_script` is the tag by which its table `GSUB` has the script.
+    pub fn new(script: Option<Script>, gsub_script: Tag, masks: IndicMasks) -> IndicPlan {
+        let configuration = IndicConfiguration::of(script);
+        IndicPlan {
+            script,
+            configuration,
+            is_old_spec: configuration.has_old_spec && gsub_script.to_bytes()[3] != b'2',
+            masks,
+        }
+    }
+
+    /// Whether a rule with context is not taken, where a font is asked for its forms.
+    pub fn wants_no_context(&self) -> bool {
+        !self.is_old_spec && !self.is(script::MALAYALAM)
+    }
+
+    /// Whether the text is of a script.
+    pub(crate) fn is(&self, script: Script) -> bool {
+        self.script == Some(script)
+    }
+
+    /// What is done at a pause of a text of an Indic script. `Ok(false)` where the text would become too long.
+    #[tactic(auto, using(script_syllables::proofs::NumbersLemmas::numbered))]
+    pub fn pause<F: FontForms>(
+        &self,
+        alloc: Global,
+        buffer: &mut hb_buffer_t,
+        font: &mut F,
+        pause: SyllablePause,
+    ) -> Result<bool, AllocError>
+        requires { buffer.old.have_output ≡ false }
+        ensures closed { IfOk result (λ done. done ≡ true → buffer.new.have_output ≡ false) }
+        ensures keeps { KeepsNumbers buffer.old buffer.new }
+    {
+        match pause {
+            SyllablePause::SetUp => {
+                self.setup_syllables(buffer);
+                Ok(true)
+            }
+            SyllablePause::InitialReordering => self.initial_reordering(alloc, buffer, font),
+            SyllablePause::FinalReordering => {
+                self.final_reordering(buffer, font);
+                Ok(true)
+            }
+            _ => Ok(true),
+        }
+    }
+
+    /// Finds the syllables, before the first lookups.
+    fn setup_syllables(&self, buffer: &mut hb_buffer_t)
+        requires { buffer.old.have_output ≡ false }
+        ensures closed { buffer.new.have_output ≡ false }
+        ensures keeps { KeepsClusters buffer.old buffer.new }
+    {
+        let grammar = Grammar {
+            machine: indic_machine(),
+            broken: BROKEN,
+            passes_over: false,
+        };
+        find_syllables(buffer, &grammar);
+    }
+
+    /// Puts the glyphs of each syllable in the order in which the basic features find them. `Ok(false)` where the text would become too
+    /// long.
+    fn initial_reordering<F: FontForms>(
+        &self,
+        alloc: Global,
+        buffer: &mut hb_buffer_t,
+        font: &mut F,
+    ) -> Result<bool, AllocError>
+        requires { buffer.old.have_output ≡ false }
+        ensures closed { IfOk result (λ done. done ≡ true → buffer.new.have_output ≡ false) }
+        ensures keeps { KeepsNumbers buffer.old buffer.new }
+    {
+        order_initially(alloc, buffer, self, font)
+    }
+
+    /// Puts the glyphs of each syllable in the order in which they are seen, after the basic features.
+    fn final_reordering<F: FontForms>(&self, buffer: &mut hb_buffer_t, font: &F)
+        requires { buffer.old.have_output ≡ false }
+        ensures closed { buffer.new.have_output ≡ false }
+        ensures keeps { KeepsNumbers buffer.old buffer.new }
+    {
+        let virama = if buffer
+            .info()
+            .iter()
+            .any(|info| is_ligated(info) && is_multiplied(info))
+        {
+            self.virama_glyph(font)
+        } else {
+            None
+        };
+        order_finally(buffer, self, virama);
+    }
+
+    /// The glyph of the halant; `None` where the font has none.
+    pub(crate) fn virama_glyph<F: FontForms>(&self, font: &F) -> Option<u32> {
+        let glyph = font.glyph_of(self.configuration.virama? as u32)?;
+        if glyph == 0 { None } else { Some(glyph) }
+    }
+}

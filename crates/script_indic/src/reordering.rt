@@ -1,0 +1,223 @@
+//! The order of a text before the basic features.
+
+ghost use Rattle.std.specs.Prelude.{◌≡◌, true, false, IfOk};
+ghost use Rattle.glyph_lists.specs.Clusters.{clusters};
+ghost use Rattle.shaping_buffer.specs.KeepsClusters.{KeepsClusters};
+ghost use Rattle.script_syllables.specs.KeepsNumbers.{KeepsNumbers, SameClusters};
+
+use crate::base::{Base, find_base};
+use crate::initial_masks::{mask_pref, set_masks};
+use crate::initial_order::set_positions;
+use crate::item::{is_halant, is_one};
+use crate::plan::{BROKEN, IndicPlan};
+use crate::sorting::sort_syllable;
+use rb_common::script;
+use script_syllables::clusters::merge;
+use script_syllables::dotted_circle::{CircleKind, insert_dotted_circles};
+use script_syllables::font::{FontForms, FormFeature};
+use script_syllables::item::{position, set_position};
+use script_syllables::moves::move_first;
+use script_syllables::syllables::{kind_at, syllable, within};
+use script_syllables::{Category, Position};
+use shaping_buffer::{hb_buffer_t, hb_glyph_info_t};
+use std::alloc::{AllocError, Global};
+use std::ops::Range;
+
+/// The kinds of syllables that are reordered come before this one, but for symbols.
+const SYMBOL: u8 = 3;
+
+const CIRCLE: CircleKind = CircleKind {
+    category: Category::DottedCircle as u8,
+    position: Position::End,
+    repha: Some(Category::Repha as u8),
+    broken: BROKEN,
+};
+
+/// Puts the glyphs of each syllable in order.
+#[tactic(auto, using(script_syllables::proofs::NumbersLemmas::numbered))]
+pub(crate) fn order_initially<F: FontForms>(
+    alloc: Global,
+    buffer: &mut hb_buffer_t,
+    plan: &IndicPlan,
+    font: &mut F,
+) -> Result<bool, AllocError>
+    requires { buffer.old.have_output ≡ false }
+    ensures closed { IfOk result (λ done. done ≡ true → buffer.new.have_output ≡ false) }
+    ensures keeps { KeepsNumbers buffer.old buffer.new }
+{
+    if let Some(virama) = plan.virama_glyph(font) {
+        place_consonants(buffer, font, virama);
+    }
+    if !insert_dotted_circles(buffer, font, CIRCLE)? {
+        return Ok(false);
+    }
+    order_syllables(alloc, buffer, plan, font)?;
+    Ok(true)
+}
+
+/// Puts the glyphs of each syllable in order.
+#[tactic(auto, using(script_syllables::proofs::NumbersLemmas::numbered))]
+fn order_syllables<F: FontForms>(
+    alloc: Global,
+    buffer: &mut hb_buffer_t,
+    plan: &IndicPlan,
+    font: &mut F,
+) -> Result<(), AllocError>
+    requires { buffer.old.have_output ≡ false }
+    ensures closed { IfOk result (λ _. buffer.new.have_output ≡ false) }
+    ensures keeps { KeepsNumbers buffer.old buffer.new }
+{
+    let mut start = 0;
+    for _turn in 0..buffer.len() {
+        if start >= buffer.len() {
+            break;
+        }
+        let end = buffer.next_syllable(start);
+        if is_reordered(kind_at(buffer.info(), start)) {
+            order_syllable(alloc, buffer, &(start..end), plan, font)?;
+        }
+        start = end;
+    }
+    Ok(())
+}
+
+/// Whether syllables of a kind are put in order: those with a base, also where that is a dotted circle.
+fn is_reordered(kind: u8) -> bool {
+    kind < SYMBOL || kind == BROKEN
+}
+
+/// Lets each consonant have the position that its forms in the font give it.
+fn place_consonants<F: FontForms>(buffer: &mut hb_buffer_t, font: &mut F, virama: u32)
+    requires { buffer.old.have_output ≡ false }
+    ensures closed { buffer.new.have_output ≡ false }
+    ensures keeps { KeepsClusters buffer.old buffer.new }
+{
+    place_all(buffer.info_slice_mut(), font, virama);
+}
+
+/// Does that in a list.
+#[tactic(auto, using(shaping_buffer::proofs::ClosedKeepsLemmas::clusters_written))]
+fn place_all<F: FontForms>(infos: &mut [hb_glyph_info_t], font: &mut F, virama: u32)
+    ensures { clusters infos.new ≡ clusters infos.old }
+{
+    for place in 0..infos.len() {
+        if position(&infos[place]) == Position::Base {
+            let own = consonant_position(font, infos[place].glyph_id, virama);
+            set_position(&mut infos[place], own);
+        }
+    }
+}
+
+/// The position of a consonant by its forms: the font may have rules with the halant before it, as the new specification wants, or
+/// behind it, as the old one does.
+fn consonant_position<F: FontForms>(font: &mut F, consonant: u32, virama: u32) -> Position {
+    let glyphs = [virama, consonant, virama];
+    if has_form(font, FormFeature::Blwf, &glyphs) || has_form(font, FormFeature::Vatu, &glyphs) {
+        Position::Below
+    } else if has_form(font, FormFeature::Pstf, &glyphs)
+        || has_form(font, FormFeature::Pref, &glyphs)
+    {
+        Position::Post
+    } else {
+        Position::Base
+    }
+}
+
+/// Whether the font has a form of a consonant between two halants, with one of them.
+fn has_form<F: FontForms>(font: &mut F, feature: FormFeature, glyphs: &[u32; 3]) -> bool {
+    font.would_substitute(feature, &glyphs[..2]) || font.would_substitute(feature, &glyphs[1..])
+}
+
+/// Puts the glyphs of a syllable in order, and says which features each has.
+fn order_syllable<F: FontForms>(
+    alloc: Global,
+    buffer: &mut hb_buffer_t,
+    range: &Range<usize>,
+    plan: &IndicPlan,
+    font: &mut F,
+) -> Result<(), AllocError>
+    requires { buffer.old.have_output ≡ false }
+    ensures closed { IfOk result (λ _. buffer.new.have_output ≡ false) }
+    ensures keeps { KeepsNumbers buffer.old buffer.new }
+{
+    put_joiner_first(buffer, range, plan);
+    let base = find_base(syllable(buffer.info(), range), plan, font);
+    place_items(buffer, range, &base, plan);
+    let base = sort_syllable(alloc, buffer, range, plan)?;
+    mask_items(buffer, range, base, plan, font);
+    Ok(())
+}
+
+/// Gives each item of a syllable its position.
+fn place_items(buffer: &mut hb_buffer_t, range: &Range<usize>, base: &Base, plan: &IndicPlan)
+    requires { buffer.old.have_output ≡ false }
+    ensures closed { buffer.new.have_output ≡ false }
+    ensures keeps { KeepsNumbers buffer.old buffer.new }
+{
+    place_in(buffer.info_slice_mut(), range, base, plan);
+}
+
+/// Does that in a list.
+#[tactic(auto, using(script_syllables::proofs::MovedLemmas::moved))]
+fn place_in(infos: &mut [hb_glyph_info_t], range: &Range<usize>, base: &Base, plan: &IndicPlan)
+    ensures { SameClusters infos.old infos.new }
+{
+    let range = within(range, infos.len());
+    set_positions(&mut infos[range.start..range.end], base, plan);
+}
+
+/// Says which features each item of a syllable has.
+fn mask_items<F: FontForms>(
+    buffer: &mut hb_buffer_t,
+    range: &Range<usize>,
+    base: usize,
+    plan: &IndicPlan,
+    font: &mut F,
+)
+    requires { buffer.old.have_output ≡ false }
+    ensures closed { buffer.new.have_output ≡ false }
+    ensures keeps { KeepsClusters buffer.old buffer.new }
+{
+    mask_in(buffer.info_slice_mut(), range, base, plan, font);
+}
+
+/// Does that in a list.
+#[tactic(auto, using(script_syllables::proofs::MovedLemmas::same))]
+fn mask_in<F: FontForms>(
+    infos: &mut [hb_glyph_info_t],
+    range: &Range<usize>,
+    base: usize,
+    plan: &IndicPlan,
+    font: &mut F,
+)
+    ensures { clusters infos.new ≡ clusters infos.old }
+{
+    let range = within(range, infos.len());
+    set_masks(&mut infos[range.start..range.end], base, plan);
+    mask_pref(&mut infos[range.start..range.end], base, plan, font);
+}
+
+/// Takes RA, a halant and a joiner at the start of a Kannada syllable for RA, a joiner and a halant, as old texts have them.
+#[tactic(auto, using(script_syllables::proofs::NumbersLemmas::numbered))]
+fn put_joiner_first(buffer: &mut hb_buffer_t, range: &Range<usize>, plan: &IndicPlan)
+    requires { buffer.old.have_output ≡ false }
+    ensures closed { buffer.new.have_output ≡ false }
+    ensures keeps { KeepsNumbers buffer.old buffer.new }
+{
+    if plan.is(script::KANNADA) && begins_with_joiner(syllable(buffer.info(), range)) {
+        let start = range.start.saturating_add(1);
+        let end = range.start.saturating_add(3);
+        merge(buffer, start, end);
+        move_first(buffer, start, end);
+    }
+}
+
+/// Whether a syllable begins with RA, a halant and a joiner.
+fn begins_with_joiner(syllable: &[hb_glyph_info_t]) -> bool {
+    match syllable {
+        [ra, halant, joiner, ..] => {
+            is_one(ra, Category::Ra) && is_halant(halant) && is_one(joiner, Category::Joiner)
+        }
+        _ => false,
+    }
+}

@@ -1,0 +1,4 @@
+-- Why marks that move keep the clusters: items move within a range that was merged, so each place keeps its cluster
+-- (`MoveLemmas`).
+
+pub mod MoveLemmas

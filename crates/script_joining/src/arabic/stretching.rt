@@ -1,0 +1,368 @@
+//! Marks that are stretched over a word: their pieces are repeated behind the glyphs of the word (OpenType, feature `stch`).
+
+ghost use Rattle.std.specs.Prelude.{◌≡◌, ◌≤◌, ◌<◌, false, true, length, IfOk, IsSome};
+ghost use Rattle.glyph_lists.specs.Clusters.{clusters};
+ghost use Rattle.shaping_buffer.specs.KeepsClusters.{KeepsClusters};
+
+use crate::arabic::measure::{FIXED, REPEATING, Stretch, last_stretch};
+use rb_glyph::{Flags, GlyphPosition, GlyphPropsFlags, hb_glyph_info_t};
+use script_items::font::FontGlyphs;
+use script_items::item::{set_shaper_byte, shaper_byte};
+use shaping_buffer::{Direction, HB_BUFFER_SCRATCH_FLAG_SHAPER0, hb_buffer_t};
+use std::alloc::{AllocError, Global};
+
+/// The glyphs of a text in which marks are stretched, in the order of the buffer.
+#[derive(Debug, Drop)]
+struct Stretched {
+    /// How often each glyph of the text stands in it.
+    counts: Vec<usize>,
+    /// The position of each glyph, and of each copy.
+    positions: Vec<GlyphPosition>,
+    is_right_to_left: bool,
+}
+
+/// Lets the pieces of a mark that a lookup made of it keep whether they are repeated: each second one is.
+#[tactic(auto, using(shaping_buffer::proofs::ClosedKeepsLemmas::kept))]
+pub fn record_pieces(buffer: &mut hb_buffer_t)
+    requires { buffer.old.have_output ≡ false }
+    ensures closed { buffer.new.have_output ≡ false }
+    ensures keeps { KeepsClusters buffer.old buffer.new }
+{
+    if record_in(buffer) {
+        buffer.scratch_flags = buffer.scratch_flags | HB_BUFFER_SCRATCH_FLAG_SHAPER0;
+    }
+}
+
+/// Whether there are pieces; each keeps whether it is repeated.
+fn record_in(buffer: &mut hb_buffer_t) -> bool
+    requires { buffer.old.have_output ≡ false }
+    ensures closed { buffer.new.have_output ≡ false }
+    ensures keeps { KeepsClusters buffer.old buffer.new }
+{
+    record_all(buffer.info_slice_mut())
+}
+
+/// Whether there are pieces among these items.
+#[tactic(auto, using(shaping_buffer::proofs::ClosedKeepsLemmas::clusters_written))]
+fn record_all(infos: &mut [hb_glyph_info_t]) -> bool
+    ensures { clusters infos.new ≡ clusters infos.old }
+{
+    let mut has_pieces = false;
+    for i in 0..infos.len() {
+        if infos[i].glyph_props() & GlyphPropsFlags::MULTIPLIED.bits() != 0 {
+            let byte = if component(&infos[i]) % 2 == 1 {
+                REPEATING
+            } else {
+                FIXED
+            };
+            set_shaper_byte(&mut infos[i], byte);
+            has_pieces = true;
+        }
+    }
+    has_pieces
+}
+
+/// Which of the glyphs that a lookup made of one this is, from 0 on.
+fn component(info: &hb_glyph_info_t) -> u8 {
+    let properties = info.lig_props();
+    if properties & 0x10 != 0 {
+        0
+    } else {
+        properties & 0xF
+    }
+}
+
+/// Stretches the marks that are in pieces, each over the word before it. `Ok(false)` where the text would become too long.
+#[tactic(auto, using(shaping_buffer::proofs::ClosedKeepsLemmas::kept))]
+pub fn stretch<F: FontGlyphs>(
+    alloc: Global,
+    buffer: &mut hb_buffer_t,
+    font: &F,
+) -> Result<bool, AllocError>
+    requires closed { buffer.old.have_output ≡ false }
+    requires placed { IsSome buffer.old.positions }
+    ensures closed { IfOk result (λ done. done ≡ true → buffer.new.have_output ≡ false) }
+    ensures placed { IfOk result (λ done. done ≡ true → IsSome buffer.new.positions) }
+    ensures keeps { KeepsClusters buffer.old buffer.new }
+{
+    if buffer.scratch_flags & HB_BUFFER_SCRATCH_FLAG_SHAPER0 == 0 {
+        return Ok(true);
+    }
+    let stretched = if buffer.direction == Direction::RightToLeft {
+        stretched_text(alloc, buffer, font, true)
+    } else {
+        stretched_backwards(alloc, buffer, font)
+    };
+    match stretched? {
+        Some(stretched) => stretched.put_into(buffer),
+        None => Ok(false),
+    }
+}
+
+/// What a text becomes whose words stand behind their marks: it is reversed while it is read.
+fn stretched_backwards<F: FontGlyphs>(
+    alloc: Global,
+    buffer: &mut hb_buffer_t,
+    font: &F,
+) -> Result<Option<Stretched>, AllocError>
+    requires closed { buffer.old.have_output ≡ false }
+    requires placed { IsSome buffer.old.positions }
+    ensures closed { buffer.new.have_output ≡ false }
+    ensures placed { IsSome buffer.new.positions }
+    ensures keeps { KeepsClusters buffer.old buffer.new }
+{
+    buffer.reverse();
+    let stretched = stretched_text(alloc, buffer, font, false);
+    buffer.reverse();
+    stretched
+}
+
+/// What a text becomes whose words stand before their marks; `None` where it would become too long.
+fn stretched_text<F: FontGlyphs>(
+    alloc: Global,
+    buffer: &mut hb_buffer_t,
+    font: &F,
+    is_right_to_left: bool,
+) -> Result<Option<Stretched>, AllocError>
+    requires closed { buffer.old.have_output ≡ false }
+    requires placed { IsSome buffer.old.positions }
+    ensures closed { buffer.new.have_output ≡ false }
+    ensures placed { IsSome buffer.new.positions }
+    ensures keeps { KeepsClusters buffer.old buffer.new }
+{
+    let stretches = stretches_of(alloc, buffer, font)?;
+    if !buffer.ensure(stretched_length(buffer.len(), stretches.as_slice()))? {
+        return Ok(None);
+    }
+    flag_words(buffer, stretches.as_slice());
+    let stretched = Stretched::of(alloc, buffer, stretches.as_slice(), font, is_right_to_left)?;
+    Ok(Some(stretched))
+}
+
+/// Flags each word with its marks as unsafe to break.
+#[tactic(auto, using(shaping_buffer::proofs::ClosedKeepsLemmas::kept))]
+fn flag_words(buffer: &mut hb_buffer_t, stretches: &[Stretch])
+    requires closed { buffer.old.have_output ≡ false }
+    requires placed { IsSome buffer.old.positions }
+    ensures closed { buffer.new.have_output ≡ false }
+    ensures placed { IsSome buffer.new.positions }
+    ensures keeps { KeepsClusters buffer.old buffer.new }
+{
+    for stretch in stretches {
+        if stretch.word <= stretch.end && stretch.end <= buffer.len() {
+            buffer.unsafe_to_break(Some(stretch.word), Some(stretch.end));
+        }
+    }
+}
+
+/// The marks that are stretched, from the last to the first.
+fn stretches_of<F: FontGlyphs>(
+    alloc: Global,
+    buffer: &hb_buffer_t,
+    font: &F,
+) -> Result<Vec<Stretch>, AllocError>
+    requires { IsSome buffer.now.positions }
+{
+    let infos = buffer.info();
+    let positions = buffer.pos();
+    let mut stretches = Vec::new(alloc);
+    let mut end = infos.len();
+    for _turn in 0..infos.len() {
+        match last_stretch(infos, positions, end, font) {
+            Some(stretch) => {
+                end = stretch.start;
+                stretches.push(stretch)?;
+            }
+            None => break,
+        }
+    }
+    Ok(stretches)
+}
+
+/// How long a text of so many glyphs becomes.
+fn stretched_length(length: usize, stretches: &[Stretch]) -> usize {
+    let mut length = length;
+    for stretch in stretches {
+        length = length.saturating_add(usize::try_from(stretch.added).unwrap_or(usize::MAX));
+    }
+    length
+}
+
+impl Stretched {
+    /// The text in which these marks are stretched.
+    fn of<F: FontGlyphs>(
+        alloc: Global,
+        buffer: &hb_buffer_t,
+        stretches: &[Stretch],
+        font: &F,
+        is_right_to_left: bool,
+    ) -> Result<Stretched, AllocError>
+        requires { IsSome buffer.now.positions }
+    {
+        let mut stretched = Stretched {
+            counts: Vec::new(alloc),
+            positions: Vec::new(alloc),
+            is_right_to_left,
+        };
+        stretched.fill(buffer.info(), buffer.pos(), stretches, font)?;
+        if is_right_to_left {
+            stretched.counts.reverse();
+            stretched.positions.reverse();
+        }
+        Ok(stretched)
+    }
+
+    /// Fills the lists with a text in which marks are stretched, from its last glyph to the first.
+    fn fill<F: FontGlyphs>(
+        &mut self,
+        infos: &[hb_glyph_info_t],
+        positions: &[GlyphPosition],
+        stretches: &[Stretch],
+        font: &F,
+    ) -> Result<(), AllocError> {
+        let mut end = infos.len();
+        for stretch in stretches {
+            self.keep(positions, stretch.end, end)?;
+            self.stretch(infos, positions, stretch, font)?;
+            end = stretch.start;
+        }
+        self.keep(positions, 0, end)
+    }
+
+    /// Adds the glyphs from a place to another as they are.
+    fn keep(
+        &mut self,
+        positions: &[GlyphPosition],
+        start: usize,
+        end: usize,
+    ) -> Result<(), AllocError> {
+        if let Some(positions) = positions.get(start..end) {
+            for position in positions.iter().rev() {
+                self.counts.push(1)?;
+                self.positions.push(*position)?;
+            }
+        }
+        Ok(())
+    }
+
+    /// Adds the pieces of a mark, as often as they are repeated.
+    fn stretch<F: FontGlyphs>(
+        &mut self,
+        infos: &[hb_glyph_info_t],
+        positions: &[GlyphPosition],
+        stretch: &Stretch,
+        font: &F,
+    ) -> Result<(), AllocError> {
+        let mut offset = stretch.offset;
+        if let Some(infos) = infos.get(stretch.start..stretch.end)
+            && let Some(positions) = positions.get(stretch.start..stretch.end)
+        {
+            for (info, position) in infos.iter().rev().zip(positions.iter().rev()) {
+                let width = i64::from(font.horizontal_advance(info.glyph_id));
+                offset = self.repeat(info, position, stretch, width, offset)?;
+            }
+        }
+        Ok(())
+    }
+
+    /// Adds a piece as often as it is repeated, the first drawn at `offset`. Where the next one is drawn.
+    fn repeat(
+        &mut self,
+        info: &hb_glyph_info_t,
+        position: &GlyphPosition,
+        stretch: &Stretch,
+        width: i64,
+        offset: i64,
+    ) -> Result<i64, AllocError> {
+        let copies = if shaper_byte(info) == REPEATING {
+            usize::try_from(stretch.copies).unwrap_or(0)
+        } else {
+            0
+        };
+        self.counts.push(copies.saturating_add(1))?;
+        let mut offset = self.add_piece(position, width, offset)?;
+        for _turn in 0..copies {
+            let step = width.wrapping_sub(stretch.overlap);
+            offset = self.add_piece(position, step, offset)?;
+        }
+        Ok(offset)
+    }
+
+    /// Adds the position of a piece that is so wide. Where the next one is drawn.
+    fn add_piece(
+        &mut self,
+        position: &GlyphPosition,
+        width: i64,
+        offset: i64,
+    ) -> Result<i64, AllocError> {
+        let (place, next) = if self.is_right_to_left {
+            let place = offset.wrapping_sub(width);
+            (place, place)
+        } else {
+            (offset, offset.wrapping_add(width))
+        };
+        self.positions.push(GlyphPosition {
+            x_advance: 0,
+            x_offset: i32::try_from(place).unwrap_or(0),
+            ..*position
+        })?;
+        Ok(next)
+    }
+
+    /// Repeats the glyphs of a buffer, and sets the positions of all.
+    #[tactic(auto, using(shaping_buffer::proofs::ClosedKeepsLemmas::kept))]
+    fn put_into(self, buffer: &mut hb_buffer_t) -> Result<bool, AllocError>
+        requires { buffer.old.have_output ≡ false }
+        ensures closed { IfOk result (λ done. done ≡ true → buffer.new.have_output ≡ false) }
+        ensures placed { IfOk result (λ done. done ≡ true → IsSome buffer.new.positions) }
+        ensures keeps { KeepsClusters buffer.old buffer.new }
+    {
+        if !repeat_glyphs(buffer, self.counts.as_slice())? {
+            return Ok(false);
+        }
+        buffer.clear_positions();
+        put_positions(buffer.pos_mut(), self.positions.as_slice());
+        Ok(true)
+    }
+}
+
+/// Puts positions in place of others.
+fn put_positions(places: &mut [GlyphPosition], positions: &[GlyphPosition]) {
+    for (place, position) in places.iter_mut().zip(positions.iter()) {
+        *place = *position;
+    }
+}
+
+/// Lets each glyph of a buffer stand as often as it is to.
+#[tactic(auto, using(shaping_buffer::proofs::ClosedKeepsLemmas::kept))]
+fn repeat_glyphs(buffer: &mut hb_buffer_t, counts: &[usize]) -> Result<bool, AllocError>
+    requires { buffer.old.have_output ≡ false }
+    ensures closed { IfOk result (λ done. done ≡ true → buffer.new.have_output ≡ false) }
+    ensures keeps { KeepsClusters buffer.old buffer.new }
+{
+    buffer.clear_output();
+    for count in counts {
+        if !repeat_glyph(buffer, *count)? {
+            return Ok(false);
+        }
+    }
+    buffer.sync()
+}
+
+/// Puts the current glyph out so often, and reads it.
+#[tactic(auto, using(shaping_buffer::proofs::ClosedKeepsLemmas::kept))]
+fn repeat_glyph(buffer: &mut hb_buffer_t, count: usize) -> Result<bool, AllocError>
+    requires { buffer.old.have_output ≡ true }
+    ensures opened { IfOk result (λ _. buffer.new.have_output ≡ true) }
+    ensures keeps { KeepsClusters buffer.old buffer.new }
+{
+    for _turn in 1..count {
+        if buffer.lookahead_len() == 0 || !buffer.copy_glyph()? {
+            return Ok(false);
+        }
+    }
+    if buffer.lookahead_len() == 0 {
+        return Ok(true);
+    }
+    buffer.next_glyph()
+}

@@ -1,7 +1,0 @@
-use Rattle.shaping_buffer.proofs.ClosedKeepsLemmas.{keeps_with_input}
-use Rattle.script_shapers.proofs.plan.add_masks.Goals as goal
-
-pub returns-clause-keeps : goal.returns-clause-keeps
-returns-clause-keeps c =
-    keeps_with_input c.args.buffer.now c.add_masks_to.new.infos c.info_slice_mut.result.now c.info_slice_mut.ensures.value
-    c.add_masks_to.ensures

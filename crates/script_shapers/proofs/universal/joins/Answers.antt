@@ -1,5 +1,0 @@
--- The tags in the table are those of the definition, by computation.
-use Rattle.script_shapers.proofs.universal.joins.Goals as goal
-
-pub returns : goal.returns
-returns c = c.is_one_of.ensures

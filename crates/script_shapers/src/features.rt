@@ -1,0 +1,53 @@
+//! The features that the shaper of a script asks for.
+
+ghost use Rattle.std.specs.Prelude.{◌≡◌, ◌≢◌, ◌++◌, IfOk};
+ghost use Rattle.ot_map.specs.Pauses.{HasSamePauses};
+ghost use Rattle.script_shapers.specs.Stages.{pauses_of};
+ghost use Rattle.script_shapers.specs.declared.shaper.ScriptShaper.TheVariants.{Arabic};
+
+use crate::hangul;
+use crate::shaper::ScriptShaper;
+use ot_map::PlanBuilder;
+use rb_common::{Script, Tag};
+use script_joining::arabic;
+use script_universal::{khmer, myanmar, universal};
+use std::alloc::AllocError;
+
+/// Asks for the features of a script, behind those that every text has first.
+pub fn collect_features(
+    shaper: ScriptShaper,
+    builder: &mut PlanBuilder,
+    script: Option<Script>,
+) -> Result<(), AllocError>
+    ensures { shaper ≢ Arabic
+        → IfOk result (λ _. builder.new.pauses.items ≡ builder.old.pauses.items ++ pauses_of shaper) }
+{
+    match shaper {
+        ScriptShaper::Arabic => arabic::features::collect_features(builder, script),
+        ScriptShaper::Hangul => hangul::features::add_jamo_features(builder),
+        ScriptShaper::Indic => script_indic::features::collect_features(builder),
+        ScriptShaper::Khmer => khmer::features::collect_features(builder),
+        ScriptShaper::Myanmar => myanmar::features::collect_features(builder),
+        ScriptShaper::Universal | ScriptShaper::UniversalJoining => {
+            universal::features::collect_features(builder)
+        }
+        ScriptShaper::Default
+        | ScriptShaper::Hebrew
+        | ScriptShaper::Thai
+        | ScriptShaper::Zawgyi
+        | ScriptShaper::Plain => Ok(()),
+    }
+}
+
+/// Changes the features that were asked for, after those of the user: Hangul has no contextual alternates, since fonts have jamo
+/// there.
+pub fn override_features(shaper: ScriptShaper, builder: &mut PlanBuilder) -> Result<(), AllocError>
+    ensures { HasSamePauses builder.old builder.new }
+{
+    match shaper {
+        ScriptShaper::Hangul => builder.disable_feature(Tag::from_bytes(b"calt")),
+        ScriptShaper::Indic => script_indic::features::override_features(builder),
+        ScriptShaper::Khmer => khmer::features::override_features(builder),
+        _ => Ok(()),
+    }
+}

@@ -1,7 +1,0 @@
-//! How letters join their neighbours (the Unicode Standard, section 9.2, and for Syriac section 9.3).
-
-pub(crate) mod flags;
-pub(crate) mod form;
-pub(crate) mod forms;
-pub(crate) mod kind;
-mod rows;

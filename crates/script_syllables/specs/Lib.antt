@@ -1,0 +1,6 @@
+pub mod Composition
+pub mod KeepsNumbers
+pub mod Machines
+pub mod Moves
+pub mod Scripts
+pub mod Stages

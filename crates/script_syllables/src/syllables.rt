@@ -1,0 +1,151 @@
+//! The syllables of a text.
+
+ghost use Rattle.std.specs.Prelude.{◌≡◌, ◌<◌, ◌≤◌, ◌-◌, false, length};
+ghost use Rattle.glyph_lists.specs.Clusters.{clusters};
+ghost use Rattle.glyph_lists.specs.Groups.{group_end, share_cluster};
+ghost use Rattle.shaping_buffer.specs.KeepsClusters.{KeepsClusters};
+
+use crate::grammar::Grammar;
+use glyph_lists::groups::group_end;
+use shaping_buffer::{HB_BUFFER_SCRATCH_FLAG_HAS_BROKEN_SYLLABLE, hb_buffer_t, hb_glyph_info_t};
+use std::ops::Range;
+
+/// A number that no kind of syllables has.
+pub(crate) const NO_KIND: u8 = 15;
+
+/// Finds the syllables of a text, and flags each as unsafe to break: each item keeps the number and the kind of its syllable.
+#[tactic(auto, using(shaping_buffer::proofs::ClosedKeepsLemmas::kept))]
+pub fn find_syllables(buffer: &mut hb_buffer_t, grammar: &Grammar)
+    requires { buffer.old.have_output ≡ false }
+    ensures closed { buffer.new.have_output ≡ false }
+    ensures keeps { KeepsClusters buffer.old buffer.new }
+{
+    if number_items(buffer, grammar) {
+        buffer.scratch_flags = buffer.scratch_flags | HB_BUFFER_SCRATCH_FLAG_HAS_BROKEN_SYLLABLE;
+    }
+    flag_syllables(buffer);
+}
+
+/// Lets each item keep the number and the kind of its syllable. Whether one is broken.
+fn number_items(buffer: &mut hb_buffer_t, grammar: &Grammar) -> bool
+    requires { buffer.old.have_output ≡ false }
+    ensures closed { buffer.new.have_output ≡ false }
+    ensures keeps { KeepsClusters buffer.old buffer.new }
+{
+    number_syllables(buffer.info_slice_mut(), grammar)
+}
+
+/// Does that with the items of a list.
+#[tactic(auto, using(crate::proofs::MovedLemmas::same))]
+fn number_syllables(infos: &mut [hb_glyph_info_t], grammar: &Grammar) -> bool
+    ensures { clusters infos.new ≡ clusters infos.old }
+{
+    let mut has_broken = false;
+    let mut start = grammar.passed_count(infos);
+    let mut serial = 1;
+    for _turn in 0..infos.len() {
+        if start >= infos.len() {
+            break;
+        }
+        let found = grammar.first_syllable(&mut infos[start..]);
+        let end = start.saturating_add(found.length);
+        set_syllable(infos, start, end, serial % 16 * 16 + found.kind % 16);
+        has_broken = has_broken || found.kind == grammar.broken;
+        start = end;
+        serial = if serial == 15 { 1 } else { serial + 1 };
+    }
+    has_broken
+}
+
+/// Gives the items from `start` to `end` the number of a syllable, with its kind.
+#[tactic(auto, using(shaping_buffer::proofs::ClosedKeepsLemmas::clusters_written))]
+fn set_syllable(infos: &mut [hb_glyph_info_t], start: usize, end: usize, number: u8)
+    ensures { clusters infos.new ≡ clusters infos.old }
+{
+    for place in start..end.min(infos.len()) {
+        infos[place].set_syllable(number);
+    }
+}
+
+/// Flags each syllable as unsafe to break.
+#[tactic(auto, using(shaping_buffer::proofs::ClosedKeepsLemmas::kept))]
+fn flag_syllables(buffer: &mut hb_buffer_t)
+    requires { buffer.old.have_output ≡ false }
+    ensures closed { buffer.new.have_output ≡ false }
+    ensures keeps { KeepsClusters buffer.old buffer.new }
+{
+    let mut start = 0;
+    for _turn in 0..buffer.len() {
+        if start >= buffer.len() {
+            break;
+        }
+        let end = buffer.next_syllable(start);
+        flag_syllable(buffer, start, end);
+        start = end;
+    }
+}
+
+/// Flags a syllable as unsafe to break, with what goes on with the cluster of its last item: that may be parted from it where its items
+/// are put in order.
+#[tactic(auto, using(shaping_buffer::proofs::ClosedKeepsLemmas::kept))]
+fn flag_syllable(buffer: &mut hb_buffer_t, start: usize, end: usize)
+    requires { buffer.old.have_output ≡ false }
+    ensures closed { buffer.new.have_output ≡ false }
+    ensures keeps { KeepsClusters buffer.old buffer.new }
+{
+    let end = cluster_end(buffer.info(), end);
+    if start <= end && end <= buffer.len() {
+        buffer.unsafe_to_break(Some(start), Some(end));
+    }
+}
+
+/// The end of the cluster that goes on behind a place with the item before it.
+fn cluster_end(infos: &[hb_glyph_info_t], place: usize) -> usize
+    ensures from { place ≤ result }
+    ensures is { 0 < place → place ≤ length infos.now
+        → result ≡ group_end share_cluster (place - 1) infos.now }
+{
+    if place == 0 || place > infos.len() {
+        return place;
+    }
+    group_end(infos, place - 1, &|a, b| a.cluster == b.cluster)
+}
+
+/// The end of the syllable that the item at a place is in.
+pub fn syllable_end(infos: &[hb_glyph_info_t], start: usize) -> usize
+    requires { start < length infos.now }
+    ensures after { start < result }
+    ensures until { result ≤ length infos.now }
+{
+    group_end(infos, start, &|a, b| a.syllable() == b.syllable())
+}
+
+/// The kind of the syllable that an item is in.
+pub(crate) fn kind_of(info: &hb_glyph_info_t) -> u8 {
+    info.syllable() % 16
+}
+
+/// The kind of the syllable that the item at a place is in; that of none where there is no item.
+pub fn kind_at(infos: &[hb_glyph_info_t], place: usize) -> u8 {
+    match infos.get(place) {
+        Some(info) => kind_of(info),
+        None => NO_KIND,
+    }
+}
+
+/// The items of a range; none where it does not lie in the list.
+pub fn syllable<'a>(infos: &'a [hb_glyph_info_t], range: &Range<usize>) -> &'a [hb_glyph_info_t] {
+    infos.get(range.start..range.end).unwrap_or(&[])
+}
+
+/// A range; one of nothing where it does not lie in a list of so many items.
+pub fn within(range: &Range<usize>, count: usize) -> Range<usize>
+    ensures order { result.start ≤ result.end }
+    ensures within { result.end ≤ count }
+{
+    if range.start <= range.end && range.end <= count {
+        range.start..range.end
+    } else {
+        0..0
+    }
+}

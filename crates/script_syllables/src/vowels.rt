@@ -1,0 +1,111 @@
+//! Sequences of vowels that look like another vowel: a dotted circle parts them (OpenType, "Creating and supporting OpenType fonts for
+//! the Universal Shaping Engine", "Independent vowels that are not to be used with vowel signs").
+
+ghost use Rattle.std.specs.Prelude.{◌≡◌, ◌<◌, true, false, length, IfOk};
+ghost use Rattle.glyph_lists.specs.Clusters.{clusters};
+ghost use Rattle.shaping_buffer.specs.KeepsClusters.{KeepsClusters};
+
+use crate::dotted_circle::DOTTED_CIRCLE;
+use crate::vowel_sequences::third_vowel;
+use rb_glyph::{BufferFlags, CharExt, Flags, UnicodeProps};
+use shaping_buffer::{hb_buffer_t, hb_glyph_info_t};
+use std::alloc::AllocError;
+
+/// Puts a dotted circle before the last character of each sequence that looks like another vowel of the text's script. `Ok(false)` where
+/// the text would become too long.
+#[tactic(auto, using(shaping_buffer::proofs::ClosedKeepsLemmas::kept))]
+pub fn part_vowels(buffer: &mut hb_buffer_t) -> Result<bool, AllocError>
+    requires { buffer.old.have_output ≡ false }
+    ensures closed { IfOk result (λ done. done ≡ true → buffer.new.have_output ≡ false) }
+    ensures keeps { KeepsClusters buffer.old buffer.new }
+{
+    if buffer
+        .flags
+        .contains(BufferFlags::DO_NOT_INSERT_DOTTED_CIRCLE)
+    {
+        return Ok(true);
+    }
+    buffer.clear_output();
+    if !read_all(buffer)? {
+        return Ok(false);
+    }
+    buffer.sync()
+}
+
+/// Reads all characters, with the dotted circles.
+#[tactic(auto, using(shaping_buffer::proofs::ClosedKeepsLemmas::kept))]
+fn read_all(buffer: &mut hb_buffer_t) -> Result<bool, AllocError>
+    requires { buffer.old.have_output ≡ true }
+    ensures opened { IfOk result (λ _. buffer.new.have_output ≡ true) }
+    ensures keeps { KeepsClusters buffer.old buffer.new }
+{
+    for _turn in 0..buffer.len() {
+        if buffer.lookahead_len() == 0 {
+            break;
+        }
+        if !read_next(buffer)? {
+            return Ok(false);
+        }
+    }
+    Ok(true)
+}
+
+/// Reads a character, or a sequence with a dotted circle before its last character.
+#[tactic(auto, using(shaping_buffer::proofs::ClosedKeepsLemmas::kept))]
+fn read_next(buffer: &mut hb_buffer_t) -> Result<bool, AllocError>
+    requires opened { buffer.old.have_output ≡ true }
+    requires glyph { 0 < length buffer.old.input }
+    ensures opened { IfOk result (λ _. buffer.new.have_output ≡ true) }
+    ensures keeps { KeepsClusters buffer.old buffer.new }
+{
+    let Some(count) = sequence_length(buffer) else {
+        return buffer.next_glyph();
+    };
+    if count == 0 || count > buffer.lookahead_len() || !buffer.next_glyphs(count - 1)? {
+        return Ok(false);
+    }
+    if !buffer.output_glyph(DOTTED_CIRCLE)? {
+        return Ok(false);
+    }
+    begin_grapheme(buffer);
+    if buffer.lookahead_len() == 0 {
+        return Ok(true);
+    }
+    buffer.next_glyph()
+}
+
+/// How many characters the sequence at the cursor has; `None` where there is none.
+fn sequence_length(buffer: &hb_buffer_t) -> Option<usize> {
+    let infos = buffer.info();
+    let first = char::from_u32(infos.first()?.glyph_id)?;
+    let second = infos.get(1)?.glyph_id;
+    if buffer.script != Some(first.script()) {
+        return None;
+    }
+    match third_vowel(first, second)? {
+        None => Some(2),
+        Some(third) if infos.get(2)?.glyph_id == third as u32 => Some(3),
+        Some(_) => None,
+    }
+}
+
+/// Lets the last item that was put out begin a grapheme.
+fn begin_grapheme(buffer: &mut hb_buffer_t)
+    requires { buffer.old.have_output ≡ true }
+    ensures opened { buffer.new.have_output ≡ true }
+    ensures keeps { KeepsClusters buffer.old buffer.new }
+{
+    begin_with_last(buffer.out_info_mut());
+}
+
+/// Lets the last item begin a grapheme.
+#[tactic(auto, using(shaping_buffer::proofs::ClosedKeepsLemmas::clusters_written))]
+fn begin_with_last(infos: &mut [hb_glyph_info_t])
+    ensures { clusters infos.new ≡ clusters infos.old }
+{
+    if !infos.is_empty() {
+        let last = infos.len() - 1;
+        let properties = infos[last].unicode_props() & !UnicodeProps::CONTINUATION.bits();
+        infos[last].set_unicode_props(properties);
+    }
+}

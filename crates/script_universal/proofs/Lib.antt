@@ -1,0 +1,1 @@
+-- What is moved and numbered is proved by the lemmas of `script_syllables`: no lemma is needed here.

@@ -1,0 +1,5 @@
+-- The tags in the table are those of the definition, by computation.
+use Rattle.script_universal.proofs.universal.scripts.joins.Goals as goal
+
+pub returns : goal.returns
+returns c = c.is_one_of.ensures

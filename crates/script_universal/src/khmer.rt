@@ -1,0 +1,7 @@
+//! The shaper of Khmer (OpenType, "Developing OpenType Fonts for Khmer Script"): HarfBuzz's `hb-ot-shaper-khmer.cc`.
+
+pub mod composition;
+pub mod features;
+pub mod machine;
+mod order;
+pub mod plan;

@@ -1,0 +1,7 @@
+//! The shaper of Myanmar (OpenType, "Developing OpenType Fonts for Myanmar Script"): HarfBuzz's `hb-ot-shaper-myanmar.cc`.
+
+pub mod features;
+pub mod machine;
+mod order;
+pub mod plan;
+mod positions;

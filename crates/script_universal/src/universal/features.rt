@@ -1,0 +1,119 @@
+//! The features that scripts of the universal shaper ask for, in their stages (OpenType, "Creating and supporting OpenType fonts for the
+//! Universal Shaping Engine").
+
+ghost use Rattle.std.specs.Prelude.{◌≡◌, ◌++◌, IfOk};
+ghost use Rattle.script_universal.specs.Stages.{universal_pauses, universal_pauses_of_syllables, universal_pauses_of_records};
+
+use crate::universal::plan::{FormMasks, UniversalPlan};
+use ot_map::{FeatureFlags, LayoutPlan, Pause, PlanBuilder};
+use rb_common::Tag;
+use script_syllables::requests::add_all;
+use std::alloc::AllocError;
+
+/// The features of single letters, and whether every glyph has it.
+const LETTER_FEATURES: [(&[u8; 4], bool); 3] = [(b"locl", true), (b"ccmp", true), (b"nukt", true)];
+
+/// The basic features, all in one stage, and whether every glyph has it.
+const BASIC_FEATURES: [(&[u8; 4], bool); 7] = [
+    (b"rkrf", true),
+    (b"abvf", true),
+    (b"blwf", true),
+    (b"half", true),
+    (b"pstf", true),
+    (b"vatu", true),
+    (b"cjct", true),
+];
+
+/// The features of syllables by where they stand in a word, all in one stage, and whether every glyph has it.
+const FORM_FEATURES: [(&[u8; 4], bool); 4] = [
+    (b"isol", false),
+    (b"init", false),
+    (b"medi", false),
+    (b"fina", false),
+];
+
+/// The features after that, and whether every glyph has it.
+const OTHER_FEATURES: [(&[u8; 4], bool); 5] = [
+    (b"abvs", true),
+    (b"blws", true),
+    (b"haln", true),
+    (b"pres", true),
+    (b"psts", true),
+];
+
+/// A match ends with its syllable.
+const PER_SYLLABLE: FeatureFlags = FeatureFlags {
+    per_syllable: true,
+    ..FeatureFlags::NONE
+};
+
+/// An input passes over no joiner.
+const MANUAL_JOINER: FeatureFlags = FeatureFlags {
+    manual_zwj: true,
+    ..FeatureFlags::NONE
+};
+
+/// An input passes over no joiner, and ends with its syllable.
+const WITHIN_SYLLABLE: FeatureFlags = FeatureFlags {
+    per_syllable: true,
+    ..MANUAL_JOINER
+};
+
+/// Asks for the features, with the pauses at which syllables are found and reordered.
+pub fn collect_features(builder: &mut PlanBuilder) -> Result<(), AllocError>
+    ensures { IfOk result (λ _. builder.new.pauses.items ≡ builder.old.pauses.items ++ universal_pauses) }
+{
+    add_basic_features(builder)?;
+    add_all(builder, &FORM_FEATURES, FeatureFlags::NONE)?;
+    builder.add_gsub_pause(Pause::Nothing)?;
+    add_all(builder, &OTHER_FEATURES, MANUAL_JOINER)
+}
+
+/// Asks for the features of syllables.
+fn add_basic_features(builder: &mut PlanBuilder) -> Result<(), AllocError>
+    ensures { IfOk result (λ _. builder.new.pauses.items ≡ builder.old.pauses.items ++ universal_pauses_of_syllables) }
+{
+    builder.add_gsub_pause(Pause::SetUpSyllables)?;
+    add_all(builder, &LETTER_FEATURES, PER_SYLLABLE)?;
+    builder.enable_feature(Tag::from_bytes(b"akhn"), WITHIN_SYLLABLE)?;
+    add_recorded_features(builder)?;
+    add_all(builder, &BASIC_FEATURES, WITHIN_SYLLABLE)?;
+    builder.add_gsub_pause(Pause::InitialReordering)?;
+    builder.add_gsub_pause(Pause::Nothing)
+}
+
+/// Asks for the features of which it is noted where they have made a glyph.
+fn add_recorded_features(builder: &mut PlanBuilder) -> Result<(), AllocError>
+    ensures { IfOk result (λ _. builder.new.pauses.items ≡ builder.old.pauses.items ++ universal_pauses_of_records) }
+{
+    builder.add_gsub_pause(Pause::ClearSubstitutionFlags)?;
+    builder.add_feature(Tag::from_bytes(b"rphf"), WITHIN_SYLLABLE, 1)?;
+    builder.add_gsub_pause(Pause::RecordRphf)?;
+    builder.add_gsub_pause(Pause::ClearSubstitutionFlags)?;
+    builder.enable_feature(Tag::from_bytes(b"pref"), WITHIN_SYLLABLE)?;
+    builder.add_gsub_pause(Pause::RecordPref)
+}
+
+/// The plan for the features of a font. `joins` says whether the letters of the script join by themselves.
+pub fn plan(joins: bool, layout: &LayoutPlan) -> UniversalPlan {
+    let forms = if joins {
+        FormMasks::default()
+    } else {
+        FormMasks {
+            isol: form_mask(layout, b"isol"),
+            init: form_mask(layout, b"init"),
+            medi: form_mask(layout, b"medi"),
+            fina: form_mask(layout, b"fina"),
+        }
+    };
+    UniversalPlan {
+        rphf: layout.one_mask(Tag::from_bytes(b"rphf")),
+        forms,
+    }
+}
+
+/// The mask of a form; 0 where every glyph has it.
+fn form_mask(layout: &LayoutPlan, name: &[u8; 4]) -> u32 {
+    let mask = layout.one_mask(Tag::from_bytes(name));
+    if mask == layout.global_mask { 0 } else { mask }
+}

@@ -1,0 +1,115 @@
+//! How a text of the universal shaper is shaped by a font.
+
+ghost use Rattle.std.specs.Prelude.{◌≡◌, true, false, IfOk};
+ghost use Rattle.shaping_buffer.specs.KeepsClusters.{KeepsClusters};
+ghost use Rattle.script_syllables.specs.KeepsNumbers.{KeepsNumbers};
+
+use crate::universal::category::UniversalCategory;
+use crate::universal::item::mark_passed_over;
+use crate::universal::machine::universal_machine;
+use crate::universal::masks::{mask_forms, mask_rephs};
+use crate::universal::order::order_syllables;
+use crate::universal::recorded::{forget_substitutions, record_prefs, record_rephs};
+use script_syllables::dotted_circle::{CircleKind, insert_dotted_circles};
+use script_syllables::grammar::Grammar;
+use script_syllables::syllables::find_syllables;
+use script_syllables::{FontForms, Position, SyllablePause};
+use shaping_buffer::hb_buffer_t;
+use std::alloc::AllocError;
+
+/// The kind of syllables without a base.
+pub(crate) const BROKEN: u8 = 7;
+
+const CIRCLE: CircleKind = CircleKind {
+    category: UniversalCategory::Base as u8,
+    position: Position::Start,
+    repha: Some(UniversalCategory::Repha as u8),
+    broken: BROKEN,
+};
+
+/// How a text of the universal shaper is shaped by a font.
+#[derive(Clone, Copy, PartialEq, Eq, Debug, Default)]
+pub struct UniversalPlan {
+    /// The mask of rephs.
+    pub rphf: u32,
+    /// The masks of a syllable that stands alone, of the first of a word, of one within it and of the last; 0 where the font does not
+    /// have the feature, and all 0 where letters join by themselves.
+    pub forms: FormMasks,
+}
+
+/// The masks of syllables by where they stand in a word.
+#[derive(Clone, Copy, PartialEq, Eq, Debug, Default)]
+pub struct FormMasks {
+    /// Alone.
+    pub isol: u32,
+    /// The first.
+    pub init: u32,
+    /// Within the word.
+    pub medi: u32,
+    /// The last.
+    pub fina: u32,
+}
+
+impl FormMasks {
+    /// Those of all forms.
+    pub fn all(&self) -> u32 {
+        self.isol | self.init | self.medi | self.fina
+    }
+}
+
+impl UniversalPlan {
+    /// What is done at a pause. `Ok(false)` where the text would become too long.
+    #[tactic(auto, using(script_syllables::proofs::NumbersLemmas::numbered))]
+    pub fn pause<F: FontForms>(
+        &self,
+        buffer: &mut hb_buffer_t,
+        font: &F,
+        pause: SyllablePause,
+    ) -> Result<bool, AllocError>
+        requires { buffer.old.have_output ≡ false }
+        ensures closed { IfOk result (λ done. done ≡ true → buffer.new.have_output ≡ false) }
+        ensures keeps { KeepsNumbers buffer.old buffer.new }
+    {
+        match pause {
+            SyllablePause::SetUp => self.setup_syllables(buffer),
+            SyllablePause::ForgetSubstitutions => forget_substitutions(buffer),
+            SyllablePause::RecordRphf => record_rephs(buffer, self.rphf),
+            SyllablePause::RecordPref => record_prefs(buffer),
+            SyllablePause::InitialReordering => return reordering(buffer, font),
+            SyllablePause::FinalReordering => {}
+        }
+        Ok(true)
+    }
+
+    /// Finds the syllables, before the first lookups.
+    #[tactic(auto, using(shaping_buffer::proofs::ClosedKeepsLemmas::kept))]
+    fn setup_syllables(&self, buffer: &mut hb_buffer_t)
+        requires { buffer.old.have_output ≡ false }
+        ensures closed { buffer.new.have_output ≡ false }
+        ensures keeps { KeepsClusters buffer.old buffer.new }
+    {
+        let grammar = Grammar {
+            machine: universal_machine(),
+            broken: BROKEN,
+            passes_over: true,
+        };
+        mark_passed_over(buffer);
+        find_syllables(buffer, &grammar);
+        mask_rephs(buffer, self.rphf);
+        mask_forms(buffer, &self.forms);
+    }
+}
+
+/// Puts the glyphs of each syllable in order.
+#[tactic(auto, using(script_syllables::proofs::NumbersLemmas::numbered))]
+fn reordering<F: FontForms>(buffer: &mut hb_buffer_t, font: &F) -> Result<bool, AllocError>
+    requires { buffer.old.have_output ≡ false }
+    ensures closed { IfOk result (λ done. done ≡ true → buffer.new.have_output ≡ false) }
+    ensures keeps { KeepsNumbers buffer.old buffer.new }
+{
+    if !insert_dotted_circles(buffer, font, CIRCLE)? {
+        return Ok(false);
+    }
+    order_syllables(buffer);
+    Ok(true)
+}

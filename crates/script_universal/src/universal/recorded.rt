@@ -1,0 +1,109 @@
+//! What became of glyphs by the features of rephs and of forms that stand in front: the glyphs are sorted anew.
+
+ghost use Rattle.std.specs.Prelude.{◌≡◌, false};
+ghost use Rattle.glyph_lists.specs.Clusters.{clusters};
+ghost use Rattle.shaping_buffer.specs.KeepsClusters.{KeepsClusters};
+
+use crate::universal::category::UniversalCategory;
+use crate::universal::item::set;
+use rb_glyph::{Flags, GlyphPropsFlags};
+use script_syllables::item::is_substituted;
+use script_syllables::syllables::syllable_end;
+use shaping_buffer::{hb_buffer_t, hb_glyph_info_t};
+
+/// Forgets which glyphs lookups put there.
+pub(crate) fn forget_substitutions(buffer: &mut hb_buffer_t)
+    requires { buffer.old.have_output ≡ false }
+    ensures closed { buffer.new.have_output ≡ false }
+    ensures keeps { KeepsClusters buffer.old buffer.new }
+{
+    forget_all(buffer.info_slice_mut());
+}
+
+/// Does that in a list.
+#[tactic(auto, using(shaping_buffer::proofs::ClosedKeepsLemmas::clusters_written))]
+fn forget_all(infos: &mut [hb_glyph_info_t])
+    ensures { clusters infos.new ≡ clusters infos.old }
+{
+    for place in 0..infos.len() {
+        let kept = infos[place].glyph_props() & !GlyphPropsFlags::SUBSTITUTED.bits();
+        infos[place].set_glyph_props(kept);
+    }
+}
+
+/// Takes the first glyph of each syllable that the feature `rphf` put there for a reph. `mask` is that of the feature.
+pub(crate) fn record_rephs(buffer: &mut hb_buffer_t, mask: u32)
+    requires { buffer.old.have_output ≡ false }
+    ensures closed { buffer.new.have_output ≡ false }
+    ensures keeps { KeepsClusters buffer.old buffer.new }
+{
+    record_all_rephs(buffer.info_slice_mut(), mask);
+}
+
+/// Does that in a list.
+fn record_all_rephs(infos: &mut [hb_glyph_info_t], mask: u32)
+    ensures { clusters infos.new ≡ clusters infos.old }
+{
+    let mut start = 0;
+    for _turn in 0..infos.len() {
+        if start >= infos.len() {
+            break;
+        }
+        let end = syllable_end(infos, start);
+        record_reph(infos, start, end, mask);
+        start = end;
+    }
+}
+
+/// Takes the first of the items with a mask at the start of a syllable that a lookup put there for a reph.
+#[tactic(auto, using(shaping_buffer::proofs::ClosedKeepsLemmas::clusters_written))]
+fn record_reph(infos: &mut [hb_glyph_info_t], start: usize, end: usize, mask: u32)
+    ensures { clusters infos.new ≡ clusters infos.old }
+{
+    for place in start..end.min(infos.len()) {
+        if infos[place].mask & mask == 0 {
+            return;
+        }
+        if is_substituted(&infos[place]) {
+            set(&mut infos[place], UniversalCategory::Repha);
+            return;
+        }
+    }
+}
+
+/// Takes the first glyph of each syllable that the feature `pref` put there for a vowel sign in front.
+pub(crate) fn record_prefs(buffer: &mut hb_buffer_t)
+    requires { buffer.old.have_output ≡ false }
+    ensures closed { buffer.new.have_output ≡ false }
+    ensures keeps { KeepsClusters buffer.old buffer.new }
+{
+    record_all_prefs(buffer.info_slice_mut());
+}
+
+/// Does that in a list.
+fn record_all_prefs(infos: &mut [hb_glyph_info_t])
+    ensures { clusters infos.new ≡ clusters infos.old }
+{
+    let mut start = 0;
+    for _turn in 0..infos.len() {
+        if start >= infos.len() {
+            break;
+        }
+        let end = syllable_end(infos, start);
+        record_pref(infos, start, end);
+        start = end;
+    }
+}
+
+/// Takes the first item of a syllable that a lookup put there for a vowel sign in front.
+#[tactic(auto, using(shaping_buffer::proofs::ClosedKeepsLemmas::clusters_written))]
+fn record_pref(infos: &mut [hb_glyph_info_t], start: usize, end: usize)
+    ensures { clusters infos.new ≡ clusters infos.old }
+{
+    for place in start..end.min(infos.len()) {
+        if is_substituted(&infos[place]) {
+            set(&mut infos[place], UniversalCategory::VowelPre);
+            return;
+        }
+    }
+}

@@ -1,9 +1,0 @@
-use Rattle.syllabic_shapers.proofs.NumbersLemmas.{numbers_put_behind}
-use Rattle.syllabic_shapers.proofs.dotted_circle.put_circle.Goals as goal
-
-pub returns-clause-keeps : goal.returns-clause-keeps
-returns-clause-keeps c =
-    numbers_put_behind c.args.rephs c.circle_at-info.result c.cur.result.now c.in_ok-next_glyphs.field-0
-    c.args.buffer.now c.next_glyphs.new.self c.output_info.new.self c.output_info.result c.requires.opened
-    c.requires.glyph c.cur.ensures c.circle_at-info.ensures c.in_ok-next_glyphs.ensures.meets c.if-not-branch.false
-    c.output_info.ensures.meets

@@ -1,6 +1,0 @@
-use Rattle.std.proofs.Common.{◌≡◌, true}
-use Rattle.syllabic_shapers.specs.KeepsNumbers.{KeepsNumbers}
-use Rattle.syllabic_shapers.proofs.dotted_circle.put_circles.Given as goal
-
-abbrev pub invariant-loop-turn : goal.invariant-loop-turn
-invariant-loop-turn l = (l.buffer.have_output ≡ true) × KeepsNumbers l.fn.buffer l.buffer

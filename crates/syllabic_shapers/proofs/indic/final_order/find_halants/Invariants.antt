@@ -1,6 +1,0 @@
-use Rattle.std.proofs.Common.{◌≡◌}
-use Rattle.glyph_lists.specs.Clusters.{clusters}
-use Rattle.syllabic_shapers.proofs.indic.final_order.find_halants.Given as goal
-
-abbrev pub invariant-loop-place : goal.invariant-loop-place
-invariant-loop-place l = clusters l.syllable ≡ clusters l.fn.syllable

@@ -1,9 +1,0 @@
-use Rattle.syllabic_shapers.proofs.NumbersLemmas.{numbers_then, numbers_of_keeps}
-use Rattle.syllabic_shapers.proofs.indic.final_order.order_syllable.Goals as goal
-
-pub returns-clause-keeps : goal.returns-clause-keeps
-returns-clause-keeps c =
-    numbers_then _ _ _ (numbers_of_keeps _ _ c.find_base-base.ensures.keeps)
-    (numbers_then _ _ _ c.move_matras-place.ensures.keeps
-    (numbers_then _ _ _ c.move_reph-place.ensures.keeps
-    (numbers_then _ _ _ c.move_pref.ensures.keeps (numbers_of_keeps _ _ c.mark_start_of_word.ensures.keeps))))

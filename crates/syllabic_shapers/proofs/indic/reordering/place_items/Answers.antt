@@ -1,7 +1,0 @@
-use Rattle.syllabic_shapers.proofs.NumbersLemmas.{numbers_with_input}
-use Rattle.syllabic_shapers.proofs.indic.reordering.place_items.Goals as goal
-
-pub returns-clause-keeps : goal.returns-clause-keeps
-returns-clause-keeps c =
-    numbers_with_input c.args.buffer.now c.place_in.new.infos c.info_slice_mut.result.now c.info_slice_mut.ensures.value
-    c.place_in.ensures

@@ -1,6 +1,0 @@
-use Rattle.std.proofs.Common.{◌≡◌, false}
-use Rattle.syllabic_shapers.specs.KeepsNumbers.{KeepsNumbers}
-use Rattle.syllabic_shapers.proofs.universal.order.move_fronts.Given as goal
-
-abbrev pub invariant-loop-place : goal.invariant-loop-place
-invariant-loop-place l = (l.buffer.have_output ≡ false) × KeepsNumbers l.fn.buffer l.buffer

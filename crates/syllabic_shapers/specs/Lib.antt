@@ -1,4 +1,0 @@
-pub mod Composition
-pub mod KeepsNumbers
-pub mod Moves
-pub mod Placed

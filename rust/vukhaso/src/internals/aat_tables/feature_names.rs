@@ -1,0 +1,153 @@
+// Written by tools/plain_rust from crates/aat_tables. Do not edit.
+
+//! The table `feat`: the features of a font, by their types, and the settings of each (Apple's TrueType Reference Manual, "The
+//! 'feat' table").
+
+use crate::aat_tables::glyph_rows::GlyphRows;
+use crate::font_tables::bytes::{tail, u16_at, u32_at};
+use crate::font_tables::rows::rows_within;
+
+/// The bit of a feature's flags that says that of its settings one alone is on.
+const EXCLUSIVE: u16 = 0x8000;
+
+/// The bit of a feature's flags that says that they name the setting which is on by default.
+const NOT_DEFAULT: u16 = 0x4000;
+
+/// A feature of a font.
+#[derive(Clone, Copy, PartialEq, Eq, Debug)]
+pub struct FeatureName<'a> {
+    /// How many settings it has.
+    pub setting_count: u16,
+    /// Its settings, four bytes each.
+    pub settings: &'a [u8],
+    /// Its flags.
+    pub flags: u16,
+}
+
+impl FeatureName<'_> {
+    /// Whether of its settings one alone is on. Those of another feature come in pairs: an even one turns
+    /// something on, and the odd one behind it off.
+    ///
+    /// # Proved
+    ///
+    /// ```text
+    /// ensures { result ≡ is_exclusive self.now.flags }
+    /// ```
+    #[inline]
+    pub fn is_exclusive(&self) -> bool {
+        self.flags >= EXCLUSIVE
+    }
+
+    /// The setting at a place; `None` where there is none.
+    ///
+    /// # Proved
+    ///
+    /// ```text
+    /// ensures { IfSome result (λ setting. number_16 self.now.settings.now (4 * place) ≡ Some setting) }
+    /// ```
+    #[inline]
+    pub fn setting(&self, place: u16) -> Option<u16> {
+        if place < self.setting_count {
+            u16_at(self.settings, 4 * usize::from(place))
+        } else {
+            None
+        }
+    }
+
+    /// The place of the setting that is on by default, where one alone is on.
+    ///
+    /// # Proved
+    ///
+    /// ```text
+    /// ensures { result ≡ default_place self.now.flags }
+    /// ```
+    #[inline]
+    pub fn default_place(&self) -> u16 {
+        if self.flags / NOT_DEFAULT % 2 == 1 {
+            self.flags % 256
+        } else {
+            0
+        }
+    }
+}
+
+/// The features of a font.
+#[derive(Clone, Copy, Debug)]
+pub struct FeatureNames<'a> {
+    /// The bytes of the table.
+    pub table: &'a [u8],
+}
+
+impl<'a> FeatureNames<'a> {
+    /// The features of a table `feat`.
+    ///
+    /// # Proved
+    ///
+    /// ```text
+    /// ensures { result.table.now ≡ table.now }
+    /// ```
+    #[inline]
+    pub fn new(table: &'a [u8]) -> Self {
+        FeatureNames { table }
+    }
+
+    /// Whether the table is there, with the version 1.
+    ///
+    /// # Proved
+    ///
+    /// That it returns.
+    #[inline]
+    pub fn is_there(&self) -> bool {
+        u16_at(self.table, 0) == Some(1)
+    }
+
+    /// The feature of a type, which is found by bisection: rows rise by their types. `None` where the font
+    /// does not have it, or no setting of it.
+    ///
+    /// # Proved
+    ///
+    /// ```text
+    /// ensures { IfSome result (λ feature. (row : ℕ) × ((feature_type self.now.table.now row ≡ Some kind)
+    ///     × ((feature.setting_count ≡ setting_count self.now.table.now row)
+    ///     × ((feature.settings.now ≡ settings_of self.now.table.now row)
+    ///     × (feature.flags ≡ flags_of self.now.table.now row))))) }
+    /// ```
+    #[inline]
+    pub fn feature(&self, kind: u16) -> Option<FeatureName<'a>> {
+        if !self.is_there() {
+            return None;
+        }
+        let row = self.rows().row_of(kind)?;
+        let feature = self.feature_in_row(row);
+        if feature.setting_count == 0 {
+            return None;
+        }
+        Some(feature)
+    }
+
+    /// The rows of the table: their types are looked for as glyphs are.
+    fn rows(&self) -> GlyphRows<'a> {
+        let declared = usize::from(u16_at(self.table, 4).unwrap_or(0));
+        GlyphRows {
+            table: self.table,
+            size: 12,
+            skip: 0,
+            count: rows_within(self.table, 12, 12, declared) as u16,
+        }
+    }
+
+    /// The feature in a row.
+    ///
+    /// # Requires
+    ///
+    /// - `row < 65536`
+    fn feature_in_row(&self, row: usize) -> FeatureName<'a> {
+        debug_assert!(row < 65536);
+        let at = 12 + 12 * row;
+        FeatureName {
+            setting_count: u16_at(self.table, at + 2).unwrap_or(0),
+            settings: tail(self.table, u32_at(self.table, at + 4).unwrap_or(0) as usize),
+            flags: u16_at(self.table, at + 8).unwrap_or(0),
+        }
+    }
+}

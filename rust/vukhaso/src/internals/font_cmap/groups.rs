@@ -1,0 +1,144 @@
+// Written by tools/plain_rust from crates/font_cmap. Do not edit.
+
+//! Groups of codes, each with its first and last code and a glyph (OpenType specification, `cmap`, "Format 12" and
+//! "Format 13").
+
+use crate::font_cmap::arrays::some_glyph;
+use crate::font_cmap::counts::count_32;
+use crate::font_cmap::runs::{Beside, CodeRows, FIRST_COUNT, row_run};
+use crate::font_tables::bisection::{KeyedRows, row_with};
+use crate::font_tables::bytes::u32_at;
+use core::cmp::Ordering;
+
+/// The groups of a subtable.
+#[derive(Clone, Copy)]
+struct Groups<'a>(&'a [u8]);
+
+///
+/// # Proved
+///
+/// ```text
+/// ghost beside_of = { λ groups code row. beside_group groups.0.now code row }
+/// ```
+impl KeyedRows for Groups<'_> {
+    #[inline(always)]
+    fn beside(&self, code: u32, row: usize) -> Option<Ordering> {
+        self.beside_run(code, row).order
+    }
+}
+
+///
+/// # Proved
+///
+/// ```text
+/// ghost place_of = { λ groups code row. beside_group groups.0.now code row }
+/// ```
+impl CodeRows for Groups<'_> {
+    #[inline(always)]
+    fn beside_run(&self, code: u32, row: usize) -> Beside {
+        let outside = Beside {
+            order: None,
+            last: u32::MAX,
+        };
+        if row >= self.0.len() / 12 {
+            return outside;
+        }
+        let Some(start) = u32_at(self.0, 16 + 12 * row) else {
+            return outside;
+        };
+        if code < start {
+            return Beside {
+                order: Some(Ordering::Less),
+                last: start - 1,
+            };
+        }
+        match u32_at(self.0, 20 + 12 * row) {
+            None => outside,
+            Some(end) if end < code => Beside {
+                order: Some(Ordering::Greater),
+                last: u32::MAX,
+            },
+            Some(end) => Beside {
+                order: Some(Ordering::Equal),
+                last: end,
+            },
+        }
+    }
+}
+
+/// How many groups there are.
+fn group_count(table: &[u8]) -> usize {
+    count_32(table, 12)
+}
+
+/// The glyph that a group gives to a code that it reaches.
+fn glyph_in_group(format: u16, code: u32, start: u32, glyph: u32) -> Option<u16> {
+    if code < start {
+        None
+    } else if format == 12 {
+        some_glyph(u64::from(glyph) + u64::from(code - start))
+    } else {
+        some_glyph(u64::from(glyph))
+    }
+}
+
+/// A group: its first code, and the glyph of that.
+#[derive(Clone, Copy, Debug)]
+struct Group {
+    start: u32,
+    glyph: u32,
+}
+
+/// The group of a row.
+fn group_of(table: &[u8], row: usize) -> Option<Group> {
+    if row < table.len() / 12 {
+        let start = u32_at(table, 16 + 12 * row)?;
+        let glyph = u32_at(table, 24 + 12 * row)?;
+        Some(Group { start, glyph })
+    } else {
+        None
+    }
+}
+
+/// The glyph of a code by format 12 or 13.
+pub(crate) fn groups_glyph(table: &[u8], format: u16, code: u32) -> Option<u16> {
+    let row = row_with(&Groups(table), group_count(table), code)?;
+    let group = group_of(table, row)?;
+    glyph_in_group(format, code, group.start, group.glyph)
+}
+
+/// The group that codes have, from one on up to `last`.
+#[derive(Clone, Copy, Debug)]
+struct GroupRun {
+    group: Option<Group>,
+    last: u32,
+}
+
+/// The group of a code and of those behind it.
+fn group_run(table: &[u8], code: u32) -> GroupRun {
+    let run = row_run(&Groups(table), group_count(table), code);
+    let group = match run.row {
+        Some(row) => group_of(table, row),
+        None => None,
+    };
+    GroupRun {
+        group,
+        last: run.last,
+    }
+}
+
+/// The glyphs of the first codes by format 12 or 13.
+pub(crate) fn first_groups_glyphs(table: &[u8], format: u16) -> [Option<u16>; FIRST_COUNT] {
+    let mut glyphs = [None; FIRST_COUNT];
+    let mut run = group_run(table, 0);
+    for code in 0..FIRST_COUNT {
+        if run.last < code as u32 {
+            run = group_run(table, code as u32);
+        }
+        glyphs[code] = match &run.group {
+            Some(group) => glyph_in_group(format, code as u32, group.start, group.glyph),
+            None => None,
+        };
+    }
+    glyphs
+}

@@ -1,0 +1,44 @@
+// Written by tools/plain_rust from crates/font_colors. Do not edit.
+
+//! The box of a bitmap, in pixels.
+
+use crate::font_variations::rounding::{float, rounded};
+use crate::glyph::GlyphExtents;
+
+/// The box of a bitmap.
+#[derive(Clone, Copy, Debug)]
+pub struct PixelBox {
+    /// The box, in pixels.
+    pub extents: GlyphExtents,
+    /// How many pixels an em has across.
+    pub x_ppem: u16,
+    /// How many pixels an em has upwards.
+    pub y_ppem: u16,
+}
+
+impl PixelBox {
+    /// The box in font units, of which an em has so many: each number is the nearest one, and the greater
+    /// one between two.
+    ///
+    /// # Proved
+    ///
+    /// ```text
+    /// ensures { result ≡ in_units self.now units_per_em }
+    /// ```
+    #[inline]
+    pub fn in_units(&self, units_per_em: u16) -> GlyphExtents {
+        let extents = &self.extents;
+        GlyphExtents {
+            x_bearing: units(units_per_em, self.x_ppem, extents.x_bearing),
+            y_bearing: units(units_per_em, self.y_ppem, extents.y_bearing),
+            width: units(units_per_em, self.x_ppem, extents.width),
+            height: units(units_per_em, self.y_ppem, extents.height),
+        }
+    }
+}
+
+/// So many pixels in font units.
+fn units(units_per_em: u16, ppem: u16, pixels: i32) -> i32 {
+    let pixel = float(i32::from(units_per_em)) / float(i32::from(ppem));
+    rounded(float(pixels) * pixel)
+}

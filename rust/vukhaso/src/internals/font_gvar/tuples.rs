@@ -1,0 +1,113 @@
+// Written by tools/plain_rust from crates/font_gvar. Do not edit.
+
+//! The tuples of a glyph's variations: each a part of the space of variations, with deltas of points (OpenType specification,
+//! "OpenType Font Variations Common Table Formats", "Tuple variation store").
+
+use crate::font_gvar::flags::has_flag;
+use crate::font_gvar::gvar::GlyphVariations;
+use crate::font_gvar::packed_points::PackedPoints;
+use crate::font_tables::bytes::{part, tail, u16_at};
+
+/// The tuples of a glyph, which are read one after the other.
+#[derive(Clone, Copy, Debug)]
+pub(crate) struct Tuples<'a> {
+    /// The points that tuples without points of their own are for.
+    shared_points: PackedPoints<'a>,
+    /// The headers that are not read yet.
+    headers: &'a [u8],
+    /// Their deltas.
+    data: &'a [u8],
+    /// How many tuples are not read yet.
+    left: u16,
+    /// How many coordinates a tuple has.
+    axis_count: u16,
+}
+
+/// A tuple of a glyph's variations.
+#[derive(Clone, Copy, Debug)]
+pub(crate) struct Tuple<'a> {
+    /// Its flags, and the number of a shared tuple of coordinates.
+    pub flags: u16,
+    /// Its own tuples of coordinates.
+    pub coordinates: &'a [u8],
+    /// The points that it is for, unless it has points of its own.
+    pub shared_points: PackedPoints<'a>,
+    /// Its points, where it has its own, and its deltas; `None` where they do not lie in the variations of the glyph.
+    pub data: Option<&'a [u8]>,
+}
+
+impl Tuple<'_> {
+    /// Whether its peak is a tuple of its own.
+    pub(crate) fn has_peak(&self) -> bool {
+        self.flags >= OWN_PEAK
+    }
+
+    /// Whether it has tuples of its own for where it begins and ends.
+    pub(crate) fn has_ends(&self) -> bool {
+        has_flag(self.flags, OWN_ENDS)
+    }
+
+    /// Whether it has points of its own.
+    pub(crate) fn has_points(&self) -> bool {
+        has_flag(self.flags, OWN_POINTS)
+    }
+}
+
+const OWN_PEAK: u16 = 0x8000;
+
+const OWN_ENDS: u16 = 0x4000;
+
+const OWN_POINTS: u16 = 0x2000;
+
+impl<'a> Tuples<'a> {
+    /// The tuples of a glyph's variations; `None` where there are none, or the points that they share are
+    /// broken.
+    pub(crate) fn new(variations: &GlyphVariations<'a>, bytes: &'a [u8]) -> Option<Self> {
+        let count = u16_at(bytes, 0)?;
+        let data = tail(bytes, usize::from(u16_at(bytes, 2)?));
+        let (shared_points, data) = if count >= 0x8000 {
+            let points = PackedPoints::new(data)?;
+            (points, points.behind()?)
+        } else {
+            (PackedPoints::NONE, data)
+        };
+        Some(Tuples {
+            shared_points,
+            headers: tail(bytes, 4),
+            data,
+            left: count % 0x1000,
+            axis_count: variations.axis_count,
+        })
+    }
+
+    /// The next tuple; `None` where there is none, or its header does not lie in the variations.
+    pub(crate) fn next(&mut self) -> Option<Tuple<'a>> {
+        if self.left == 0 {
+            return None;
+        }
+        let size = usize::from(u16_at(self.headers, 0)?);
+        let flags = u16_at(self.headers, 2)?;
+        let own = own_size(self.axis_count, flags);
+        if self.headers.len() < size.max(4 + own) {
+            return None;
+        }
+        let data = part(self.data, 0, size);
+        let tuple = Tuple {
+            flags,
+            coordinates: part(self.headers, 4, own),
+            shared_points: self.shared_points,
+            data: if data.len() == size { Some(data) } else { None },
+        };
+        self.headers = tail(self.headers, 4 + own);
+        self.data = tail(self.data, size);
+        self.left -= 1;
+        Some(tuple)
+    }
+}
+
+/// How many bytes the own tuples of coordinates have, by the flags of a tuple.
+fn own_size(axis_count: u16, flags: u16) -> usize {
+    let peak = if flags >= OWN_PEAK { 1 } else { 0 };
+    let ends = if has_flag(flags, OWN_ENDS) { 2 } else { 0 };
+    2 * usize::from(axis_count) * (peak + ends)
+}

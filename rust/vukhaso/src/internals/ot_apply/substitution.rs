@@ -1,0 +1,359 @@
+// Written by tools/plain_rust from crates/ot_apply. Do not edit.
+
+//! The lookups that substitute glyphs, applied to a text stage by stage, and what the shaper of its script does between two stages.
+
+use crate::aat_substitution::{ChainFlags, Substitution, remove_deleted_glyphs};
+use crate::buffer::hb_buffer_t;
+use crate::font_face::Face;
+use crate::font_functions::FontFunctions;
+use crate::font_tables::gdef::Gdef;
+use crate::memory::AllocError;
+use crate::ot_apply::cluster_order::ClusterCourse;
+use crate::ot_apply::forms_of_font::work_on_syllables;
+use crate::ot_apply::joined_syllables::keep_joined;
+use crate::ot_apply::lookups::{budget_of, options_of};
+use crate::ot_apply::watch::{Step, Watch};
+use crate::ot_gsub::{Progress, Substitutions};
+use crate::ot_layout::lookup_list::SUBSTITUTION_EXTENSION;
+use crate::ot_layout::{Digest, LookupList, LookupOptions};
+use crate::ot_map::{Pause, PlannedLookup};
+use crate::ot_plan::TextPlan;
+use crate::script_joining::FallbackLookups;
+use crate::script_syllables::SyllablePause;
+
+/// Applies the lookups of `GSUB`, stage by stage, and lets clusters run as they ran before, also where
+/// the shaper of the script puts the glyphs of syllables in another order.
+///
+/// # Requires
+///
+/// - `buffer.old.have_output ≡ false`
+///
+/// # Errors
+///
+/// `Ok(false)` where a call was refused for length. `Err(AllocError)` where memory ran out.
+///
+/// # Proved
+///
+/// ```text
+/// ensures closed { IfOk result (λ done. done ≡ true → buffer.new.have_output ≡ false) }
+/// ensures keeps { IfOk result (λ done. done ≡ true → KeepsClusters buffer.old buffer.new) }
+/// ```
+#[inline]
+pub fn substitute<F: FontFunctions, W: Watch>(
+    buffer: &mut hb_buffer_t,
+    face: &Face,
+    font: &F,
+    plan: &TextPlan,
+    watch: &mut W,
+) -> Result<bool, AllocError> {
+    debug_assert!(!buffer.have_output());
+    if let Some(flags) = &plan.chain_flags {
+        return substitute_by_morx(buffer, face, flags, plan.shape.apply_gpos);
+    }
+    substitute_by_gsub(buffer, face, font, plan, watch)
+}
+
+/// Substitutes glyphs by Apple's table `morx`. Those that it deletes are taken out at once where `GPOS`
+/// is to position the glyphs.
+///
+/// # Requires
+///
+/// - `buffer.old.have_output ≡ false`
+///
+/// # Errors
+///
+/// `Ok(false)` where a call was refused for length.
+fn substitute_by_morx(
+    buffer: &mut hb_buffer_t,
+    face: &Face,
+    flags: &ChainFlags,
+    removes_deleted: bool,
+) -> Result<bool, AllocError> {
+    debug_assert!(!buffer.have_output());
+    let substitution = Substitution {
+        table: &face.lookups.morx,
+        flags,
+        gdef: &face.gdef,
+    };
+    if !crate::aat_substitution::substitute(buffer, &substitution)? {
+        return Ok(false);
+    }
+    remove_deleted(buffer, removes_deleted);
+    Ok(true)
+}
+
+/// Takes out glyphs that were deleted, where this is said.
+///
+/// # Requires
+///
+/// - `buffer.old.have_output ≡ false`
+fn remove_deleted(buffer: &mut hb_buffer_t, removes: bool) {
+    debug_assert!(!buffer.have_output());
+    if removes {
+        remove_deleted_glyphs(buffer);
+    }
+}
+
+/// Applies the lookups of `GSUB`, stage by stage, with what the shaper of the script does between them.
+///
+/// # Requires
+///
+/// - `buffer.old.have_output ≡ false`
+///
+/// # Errors
+///
+/// `Ok(false)` where a call was refused for length.
+fn substitute_by_gsub<F: FontFunctions, W: Watch>(
+    buffer: &mut hb_buffer_t,
+    face: &Face,
+    font: &F,
+    plan: &TextPlan,
+    watch: &mut W,
+) -> Result<bool, AllocError> {
+    debug_assert!(!buffer.have_output());
+    if !plan.orders_syllables() {
+        return apply_stages(buffer, face, font, plan, watch);
+    }
+    let course = ClusterCourse::of(buffer);
+    if !apply_stages(buffer, face, font, plan, watch)? {
+        return Ok(false);
+    }
+    course.restore(buffer);
+    Ok(true)
+}
+
+/// Applies the lookups of all stages, with what is done between them.
+///
+/// # Requires
+///
+/// - `buffer.old.have_output ≡ false`
+///
+/// # Errors
+///
+/// `Ok(false)` where a call was refused for length.
+fn apply_stages<F: FontFunctions, W: Watch>(
+    buffer: &mut hb_buffer_t,
+    face: &Face,
+    font: &F,
+    plan: &TextPlan,
+    watch: &mut W,
+) -> Result<bool, AllocError> {
+    debug_assert!(!buffer.have_output());
+    let mut progress = Progress::new(budget_of(buffer));
+    let mut glyphs = Digest::of_glyphs(buffer.info());
+    let mut start = 0;
+    for stage in &plan.shape.layout.stages {
+        let lookups = &plan.shape.layout.gsub_lookups;
+        let lookups = lookups.get(start..stage.end).unwrap_or(&[]);
+        keep_joined(buffer, face, plan, lookups);
+        if !apply_stage(buffer, face, lookups, &mut glyphs, &mut progress, watch)? {
+            return Ok(false);
+        }
+        if !pause(buffer, face, font, plan, stage.pause, &mut progress)? {
+            return Ok(false);
+        }
+        if stage.pause != Pause::Nothing {
+            glyphs = Digest::of_glyphs(buffer.info());
+        }
+        start = stage.end;
+    }
+    Ok(true)
+}
+
+/// Applies the lookups of a stage.
+///
+/// # Requires
+///
+/// - `buffer.old.have_output ≡ false`
+///
+/// # Errors
+///
+/// `Ok(false)` where a call was refused for length.
+fn apply_stage<W: Watch>(
+    buffer: &mut hb_buffer_t,
+    face: &Face,
+    lookups: &[PlannedLookup],
+    glyphs: &mut Digest,
+    progress: &mut Progress,
+    watch: &mut W,
+) -> Result<bool, AllocError> {
+    debug_assert!(!buffer.have_output());
+    for planned in lookups {
+        if !apply_planned(buffer, face, planned, glyphs, progress)? {
+            return Ok(false);
+        }
+        watch.step(Step::Substituted(planned.index), buffer)?;
+    }
+    Ok(true)
+}
+
+/// Applies a lookup of the plan if it may be for one of the glyphs, and where it changed some sees
+/// which there are now.
+///
+/// # Requires
+///
+/// - `buffer.old.have_output ≡ false`
+///
+/// # Errors
+///
+/// `Ok(false)` where a call was refused for length.
+#[inline(always)]
+fn apply_planned(
+    buffer: &mut hb_buffer_t,
+    face: &Face,
+    planned: &PlannedLookup,
+    glyphs: &mut Digest,
+    progress: &mut Progress,
+) -> Result<bool, AllocError> {
+    debug_assert!(!buffer.have_output());
+    if !face.lookups.substitutions.may_apply(planned.index, glyphs) {
+        return Ok(true);
+    }
+    let substitutions = Substitutions {
+        list: &face.lookups.substitutions,
+        gdef: &face.gdef,
+        options: options_of(planned),
+    };
+    if !crate::ot_gsub::substitute(buffer, &substitutions, planned.index, progress)? {
+        return Ok(false);
+    }
+    if progress.has_changed {
+        progress.has_changed = false;
+        *glyphs = Digest::of_glyphs(buffer.info());
+    }
+    Ok(true)
+}
+
+/// What is done after a stage.
+///
+/// # Requires
+///
+/// - `buffer.old.have_output ≡ false`
+///
+/// # Errors
+///
+/// `Ok(false)` where a call was refused for length.
+fn pause<F: FontFunctions>(
+    buffer: &mut hb_buffer_t,
+    face: &Face,
+    font: &F,
+    plan: &TextPlan,
+    pause: Pause,
+    progress: &mut Progress,
+) -> Result<bool, AllocError> {
+    debug_assert!(!buffer.have_output());
+    match pause {
+        Pause::RecordStch => {
+            plan.script.record_stch(buffer);
+            Ok(true)
+        }
+        Pause::ArabicFallback => join_by_fallback(buffer, face, plan, progress),
+        Pause::SetUpSyllables => work_on_syllables(buffer, face, font, plan, SyllablePause::SetUp),
+        Pause::InitialReordering => {
+            work_on_syllables(buffer, face, font, plan, SyllablePause::InitialReordering)
+        }
+        Pause::FinalReordering => {
+            work_on_syllables(buffer, face, font, plan, SyllablePause::FinalReordering)
+        }
+        Pause::ClearSubstitutionFlags => {
+            work_on_syllables(buffer, face, font, plan, SyllablePause::ForgetSubstitutions)
+        }
+        Pause::RecordRphf => work_on_syllables(buffer, face, font, plan, SyllablePause::RecordRphf),
+        Pause::RecordPref => work_on_syllables(buffer, face, font, plan, SyllablePause::RecordPref),
+        Pause::Nothing => Ok(true),
+    }
+}
+
+/// Joins Arabic letters of a font that has their forms as characters, and no features for them.
+///
+/// # Requires
+///
+/// - `buffer.old.have_output ≡ false`
+///
+/// # Errors
+///
+/// `Ok(false)` where a call was refused for length.
+fn join_by_fallback(
+    buffer: &mut hb_buffer_t,
+    face: &Face,
+    plan: &TextPlan,
+    progress: &mut Progress,
+) -> Result<bool, AllocError> {
+    debug_assert!(!buffer.have_output());
+    match &plan.fallback {
+        Some(fallback) => apply_fallback(buffer, face, fallback, progress),
+        None => Ok(true),
+    }
+}
+
+/// Applies the lookups of a fallback.
+///
+/// # Requires
+///
+/// - `buffer.old.have_output ≡ false`
+///
+/// # Errors
+///
+/// `Ok(false)` where a call was refused for length.
+fn apply_fallback(
+    buffer: &mut hb_buffer_t,
+    face: &Face,
+    fallback: &FallbackLookups,
+    progress: &mut Progress,
+) -> Result<bool, AllocError> {
+    debug_assert!(!buffer.have_output());
+    let list = LookupList::new(
+        fallback.table.as_slice(),
+        SUBSTITUTION_EXTENSION,
+        &face.gdef,
+    )?;
+    apply_each(
+        buffer,
+        &list,
+        &face.gdef,
+        fallback.masks.as_slice(),
+        progress,
+    )
+}
+
+/// Applies each lookup of a list to the glyphs that have its mask.
+///
+/// # Requires
+///
+/// - `buffer.old.have_output ≡ false`
+///
+/// # Errors
+///
+/// `Ok(false)` where a call was refused for length.
+fn apply_each(
+    buffer: &mut hb_buffer_t,
+    list: &LookupList,
+    definitions: &Gdef,
+    masks: &[u32],
+    progress: &mut Progress,
+) -> Result<bool, AllocError> {
+    debug_assert!(!buffer.have_output());
+    for index in 0..masks.len() {
+        let substitutions = Substitutions {
+            list,
+            gdef: definitions,
+            options: options_of_fallback(masks[index]),
+        };
+        let index = u16::try_from(index).unwrap_or(0);
+        if !crate::ot_gsub::substitute(buffer, &substitutions, index, progress)? {
+            return Ok(false);
+        }
+    }
+    Ok(true)
+}
+
+/// How a lookup of the fallback is applied.
+fn options_of_fallback(mask: u32) -> LookupOptions {
+    LookupOptions {
+        mask,
+        auto_zwnj: true,
+        auto_zwj: true,
+        per_syllable: false,
+        random: false,
+    }
+}

@@ -1,0 +1,38 @@
+// Written by tools/plain_rust from crates/ot_gpos. Do not edit.
+
+//! Contexts: which rule fits at a glyph (HarfBuzz, `ContextPos`, `ChainContextPos`).
+
+use crate::glyph::hb_glyph_info_t;
+use crate::ot_gpos::turn::Turn;
+use crate::ot_layout::context::{Fit, fitting_rule};
+use crate::ot_layout::lookup_list::LookupList;
+use crate::ot_layout::search::{ApplyContext, Reach, Search};
+use crate::ot_layout::skipping_iterator::SkippingIterator;
+
+/// The kind of chained contexts.
+pub(crate) const CHAINED_CONTEXT: u16 = 8;
+
+/// The rule that fits at the glyph; how far rules that do not fit have looked stands in the search. The
+/// places of the rule's glyphs are counted from the glyph.
+pub(crate) fn fit_at<'a>(
+    glyphs: &[hb_glyph_info_t],
+    list: &'a LookupList<'a>,
+    turn: &Turn<'a>,
+    context: &SkippingIterator<'a>,
+    search: &mut Search,
+) -> Option<Fit<'a>> {
+    search.reach = Reach::none(turn.place);
+    if turn.place >= glyphs.len() {
+        return None;
+    }
+    let ctx = ApplyContext {
+        out: &glyphs[..turn.place],
+        input: &glyphs[turn.place..],
+        iterator: turn.iterator,
+        context: *context,
+        syllable: 0,
+        is_level: true,
+    };
+    let is_chained = turn.subtable.lookup_type == CHAINED_CONTEXT;
+    fitting_rule(list, turn.subtable, turn.index, is_chained, &ctx, search)
+}

@@ -1,0 +1,356 @@
+// Written by tools/plain_rust from crates/ot_gpos. Do not edit.
+
+//! A lookup of `GPOS` over a buffer: each glyph that it is for is tried with its subtables, one after the other (HarfBuzz,
+//! `apply_forward`).
+
+use crate::buffer::hb_buffer_t;
+use crate::glyph::hb_glyph_info_t;
+use crate::ot_gpos::contexts::fit_at;
+use crate::ot_gpos::cursive::place_cursive;
+use crate::ot_gpos::flags::{mark_break, mark_concat};
+use crate::ot_gpos::marks::{LastBase, place_on_base, place_on_ligature, place_on_mark};
+use crate::ot_gpos::pairs::{place_pair, place_single};
+use crate::ot_gpos::turn::{Setting, Turn};
+use crate::ot_gpos_tables::contour_points::ContourPoints;
+use crate::ot_layout::budget::{PASSED_A_STEP, SUBTABLE_STEPS};
+use crate::ot_layout::context::Fit;
+use crate::ot_layout::lookup_list::Lookup;
+use crate::ot_layout::lookup_props::covered_index;
+use crate::ot_layout::search::{MatchPositions, Search};
+use crate::ot_layout::skipping_iterator::{LookupOptions, SkippingIterator};
+use crate::ot_layout::subtable::Subtable;
+use core::mem;
+
+/// How deep lookups may apply others (HarfBuzz, `HB_MAX_NESTING_LEVEL`).
+const MAX_NESTING_LEVEL: u32 = 64;
+
+/// A lookup at a glyph.
+struct Task<'a, P> {
+    /// The font's lookups and its size.
+    setting: &'a Setting<'a, P>,
+    /// The lookup.
+    lookup: &'a Lookup<'a>,
+    /// How it is applied.
+    options: &'a LookupOptions,
+    /// The place of the glyph.
+    place: usize,
+    /// How many levels of lookups it may apply.
+    depth: u32,
+}
+
+/// Positions the glyphs by the lookup of this index, where the buffer's glyphs have one of the options'
+/// bits. A budget that is spent ends the iterator, and `buffer.shaping_failed` says so.
+///
+/// # Requires
+///
+/// - `closed: buffer.old.have_output ≡ false`
+/// - `placed: IsSome buffer.old.positions`
+///
+/// # Proved
+///
+/// ```text
+/// ensures closed { buffer.new.have_output ≡ false }
+/// ensures placed { IsSome buffer.new.positions }
+/// ensures rest { untouched buffer.new ≡ untouched buffer.old }
+/// ensures flags { KeepsBits buffer.old.input buffer.new.input }
+/// ensures spent { IsNotMore search.old.budget search.new.budget }
+/// ensures says { search.new.budget.steps ≡ 0 → buffer.new.shaping_failed ≡ true }
+/// ensures keeps { KeepsClusters buffer.old buffer.new }
+/// ```
+#[inline]
+pub fn position<P: ContourPoints>(
+    buffer: &mut hb_buffer_t,
+    setting: &Setting<P>,
+    lookup: u16,
+    options: &LookupOptions,
+    search: &mut Search,
+) {
+    debug_assert!(!buffer.have_output());
+    debug_assert!(buffer.have_positions());
+    debug_assert!(buffer.out_len() == 0);
+    place_all(buffer, setting, lookup, options, search);
+    fail_if_spent(buffer, search);
+    debug_assert!(buffer.out_len() == 0);
+}
+
+/// Positions the glyphs by a lookup, one after the other.
+///
+/// # Requires
+///
+/// - `closed: buffer.old.have_output ≡ false`
+/// - `placed: IsSome buffer.old.positions`
+fn place_all<'a, P: ContourPoints>(
+    buffer: &mut hb_buffer_t,
+    setting: &'a Setting<'a, P>,
+    lookup: u16,
+    options: &'a LookupOptions,
+    search: &mut Search,
+) {
+    debug_assert!(!buffer.have_output());
+    debug_assert!(buffer.have_positions());
+    if let Some(lookup) = setting.list.lookup(lookup) {
+        search.budget.pay_for(1 + buffer.len() / PASSED_A_STEP);
+        place_by_all(buffer, setting, lookup, options, search);
+    }
+}
+
+/// Positions the glyphs by this lookup, one after the other.
+///
+/// # Requires
+///
+/// - `closed: buffer.old.have_output ≡ false`
+/// - `placed: IsSome buffer.old.positions`
+fn place_by_all<'a, P: ContourPoints>(
+    buffer: &mut hb_buffer_t,
+    setting: &'a Setting<'a, P>,
+    lookup: &'a Lookup<'a>,
+    options: &'a LookupOptions,
+    search: &mut Search,
+) {
+    debug_assert!(!buffer.have_output());
+    debug_assert!(buffer.have_positions());
+    let mut last = LastBase::none();
+    let mut next = 0;
+    for _turn in 0..buffer.len() {
+        let place = next_place(buffer.info(), lookup, options.mask, next);
+        if place == buffer.len() || search.budget.is_spent() {
+            return;
+        }
+        let task = Task {
+            setting,
+            lookup,
+            options,
+            place,
+            depth: MAX_NESTING_LEVEL,
+        };
+        next = place_by_lookup(buffer, &task, search, &mut last)
+            .unwrap_or(0)
+            .max(place + 1);
+    }
+}
+
+/// The first place from this one on at which the lookup may do something, or the number of glyphs.
+fn next_place(glyphs: &[hb_glyph_info_t], lookup: &Lookup, mask: u32, from: usize) -> usize {
+    lookup.first_place(mask, glyphs, from.min(glyphs.len()))
+}
+
+/// Positions the glyph by the first subtable that does, and says where the iterator goes on.
+///
+/// # Requires
+///
+/// - `closed: buffer.old.have_output ≡ false`
+/// - `placed: IsSome buffer.old.positions`
+fn place_by_lookup<'a, P: ContourPoints>(
+    buffer: &mut hb_buffer_t,
+    task: &Task<'a, P>,
+    search: &mut Search,
+    last: &mut LastBase,
+) -> Option<usize> {
+    debug_assert!(!buffer.have_output());
+    debug_assert!(buffer.have_positions());
+    if task.place >= buffer.len() {
+        return None;
+    }
+    let glyph = buffer.info()[task.place].glyph_id;
+    let subtables = task.setting.list.subtables_of(task.lookup);
+    search.budget.pay_for(subtables.len() / PASSED_A_STEP);
+    for subtable in subtables {
+        let next = try_subtable(buffer, task, subtable, glyph, search, last);
+        if next.is_some() {
+            return next;
+        }
+    }
+    None
+}
+
+/// Positions the glyph of this number by a subtable, if it covers the glyph, and says where the
+/// iterator goes on.
+///
+/// # Requires
+///
+/// - `closed: buffer.old.have_output ≡ false`
+/// - `placed: IsSome buffer.old.positions`
+fn try_subtable<'a, P: ContourPoints>(
+    buffer: &mut hb_buffer_t,
+    task: &Task<'a, P>,
+    subtable: &'a Subtable<'a>,
+    glyph: u32,
+    search: &mut Search,
+    last: &mut LastBase,
+) -> Option<usize> {
+    debug_assert!(!buffer.have_output());
+    debug_assert!(buffer.have_positions());
+    if !subtable.may_be_for(glyph) {
+        return None;
+    }
+    if !search.budget.pay(SUBTABLE_STEPS) {
+        return None;
+    }
+    let index = index_in(subtable, glyph)?;
+    let turn = Turn {
+        lookup: task.lookup,
+        subtable,
+        iterator: SkippingIterator::over_input(task.lookup.lookup_props, task.options, true),
+        instance: &task.setting.instance,
+        place: task.place,
+        index,
+    };
+    place_by_subtable(buffer, task, &turn, search, last)
+}
+
+/// The coverage index of a glyph in a subtable.
+#[inline(never)]
+fn index_in(subtable: &Subtable, glyph: u32) -> Option<u32> {
+    covered_index(&subtable.coverage, glyph)
+}
+
+/// Positions the glyph by a subtable that is for it, and says where the iterator goes on; `None` where
+/// the subtable does not fit.
+///
+/// # Requires
+///
+/// - `closed: buffer.old.have_output ≡ false`
+/// - `placed: IsSome buffer.old.positions`
+#[inline(never)]
+fn place_by_subtable<'a, P: ContourPoints>(
+    buffer: &mut hb_buffer_t,
+    task: &Task<'a, P>,
+    turn: &Turn<'a>,
+    search: &mut Search,
+    last: &mut LastBase,
+) -> Option<usize> {
+    debug_assert!(!buffer.have_output());
+    debug_assert!(buffer.have_positions());
+    match turn.subtable.lookup_type {
+        7 | 8 => place_by_context(buffer, task, turn, search, last),
+        kind => place_by_simple(buffer, kind, turn, last, task.setting.points),
+    }
+}
+
+/// Positions the glyph by a subtable of this kind, which is no context.
+///
+/// # Requires
+///
+/// - `closed: buffer.old.have_output ≡ false`
+/// - `placed: IsSome buffer.old.positions`
+fn place_by_simple<P: ContourPoints>(
+    buffer: &mut hb_buffer_t,
+    kind: u16,
+    turn: &Turn,
+    last: &mut LastBase,
+    points: &P,
+) -> Option<usize> {
+    debug_assert!(!buffer.have_output());
+    debug_assert!(buffer.have_positions());
+    match kind {
+        1 => place_single(buffer, turn),
+        2 => place_pair(buffer, turn),
+        3 => place_cursive(buffer, turn, points),
+        4 => place_on_base(buffer, turn, last, points),
+        5 => place_on_ligature(buffer, turn, last, points),
+        6 => place_on_mark(buffer, turn, points),
+        _ => None,
+    }
+}
+
+/// Applies the lookups of the rule that fits at the glyph, and says where the iterator goes on.
+///
+/// # Requires
+///
+/// - `closed: buffer.old.have_output ≡ false`
+/// - `placed: IsSome buffer.old.positions`
+fn place_by_context<'a, P: ContourPoints>(
+    buffer: &mut hb_buffer_t,
+    task: &Task<'a, P>,
+    turn: &Turn<'a>,
+    search: &mut Search,
+    last: &mut LastBase,
+) -> Option<usize> {
+    debug_assert!(!buffer.have_output());
+    debug_assert!(buffer.have_positions());
+    let context = SkippingIterator::over_context(task.lookup.lookup_props, task.options, true);
+    let fit = fit_at(buffer.info(), task.setting.list, turn, &context, search);
+    let reached = turn.place.saturating_add(search.reach.to);
+    mark_concat(buffer, search.reach.from, reached);
+    let fit = fit?;
+    mark_break(buffer, fit.from, turn.place.saturating_add(fit.to));
+    let places = mem::replace(&mut search.places, MatchPositions::new());
+    apply_records(buffer, task, &fit, &places, search, last);
+    let end = turn.place.saturating_add(fit.end);
+    mark_concat(buffer, end, turn.place.saturating_add(fit.beyond));
+    Some(end)
+}
+
+/// Applies the lookups of a rule at the glyphs that it names, whose places are counted from the rule's
+/// first glyph.
+///
+/// # Requires
+///
+/// - `closed: buffer.old.have_output ≡ false`
+/// - `placed: IsSome buffer.old.positions`
+fn apply_records<'a, P: ContourPoints>(
+    buffer: &mut hb_buffer_t,
+    task: &Task<'a, P>,
+    fit: &Fit<'a>,
+    places: &MatchPositions,
+    search: &mut Search,
+    last: &mut LastBase,
+) {
+    debug_assert!(!buffer.have_output());
+    debug_assert!(buffer.have_positions());
+    for index in 0..usize::from(fit.record_count) {
+        if let Some(nested) = nested_task(task, fit, places, index) {
+            if task.depth == 0 || !search.budget.nest() {
+                fail(buffer);
+                return;
+            }
+            let _next = place_by_lookup(buffer, &nested, search, last);
+        }
+    }
+}
+
+/// The lookup of a record, at the glyph that the record names; `None` where there is no such lookup or
+/// glyph.
+fn nested_task<'a, P>(
+    task: &Task<'a, P>,
+    fit: &Fit,
+    places: &MatchPositions,
+    index: usize,
+) -> Option<Task<'a, P>> {
+    let record = fit.record(index)?;
+    let at = *places.as_slice().get(record.sequence_index)?;
+    let lookup = task.setting.list.lookup(record.lookup)?;
+    Some(Task {
+        setting: task.setting,
+        lookup,
+        options: task.options,
+        place: task.place.saturating_add(at),
+        depth: task.depth.saturating_sub(1),
+    })
+}
+
+/// Says that shaping was given up where the budget is spent.
+///
+/// # Requires
+///
+/// - `closed: buffer.old.have_output ≡ false`
+/// - `placed: IsSome buffer.old.positions`
+fn fail_if_spent(buffer: &mut hb_buffer_t, search: &Search) {
+    debug_assert!(!buffer.have_output());
+    debug_assert!(buffer.have_positions());
+    if search.budget.is_spent() {
+        fail(buffer);
+    }
+}
+
+/// Says that the text could not be shaped as the font asks.
+///
+/// # Requires
+///
+/// - `closed: buffer.old.have_output ≡ false`
+/// - `placed: IsSome buffer.old.positions`
+fn fail(buffer: &mut hb_buffer_t) {
+    debug_assert!(!buffer.have_output());
+    debug_assert!(buffer.have_positions());
+    buffer.shaping_failed = true;
+}

@@ -1,0 +1,32 @@
+// Written by tools/plain_rust from crates/ot_gpos_tables. Do not edit.
+
+//! Points of outlines, at which anchors of format 2 stand.
+
+/// Where a point of a glyph's outline is, at the size at which the font is used.
+#[derive(Clone, Copy, Debug)]
+pub struct ContourPoint {
+    /// To the right.
+    pub x: i32,
+    /// Upwards.
+    pub y: i32,
+}
+
+/// A font, as far as it is asked for points of outlines.
+pub trait ContourPoints {
+    /// Where a point of a glyph's outline is; `None` where the font does not know it.
+    ///
+    /// # Proved
+    ///
+    /// That it returns.
+    fn contour_point(&self, glyph: u32, point: u16) -> Option<ContourPoint>;
+}
+
+/// A font that knows no points, as HarfBuzz's own functions know none.
+#[derive(Clone, Copy, Debug)]
+pub struct NoPoints;
+
+impl ContourPoints for NoPoints {
+    fn contour_point(&self, _glyph: u32, _point: u16) -> Option<ContourPoint> {
+        None
+    }
+}

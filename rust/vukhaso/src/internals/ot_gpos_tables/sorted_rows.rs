@@ -1,0 +1,42 @@
+// Written by tools/plain_rust from crates/ot_gpos_tables. Do not edit.
+
+//! Rows of a table by keys of 32 bits.
+
+use crate::font_tables::bisection::{KeyedRows, beside_key};
+use crate::font_tables::bytes::u32_at;
+use core::cmp::Ordering;
+
+/// Rows of `size` bytes each, of which the first has its key, a number of 32 bits, at the byte `start`.
+#[derive(Clone, Copy, Debug)]
+pub struct Keys32<'a> {
+    /// The table.
+    pub table: &'a [u8],
+    /// Where the key of the first row stands.
+    pub start: usize,
+    /// How many bytes a row has.
+    pub size: usize,
+}
+
+impl Keys32<'_> {
+    /// The key of a row; `None` where the row lies outside of the table.
+    fn key(&self, row: usize) -> Option<u32> {
+        let at = self.start.saturating_add(self.size.saturating_mul(row));
+        if at < self.table.len() {
+            u32_at(self.table, at)
+        } else {
+            None
+        }
+    }
+}
+
+///
+/// # Proved
+///
+/// ```text
+/// ghost beside_of = { λ keys key row. beside_key (number_32 keys.table.now (keys.start + keys.size * row)) key }
+/// ```
+impl KeyedRows for Keys32<'_> {
+    fn beside(&self, key: u32, row: usize) -> Option<Ordering> {
+        beside_key(self.key(row), key)
+    }
+}

@@ -1,0 +1,141 @@
+// Written by tools/plain_rust from crates/ot_layout. Do not edit.
+
+//! The first 256 glyphs of a font, told apart, which a digest does not do.
+
+use crate::font_tables::coverage::Coverage;
+use crate::ot_layout::digest::{Digest, has_row, with_all, with_row, with_rows};
+use crate::ot_layout::summary::{Summary, summary_of};
+
+/// How many glyphs are told apart.
+const COUNT: u32 = 256;
+
+/// Which of the first 256 glyphs are in a set. Any other glyph may be.
+#[derive(Clone, Copy, PartialEq, Eq, Debug)]
+pub struct FirstGlyphs {
+    /// A bit for each glyph, those of 64 glyphs in a word.
+    pub words: [u64; 4],
+}
+
+impl FirstGlyphs {
+    /// Whether a glyph may be in the set: one of the first 256, whether it is.
+    ///
+    /// # Proved
+    ///
+    /// ```text
+    /// ensures { result ≡ may_have_first self.now glyph }
+    /// ```
+    #[inline]
+    pub fn may_have(&self, glyph: u32) -> bool {
+        glyph >= COUNT || has_row(self.words[glyph as usize / 64], glyph)
+    }
+
+    /// Adds the glyphs of another set.
+    ///
+    /// # Proved
+    ///
+    /// ```text
+    /// ensures added { HasMoreFirst other.now self.new }
+    /// ensures kept { HasMoreFirst self.old self.new }
+    /// ```
+    #[inline]
+    pub fn add_all(&mut self, other: &FirstGlyphs) {
+        let (words, others) = (&self.words, &other.words);
+        self.words = [
+            with_all(words[0], others[0]),
+            with_all(words[1], others[1]),
+            with_all(words[2], others[2]),
+            with_all(words[3], others[3]),
+        ];
+    }
+}
+
+///
+/// # Proved
+///
+/// ```text
+/// ghost has = { may_have_first }
+/// ```
+impl Summary for FirstGlyphs {
+    fn none() -> Self {
+        FirstGlyphs { words: [0; 4] }
+    }
+
+    fn add_glyph(&mut self, glyph: u32) {
+        if glyph < COUNT {
+            let word = glyph as usize / 64;
+            self.words[word] = with_row(self.words[word], glyph);
+        }
+    }
+
+    fn add_range(&mut self, first: u32, last: u32) {
+        if first >= COUNT {
+            return;
+        }
+        if first / 64 == last / 64 {
+            let word = first as usize / 64;
+            self.words[word] = with_rows(self.words[word], first, last);
+            return;
+        }
+        self.words = [
+            with_rows_from(self.words[0], 0, first, last),
+            with_rows_from(self.words[1], 64, first, last),
+            with_rows_from(self.words[2], 128, first, last),
+            with_rows_from(self.words[3], 192, first, last),
+        ];
+    }
+}
+
+/// Both summaries of a set of glyphs, made in one pass.
+#[derive(Clone, Copy, Debug)]
+pub(crate) struct Summaries {
+    /// Its digest.
+    pub(crate) digest: Digest,
+    /// Those of it that are among the first 256.
+    pub(crate) firsts: FirstGlyphs,
+}
+
+///
+/// # Proved
+///
+/// ```text
+/// ghost has = { may_have_both }
+/// ```
+impl Summary for Summaries {
+    fn none() -> Self {
+        Summaries {
+            digest: Digest::new(),
+            firsts: FirstGlyphs::none(),
+        }
+    }
+
+    fn add_glyph(&mut self, glyph: u32) {
+        self.digest.add_glyph(glyph);
+        self.firsts.add_glyph(glyph);
+    }
+
+    fn add_range(&mut self, first: u32, last: u32) {
+        self.digest.add_range(first, last);
+        self.firsts.add_range(first, last);
+    }
+}
+
+/// Both summaries of the glyphs that a coverage covers.
+pub(crate) fn summaries_of(coverage: &Coverage) -> Summaries {
+    summary_of(coverage)
+}
+
+/// A word with the bits of the rows from one to another, the last one too, where the word has the 64
+/// rows from this one on.
+///
+/// # Requires
+///
+/// - `start ≤ 192`
+fn with_rows_from(word: u64, start: u32, first: u32, last: u32) -> u64 {
+    debug_assert!(start <= 192);
+    let (low, high) = (first.max(start), last.min(start + 63));
+    if low <= high {
+        with_rows(word, low, high)
+    } else {
+        word
+    }
+}

@@ -1,0 +1,383 @@
+// Written by tools/plain_rust from crates/ot_layout. Do not edit.
+
+//! Reads lookups and their subtables, as far as there is room.
+
+use crate::font_tables::bytes::{table_at_16, u16_at};
+use crate::font_tables::class_definition::ClassDefinition;
+use crate::font_tables::coverage::Coverage;
+use crate::font_tables::gdef::Gdef;
+use crate::memory::{AllocError, Vec};
+use crate::ot_layout::digest::Digest;
+use crate::ot_layout::formats::has_format;
+use crate::ot_layout::known::{Known, Summed, coverage_of, make_room, quick_coverage, summed_of};
+use crate::ot_layout::lookup_list::{Lookup, POSITIONING_EXTENSION};
+use crate::ot_layout::lookup_props::LookupProps;
+use crate::ot_layout::reading::{
+    count_at, coverage_numbers, digest_of, firsts_of, has_next, quick_classes,
+};
+use crate::ot_layout::search::MAX_CONTEXT_LENGTH;
+use crate::ot_layout::seconds::seconds_of;
+use crate::ot_layout::subtable::{
+    Form, NextAsked, Subtable, behind_extension, behind_list, positioning_form, substitution_form,
+    table_or_empty,
+};
+use crate::ot_layout::subtable_limit::subtable_count;
+
+/// How many subtables room is made for before they are read.
+const MOST_RESERVED: usize = 4096;
+
+/// The kind of ligatures in `GSUB`.
+const LIGATURES: u16 = 4;
+
+/// The bit of a lookup's flag that says that a set of marks follows the subtables.
+const USE_MARK_FILTERING_SET: u16 = 0x0010;
+
+/// Reads lookups, one after the other.
+#[derive(Debug)]
+pub(crate) struct LookupReader<'a> {
+    /// The subtables that were read.
+    pub(crate) subtables: Vec<Subtable<'a>>,
+    /// The coverages of contexts by coverages.
+    pub(crate) coverages: Vec<Coverage<'a>>,
+    /// The kind of an extension.
+    pub(crate) extension: u16,
+    /// Whether more had to be read than there was room for.
+    pub(crate) is_short: bool,
+    /// How many bytes may still be read.
+    room: usize,
+    /// How many ligatures may still be read for their second glyphs.
+    second_room: usize,
+    /// The coverages that were read last.
+    known: Vec<Known<'a>>,
+}
+
+impl<'a> LookupReader<'a> {
+    /// A reader of a table that has read nothing.
+    pub(crate) fn new(table: &[u8], extension: u16) -> Self {
+        LookupReader {
+            subtables: Vec::new(),
+            coverages: Vec::new(),
+            extension,
+            is_short: false,
+            room: table.len().saturating_mul(64),
+            second_room: table.len(),
+            known: Vec::new(),
+        }
+    }
+
+    /// A reader that reads no subtables.
+    pub(crate) fn without_subtables(extension: u16) -> Self {
+        LookupReader::new(&[], extension)
+    }
+
+    /// Makes room for so many subtables, as far as these are not too many.
+    pub(crate) fn make_room(&mut self, subtables: usize) -> Result<(), AllocError> {
+        if self.room > 0 {
+            self.subtables.reserve(subtables.min(MOST_RESERVED))?;
+            make_room(&mut self.known, subtables)?;
+        }
+        Ok(())
+    }
+
+    /// Whether the table is `GPOS`.
+    fn is_positioning(&self) -> bool {
+        self.extension == POSITIONING_EXTENSION
+    }
+
+    /// Reads a lookup.
+    #[inline(always)]
+    pub(crate) fn read_lookup(
+        &mut self,
+        table: &'a [u8],
+        gdef: &Gdef<'a>,
+    ) -> Result<Lookup<'a>, AllocError> {
+        let lookup_type = u16_at(table, 0).unwrap_or(0);
+        let count = subtable_count(table);
+        let first = self.subtables.len();
+        if self.pay(2 * count) && self.has_one_type(lookup_type, table, count) {
+            for index in 0..count {
+                if let Some(subtable) = table_at_16(table, 6 + 2 * index) {
+                    self.read_subtable(lookup_type, subtable)?;
+                }
+            }
+        }
+        let subtables = self.subtables_from(first);
+        Ok(Lookup {
+            lookup_type,
+            lookup_props: props_of(table, gdef),
+            digest: digest_of(subtables),
+            firsts: firsts_of(subtables),
+            first,
+            last: self.subtables.len(),
+        })
+    }
+
+    /// The subtables from the one of this number on.
+    fn subtables_from(&self, first: usize) -> &[Subtable<'a>] {
+        if first <= self.subtables.len() {
+            &self.subtables[first..]
+        } else {
+            &[]
+        }
+    }
+
+    /// Whether the subtables of a lookup, so many, are no extensions, or of one type.
+    ///
+    /// # Requires
+    ///
+    /// - `count < 65536`
+    fn has_one_type(&self, lookup_type: u16, table: &[u8], count: usize) -> bool {
+        debug_assert!(count < 65536);
+        if lookup_type != self.extension {
+            return true;
+        }
+        let (first, _subtable) = behind_extension(table_or_empty(table, 6));
+        for index in 0..count {
+            let (lookup_type, _subtable) = behind_extension(table_or_empty(table, 6 + 2 * index));
+            if lookup_type != first {
+                return false;
+            }
+        }
+        true
+    }
+
+    /// Reads a subtable, or that behind an extension, if its type has its format.
+    fn read_subtable(&mut self, lookup_type: u16, table: &'a [u8]) -> Result<(), AllocError> {
+        let (lookup_type, table) = if lookup_type == self.extension {
+            behind_extension(table)
+        } else {
+            (lookup_type, table)
+        };
+        let format = u16_at(table, 0).unwrap_or(0);
+        if !has_format(self.is_positioning(), lookup_type, format) {
+            return Ok(());
+        }
+        let form = self.form_of(lookup_type, format);
+        let first_coverage = self.coverages.len();
+        self.read_coverages(form, table)?;
+        let first = self.first_of(form, table, first_coverage);
+        let subtable = Subtable {
+            lookup_type,
+            format,
+            table,
+            coverage: first.coverage,
+            digest: first.summaries.digest,
+            firsts: first.summaries.firsts,
+            bases: self.coverage_if(form == Form::Marks, table, 4),
+            classes: self.input_classes(form, table),
+            backtrack_classes: self.classes_if(form == Form::ChainedClasses, table, 4),
+            lookahead_classes: self.ahead_classes(form, table),
+            next: self.next_asked(form, table, first_coverage),
+            first_coverage,
+            seconds: self.seconds(lookup_type, table),
+        };
+        self.add_subtable(subtable)
+    }
+
+    /// Adds a subtable.
+    ///
+    /// # Requires
+    ///
+    /// - `IsNextOf self.old.coverages.items subtable`
+    fn add_subtable(&mut self, subtable: Subtable<'a>) -> Result<(), AllocError> {
+        self.subtables.push(subtable)?;
+        Ok(())
+    }
+
+    /// The form of a subtable.
+    fn form_of(&self, lookup_type: u16, format: u16) -> Form {
+        if self.is_positioning() {
+            positioning_form(lookup_type, format)
+        } else {
+            substitution_form(lookup_type, format)
+        }
+    }
+
+    /// Reads the coverages of a context by coverages, or around a reverse substitution.
+    fn read_coverages(&mut self, form: Form, table: &'a [u8]) -> Result<(), AllocError> {
+        match form {
+            Form::Coverages => {
+                let count = usize::from(u16_at(table, 2).unwrap_or(0));
+                self.read_offsets(table, 6, count)
+            }
+            Form::ChainedCoverages => {
+                let input = self.read_list(table, 2)?;
+                let lookahead = self.read_list(table, input)?;
+                let _records = self.read_list(table, lookahead)?;
+                Ok(())
+            }
+            Form::Reverse => {
+                let lookahead = self.read_list(table, 4)?;
+                let _substitutes = self.read_list(table, lookahead)?;
+                Ok(())
+            }
+            _ => Ok(()),
+        }
+    }
+
+    /// Reads the coverages of a list of offsets with their number before it, and says where it ends.
+    fn read_list(&mut self, table: &'a [u8], at: usize) -> Result<usize, AllocError> {
+        let count = usize::from(u16_at(table, at).unwrap_or(0));
+        self.read_offsets(table, at.saturating_add(2), count)?;
+        Ok(behind_list(table, at))
+    }
+
+    /// Reads the coverages of so many offsets from a place on.
+    fn read_offsets(&mut self, table: &'a [u8], at: usize, count: usize) -> Result<(), AllocError> {
+        for index in 0..count {
+            let coverage = self.coverage(table_or_empty(
+                table,
+                at.saturating_add(index.saturating_mul(2)),
+            ));
+            self.coverages.push(coverage)?;
+        }
+        Ok(())
+    }
+
+    /// The glyphs at the cursor: in a context by coverages the first of those of the input.
+    fn first_of(&mut self, form: Form, table: &'a [u8], first: usize) -> Summed<'a> {
+        let input = match form {
+            Form::Coverages => first,
+            Form::ChainedCoverages => {
+                first.saturating_add(usize::from(u16_at(table, 2).unwrap_or(0)))
+            }
+            _ => return self.summed(table_or_empty(table, 2)),
+        };
+        let coverage = match self.coverages.get(input) {
+            Some(coverage) => *coverage,
+            None => Coverage::new(&[]),
+        };
+        summed_of(&mut self.known, coverage.table)
+    }
+
+    /// What a context by coverages asks of the glyph after the one at the cursor: the second coverage of
+    /// the input, or where the input has one, the first after it.
+    fn next_asked(&self, form: Form, table: &'a [u8], first: usize) -> Option<NextAsked<'a>> {
+        let (backtrack, input, lookahead) = coverage_numbers(form, table)?;
+        if usize::from(input) > MAX_CONTEXT_LENGTH || !has_next(input, lookahead) {
+            return None;
+        }
+        let number = usize::from(backtrack) + usize::from(input.min(1));
+        let coverage = self.coverages.get(first.saturating_add(number))?;
+        Some(NextAsked::new(*coverage, input > 1))
+    }
+
+    /// The second glyphs of the ligatures of a subtable, if it has ligatures, each with a second glyph.
+    fn seconds(&mut self, lookup_type: u16, table: &[u8]) -> Option<Digest> {
+        if self.is_positioning() || lookup_type != LIGATURES {
+            return None;
+        }
+        seconds_of(table, &mut self.second_room)
+    }
+
+    /// The classes of the input.
+    fn input_classes(&mut self, form: Form, table: &'a [u8]) -> ClassDefinition<'a> {
+        match form {
+            Form::Classes => self.classes(table_or_empty(table, 4)),
+            Form::ChainedClasses => self.classes(table_or_empty(table, 6)),
+            Form::PairClasses => self.classes(table_or_empty(table, 8)),
+            _ => ClassDefinition::new(&[]),
+        }
+    }
+
+    /// The classes of what stands after the input.
+    fn ahead_classes(&mut self, form: Form, table: &'a [u8]) -> ClassDefinition<'a> {
+        match form {
+            Form::ChainedClasses => self.classes(table_or_empty(table, 8)),
+            Form::PairClasses => self.classes(table_or_empty(table, 10)),
+            _ => ClassDefinition::new(&[]),
+        }
+    }
+
+    /// The coverage that the offset at a place leads to, if there is one in this form. It is not
+    /// remembered: hardly any other subtable shares it.
+    fn coverage_if(&mut self, is_there: bool, table: &'a [u8], at: usize) -> Coverage<'a> {
+        if is_there {
+            let table = table_or_empty(table, at);
+            if self.pay_for(table) {
+                return quick_coverage(table);
+            }
+        }
+        Coverage::new(&[])
+    }
+
+    /// The classes that the offset at a place leads to, if there are any in this form.
+    fn classes_if(&mut self, is_there: bool, table: &'a [u8], at: usize) -> ClassDefinition<'a> {
+        if is_there {
+            self.classes(table_or_empty(table, at))
+        } else {
+            ClassDefinition::new(&[])
+        }
+    }
+
+    /// The coverage in these bytes, or one that covers nothing where there is no room, or it is slow to
+    /// ask.
+    fn coverage(&mut self, table: &'a [u8]) -> Coverage<'a> {
+        if self.pay_for(table) {
+            coverage_of(&mut self.known, table)
+        } else {
+            Coverage::new(&[])
+        }
+    }
+
+    /// The same coverage, with the summaries of its glyphs.
+    fn summed(&mut self, table: &'a [u8]) -> Summed<'a> {
+        if self.pay_for(table) {
+            summed_of(&mut self.known, table)
+        } else {
+            Summed::none()
+        }
+    }
+
+    /// The classes in these bytes, or none where there is no room, or they are slow to ask.
+    fn classes(&mut self, table: &'a [u8]) -> ClassDefinition<'a> {
+        if self.pay_for_classes(table) {
+            quick_classes(table)
+        } else {
+            ClassDefinition::new(&[])
+        }
+    }
+
+    /// Whether a coverage may be read.
+    fn pay_for(&mut self, table: &[u8]) -> bool {
+        let size = if u16_at(table, 0) == Some(1) { 2 } else { 6 };
+        self.pay(4 + size * count_at(table, 2))
+    }
+
+    /// Whether a table of classes may be read: its ranges are gone through, and a list of classes is not.
+    fn pay_for_classes(&mut self, table: &[u8]) -> bool {
+        let size = if u16_at(table, 0) == Some(2) { 6 } else { 0 };
+        self.pay(4 + size * count_at(table, 2))
+    }
+
+    /// Whether so many bytes may be read.
+    fn pay(&mut self, bytes: usize) -> bool {
+        if self.room < bytes {
+            self.room = 0;
+            self.is_short = true;
+            return false;
+        }
+        self.room -= bytes;
+        true
+    }
+}
+
+/// What a lookup passes over.
+fn props_of<'a>(table: &[u8], gdef: &Gdef<'a>) -> LookupProps<'a> {
+    let flags = u16_at(table, 2).unwrap_or(0);
+    let marks = if flags & USE_MARK_FILTERING_SET != 0 {
+        marks_of(table, gdef)
+    } else {
+        Coverage::new(&[])
+    };
+    LookupProps { flags, marks }
+}
+
+/// The mark filtering set of a lookup that has one: its number stands after the offsets of the
+/// subtables.
+fn marks_of<'a>(table: &[u8], gdef: &Gdef<'a>) -> Coverage<'a> {
+    match u16_at(table, 6 + 2 * count_at(table, 4)) {
+        Some(set) => gdef.mark_glyph_set(set),
+        None => Coverage::new(&[]),
+    }
+}

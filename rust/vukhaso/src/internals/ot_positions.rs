@@ -1,0 +1,20 @@
+// Written by tools/plain_rust from crates/ot_positions. Do not edit.
+
+//! Where glyphs stand by a font besides its lookups: advances and origins, marks and spaces that a font does not place itself, the
+//! space of Apple's table `trak`, and glyphs that are not to be seen.
+
+mod ending;
+mod fallback_marks;
+mod fallback_spaces;
+mod glyph_info;
+mod kept_positions;
+mod mark_placing;
+mod positions;
+mod tracking;
+
+pub use ending::{hide_ignorables, propagate_flags, share_flags, show_variation_selectors};
+pub use fallback_marks::{position_marks, recategorize_marks};
+pub use positions::{
+    position_glyphs, zero_mark_widths, zero_width_default_ignorables, zero_width_deleted_glyphs,
+};
+pub use tracking::track;

@@ -1,0 +1,68 @@
+// Written by tools/plain_rust from crates/script_indic. Do not edit.
+
+//! A RA that stands before its base, after the basic features.
+
+use crate::buffer::{hb_buffer_t, hb_glyph_info_t};
+use crate::common::script;
+use crate::script_indic::final_base::{FinalBase, masked_behind};
+use crate::script_indic::item::{is_halant, is_joiner, is_matra_or_halant, is_whole_ligature};
+use crate::script_indic::plan::IndicPlan;
+use crate::script_syllables::clusters::merge;
+use crate::script_syllables::moves::move_last;
+use crate::script_syllables::syllables::syllable;
+use core::ops::Range;
+
+/// Moves a RA behind the base that the font made a ligature of before the base, if one may stand there.
+///
+/// # Requires
+///
+/// - `buffer.old.have_output ≡ false`
+pub(crate) fn move_pref(
+    buffer: &mut hb_buffer_t,
+    range: &Range<usize>,
+    base: &FinalBase,
+    plan: &IndicPlan,
+) {
+    debug_assert!(!buffer.have_output());
+    let items = syllable(buffer.info(), range);
+    let Some(old) = masked_behind(items, base.place, plan.masks.pref) else {
+        return;
+    };
+    if !base.has_pref || !items.get(old).is_some_and(|info| is_whole_ligature(info)) {
+        return;
+    }
+    let new = new_place(items, base.place, plan);
+    let start = range.start.saturating_add(new);
+    let end = range.start.saturating_add(old).saturating_add(1);
+    merge(buffer, start, end);
+    move_last(buffer, start, end, 1);
+}
+
+/// The place that it moves to: behind the last vowel sign or halant before the base, but in Malayalam
+/// and Tamil at the base.
+fn new_place(syllable: &[hb_glyph_info_t], base: usize, plan: &IndicPlan) -> usize {
+    let place = if plan.is(script::MALAYALAM) || plan.is(script::TAMIL) {
+        base
+    } else {
+        behind_last_sign(syllable, base)
+    };
+    let before = syllable.get(..place).unwrap_or(&[]);
+    let is_behind_halant = before.last().is_some_and(|info| is_halant(info));
+    if is_behind_halant && syllable.get(place).is_some_and(|info| is_joiner(info)) {
+        place.saturating_add(1)
+    } else {
+        place
+    }
+}
+
+/// The place behind the last vowel sign or halant before the base; 0 where there is none.
+fn behind_last_sign(syllable: &[hb_glyph_info_t], base: usize) -> usize {
+    let before = syllable.get(..base).unwrap_or(&[]);
+    for turn in 0..before.len() {
+        let place = before.len() - turn;
+        if is_matra_or_halant(&before[place - 1]) {
+            return place;
+        }
+    }
+    0
+}

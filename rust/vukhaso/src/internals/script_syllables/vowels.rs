@@ -1,0 +1,120 @@
+// Written by tools/plain_rust from crates/script_syllables. Do not edit.
+
+//! Sequences of vowels that look like another vowel: a dotted circle parts them (OpenType, "Creating and supporting OpenType fonts for
+//! the Universal Shaping Engine", "Independent vowels that are not to be used with vowel signs").
+
+use crate::buffer::{hb_buffer_t, hb_glyph_info_t};
+use crate::glyph::{BufferFlags, CharExt, UnicodeProps};
+use crate::memory::AllocError;
+use crate::script_syllables::dotted_circle::DOTTED_CIRCLE;
+use crate::script_syllables::vowel_sequences::third_vowel;
+
+/// Puts a dotted circle before the last character of each sequence that looks like another vowel of the
+/// text's script.
+///
+/// # Requires
+///
+/// - `buffer.old.have_output ≡ false`
+///
+/// # Errors
+///
+/// `Ok(false)` where the text would become too long. `Err(AllocError)` where memory ran out.
+///
+/// # Proved
+///
+/// ```text
+/// ensures closed { IfOk result (λ done. done ≡ true → buffer.new.have_output ≡ false) }
+/// ensures keeps { KeepsClusters buffer.old buffer.new }
+/// ```
+#[inline]
+pub fn part_vowels(buffer: &mut hb_buffer_t) -> Result<bool, AllocError> {
+    debug_assert!(!buffer.have_output());
+    if buffer
+        .flags
+        .contains(BufferFlags::DO_NOT_INSERT_DOTTED_CIRCLE)
+    {
+        return Ok(true);
+    }
+    buffer.clear_output();
+    if !read_all(buffer)? {
+        return Ok(false);
+    }
+    buffer.sync()
+}
+
+/// Reads all characters, with the dotted circles.
+///
+/// # Requires
+///
+/// - `buffer.old.have_output ≡ true`
+fn read_all(buffer: &mut hb_buffer_t) -> Result<bool, AllocError> {
+    debug_assert!(buffer.have_output());
+    for _turn in 0..buffer.len() {
+        if buffer.lookahead_len() == 0 {
+            break;
+        }
+        if !read_next(buffer)? {
+            return Ok(false);
+        }
+    }
+    Ok(true)
+}
+
+/// Reads a character, or a sequence with a dotted circle before its last character.
+///
+/// # Requires
+///
+/// - `opened: buffer.old.have_output ≡ true`
+/// - `glyph: 0 < length buffer.old.input`
+fn read_next(buffer: &mut hb_buffer_t) -> Result<bool, AllocError> {
+    debug_assert!(buffer.have_output());
+    debug_assert!(!buffer.info().is_empty());
+    let Some(count) = sequence_length(buffer) else {
+        return buffer.next_glyph();
+    };
+    if count == 0 || count > buffer.lookahead_len() || !buffer.next_glyphs(count - 1)? {
+        return Ok(false);
+    }
+    if !buffer.output_glyph(DOTTED_CIRCLE)? {
+        return Ok(false);
+    }
+    begin_grapheme(buffer);
+    if buffer.lookahead_len() == 0 {
+        return Ok(true);
+    }
+    buffer.next_glyph()
+}
+
+/// How many characters the sequence at the cursor has; `None` where there is none.
+fn sequence_length(buffer: &hb_buffer_t) -> Option<usize> {
+    let infos = buffer.info();
+    let first = char::from_u32(infos.first()?.glyph_id)?;
+    let second = infos.get(1)?.glyph_id;
+    if buffer.script != Some(first.script()) {
+        return None;
+    }
+    match third_vowel(first, second)? {
+        None => Some(2),
+        Some(third) if infos.get(2)?.glyph_id == third as u32 => Some(3),
+        Some(_) => None,
+    }
+}
+
+/// Lets the last item that was put out begin a grapheme.
+///
+/// # Requires
+///
+/// - `buffer.old.have_output ≡ true`
+fn begin_grapheme(buffer: &mut hb_buffer_t) {
+    debug_assert!(buffer.have_output());
+    begin_with_last(buffer.out_info_mut());
+}
+
+/// Lets the last item begin a grapheme.
+fn begin_with_last(infos: &mut [hb_glyph_info_t]) {
+    if !infos.is_empty() {
+        let last = infos.len() - 1;
+        let properties = infos[last].unicode_props() & !UnicodeProps::CONTINUATION.bits();
+        infos[last].set_unicode_props(properties);
+    }
+}

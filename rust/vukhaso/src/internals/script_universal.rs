@@ -1,0 +1,12 @@
+// Written by tools/plain_rust from crates/script_universal. Do not edit.
+
+//! The universal shaper, and the shapers of Khmer and of Myanmar, which work as it does: one order for each syllable.
+
+pub use khmer::plan::KhmerPlan;
+pub use universal::category::{UniversalCategory, universal_category_of};
+pub use universal::plan::{FormMasks, UniversalPlan};
+pub use universal::{FormLookup, flag_forms};
+
+pub mod khmer;
+pub mod myanmar;
+pub mod universal;

@@ -1,0 +1,99 @@
+// Written by tools/plain_rust from crates/script_universal. Do not edit.
+
+//! The features that Khmer asks for, in their stages (OpenType, "Developing OpenType Fonts for Khmer Script").
+
+use crate::common::Tag;
+use crate::memory::AllocError;
+use crate::ot_map::{FeatureFlags, LayoutPlan, Pause, PlanBuilder};
+use crate::script_syllables::requests::add_all;
+use crate::script_universal::khmer::plan::KhmerPlan;
+
+/// The basic features, all in one stage, and whether every glyph has it.
+const BASIC_FEATURES: [(&[u8; 4], bool); 5] = [
+    (b"pref", false),
+    (b"blwf", false),
+    (b"abvf", false),
+    (b"pstf", false),
+    (b"cfar", false),
+];
+
+/// The features after syllables are forgotten, and whether every glyph has it.
+const OTHER_FEATURES: [(&[u8; 4], bool); 4] = [
+    (b"pres", true),
+    (b"abvs", true),
+    (b"blws", true),
+    (b"psts", true),
+];
+
+/// A match ends with its syllable.
+const PER_SYLLABLE: FeatureFlags = FeatureFlags {
+    per_syllable: true,
+    ..FeatureFlags::NONE
+};
+
+/// A match passes over no joiner.
+const MANUAL_JOINERS: FeatureFlags = FeatureFlags {
+    manual_zwnj: true,
+    manual_zwj: true,
+    ..FeatureFlags::NONE
+};
+
+/// Asks for the features, with the pauses at which syllables are found and reordered.
+///
+/// # Errors
+///
+/// `Err(AllocError)` where memory ran out.
+///
+/// # Proved
+///
+/// ```text
+/// ensures { IfOk result (λ _. builder.new.pauses.items ≡ builder.old.pauses.items ++ khmer_pauses) }
+/// ```
+#[inline]
+pub fn collect_features(builder: &mut PlanBuilder) -> Result<(), AllocError> {
+    builder.add_gsub_pause(Pause::SetUpSyllables)?;
+    builder.add_gsub_pause(Pause::InitialReordering)?;
+    builder.enable_feature(Tag::from_bytes(b"locl"), PER_SYLLABLE)?;
+    builder.enable_feature(Tag::from_bytes(b"ccmp"), PER_SYLLABLE)?;
+    let flags = FeatureFlags {
+        per_syllable: true,
+        ..MANUAL_JOINERS
+    };
+    add_all(builder, &BASIC_FEATURES, flags)?;
+    builder.add_gsub_pause(Pause::Nothing)?;
+    add_all(builder, &OTHER_FEATURES, MANUAL_JOINERS)
+}
+
+/// Asks for contextual ligatures, which Khmer requires, and turns standard ligatures off.
+///
+/// # Errors
+///
+/// `Err(AllocError)` where memory ran out.
+///
+/// # Proved
+///
+/// ```text
+/// ensures { HasSamePauses builder.old builder.new }
+/// ```
+#[inline]
+pub fn override_features(builder: &mut PlanBuilder) -> Result<(), AllocError> {
+    builder.enable_feature(Tag::from_bytes(b"clig"), FeatureFlags::NONE)?;
+    builder.disable_feature(Tag::from_bytes(b"liga"))
+}
+
+/// The plan for the features of a font.
+///
+/// # Proved
+///
+/// That it returns.
+#[inline]
+pub fn plan(layout: &LayoutPlan) -> KhmerPlan {
+    let mask = |name| layout.one_mask(Tag::from_bytes(name));
+    KhmerPlan {
+        pref: mask(b"pref"),
+        blwf: mask(b"blwf"),
+        abvf: mask(b"abvf"),
+        pstf: mask(b"pstf"),
+        cfar: mask(b"cfar"),
+    }
+}

@@ -1,0 +1,62 @@
+// Written by tools/plain_rust from crates/script_universal. Do not edit.
+
+//! The features that Myanmar asks for, in their stages (OpenType, "Developing OpenType Fonts for Myanmar Script").
+
+use crate::common::Tag;
+use crate::memory::AllocError;
+use crate::ot_map::{FeatureFlags, Pause, PlanBuilder};
+use crate::script_syllables::requests::{add_all, add_in_stages};
+
+/// The basic features, each in a stage of its own, and whether every glyph has it.
+const BASIC_FEATURES: [(&[u8; 4], bool); 4] = [
+    (b"rphf", true),
+    (b"pref", true),
+    (b"blwf", true),
+    (b"pstf", true),
+];
+
+/// The features after syllables are forgotten, and whether every glyph has it.
+const OTHER_FEATURES: [(&[u8; 4], bool); 4] = [
+    (b"pres", true),
+    (b"abvs", true),
+    (b"blws", true),
+    (b"psts", true),
+];
+
+/// A match ends with its syllable.
+const PER_SYLLABLE: FeatureFlags = FeatureFlags {
+    per_syllable: true,
+    ..FeatureFlags::NONE
+};
+
+/// An input passes over no joiner.
+const MANUAL_JOINER: FeatureFlags = FeatureFlags {
+    manual_zwj: true,
+    ..FeatureFlags::NONE
+};
+
+/// Asks for the features, with the pauses at which syllables are found and reordered.
+///
+/// # Errors
+///
+/// `Err(AllocError)` where memory ran out.
+///
+/// # Proved
+///
+/// ```text
+/// ensures { IfOk result (λ _. builder.new.pauses.items ≡ builder.old.pauses.items ++ myanmar_pauses) }
+/// ```
+#[inline]
+pub fn collect_features(builder: &mut PlanBuilder) -> Result<(), AllocError> {
+    builder.add_gsub_pause(Pause::SetUpSyllables)?;
+    builder.enable_feature(Tag::from_bytes(b"locl"), PER_SYLLABLE)?;
+    builder.enable_feature(Tag::from_bytes(b"ccmp"), PER_SYLLABLE)?;
+    builder.add_gsub_pause(Pause::InitialReordering)?;
+    let flags = FeatureFlags {
+        per_syllable: true,
+        ..MANUAL_JOINER
+    };
+    add_in_stages(builder, &BASIC_FEATURES, flags)?;
+    builder.add_gsub_pause(Pause::Nothing)?;
+    add_all(builder, &OTHER_FEATURES, MANUAL_JOINER)
+}

@@ -1,0 +1,150 @@
+// Written by tools/plain_rust from crates/script_universal. Do not edit.
+
+//! The order of the glyphs of Myanmar syllables, before the basic features.
+
+use crate::buffer::{hb_buffer_t, hb_glyph_info_t};
+use crate::script_syllables::clusters::merge;
+use crate::script_syllables::item::{category, position};
+use crate::script_syllables::moves::{move_last, turn};
+use crate::script_syllables::syllables::{kind_at, within};
+use crate::script_syllables::{Category, Position};
+use crate::script_universal::myanmar::plan::BROKEN;
+use crate::script_universal::myanmar::positions::set_positions;
+use core::ops::Range;
+
+/// Puts the glyphs of each syllable in order.
+///
+/// # Requires
+///
+/// - `buffer.old.have_output ≡ false`
+pub(crate) fn order_syllables(buffer: &mut hb_buffer_t) {
+    debug_assert!(!buffer.have_output());
+    let mut start = 0;
+    for _turn in 0..buffer.len() {
+        if start >= buffer.len() {
+            break;
+        }
+        let end = buffer.next_syllable(start);
+        if kind_at(buffer.info(), start) <= BROKEN {
+            order_syllable(buffer, &(start..end));
+        }
+        start = end;
+    }
+}
+
+/// Puts the glyphs of a syllable in the order of their positions, and vowel signs on the left into
+/// reverse order.
+///
+/// # Requires
+///
+/// - `buffer.old.have_output ≡ false`
+fn order_syllable(buffer: &mut hb_buffer_t, range: &Range<usize>) {
+    debug_assert!(!buffer.have_output());
+    place_items(buffer, range);
+    for place in range.start..range.end {
+        move_back(buffer, range.start, place);
+    }
+    turn_matras(buffer, range);
+}
+
+/// Gives each item of a syllable its position.
+///
+/// # Requires
+///
+/// - `buffer.old.have_output ≡ false`
+fn place_items(buffer: &mut hb_buffer_t, range: &Range<usize>) {
+    debug_assert!(!buffer.have_output());
+    place_in(buffer.info_slice_mut(), range);
+}
+
+/// Does that in a list.
+fn place_in(infos: &mut [hb_glyph_info_t], range: &Range<usize>) {
+    let range = within(range, infos.len());
+    set_positions(&mut infos[range.start..range.end]);
+}
+
+/// Puts vowel signs on the left of a syllable into reverse order.
+///
+/// # Requires
+///
+/// - `buffer.old.have_output ≡ false`
+fn turn_matras(buffer: &mut hb_buffer_t, range: &Range<usize>) {
+    debug_assert!(!buffer.have_output());
+    turn_in(buffer.info_slice_mut(), range);
+}
+
+/// Does that in a list.
+fn turn_in(infos: &mut [hb_glyph_info_t], range: &Range<usize>) {
+    let range = within(range, infos.len());
+    turn_left_matras(&mut infos[range.start..range.end]);
+}
+
+/// Moves an item behind the items before it whose positions come no later, all in one cluster.
+///
+/// # Requires
+///
+/// - `buffer.old.have_output ≡ false`
+fn move_back(buffer: &mut hb_buffer_t, start: usize, place: usize) {
+    debug_assert!(!buffer.have_output());
+    let to = new_place(buffer.info(), start, place);
+    if to < place {
+        let end = place.saturating_add(1);
+        merge(buffer, to, end);
+        move_last(buffer, to, end, 1);
+    }
+}
+
+/// The place of an item behind those before it whose positions come no later.
+fn new_place(infos: &[hb_glyph_info_t], start: usize, place: usize) -> usize {
+    let (Some(info), Some(before)) = (infos.get(place), infos.get(start..place)) else {
+        return place;
+    };
+    for turn in 0..before.len() {
+        let at = before.len() - turn;
+        if position(&before[at - 1]) <= position(info) {
+            return start.saturating_add(at);
+        }
+    }
+    start
+}
+
+/// Puts vowel signs on the left into reverse order, since the last one is seen first. What belongs to a
+/// sign stays behind it.
+fn turn_left_matras(syllable: &mut [hb_glyph_info_t]) {
+    let (first, count) = left_matras(syllable);
+    if count < 2 {
+        return;
+    }
+    let end = first.saturating_add(count);
+    turn(syllable, first, end);
+    let mut start = first;
+    for place in first..end {
+        start = turn_group(syllable, start, place);
+    }
+}
+
+/// Puts what stands from a place to another into reverse order, if a vowel sign is the last of it.
+/// Where the next group begins.
+fn turn_group(syllable: &mut [hb_glyph_info_t], start: usize, place: usize) -> usize {
+    if place >= syllable.len() || category(&syllable[place]) != Category::VowelPre {
+        return start;
+    }
+    let end = place.saturating_add(1);
+    turn(syllable, start, end);
+    end
+}
+
+/// The place of the first vowel sign on the left, and how many there are.
+fn left_matras(syllable: &[hb_glyph_info_t]) -> (usize, usize) {
+    let Some(first) = syllable
+        .iter()
+        .position(|info| position(info) == Position::PreMatra)
+    else {
+        return (0, 0);
+    };
+    let count = syllable
+        .iter()
+        .filter(|info| position(info) == Position::PreMatra)
+        .count();
+    (first, count)
+}

@@ -1,0 +1,93 @@
+// Written by tools/plain_rust from crates/script_universal. Do not edit.
+
+//! What the universal shaper keeps with an item: its category, and while syllables are found, whether they pass over it.
+
+use crate::buffer::{hb_buffer_t, hb_glyph_info_t};
+use crate::glyph::hb_gc::{
+    RB_UNICODE_GENERAL_CATEGORY_ENCLOSING_MARK, RB_UNICODE_GENERAL_CATEGORY_NON_SPACING_MARK,
+    RB_UNICODE_GENERAL_CATEGORY_SPACING_MARK,
+};
+use crate::script_syllables::item::{
+    category_byte, general_category, is_ligated, set_category_byte,
+};
+use crate::script_universal::universal::category::{UniversalCategory, universal_category_of};
+use UniversalCategory::*;
+
+/// Whether an item has a category.
+pub(crate) fn is(info: &hb_glyph_info_t, category: UniversalCategory) -> bool {
+    category_byte(info) == category as u8
+}
+
+/// Sets the category of an item.
+pub(crate) fn set(info: &mut hb_glyph_info_t, category: UniversalCategory) {
+    set_category_byte(info, category as u8);
+}
+
+/// Lets each character keep its category.
+///
+/// # Proved
+///
+/// ```text
+/// ensures { clusters infos.new ≡ clusters infos.old }
+/// ```
+#[inline]
+pub fn set_categories(infos: &mut [hb_glyph_info_t]) {
+    for place in 0..infos.len() {
+        let category = universal_category_of(infos[place].glyph_id);
+        set(&mut infos[place], category);
+    }
+}
+
+/// Whether the item is a halant, and no ligature.
+pub(crate) fn is_halant(info: &hb_glyph_info_t) -> bool {
+    !is_ligated(info)
+        && (is(info, Halant) || is(info, HalantOrVowelModifier) || is(info, InvisibleStacker))
+}
+
+/// Whether the item stands behind the base of its syllable, whatever comes before it.
+pub(crate) fn is_behind_base(info: &hb_glyph_info_t) -> bool {
+    let byte = category_byte(info);
+    (FinalAbove as u8 <= byte && byte <= MedialPre as u8)
+        || (VowelAbove as u8 <= byte && byte <= VowelModifierPre as u8)
+        || (FinalModifierAbove as u8 <= byte && byte <= FinalModifierPost as u8)
+}
+
+/// Lets each item keep whether syllables pass over it: joiners and what is like them, and a non-joiner
+/// before a mark.
+///
+/// # Requires
+///
+/// - `buffer.old.have_output ≡ false`
+pub(crate) fn mark_passed_over(buffer: &mut hb_buffer_t) {
+    debug_assert!(!buffer.have_output());
+    mark_items(buffer.info_slice_mut());
+}
+
+/// Does that in a list.
+fn mark_items(infos: &mut [hb_glyph_info_t]) {
+    let mut is_before_mark = false;
+    for turn in 0..infos.len() {
+        let info = &mut infos[infos.len() - 1 - turn];
+        let is_joiner = is(info, GraphemeJoiner);
+        set_passed_over(info, is_joiner || is_before_mark && is(info, NonJoiner));
+        if !is_joiner {
+            is_before_mark = is_mark(info);
+        }
+    }
+}
+
+/// Sets whether syllables pass over an item, in the fourth byte of `var2`.
+fn set_passed_over(info: &mut hb_glyph_info_t, is_passed_over: bool) {
+    let byte = if is_passed_over { 0x100_0000 } else { 0 };
+    info.var2 = info.var2 % 0x100_0000 + byte;
+}
+
+/// Whether the character is a mark.
+fn is_mark(info: &hb_glyph_info_t) -> bool {
+    matches!(
+        general_category(info),
+        RB_UNICODE_GENERAL_CATEGORY_SPACING_MARK
+            | RB_UNICODE_GENERAL_CATEGORY_ENCLOSING_MARK
+            | RB_UNICODE_GENERAL_CATEGORY_NON_SPACING_MARK
+    )
+}

@@ -1,0 +1,132 @@
+// Written by tools/plain_rust from crates/script_universal. Do not edit.
+
+//! Which features the items of syllables have.
+
+use crate::buffer::{hb_buffer_t, hb_glyph_info_t};
+use crate::script_syllables::item::add_mask;
+use crate::script_syllables::syllables::{kind_at, syllable_end};
+use crate::script_universal::universal::category::UniversalCategory;
+use crate::script_universal::universal::item::is;
+use crate::script_universal::universal::plan::{BROKEN, FormMasks};
+
+/// How many items may make a reph.
+const REPH_LENGTH: usize = 3;
+
+/// The last kind of syllables that join, but for broken ones.
+const SYMBOL: u8 = 5;
+
+/// Sets the mask of rephs on the first items of each syllable.
+///
+/// # Requires
+///
+/// - `buffer.old.have_output ≡ false`
+pub(crate) fn mask_rephs(buffer: &mut hb_buffer_t, mask: u32) {
+    debug_assert!(!buffer.have_output());
+    mask_all_rephs(buffer.info_slice_mut(), mask);
+}
+
+/// Does that in a list.
+fn mask_all_rephs(infos: &mut [hb_glyph_info_t], mask: u32) {
+    let mut start = 0;
+    for _turn in 0..infos.len() {
+        if start >= infos.len() {
+            break;
+        }
+        let end = syllable_end(infos, start);
+        mask_reph(infos, start, end, mask);
+        start = end;
+    }
+}
+
+/// Sets the mask of rephs on the first items of a syllable: on one that is a reph already, or on three.
+fn mask_reph(infos: &mut [hb_glyph_info_t], start: usize, end: usize, mask: u32) {
+    let count = match infos.get(start) {
+        Some(first) if is(first, UniversalCategory::Repha) => 1,
+        _ => REPH_LENGTH,
+    };
+    add_mask(infos, start, end.min(start.saturating_add(count)), mask);
+}
+
+/// How a syllable stands in its word, as far as it was read.
+#[derive(Clone, Copy, PartialEq, Eq, Debug)]
+enum Form {
+    /// It is none that joins.
+    Unformed,
+    /// It is alone.
+    Alone,
+    /// It is the last.
+    Last,
+}
+
+/// Gives the items of each syllable the form of its place in a word: neighbours join, whatever they
+/// are.
+///
+/// # Requires
+///
+/// - `buffer.old.have_output ≡ false`
+pub(crate) fn mask_forms(buffer: &mut hb_buffer_t, masks: &FormMasks) {
+    debug_assert!(!buffer.have_output());
+    set_forms(buffer.info_slice_mut(), masks);
+}
+
+/// Does that in a list.
+fn set_forms(infos: &mut [hb_glyph_info_t], masks: &FormMasks) {
+    if masks.all() == 0 {
+        return;
+    }
+    let (mut before, mut start) = (0, 0);
+    let mut form = Form::Unformed;
+    for _turn in 0..infos.len() {
+        if start >= infos.len() {
+            break;
+        }
+        let end = syllable_end(infos, start);
+        let joined = if form == Form::Last {
+            masks.medi
+        } else {
+            masks.init
+        };
+        form = next_form(kind_at(infos, start), form);
+        if form == Form::Last {
+            set_form(infos, before, start, masks, joined);
+        }
+        if form != Form::Unformed {
+            set_form(infos, start, end, masks, own_mask(form, masks));
+        }
+        before = start;
+        start = end;
+    }
+}
+
+/// The mask of the last syllable that was read.
+fn own_mask(form: Form, masks: &FormMasks) -> u32 {
+    if form == Form::Last {
+        masks.fina
+    } else {
+        masks.isol
+    }
+}
+
+/// Whether syllables of a kind join.
+pub(crate) fn joins(kind: u8) -> bool {
+    kind <= SYMBOL || kind == BROKEN
+}
+
+/// The form of a syllable of a kind, behind one of the form `last`.
+fn next_form(kind: u8, last: Form) -> Form {
+    if !joins(kind) {
+        Form::Unformed
+    } else if last == Form::Unformed {
+        Form::Alone
+    } else {
+        Form::Last
+    }
+}
+
+/// Gives the items from `start` to `end` the mask of a form, and takes those of the other forms.
+fn set_form(infos: &mut [hb_glyph_info_t], start: usize, end: usize, masks: &FormMasks, mask: u32) {
+    let all = masks.all();
+    for place in start..end.min(infos.len()) {
+        infos[place].mask = infos[place].mask & !all | mask;
+    }
+}
