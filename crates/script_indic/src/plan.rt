@@ -9,11 +9,12 @@ use crate::final_order::order_finally;
 use crate::item::is_multiplied;
 use crate::machine::indic_machine;
 use crate::reordering::order_initially;
+use ot_map::Pause;
 use rb_common::{Script, Tag, script};
+use script_syllables::FontForms;
 use script_syllables::grammar::Grammar;
 use script_syllables::item::is_ligated;
 use script_syllables::syllables::find_syllables;
-use script_syllables::{FontForms, SyllablePause};
 use shaping_buffer::hb_buffer_t;
 use std::alloc::{AllocError, Global};
 
@@ -81,19 +82,19 @@ impl IndicPlan {
         alloc: Global,
         buffer: &mut hb_buffer_t,
         font: &mut F,
-        pause: SyllablePause,
+        pause: Pause,
     ) -> Result<bool, AllocError>
         requires { buffer.old.have_output ≡ false }
         ensures closed { IfOk result (λ done. done ≡ true → buffer.new.have_output ≡ false) }
         ensures keeps { KeepsNumbers buffer.old buffer.new }
     {
         match pause {
-            SyllablePause::SetUp => {
+            Pause::SetUpSyllables => {
                 self.setup_syllables(buffer);
                 Ok(true)
             }
-            SyllablePause::InitialReordering => self.initial_reordering(alloc, buffer, font),
-            SyllablePause::FinalReordering => {
+            Pause::InitialReordering => self.initial_reordering(alloc, buffer, font),
+            Pause::FinalReordering => {
                 self.final_reordering(buffer, font);
                 Ok(true)
             }
