@@ -5,15 +5,16 @@
 use crate::buffer::hb_buffer_t;
 use crate::common::{Script, Tag, script};
 use crate::memory::AllocError;
+use crate::ot_map::Pause;
 use crate::script_indic::configuration::IndicConfiguration;
 use crate::script_indic::final_order::order_finally;
 use crate::script_indic::item::is_multiplied;
 use crate::script_indic::machine::indic_machine;
 use crate::script_indic::reordering::order_initially;
+use crate::script_syllables::FontForms;
 use crate::script_syllables::grammar::Grammar;
 use crate::script_syllables::item::is_ligated;
 use crate::script_syllables::syllables::find_syllables;
-use crate::script_syllables::{FontForms, SyllablePause};
 
 /// The kind of syllables without a base.
 pub(crate) const BROKEN: u8 = 4;
@@ -105,16 +106,16 @@ impl IndicPlan {
 
         buffer: &mut hb_buffer_t,
         font: &mut F,
-        pause: SyllablePause,
+        pause: Pause,
     ) -> Result<bool, AllocError> {
         debug_assert!(!buffer.have_output());
         match pause {
-            SyllablePause::SetUp => {
+            Pause::SetUpSyllables => {
                 self.setup_syllables(buffer);
                 Ok(true)
             }
-            SyllablePause::InitialReordering => self.initial_reordering(buffer, font),
-            SyllablePause::FinalReordering => {
+            Pause::InitialReordering => self.initial_reordering(buffer, font),
+            Pause::FinalReordering => {
                 self.final_reordering(buffer, font);
                 Ok(true)
             }
