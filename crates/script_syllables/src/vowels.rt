@@ -61,6 +61,7 @@ fn read_next(buffer: &mut hb_buffer_t) -> Result<bool, AllocError>
     let Some(count) = sequence_length(buffer) else {
         return buffer.next_glyph();
     };
+    keep_sequence(buffer, count);
     if count == 0 || count > buffer.lookahead_len() || !buffer.next_glyphs(count - 1)? {
         return Ok(false);
     }
@@ -72,6 +73,16 @@ fn read_next(buffer: &mut hb_buffer_t) -> Result<bool, AllocError>
         return Ok(true);
     }
     buffer.next_glyph()
+}
+
+/// Marks a sequence at the cursor as unsafe to break: its last character alone has no dotted circle.
+fn keep_sequence(buffer: &mut hb_buffer_t, count: usize)
+    requires { buffer.old.have_output ≡ true }
+    ensures opened { buffer.new.have_output ≡ true }
+    ensures keeps { KeepsClusters buffer.old buffer.new }
+{
+    let start = buffer.idx();
+    buffer.unsafe_to_break(Some(start), Some(start.saturating_add(count)));
 }
 
 /// How many characters the sequence at the cursor has; `None` where there is none.
