@@ -95,8 +95,8 @@ def test_program(tally, room):
     with (stored / "stdin").open() as lines:
         ran = subprocess.run(
             [program, *(stored / "args").read_text().split()], cwd=stored / "data", stdin=lines, capture_output=True, text=True)
-    told, status = (stored / "stdout").read_text(), int((stored / "status").read_text())
-    fault = "" if (ran.stdout, ran.stderr, ran.returncode) == (told, "", status) else f"status {ran.returncode}\n{ran.stderr}{ran.stdout}"
+    told, steps, status = (stored / "stdout").read_text(), (stored / "stderr").read_text(), int((stored / "status").read_text())
+    fault = "" if (ran.stdout, ran.stderr, ran.returncode) == (told, steps, status) else f"status {ran.returncode}\n{ran.stderr}{ran.stdout}"
     tally.note("its stored run, which is the proved program's", fault)
     tally.note("on several threads it answers as on one", jobs_tests.faults(program, room))
 

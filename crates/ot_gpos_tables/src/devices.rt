@@ -63,7 +63,8 @@ pub fn device_delta(table: &[u8], offset: u16, ppem: u16, size: i32) -> i32
         return 0;
     }
     let pixels = delta_pixels(tail(table, usize::from(offset)), ppem);
-    saturated(i128::from(i64::from(pixels).saturating_mul(i64::from(size)) / i64::from(ppem)))
+    let length = i64::from(pixels).saturating_mul(i64::from(size));
+    saturated(i128::from(length) / i128::from(ppem))
 }
 
 /// By how many pixels a number is corrected at a size.
