@@ -2,13 +2,13 @@
 //! specification, "OpenType Layout Common Table Formats", "Device and VariationIndex tables").
 
 ghost use Rattle.std.specs.Prelude.{◌≡◌, ◌<◌, ◌≤◌, ◌^◌, false};
+ghost use Rattle.std.specs.Int.{saturate_signed, w32};
 ghost use Rattle.ot_gpos_tables.specs.Devices.{delta_pixels, packed_value, signed_of_bits, device_delta};
 ghost use Rattle.font_variations.specs.VariationStore.{is_varied};
 ghost use Rattle.ot_gpos_tables.specs.Corrections.{variation_index, x_correction, y_correction};
 
 use crate::instance::Instance;
 use font_tables::bytes::{tail, u16_at, u32_at};
-use font_tables::scale::saturated;
 
 /// The correction of a number across by the device table, or the table of variations, that an offset leads to, from the start
 /// of `table`. It is 0 where the offset is 0.
@@ -63,8 +63,7 @@ pub fn device_delta(table: &[u8], offset: u16, ppem: u16, size: i32) -> i32
         return 0;
     }
     let pixels = delta_pixels(tail(table, usize::from(offset)), ppem);
-    let length = i64::from(pixels).saturating_mul(i64::from(size));
-    saturated(i128::from(length) / i128::from(ppem))
+    saturated(i64::from(pixels).saturating_mul(i64::from(size)) / i64::from(ppem))
 }
 
 /// By how many pixels a number is corrected at a size.
@@ -121,5 +120,18 @@ fn signed_of_bits(bits: u32, number: u16) -> i32
         number
     } else {
         number - (1 << bits)
+    }
+}
+
+/// The nearest number of 32 bits.
+fn saturated(value: i64) -> i32
+    ensures { result ≡ saturate_signed w32 value }
+{
+    if value < -0x8000_0000 {
+        i32::MIN
+    } else if value > 0x7FFF_FFFF {
+        i32::MAX
+    } else {
+        value as i32
     }
 }
