@@ -4,7 +4,6 @@
 //! specification, "OpenType Layout Common Table Formats", "Device and VariationIndex tables").
 
 use crate::font_tables::bytes::{tail, u16_at, u32_at};
-use crate::font_tables::scale::saturated;
 use crate::ot_gpos_tables::instance::Instance;
 
 /// The correction of a number across by the device table, or the table of variations, that an offset
@@ -70,8 +69,7 @@ pub fn device_delta(table: &[u8], offset: u16, ppem: u16, size: i32) -> i32 {
         return 0;
     }
     let pixels = delta_pixels(tail(table, usize::from(offset)), ppem);
-    let length = i64::from(pixels).saturating_mul(i64::from(size));
-    saturated(i128::from(length) / i128::from(ppem))
+    saturated(i64::from(pixels).saturating_mul(i64::from(size)) / i64::from(ppem))
 }
 
 /// By how many pixels a number is corrected at a size.
@@ -129,5 +127,16 @@ fn signed_of_bits(bits: u32, number: u16) -> i32 {
         number
     } else {
         number - (1 << bits)
+    }
+}
+
+/// The nearest number of 32 bits.
+fn saturated(value: i64) -> i32 {
+    if value < -0x8000_0000 {
+        i32::MIN
+    } else if value > 0x7FFF_FFFF {
+        i32::MAX
+    } else {
+        value as i32
     }
 }
