@@ -92,7 +92,6 @@ fn read_next(buffer: &mut hb_buffer_t) -> Result<bool, AllocError> {
     buffer.next_glyph()
 }
 
-<<<<<<< HEAD
 /// Marks a sequence at the cursor as unsafe to break: its last character alone has no dotted circle.
 ///
 /// # Requires
@@ -102,7 +101,8 @@ fn keep_sequence(buffer: &mut hb_buffer_t, count: usize) {
     debug_assert!(buffer.have_output());
     let start = buffer.idx();
     buffer.unsafe_to_break(Some(start), Some(start.saturating_add(count)));
-=======
+}
+
 /// Whether the text has such a sequence.
 fn has_sequence(buffer: &hb_buffer_t) -> bool {
     let infos = buffer.info();
@@ -112,7 +112,6 @@ fn has_sequence(buffer: &hb_buffer_t) -> bool {
         }
     }
     false
->>>>>>> 39ff86f41c8deafbefd6215964fb2f5a196a72c1
 }
 
 /// How many characters the sequence at the cursor has; `None` where there is none.
