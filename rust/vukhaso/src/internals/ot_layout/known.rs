@@ -96,7 +96,8 @@ pub(crate) fn make_room(known: &mut Vec<Known>, subtables: usize) -> Result<(), 
 }
 
 /// Where a coverage is remembered, the number of slots being a power of two. Each stands in the bytes
-/// from its place to the end of the same table, so that their number tells the place.
+/// from its place to the end of the same table, so that their number tells the place; times the golden
+/// ratio, places at any distance from one another are spread.
 #[inline(always)]
 fn slot_of(len: usize, slots: usize) -> usize {
     (len.wrapping_mul(GOLDEN_RATIO) >> 57) & slots.saturating_sub(1)
