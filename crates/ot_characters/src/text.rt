@@ -12,6 +12,7 @@ use ot_normalization::allows_any_order;
 use ot_normalization::glyph_info::{
     general_category, is_continuation, is_unicode_mark, set_unicode_props,
 };
+use script_joining::joining::turned_contexts::keep_turned_contexts;
 use shaping_buffer::rb_glyph::hb_gc::RB_UNICODE_GENERAL_CATEGORY_MODIFIER_SYMBOL;
 use shaping_buffer::{
     BufferFlags, CharExt, Direction, Flags, HB_BUFFER_CLUSTER_LEVEL_MONOTONE_GRAPHEMES,
@@ -182,14 +183,31 @@ pub fn ensure_native_direction(buffer: &mut hb_buffer_t) -> bool
     ensures closed { buffer.new.have_output ≡ false }
     ensures runs { KeepsOrTurns result buffer.old buffer.new }
 {
-    let direction = buffer.direction;
-    let native = native_direction(buffer);
-    let is_against = direction.is_horizontal() && native.is_some_and(|native| native != direction)
-        || direction.is_vertical() && direction != Direction::TopToBottom;
+    let is_against = is_to_be_turned(buffer);
     if is_against {
-        reverse_graphemes(buffer, direction.reverse());
+        let direction = buffer.direction.reverse();
+        reverse_graphemes(buffer, direction);
     }
     is_against
+}
+
+/// Marks as unsafe to break where a text that runs against its script would be shaped otherwise by contexts, which are not reversed with it.
+pub fn keep_contexts(buffer: &mut hb_buffer_t)
+    requires { buffer.old.have_output ≡ false }
+    ensures closed { buffer.new.have_output ≡ false }
+    ensures keeps { KeepsClusters buffer.old buffer.new }
+{
+    if is_to_be_turned(buffer) {
+        keep_turned_contexts(buffer);
+    }
+}
+
+/// Whether the text runs against its script.
+fn is_to_be_turned(buffer: &hb_buffer_t) -> bool {
+    let direction = buffer.direction;
+    let native = native_direction(buffer);
+    direction.is_horizontal() && native.is_some_and(|native| native != direction)
+        || direction.is_vertical() && direction != Direction::TopToBottom
 }
 
 /// Puts the graphemes into reverse order, each in its own order, so that the text runs in this direction. Where clusters have to

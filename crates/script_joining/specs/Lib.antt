@@ -1,4 +1,5 @@
 pub mod Joining
 pub mod JoiningRows
 pub mod Listed
+pub mod TurnedContexts
 pub mod Flags

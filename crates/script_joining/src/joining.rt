@@ -5,3 +5,4 @@ pub mod form;
 pub(crate) mod forms;
 pub mod kind;
 mod rows;
+pub mod turned_contexts;

@@ -11,5 +11,6 @@ pub use glyph_info::is_decimal_number;
 pub use numbers::keep_numbers;
 pub use rotation::rotate_characters;
 pub use text::{
-    ensure_native_direction, form_clusters, insert_dotted_circle, set_direction, set_properties,
+    ensure_native_direction, form_clusters, insert_dotted_circle, keep_contexts, set_direction,
+    set_properties,
 };

@@ -17,6 +17,7 @@ use crate::ot_normalization::allows_any_order;
 use crate::ot_normalization::glyph_info::{
     general_category, is_continuation, is_unicode_mark, set_unicode_props,
 };
+use crate::script_joining::joining::turned_contexts::keep_turned_contexts;
 
 /// No character before this one goes on with a grapheme: the first that emoji are made from.
 const FIRST_PICTOGRAPHIC: u32 = 0xA9;
@@ -225,14 +226,41 @@ fn form_cluster(buffer: &mut hb_buffer_t, start: usize, end: usize, merges: bool
 #[inline]
 pub fn ensure_native_direction(buffer: &mut hb_buffer_t) -> bool {
     debug_assert!(!buffer.have_output());
-    let direction = buffer.direction;
-    let native = native_direction(buffer);
-    let is_against = direction.is_horizontal() && native.is_some_and(|native| native != direction)
-        || direction.is_vertical() && direction != Direction::TopToBottom;
+    let is_against = is_to_be_turned(buffer);
     if is_against {
-        reverse_graphemes(buffer, direction.reverse());
+        let direction = buffer.direction.reverse();
+        reverse_graphemes(buffer, direction);
     }
     is_against
+}
+
+/// Marks as unsafe to break where a text that runs against its script would be shaped otherwise by
+/// contexts, which are not reversed with it.
+///
+/// # Requires
+///
+/// - `buffer.old.have_output ≡ false`
+///
+/// # Proved
+///
+/// ```text
+/// ensures closed { buffer.new.have_output ≡ false }
+/// ensures keeps { KeepsClusters buffer.old buffer.new }
+/// ```
+#[inline]
+pub fn keep_contexts(buffer: &mut hb_buffer_t) {
+    debug_assert!(!buffer.have_output());
+    if is_to_be_turned(buffer) {
+        keep_turned_contexts(buffer);
+    }
+}
+
+/// Whether the text runs against its script.
+fn is_to_be_turned(buffer: &hb_buffer_t) -> bool {
+    let direction = buffer.direction;
+    let native = native_direction(buffer);
+    direction.is_horizontal() && native.is_some_and(|native| native != direction)
+        || direction.is_vertical() && direction != Direction::TopToBottom
 }
 
 /// Puts the graphemes into reverse order, each in its own order, so that the text runs in this

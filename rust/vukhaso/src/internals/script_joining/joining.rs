@@ -7,3 +7,4 @@ pub mod form;
 pub(crate) mod forms;
 pub mod kind;
 mod rows;
+pub mod turned_contexts;
