@@ -5,6 +5,7 @@ mod glyph_info;
 mod numbers;
 mod rotation;
 mod text;
+mod turned_contexts;
 
 pub use glyph_info::is_decimal_number;
 pub use numbers::keep_numbers;

@@ -7,12 +7,12 @@ ghost use Rattle.ot_characters.specs.Turned.{KeepsOrTurns};
 
 use crate::glyph_info::{is_regional_indicator, is_same_grapheme, is_zwj, set_continuation};
 use crate::numbers::{are_numbers, is_against_script};
+use crate::turned_contexts::keep_turned_contexts;
 use font_functions::FontFunctions;
 use ot_normalization::allows_any_order;
 use ot_normalization::glyph_info::{
     general_category, is_continuation, is_unicode_mark, set_unicode_props,
 };
-use script_joining::joining::turned_contexts::keep_turned_contexts;
 use shaping_buffer::rb_glyph::hb_gc::RB_UNICODE_GENERAL_CATEGORY_MODIFIER_SYMBOL;
 use shaping_buffer::{
     BufferFlags, CharExt, Direction, Flags, HB_BUFFER_CLUSTER_LEVEL_MONOTONE_GRAPHEMES,

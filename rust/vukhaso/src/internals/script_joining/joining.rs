@@ -7,4 +7,3 @@ pub mod form;
 pub(crate) mod forms;
 pub mod kind;
 mod rows;
-pub mod turned_contexts;

@@ -53,7 +53,7 @@ fn set_forms_in(buffer: &mut hb_buffer_t, before: JoiningType, behind: JoiningTy
 }
 
 /// The type of the first of these characters that is not transparent.
-pub(crate) fn first_type(characters: &[char]) -> Option<JoiningType> {
+fn first_type(characters: &[char]) -> Option<JoiningType> {
     for character in characters {
         let kind = joining_type(*character as u32, is_transparent(*character));
         if kind != Transparent {

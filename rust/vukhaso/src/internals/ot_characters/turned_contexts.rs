@@ -1,16 +1,18 @@
-// Written by tools/plain_rust from crates/script_joining. Do not edit.
+// Written by tools/plain_rust from crates/ot_characters. Do not edit.
 
 //! The contexts of a text that is turned, as Arabic in a line from left to right. Its letters stand in turn, and the characters before and
 //! behind it do not: the last letter is by the character before the text, and the first by the one behind. So where a part has the other
 //! as its context, letters far from the cut may have other forms.
 
-use crate::buffer::{hb_buffer_t, hb_glyph_info_t};
-use crate::glyph::UnicodeProps;
-use crate::script_items::item::is_mark_or_format;
-use crate::script_joining::arabic::masks::first_type;
-use crate::script_joining::joining::form::form_between;
-use crate::script_joining::joining::kind::JoiningType::{self, *};
-use crate::script_joining::joining::kind::joining_type;
+use crate::buffer::{CharExt, hb_buffer_t, hb_glyph_info_t};
+use crate::glyph::hb_gc::{
+    RB_UNICODE_GENERAL_CATEGORY_ENCLOSING_MARK, RB_UNICODE_GENERAL_CATEGORY_FORMAT,
+    RB_UNICODE_GENERAL_CATEGORY_NON_SPACING_MARK,
+};
+use crate::glyph::hb_unicode_general_category_t;
+use crate::ot_normalization::glyph_info::{general_category, is_continuation};
+use crate::script_joining::JoiningType::{self, *};
+use crate::script_joining::joining_type;
 
 /// The letters at the edges of a text, and the nearest beyond.
 #[derive(Clone, Copy, Debug)]
@@ -46,12 +48,29 @@ impl Edges {
 
 /// Whether the form of a letter differs as one or another stands before it.
 fn differs_by_previous(own: JoiningType, one: JoiningType, other: JoiningType) -> bool {
-    form_between(one, own, NonJoining).number() != form_between(other, own, NonJoining).number()
+    match own {
+        Right | Dual | DalathRish => one.joins_next() != other.joins_next(),
+        Alaph => side_of(one) != side_of(other),
+        NonJoining | Left | Transparent => false,
+    }
+}
+
+/// What a letter is to an alaph behind it, which has a form of its own for each.
+fn side_of(before: JoiningType) -> u8 {
+    match before {
+        Left | Dual => 1,
+        DalathRish => 2,
+        Right | Alaph => 3,
+        NonJoining | Transparent => 0,
+    }
 }
 
 /// Whether the form of a letter differs as one or another stands behind it.
 fn differs_by_next(own: JoiningType, one: JoiningType, other: JoiningType) -> bool {
-    form_between(Left, own, one).number() != form_between(Left, own, other).number()
+    match own {
+        Left | Dual | Alaph => one.joins_previous() != other.joins_previous(),
+        NonJoining | Right | DalathRish | Transparent => false,
+    }
 }
 
 /// Marks as unsafe to break where letters at the edges of a text that is to be turned have other forms
@@ -62,15 +81,7 @@ fn differs_by_next(own: JoiningType, one: JoiningType, other: JoiningType) -> bo
 /// That no output is open.
 ///
 /// - `buffer.old.have_output ≡ false`
-///
-/// # Proved
-///
-/// ```text
-/// ensures closed { buffer.new.have_output ≡ false }
-/// ensures keeps { KeepsClusters buffer.old buffer.new }
-/// ```
-#[inline]
-pub fn keep_turned_contexts(buffer: &mut hb_buffer_t) {
+pub(crate) fn keep_turned_contexts(buffer: &mut hb_buffer_t) {
     debug_assert!(!buffer.have_output());
     let edges = Edges::of(buffer);
     let mut last = None;
@@ -121,9 +132,41 @@ fn are_joined(infos: &[hb_glyph_info_t], start: usize, next: usize) -> bool {
 /// The type of the character at a place.
 fn type_at(infos: &[hb_glyph_info_t], place: usize) -> JoiningType {
     match infos.get(place) {
-        Some(info) => joining_type(info.glyph_id, is_mark_or_format(info)),
+        Some(info) => joining_type(info.glyph_id, is_transparent(info)),
         None => Transparent,
     }
+}
+
+/// Whether letters join across the character, if Unicode does not list how it joins: a mark that takes
+/// no space, or a format character.
+fn is_transparent(info: &hb_glyph_info_t) -> bool {
+    matches!(
+        general_category(info),
+        RB_UNICODE_GENERAL_CATEGORY_NON_SPACING_MARK
+            | RB_UNICODE_GENERAL_CATEGORY_ENCLOSING_MARK
+            | RB_UNICODE_GENERAL_CATEGORY_FORMAT
+    )
+}
+
+/// The type of the first of these characters that is not transparent.
+fn first_type(characters: &[char]) -> Option<JoiningType> {
+    for character in characters {
+        let own = joining_type(*character as u32, is_transparent_character(*character));
+        if own != Transparent {
+            return Some(own);
+        }
+    }
+    None
+}
+
+/// The same of a character beside the text.
+fn is_transparent_character(character: char) -> bool {
+    matches!(
+        character.general_category(),
+        hb_unicode_general_category_t::NonspacingMark
+            | hb_unicode_general_category_t::EnclosingMark
+            | hb_unicode_general_category_t::Format
+    )
 }
 
 /// The type of the letter that stands last once the graphemes of a text are turned: the last one of the
@@ -156,9 +199,4 @@ fn last_letter(infos: &[hb_glyph_info_t]) -> JoiningType {
 fn letter_at(infos: &[hb_glyph_info_t], place: usize) -> Option<JoiningType> {
     let own = type_at(infos, place);
     if own == Transparent { None } else { Some(own) }
-}
-
-/// Whether the character goes on with the grapheme before it.
-fn is_continuation(info: &hb_glyph_info_t) -> bool {
-    info.unicode_props() & UnicodeProps::CONTINUATION.bits() != 0
 }
