@@ -7,3 +7,8 @@
 pub mod MaskLemmas
 pub mod AllocationLemmas
 pub mod OrderLemmas
+pub mod MapLemmas
+pub mod LookupLemmas
+pub mod MergedLemmas
+pub mod FoundLemmas
+pub mod CollectedLemmas
