@@ -6,6 +6,8 @@ be, and an operator or a loop as a call of each that a type of the crate has for
 none, and none is missed.
 """
 
+import hashlib
+import json
 import re
 import time
 from collections import defaultdict
@@ -13,7 +15,7 @@ from dataclasses import dataclass, field
 from functools import lru_cache
 
 from rattle_source import every
-from scratch import ROOT, Scratch, side_by_side
+from scratch import PARTS, ROOT, libraries, run, side_by_side, with_below
 from wrong_bodies import changed_functions, functions_of, is_named, is_of_a_goal, left_open, readers_of, speaks_of, texts_with
 
 # What the checks said.
@@ -152,80 +154,122 @@ def verdict_alone(edit, lines):
         return True, f"refused in {found}, alone"
     if left and goals:
         return False, f"NOT REFUSED in its own function, and only in {', '.join(left[:3])}"
-    if any(line.startswith("logic=proved") for line in lines):
-        return False, "NOT REFUSED: the crate is proved with it, so it means the same, or the contract says too little"
+    if any(re.match(r"logic=proved|only=(\d+) proved=\1$", line) for line in lines):
+        return False, "NOT REFUSED: it is proved, so it means the same, or the contract says too little"
     said = next((line for line in lines if re.match(r"rattle: |.*: error", line)), lines[-1] if lines else "nothing")
     return False, f"NOT TRIED: {said[:200]}"
 
 
-def tried(scratch, edits, texts, functions=()):
-    """The lines of a check of a crate with these texts, of these functions alone where some are named."""
+def tried(place, edits, texts):
+    """The lines of a check with these texts: of the functions that these edits change, or of the whole crate, where one changes a table."""
     crate = edits[0].crate
     own = {path.relative_to(crate): text for path, text in texts.items()}
-    only = [word for it in functions for word in ("--only", it.printed(crate))]
-    lines = scratch.tried(crate.name, own, ["--jobs", "1", *only])[1]
+    only = [word for edit in edits for it in changed_functions(edit) for word in ("--only", it.printed(crate))]
+    lines = place.tried(crate.name, own, ["--jobs", "1", *only])[1]
     with LOG.open("a") as log:
         log.write("".join(f"{line}\n" for line in (f"== {' '.join(edit.label for edit in edits)}", *lines)))
     return lines
 
 
-class Tries:
-    """The tries of edits: those of a batch at once, and alone those of which that says nothing."""
+class Kept:
+    """The edits that an earlier run refused, each by a sum of the edit and of all that its check read."""
 
-    def __init__(self, scratch):
-        self.scratch, self.begun, self.told, self.failed = scratch, time.monotonic(), 0, 0
+    def __init__(self, is_anew):
+        self.file, self.sums = ROOT / "out/edits.json", {}
+        self.crates, self.kit = libraries(), run(["rt", "version"], ROOT).stdout
+        self.said = {} if is_anew or not self.file.exists() else json.loads(self.file.read_text())
+
+    def of_crate(self, name):
+        if name not in self.sums:
+            sum = hashlib.sha256(self.kit.encode())
+            for it in sorted(with_below([name], self.crates)):
+                files = sorted(path for part in PARTS for path in (ROOT / "crates" / it / part).rglob("*") if path.is_file())
+                for path in files:
+                    sum.update(repr((str(path.relative_to(ROOT)), path.read_bytes())).encode())
+            self.sums[name] = sum.hexdigest()
+        return self.sums[name]
+
+    def key(self, edit):
+        pairs = [(pair.file, pair.old, pair.new) for pair in edit.pairs]
+        return hashlib.sha256(repr((self.of_crate(edit.crate.name), pairs)).encode()).hexdigest()
+
+    def keep(self, edit, said):
+        self.said[self.key(edit)] = said
+        self.file.with_suffix(".new").write_text(json.dumps(self.said))
+        self.file.with_suffix(".new").replace(self.file)
+
+
+class Tries:
+    """The tries of edits: those of a batch at once, and alone those of which that says nothing. What is refused is kept, and
+    where the time is over no other try begins."""
+
+    def __init__(self, place, kept, seconds):
+        self.place, self.kept, self.begun = place, kept, time.monotonic()
+        self.ends = self.begun + seconds
+        self.passed, self.failed, self.left = 0, 0, 0
 
     def try_batch(self, batch):
         """The edits of a batch, each with whether it is refused, or None where that is not known, and the words for it. What
         calls the functions that are changed is not checked."""
-        functions = [it for edit in batch.edits for it in changed_functions(edit)]
-        if not functions:
+        if time.monotonic() > self.ends:
+            self.left += len(batch.edits)
+            return []
+        if not changed_functions(batch.edits[0]):
             return self.try_alone(batch.edits[0])
-        lines = tried(self.scratch, batch.edits, batch.texts, functions)
+        lines = tried(self.place, batch.edits, batch.texts)
         names = [(edit, refused_in(edit, lines)) for edit in batch.edits]
         return [(edit, True, f"refused in {name}") if name else (edit, None, "") for edit, name in names]
 
     def try_alone(self, edit):
-        return [(edit, *verdict_alone(edit, tried(self.scratch, [edit], texts_with(edit, "new", {}))))]
+        return [(edit, *verdict_alone(edit, tried(self.place, [edit], texts_with(edit, "new", {}))))]
 
     def run(self, edits):
+        self.passed = sum(self.kept.key(edit) in self.kept.said for edit in edits)
+        if self.passed:
+            print(f"{self.passed} of {len(edits)} were refused in an earlier run, and nothing that they stand on has changed", flush=True)
+        edits = [edit for edit in edits if self.kept.key(edit) not in self.kept.said]
         tasks, open_edits = [], []
         crates = sorted({edit.crate for edit in edits})
         for crate in crates:
-            needs = self.scratch.needs(crate.name)
+            needs = self.place.needs(crate.name)
             batches = batches_of(crate, [edit for edit in edits if edit.crate == crate])
             tasks += [(needs, lambda batch=batch: self.try_batch(batch)) for batch in batches]
         print(f"{len(edits)} wrong bodies of {len(crates)} crates, in {len(tasks)} batches", flush=True)
         self.tell(tasks, open_edits)
         if open_edits:
             print(f"alone: {len(open_edits)} of which their batch does not tell", flush=True)
-            alone = [(self.scratch.needs(edit.crate.name), lambda edit=edit: self.try_alone(edit)) for edit in open_edits]
+            alone = [(self.place.needs(edit.crate.name), lambda edit=edit: self.try_alone(edit)) for edit in open_edits]
             self.tell(alone, [])
 
     def tell(self, tasks, open_edits):
         """Runs the tasks, the largest first, and prints what each edit came to as they end."""
         for number, found in enumerate(side_by_side(sorted(tasks, key=lambda it: -it[0])), 1):
-            print(f"[{time.monotonic() - self.begun:.0f} s, {number} of {len(tasks)}]", flush=True)
+            if found:
+                print(f"[{time.monotonic() - self.begun:.0f} s, {number} of {len(tasks)}]", flush=True)
             for edit, is_refused, said in found:
                 if is_refused is None:
                     open_edits.append(edit)
                     continue
-                self.told += 1
+                self.passed += is_refused
                 self.failed += not is_refused
+                if is_refused:
+                    self.kept.keep(edit, said)
                 print(f"{edit.label}: {said}", flush=True)
 
 
-def try_all(edits):
-    """Plants all these edits, and prints how many are refused. Returns how many are not. What the checks said stands in `LOG`."""
+def try_all(edits, places, is_anew=False, seconds=float("inf")):
+    """Plants all these edits in a place of this kind, and prints how many are refused. Returns how many are not. What the checks said
+    stands in `LOG`."""
     LOG.parent.mkdir(exist_ok=True)
     LOG.write_text("")
-    with Scratch({edit.crate.name for edit in edits}) as scratch:
-        print("the crates as they stand", flush=True)
-        open_crates, said = scratch.prove()
+    with places({edit.crate.name for edit in edits}) as place:
+        open_crates, said = place.prove()
         if open_crates:
             print(said[-3000:], f"not proved as they stand: {' '.join(open_crates)}", f"0 passed, {len(edits)} failed", sep="\n")
             return len(edits)
-        tries = Tries(scratch)
+        tries = Tries(place, Kept(is_anew), seconds)
         tries.run(edits)
-    print(f"in {time.monotonic() - tries.begun:.0f} seconds", f"{tries.told - tries.failed} passed, {tries.failed} failed", sep="\n")
-    return tries.failed
+    if tries.left:
+        print(f"the time is over, and {tries.left} are left for another run")
+    print(f"in {time.monotonic() - tries.begun:.0f} seconds", f"{tries.passed} passed, {tries.failed} failed", sep="\n")
+    return tries.failed + tries.left

@@ -74,6 +74,12 @@ def count_of_lines(crate, ending):
     return sum(path.read_bytes().count(b"\n") for part in PARTS[:3] for path in (crate / part).rglob(f"*{ending}"))
 
 
+def likely_need(crate, below):
+    """The memory in bytes that a try in this crate is likely to take: what `rt ci` reckons with, over kept work."""
+    of_libraries = sum(count_of_lines(it, ".rt") for it in below)
+    return 0.7 * (1e9 + 1e6 * count_of_lines(crate, ".rt") + 2e5 * count_of_lines(crate, ".antt") + 8e4 * of_libraries)
+
+
 def free_memory():
     found = re.search(r"MemAvailable:\s+(\d+)", Path("/proc/meminfo").read_text())
     return 1024 * int(found[1])
@@ -125,12 +131,8 @@ class Scratch:
         return re.findall(r"^(\w+): (?:failed|not run)", ran.stdout, re.M) or ["?"] * (ran.returncode != 0), ran.stdout
 
     def needs(self, name):
-        """The memory in bytes that a try in this crate is likely to take: what `rt ci` reckons with, over kept work."""
-        crate = self.base / "crates" / name
         below = with_below([name], self.crates) - {name}
-        of_libraries = sum(count_of_lines(self.base / "crates" / it, ".rt") for it in below)
-        lines, answers = count_of_lines(crate, ".rt"), count_of_lines(crate, ".antt")
-        return 0.7 * (1e9 + 1e6 * lines + 2e5 * answers + 8e4 * of_libraries)
+        return likely_need(self.base / "crates" / name, [self.base / "crates" / it for it in below])
 
     def tried(self, name, texts, words):
         """Whether `rt check` proves this crate with these texts in it, by their paths in the crate, and the lines that it prints."""

@@ -1,7 +1,7 @@
 """Reads the wrong bodies of crates, and the functions that they change.
 
-A wrong body, or edit, is a file of a crate's folder `must-fail`, which the gate tries one by one, or of its folder
-`wrong-bodies`, which `tools/edits together` plants many at once. `tools/edits` says what stands in such a file.
+A wrong body, or edit, is a file of a crate's folder `must-fail`, which `rt ci` tries one by one, or of its folder
+`wrong-bodies`, which `tools/edits` plants many at once. It says what stands in such a file.
 """
 
 import re
@@ -36,6 +36,10 @@ class Edit:
     @property
     def crate(self):
         return self.path.parent.parent
+
+    @property
+    def folder(self):
+        return self.path.parent.name
 
     @property
     def label(self):
@@ -88,7 +92,7 @@ def read_edit(path):
     for line in path.read_text().splitlines():
         word, _, text = line.partition(":")
         text = text.removeprefix(" ")
-        if word in ("promise", "why", "of"):
+        if word in ("promise", "why", "of", "gate"):
             if word in edit.words:
                 edit.faults.append("it has several parts, and an edit is one wrong body")
             edit.words[word] = text.strip()

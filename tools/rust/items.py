@@ -5,10 +5,13 @@ import json
 import os
 import re
 import subprocess
+from pathlib import Path
 
-from package_tests import PACKAGE
-
+PACKAGE = Path(__file__).resolve().parent.parent.parent / "rust/vukhaso"
 LIST = PACKAGE / "public-items.txt"
+
+# Where what is read is built, so that it waits for no other build of the package.
+BUILT = PACKAGE / "target/read"
 
 HEAD = "# Written by tools/plain_rust items: what users of the package can name, with default features. Do not edit.\n"
 
@@ -22,8 +25,9 @@ class Items:
     def __init__(self):
         words = ["cargo", "rustdoc", "--offline", "--quiet", "--lib", "--", "-Z", "unstable-options", "--document-hidden-items", "--output-format", "json"]
         # The JSON is there in each compiler, behind this switch.
-        subprocess.run(words, cwd=PACKAGE, check=True, capture_output=True, env={**os.environ, "RUSTC_BOOTSTRAP": "1"})
-        self.said = json.loads((PACKAGE / "target/doc/vukhaso.json").read_text())
+        environment = {**os.environ, "RUSTC_BOOTSTRAP": "1", "CARGO_TARGET_DIR": str(BUILT)}
+        subprocess.run(words, cwd=PACKAGE, check=True, capture_output=True, env=environment)
+        self.said = json.loads((BUILT / "doc/vukhaso.json").read_text())
         self.files, self.lines, self.seen = {}, {}, {}
         self.named = {}
 

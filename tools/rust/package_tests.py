@@ -6,6 +6,8 @@ import shutil
 import subprocess
 import sys
 import tempfile
+import threading
+from concurrent.futures import ThreadPoolExecutor
 from pathlib import Path
 
 ROOT = Path(__file__).resolve().parent.parent.parent
@@ -18,6 +20,7 @@ LARGEST = 600
 
 sys.path.append(str(ROOT / "tools/harfbuzz"))
 
+import items  # noqa: E402
 import jobs_tests  # noqa: E402
 import programs  # noqa: E402
 
@@ -32,11 +35,13 @@ class Tally:
 
     def __init__(self):
         self.passed = self.failed = 0
+        self.alone = threading.Lock()
 
     def note(self, what, fault=""):
-        self.passed += not fault
-        self.failed += bool(fault)
-        print(f"FAILED  {what}\n{fault}" if fault else f"passed  {what}", flush=True)
+        with self.alone:
+            self.passed += not fault
+            self.failed += bool(fault)
+            print(f"FAILED  {what}\n{fault}" if fault else f"passed  {what}", flush=True)
 
     def run(self, what, words, **more):
         environment = {**os.environ, **more.pop("environment", {})}
@@ -65,11 +70,18 @@ def test_rust(tally, room):
     else:
         what = "cargo test, with no program beside the proved one, which `rt ci` links"
     tally.run(what, ["cargo", "test", "--offline", "--quiet"], environment=beside)
-    tally.run("cargo check with no std", ["cargo", "check", "--offline", "--quiet", "--lib", "--no-default-features", "--features", "alloc"])
-    tally.run("cargo doc with no warning", ["cargo", "doc", "--offline", "--quiet"], environment={"RUSTDOCFLAGS": "-D warnings"})
+
+
+def test_text(tally, room):
+    """What cargo's other commands say of the text. They build in a folder of their own, and wait for no test."""
+    apart = {"CARGO_TARGET_DIR": str(items.BUILT)}
+    tally.note("public-items.txt is what users can name", items.difference())
+    tally.run("cargo doc with no warning", ["cargo", "doc", "--offline", "--quiet"], environment={**apart, "RUSTDOCFLAGS": "-D warnings"})
+    words = ["cargo", "check", "--offline", "--quiet", "--lib", "--no-default-features", "--features", "alloc"]
+    tally.run("cargo check with no std", words, environment=apart)
     if is_here("cargo", "clippy", "--version"):
         words = ["cargo", "clippy", "--offline", "--quiet", "--all-targets", "--", "-D", "warnings"]
-        tally.run("cargo clippy with no warning", words)
+        tally.run("cargo clippy with no warning", words, environment=apart)
     if is_here("cargo", "fmt", "--version"):
         tally.run("cargo fmt finds nothing to lay out", ["cargo", "fmt", "--check"])
 
@@ -83,13 +95,13 @@ def test_program(tally, room):
     with (stored / "stdin").open() as lines:
         ran = subprocess.run(
             [program, *(stored / "args").read_text().split()], cwd=stored / "data", stdin=lines, capture_output=True, text=True)
-    told, status = (stored / "stdout").read_text(), int((stored / "status").read_text())
-    fault = "" if (ran.stdout, ran.stderr, ran.returncode) == (told, "", status) else f"status {ran.returncode}\n{ran.stderr}{ran.stdout}"
+    told, steps, status = (stored / "stdout").read_text(), (stored / "stderr").read_text(), int((stored / "status").read_text())
+    fault = "" if (ran.stdout, ran.stderr, ran.returncode) == (told, steps, status) else f"status {ran.returncode}\n{ran.stderr}{ran.stdout}"
     tally.note("its stored run, which is the proved program's", fault)
     tally.note("on several threads it answers as on one", jobs_tests.faults(program, room))
 
 
-def test_size(tally):
+def test_size(tally, room):
     """What `cargo publish` would send."""
     if tally.run("cargo package", ["cargo", "package", "--offline", "--quiet", "--no-verify", "--allow-dirty"]).returncode:
         return
@@ -126,10 +138,9 @@ def test_readme(tally, room):
     tally.note("the lines of README in the package's own", "\n".join(missing))
 
 
-def test_all(tally):
-    with tempfile.TemporaryDirectory(prefix="plain-rust-") as folder:
-        test_rust(tally, Path(folder))
-        test_program(tally, Path(folder))
-        test_size(tally)
-        test_front(tally, Path(folder))
-        test_readme(tally, Path(folder))
+def test_all(tally, others):
+    """Tests the package, and runs these other calls, all side by side where one does not stand on what another makes."""
+    with tempfile.TemporaryDirectory(prefix="plain-rust-") as folder, ThreadPoolExecutor() as pool:
+        chains = [others, [test_rust], [test_text], [test_program, test_size, test_readme], [test_front]]
+        for done in [pool.submit(lambda chain=chain: [test(tally, Path(folder)) for test in chain]) for chain in chains]:
+            done.result()

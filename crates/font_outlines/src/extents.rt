@@ -1,10 +1,10 @@
 //! The box of a CFF glyph, from the bounds of its path.
 
 ghost use Rattle.std.specs.Prelude.{◌≡◌, ◌^◌, ◌≤ℤ◌, pos, negsuc};
-ghost use Rattle.std.specs.Int.{saturate_signed, w32};
 ghost use Rattle.font_outlines.specs.Path.{distance, length, path_box, rounded, side, whole_units};
 
 use crate::path::Bounds;
+use font_tables::scale::saturated;
 use rb_glyph::GlyphExtents;
 
 /// The box around a path, in whole font units: its left side and its top are rounded, and so is how far it is from there to
@@ -61,17 +61,4 @@ fn rounded(distance: i128) -> i128
     ensures { result ≡ rounded distance }
 {
     (distance + 32768).div_euclid(65536)
-}
-
-/// The number of 32 bits that is nearest.
-fn saturated(number: i128) -> i32
-    ensures { result ≡ saturate_signed w32 number }
-{
-    if number < i128::from(i32::MIN) {
-        i32::MIN
-    } else if number > i128::from(i32::MAX) {
-        i32::MAX
-    } else {
-        number as i32
-    }
 }

@@ -93,11 +93,11 @@ fn distance(value: i32, size: i32, units_per_em: u16) -> i32
 {
     let units = units_per_em.max(1);
     let product = i64::from(value).saturating_mul(i64::from(size));
-    saturated(
+    saturated(i128::from(
         product
             .saturating_add(i64::from(units / 2))
             .div_euclid(i64::from(units)),
-    )
+    ))
 }
 
 /// How long 2^16 font units are where an em is `size` long.
@@ -112,16 +112,17 @@ fn multiplied(value: i32, multiplier: i64) -> i32
     ensures { result ≡ multiplied value multiplier }
 {
     let product = i64::from(value).saturating_mul(multiplier);
-    saturated(product.saturating_add(32768) >> 16)
+    saturated(i128::from(product.saturating_add(32768) >> 16))
 }
 
 /// The nearest number of 32 bits.
-fn saturated(value: i64) -> i32
+#[inline]
+pub fn saturated(value: i128) -> i32
     ensures { result ≡ saturate_signed w32 value }
 {
-    if value < -0x8000_0000 {
+    if value < i128::from(i32::MIN) {
         i32::MIN
-    } else if value > 0x7FFF_FFFF {
+    } else if value > i128::from(i32::MAX) {
         i32::MAX
     } else {
         value as i32

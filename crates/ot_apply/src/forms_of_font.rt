@@ -8,9 +8,9 @@ use crate::lookups::budget_of;
 use font_face::Face;
 use font_functions::FontFunctions;
 use ot_layout::{Budget, would_substitute};
-use ot_map::LayoutPlan;
+use ot_map::{LayoutPlan, Pause};
 use ot_plan::{FormPlaces, TextPlan};
-use script_syllables::{FontForms, FormFeature, SyllablePause};
+use script_syllables::{FontForms, FormFeature};
 use shaping_buffer::hb_buffer_t;
 use std::alloc::AllocError;
 
@@ -63,7 +63,7 @@ pub(crate) fn work_on_syllables<F: FontFunctions>(
     face: &Face,
     font: &F,
     plan: &TextPlan,
-    pause: SyllablePause,
+    pause: Pause,
 ) -> Result<bool, AllocError>
     requires { buffer.old.have_output ≡ false }
     ensures closed { IfOk result (λ done. done ≡ true → buffer.new.have_output ≡ false) }

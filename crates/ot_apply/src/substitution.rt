@@ -19,7 +19,6 @@ use ot_layout::{Digest, LookupList, LookupOptions};
 use ot_map::{Pause, PlannedLookup};
 use ot_plan::TextPlan;
 use script_joining::FallbackLookups;
-use script_syllables::SyllablePause;
 use shaping_buffer::hb_buffer_t;
 use std::alloc::AllocError;
 
@@ -211,18 +210,12 @@ fn pause<F: FontFunctions>(
             Ok(true)
         }
         Pause::ArabicFallback => join_by_fallback(buffer, face, plan, progress),
-        Pause::SetUpSyllables => work_on_syllables(buffer, face, font, plan, SyllablePause::SetUp),
-        Pause::InitialReordering => {
-            work_on_syllables(buffer, face, font, plan, SyllablePause::InitialReordering)
-        }
-        Pause::FinalReordering => {
-            work_on_syllables(buffer, face, font, plan, SyllablePause::FinalReordering)
-        }
-        Pause::ClearSubstitutionFlags => {
-            work_on_syllables(buffer, face, font, plan, SyllablePause::ForgetSubstitutions)
-        }
-        Pause::RecordRphf => work_on_syllables(buffer, face, font, plan, SyllablePause::RecordRphf),
-        Pause::RecordPref => work_on_syllables(buffer, face, font, plan, SyllablePause::RecordPref),
+        Pause::SetUpSyllables
+        | Pause::InitialReordering
+        | Pause::FinalReordering
+        | Pause::ClearSubstitutionFlags
+        | Pause::RecordRphf
+        | Pause::RecordPref => work_on_syllables(buffer, face, font, plan, pause),
         Pause::Nothing => Ok(true),
     }
 }

@@ -1,6 +1,6 @@
 //! The lookups of `GSUB` or `GPOS` (OpenType specification, "OpenType Layout Common Table Formats", "Lookup List table").
 
-ghost use Rattle.std.specs.Prelude.{ℕ, ◌≡◌, ◌<◌, ◌≤◌, true, false, All, IfOk, [], map, IsFalse, Some, ◌+◌, drop, length, slice_get, option_copied};
+ghost use Rattle.std.specs.Prelude.{ℕ, ◌≡◌, ◌<◌, ◌≤◌, true, false, All, IfOk, IfSome, [], map, IsFalse, Some, ◌+◌, drop, length, slice_get, option_copied};
 ghost use Rattle.ot_layout.specs.Lookup.{IsForNone, is_for};
 ghost use Rattle.ot_layout.specs.NextAsked.{IsNextOf};
 ghost use Rattle.ot_layout.specs.LookupTables.{head_of, heads_in};
@@ -108,35 +108,41 @@ impl<'a> LookupList<'a> {
         ensures heads { IfOk result (λ list. map head_of list.lookups.items ≡ heads_in gdef.now.table.now (lookup_list table.now)) }
     {
         let reader = LookupReader::new(alloc, table, extension);
-        let (list, is_short) = LookupList::read(alloc, table, reader, gdef)?;
-        if !is_short {
+        if let Some(list) = LookupList::read(alloc, table, reader, gdef)? {
             return Ok(list);
         }
-        let reader = LookupReader::without_subtables(alloc, extension);
-        let (heads, _is_short) = LookupList::read(alloc, table, reader, gdef)?;
-        Ok(heads)
+        let reader = LookupReader::new(alloc, table, extension);
+        let lookups = without_subtables(alloc, table_or_empty(table, 8), gdef, &reader)?;
+        Ok(LookupList {
+            table,
+            lookups,
+            subtables: reader.subtables,
+            coverages: reader.coverages,
+            extension,
+        })
     }
 
-    /// The lookups of a table, and whether a part of it was left out for want of room.
+    /// The lookups of a table; `None` where there is no room for all that they share.
     fn read(
         alloc: Global,
         table: &'a [u8],
         mut reader: LookupReader<'a>,
         gdef: &Gdef<'a>,
-    ) -> Result<(Self, bool), AllocError>
-        ensures table { IfOk result (λ read. read.0.table.now ≡ table.now) }
-        ensures heads { IfOk result (λ read. map head_of read.0.lookups.items ≡ heads_in gdef.now.table.now (lookup_list table.now)) }
+    ) -> Result<Option<Self>, AllocError>
+        ensures table { IfOk result (λ read. IfSome read (λ list. list.table.now ≡ table.now)) }
+        ensures heads { IfOk result (λ read. IfSome read (λ list.
+            map head_of list.lookups.items ≡ heads_in gdef.now.table.now (lookup_list table.now))) }
     {
-        let lookups = read_all(alloc, table_or_empty(table, 8), gdef, &mut reader)?;
-        let is_short = reader.is_short;
-        let list = LookupList {
+        let Some(lookups) = read_all(alloc, table_or_empty(table, 8), gdef, &mut reader)? else {
+            return Ok(None);
+        };
+        Ok(Some(LookupList {
             table,
             lookups,
             subtables: reader.subtables,
             coverages: reader.coverages,
             extension: reader.extension,
-        };
-        Ok((list, is_short))
+        }))
     }
 
     /// Whether the table is `GPOS`.
@@ -187,28 +193,58 @@ impl<'a> LookupList<'a> {
     }
 }
 
-/// The lookups of a list, unless they have too many subtables.
+/// The lookups of a list, unless they have too many subtables; `None` where there is no room for all that they share.
 #[tactic(auto, using(crate::proofs::LookupTablesLemmas::heads))]
 fn read_all<'a>(
     alloc: Global,
     list: &'a [u8],
     gdef: &Gdef<'a>,
     reader: &mut LookupReader<'a>,
+) -> Result<Option<Vec<Lookup<'a>>>, AllocError>
+    ensures { IfOk result (λ read. IfSome read (λ lookups.
+        map head_of lookups.items ≡ heads_in gdef.now.table.now list.now)) }
+{
+    let mut lookups = Vec::new(alloc);
+    let declared = lookup_count(list);
+    let subtables = subtables_of_first(list, declared);
+    if subtables >= MAX_SUBTABLES {
+        return Ok(Some(lookups));
+    }
+    let count = rows_within(list, 2, 2, declared);
+    lookups.reserve(count)?;
+    reader.make_room(subtables)?;
+    for index in 0..count {
+        let table = table_or_empty(list, 2 + 2 * index);
+        let first = reader.subtables.len();
+        reader.read_lookup(table)?;
+        if reader.is_short {
+            return Ok(None);
+        }
+        lookups.push(reader.lookup_of(table, first, gdef))?;
+    }
+    Ok(Some(lookups))
+}
+
+/// The same lookups, with a reader that has read no subtable.
+#[tactic(auto, using(crate::proofs::LookupTablesLemmas::heads))]
+fn without_subtables<'a>(
+    alloc: Global,
+    list: &'a [u8],
+    gdef: &Gdef<'a>,
+    reader: &LookupReader<'a>,
 ) -> Result<Vec<Lookup<'a>>, AllocError>
     ensures { IfOk result (λ lookups. map head_of lookups.items ≡ heads_in gdef.now.table.now list.now) }
 {
     let mut lookups = Vec::new(alloc);
     let declared = lookup_count(list);
     let subtables = subtables_of_first(list, declared);
-    if subtables >= MAX_SUBTABLES {
+    if MAX_SUBTABLES <= subtables {
         return Ok(lookups);
     }
     let count = rows_within(list, 2, 2, declared);
     lookups.reserve(count)?;
-    reader.make_room(subtables)?;
     for index in 0..count {
-        let lookup = reader.read_lookup(table_or_empty(list, 2 + 2 * index), gdef)?;
-        lookups.push(lookup)?;
+        lookups.push(reader.lookup_of(table_or_empty(list, 2 + 2 * index), 0, gdef))?;
     }
     Ok(lookups)
 }

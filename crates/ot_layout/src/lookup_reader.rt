@@ -1,6 +1,6 @@
 //! Reads lookups and their subtables, as far as there is room.
 
-ghost use Rattle.std.specs.Prelude.{◌≡◌, ◌<◌, true, All, IfOk, IfSome, is_some};
+ghost use Rattle.std.specs.Prelude.{◌≡◌, ◌<◌, true, All, IfSome, is_some};
 ghost use Rattle.ot_layout.specs.Forms.{is_chained_form, is_chained_type, is_covered_form};
 ghost use Rattle.ot_layout.specs.LookupTables.{head_of, head_in, lookup_flag, mark_filtering_set, marks_at};
 ghost use Rattle.ot_layout.specs.NextAsked.{IsNextAt, IsNextOf};
@@ -11,7 +11,7 @@ use crate::formats::has_format;
 use crate::known::{Known, Summed, coverage_of, make_room, quick_coverage, summed_of};
 use crate::lookup_list::{Lookup, POSITIONING_EXTENSION};
 use crate::lookup_props::LookupProps;
-use crate::reading::{count_at, coverage_numbers, digest_of, firsts_of, has_next, quick_classes};
+use crate::reading::{count_at, coverage_numbers, has_next, quick_classes, summaries_of_all};
 use crate::search::MAX_CONTEXT_LENGTH;
 use crate::seconds::seconds_of;
 use crate::subtable::{
@@ -68,18 +68,10 @@ impl<'a> LookupReader<'a> {
         }
     }
 
-    /// A reader that reads no subtables.
-    pub(crate) fn without_subtables(alloc: Global, extension: u16) -> Self {
-        LookupReader::new(alloc, &[], extension)
-    }
-
     /// Makes room for so many subtables, as far as these are not too many.
     pub(crate) fn make_room(&mut self, subtables: usize) -> Result<(), AllocError> {
-        if self.room > 0 {
-            self.subtables.reserve(subtables.min(MOST_RESERVED))?;
-            make_room(&mut self.known, subtables)?;
-        }
-        Ok(())
+        self.subtables.reserve(subtables.min(MOST_RESERVED))?;
+        make_room(&mut self.known, subtables)
     }
 
     /// Whether the table is `GPOS`.
@@ -87,18 +79,11 @@ impl<'a> LookupReader<'a> {
         self.extension == POSITIONING_EXTENSION
     }
 
-    /// Reads a lookup.
+    /// Reads the subtables of a lookup.
     #[inline]
-    pub(crate) fn read_lookup(
-        &mut self,
-        table: &'a [u8],
-        gdef: &Gdef<'a>,
-    ) -> Result<Lookup<'a>, AllocError>
-        ensures { IfOk result (λ lookup. head_of lookup ≡ head_in gdef.now.table.now table.now) }
-    {
+    pub(crate) fn read_lookup(&mut self, table: &'a [u8]) -> Result<(), AllocError> {
         let lookup_type = u16_at(table, 0).unwrap_or(0);
         let count = subtable_count(table);
-        let first = self.subtables.len();
         if self.pay(2 * count) && self.has_one_type(lookup_type, table, count) {
             for index in 0..count {
                 if let Some(subtable) = table_at_16(table, 6 + 2 * index) {
@@ -106,15 +91,23 @@ impl<'a> LookupReader<'a> {
                 }
             }
         }
-        let subtables = self.subtables_from(first);
-        Ok(Lookup {
-            lookup_type,
+        Ok(())
+    }
+
+    /// A lookup, of which the subtables that were read begin with this one.
+    #[inline]
+    pub(crate) fn lookup_of(&self, table: &[u8], first: usize, gdef: &Gdef<'a>) -> Lookup<'a>
+        ensures { head_of result ≡ head_in gdef.now.table.now table.now }
+    {
+        let summaries = summaries_of_all(self.subtables_from(first));
+        Lookup {
+            lookup_type: u16_at(table, 0).unwrap_or(0),
             lookup_props: props_of(table, gdef),
-            digest: digest_of(subtables),
-            firsts: firsts_of(subtables),
+            digest: summaries.digest,
+            firsts: summaries.firsts,
             first,
             last: self.subtables.len(),
-        })
+        }
     }
 
     /// The subtables from the one of this number on.
@@ -220,7 +213,9 @@ impl<'a> LookupReader<'a> {
     /// Reads the coverages of a list of offsets with their number before it, and says where it ends.
     fn read_list(&mut self, table: &'a [u8], at: usize) -> Result<usize, AllocError> {
         let count = usize::from(u16_at(table, at).unwrap_or(0));
-        self.read_offsets(table, at.saturating_add(2), count)?;
+        if count > 0 {
+            self.read_offsets(table, at.saturating_add(2), count)?;
+        }
         Ok(behind_list(table, at))
     }
 

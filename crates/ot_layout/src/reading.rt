@@ -8,7 +8,7 @@ ghost use Rattle.ot_layout.specs.Forms.{is_chained_form, is_covered_form};
 ghost use Rattle.ot_layout.specs.NextAsked.{lookahead_number, backtrack_number, input_number};
 
 use crate::digest::Digest;
-use crate::first_glyphs::FirstGlyphs;
+use crate::first_glyphs::{FirstGlyphs, Summaries};
 use crate::subtable::{Form, Subtable};
 use crate::summary::Summary;
 use font_tables::bytes::u16_at;
@@ -59,8 +59,25 @@ pub(crate) fn count_at(table: &[u8], at: usize) -> usize
     usize::from(u16_at(table, at).unwrap_or(0))
 }
 
+/// What sums up the glyphs that any of these subtables is for.
+pub(crate) fn summaries_of_all(subtables: &[Subtable]) -> Summaries
+    ensures digest { All (λ subtable. HasMore subtable.digest result.digest) subtables.now }
+    ensures firsts { All (λ subtable. HasMoreFirst subtable.firsts result.firsts) subtables.now }
+{
+    match subtables {
+        [only] => Summaries {
+            digest: only.digest,
+            firsts: only.firsts,
+        },
+        _ => Summaries {
+            digest: digest_of(subtables),
+            firsts: firsts_of(subtables),
+        },
+    }
+}
+
 /// The digest of the glyphs that any of these subtables is for.
-pub(crate) fn digest_of(subtables: &[Subtable]) -> Digest
+fn digest_of(subtables: &[Subtable]) -> Digest
     ensures { All (λ subtable. HasMore subtable.digest result) subtables.now }
 {
     let mut digest = Digest::new();
@@ -71,7 +88,7 @@ pub(crate) fn digest_of(subtables: &[Subtable]) -> Digest
 }
 
 /// Those of the first 256 glyphs that any of these subtables is for.
-pub(crate) fn firsts_of(subtables: &[Subtable]) -> FirstGlyphs
+fn firsts_of(subtables: &[Subtable]) -> FirstGlyphs
     ensures { All (λ subtable. HasMoreFirst subtable.firsts result) subtables.now }
 {
     let mut firsts = FirstGlyphs::none();

@@ -89,6 +89,7 @@ fn of_ranges<S: Summary>(table: &[u8]) -> S
 }
 
 /// Adds the glyphs of a range of a coverage.
+#[inline]
 fn add_row<S: Summary>(summary: &mut S, range: &[u8])
     ensures added { (first last : ℕ) → number_16 range.now 0 ≡ Some first → number_16 range.now 2 ≡ Some last
         → (glyph : ℕ) → first ≤ glyph → glyph ≤ last → S.has summary.new glyph ≡ true }

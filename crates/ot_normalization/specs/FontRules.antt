@@ -8,7 +8,7 @@ use Rattle.script_shapers.specs.declared.shaper.ScriptShaper.{ScriptShaper}
 use Rattle.shaping_passes.specs.NormalizationParts.{is_character, hangul_parts, hangul_syllable}
 use Rattle.shaping_passes.specs.NormalizationDecomposition.{Font}
 use Rattle.shaping_passes.specs.NormalizationComposition.{Pairs}
-use Rattle.ot_normalization.specs.Marks.{is_mark}
+use Rattle.script_items.specs.Marks.{is_mark}
 
 -- two parts, with 0 where there is no second
 abbrev pub with_zero : Option (ℕ × Option ℕ) → Option (ℕ × ℕ)

@@ -2,7 +2,7 @@
 use Rattle.std.specs.Prelude.{ℕ, ◌==◌, ◌&&◌, Bool, not, bit_and, bit_or}
 use Rattle.rb_glyph.specs.Fields.{field, with_field}
 use Rattle.rb_glyph.specs.declared.info.hb_glyph_info_t.{hb_glyph_info_t}
-use Rattle.ot_normalization.specs.Marks.{category}
+use Rattle.script_items.specs.Marks.{category}
 
 -- it is a format character with a flag of its own
 abbrev pub is_unknown_selector : hb_glyph_info_t → Bool

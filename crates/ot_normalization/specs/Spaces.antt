@@ -2,7 +2,7 @@
 use Rattle.std.specs.Prelude.{ℕ, ◌/◌, ◌==◌, Bool, if◌then◌else◌}
 use Rattle.rb_glyph.specs.Fields.{field}
 use Rattle.rb_glyph.specs.declared.info.hb_glyph_info_t.{hb_glyph_info_t}
-use Rattle.ot_normalization.specs.Marks.{category}
+use Rattle.script_items.specs.Marks.{category}
 
 -- a space has the general category of separators
 abbrev pub is_space : hb_glyph_info_t → Bool

@@ -4,14 +4,16 @@
 
 ghost use Rattle.std.specs.Prelude.{◌≡◌};
 ghost use Rattle.ot_normalization.specs.Graphemes.{is_continuation};
-ghost use Rattle.ot_normalization.specs.Marks as marks;
+ghost use Rattle.script_items.specs.Marks as marks;
 ghost use Rattle.ot_normalization.specs.Spaces as spaces;
 ghost use Rattle.ot_normalization.specs.Selectors as selectors;
 
+pub use script_items::item::{
+    general_category, is_unicode_mark, modified_combining_class, set_modified_combining_class,
+};
 use shaping_buffer::rb_glyph::hb_gc::{
-    RB_UNICODE_GENERAL_CATEGORY_ENCLOSING_MARK, RB_UNICODE_GENERAL_CATEGORY_FORMAT,
-    RB_UNICODE_GENERAL_CATEGORY_NON_SPACING_MARK, RB_UNICODE_GENERAL_CATEGORY_SPACE_SEPARATOR,
-    RB_UNICODE_GENERAL_CATEGORY_SPACING_MARK,
+    RB_UNICODE_GENERAL_CATEGORY_FORMAT, RB_UNICODE_GENERAL_CATEGORY_NON_SPACING_MARK,
+    RB_UNICODE_GENERAL_CATEGORY_SPACE_SEPARATOR,
 };
 use shaping_buffer::rb_glyph::space_t;
 use shaping_buffer::{CombiningClasses, Flags, UnicodeProps, hb_glyph_info_t};
@@ -19,13 +21,6 @@ use ucd_normal::canonical_combining_class;
 
 /// The flags in the low byte of the properties, above the general category.
 const LOW_FLAGS: u16 = 0xE0;
-
-/// The number of the general category of a character, as the module `hb_gc` of `rb_glyph` has it.
-pub fn general_category(info: &hb_glyph_info_t) -> u32
-    ensures { result ≡ marks.category info.now }
-{
-    u32::from(info.unicode_props() & UnicodeProps::GENERAL_CATEGORY.bits())
-}
 
 /// Sets the general category, and takes away what the high byte says.
 fn set_general_category(info: &mut hb_glyph_info_t, category: u16)
@@ -72,44 +67,11 @@ fn set_telugu_class(info: &mut hb_glyph_info_t)
     }
 }
 
-/// Whether the character is a mark.
-pub fn is_unicode_mark(info: &hb_glyph_info_t) -> bool
-    ensures { result ≡ marks.is_mark info.now }
-{
-    matches!(
-        general_category(info),
-        RB_UNICODE_GENERAL_CATEGORY_SPACING_MARK
-            | RB_UNICODE_GENERAL_CATEGORY_ENCLOSING_MARK
-            | RB_UNICODE_GENERAL_CATEGORY_NON_SPACING_MARK
-    )
-}
-
 /// Whether the character is a mark without width.
 pub fn is_nonspacing_mark(info: &hb_glyph_info_t) -> bool
     ensures { result ≡ marks.is_nonspacing info.now }
 {
     general_category(info) == RB_UNICODE_GENERAL_CATEGORY_NON_SPACING_MARK
-}
-
-/// The class by which a mark is reordered; 0 for any other character.
-pub fn modified_combining_class(info: &hb_glyph_info_t) -> u16
-    ensures { result ≡ marks.kept_class info.now }
-{
-    if is_unicode_mark(info) {
-        info.unicode_props() >> 8
-    } else {
-        0
-    }
-}
-
-/// Sets the class by which a mark is reordered, and later placed, by its lowest 8 bits. Any other character stays as it is.
-pub fn set_modified_combining_class(info: &mut hb_glyph_info_t, class: u16)
-    ensures is { info.new ≡ marks.with_class class info.old }
-    ensures cluster { info.new.cluster ≡ info.old.cluster }
-{
-    if is_unicode_mark(info) {
-        info.set_unicode_props(class % 256 * 256 | info.unicode_props() & 0xFF);
-    }
 }
 
 /// Whether the character goes on with the grapheme before it.

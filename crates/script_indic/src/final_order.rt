@@ -14,7 +14,8 @@ use crate::reph::move_reph;
 use rb_glyph::hb_gc::{
     RB_UNICODE_GENERAL_CATEGORY_FORMAT, RB_UNICODE_GENERAL_CATEGORY_NON_SPACING_MARK,
 };
-use script_syllables::item::{add_mask, general_category, is_ligated, position, set_category};
+use script_items::item::general_category;
+use script_syllables::item::{add_mask, is_ligated, position, set_category};
 use script_syllables::syllables::within;
 use script_syllables::{Category, Position};
 use shaping_buffer::{hb_buffer_t, hb_glyph_info_t};

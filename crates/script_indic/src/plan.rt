@@ -9,11 +9,12 @@ use crate::final_order::order_finally;
 use crate::item::is_multiplied;
 use crate::machine::indic_machine;
 use crate::reordering::order_initially;
+use ot_map::Pause;
 use rb_common::{Script, Tag, script};
+use script_syllables::FontForms;
 use script_syllables::grammar::Grammar;
 use script_syllables::item::is_ligated;
 use script_syllables::syllables::find_syllables;
-use script_syllables::{FontForms, SyllablePause};
 use shaping_buffer::hb_buffer_t;
 use std::alloc::{AllocError, Global};
 
@@ -39,6 +40,19 @@ pub struct IndicMasks {
     pub init: u32,
 }
 
+/// Which forms of consonants a font has lookups for.
+#[derive(Clone, Copy, PartialEq, Eq, Debug, Default)]
+pub struct ConsonantForms {
+    /// Those of a RA that stands before its base.
+    pub pref: bool,
+    /// Those below the base.
+    pub blwf: bool,
+    /// Those behind the base.
+    pub pstf: bool,
+    /// Those with a RA below them.
+    pub vatu: bool,
+}
+
 /// How a text of an Indic script is shaped by a font.
 #[derive(Clone, Copy, PartialEq, Eq, Debug)]
 pub struct IndicPlan {
@@ -50,17 +64,25 @@ pub struct IndicPlan {
     pub is_old_spec: bool,
     /// The masks.
     pub masks: IndicMasks,
+    /// The forms of consonants, of which the font is asked only where it has them.
+    pub forms: ConsonantForms,
 }
 
 impl IndicPlan {
     /// The plan for a script and a font, of which `gsub_script` is the tag by which its table `GSUB` has the script.
-    pub fn new(script: Option<Script>, gsub_script: Tag, masks: IndicMasks) -> IndicPlan {
+    pub fn new(
+        script: Option<Script>,
+        gsub_script: Tag,
+        masks: IndicMasks,
+        forms: ConsonantForms,
+    ) -> IndicPlan {
         let configuration = IndicConfiguration::of(script);
         IndicPlan {
             script,
             configuration,
             is_old_spec: configuration.has_old_spec && gsub_script.to_bytes()[3] != b'2',
             masks,
+            forms,
         }
     }
 
@@ -81,19 +103,19 @@ impl IndicPlan {
         alloc: Global,
         buffer: &mut hb_buffer_t,
         font: &mut F,
-        pause: SyllablePause,
+        pause: Pause,
     ) -> Result<bool, AllocError>
         requires { buffer.old.have_output ≡ false }
         ensures closed { IfOk result (λ done. done ≡ true → buffer.new.have_output ≡ false) }
         ensures keeps { KeepsNumbers buffer.old buffer.new }
     {
         match pause {
-            SyllablePause::SetUp => {
+            Pause::SetUpSyllables => {
                 self.setup_syllables(buffer);
                 Ok(true)
             }
-            SyllablePause::InitialReordering => self.initial_reordering(alloc, buffer, font),
-            SyllablePause::FinalReordering => {
+            Pause::InitialReordering => self.initial_reordering(alloc, buffer, font),
+            Pause::FinalReordering => {
                 self.final_reordering(buffer, font);
                 Ok(true)
             }

@@ -1,3 +1,4 @@
 pub mod Item
+pub mod Marks
 pub mod Masks
 pub mod Moves

@@ -3,6 +3,7 @@
 
 ghost use Rattle.std.specs.Prelude.{◌≡◌};
 ghost use Rattle.script_items.specs.Item.{shaper_byte, with_shaper_byte};
+ghost use Rattle.script_items.specs.Marks as marks;
 
 use rb_glyph::hb_gc::{
     RB_UNICODE_GENERAL_CATEGORY_ENCLOSING_MARK, RB_UNICODE_GENERAL_CATEGORY_FORMAT,
@@ -24,9 +25,23 @@ pub fn set_shaper_byte(info: &mut hb_glyph_info_t, byte: u8)
     info.var2 = info.var2 % 0x100_0000 + u32::from(byte) * 0x100_0000;
 }
 
-/// The number of the general category.
-pub fn general_category(info: &hb_glyph_info_t) -> u32 {
+/// The number of the general category of a character, as the module `hb_gc` of `rb_glyph` has it.
+pub fn general_category(info: &hb_glyph_info_t) -> u32
+    ensures { result ≡ marks.category info.now }
+{
     u32::from(info.unicode_props() & UnicodeProps::GENERAL_CATEGORY.bits())
+}
+
+/// Whether the character is a mark.
+pub fn is_unicode_mark(info: &hb_glyph_info_t) -> bool
+    ensures { result ≡ marks.is_mark info.now }
+{
+    matches!(
+        general_category(info),
+        RB_UNICODE_GENERAL_CATEGORY_SPACING_MARK
+            | RB_UNICODE_GENERAL_CATEGORY_ENCLOSING_MARK
+            | RB_UNICODE_GENERAL_CATEGORY_NON_SPACING_MARK
+    )
 }
 
 /// Whether the character is a mark that takes no part in joining, or a format character.
@@ -36,16 +51,6 @@ pub fn is_mark_or_format(info: &hb_glyph_info_t) -> bool {
         RB_UNICODE_GENERAL_CATEGORY_NON_SPACING_MARK
             | RB_UNICODE_GENERAL_CATEGORY_ENCLOSING_MARK
             | RB_UNICODE_GENERAL_CATEGORY_FORMAT
-    )
-}
-
-/// Whether the character is a mark.
-fn is_unicode_mark(info: &hb_glyph_info_t) -> bool {
-    matches!(
-        general_category(info),
-        RB_UNICODE_GENERAL_CATEGORY_SPACING_MARK
-            | RB_UNICODE_GENERAL_CATEGORY_ENCLOSING_MARK
-            | RB_UNICODE_GENERAL_CATEGORY_NON_SPACING_MARK
     )
 }
 
@@ -61,7 +66,9 @@ pub fn become_mark(info: &mut hb_glyph_info_t)
 }
 
 /// The class by which a mark is reordered; 0 for any other character.
-pub fn modified_combining_class(info: &hb_glyph_info_t) -> u16 {
+pub fn modified_combining_class(info: &hb_glyph_info_t) -> u16
+    ensures { result ≡ marks.kept_class info.now }
+{
     if is_unicode_mark(info) {
         info.unicode_props() >> 8
     } else {
@@ -69,13 +76,13 @@ pub fn modified_combining_class(info: &hb_glyph_info_t) -> u16 {
     }
 }
 
-/// Sets the class by which a mark is reordered; any other character keeps what it has.
-pub fn set_modified_combining_class(info: &mut hb_glyph_info_t, class: u8)
-    ensures { info.new.cluster ≡ info.old.cluster }
+/// Sets the class by which a mark is reordered, and later placed, by its lowest 8 bits. Any other character stays as it is.
+pub fn set_modified_combining_class(info: &mut hb_glyph_info_t, class: u16)
+    ensures is { info.new ≡ marks.with_class class info.old }
+    ensures cluster { info.new.cluster ≡ info.old.cluster }
 {
     if is_unicode_mark(info) {
-        let low = info.unicode_props() & 0xFF;
-        info.set_unicode_props(low | u16::from(class) << 8);
+        info.set_unicode_props(class % 256 * 256 | info.unicode_props() & 0xFF);
     }
 }
 

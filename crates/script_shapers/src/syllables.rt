@@ -6,10 +6,10 @@ ghost use Rattle.script_shapers.specs.Syllables.{is_plan_of};
 ghost use Rattle.script_syllables.specs.KeepsNumbers.{KeepsNumbers};
 
 use crate::shaper::ScriptShaper;
-use ot_map::LayoutPlan;
+use ot_map::{LayoutPlan, Pause};
 use rb_common::Script;
 use script_indic::IndicPlan;
-use script_syllables::{FontForms, SyllablePause, item};
+use script_syllables::{FontForms, item};
 use script_universal::{KhmerPlan, UniversalPlan, khmer, myanmar, universal};
 use shaping_buffer::hb_buffer_t;
 use std::alloc::{AllocError, Global};
@@ -53,7 +53,7 @@ impl SyllablePlan {
         alloc: Global,
         buffer: &mut hb_buffer_t,
         font: &mut F,
-        pause: SyllablePause,
+        pause: Pause,
     ) -> Result<bool, AllocError>
         requires { buffer.old.have_output ≡ false }
         ensures closed { IfOk result (λ done. done ≡ true → buffer.new.have_output ≡ false) }

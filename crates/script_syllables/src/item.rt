@@ -7,7 +7,7 @@ ghost use Rattle.glyph_lists.specs.Clusters.{clusters};
 use crate::category::Category;
 use crate::category::position::Position;
 use crate::category::search::category_of;
-use rb_glyph::{Flags, GlyphPropsFlags, UnicodeProps, hb_glyph_info_t};
+use rb_glyph::{Flags, GlyphPropsFlags, hb_glyph_info_t};
 
 /// The byte of an item's category.
 pub fn category_byte(info: &hb_glyph_info_t) -> u8 {
@@ -72,11 +72,6 @@ pub fn add_mask(infos: &mut [hb_glyph_info_t], start: usize, end: usize, mask: u
     for place in start..end.min(infos.len()) {
         infos[place].mask |= mask;
     }
-}
-
-/// The number of the general category.
-pub fn general_category(info: &hb_glyph_info_t) -> u32 {
-    u32::from(info.unicode_props() & UnicodeProps::GENERAL_CATEGORY.bits())
 }
 
 /// Whether a glyph has one of these properties.

@@ -9,7 +9,6 @@ pub use category::position::Position;
 pub use category::search::category_of;
 pub use font::{FontForms, FormFeature};
 pub use machine::Machine;
-pub use pause::SyllablePause;
 pub use vowel_sequences::third_vowel;
 pub use vowels::part_vowels;
 
@@ -21,7 +20,6 @@ pub mod grammar;
 pub mod item;
 pub mod machine;
 pub mod moves;
-pub mod pause;
 pub mod requests;
 pub mod syllables;
 pub mod vowel_sequences;

@@ -8,7 +8,7 @@ use Rattle.shape_options.specs.declared.output.Output.{Output}
 use Rattle.shape_command.specs.declared.reading.Reading.{Reading}
 use Rattle.shape_command.specs.Reading.{seen}
 use Rattle.shape_command.specs.Lines.{lines_of, EachAnswered, transcript, TakesLine, AnswersAll}
-use Rattle.shape_command.specs.Lines.{AnswersParagraph, paragraph_of, IsAnswer, IsList, IsShown, IsTrace, Shows}
+use Rattle.shape_command.specs.Lines.{AnswersParagraph, paragraph_of, IsAnswer, IsList, IsShown, Shows}
 
 -- ---- the answers
 
@@ -141,22 +141,18 @@ one_paragraph reading is_answer (Some text) (Some rest) w x bytes line r some sa
     one (b ∷ more) q = (subst (λ line. is_answer 1 line shown.0) (same ∙ q) shown.1, tt)
 
 -- what stands before an answer, and the answer
-pub shows : (o : Output) (n : ℕ) (line trace characters answer before : List ℕ) (w x y z : Option (List ℕ)) → IsTrace o trace
-    → IsList characters → IsAnswer o answer → before ≡ head o.shown n line characters → Appends w x trace
-    → Appends x y before → Appends y z (answer ++ 10 ∷ []) → Shows (IsShown o) n line w z
-shows o n line trace characters answer before w x y z traced list printed e steps told more = (
-  trace ++ (before ++ answer),
+pub shows : (o : Output) (n : ℕ) (line characters answer before : List ℕ) (w x y : Option (List ℕ)) → IsList characters
+    → IsAnswer o answer → before ≡ head o.shown n line characters → Appends w x before → Appends x y (answer ++ 10 ∷ [])
+    → Shows (IsShown o) n line w y
+shows o n line characters answer before w x y list printed e told more = (
+  before ++ answer,
   record {
-    trace = trace;
     characters = characters;
     answer = answer;
-    is_trace = traced;
     is_list = list;
     is_answer = printed;
-    is = ap (λ l. trace ++ (l ++ answer)) e;
+    is = ap (λ l. l ++ answer) e;
   },
-  subst (Appends w z) (sym (append_assoc trace (before ++ answer) (10 ∷ [])))
-      (appends_both w x z trace ((before ++ answer) ++ 10 ∷ []) steps
-      (subst (Appends x z) (sym (append_assoc before answer (10 ∷ [])))
-      (appends_both x y z before (answer ++ 10 ∷ []) told more))),
+  subst (Appends w y) (sym (append_assoc before answer (10 ∷ [])))
+      (appends_both w x y before (answer ++ 10 ∷ []) told more),
 )

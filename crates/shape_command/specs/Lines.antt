@@ -73,19 +73,17 @@ IsAnswer o answer = PrintsGlyphs o answer ⊎ ((answer ≡ failure_line) ⊎ IsU
 abbrev pub IsList : List ℕ → Type 0
 IsList characters = (infos : List hb_glyph_info_t) × (characters ≡ characters_list infos)
 
--- the steps of shaping, as they are printed; which they are is not said here, and none are where they are not asked for
+-- the steps of shaping, as standard error is told them; which they are is not said here, and none are where they are not asked for
 abbrev pub IsTrace : Output → List ℕ → Type 0
 IsTrace o trace = o.trace ≡ false → trace ≡ []
 
 -- the answer to the line of this number, with what is shown before it
 pub record IsShown (o : Output) (n : ℕ) (line shown : List ℕ) : Type 0 where
-  pub trace : List ℕ
   pub characters : List ℕ
   pub answer : List ℕ
-  pub is_trace : IsTrace o trace
   pub is_list : IsList characters
   pub is_answer : IsAnswer o answer
-  pub is : shown ≡ trace ++ (head o.shown n line characters ++ answer)
+  pub is : shown ≡ head o.shown n line characters ++ answer
 
 -- what a writer holds grows by the answer to the line of this number, and a line feed
 abbrev pub Shows : (ℕ → List ℕ → List ℕ → Type 0) → ℕ → List ℕ → Option (List ℕ) → Option (List ℕ) → Type 0

@@ -23,7 +23,7 @@ struct Run {
 }
 
 /// Answers each line of a batch, and says whether each was shaped.
-pub(crate) fn answer_batch<F: Files + AllocGlobal, R: BufRead, W: Write>(
+pub(crate) fn answer_batch<F: Files + AllocGlobal + Eprint, R: BufRead, W: Write>(
     rt: &F,
     input: &mut R,
     output: &mut W,
@@ -60,7 +60,7 @@ fn has_next<R: BufRead>(alloc: Global, input: &mut R, line: &mut Vec<u8>) -> io:
 }
 
 /// Answers the line that was read, and those behind it that name the same font.
-fn answer_run<F: Files + AllocGlobal, R: BufRead, W: Write>(
+fn answer_run<F: Files + AllocGlobal + Eprint, R: BufRead, W: Write>(
     rt: &F,
     file: &mut FontFile,
     line: &mut Vec<u8>,
@@ -110,7 +110,7 @@ fn read_named_font<F: Files + AllocGlobal, W: Write>(
 }
 
 /// Answers the line that was read with its font, and those behind it that name the same one.
-fn answer_with<F: Files + AllocGlobal, R: BufRead, W: Write>(
+fn answer_with<F: Files + AllocGlobal + Eprint, R: BufRead, W: Write>(
     rt: &F,
     font: &mut LoadedFont<'_>,
     line: &mut Vec<u8>,
@@ -140,7 +140,7 @@ fn answer_with<F: Files + AllocGlobal, R: BufRead, W: Write>(
 }
 
 /// Answers a line, and says whether it was shaped; `None` where it names another font, and was not answered.
-fn answer_line<F: Files + AllocGlobal, R: BufRead, W: Write>(
+fn answer_line<F: Files + AllocGlobal + Eprint, R: BufRead, W: Write>(
     rt: &F,
     line: &[u8],
     font: &mut LoadedFont<'_>,

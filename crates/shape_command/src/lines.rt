@@ -8,6 +8,7 @@ ghost use Rattle.shape_command.specs.Lines.{TakesLine, AnswersAll, AnswersParagr
 
 use crate::reading::{Reading, keep_seen, read_run};
 use crate::shaper::{Answer, LineNames, LineShaper, LineState};
+use crate::text::lossy_text;
 use crate::trace::trace_lines;
 use line_formats::heads::head;
 use ot_shape::VerifyError;
@@ -41,8 +42,8 @@ pub(crate) fn read_error(error: io::Error) -> LinesError {
 
 /// Answers each line of a text, and says whether all of them were shaped. A line feed ends a line, and the last line may
 /// lack it. One line is held at a time.
-pub fn answer_lines<N: LineNames, R: BufRead, W: Write>(
-    alloc: Global,
+pub fn answer_lines<F: AllocGlobal + Eprint, N: LineNames, R: BufRead, W: Write>(
+    rt: &F,
     shaper: &LineShaper<'_>,
     state: &mut LineState<'_, N>,
     reader: &mut R,
@@ -53,21 +54,21 @@ pub fn answer_lines<N: LineNames, R: BufRead, W: Write>(
         (W.contents writer.old) (W.contents writer.new)) }
 {
     let mut all_shaped = true;
-    let mut line = Vec::new(alloc);
+    let mut line = Vec::new(rt.alloc());
     for number in 1..u64::MAX {
-        let found = next_line(alloc, reader, shaper.reading, &mut line)?;
+        let found = next_line(rt.alloc(), reader, shaper.reading, &mut line)?;
         if !found {
             return Ok(all_shaped);
         }
-        let is_shaped = answer_line(alloc, shaper, state, number, line.as_slice(), writer)?;
+        let is_shaped = answer_line(rt, shaper, state, number, line.as_slice(), writer)?;
         all_shaped &= is_shaped;
     }
     Err(LinesError::Read(io::Error::from(ErrorKind::Other)))
 }
 
 /// Answers a text as one line, unless it is empty, and says whether it was shaped.
-pub fn answer_paragraph<N: LineNames, R: Read, W: Write>(
-    alloc: Global,
+pub fn answer_paragraph<F: AllocGlobal + Eprint, N: LineNames, R: Read, W: Write>(
+    rt: &F,
     shaper: &LineShaper<'_>,
     state: &mut LineState<'_, N>,
     reader: &mut R,
@@ -77,22 +78,22 @@ pub fn answer_paragraph<N: LineNames, R: Read, W: Write>(
         (R.remaining reader.old) (R.remaining reader.new)
         (W.contents writer.old) (W.contents writer.new)) }
 {
-    let mut text = Vec::new(alloc);
+    let mut text = Vec::new(rt.alloc());
     match reader.read_to_end(&mut text) {
         Ok(_) => {}
         Err(error) => return Err(read_error(error)),
     }
-    keep_seen(alloc, shaper.reading, &mut text, 0)?;
+    keep_seen(rt.alloc(), shaper.reading, &mut text, 0)?;
     if text.is_empty() {
         return Ok(true);
     }
-    let is_shaped = answer_line(alloc, shaper, state, 1, text.as_slice(), writer)?;
+    let is_shaped = answer_line(rt, shaper, state, 1, text.as_slice(), writer)?;
     Ok(is_shaped)
 }
 
 /// Answers a line of this number, and says whether it was shaped.
-fn answer_line<N: LineNames, W: Write>(
-    alloc: Global,
+fn answer_line<F: AllocGlobal + Eprint, N: LineNames, W: Write>(
+    rt: &F,
     shaper: &LineShaper<'_>,
     state: &mut LineState<'_, N>,
     number: u64,
@@ -102,14 +103,32 @@ fn answer_line<N: LineNames, W: Write>(
     ensures { OnOk result (Shows (IsShown shaper.now.output) number line.now
         (W.contents writer.old) (W.contents writer.new)) }
 {
-    let answered = shaper.answer(alloc, state, line)?;
-    let trace = trace_lines(alloc, shaper, &mut state.names, number, &answered.trace)?;
-    put(writer, trace.as_slice())?;
+    let answered = shaper.answer(rt.alloc(), state, line)?;
+    let steps = trace_lines(
+        rt.alloc(),
+        shaper,
+        &mut state.names,
+        number,
+        &answered.trace,
+    )?;
+    tell(rt, steps.as_slice())?;
     let characters = answered.characters.as_slice();
-    let before = head(alloc, shaper.output.shown, number, line, characters)?;
+    let before = head(rt.alloc(), shaper.output.shown, number, line, characters)?;
     put(writer, before.as_slice())?;
     write_answer(writer, &answered.answer)?;
     Ok(answered.answer.is_shaped())
+}
+
+/// Says the steps of shaping on standard error.
+fn tell<F: AllocGlobal + Eprint>(rt: &F, steps: &[u8]) -> Result<(), LinesError> {
+    if steps.is_empty() {
+        return Ok(());
+    }
+    let text = lossy_text(rt.alloc(), steps)?;
+    match rt.eprint(&text) {
+        Ok(()) => Ok(()),
+        Err(error) => Err(LinesError::Write(error)),
+    }
 }
 
 /// Reads a line in place of the one that is held, without the line feed that ends it. It says whether there was one.

@@ -25,12 +25,13 @@ use std::process::ExitCode;
 const MOST: usize = 256;
 
 /// Options with which lines are not answered each for itself, or elsewhere than on standard output.
-const ALONE: [&str; 6] = [
+const ALONE: [&str; 7] = [
     "svg",
     "single-par",
     "show-line-num",
     "verbose",
     "v",
+    "trace",
     "output-file",
 ];
 

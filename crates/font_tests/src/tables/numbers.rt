@@ -3,6 +3,7 @@ use font_tables::bytes::{
     i16_at, part, table_at_16, table_at_32, tail, u8_at, u16_at, u24_at, u32_at,
 };
 use font_tables::rows::{Keys16, Numbers16, Rows, first_row, rises, rows_within};
+use font_tables::scale::saturated;
 use std::cmp::Ordering;
 
 static TABLE: [u8; 8] = [0x01, 0x02, 0x03, 0x04, 0xFF, 0xFE, 0x00, 0x00];
@@ -24,6 +25,16 @@ fn numbers_are_big_endian(rt: HostRuntime) {
         u32_at(&TABLE, 5),
     );
     assert!(rt; outside == (None, None, None, None));
+}
+
+#[test]
+fn a_number_past_32_bits_is_the_nearest(rt: HostRuntime) {
+    let numbers = (
+        saturated(0x8000_0000),
+        saturated(-0x8000_0001),
+        saturated(-7),
+    );
+    assert!(rt; numbers == (i32::MAX, i32::MIN, -7));
 }
 
 #[test]

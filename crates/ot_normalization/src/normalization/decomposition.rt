@@ -5,7 +5,7 @@ ghost use Rattle.shaping_buffer.specs.Clusters.{clusters};
 ghost use Rattle.shaping_buffer.specs.KeepsClusters.{KeepsClusters};
 
 use super::drop_behind;
-use super::parts::Decomposer;
+use super::parts::{Decomposer, parts_of};
 use super::variations::read_variations;
 use crate::glyph_info::{is_unicode_mark, is_unicode_space, set_space_fallback, set_unicode_props};
 use font_functions::FontFunctions;
@@ -24,6 +24,9 @@ const NON_BREAKING_HYPHEN: u32 = 0x2011;
 
 const HYPHEN: u32 = 0x2010;
 
+/// Of a text of so many characters, the glyphs of so many are remembered.
+const REMEMBERED: usize = 64;
+
 /// Finds a glyph for each character, or for its parts. By the mode of a script's shaper, a character with marks is kept too if the font
 /// has a glyph for it, or one without marks is taken apart too.
 #[tactic(auto, using(shaping_buffer::proofs::ClosedKeepsLemmas::kept))]
@@ -37,6 +40,9 @@ pub(crate) fn decompose_all<F: FontFunctions>(
     ensures keeps { KeepsClusters buffer.old buffer.new }
 {
     map_characters(buffer, font);
+    if all_stay(buffer.info(), shaper) {
+        return Ok(true);
+    }
     buffer.clear_output();
     for _turn in 0..buffer.len() {
         if buffer.lookahead_len() == 0 {
@@ -63,10 +69,80 @@ fn map_characters<F: FontFunctions>(buffer: &mut hb_buffer_t, font: &F)
 fn map_all<F: FontFunctions>(infos: &mut [hb_glyph_info_t], font: &F)
     ensures { clusters infos.new ≡ clusters infos.old }
 {
-    for i in 0..infos.len() {
-        let glyph = font.nominal_glyph(infos[i].glyph_id);
-        infos[i].set_glyph_index(glyph.map_or(0, |glyph| u32::from(glyph.0)));
+    if infos.len() < REMEMBERED {
+        for i in 0..infos.len() {
+            let glyph = glyph_or_0(font, infos[i].glyph_id);
+            infos[i].set_glyph_index(glyph);
+        }
+    } else {
+        map_many(infos, font);
     }
+}
+
+/// Finds the glyph of each of many characters, most of which were met before. The last character of each number, counted round, is
+/// remembered.
+#[tactic(auto, using(shaping_buffer::proofs::ClosedKeepsLemmas::clusters_written))]
+fn map_many<F: FontFunctions>(infos: &mut [hb_glyph_info_t], font: &F)
+    ensures { clusters infos.new ≡ clusters infos.old }
+{
+    let mut known = [(0, 0); REMEMBERED];
+    // No character 0 was met: where it would be found stands another one.
+    known[0] = (1, 0);
+    for i in 0..infos.len() {
+        let character = infos[i].glyph_id;
+        let place = character as usize % REMEMBERED;
+        if known[place].0 != character {
+            known[place] = (character, glyph_or_0(font, character));
+        }
+        infos[i].set_glyph_index(known[place].1);
+    }
+}
+
+/// The glyph of a character, 0 where the font has none.
+fn glyph_or_0<F: FontFunctions>(font: &F, character: u32) -> u32 {
+    font.nominal_glyph(character)
+        .map_or(0, |glyph| u32::from(glyph.0))
+}
+
+/// Whether each character stays as it is.
+fn all_stay(infos: &[hb_glyph_info_t], shaper: ScriptShaper) -> bool {
+    for place in 0..infos.len() {
+        if !stays(infos, place, shaper) {
+            return false;
+        }
+    }
+    true
+}
+
+/// Whether the character at a place stays as it is: the font has a glyph for it, it selects no variation of another, and it has no parts,
+/// or is kept where it has some.
+fn stays(infos: &[hb_glyph_info_t], place: usize, shaper: ScriptShaper) -> bool
+    requires { place < length infos.now }
+{
+    let info = &infos[place];
+    if info.glyph_index() == 0 {
+        return false;
+    }
+    let mode = shaper.normalization_mode();
+    let is_kept = if stands_with_marks(infos, place) {
+        if is_variation_selector(info.glyph_id) {
+            return false;
+        }
+        mode == NormalizationMode::Nothing
+    } else {
+        mode != NormalizationMode::Decomposed
+    };
+    is_kept || parts_of(shaper, info.glyph_id).is_none()
+}
+
+/// Whether a mark or the base of marks stands at a place.
+fn stands_with_marks(infos: &[hb_glyph_info_t], place: usize) -> bool
+    requires { place < length infos.now }
+{
+    place > 0 && is_unicode_mark(&infos[place])
+        || infos
+            .get(place.saturating_add(1))
+            .is_some_and(|next| is_unicode_mark(next))
 }
 
 /// Reads characters up to the base of the next marks, and then that base with its marks.

@@ -45,7 +45,7 @@ impl<F: FontFunctions> CharacterPairs for Composing<'_, F> {
 }
 
 /// What a starter and a mark compose to, if the font has it.
-fn pair_of<F: FontFunctions>(
+pub(crate) fn pair_of<F: FontFunctions>(
     composing: &Composing<F>,
     starter: &hb_glyph_info_t,
     info: &hb_glyph_info_t,

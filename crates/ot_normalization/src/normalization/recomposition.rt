@@ -6,9 +6,9 @@ ghost use Rattle.shaping_buffer.specs.Clusters.{clusters};
 ghost use Rattle.shaping_buffer.specs.KeepsClusters.{KeepsClusters};
 ghost use Rattle.shaping_passes.specs.NormalizationComposition.{IsReady, IsPlace};
 
-use super::pairs::Composing;
+use super::pairs::{Composing, pair_of};
 use super::reordering::KeptClasses;
-use crate::glyph_info::set_unicode_props;
+use crate::glyph_info::{modified_combining_class, set_unicode_props};
 use font_functions::FontFunctions;
 use script_shapers::ScriptPlan;
 use shaping_buffer::{hb_buffer_t, hb_glyph_info_t};
@@ -31,6 +31,9 @@ pub(crate) fn recompose_all<F: FontFunctions>(
         return Ok(false);
     }
     let composing = Composing::new(font, script);
+    if !has_pair(buffer.info(), &composing) {
+        return Ok(true);
+    }
     // Read for what its contract says: the list is no longer than `max_len`.
     let _ = buffer.len();
     buffer.clear_output();
@@ -39,6 +42,24 @@ pub(crate) fn recompose_all<F: FontFunctions>(
         starter = recompose_next(buffer, &composing, starter);
     }
     buffer.sync()
+}
+
+/// Whether a character composes with the last starter before it, if none between blocks it.
+fn has_pair<F: FontFunctions>(infos: &[hb_glyph_info_t], composing: &Composing<F>) -> bool {
+    let mut starter = 0;
+    for place in 1..infos.len() {
+        let info = &infos[place];
+        if infos
+            .get(starter)
+            .is_some_and(|first| pair_of(composing, first, info).is_some())
+        {
+            return true;
+        }
+        if modified_combining_class(info) == 0 {
+            starter = place;
+        }
+    }
+    false
 }
 
 /// Reads a character, and composes it with the last starter, which stands at this place of the out side, or puts it out.

@@ -17,7 +17,7 @@ pub(crate) struct KeptClasses;
 
 impl MarkClasses for KeptClasses {
     ghost use Rattle.std.specs.Prelude.{refl};
-    ghost use Rattle.ot_normalization.specs.Marks.{kept_class};
+    ghost use Rattle.script_items.specs.Marks.{kept_class};
 
     ghost classes = { λ _. kept_class };
 

@@ -97,7 +97,7 @@ fn set_classes_of(infos: &mut [hb_glyph_info_t], start: usize, end: usize, class
     ensures { clusters infos.new ≡ clusters infos.old }
 {
     for i in start..end.min(infos.len()) {
-        set_modified_combining_class(&mut infos[i], class);
+        set_modified_combining_class(&mut infos[i], u16::from(class));
     }
 }
 

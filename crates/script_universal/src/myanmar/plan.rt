@@ -6,10 +6,11 @@ ghost use Rattle.script_syllables.specs.KeepsNumbers.{KeepsNumbers};
 
 use crate::myanmar::machine::myanmar_machine;
 use crate::myanmar::order::order_syllables;
+use ot_map::Pause;
 use script_syllables::dotted_circle::{CircleKind, insert_dotted_circles};
 use script_syllables::grammar::Grammar;
 use script_syllables::syllables::find_syllables;
-use script_syllables::{Category, FontForms, Position, SyllablePause};
+use script_syllables::{Category, FontForms, Position};
 use shaping_buffer::hb_buffer_t;
 use std::alloc::AllocError;
 
@@ -28,18 +29,18 @@ const CIRCLE: CircleKind = CircleKind {
 pub fn pause<F: FontForms>(
     buffer: &mut hb_buffer_t,
     font: &F,
-    pause: SyllablePause,
+    pause: Pause,
 ) -> Result<bool, AllocError>
     requires { buffer.old.have_output ≡ false }
     ensures closed { IfOk result (λ done. done ≡ true → buffer.new.have_output ≡ false) }
     ensures keeps { KeepsNumbers buffer.old buffer.new }
 {
     match pause {
-        SyllablePause::SetUp => {
+        Pause::SetUpSyllables => {
             setup_syllables(buffer);
             Ok(true)
         }
-        SyllablePause::InitialReordering => reordering(buffer, font),
+        Pause::InitialReordering => reordering(buffer, font),
         _ => Ok(true),
     }
 }

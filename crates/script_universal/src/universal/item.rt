@@ -6,11 +6,8 @@ ghost use Rattle.shaping_buffer.specs.KeepsClusters.{KeepsClusters};
 
 use crate::universal::category::{UniversalCategory, universal_category_of};
 use UniversalCategory::*;
-use rb_glyph::hb_gc::{
-    RB_UNICODE_GENERAL_CATEGORY_ENCLOSING_MARK, RB_UNICODE_GENERAL_CATEGORY_NON_SPACING_MARK,
-    RB_UNICODE_GENERAL_CATEGORY_SPACING_MARK,
-};
-use script_syllables::item::{category_byte, general_category, is_ligated, set_category_byte};
+use script_items::item::is_unicode_mark;
+use script_syllables::item::{category_byte, is_ligated, set_category_byte};
 use shaping_buffer::{hb_buffer_t, hb_glyph_info_t};
 
 /// Whether an item has a category.
@@ -70,7 +67,7 @@ fn mark_items(infos: &mut [hb_glyph_info_t])
         let is_joiner = is(info, GraphemeJoiner);
         set_passed_over(info, is_joiner || is_before_mark && is(info, NonJoiner));
         if !is_joiner {
-            is_before_mark = is_mark(info);
+            is_before_mark = is_unicode_mark(info);
         }
     }
 }
@@ -81,14 +78,4 @@ fn set_passed_over(info: &mut hb_glyph_info_t, is_passed_over: bool)
 {
     let byte = if is_passed_over { 0x100_0000 } else { 0 };
     info.var2 = info.var2 % 0x100_0000 + byte;
-}
-
-/// Whether the character is a mark.
-fn is_mark(info: &hb_glyph_info_t) -> bool {
-    matches!(
-        general_category(info),
-        RB_UNICODE_GENERAL_CATEGORY_SPACING_MARK
-            | RB_UNICODE_GENERAL_CATEGORY_ENCLOSING_MARK
-            | RB_UNICODE_GENERAL_CATEGORY_NON_SPACING_MARK
-    )
 }

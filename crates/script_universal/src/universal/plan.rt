@@ -10,10 +10,11 @@ use crate::universal::machine::universal_machine;
 use crate::universal::masks::{mask_forms, mask_rephs};
 use crate::universal::order::order_syllables;
 use crate::universal::recorded::{forget_substitutions, record_prefs, record_rephs};
+use ot_map::Pause;
 use script_syllables::dotted_circle::{CircleKind, insert_dotted_circles};
 use script_syllables::grammar::Grammar;
 use script_syllables::syllables::find_syllables;
-use script_syllables::{FontForms, Position, SyllablePause};
+use script_syllables::{FontForms, Position};
 use shaping_buffer::hb_buffer_t;
 use std::alloc::AllocError;
 
@@ -64,19 +65,20 @@ impl UniversalPlan {
         &self,
         buffer: &mut hb_buffer_t,
         font: &F,
-        pause: SyllablePause,
+        pause: Pause,
     ) -> Result<bool, AllocError>
         requires { buffer.old.have_output ≡ false }
         ensures closed { IfOk result (λ done. done ≡ true → buffer.new.have_output ≡ false) }
         ensures keeps { KeepsNumbers buffer.old buffer.new }
     {
         match pause {
-            SyllablePause::SetUp => self.setup_syllables(buffer),
-            SyllablePause::ForgetSubstitutions => forget_substitutions(buffer),
-            SyllablePause::RecordRphf => record_rephs(buffer, self.rphf),
-            SyllablePause::RecordPref => record_prefs(buffer),
-            SyllablePause::InitialReordering => return reordering(buffer, font),
-            SyllablePause::FinalReordering => {}
+            Pause::SetUpSyllables => self.setup_syllables(buffer),
+            Pause::ClearSubstitutionFlags => forget_substitutions(buffer),
+            Pause::RecordRphf => record_rephs(buffer, self.rphf),
+            Pause::RecordPref => record_prefs(buffer),
+            Pause::InitialReordering => return reordering(buffer, font),
+            Pause::FinalReordering | Pause::Nothing | Pause::RecordStch | Pause::ArabicFallback =>
+                {}
         }
         Ok(true)
     }

@@ -10,7 +10,6 @@ pub use category::position::Position;
 pub use category::search::category_of;
 pub use font::{FontForms, FormFeature};
 pub use machine::Machine;
-pub use pause::SyllablePause;
 pub use vowel_sequences::third_vowel;
 pub use vowels::part_vowels;
 
@@ -22,7 +21,6 @@ pub mod grammar;
 pub mod item;
 pub mod machine;
 pub mod moves;
-pub mod pause;
 pub mod requests;
 pub mod syllables;
 pub mod vowel_sequences;

@@ -3,6 +3,7 @@
 use crate::command::lines::{LinesError, answer_lines};
 use crate::command::reading::{Reading, read_run};
 use crate::command::shaper::{KeptLine, LineShaper, LineState};
+use crate::host::Host;
 use crate::host::io::BufRead;
 use crate::memory::{AllocError, Vec};
 use crate::ot_shape::FaceNames;
@@ -163,7 +164,7 @@ fn answer_pieces(
 ) {
     let next = || rest.lock().unwrap_or_else(PoisonError::into_inner).next();
     while let Some(piece) = next() {
-        piece.outcome = answer_lines(&shaper, state, &mut piece.lines, &mut piece.answers);
+        piece.outcome = answer_lines(&Host, &shaper, state, &mut piece.lines, &mut piece.answers);
         if let Err(LinesError::Write(_)) = piece.outcome {
             piece.outcome = Err(LinesError::Memory);
         }

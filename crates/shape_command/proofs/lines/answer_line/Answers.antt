@@ -1,14 +1,12 @@
-use Rattle.std.proofs.Common.{ap, subst, sym, ◌∙◌}
+use Rattle.std.proofs.Common.{ap, ◌∙◌}
 use Rattle.line_formats.specs.Heads.{head}
-use Rattle.shape_command.specs.Lines.{IsTrace}
 use Rattle.shape_command.proofs.LineLemmas.{shows}
 use Rattle.shape_command.proofs.lines.answer_line.Goals as goal
 
 pub returns : goal.returns
 returns g c =
-    shows c.args.shaper.now.output c.args.number c.args.line.now _ c.in_ok-answered.answered.characters.items _ _ _ _ _ _
-    (subst (IsTrace c.args.shaper.now.output) (sym c.as_slice.ensures.value) c.in_ok-trace.ensures)
+    shows c.args.shaper.now.output c.args.number c.args.line.now c.in_ok-answered.answered.characters.items _ _ _ _ _
     c.in_ok-answered.ensures.list c.in_ok-answered.ensures.answer
     (c.as_slice-2.ensures.value ∙ c.in_ok-before.ensures
     ∙ ap (head c.args.shaper.now.output.shown c.args.number c.args.line.now) c.as_slice-characters.ensures.value)
-    c.in_ok-put.ensures c.in_ok-put-2.ensures c.in_ok-write_answer.ensures
+    c.in_ok-put.ensures c.in_ok-write_answer.ensures

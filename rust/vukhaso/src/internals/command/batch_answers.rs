@@ -9,7 +9,7 @@ use crate::command::loaded_font::LoadedFont;
 use crate::command::reading::Reading;
 use crate::command::run::{CommandError, answer_options, read_font_file};
 use crate::host::io::{self, BufRead, ErrorKind, Write};
-use crate::host::{AllocGlobal, Files};
+use crate::host::{AllocGlobal, Eprint, Files};
 use crate::memory::{TryDisplay, Vec};
 use crate::options::batch::words_of_line;
 use crate::options::options::FontChoice;
@@ -24,7 +24,7 @@ struct Run {
 }
 
 /// Answers each line of a batch, and says whether each was shaped.
-pub(crate) fn answer_batch<F: Files + AllocGlobal, R: BufRead, W: Write>(
+pub(crate) fn answer_batch<F: Files + AllocGlobal + Eprint, R: BufRead, W: Write>(
     rt: &F,
     input: &mut R,
     output: &mut W,
@@ -61,7 +61,7 @@ fn has_next<R: BufRead>(input: &mut R, line: &mut Vec<u8>) -> io::Result<bool> {
 }
 
 /// Answers the line that was read, and those behind it that name the same font.
-fn answer_run<F: Files + AllocGlobal, R: BufRead, W: Write>(
+fn answer_run<F: Files + AllocGlobal + Eprint, R: BufRead, W: Write>(
     rt: &F,
     file: &mut FontFile,
     line: &mut Vec<u8>,
@@ -111,7 +111,7 @@ fn read_named_font<F: Files + AllocGlobal, W: Write>(
 }
 
 /// Answers the line that was read with its font, and those behind it that name the same one.
-fn answer_with<F: Files + AllocGlobal, R: BufRead, W: Write>(
+fn answer_with<F: Files + AllocGlobal + Eprint, R: BufRead, W: Write>(
     rt: &F,
     font: &mut LoadedFont<'_>,
     line: &mut Vec<u8>,
@@ -142,7 +142,7 @@ fn answer_with<F: Files + AllocGlobal, R: BufRead, W: Write>(
 
 /// Answers a line, and says whether it was shaped; `None` where it names another font, and was not
 /// answered.
-fn answer_line<F: Files + AllocGlobal, R: BufRead, W: Write>(
+fn answer_line<F: Files + AllocGlobal + Eprint, R: BufRead, W: Write>(
     rt: &F,
     line: &[u8],
     font: &mut LoadedFont<'_>,

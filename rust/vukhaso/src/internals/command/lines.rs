@@ -4,8 +4,10 @@
 
 use crate::command::reading::{Reading, keep_seen, read_run};
 use crate::command::shaper::{Answer, LineNames, LineShaper, LineState};
+use crate::command::text::lossy_text;
 use crate::command::trace::trace_lines;
 use crate::host::io::{self, BufRead, ErrorKind, Read, Write};
+use crate::host::{AllocGlobal, Eprint};
 use crate::line_formats::heads::head;
 use crate::memory::{AllocError, Vec};
 use crate::ot_shape::VerifyError;
@@ -50,7 +52,8 @@ pub(crate) fn read_error(error: io::Error) -> LinesError {
 ///     (W.contents writer.old) (W.contents writer.new)) }
 /// ```
 #[inline]
-pub fn answer_lines<N: LineNames, R: BufRead, W: Write>(
+pub fn answer_lines<F: AllocGlobal + Eprint, N: LineNames, R: BufRead, W: Write>(
+    rt: &F,
     shaper: &LineShaper<'_>,
     state: &mut LineState<'_, N>,
     reader: &mut R,
@@ -63,7 +66,7 @@ pub fn answer_lines<N: LineNames, R: BufRead, W: Write>(
         if !found {
             return Ok(all_shaped);
         }
-        let is_shaped = answer_line(shaper, state, number, line.as_slice(), writer)?;
+        let is_shaped = answer_line(rt, shaper, state, number, line.as_slice(), writer)?;
         all_shaped &= is_shaped;
     }
     Err(LinesError::Read(io::Error::from(ErrorKind::Other)))
@@ -83,7 +86,8 @@ pub fn answer_lines<N: LineNames, R: BufRead, W: Write>(
 ///     (W.contents writer.old) (W.contents writer.new)) }
 /// ```
 #[inline]
-pub fn answer_paragraph<N: LineNames, R: Read, W: Write>(
+pub fn answer_paragraph<F: AllocGlobal + Eprint, N: LineNames, R: Read, W: Write>(
+    rt: &F,
     shaper: &LineShaper<'_>,
     state: &mut LineState<'_, N>,
     reader: &mut R,
@@ -98,12 +102,13 @@ pub fn answer_paragraph<N: LineNames, R: Read, W: Write>(
     if text.is_empty() {
         return Ok(true);
     }
-    let is_shaped = answer_line(shaper, state, 1, text.as_slice(), writer)?;
+    let is_shaped = answer_line(rt, shaper, state, 1, text.as_slice(), writer)?;
     Ok(is_shaped)
 }
 
 /// Answers a line of this number, and says whether it was shaped.
-fn answer_line<N: LineNames, W: Write>(
+fn answer_line<F: AllocGlobal + Eprint, N: LineNames, W: Write>(
+    rt: &F,
     shaper: &LineShaper<'_>,
     state: &mut LineState<'_, N>,
     number: u64,
@@ -111,13 +116,25 @@ fn answer_line<N: LineNames, W: Write>(
     writer: &mut W,
 ) -> Result<bool, LinesError> {
     let answered = shaper.answer(state, line)?;
-    let trace = trace_lines(shaper, &mut state.names, number, &answered.trace)?;
-    put(writer, trace.as_slice())?;
+    let steps = trace_lines(shaper, &mut state.names, number, &answered.trace)?;
+    tell(rt, steps.as_slice())?;
     let characters = answered.characters.as_slice();
     let before = head(shaper.output.shown, number, line, characters)?;
     put(writer, before.as_slice())?;
     write_answer(writer, &answered.answer)?;
     Ok(answered.answer.is_shaped())
+}
+
+/// Says the steps of shaping on standard error.
+fn tell<F: AllocGlobal + Eprint>(rt: &F, steps: &[u8]) -> Result<(), LinesError> {
+    if steps.is_empty() {
+        return Ok(());
+    }
+    let text = lossy_text(steps)?;
+    match rt.eprint(&text) {
+        Ok(()) => Ok(()),
+        Err(error) => Err(LinesError::Write(error)),
+    }
 }
 
 /// Reads a line in place of the one that is held, without the line feed that ends it. It says whether

@@ -13,7 +13,7 @@ use crate::command::synthetic_font::{SyntheticFont, SyntheticNames};
 use crate::host::Files;
 use crate::host::fs;
 use crate::host::io::{self, BufRead, BufReader, BufWriter, Write};
-use crate::host::{AllocGlobal, AsStr};
+use crate::host::{AllocGlobal, AsStr, Eprint};
 use crate::memory::AllocError;
 use crate::options::options::{Options, Shaper, TextSource};
 use crate::options::words::{WordsError, options_of};
@@ -126,7 +126,7 @@ impl<'a> CommandError<'a> {
 /// ensures { OnOk result (IsSome file.new.path) }
 /// ```
 #[inline]
-pub fn answer_command<'a, F: Files + AllocGlobal, S: AsStr, R: BufRead, W: Write>(
+pub fn answer_command<'a, F: Files + AllocGlobal + Eprint, S: AsStr, R: BufRead, W: Write>(
     rt: &F,
     words: &'a [S],
     file: &mut FontFile,
@@ -156,7 +156,7 @@ pub(crate) fn read_font_file<'a, F: Files + AllocGlobal>(
 
 /// Answers what a command line asks for, with its font. The font's names are found only where they are
 /// asked for.
-pub(crate) fn answer_options<'a, F: Files + AllocGlobal, R: BufRead, W: Write>(
+pub(crate) fn answer_options<'a, F: Files + AllocGlobal + Eprint, R: BufRead, W: Write>(
     rt: &F,
     options: &Options<'a>,
     font: &mut LoadedFont<'_>,
@@ -171,7 +171,7 @@ pub(crate) fn answer_options<'a, F: Files + AllocGlobal, R: BufRead, W: Write>(
 }
 
 /// Answers what a command line asks for, into a file.
-fn answer_into_file<'a, F: Files + AllocGlobal, R: BufRead>(
+fn answer_into_file<'a, F: Files + AllocGlobal + Eprint, R: BufRead>(
     rt: &F,
     options: &Options<'a>,
     font: &mut LoadedFont<'_>,
@@ -196,7 +196,7 @@ fn create<F: Files + AllocGlobal>(rt: &F, file: &str) -> io::Result<BufWriter<F:
 
 /// Answers what a command line asks for. The names of glyphs are found where they are asked for, or
 /// their extents.
-fn answer_into<'a, F: Files + AllocGlobal, R: BufRead, W: Write>(
+fn answer_into<'a, F: Files + AllocGlobal + Eprint, R: BufRead, W: Write>(
     rt: &F,
     options: &Options<'a>,
     font: &mut LoadedFont<'_>,
@@ -223,7 +223,7 @@ fn answer_into<'a, F: Files + AllocGlobal, R: BufRead, W: Write>(
 
 /// Answers what a command line asks for, with the names of glyphs, which it gives back. There is an
 /// error where the shaping of a line was given up.
-fn answer_named<'a, F: Files + AllocGlobal, N: LineNames, R: BufRead, W: Write>(
+fn answer_named<'a, F: Files + AllocGlobal + Eprint, N: LineNames, R: BufRead, W: Write>(
     rt: &F,
     options: &Options<'a>,
     font: &mut LoadedFont<'_>,
@@ -291,7 +291,7 @@ fn asks_font(flags: SerializeFlags) -> bool {
 }
 
 /// Answers a text.
-fn answer_text<'a, F: Files + AllocGlobal, N: LineNames, R: BufRead, W: Write>(
+fn answer_text<'a, F: Files + AllocGlobal + Eprint, N: LineNames, R: BufRead, W: Write>(
     rt: &F,
     shaper: &LineShaper<'_>,
     state: &mut LineState<'_, N>,
@@ -302,15 +302,15 @@ fn answer_text<'a, F: Files + AllocGlobal, N: LineNames, R: BufRead, W: Write>(
     let mut given = match text {
         TextSource::Given(text) => text.as_bytes(),
         TextSource::CodePoints(text) => text.as_bytes(),
-        TextSource::Input => return answer_all(shaper, state, "-", input, output),
+        TextSource::Input => return answer_all(rt, shaper, state, "-", input, output),
         TextSource::File(file) => {
             return match open(rt, file) {
-                Ok(mut reader) => answer_all(shaper, state, *file, &mut reader, output),
+                Ok(mut reader) => answer_all(rt, shaper, state, *file, &mut reader, output),
                 Err(error) => Err(CommandError::Text { file: *file, error }),
             };
         }
     };
-    answer_all(shaper, state, "TEXT", &mut given, output)
+    answer_all(rt, shaper, state, "TEXT", &mut given, output)
 }
 
 /// A file that is read piece by piece.
@@ -319,7 +319,8 @@ fn open<F: Files + AllocGlobal>(rt: &F, file: &str) -> io::Result<BufReader<F::F
 }
 
 /// Answers a text line by line, or as one line.
-fn answer_all<'a, N: LineNames, R: BufRead, W: Write>(
+fn answer_all<'a, F: AllocGlobal + Eprint, N: LineNames, R: BufRead, W: Write>(
+    rt: &F,
     shaper: &LineShaper<'_>,
     state: &mut LineState<'_, N>,
     file: &'a str,
@@ -327,9 +328,9 @@ fn answer_all<'a, N: LineNames, R: BufRead, W: Write>(
     writer: &mut W,
 ) -> Result<bool, CommandError<'a>> {
     let answered = if shaper.single_par {
-        answer_paragraph(shaper, state, reader, writer)
+        answer_paragraph(rt, shaper, state, reader, writer)
     } else {
-        answer_lines(shaper, state, reader, writer)
+        answer_lines(rt, shaper, state, reader, writer)
     };
     match answered {
         Ok(all_shaped) => Ok(all_shaped),

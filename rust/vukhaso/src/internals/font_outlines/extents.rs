@@ -3,6 +3,7 @@
 //! The box of a CFF glyph, from the bounds of its path.
 
 use crate::font_outlines::path::Bounds;
+use crate::font_tables::scale::saturated;
 use crate::glyph::GlyphExtents;
 
 /// The box around a path, in whole font units: its left side and its top are rounded, and so is how far
@@ -50,15 +51,4 @@ fn distance(from: i32, coordinate: i64) -> i128 {
 /// - `high: distance ≤ℤ pos (2 ^ 64)`
 fn rounded(distance: i128) -> i128 {
     (distance + 32768).div_euclid(65536)
-}
-
-/// The number of 32 bits that is nearest.
-fn saturated(number: i128) -> i32 {
-    if number < i128::from(i32::MIN) {
-        i32::MIN
-    } else if number > i128::from(i32::MAX) {
-        i32::MAX
-    } else {
-        number as i32
-    }
 }

@@ -123,11 +123,11 @@ impl Scale {
 fn distance(value: i32, size: i32, units_per_em: u16) -> i32 {
     let units = units_per_em.max(1);
     let product = i64::from(value).saturating_mul(i64::from(size));
-    saturated(
+    saturated(i128::from(
         product
             .saturating_add(i64::from(units / 2))
             .div_euclid(i64::from(units)),
-    )
+    ))
 }
 
 /// How long 2^16 font units are where an em is `size` long.
@@ -138,14 +138,21 @@ fn multiplier(size: i32, units_per_em: u16) -> i64 {
 /// A number of font units, by the length of 2^16 of them.
 fn multiplied(value: i32, multiplier: i64) -> i32 {
     let product = i64::from(value).saturating_mul(multiplier);
-    saturated(product.saturating_add(32768) >> 16)
+    saturated(i128::from(product.saturating_add(32768) >> 16))
 }
 
 /// The nearest number of 32 bits.
-fn saturated(value: i64) -> i32 {
-    if value < -0x8000_0000 {
+///
+/// # Proved
+///
+/// ```text
+/// ensures { result ≡ saturate_signed w32 value }
+/// ```
+#[inline(always)]
+pub fn saturated(value: i128) -> i32 {
+    if value < i128::from(i32::MIN) {
         i32::MIN
-    } else if value > 0x7FFF_FFFF {
+    } else if value > i128::from(i32::MAX) {
         i32::MAX
     } else {
         value as i32

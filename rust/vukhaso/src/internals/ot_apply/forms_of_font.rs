@@ -8,9 +8,9 @@ use crate::font_functions::FontFunctions;
 use crate::memory::AllocError;
 use crate::ot_apply::lookups::budget_of;
 use crate::ot_layout::{Budget, would_substitute};
-use crate::ot_map::LayoutPlan;
+use crate::ot_map::{LayoutPlan, Pause};
 use crate::ot_plan::{FormPlaces, TextPlan};
-use crate::script_syllables::{FontForms, FormFeature, SyllablePause};
+use crate::script_syllables::{FontForms, FormFeature};
 
 /// A font with the features of a text.
 struct Forms<'a, F> {
@@ -67,7 +67,7 @@ pub(crate) fn work_on_syllables<F: FontFunctions>(
     face: &Face,
     font: &F,
     plan: &TextPlan,
-    pause: SyllablePause,
+    pause: Pause,
 ) -> Result<bool, AllocError> {
     debug_assert!(!buffer.have_output());
     if !plan.orders_syllables() {

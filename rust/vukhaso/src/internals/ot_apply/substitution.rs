@@ -19,7 +19,6 @@ use crate::ot_layout::{Digest, LookupList, LookupOptions};
 use crate::ot_map::{Pause, PlannedLookup};
 use crate::ot_plan::TextPlan;
 use crate::script_joining::FallbackLookups;
-use crate::script_syllables::SyllablePause;
 
 /// Applies the lookups of `GSUB`, stage by stage, and lets clusters run as they ran before, also where
 /// the shaper of the script puts the glyphs of syllables in another order.
@@ -248,18 +247,12 @@ fn pause<F: FontFunctions>(
             Ok(true)
         }
         Pause::ArabicFallback => join_by_fallback(buffer, face, plan, progress),
-        Pause::SetUpSyllables => work_on_syllables(buffer, face, font, plan, SyllablePause::SetUp),
-        Pause::InitialReordering => {
-            work_on_syllables(buffer, face, font, plan, SyllablePause::InitialReordering)
-        }
-        Pause::FinalReordering => {
-            work_on_syllables(buffer, face, font, plan, SyllablePause::FinalReordering)
-        }
-        Pause::ClearSubstitutionFlags => {
-            work_on_syllables(buffer, face, font, plan, SyllablePause::ForgetSubstitutions)
-        }
-        Pause::RecordRphf => work_on_syllables(buffer, face, font, plan, SyllablePause::RecordRphf),
-        Pause::RecordPref => work_on_syllables(buffer, face, font, plan, SyllablePause::RecordPref),
+        Pause::SetUpSyllables
+        | Pause::InitialReordering
+        | Pause::FinalReordering
+        | Pause::ClearSubstitutionFlags
+        | Pause::RecordRphf
+        | Pause::RecordPref => work_on_syllables(buffer, face, font, plan, pause),
         Pause::Nothing => Ok(true),
     }
 }

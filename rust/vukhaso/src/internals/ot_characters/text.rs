@@ -21,6 +21,9 @@ use crate::ot_normalization::glyph_info::{
 /// No character before this one goes on with a grapheme: the first that emoji are made from.
 const FIRST_PICTOGRAPHIC: u32 = 0xA9;
 
+/// Of a text of so many characters, the properties of so many are remembered.
+const REMEMBERED: usize = 64;
+
 /// The dotted circle, which a mark without a base is put on.
 const DOTTED_CIRCLE: u32 = 0x25CC;
 
@@ -57,8 +60,32 @@ fn set_all_in(buffer: &mut hb_buffer_t) -> u32 {
 
 /// Sets the properties of each character.
 fn set_all_properties(infos: &mut [hb_glyph_info_t], scratch_flags: &mut u32) {
+    if infos.len() >= REMEMBERED {
+        return set_many_properties(infos, scratch_flags);
+    }
     for i in 0..infos.len() {
         set_unicode_props(&mut infos[i], scratch_flags);
+        if continues_grapheme(infos, i) {
+            set_continuation(&mut infos[i]);
+        }
+    }
+}
+
+/// Sets the properties of each of many characters, most of which were met before. The last character of
+/// each number, counted round, is remembered.
+fn set_many_properties(infos: &mut [hb_glyph_info_t], scratch_flags: &mut u32) {
+    let mut known = [(0, 0); REMEMBERED];
+    // No character 0 was met: where it would be found stands another one.
+    known[0] = (1, 0);
+    for i in 0..infos.len() {
+        let character = infos[i].glyph_id;
+        let place = character as usize % REMEMBERED;
+        if known[place].0 == character {
+            infos[i].set_unicode_props(known[place].1);
+        } else {
+            set_unicode_props(&mut infos[i], scratch_flags);
+            known[place] = (character, infos[i].unicode_props());
+        }
         if continues_grapheme(infos, i) {
             set_continuation(&mut infos[i]);
         }

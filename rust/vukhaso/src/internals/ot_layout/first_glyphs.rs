@@ -113,7 +113,13 @@ impl Summary for Summaries {
         self.firsts.add_glyph(glyph);
     }
 
+    #[inline(always)]
     fn add_range(&mut self, first: u32, last: u32) {
+        if first == last {
+            self.digest.add(first);
+            self.firsts.add_glyph(first);
+            return;
+        }
         self.digest.add_range(first, last);
         self.firsts.add_range(first, last);
     }

@@ -123,31 +123,36 @@ impl<'a> LookupList<'a> {
     #[inline]
     pub fn new(table: &'a [u8], extension: u16, gdef: &Gdef<'a>) -> Result<Self, AllocError> {
         let reader = LookupReader::new(table, extension);
-        let (list, is_short) = LookupList::read(table, reader, gdef)?;
-        if !is_short {
+        if let Some(list) = LookupList::read(table, reader, gdef)? {
             return Ok(list);
         }
-        let reader = LookupReader::without_subtables(extension);
-        let (heads, _is_short) = LookupList::read(table, reader, gdef)?;
-        Ok(heads)
+        let reader = LookupReader::new(table, extension);
+        let lookups = without_subtables(table_or_empty(table, 8), gdef, &reader)?;
+        Ok(LookupList {
+            table,
+            lookups,
+            subtables: reader.subtables,
+            coverages: reader.coverages,
+            extension,
+        })
     }
 
-    /// The lookups of a table, and whether a part of it was left out for want of room.
+    /// The lookups of a table; `None` where there is no room for all that they share.
     fn read(
         table: &'a [u8],
         mut reader: LookupReader<'a>,
         gdef: &Gdef<'a>,
-    ) -> Result<(Self, bool), AllocError> {
-        let lookups = read_all(table_or_empty(table, 8), gdef, &mut reader)?;
-        let is_short = reader.is_short;
-        let list = LookupList {
+    ) -> Result<Option<Self>, AllocError> {
+        let Some(lookups) = read_all(table_or_empty(table, 8), gdef, &mut reader)? else {
+            return Ok(None);
+        };
+        Ok(Some(LookupList {
             table,
             lookups,
             subtables: reader.subtables,
             coverages: reader.coverages,
             extension: reader.extension,
-        };
-        Ok((list, is_short))
+        }))
     }
 
     /// Whether the table is `GPOS`.
@@ -223,24 +228,50 @@ impl<'a> LookupList<'a> {
     }
 }
 
-/// The lookups of a list, unless they have too many subtables.
+/// The lookups of a list, unless they have too many subtables; `None` where there is no room for all
+/// that they share.
 fn read_all<'a>(
     list: &'a [u8],
     gdef: &Gdef<'a>,
     reader: &mut LookupReader<'a>,
-) -> Result<Vec<Lookup<'a>>, AllocError> {
+) -> Result<Option<Vec<Lookup<'a>>>, AllocError> {
     let mut lookups = Vec::new();
     let declared = lookup_count(list);
     let subtables = subtables_of_first(list, declared);
     if subtables >= MAX_SUBTABLES {
-        return Ok(lookups);
+        return Ok(Some(lookups));
     }
     let count = rows_within(list, 2, 2, declared);
     lookups.reserve(count)?;
     reader.make_room(subtables)?;
     for index in 0..count {
-        let lookup = reader.read_lookup(table_or_empty(list, 2 + 2 * index), gdef)?;
-        lookups.push(lookup)?;
+        let table = table_or_empty(list, 2 + 2 * index);
+        let first = reader.subtables.len();
+        reader.read_lookup(table)?;
+        if reader.is_short {
+            return Ok(None);
+        }
+        lookups.push(reader.lookup_of(table, first, gdef))?;
+    }
+    Ok(Some(lookups))
+}
+
+/// The same lookups, with a reader that has read no subtable.
+fn without_subtables<'a>(
+    list: &'a [u8],
+    gdef: &Gdef<'a>,
+    reader: &LookupReader<'a>,
+) -> Result<Vec<Lookup<'a>>, AllocError> {
+    let mut lookups = Vec::new();
+    let declared = lookup_count(list);
+    let subtables = subtables_of_first(list, declared);
+    if MAX_SUBTABLES <= subtables {
+        return Ok(lookups);
+    }
+    let count = rows_within(list, 2, 2, declared);
+    lookups.reserve(count)?;
+    for index in 0..count {
+        lookups.push(reader.lookup_of(table_or_empty(list, 2 + 2 * index), 0, gdef))?;
     }
     Ok(lookups)
 }

@@ -13,7 +13,7 @@ use crate::ot_layout::known::{Known, Summed, coverage_of, make_room, quick_cover
 use crate::ot_layout::lookup_list::{Lookup, POSITIONING_EXTENSION};
 use crate::ot_layout::lookup_props::LookupProps;
 use crate::ot_layout::reading::{
-    count_at, coverage_numbers, digest_of, firsts_of, has_next, quick_classes,
+    count_at, coverage_numbers, has_next, quick_classes, summaries_of_all,
 };
 use crate::ot_layout::search::MAX_CONTEXT_LENGTH;
 use crate::ot_layout::seconds::seconds_of;
@@ -65,18 +65,10 @@ impl<'a> LookupReader<'a> {
         }
     }
 
-    /// A reader that reads no subtables.
-    pub(crate) fn without_subtables(extension: u16) -> Self {
-        LookupReader::new(&[], extension)
-    }
-
     /// Makes room for so many subtables, as far as these are not too many.
     pub(crate) fn make_room(&mut self, subtables: usize) -> Result<(), AllocError> {
-        if self.room > 0 {
-            self.subtables.reserve(subtables.min(MOST_RESERVED))?;
-            make_room(&mut self.known, subtables)?;
-        }
-        Ok(())
+        self.subtables.reserve(subtables.min(MOST_RESERVED))?;
+        make_room(&mut self.known, subtables)
     }
 
     /// Whether the table is `GPOS`.
@@ -84,16 +76,11 @@ impl<'a> LookupReader<'a> {
         self.extension == POSITIONING_EXTENSION
     }
 
-    /// Reads a lookup.
+    /// Reads the subtables of a lookup.
     #[inline(always)]
-    pub(crate) fn read_lookup(
-        &mut self,
-        table: &'a [u8],
-        gdef: &Gdef<'a>,
-    ) -> Result<Lookup<'a>, AllocError> {
+    pub(crate) fn read_lookup(&mut self, table: &'a [u8]) -> Result<(), AllocError> {
         let lookup_type = u16_at(table, 0).unwrap_or(0);
         let count = subtable_count(table);
-        let first = self.subtables.len();
         if self.pay(2 * count) && self.has_one_type(lookup_type, table, count) {
             for index in 0..count {
                 if let Some(subtable) = table_at_16(table, 6 + 2 * index) {
@@ -101,15 +88,21 @@ impl<'a> LookupReader<'a> {
                 }
             }
         }
-        let subtables = self.subtables_from(first);
-        Ok(Lookup {
-            lookup_type,
+        Ok(())
+    }
+
+    /// A lookup, of which the subtables that were read begin with this one.
+    #[inline(always)]
+    pub(crate) fn lookup_of(&self, table: &[u8], first: usize, gdef: &Gdef<'a>) -> Lookup<'a> {
+        let summaries = summaries_of_all(self.subtables_from(first));
+        Lookup {
+            lookup_type: u16_at(table, 0).unwrap_or(0),
             lookup_props: props_of(table, gdef),
-            digest: digest_of(subtables),
-            firsts: firsts_of(subtables),
+            digest: summaries.digest,
+            firsts: summaries.firsts,
             first,
             last: self.subtables.len(),
-        })
+        }
     }
 
     /// The subtables from the one of this number on.
@@ -218,7 +211,9 @@ impl<'a> LookupReader<'a> {
     /// Reads the coverages of a list of offsets with their number before it, and says where it ends.
     fn read_list(&mut self, table: &'a [u8], at: usize) -> Result<usize, AllocError> {
         let count = usize::from(u16_at(table, at).unwrap_or(0));
-        self.read_offsets(table, at.saturating_add(2), count)?;
+        if count > 0 {
+            self.read_offsets(table, at.saturating_add(2), count)?;
+        }
         Ok(behind_list(table, at))
     }
 

@@ -5,7 +5,7 @@
 use crate::font_tables::bytes::u16_at;
 use crate::font_tables::class_definition::ClassDefinition;
 use crate::ot_layout::digest::Digest;
-use crate::ot_layout::first_glyphs::FirstGlyphs;
+use crate::ot_layout::first_glyphs::{FirstGlyphs, Summaries};
 use crate::ot_layout::subtable::{Form, Subtable};
 use crate::ot_layout::summary::Summary;
 
@@ -44,8 +44,22 @@ pub(crate) fn count_at(table: &[u8], at: usize) -> usize {
     usize::from(u16_at(table, at).unwrap_or(0))
 }
 
+/// What sums up the glyphs that any of these subtables is for.
+pub(crate) fn summaries_of_all(subtables: &[Subtable]) -> Summaries {
+    match subtables {
+        [only] => Summaries {
+            digest: only.digest,
+            firsts: only.firsts,
+        },
+        _ => Summaries {
+            digest: digest_of(subtables),
+            firsts: firsts_of(subtables),
+        },
+    }
+}
+
 /// The digest of the glyphs that any of these subtables is for.
-pub(crate) fn digest_of(subtables: &[Subtable]) -> Digest {
+fn digest_of(subtables: &[Subtable]) -> Digest {
     let mut digest = Digest::new();
     for subtable in subtables {
         digest.add_all(&subtable.digest);
@@ -54,7 +68,7 @@ pub(crate) fn digest_of(subtables: &[Subtable]) -> Digest {
 }
 
 /// Those of the first 256 glyphs that any of these subtables is for.
-pub(crate) fn firsts_of(subtables: &[Subtable]) -> FirstGlyphs {
+fn firsts_of(subtables: &[Subtable]) -> FirstGlyphs {
     let mut firsts = FirstGlyphs::none();
     for subtable in subtables {
         firsts.add_all(&subtable.firsts);

@@ -101,6 +101,7 @@ fn of_ranges<S: Summary>(table: &[u8]) -> S {
 }
 
 /// Adds the glyphs of a range of a coverage.
+#[inline(always)]
 fn add_row<S: Summary>(summary: &mut S, range: &[u8]) {
     if let (Some(first), Some(last)) = (u16_at(range, 0), u16_at(range, 2)) {
         summary.add_range(u32::from(first), u32::from(last));

@@ -6,27 +6,17 @@
 
 use crate::buffer::{CombiningClasses, UnicodeProps, hb_glyph_info_t};
 use crate::glyph::hb_gc::{
-    RB_UNICODE_GENERAL_CATEGORY_ENCLOSING_MARK, RB_UNICODE_GENERAL_CATEGORY_FORMAT,
-    RB_UNICODE_GENERAL_CATEGORY_NON_SPACING_MARK, RB_UNICODE_GENERAL_CATEGORY_SPACE_SEPARATOR,
-    RB_UNICODE_GENERAL_CATEGORY_SPACING_MARK,
+    RB_UNICODE_GENERAL_CATEGORY_FORMAT, RB_UNICODE_GENERAL_CATEGORY_NON_SPACING_MARK,
+    RB_UNICODE_GENERAL_CATEGORY_SPACE_SEPARATOR,
 };
 use crate::glyph::space_t;
+pub use crate::script_items::item::{
+    general_category, is_unicode_mark, modified_combining_class, set_modified_combining_class,
+};
 use crate::ucd_normal::canonical_combining_class;
 
 /// The flags in the low byte of the properties, above the general category.
 const LOW_FLAGS: u16 = 0xE0;
-
-/// The number of the general category of a character, as the module `hb_gc` of `rb_glyph` has it.
-///
-/// # Proved
-///
-/// ```text
-/// ensures { result ≡ marks.category info.now }
-/// ```
-#[inline]
-pub fn general_category(info: &hb_glyph_info_t) -> u32 {
-    u32::from(info.unicode_props() & UnicodeProps::GENERAL_CATEGORY.bits())
-}
 
 /// Sets the general category, and takes away what the high byte says.
 fn set_general_category(info: &mut hb_glyph_info_t, category: u16) {
@@ -73,23 +63,6 @@ fn set_telugu_class(info: &mut hb_glyph_info_t) {
     }
 }
 
-/// Whether the character is a mark.
-///
-/// # Proved
-///
-/// ```text
-/// ensures { result ≡ marks.is_mark info.now }
-/// ```
-#[inline]
-pub fn is_unicode_mark(info: &hb_glyph_info_t) -> bool {
-    matches!(
-        general_category(info),
-        RB_UNICODE_GENERAL_CATEGORY_SPACING_MARK
-            | RB_UNICODE_GENERAL_CATEGORY_ENCLOSING_MARK
-            | RB_UNICODE_GENERAL_CATEGORY_NON_SPACING_MARK
-    )
-}
-
 /// Whether the character is a mark without width.
 ///
 /// # Proved
@@ -100,38 +73,6 @@ pub fn is_unicode_mark(info: &hb_glyph_info_t) -> bool {
 #[inline]
 pub fn is_nonspacing_mark(info: &hb_glyph_info_t) -> bool {
     general_category(info) == RB_UNICODE_GENERAL_CATEGORY_NON_SPACING_MARK
-}
-
-/// The class by which a mark is reordered; 0 for any other character.
-///
-/// # Proved
-///
-/// ```text
-/// ensures { result ≡ marks.kept_class info.now }
-/// ```
-#[inline]
-pub fn modified_combining_class(info: &hb_glyph_info_t) -> u16 {
-    if is_unicode_mark(info) {
-        info.unicode_props() >> 8
-    } else {
-        0
-    }
-}
-
-/// Sets the class by which a mark is reordered, and later placed, by its lowest 8 bits. Any other
-/// character stays as it is.
-///
-/// # Proved
-///
-/// ```text
-/// ensures is { info.new ≡ marks.with_class class info.old }
-/// ensures cluster { info.new.cluster ≡ info.old.cluster }
-/// ```
-#[inline]
-pub fn set_modified_combining_class(info: &mut hb_glyph_info_t, class: u16) {
-    if is_unicode_mark(info) {
-        info.set_unicode_props(class % 256 * 256 | info.unicode_props() & 0xFF);
-    }
 }
 
 /// Whether the character goes on with the grapheme before it.

@@ -12,9 +12,8 @@ use crate::script_indic::matras::move_matras;
 use crate::script_indic::plan::IndicPlan;
 use crate::script_indic::pref::move_pref;
 use crate::script_indic::reph::move_reph;
-use crate::script_syllables::item::{
-    add_mask, general_category, is_ligated, position, set_category,
-};
+use crate::script_items::item::general_category;
+use crate::script_syllables::item::{add_mask, is_ligated, position, set_category};
 use crate::script_syllables::syllables::within;
 use crate::script_syllables::{Category, Position};
 use core::ops::Range;

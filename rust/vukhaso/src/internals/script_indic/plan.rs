@@ -5,15 +5,16 @@
 use crate::buffer::hb_buffer_t;
 use crate::common::{Script, Tag, script};
 use crate::memory::AllocError;
+use crate::ot_map::Pause;
 use crate::script_indic::configuration::IndicConfiguration;
 use crate::script_indic::final_order::order_finally;
 use crate::script_indic::item::is_multiplied;
 use crate::script_indic::machine::indic_machine;
 use crate::script_indic::reordering::order_initially;
+use crate::script_syllables::FontForms;
 use crate::script_syllables::grammar::Grammar;
 use crate::script_syllables::item::is_ligated;
 use crate::script_syllables::syllables::find_syllables;
-use crate::script_syllables::{FontForms, SyllablePause};
 
 /// The kind of syllables without a base.
 pub(crate) const BROKEN: u8 = 4;
@@ -37,6 +38,19 @@ pub struct IndicMasks {
     pub init: u32,
 }
 
+/// Which forms of consonants a font has lookups for.
+#[derive(Clone, Copy, PartialEq, Eq, Debug, Default)]
+pub struct ConsonantForms {
+    /// Those of a RA that stands before its base.
+    pub pref: bool,
+    /// Those below the base.
+    pub blwf: bool,
+    /// Those behind the base.
+    pub pstf: bool,
+    /// Those with a RA below them.
+    pub vatu: bool,
+}
+
 /// How a text of an Indic script is shaped by a font.
 #[derive(Clone, Copy, PartialEq, Eq, Debug)]
 pub struct IndicPlan {
@@ -48,6 +62,8 @@ pub struct IndicPlan {
     pub is_old_spec: bool,
     /// The masks.
     pub masks: IndicMasks,
+    /// The forms of consonants, of which the font is asked only where it has them.
+    pub forms: ConsonantForms,
 }
 
 impl IndicPlan {
@@ -58,13 +74,19 @@ impl IndicPlan {
     ///
     /// That it returns.
     #[inline]
-    pub fn new(script: Option<Script>, gsub_script: Tag, masks: IndicMasks) -> IndicPlan {
+    pub fn new(
+        script: Option<Script>,
+        gsub_script: Tag,
+        masks: IndicMasks,
+        forms: ConsonantForms,
+    ) -> IndicPlan {
         let configuration = IndicConfiguration::of(script);
         IndicPlan {
             script,
             configuration,
             is_old_spec: configuration.has_old_spec && gsub_script.to_bytes()[3] != b'2',
             masks,
+            forms,
         }
     }
 
@@ -105,16 +127,16 @@ impl IndicPlan {
 
         buffer: &mut hb_buffer_t,
         font: &mut F,
-        pause: SyllablePause,
+        pause: Pause,
     ) -> Result<bool, AllocError> {
         debug_assert!(!buffer.have_output());
         match pause {
-            SyllablePause::SetUp => {
+            Pause::SetUpSyllables => {
                 self.setup_syllables(buffer);
                 Ok(true)
             }
-            SyllablePause::InitialReordering => self.initial_reordering(buffer, font),
-            SyllablePause::FinalReordering => {
+            Pause::InitialReordering => self.initial_reordering(buffer, font),
+            Pause::FinalReordering => {
                 self.final_reordering(buffer, font);
                 Ok(true)
             }

@@ -33,14 +33,33 @@ pub fn set_shaper_byte(info: &mut hb_glyph_info_t, byte: u8) {
     info.var2 = info.var2 % 0x100_0000 + u32::from(byte) * 0x100_0000;
 }
 
-/// The number of the general category.
+/// The number of the general category of a character, as the module `hb_gc` of `rb_glyph` has it.
 ///
 /// # Proved
 ///
-/// That it returns.
+/// ```text
+/// ensures { result ≡ marks.category info.now }
+/// ```
 #[inline]
 pub fn general_category(info: &hb_glyph_info_t) -> u32 {
     u32::from(info.unicode_props() & UnicodeProps::GENERAL_CATEGORY.bits())
+}
+
+/// Whether the character is a mark.
+///
+/// # Proved
+///
+/// ```text
+/// ensures { result ≡ marks.is_mark info.now }
+/// ```
+#[inline]
+pub fn is_unicode_mark(info: &hb_glyph_info_t) -> bool {
+    matches!(
+        general_category(info),
+        RB_UNICODE_GENERAL_CATEGORY_SPACING_MARK
+            | RB_UNICODE_GENERAL_CATEGORY_ENCLOSING_MARK
+            | RB_UNICODE_GENERAL_CATEGORY_NON_SPACING_MARK
+    )
 }
 
 /// Whether the character is a mark that takes no part in joining, or a format character.
@@ -55,16 +74,6 @@ pub fn is_mark_or_format(info: &hb_glyph_info_t) -> bool {
         RB_UNICODE_GENERAL_CATEGORY_NON_SPACING_MARK
             | RB_UNICODE_GENERAL_CATEGORY_ENCLOSING_MARK
             | RB_UNICODE_GENERAL_CATEGORY_FORMAT
-    )
-}
-
-/// Whether the character is a mark.
-fn is_unicode_mark(info: &hb_glyph_info_t) -> bool {
-    matches!(
-        general_category(info),
-        RB_UNICODE_GENERAL_CATEGORY_SPACING_MARK
-            | RB_UNICODE_GENERAL_CATEGORY_ENCLOSING_MARK
-            | RB_UNICODE_GENERAL_CATEGORY_NON_SPACING_MARK
     )
 }
 
@@ -88,7 +97,9 @@ pub fn become_mark(info: &mut hb_glyph_info_t) {
 ///
 /// # Proved
 ///
-/// That it returns.
+/// ```text
+/// ensures { result ≡ marks.kept_class info.now }
+/// ```
 #[inline]
 pub fn modified_combining_class(info: &hb_glyph_info_t) -> u16 {
     if is_unicode_mark(info) {
@@ -98,18 +109,19 @@ pub fn modified_combining_class(info: &hb_glyph_info_t) -> u16 {
     }
 }
 
-/// Sets the class by which a mark is reordered; any other character keeps what it has.
+/// Sets the class by which a mark is reordered, and later placed, by its lowest 8 bits. Any other
+/// character stays as it is.
 ///
 /// # Proved
 ///
 /// ```text
-/// ensures { info.new.cluster ≡ info.old.cluster }
+/// ensures is { info.new ≡ marks.with_class class info.old }
+/// ensures cluster { info.new.cluster ≡ info.old.cluster }
 /// ```
 #[inline]
-pub fn set_modified_combining_class(info: &mut hb_glyph_info_t, class: u8) {
+pub fn set_modified_combining_class(info: &mut hb_glyph_info_t, class: u16) {
     if is_unicode_mark(info) {
-        let low = info.unicode_props() & 0xFF;
-        info.set_unicode_props(low | u16::from(class) << 8);
+        info.set_unicode_props(class % 256 * 256 | info.unicode_props() & 0xFF);
     }
 }
 

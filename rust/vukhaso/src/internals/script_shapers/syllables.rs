@@ -5,10 +5,10 @@
 use crate::buffer::hb_buffer_t;
 use crate::common::Script;
 use crate::memory::AllocError;
-use crate::ot_map::LayoutPlan;
+use crate::ot_map::{LayoutPlan, Pause};
 use crate::script_indic::IndicPlan;
 use crate::script_shapers::shaper::ScriptShaper;
-use crate::script_syllables::{FontForms, SyllablePause, item};
+use crate::script_syllables::{FontForms, item};
 use crate::script_universal::{KhmerPlan, UniversalPlan, khmer, myanmar, universal};
 
 /// How a text that is written in syllables is shaped by a font.
@@ -73,7 +73,7 @@ impl SyllablePlan {
 
         buffer: &mut hb_buffer_t,
         font: &mut F,
-        pause: SyllablePause,
+        pause: Pause,
     ) -> Result<bool, AllocError> {
         debug_assert!(!buffer.have_output());
         match self {

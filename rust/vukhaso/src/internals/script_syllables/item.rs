@@ -3,7 +3,7 @@
 //! What the shapers of syllables keep with an item: its category and its position, in the bytes that HarfBuzz's
 //! `hb-ot-shaper.hh` gives them, the third and the fourth of `var2`; and what became of its glyph.
 
-use crate::glyph::{GlyphPropsFlags, UnicodeProps, hb_glyph_info_t};
+use crate::glyph::{GlyphPropsFlags, hb_glyph_info_t};
 use crate::script_syllables::category::Category;
 use crate::script_syllables::category::position::Position;
 use crate::script_syllables::category::search::category_of;
@@ -107,16 +107,6 @@ pub fn add_mask(infos: &mut [hb_glyph_info_t], start: usize, end: usize, mask: u
     for place in start..end.min(infos.len()) {
         infos[place].mask |= mask;
     }
-}
-
-/// The number of the general category.
-///
-/// # Proved
-///
-/// That it returns.
-#[inline]
-pub fn general_category(info: &hb_glyph_info_t) -> u32 {
-    u32::from(info.unicode_props() & UnicodeProps::GENERAL_CATEGORY.bits())
 }
 
 /// Whether a glyph has one of these properties.

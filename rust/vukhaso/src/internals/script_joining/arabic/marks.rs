@@ -101,7 +101,7 @@ fn set_classes(buffer: &mut hb_buffer_t, start: usize, end: usize, class: u8) {
 /// Gives these marks another class.
 fn set_classes_of(infos: &mut [hb_glyph_info_t], start: usize, end: usize, class: u8) {
     for i in start..end.min(infos.len()) {
-        set_modified_combining_class(&mut infos[i], class);
+        set_modified_combining_class(&mut infos[i], u16::from(class));
     }
 }
 

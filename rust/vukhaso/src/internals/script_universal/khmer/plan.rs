@@ -4,10 +4,11 @@
 
 use crate::buffer::hb_buffer_t;
 use crate::memory::AllocError;
+use crate::ot_map::Pause;
 use crate::script_syllables::dotted_circle::{CircleKind, insert_dotted_circles};
 use crate::script_syllables::grammar::Grammar;
 use crate::script_syllables::syllables::find_syllables;
-use crate::script_syllables::{Category, FontForms, Position, SyllablePause};
+use crate::script_syllables::{Category, FontForms, Position};
 use crate::script_universal::khmer::machine::khmer_machine;
 use crate::script_universal::khmer::order::order_syllables;
 
@@ -58,15 +59,15 @@ impl KhmerPlan {
         &self,
         buffer: &mut hb_buffer_t,
         font: &F,
-        pause: SyllablePause,
+        pause: Pause,
     ) -> Result<bool, AllocError> {
         debug_assert!(!buffer.have_output());
         match pause {
-            SyllablePause::SetUp => {
+            Pause::SetUpSyllables => {
                 self.setup_syllables(buffer);
                 Ok(true)
             }
-            SyllablePause::InitialReordering => self.reordering(buffer, font),
+            Pause::InitialReordering => self.reordering(buffer, font),
             _ => Ok(true),
         }
     }

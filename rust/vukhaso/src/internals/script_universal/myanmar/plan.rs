@@ -4,10 +4,11 @@
 
 use crate::buffer::hb_buffer_t;
 use crate::memory::AllocError;
+use crate::ot_map::Pause;
 use crate::script_syllables::dotted_circle::{CircleKind, insert_dotted_circles};
 use crate::script_syllables::grammar::Grammar;
 use crate::script_syllables::syllables::find_syllables;
-use crate::script_syllables::{Category, FontForms, Position, SyllablePause};
+use crate::script_syllables::{Category, FontForms, Position};
 use crate::script_universal::myanmar::machine::myanmar_machine;
 use crate::script_universal::myanmar::order::order_syllables;
 
@@ -41,15 +42,15 @@ const CIRCLE: CircleKind = CircleKind {
 pub fn pause<F: FontForms>(
     buffer: &mut hb_buffer_t,
     font: &F,
-    pause: SyllablePause,
+    pause: Pause,
 ) -> Result<bool, AllocError> {
     debug_assert!(!buffer.have_output());
     match pause {
-        SyllablePause::SetUp => {
+        Pause::SetUpSyllables => {
             setup_syllables(buffer);
             Ok(true)
         }
-        SyllablePause::InitialReordering => reordering(buffer, font),
+        Pause::InitialReordering => reordering(buffer, font),
         _ => Ok(true),
     }
 }

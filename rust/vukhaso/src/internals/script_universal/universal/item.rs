@@ -3,13 +3,8 @@
 //! What the universal shaper keeps with an item: its category, and while syllables are found, whether they pass over it.
 
 use crate::buffer::{hb_buffer_t, hb_glyph_info_t};
-use crate::glyph::hb_gc::{
-    RB_UNICODE_GENERAL_CATEGORY_ENCLOSING_MARK, RB_UNICODE_GENERAL_CATEGORY_NON_SPACING_MARK,
-    RB_UNICODE_GENERAL_CATEGORY_SPACING_MARK,
-};
-use crate::script_syllables::item::{
-    category_byte, general_category, is_ligated, set_category_byte,
-};
+use crate::script_items::item::is_unicode_mark;
+use crate::script_syllables::item::{category_byte, is_ligated, set_category_byte};
 use crate::script_universal::universal::category::{UniversalCategory, universal_category_of};
 use UniversalCategory::*;
 
@@ -71,7 +66,7 @@ fn mark_items(infos: &mut [hb_glyph_info_t]) {
         let is_joiner = is(info, GraphemeJoiner);
         set_passed_over(info, is_joiner || is_before_mark && is(info, NonJoiner));
         if !is_joiner {
-            is_before_mark = is_mark(info);
+            is_before_mark = is_unicode_mark(info);
         }
     }
 }
@@ -80,14 +75,4 @@ fn mark_items(infos: &mut [hb_glyph_info_t]) {
 fn set_passed_over(info: &mut hb_glyph_info_t, is_passed_over: bool) {
     let byte = if is_passed_over { 0x100_0000 } else { 0 };
     info.var2 = info.var2 % 0x100_0000 + byte;
-}
-
-/// Whether the character is a mark.
-fn is_mark(info: &hb_glyph_info_t) -> bool {
-    matches!(
-        general_category(info),
-        RB_UNICODE_GENERAL_CATEGORY_SPACING_MARK
-            | RB_UNICODE_GENERAL_CATEGORY_ENCLOSING_MARK
-            | RB_UNICODE_GENERAL_CATEGORY_NON_SPACING_MARK
-    )
 }

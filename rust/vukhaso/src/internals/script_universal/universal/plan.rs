@@ -4,10 +4,11 @@
 
 use crate::buffer::hb_buffer_t;
 use crate::memory::AllocError;
+use crate::ot_map::Pause;
 use crate::script_syllables::dotted_circle::{CircleKind, insert_dotted_circles};
 use crate::script_syllables::grammar::Grammar;
 use crate::script_syllables::syllables::find_syllables;
-use crate::script_syllables::{FontForms, Position, SyllablePause};
+use crate::script_syllables::{FontForms, Position};
 use crate::script_universal::universal::category::UniversalCategory;
 use crate::script_universal::universal::item::mark_passed_over;
 use crate::script_universal::universal::machine::universal_machine;
@@ -84,16 +85,17 @@ impl UniversalPlan {
         &self,
         buffer: &mut hb_buffer_t,
         font: &F,
-        pause: SyllablePause,
+        pause: Pause,
     ) -> Result<bool, AllocError> {
         debug_assert!(!buffer.have_output());
         match pause {
-            SyllablePause::SetUp => self.setup_syllables(buffer),
-            SyllablePause::ForgetSubstitutions => forget_substitutions(buffer),
-            SyllablePause::RecordRphf => record_rephs(buffer, self.rphf),
-            SyllablePause::RecordPref => record_prefs(buffer),
-            SyllablePause::InitialReordering => return reordering(buffer, font),
-            SyllablePause::FinalReordering => {}
+            Pause::SetUpSyllables => self.setup_syllables(buffer),
+            Pause::ClearSubstitutionFlags => forget_substitutions(buffer),
+            Pause::RecordRphf => record_rephs(buffer, self.rphf),
+            Pause::RecordPref => record_prefs(buffer),
+            Pause::InitialReordering => return reordering(buffer, font),
+            Pause::FinalReordering | Pause::Nothing | Pause::RecordStch | Pause::ArabicFallback => {
+            }
         }
         Ok(true)
     }

@@ -8,6 +8,7 @@ use vukhaso::internals::font_tables::bytes::{
 use vukhaso::internals::font_tables::rows::{
     Keys16, Numbers16, Rows, first_row, rises, rows_within,
 };
+use vukhaso::internals::font_tables::scale::saturated;
 use vukhaso::internals::numbers::Chunks;
 
 static TABLE: [u8; 8] = [0x01, 0x02, 0x03, 0x04, 0xFF, 0xFE, 0x00, 0x00];
@@ -29,6 +30,16 @@ fn numbers_are_big_endian() {
         u32_at(&TABLE, 5),
     );
     assert!(outside == (None, None, None, None));
+}
+
+#[test]
+fn a_number_past_32_bits_is_the_nearest() {
+    let numbers = (
+        saturated(0x8000_0000),
+        saturated(-0x8000_0001),
+        saturated(-7),
+    );
+    assert!(numbers == (i32::MAX, i32::MIN, -7));
 }
 
 #[test]
