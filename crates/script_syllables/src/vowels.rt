@@ -6,13 +6,13 @@ ghost use Rattle.glyph_lists.specs.Clusters.{clusters};
 ghost use Rattle.shaping_buffer.specs.KeepsClusters.{KeepsClusters};
 
 use crate::dotted_circle::DOTTED_CIRCLE;
-use crate::item::general_category;
 use crate::vowel_sequences::third_vowel;
 use rb_common::Script;
 use rb_glyph::hb_gc::{
     RB_UNICODE_GENERAL_CATEGORY_NON_SPACING_MARK, RB_UNICODE_GENERAL_CATEGORY_SPACING_MARK,
 };
 use rb_glyph::{BufferFlags, CharExt, Flags, UnicodeProps};
+use script_items::item::general_category;
 use shaping_buffer::{hb_buffer_t, hb_glyph_info_t};
 use std::alloc::AllocError;
 

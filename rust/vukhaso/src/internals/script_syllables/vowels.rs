@@ -10,8 +10,8 @@ use crate::glyph::hb_gc::{
 };
 use crate::glyph::{BufferFlags, CharExt, UnicodeProps};
 use crate::memory::AllocError;
+use crate::script_items::item::general_category;
 use crate::script_syllables::dotted_circle::DOTTED_CIRCLE;
-use crate::script_syllables::item::general_category;
 use crate::script_syllables::vowel_sequences::third_vowel;
 
 /// Puts a dotted circle before the last character of each sequence that looks like another vowel of the
