@@ -1,11 +1,11 @@
 -- The places of a match, one by one and as a list.
-use Rattle.std.proofs.Common.{◌≡◌, ℕ, ◌+◌, ◌-◌, ◌<◌, ◌≤◌, Bool, true, false, List, length, map, refl, sym, ap, ◌∙◌, arith, inl, inr}
+use Rattle.std.proofs.Common.{◌≡◌, ℕ, ◌+◌, ◌-◌, ◌<◌, ◌≤◌, Bool, true, false, List, length, sym, ap, ◌∙◌, arith, inl, inr}
 use Rattle.std.proofs.lemmas.Bool.{cases_lt, cond-true, cond-false, lt-leb, lt-ltb, le-leb, le-ltb}
-use Rattle.std.proofs.lemmas.List.{ext_get_or, get_or-map, length-map}
+use Rattle.std.proofs.lemmas.List.{ext_get_or, length-map}
 use Rattle.std.proofs.lemmas.List.FromFn.{get_or-map-range_with_len, length-range_with_len}
 use Rattle.std.specs.List.{range_with_len}
 use Rattle.std.specs.Prelude.{slice_index, nat_le, nat_lt, max, min, not, ◌&&◌}
-use Rattle.ot_gsub.specs.MatchPositions.{AreAll, AreMovedUp, Match, followed, followed_end, followed_places, grown_place, is_full, moved_up, places_by, shrunk_place}
+use Rattle.ot_gsub.specs.MatchPositions.{AreAll, Match, followed, followed_end, followed_places, grown_place, is_full, moved_up, places_by, shrunk_place}
 
 pub all_by : (f : ℕ → ℕ) (count : ℕ) (xs : List ℕ) → AreAll f count xs → xs ≡ places_by f count
 all_by f count xs are =
@@ -15,27 +15,20 @@ all_by f count xs are =
     let below : k < count = omega (arith, inside, are.count_of) in
     are.each k below ∙ sym (get_or-map-range_with_len f 0 count k k 0 below (omega arith)))
 
-pub all_moved : (places : List ℕ) (by : ℕ) (xs : List ℕ) → AreMovedUp places by xs → xs ≡ map (λ place. moved_up place by) places
-all_moved places by xs are =
-    ext_get_or 0 xs (map (λ place. moved_up place by) places) (are.count_of ∙ sym (length-map places (λ place. moved_up place by)))
-    (λ k inside.
-    let below : k < length places = omega (arith, inside, are.count_of) in
-    are.each k below ∙ sym (get_or-map (λ place. moved_up place by) places k 0 0 below))
-
 -- ---- a match that follows
 
 abbrev match_with : List ℕ → ℕ → Match
 match_with places end = record { places = places; end = end }
 
-not_above : (n : ℕ) → nat_le n 64 ≡ not (nat_lt 64 n)
-not_above n =
+nat_le-not_lt : (n : ℕ) → nat_le n 64 ≡ not (nat_lt 64 n)
+nat_le-not_lt n =
     elim (cases_lt 64 n) [
       | inl above ↦ lt-leb n 64 above ∙ ap not (sym (lt-ltb 64 n above))
       | inr within ↦ le-leb n 64 within ∙ ap not (sym (le-ltb 64 n within))
     ]
 
-both : (p q : List ℕ) (d e : ℕ) → p ≡ q → d ≡ e → match_with p d ≡ match_with q e
-both p q d e s t = ap (λ (l : List ℕ). match_with l d) s ∙ ap (λ k. match_with q k) t
+match_with-both : (p q : List ℕ) (d e : ℕ) → p ≡ q → d ≡ e → match_with p d ≡ match_with q e
+match_with-both p q d e s t = ap (λ (l : List ℕ). match_with l d) s ∙ ap (λ k. match_with q k) t
 
 module _ (m : Match) (number before after : ℕ) (places : List ℕ) (end : ℕ) where
   abbrev shrunk_by : ℕ → List ℕ
@@ -52,7 +45,7 @@ module _ (m : Match) (number before after : ℕ) (places : List ℕ) (end : ℕ)
       let fewer : nat_lt after before ≡ true = lt-ltb after before less in
       let not_more : nat_lt before after ≡ false = le-ltb before after (omega (arith, less)) in
       let at : end ≡ followed_end m.places m.end number before after = ends ∙ sym (cond-true _ _ _ fewer) in
-      both places _ end _
+      match_with-both places _ end _
       (are ∙ ap (λ e. shrunk_by (min (m.end - e) (length m.places - (number + 1)))) at ∙ sym (cond-true _ _ _ fewer)
       ∙ sym (cond-false _ _ _ (ap (λ b. b && nat_lt 64 (length m.places + (after - before))) not_more)))
       at
@@ -73,7 +66,7 @@ module _ (m : Match) (number before after : ℕ) (places : List ℕ) (end : ℕ)
         let fits : is_full m before after ≡ false =
         ap (λ b. b && nat_lt 64 (length m.places + (after - before))) more
         ∙ le-ltb 64 (length m.places + (after - before)) few in
-        both places _ end _ (are ∙ sym (cond-true _ _ _ more) ∙ sym (cond-false _ _ _ not_fewer) ∙ sym (cond-false _ _ _ fits)) end_at
+        match_with-both places _ end _ (are ∙ sym (cond-true _ _ _ more) ∙ sym (cond-false _ _ _ not_fewer) ∙ sym (cond-false _ _ _ fits)) end_at
 
     followed-full : before < after → 64 < length m.places + (after - before) → places ≡ m.places
         → match_with places end ≡ followed m number before after
@@ -82,13 +75,13 @@ module _ (m : Match) (number before after : ℕ) (places : List ℕ) (end : ℕ)
         let full : is_full m before after ≡ true =
         ap (λ b. b && nat_lt 64 (length m.places + (after - before))) more
         ∙ lt-ltb 64 (length m.places + (after - before)) many in
-        both places _ end _ (are ∙ sym (cond-true _ _ _ full)) end_at
+        match_with-both places _ end _ (are ∙ sym (cond-true _ _ _ full)) end_at
 
     followed-same : before ≡ after → places ≡ m.places → match_with places end ≡ followed m number before after
     unfolding followed_places
     followed-same same are =
         let not_more : nat_lt before after ≡ false = le-ltb before after (omega (arith, same)) in
-        both places _ end _
+        match_with-both places _ end _
         (are ∙ sym (cond-false _ _ _ not_more) ∙ sym (cond-false _ _ _ not_fewer)
         ∙ sym (cond-false _ _ _ (ap (λ b. b && nat_lt 64 (length m.places + (after - before))) not_more)))
         end_at
@@ -114,7 +107,7 @@ module _ (m : Match) (number before after : ℕ) (places : List ℕ) (end : ℕ)
           | inl less ↦
               let is = more (omega (arith, less)) in
               let yes : nat_lt before after ≡ true = lt-ltb before after less in
-              is ∙ not_above (length m.places + (after - before))
+              is ∙ nat_le-not_lt (length m.places + (after - before))
               ∙ ap (λ b. not (b && nat_lt 64 (length m.places + (after - before)))) (sym yes)
           | inr up ↦
               let e : before ≡ after = omega (arith, rises, up) in

@@ -1,6 +1,6 @@
 -- The records of a rule, one by one and in a row.
-use Rattle.std.proofs.Common.{◌≡◌, ℕ, zero, suc, ◌+◌, ◌-◌, ◌<◌, ◌≤◌, Bool, true, false, List, [], ◌∷◌, length, Option, Some, None, Result, Ok, Err, IfOk, refl, sym, ap, subst, ◌∙◌, arith, inl, inr}
-use Rattle.std.proofs.lemmas.Bool.{cases_lt, cond-true, false≢true, lt-ltb, le-ltb}
+use Rattle.std.proofs.Common.{◌≡◌, ℕ, zero, suc, ◌+◌, ◌-◌, ◌<◌, ◌≤◌, Bool, true, false, List, [], ◌∷◌, length, Some, None, Result, Ok, Err, IfOk, refl, sym, ap, subst, ◌∙◌, arith}
+use Rattle.std.proofs.lemmas.Bool.{cond-true, false≢true, lt-ltb}
 use Rattle.std.proofs.lemmas.Option.{slice_get-get_or, slice_get_within}
 use Rattle.std.specs.Prelude.{slice_get, slice_index, nat_lt, ◌&&◌, min}
 use Rattle.std.specs.declared.alloc.AllocError.{AllocError}
@@ -10,8 +10,8 @@ use Rattle.ot_layout.specs.declared.context.SequenceLookupRecord.{SequenceLookup
 use Rattle.shaping_buffer.specs.State.{State, len, lookahead_len}
 use Rattle.shaping_buffer.specs.Step.{Outcome, move_to}
 use Rattle.ot_gsub.specs.Edits.{Gives, GivesOrWants}
-use Rattle.ot_gsub.specs.MatchPositions.{Match, match_at, match_of}
-use Rattle.ot_gsub.specs.Nested.{Applies, AreDone, IsBehind, IsFitDone, IsFollowed, IsRecordDone, IsRest, Now, both_len, is_there, mark_from, now_of, records_from}
+use Rattle.ot_gsub.specs.MatchPositions.{Match, match_of}
+use Rattle.ot_gsub.specs.Nested.{Applies, AreDone, IsBehind, IsFitDone, IsFollowed, IsRecordDone, IsRest, Now, both_len, is_there, now_of, records_from}
 use Rattle.ot_gsub.specs.declared.match_positions.Matched.{Matched}
 use Rattle.ot_gsub.specs.declared.nested.Step.{Step}
 use Rattle.ot_gsub.specs.declared.nested.Turn.{Turn}
@@ -20,37 +20,14 @@ use Rattle.ot_gsub.specs.declared.substitution.Progress.{Progress}
 
 -- ---- whether the glyph of a record is there
 
-and_false : (a b : Bool) → b ≡ false → (a && b) ≡ false
-and_false true b is = is
-and_false false b is = refl
-
 module _ (r : SequenceLookupRecord) (m : Match) (s : State) where
   abbrev k : ℕ
   k = r.sequence_index
-
-  beyond : slice_get m.places k ≡ None → length m.places ≤ k
-  beyond none =
-      elim (cases_lt k (length m.places)) [
-        | inl within ↦ absurd (let some = slice_get-get_or m.places k 0 within in cc)
-        | inr past ↦ past
-      ]
-
-  -- its number is past the match
-  pub not_there : slice_get m.places k ≡ None → is_there r m s ≡ false
-  not_there none = ap (λ b. b && nat_lt (slice_index m.places k) (both_len s)) (le-ltb k (length m.places) (beyond none))
 
   pub index_is : (place : ℕ) → slice_get m.places k ≡ Some place → place ≡ slice_index m.places k
   index_is place is =
       let some = slice_get-get_or m.places k 0 (slice_get_within m.places k place is) in
       cc
-
-  -- it is behind the text
-  pub not_there-past : (place before : ℕ) → slice_get m.places k ≡ Some place → before ≡ both_len s → before ≤ place
-      → is_there r m s ≡ false
-  not_there-past place before is count past =
-      let at = index_is place is in
-      and_false (nat_lt k (length m.places)) (nat_lt (slice_index m.places k) (both_len s))
-      (le-ltb (slice_index m.places k) (both_len s) (omega (arith, at, count, past)))
 
   pub there : (place before : ℕ) → slice_get m.places k ≡ Some place → before ≡ both_len s → place < before
       → is_there r m s ≡ true
@@ -62,13 +39,6 @@ module _ (r : SequenceLookupRecord) (m : Match) (s : State) where
 -- ---- one record
 
 module _ (applies : Applies) (r : SequenceLookupRecord) (m : Match) (s : State) (p : Progress) where
-  -- it is passed over
-  pub done_passed : (new : Now) → is_there r m s ≡ false → new ≡ now_of s p → IsRecordDone applies r m (now_of s p) On m new
-  done_passed new none is = record {
-    passed = λ _. (refl, refl, is);
-    there = λ yes. absurd (false≢true (sym none ∙ yes));
-  }
-
   module _ (place : ℕ) (is : slice_get m.places r.sequence_index ≡ Some place) (yes : is_there r m s ≡ true) where
     abbrev outcome : Outcome
     outcome = move_to (slice_index m.places r.sequence_index) s
@@ -180,20 +150,6 @@ module _ (applies : Applies) (table : List ℕ) where
     pub left_refused : IsRecordDone applies r m old Refused n mid → done ≡ false → new ≡ mid → Left k count m old done new
     left_refused first halt at = left_by Refused first (halt, at)
 
--- the records of a rule, from the first on
-pub fit_begun : (applies : Applies) (fit : Fit) (places : List ℕ) (s b : State) (p : Progress) (before : ℕ) (m : Match) (done : Bool) (new : Now)
-    → b ≡ mark_from fit.from fit.to s → before ≡ length b.out → m ≡ match_at before places fit.end
-    → Left applies fit.records.now 0 fit.record_count m (now_of b p) done new → IsFitDone applies fit places (now_of s p) done new
-fit_begun applies fit places s b p before m done new marked count is left =
-    let all = records_from fit.records.now 0 fit.record_count in
-    let marks : State = mark_from fit.from fit.to s in
-    let at : m ≡ match_at (length marks.out) places fit.end =
-    is ∙ ap (λ i. match_at i places fit.end) (count ∙ ap (λ (t : State). length t.out) marked) in
-    let whole : fit.record_count - 0 ≡ fit.record_count = omega arith in
-    subst (λ (t : State). AreDone applies all (match_at (length marks.out) places fit.end) (now_of t p) done new) marked
-    (subst (λ (x : Match). AreDone applies all x (now_of b p) done new) at
-    (subst (λ i. AreDone applies (records_from fit.records.now 0 i) m (now_of b p) done new) whole left))
-
 -- the cursor goes behind the match
 pub fit_ended : (applies : Applies) (fit : Fit) (places : List ℕ) (s b : State) (p q : Progress) (m : Match) (result : Result Bool AllocError)
     (new : State) → ((done : Bool) (n : Now) → IsBehind m (now_of b q) done n → IsFitDone applies fit places (now_of s p) done n)
@@ -221,8 +177,8 @@ pub given : (o : Outcome) (told done : Bool) (new : State) → told ≡ done →
 given o told done new is met = record { answer = sym is ∙ met.0; state = met.1 }
 
 -- what is left is the input, where an output is open
-pub left_open : (s : State) → s.have_output ≡ true → lookahead_len s ≡ length s.input
-left_open s opened = let all : len s ≡ s.idx + length s.input = cond-true _ _ _ opened in omega (arith, all)
+pub lookahead_len-opened : (s : State) → s.have_output ≡ true → lookahead_len s ≡ length s.input
+lookahead_len-opened s opened = let all : len s ≡ s.idx + length s.input = cond-true _ _ _ opened in omega (arith, all)
 
 pub none_left : (n : ℕ) (b : Bool) → (0 < n → b ≡ true) → b ≡ false → n ≡ 0
 none_left zero b more out = refl

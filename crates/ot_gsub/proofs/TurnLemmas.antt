@@ -1,24 +1,19 @@
 -- What comes of an edit, and of a lookup at the cursor.
-use Rattle.std.proofs.Common.{◌≡◌, ℕ, zero, suc, ◌-◌, ◌<◌, ◌≤◌, Bool, true, false, List, [], length, Option, Some, None, Result, Ok, Err, IfOk, refl, sym, ap, subst, ◌∙◌, arith}
+use Rattle.std.proofs.Common.{◌≡◌, ℕ, zero, suc, ◌-◌, ◌<◌, ◌≤◌, Bool, true, false, List, length, Option, Some, None, Result, Ok, Err, IfOk, refl, sym, ap, subst, ◌∙◌, arith}
 use Rattle.std.proofs.lemmas.Bool.{false≢true}
 use Rattle.std.specs.Prelude.{nat_lt, slice_get}
 use Rattle.std.specs.Result.{IsErr}
 use Rattle.std.specs.declared.alloc.AllocError.{AllocError}
-use Rattle.ot_layout.specs.declared.context.Fit.{Fit}
 use Rattle.ot_layout.specs.declared.glyph_table.Glyphs.{Glyphs}
 use Rattle.ot_layout.specs.declared.lookup_list.Lookup.{Lookup}
 use Rattle.ot_layout.specs.declared.search.Reach.{Reach}
 use Rattle.ot_layout.specs.declared.search.Search.{Search}
 use Rattle.ot_layout.specs.declared.substitution.Edit.{Edit}
-use Rattle.ot_layout.specs.declared.substitution.Edit.TheVariants.{Replace, Choose, Multiply, Ligate, Apply, ReplaceInPlace}
-use Rattle.ot_layout.specs.declared.substitution.InPlace.{InPlace}
-use Rattle.ot_layout.specs.declared.substitution.Ligation.{Ligation}
+use Rattle.ot_layout.specs.declared.substitution.Edit.TheVariants.{Choose}
 use Rattle.shaping_buffer.specs.State.{State}
-use Rattle.shaping_buffer.specs.Step.{Meets, Outcome, unlimited}
-use Rattle.ot_gsub.specs.Edits.{Gives, GivesOrWants, choose, multiply, next_random, replace}
-use Rattle.ot_gsub.specs.Ligatures.{ligate}
-use Rattle.ot_gsub.specs.Nested.{Applies, IsFitDone, Now, now_of}
-use Rattle.ot_gsub.specs.Turn.{Becomes, Comes, Ends, IsDecided, IsMade, IsTurnAt, MayRunOut, mark_beyond, mark_reach, nested, rest_beyond}
+use Rattle.ot_gsub.specs.Edits.{Gives, GivesOrWants, choose, next_random}
+use Rattle.ot_gsub.specs.Nested.{Applies, Now, now_of}
+use Rattle.ot_gsub.specs.Turn.{Ends, IsDecided, IsMade, IsTurnAt, MayRunOut, mark_beyond, mark_reach, nested, rest_beyond}
 use Rattle.ot_gsub.specs.declared.nested.Step.{Step}
 use Rattle.ot_gsub.specs.declared.nested.Step.TheVariants.{Applied, Passed, Refused}
 use Rattle.ot_gsub.specs.declared.substitution.Progress.{Progress}
@@ -26,68 +21,9 @@ use Rattle.ot_gsub.specs.declared.substitution.Substitutions.{Substitutions}
 
 -- ---- an edit
 
-becomes : (o : Outcome) (s : State) (p : Progress) (done : Bool) (new : State) → Gives o done new
-    → Becomes o p.random_state (now_of s p) done (now_of new p)
-becomes o s p done new g = (g.answer, ap (λ (t : State). now_of t p) g.state)
-
-not_false : (b : Bool) → (b ≡ false → ⊥) → b ≡ true
-not_false true never = refl
-not_false false never = absurd (never refl)
-
-module _ (applies : Applies) (gdef places : List ℕ) (s : State) (p : Progress) (new : State) where
-  abbrev EndsIn : Edit → Result Bool AllocError → Type 0
-  EndsIn edit result = Ends applies gdef places edit (now_of s p) result (now_of new p)
-
-  replaced : (glyph : ℕ) (between : State) (result : Result Bool AllocError) → Meets (replace gdef glyph s) between result new
-      → (s.have_separate_output ≡ false → result ≡ Ok true) → EndsIn (Replace glyph) result
-  replaced glyph between (Ok done) meets stored =
-      becomes (replace gdef glyph s) s p done new (record { answer = meets.0; state = meets.1 })
-  replaced glyph between (Err e) meets stored = not_false s.have_separate_output (λ is. let done = stored is in cc)
-
-  pub ends_by_replace : (edit : Edit) (glyph : ℕ) (between : State) (result : Result Bool AllocError) → edit ≡ Replace glyph
-      → Meets (replace gdef glyph s) between result new → (s.have_separate_output ≡ false → result ≡ Ok true)
-      → EndsIn edit result
-  ends_by_replace edit glyph between result is meets stored =
-      subst (λ (e : Edit). EndsIn e result) (sym is) (replaced glyph between result meets stored)
-
-  multiplied : (sequence : Glyphs) (result : Result Bool AllocError) → GivesOrWants (multiply gdef sequence.table.now s) result new
-      → EndsIn (Multiply sequence) result
-  multiplied sequence (Ok done) gives = becomes (multiply gdef sequence.table.now s) s p done new gives
-  multiplied sequence (Err e) gives = tt
-
-  pub ends_by_multiply : (edit : Edit) (sequence : Glyphs) (result : Result Bool AllocError) → edit ≡ Multiply sequence
-      → GivesOrWants (multiply gdef sequence.table.now s) result new → EndsIn edit result
-  ends_by_multiply edit sequence result is gives =
-      subst (λ (e : Edit). EndsIn e result) (sym is) (multiplied sequence result gives)
-
-  made_one : (ligation : Ligation) (result : Result Bool AllocError) → GivesOrWants (ligate gdef ligation places s) result new
-      → EndsIn (Ligate ligation) result
-  made_one ligation (Ok done) gives = becomes (ligate gdef ligation places s) s p done new gives
-  made_one ligation (Err e) gives = tt
-
-  pub ends_by_ligate : (edit : Edit) (ligation : Ligation) (result : Result Bool AllocError) → edit ≡ Ligate ligation
-      → GivesOrWants (ligate gdef ligation places s) result new → EndsIn edit result
-  ends_by_ligate edit ligation result is gives =
-      subst (λ (e : Edit). EndsIn e result) (sym is) (made_one ligation result gives)
-
-pub ends_in_place : (applies : Applies) (gdef places : List ℕ) (s : State) (p : Progress) (edit : Edit) (change : InPlace)
-    → edit ≡ ReplaceInPlace change → Ends applies gdef places edit (now_of s p) (Ok true) (now_of s p)
-ends_in_place applies gdef places s p edit change is =
-    subst (λ (e : Edit). Ends applies gdef places e (now_of s p) (Ok true) (now_of s p)) (sym is) (refl, refl)
-
--- where the edit changes more than the buffer
 module _ (applies : Applies) (gdef places : List ℕ) (s : State) (p q : Progress) (new : State) where
   abbrev EndsWith : Edit → Result Bool AllocError → Type 0
   EndsWith edit result = Ends applies gdef places edit (now_of s p) result (now_of new q)
-
-  applied_by : (fit : Fit) (result : Result Bool AllocError)
-      → IfOk result (λ done. IsFitDone applies fit places (now_of s p) done (now_of new q)) → EndsWith (Apply fit) result
-  applied_by fit (Ok done) is = is
-  applied_by fit (Err e) is = tt
-
-  pub ends_by_apply : (edit : Edit) (fit : Fit) (result : Result Bool AllocError) → edit ≡ Apply fit
-      → IfOk result (λ done. IsFitDone applies fit places (now_of s p) done (now_of new q)) → EndsWith edit result
-  ends_by_apply edit fit result is done = subst (λ (e : Edit). EndsWith e result) (sym is) (applied_by fit result done)
 
   chosen : (set : Glyphs) (result : Result Bool AllocError) → q.random_state ≡ next_random p.random_state → q.search ≡ p.search
       → GivesOrWants (choose gdef set.table.now q.random_state s) result new → EndsWith (Choose set) result
@@ -138,15 +74,6 @@ module _ (depth : ℕ) (substitutions : Substitutions) (lookup : Lookup) (p q : 
         (λ (o : Now). IsMade (nested depth substitutions) gdef_of q.search.places.items edit o step new)
         (marked_is reach m is same) made;
   }
-
-  pub turn_passed : (edit : Option Edit) (reach : Reach) (m : State) → edit ≡ None
-      → IsDecided substitutions lookup (nat_lt depth 64) s q.search.places.items edit
-      → m ≡ mark_reach reach s → q.random_state ≡ p.random_state → q.search.budget.nested ≤ p.search.budget.nested
-      → IsTurnAt depth substitutions lookup (now_of s p) (Ok Passed) (now_of m q)
-  turn_passed edit reach m none decided is same fewer =
-      turn_by None reach m (Ok Passed) (now_of m q)
-      (subst (λ (e : Option Edit). IsDecided substitutions lookup (nat_lt depth 64) s q.search.places.items e) none decided)
-      is same fewer (refl, refl)
 
   module _ (edit : Edit) (reach : Reach) (m new1 : State) (r : Progress) (told : Result Bool AllocError)
       (decided : IsDecided substitutions lookup (nat_lt depth 64) s q.search.places.items (Some edit))

@@ -1,4 +1,4 @@
-use Rattle.std.proofs.Common.{◌≡◌, ◌-◌, ◌<◌, Bool, true, false, Ok, ap, arith, refl, subst, sym, ◌∙◌}
+use Rattle.std.proofs.Common.{◌≡◌, ◌-◌, true, false, Ok, ap, arith, refl, subst, sym, ◌∙◌}
 use Rattle.std.proofs.lemmas.Option.{slice_get_within}
 use Rattle.std.specs.Option.{option_copied}
 use Rattle.ot_layout.specs.declared.budget.Budget.{Budget}
@@ -9,14 +9,13 @@ use Rattle.shaping_buffer.specs.Step.{move_to}
 use Rattle.ot_gsub.specs.MatchPositions.{match_of}
 use Rattle.ot_gsub.specs.Nested.{IsRecordDone, Now, now_of}
 use Rattle.ot_gsub.specs.Turn.{nested}
-use Rattle.ot_gsub.specs.declared.match_positions.Matched.{Matched}
 use Rattle.ot_gsub.specs.declared.nested.Step.{Step}
 use Rattle.ot_gsub.specs.declared.nested.Step.TheVariants as step
 use Rattle.ot_gsub.specs.declared.nested.Step.TheVariants.{Applied, Passed}
 use Rattle.ot_gsub.specs.declared.nested.Turn.{Turn}
 use Rattle.ot_gsub.specs.declared.nested.Turn.TheVariants.{On, Refused}
 use Rattle.ot_gsub.specs.declared.substitution.Progress.{Progress}
-use Rattle.ot_gsub.proofs.NestedLemmas.{Leads, along, done_by, done_refused, fit_ended, given, left_cut, left_enough, left_next, left_none, left_open, left_refused, none_left, there}
+use Rattle.ot_gsub.proofs.NestedLemmas.{Leads, along, done_by, done_refused, fit_ended, given, left_cut, left_enough, left_next, left_none, lookahead_len-opened, left_refused, none_left, there}
 use Rattle.ot_gsub.proofs.TurnLemmas.{ends_by_choose, nested-at_end, nested-given_up, nested-not_there, nested_by_turn, turn_applied, turn_err, turn_refused}
 use Rattle.ot_gsub.proofs.nested.+nested.Goals as goal
 use Rattle.ot_gsub.proofs.nested.+nested.Goals.{apply_fit-else-loop-index-test, apply_fit-then-loop-index-test+in_default, apply_fit-then-loop-index-test+in-Some+in_ok-apply_record+in-Enough}
@@ -82,7 +81,7 @@ apply_other-returns-then-lookahead_len-eq0-clause-applied t c = λ steps.
     let old = now_of c.args.buffer.now c.args.progress.now in
     nested-at_end c.args.substitutions.now c.args.index c.args.depth old _ (omega (arith, c.if-depth-eq0.false))
     (c.nest.ensures.paid.0 c.if-not-nest.false)
-    (omega (arith, c.if-lookahead_len-eq0.true, c.lookahead_len.ensures, left_open c.args.buffer.now c.requires))
+    (omega (arith, c.if-lookahead_len-eq0.true, c.lookahead_len.ensures, lookahead_len-opened c.args.buffer.now c.requires))
     (ap (λ k. record old { left = k }) (ap (λ (b : Budget). b.nested) c.nest.ensures.left))
 
 pub apply_other-returns-in-Some-clause-applied : goal.apply_other-returns-in-Some-clause-applied
@@ -90,7 +89,7 @@ apply_other-returns-in-Some-clause-applied t c = λ steps.
     let old = now_of c.args.buffer.now c.args.progress.now in
     nested_by_turn c.args.substitutions.now c.args.index c.args.depth c.in-Some.lookup.now old _ c.apply_at.result _
     (omega (arith, c.if-depth-eq0.false)) (c.nest.ensures.paid.0 c.if-not-nest.false)
-    (omega (arith, c.if-lookahead_len-eq0.false, c.lookahead_len.ensures, left_open c.args.buffer.now c.requires))
+    (omega (arith, c.if-lookahead_len-eq0.false, c.lookahead_len.ensures, lookahead_len-opened c.args.buffer.now c.requires))
     (sym c.lookup.ensures ∙ ap option_copied c.in-Some.is)
     (ap (λ k. record old { left = k }) (ap (λ (b : Budget). b.nested) c.nest.ensures.left)) (c.apply_at.ensures.turn steps)
 
@@ -99,7 +98,7 @@ apply_other-returns-in-None-clause-applied t c = λ steps.
     let old = now_of c.args.buffer.now c.args.progress.now in
     nested-not_there c.args.substitutions.now c.args.index c.args.depth old _ (omega (arith, c.if-depth-eq0.false))
     (c.nest.ensures.paid.0 c.if-not-nest.false)
-    (omega (arith, c.if-lookahead_len-eq0.false, c.lookahead_len.ensures, left_open c.args.buffer.now c.requires))
+    (omega (arith, c.if-lookahead_len-eq0.false, c.lookahead_len.ensures, lookahead_len-opened c.args.buffer.now c.requires))
     (sym c.lookup.ensures ∙ ap option_copied c.in-None.is)
     (ap (λ k. record old { left = k }) (ap (λ (b : Budget). b.nested) c.nest.ensures.left))
 
