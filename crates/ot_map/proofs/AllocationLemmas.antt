@@ -1,11 +1,13 @@
 -- Features that get their bits one after the other share none.
-use Rattle.std.proofs.Common.{◌≡◌, ℕ, ◌+◌, ◌<◌, ◌≤◌, List, [], ◌∷◌, ◌++◌, Some, sym, ◌∙◌, ap, subst, arith, length, slice_get, length-append, inl, inr, ◌⊎◌}
+use Rattle.std.proofs.Common.{◌≡◌, ℕ, ◌+◌, ◌<◌, ◌≤◌, List, [], ◌∷◌, ◌++◌, Some, sym, ◌∙◌, ap, subst, arith, None, drop, get_or, length, map, slice_get, length-append, inl, inr, ◌⊎◌}
 use Rattle.std.proofs.lemmas.Bool.{cases_lt}
 use Rattle.std.proofs.lemmas.Option.{slice_get-get_or, slice_get_within, get_or_from_slice_get}
-use Rattle.std.proofs.lemmas.List.{get_or_append_left, get_or_push}
+use Rattle.std.proofs.lemmas.List.{append_assoc, drop_more, get_or_append_left, get_or_push, map_push}
 use Rattle.ot_map.specs.Allocation.{HasOwnBits, BitsAreApart, BitsAreInside}
 use Rattle.ot_map.specs.AllocationSteps.{StandsFrom, IsNextBehind}
+use Rattle.ot_map.specs.Features.{Planned, next_behind, planned, planned_features, seen}
 use Rattle.ot_map.specs.declared.plan.PlannedFeature.{PlannedFeature}
+use Rattle.ot_map.specs.declared.request.FeatureRequest.{FeatureRequest}
 
 -- an element of a list with one more behind it is an element of the list, or that one
 pub pushed : {X : Type 0} (xs : List X) (y x : X) (i : ℕ) → slice_get (xs ++ y ∷ []) i ≡ Some x
@@ -75,3 +77,25 @@ IsAllocated-push features more f next free before stands behind items = subst (�
   low = let low = before.low in let up = behind.1 in omega arith;
   high = behind.0 before.high;
 })
+
+-- a request whose feature is planned, and one whose feature is not
+pub append-planned_some : (features more : List PlannedFeature) (f : PlannedFeature) (next free i : ℕ) (d : FeatureRequest)
+    (qs : List FeatureRequest) (whole : List Planned)
+    → Some (seen f) ≡ planned next (get_or qs i d) → map seen features ++ planned_features next (drop i qs) ≡ whole
+    → free ≡ next_behind next (seen f) → more ≡ features ++ f ∷ [] → i < length qs
+    → map seen more ++ planned_features free (drop (i + 1) qs) ≡ whole
+append-planned_some features more f next free i d qs whole there before behind items within =
+    let opened = rw (drop_more qs i d within) at before in
+    let now = rw (sym there) at opened in
+    ap (λ l. map seen l ++ planned_features free (drop (i + 1) qs)) items
+    ∙ ap (λ n. map seen (features ++ f ∷ []) ++ planned_features n (drop (i + 1) qs)) behind
+    ∙ ap (λ l. l ++ planned_features (next_behind next (seen f)) (drop (i + 1) qs)) (map_push seen features f)
+    ∙ append_assoc (map seen features) (seen f ∷ []) (planned_features (next_behind next (seen f)) (drop (i + 1) qs)) ∙ now
+
+pub append-planned_none : (features : List PlannedFeature) (next i : ℕ) (d : FeatureRequest) (qs : List FeatureRequest)
+    (whole : List Planned)
+    → None ≡ planned next (get_or qs i d) → map seen features ++ planned_features next (drop i qs) ≡ whole → i < length qs
+    → map seen features ++ planned_features next (drop (i + 1) qs) ≡ whole
+append-planned_none features next i d qs whole none before within =
+    let opened = rw (drop_more qs i d within) at before in
+    rw (sym none) at opened

@@ -1,8 +1,11 @@
 -- Powers of two, as the bits of a mask.
-use Rattle.std.proofs.Common.{◌≡◌, ℕ, ◌+◌, ◌*◌, ◌/◌, ◌%◌, ◌^◌, ◌<◌, ◌≤◌, arith, lit<, inl, inr}
+use Rattle.std.proofs.Common.{◌≡◌, true, refl, nat_lt, ℕ, ◌+◌, ◌*◌, ◌/◌, ◌%◌, ◌^◌, ◌<◌, ◌≤◌, arith, lit<, inl, inr}
 use Rattle.std.proofs.Math.Nat.{div-eq_of_lt, pow-le-pow_right, mod-eq_of_lt, mod-lt, mul-lt-mul_of_pos_right}
 use Rattle.std.proofs.lemmas.Nat.{pow_pos, pow-add, shr_split}
 use Rattle.std.proofs.lemmas.Bool.{cases_lt}
+use Rattle.std.proofs.lemmas.Bool.Decides.{nat_tests}
+use Rattle.font_tables.proofs.RowLemmas.{NoneBelow, first_below-none, first_below-some}
+use Rattle.ot_map.specs.Masks.{bits_needed}
 
 pub power_le : (i j : ℕ) → i ≤ j → 2 ^ i ≤ 2 ^ j
 power_le i j le = pow-le-pow_right (lit< tt) le
@@ -68,3 +71,27 @@ counted_kept value bit count none before =
       whole = λ h. absurd (omega arith);
       least = before.least;
     }
+
+none_fewer : (value count : ℕ) → ((fewer : ℕ) → fewer < count → 2 ^ fewer ≤ value) → NoneBelow (λ n. nat_lt value (2 ^ n)) count
+none_fewer value count least = record {
+  fails = λ n less. let high = least n less in grind (arith, nat_tests, high);
+}
+
+-- after all eight bits
+pub counted_all : (value count : ℕ) → IsCounted value 8 count → count ≡ bits_needed value
+unfolding bits_needed
+counted_all value count it =
+    elim (cases_lt count 8) [
+      | inl less ↦
+          let fits : value < 2 ^ count = elim (cases_lt value (2 ^ 8)) [
+            | inl low ↦ it.enough low
+            | inr high ↦ absurd (let whole = it.whole high in omega (arith, whole, less))
+          ] in
+          let passes : nat_lt value (2 ^ count) ≡ true = grind (arith, nat_tests, fits) in
+          rw (first_below-some (λ n. nat_lt value (2 ^ n)) 8 count less passes (none_fewer value count it.least)) refl
+      | inr all ↦
+          let most = it.most in
+          let e : count ≡ 8 = omega (arith, all, most) in
+          let none = none_fewer value 8 (λ n under. it.least n (omega (arith, under, e))) in
+          rw (first_below-none (λ n. nat_lt value (2 ^ n)) 8 none) e
+    ]

@@ -8,3 +8,8 @@ pub mod Plan
 pub mod Requests
 pub mod Pauses
 pub mod Stages
+pub mod Features
+pub mod FeaturesFound
+pub mod Lookups
+pub mod Collecting
+pub mod Compiled

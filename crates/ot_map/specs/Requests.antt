@@ -1,5 +1,6 @@
 -- Features that are asked for.
-use Rattle.std.specs.Prelude.{ℕ, true, false, ◌||◌, ◌==◌, List, [], ◌∷◌, None, if◌then◌else◌, max, min, nat_lt}
+use Rattle.std.specs.Prelude.{ℕ, Bool, Option, true, false, ◌||◌, ◌==◌, List, [], ◌∷◌, None, if◌then◌else◌, max, min, nat_lt}
+use Rattle.std.specs.Option.{option_or}
 use Rattle.rb_common.specs.declared.tag.Tag.{Tag}
 use Rattle.ot_map.specs.declared.request.FeatureFlags.{FeatureFlags}
 use Rattle.ot_map.specs.declared.request.FeatureRequest.{FeatureRequest}
@@ -16,6 +17,9 @@ every_glyph = record {
   random = false;
   per_syllable = false;
 }
+
+abbrev pub no_flag : FeatureFlags
+no_flag = record every_glyph { is_global = false }
 
 -- a value that is asked for: each glyph has it by default, if the feature is one of every glyph
 unfoldable pub requested : Tag → FeatureFlags → ℕ → ℕ → FeatureRequest
@@ -41,6 +45,11 @@ merged before later = record before {
   default_value = if later.flags.is_global then later.default_value else before.default_value;
   stage = min before.stage later.stage;
 }
+
+-- a request with the number of a feature of GSUB, or else of GPOS, if none was noted before
+abbrev pub with_index : Bool → Option ℕ → FeatureRequest → FeatureRequest
+with_index true index q = record q { gsub = option_or q.gsub index }
+with_index false index q = record q { gpos = option_or q.gpos index }
 
 -- requests in the order of their tags, each tag once
 abbrev pub AreInOrder : List FeatureRequest → Type 0

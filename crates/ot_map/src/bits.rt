@@ -1,7 +1,7 @@
 //! The bits of a glyph's mask, and which of them a feature has.
 
 ghost use Rattle.std.specs.Prelude.{◌≡◌, ◌<◌, ◌≤◌, ◌+◌, ◌^◌, ℕ, min};
-ghost use Rattle.ot_map.specs.Masks.{mask_of, value_in};
+ghost use Rattle.ot_map.specs.Masks.{bits_needed, mask_of, value_in};
 
 /// How many bits the value of a feature has at most, as HarfBuzz's `HB_OT_MAP_MAX_BITS`.
 pub const MAX_BITS: u32 = 8;
@@ -73,6 +73,7 @@ fn power(bit: u32) -> u64
 
 /// How many bits the values up to this one need, eight at most.
 pub fn bits_needed(max_value: u32) -> u32
+    ensures is { result ≡ bits_needed max_value }
     ensures most { result ≤ 8 }
     ensures enough { min max_value 255 < 2 ^ result }
     ensures least { (fewer : ℕ) → fewer < result → 2 ^ fewer ≤ max_value }

@@ -5,7 +5,10 @@ ghost use Rattle.font_tables.specs.Bytes.{is_number};
 ghost use Rattle.ot_map.specs.Choice.{script_of, system_of};
 ghost use Rattle.ot_map.specs.Order.{IsPlaceOf, IsGapFor};
 ghost use Rattle.ot_map.specs.Requests.{AreInOrder};
-ghost use Rattle.ot_map.specs.Tables.{list_of, lookup_count, lists_feature, tag_in_system};
+ghost use Rattle.ot_map.specs.Compiled.{IsCompiled, required_stage, stage_asked, stage_of};
+ghost use Rattle.ot_map.specs.Features.{found, searched};
+ghost use Rattle.ot_map.specs.FeaturesFound.{noted, noted_at};
+ghost use Rattle.ot_map.specs.Tables.{list_of, lookup_count, lists_feature, system_feature_count, tag_in_system};
 
 use crate::allocation::{global_mask, planned_features};
 use crate::choice::{
@@ -212,7 +215,8 @@ impl<'a> PlanBuilder<'a> {
 
     /// The plan: which lookups are applied in which order, and to which glyphs.
     pub fn compile(self, alloc: Global) -> Result<LayoutPlan, AllocError>
-        ensures { IfOk result IsPlan }
+        ensures is { IfOk result IsPlan }
+        ensures compiled { AreInOrder self.entry.requests.items → IfOk result (IsCompiled self.entry) }
     {
         let PlanBuilder {
             gsub,
@@ -221,9 +225,9 @@ impl<'a> PlanBuilder<'a> {
             mut pauses,
         } = self;
         pauses.push(Pause::Nothing)?;
+        let required_stage = required_stage(&gsub, requests.as_slice());
         find_features(&gsub, &gpos, requests.as_mut_slice());
         let features = planned_features(alloc, requests.as_slice())?;
-        let required_stage = required_stage(&gsub, requests.as_slice());
         let (gsub_lookups, stages) = gsub_lookups(
             alloc,
             &gsub,
@@ -254,47 +258,93 @@ fn place_of(requests: &[FeatureRequest], tag: Tag) -> Result<usize, usize>
 }
 
 /// Finds the features of both tables that have the tags of the requests.
-fn find_features(gsub: &ChosenTable, gpos: &ChosenTable, requests: &mut [FeatureRequest]) {
-    for place in 0..feature_count(gsub.system) {
-        if let Some(index) = u16_at(gsub.system, 6 + 2 * place)
-            && let Some(request) = with_tag(requests, gsub.lists.feature_tag(index))
-            && request.gsub.is_none()
-        {
-            request.gsub = Some(index);
-        }
-    }
-    for place in 0..feature_count(gpos.system) {
-        if let Some(index) = u16_at(gpos.system, 6 + 2 * place)
-            && let Some(request) = with_tag(requests, gpos.lists.feature_tag(index))
-            && request.gpos.is_none()
-        {
-            request.gpos = Some(index);
-        }
-    }
-    for request in requests.iter_mut() {
-        if request.flags.global_search && !request.is_found() {
-            request.gsub = gsub.lists.first_feature(request.tag);
-            request.gpos = gpos.lists.first_feature(request.tag);
-        }
+fn find_features(gsub: &ChosenTable, gpos: &ChosenTable, requests: &mut [FeatureRequest])
+    ensures { AreInOrder requests.old → requests.new ≡ map (found gsub.now gpos.now) requests.old }
+{
+    find_in_system(gsub, true, requests);
+    find_in_system(gpos, false, requests);
+    search_lists(gsub, gpos, requests);
+}
+
+/// Finds the features that the language system of one of the tables lists.
+fn find_in_system(table: &ChosenTable, is_gsub: bool, requests: &mut [FeatureRequest])
+    ensures { AreInOrder requests.old
+        → requests.new ≡ map (noted table.now is_gsub (system_feature_count table.now.system.now)) requests.old }
+{
+    for place in 0..feature_count(table.system) {
+        note(table, is_gsub, place, requests);
     }
 }
 
-/// The request of a tag.
-fn with_tag(requests: &mut [FeatureRequest], tag: Option<Tag>) -> Option<&mut FeatureRequest> {
-    let place = place_of(requests, tag?).ok()?;
-    requests.get_mut(place)
+/// Notes the feature in a place of a language system at the request of its tag, unless one was found before.
+#[tactic(auto, using(crate::proofs::FoundLemmas::notes))]
+fn note(table: &ChosenTable, is_gsub: bool, place: usize, requests: &mut [FeatureRequest])
+    requires { place < 65536 }
+    ensures { AreInOrder requests.old → requests.new ≡ map (noted_at table.now is_gsub place) requests.old }
+{
+    let Some(index) = u16_at(table.system, 6 + 2 * place) else {
+        return;
+    };
+    let Some(tag) = table.lists.feature_tag(index) else {
+        return;
+    };
+    match place_of(requests, tag) {
+        Ok(at) => requests[at].note(is_gsub, index),
+        Err(_) => {}
+    }
+}
+
+/// Searches the lists of both tables for the features that have to be and were not found.
+#[tactic(auto, using(crate::proofs::MapLemmas::walks))]
+fn search_lists(gsub: &ChosenTable, gpos: &ChosenTable, requests: &mut [FeatureRequest])
+    ensures { requests.new ≡ map (searched gsub.now gpos.now) requests.old }
+{
+    for request in requests.iter_mut() {
+        search(gsub, gpos, request);
+    }
+}
+
+/// Searches for a feature, if it has to be and was not found.
+#[tactic(auto, unfolding(crate::specs::Features::searched))]
+fn search(gsub: &ChosenTable, gpos: &ChosenTable, request: &mut FeatureRequest)
+    ensures { request.new ≡ searched gsub.now gpos.now request.old }
+{
+    if request.flags.global_search && !request.is_found() {
+        request.gsub = gsub.lists.first_feature(request.tag);
+        request.gpos = gpos.lists.first_feature(request.tag);
+    }
 }
 
 /// The stage in which the feature that `GSUB` requires is applied: that of its tag, if it was asked for, or else the first.
-fn required_stage(gsub: &ChosenTable, requests: &[FeatureRequest]) -> usize {
+fn required_stage(gsub: &ChosenTable, requests: &[FeatureRequest]) -> usize
+    ensures { AreInOrder requests.now → result ≡ required_stage gsub.now requests.now }
+{
     let Some(index) = required_feature(gsub.system) else {
         return 0;
     };
     let Some(tag) = gsub.lists.feature_tag(index) else {
         return 0;
     };
+    stage_of(requests, tag)
+}
+
+/// The stage of the request of a tag, if it is not turned off, or else the first.
+#[tactic(auto, using(crate::proofs::FoundLemmas::finds))]
+fn stage_of(requests: &[FeatureRequest], tag: Tag) -> usize
+    ensures { AreInOrder requests.now → result ≡ stage_of requests.now tag.0 }
+{
     match place_of(requests, tag) {
-        Ok(place) if requests[place].max_value != 0 => requests[place].stage,
-        _ => 0,
+        Ok(place) => stage_asked(&requests[place]),
+        Err(_) => 0,
     }
+}
+
+/// The stage of a request that is not turned off, or else the first.
+fn stage_asked(request: &FeatureRequest) -> usize
+    ensures { result ≡ stage_asked request.now }
+{
+    if request.max_value != 0 {
+        return request.stage;
+    }
+    0
 }

@@ -74,6 +74,21 @@ pub struct PlannedLookup {
     pub per_syllable: bool,
 }
 
+impl PlannedLookup {
+    ghost use Rattle.ot_map.specs.Lookups.{together};
+
+    /// Takes in another entry of the same lookup: it is applied to the glyphs of both.
+    pub(crate) fn join(&mut self, other: &PlannedLookup)
+        ensures { self.new ≡ together self.old other.now }
+    {
+        self.mask |= other.mask;
+        self.auto_zwnj = self.auto_zwnj && other.auto_zwnj;
+        self.auto_zwj = self.auto_zwj && other.auto_zwj;
+        self.random = self.random || other.random;
+        self.per_syllable = self.per_syllable || other.per_syllable;
+    }
+}
+
 /// A stage of substitution.
 #[derive(Clone, Copy, PartialEq, Eq, Debug)]
 pub struct Stage {

@@ -1,7 +1,7 @@
 //! Features that a shaper or a user asks for.
 
-ghost use Rattle.std.specs.Prelude.{◌≡◌, ◌||◌, is_some};
-ghost use Rattle.ot_map.specs.Requests.{requested, merged};
+ghost use Rattle.std.specs.Prelude.{◌≡◌, ◌||◌, Some, is_some};
+ghost use Rattle.ot_map.specs.Requests.{requested, merged, with_index};
 
 use rb_common::Tag;
 
@@ -84,6 +84,17 @@ impl FeatureRequest {
         ensures { result ≡ is_some self.now.gsub || is_some self.now.gpos }
     {
         self.gsub.is_some() || self.gpos.is_some()
+    }
+
+    /// Notes the feature that was found in one of the tables, unless one was before.
+    pub(crate) fn note(&mut self, is_gsub: bool, index: u16)
+        ensures { self.new ≡ with_index is_gsub (Some index) self.old }
+    {
+        if is_gsub {
+            self.gsub = self.gsub.or(Some(index));
+        } else {
+            self.gpos = self.gpos.or(Some(index));
+        }
     }
 
     /// Takes in a later request of the same tag. A later one for every glyph takes the place of the values; one for a part of the

@@ -15,9 +15,12 @@ pub(crate) fn planned_features(
     let mut features = Vec::new();
     let mut next = FIRST_SHIFT;
     for request in requests {
-        if let Some(feature) = planned(request, next) {
-            next = next_behind(&feature, next);
-            features.push(feature)?;
+        match planned(request, next) {
+            Some(feature) => {
+                next = next_behind(&feature, next);
+                features.push(feature)?;
+            }
+            None => {}
         }
     }
     Ok(features)
@@ -73,7 +76,10 @@ fn bits_of(request: &FeatureRequest, next: u32) -> Option<FeatureBits> {
         return None;
     }
     if request.flags.is_global && request.max_value == 1 {
-        return Some(FeatureBits::global());
+        return Some(FeatureBits {
+            shift: GLOBAL_SHIFT,
+            count: 1,
+        });
     }
     let count = bits_needed(request.max_value);
     if next + count >= GLOBAL_SHIFT {

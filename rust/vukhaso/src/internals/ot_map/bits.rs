@@ -92,6 +92,7 @@ fn power(bit: u32) -> u64 {
 /// # Proved
 ///
 /// ```text
+/// ensures is { result ≡ bits_needed max_value }
 /// ensures most { result ≤ 8 }
 /// ensures enough { min max_value 255 < 2 ^ result }
 /// ensures least { (fewer : ℕ) → fewer < result → 2 ^ fewer ≤ max_value }

@@ -274,7 +274,8 @@ impl<'a> PlanBuilder<'a> {
     /// # Proved
     ///
     /// ```text
-    /// ensures { IfOk result IsPlan }
+    /// ensures is { IfOk result IsPlan }
+    /// ensures compiled { AreInOrder self.entry.requests.items → IfOk result (IsCompiled self.entry) }
     /// ```
     pub fn compile(self) -> Result<LayoutPlan, AllocError> {
         let PlanBuilder {
@@ -284,9 +285,9 @@ impl<'a> PlanBuilder<'a> {
             mut pauses,
         } = self;
         pauses.push(Pause::Nothing)?;
+        let required_stage = required_stage(&gsub, requests.as_slice());
         find_features(&gsub, &gpos, requests.as_mut_slice());
         let features = planned_features(requests.as_slice())?;
-        let required_stage = required_stage(&gsub, requests.as_slice());
         let (gsub_lookups, stages) = gsub_lookups(
             &gsub,
             required_stage,
@@ -313,36 +314,51 @@ fn place_of(requests: &[FeatureRequest], tag: Tag) -> Result<usize, usize> {
 
 /// Finds the features of both tables that have the tags of the requests.
 fn find_features(gsub: &ChosenTable, gpos: &ChosenTable, requests: &mut [FeatureRequest]) {
-    for place in 0..feature_count(gsub.system) {
-        if let Some(index) = u16_at(gsub.system, 6 + 2 * place) {
-            if let Some(request) = with_tag(requests, gsub.lists.feature_tag(index)) {
-                if request.gsub.is_none() {
-                    request.gsub = Some(index);
-                }
-            }
-        }
-    }
-    for place in 0..feature_count(gpos.system) {
-        if let Some(index) = u16_at(gpos.system, 6 + 2 * place) {
-            if let Some(request) = with_tag(requests, gpos.lists.feature_tag(index)) {
-                if request.gpos.is_none() {
-                    request.gpos = Some(index);
-                }
-            }
-        }
-    }
-    for request in requests.iter_mut() {
-        if request.flags.global_search && !request.is_found() {
-            request.gsub = gsub.lists.first_feature(request.tag);
-            request.gpos = gpos.lists.first_feature(request.tag);
-        }
+    find_in_system(gsub, true, requests);
+    find_in_system(gpos, false, requests);
+    search_lists(gsub, gpos, requests);
+}
+
+/// Finds the features that the language system of one of the tables lists.
+fn find_in_system(table: &ChosenTable, is_gsub: bool, requests: &mut [FeatureRequest]) {
+    for place in 0..feature_count(table.system) {
+        note(table, is_gsub, place, requests);
     }
 }
 
-/// The request of a tag.
-fn with_tag(requests: &mut [FeatureRequest], tag: Option<Tag>) -> Option<&mut FeatureRequest> {
-    let place = place_of(requests, tag?).ok()?;
-    requests.get_mut(place)
+/// Notes the feature in a place of a language system at the request of its tag, unless one was found
+/// before.
+///
+/// # Requires
+///
+/// - `place < 65536`
+fn note(table: &ChosenTable, is_gsub: bool, place: usize, requests: &mut [FeatureRequest]) {
+    debug_assert!(place < 65536);
+    let Some(index) = u16_at(table.system, 6 + 2 * place) else {
+        return;
+    };
+    let Some(tag) = table.lists.feature_tag(index) else {
+        return;
+    };
+    match place_of(requests, tag) {
+        Ok(at) => requests[at].note(is_gsub, index),
+        Err(_) => {}
+    }
+}
+
+/// Searches the lists of both tables for the features that have to be and were not found.
+fn search_lists(gsub: &ChosenTable, gpos: &ChosenTable, requests: &mut [FeatureRequest]) {
+    for request in requests.iter_mut() {
+        search(gsub, gpos, request);
+    }
+}
+
+/// Searches for a feature, if it has to be and was not found.
+fn search(gsub: &ChosenTable, gpos: &ChosenTable, request: &mut FeatureRequest) {
+    if request.flags.global_search && !request.is_found() {
+        request.gsub = gsub.lists.first_feature(request.tag);
+        request.gpos = gpos.lists.first_feature(request.tag);
+    }
 }
 
 /// The stage in which the feature that `GSUB` requires is applied: that of its tag, if it was asked
@@ -354,8 +370,21 @@ fn required_stage(gsub: &ChosenTable, requests: &[FeatureRequest]) -> usize {
     let Some(tag) = gsub.lists.feature_tag(index) else {
         return 0;
     };
+    stage_of(requests, tag)
+}
+
+/// The stage of the request of a tag, if it is not turned off, or else the first.
+fn stage_of(requests: &[FeatureRequest], tag: Tag) -> usize {
     match place_of(requests, tag) {
-        Ok(place) if requests[place].max_value != 0 => requests[place].stage,
-        _ => 0,
+        Ok(place) => stage_asked(&requests[place]),
+        Err(_) => 0,
     }
+}
+
+/// The stage of a request that is not turned off, or else the first.
+fn stage_asked(request: &FeatureRequest) -> usize {
+    if request.max_value != 0 {
+        return request.stage;
+    }
+    0
 }

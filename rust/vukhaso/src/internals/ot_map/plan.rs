@@ -70,6 +70,17 @@ pub struct PlannedLookup {
     pub per_syllable: bool,
 }
 
+impl PlannedLookup {
+    /// Takes in another entry of the same lookup: it is applied to the glyphs of both.
+    pub(crate) fn join(&mut self, other: &PlannedLookup) {
+        self.mask |= other.mask;
+        self.auto_zwnj = self.auto_zwnj && other.auto_zwnj;
+        self.auto_zwj = self.auto_zwj && other.auto_zwj;
+        self.random = self.random || other.random;
+        self.per_syllable = self.per_syllable || other.per_syllable;
+    }
+}
+
 /// A stage of substitution.
 #[derive(Clone, Copy, PartialEq, Eq, Debug)]
 pub struct Stage {

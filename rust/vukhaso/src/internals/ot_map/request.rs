@@ -94,6 +94,15 @@ impl FeatureRequest {
         self.gsub.is_some() || self.gpos.is_some()
     }
 
+    /// Notes the feature that was found in one of the tables, unless one was before.
+    pub(crate) fn note(&mut self, is_gsub: bool, index: u16) {
+        if is_gsub {
+            self.gsub = self.gsub.or(Some(index));
+        } else {
+            self.gpos = self.gpos.or(Some(index));
+        }
+    }
+
     /// Takes in a later request of the same tag. A later one for every glyph takes the place of the values;
     /// one for a part of the text leaves the default as it is.
     ///
