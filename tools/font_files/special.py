@@ -206,4 +206,20 @@ def breaks_lookups():
     return whole("Vukhaso Breaks Lookups", {"GSUB": gsub}, {0x31: PLACE["a"], 0x32: PLACE["g"], 0x2044: PLACE["c"], 0x200D: PLACE["vertical"]})
 
 
-FONTS = {"breaks-lookups.ttf": breaks_lookups, "breaks-hidden.ttf": breaks_hidden, "breaks-kern.ttf": breaks_kern, "breaks-pairs.ttf": breaks_pairs, "special.ttf": special, "scripts.ttf": scripts, "ligated.ttf": ligated}
+def breaks_forms():
+    """A ligature of Balinese syllables within a word, of which each joins."""
+    return ruled("Vukhaso Breaks Forms", [0x20, 0x1B05, 0x1B13, 0x1B27, 0x1B50], ["bali"], {"medi": [[0, "1B50 1B27 > 1B50.medi", "1B13 1B27 1B13 > 1B13.medi"]]}, placed=())
+
+
+def breaks_limit():
+    """A lookup that applies itself until no more may be applied by others, and one behind it that applies another."""
+    made = {
+        "itself": lay.lookup(5, 0, lay.context_of_coverage(each("b"), [(0, 0)] * 8)),
+        "other": lay.lookup(5, 0, lay.context_of_coverage(each("a"), [(0, 2)])),
+        "_a_to_c": single(a="c"),
+    }
+    gsub = lay.layout({"DFLT": {"dflt": (None, ["liga"])}}, {"liga": ["itself", "other"]}, made)
+    return whole("Vukhaso Breaks Limit", {"GSUB": gsub})
+
+
+FONTS = {"breaks-lookups.ttf": breaks_lookups, "breaks-limit.ttf": breaks_limit, "breaks-forms.ttf": breaks_forms, "breaks-hidden.ttf": breaks_hidden, "breaks-kern.ttf": breaks_kern, "breaks-pairs.ttf": breaks_pairs, "special.ttf": special, "scripts.ttf": scripts, "ligated.ttf": ligated}

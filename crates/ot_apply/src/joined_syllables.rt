@@ -5,12 +5,15 @@ ghost use Rattle.shaping_buffer.specs.KeepsClusters.{KeepsClusters};
 ghost use Rattle.ot_apply.specs.JoinedSyllables as joined;
 
 use font_face::Face;
-use ot_layout::lookup_list::Lookup;
+use ot_layout::lookup_list::{Lookup, SUBSTITUTION_EXTENSION};
 use ot_map::PlannedLookup;
 use ot_plan::TextPlan;
 use script_shapers::SyllablePlan;
 use script_universal::{FormLookup, FormMasks, flag_forms};
 use shaping_buffer::{hb_buffer_t, hb_glyph_info_t};
+
+/// The kind of a lookup of ligatures. Those above it up to extensions take several glyphs too, or may do.
+const LIGATURES: u16 = 4;
 
 /// A lookup, and the bits of its features.
 #[derive(Clone, Copy, Drop)]
@@ -29,7 +32,16 @@ impl FormLookup for MaskedLookup<'_> {
 fn is_parted(lookup: &Lookup<'_>, bits: u32, glyph: &hb_glyph_info_t, other: u32) -> bool
     ensures { result ≡ joined.is_parted lookup.now bits glyph.now other }
 {
-    is_in_one(bits, glyph.mask, other) && lookup.is_for(u32::MAX, glyph)
+    is_in_one(bits, glyph.mask, other)
+        && (lookup.is_for(u32::MAX, glyph) || may_follow(lookup, glyph))
+}
+
+/// Whether a glyph may be another than the first of those that a lookup takes together.
+fn may_follow(lookup: &Lookup<'_>, glyph: &hb_glyph_info_t) -> bool
+    ensures { result ≡ joined.may_follow lookup.now glyph.now }
+{
+    matches!(lookup.lookup_type, LIGATURES..=SUBSTITUTION_EXTENSION)
+        && !lookup.lookup_props.passes_over(glyph)
 }
 
 /// Whether bits are in only one of two masks.

@@ -5,10 +5,12 @@ mod glyph_info;
 mod numbers;
 mod rotation;
 mod text;
+mod turned_contexts;
 
 pub use glyph_info::is_decimal_number;
 pub use numbers::keep_numbers;
 pub use rotation::rotate_characters;
 pub use text::{
-    ensure_native_direction, form_clusters, insert_dotted_circle, set_direction, set_properties,
+    ensure_native_direction, form_clusters, insert_dotted_circle, keep_contexts, set_direction,
+    set_properties,
 };

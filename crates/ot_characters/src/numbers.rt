@@ -20,7 +20,7 @@ pub(crate) fn are_numbers(infos: &[hb_glyph_info_t]) -> bool {
 }
 
 /// Marks as unsafe to break where a part of such a line would run otherwise than the whole: numbers without the letters that turn
-/// them, and other characters without the numbers that keep them. One character alone is the same both ways.
+/// them, and other characters without the numbers that keep them.
 #[tactic(auto, using(shaping_buffer::proofs::ClosedKeepsLemmas::kept))]
 pub fn keep_numbers(buffer: &mut hb_buffer_t)
     requires { buffer.old.have_output ≡ false }
@@ -29,7 +29,7 @@ pub fn keep_numbers(buffer: &mut hb_buffer_t)
 {
     if is_against_script(buffer) {
         let is_turned = !are_numbers(buffer.info());
-        keep_tied(buffer, &LineOfNumbers { is_turned }, 2);
+        keep_tied(buffer, &LineOfNumbers { is_turned });
     }
 }
 

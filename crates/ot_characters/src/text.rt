@@ -7,6 +7,7 @@ ghost use Rattle.ot_characters.specs.Turned.{KeepsOrTurns};
 
 use crate::glyph_info::{is_regional_indicator, is_same_grapheme, is_zwj, set_continuation};
 use crate::numbers::{are_numbers, is_against_script};
+use crate::turned_contexts::keep_turned_contexts;
 use font_functions::FontFunctions;
 use ot_normalization::allows_any_order;
 use ot_normalization::glyph_info::{
@@ -212,14 +213,31 @@ pub fn ensure_native_direction(buffer: &mut hb_buffer_t) -> bool
     ensures closed { buffer.new.have_output ≡ false }
     ensures runs { KeepsOrTurns result buffer.old buffer.new }
 {
-    let direction = buffer.direction;
-    let native = native_direction(buffer);
-    let is_against = direction.is_horizontal() && native.is_some_and(|native| native != direction)
-        || direction.is_vertical() && direction != Direction::TopToBottom;
+    let is_against = is_to_be_turned(buffer);
     if is_against {
-        reverse_graphemes(buffer, direction.reverse());
+        let direction = buffer.direction.reverse();
+        reverse_graphemes(buffer, direction);
     }
     is_against
+}
+
+/// Marks as unsafe to break where a text that runs against its script would be shaped otherwise by contexts, which are not reversed with it.
+pub fn keep_contexts(buffer: &mut hb_buffer_t)
+    requires { buffer.old.have_output ≡ false }
+    ensures closed { buffer.new.have_output ≡ false }
+    ensures keeps { KeepsClusters buffer.old buffer.new }
+{
+    if is_to_be_turned(buffer) {
+        keep_turned_contexts(buffer);
+    }
+}
+
+/// Whether the text runs against its script.
+fn is_to_be_turned(buffer: &hb_buffer_t) -> bool {
+    let direction = buffer.direction;
+    let native = native_direction(buffer);
+    direction.is_horizontal() && native.is_some_and(|native| native != direction)
+        || direction.is_vertical() && direction != Direction::TopToBottom
 }
 
 /// Puts the graphemes into reverse order, each in its own order, so that the text runs in this direction. Where clusters have to

@@ -1,18 +1,12 @@
 -- What comes of the edits of one glyph.
 use Rattle.std.proofs.Common.{◌≡◌, ℕ, zero, suc, ◌+◌, ◌-◌, ◌<◌, ◌≤◌, Bool, true, false, List, [], ◌∷◌, ◌++◌, length, map, take, drop, arith}
-use Rattle.std.proofs.Common.{Option, Some, None, IfSome, Result, Ok, Err, IfOk, refl, sym, ap, subst, ◌∙◌, inl, inr, add-one, length-append, length-drop, length-take}
+use Rattle.std.proofs.Common.{Some, Result, Ok, Err, IfOk, refl, sym, ap, subst, ◌∙◌, inl, inr, add-one, length-append, length-drop, length-take}
 use Rattle.std.proofs.lemmas.Bool.{cond-true, cond-false, cond_both, cases_lt, eq-eqb, ne_eqb, lt-ltb, false≢true}
 use Rattle.std.proofs.lemmas.List.{get_or_at, take-append-drop}
 use Rattle.std.specs.Prelude.{nat_le, slice_index_or, ◌&&◌, ◌||◌}
-use Rattle.std.specs.Result.{IsErr}
 use Rattle.std.specs.declared.alloc.AllocError.{AllocError}
 use Rattle.rb_glyph.specs.declared.info.hb_glyph_info_t.{hb_glyph_info_t}
 use Rattle.ot_layout.specs.GlyphTable.{listed, listed_glyph}
-use Rattle.ot_layout.specs.declared.glyph_table.Glyphs.{Glyphs}
-use Rattle.ot_layout.specs.declared.lookup_list.Lookup.{Lookup}
-use Rattle.ot_layout.specs.declared.search.Reach.{Reach}
-use Rattle.ot_layout.specs.declared.substitution.Edit.{Edit}
-use Rattle.ot_layout.specs.declared.substitution.Edit.TheVariants.{Choose}
 use Rattle.glyph_lists.specs.Clusters.{zero_glyph}
 use Rattle.glyph_lists.specs.Parts.{on_part, part}
 use Rattle.glyph_lists.specs.Scans.{part_scan, scan_least, two_part_scan}
@@ -21,11 +15,7 @@ use Rattle.glyph_lists.proofs.ScansLemmas.{length-part_scan}
 use Rattle.shaping_buffer.specs.State.{State, len}
 use Rattle.shaping_buffer.specs.ClusterStep.{any_order, both, both_place, range_end}
 use Rattle.shaping_buffer.specs.Step.{MeetsOrWants, Outcome, glyph_to_copy, limited, output_glyph, put_out, settled, skip_glyph, unlimited, with_id}
-use Rattle.ot_gsub.specs.Edits.{Gives, GivesOrWants, choose, mark_all, multiply, next_random, put_part, put_parts, then_do}
-use Rattle.ot_gsub.specs.Turn.{Comes, Ends, IsDecided, IsMade, IsTurn, edited, mark_beyond, mark_reach, rest_beyond}
-use Rattle.ot_gsub.specs.declared.nested.Step.{Step}
-use Rattle.ot_gsub.specs.declared.nested.Step.TheVariants.{Applied, Refused}
-use Rattle.ot_gsub.specs.declared.substitution.Substitutions.{Substitutions}
+use Rattle.ot_gsub.specs.Edits.{Gives, mark_all, multiply, put_part, put_parts, then_do}
 use Rattle.ot_gsub.specs.Writing.{drop_behind, glyph_ahead, has_twin_before}
 
 -- ---- a glyph that is dropped
@@ -171,74 +161,3 @@ length-mark_all s =
       length-drop q l,
     ) in
     length-drop (length s.out) marked ∙ omega (arith, same, length-append s.out s.input)
-
--- ---- a lookup at the cursor
-
-some_then : {A : Type 0} (o : Option A) (P Q : A → Type 0) → ((a : A) → P a → Q a) → IfSome o P → IfSome o Q
-some_then None P Q on h = h
-some_then (Some a) P Q on h = on a h
-
-chosen_ends : (o : Outcome) (set : Glyphs) (s : State) (result : Result Bool AllocError) (new : State)
-    → GivesOrWants o result new → Ends (Choose set) o s result new
-chosen_ends o set s (Ok done) new g = g
-chosen_ends o set s (Err e) new g = tt
-
-pub ends_by_choose : (gdef : List ℕ) (random random2 : ℕ) (places : List ℕ) (edit : Edit) (set : Glyphs) (s : State)
-    (result : Result Bool AllocError) (new : State) → edit ≡ Choose set → random2 ≡ next_random random
-    → GivesOrWants (choose gdef set.table.now random2 s) result new
-    → IfSome (edited gdef random places edit s) (λ outcome. Ends edit outcome s result new)
-ends_by_choose gdef random random2 places edit set s result new is next g =
-    subst (λ (e : Edit). IfSome (edited gdef random places e s) (λ outcome. Ends e outcome s result new)) (sym is)
-    (chosen_ends _ set s result new
-    (subst (λ k. GivesOrWants (choose gdef set.table.now k s) result new) next g))
-
-module _ (substitutions : Substitutions) (lookup : Lookup) (nested : Bool) (random random2 : ℕ) (places : List ℕ) (s : State) (edit : Edit)
-    (reach : Reach) (m new1 : State) (decided : IsDecided substitutions lookup nested s (Some edit))
-    (marked : m ≡ mark_reach reach s) (same : random2 ≡ random) where
-  abbrev EndsIn : State → Result Bool AllocError → Type 0
-  EndsIn t result = IfSome (edited substitutions.gdef.now.table.now random2 places edit t) (λ outcome. Ends edit outcome t result new1)
-
-  turn_by : (result : Result Bool AllocError) (step : Result Step AllocError) (new : State)
-      → ((o : Outcome) → Ends edit o m result new1 → Comes edit o m step new)
-      → EndsIn m result → IsTurn substitutions lookup nested random s step new
-  turn_by result step new on ends =
-      let gdef = substitutions.gdef.now.table.now in
-      let came : IfSome (edited gdef random2 places edit m) (λ o. Comes edit o m step new) =
-      some_then (edited gdef random2 places edit m) (λ o. Ends edit o m result new1) (λ o. Comes edit o m step new) on ends in
-      let at : IfSome (edited gdef random places edit m) (λ o. Comes edit o m step new) =
-      subst (λ k. IfSome (edited gdef k places edit m) (λ o. Comes edit o m step new)) same came in
-      record {
-        edit = Some edit;
-        reach = reach;
-        places = places;
-        decided = decided;
-        made = subst (λ (t : State). IsMade gdef random places (Some edit) t step new) marked at;
-      }
-
-  erring : (step : Result Step AllocError) (e : AllocError) → IsErr step → (o : Outcome)
-      → Ends edit o m (Err e) new1 → Comes edit o m step new1
-  erring (Ok x) e is o h = absurd (false≢true is)
-  erring (Err x) e is o h = h
-
-  pub turn_err : (told : Result Bool AllocError) (e : AllocError) (step : Result Step AllocError) → told ≡ Err e
-      → IsErr step → EndsIn m told → IsTurn substitutions lookup nested random s step new1
-  turn_err told e step was is ends = turn_by (Err e) step new1 (erring step e is) (subst (EndsIn m) was ends)
-
-  pub turn_refused : (told : Result Bool AllocError) → told ≡ Ok false → EndsIn m told
-      → IsTurn substitutions lookup nested random s (Ok Refused) new1
-  turn_refused told was ends =
-      turn_by (Ok false) (Ok Refused) new1
-      (λ o h. (sym (cond-false _ _ _ (sym h.answer)), h.state ∙ sym (cond-false _ _ _ (sym h.answer))))
-      (subst (EndsIn m) was ends)
-
-  pub turn_applied : (told : Result Bool AllocError) (rest : ℕ) (new : State) → told ≡ Ok true
-      → rest ≡ rest_beyond edit m → new ≡ mark_beyond rest new1 → EndsIn m told
-      → IsTurn substitutions lookup nested random s (Ok Applied) new
-  turn_applied told rest new was beyond at ends =
-      turn_by (Ok true) (Ok Applied) new
-      (λ o h. (
-        sym (cond-true _ _ _ (sym h.answer)),
-        at ∙ ap (λ k. mark_beyond k new1) beyond ∙ ap (mark_beyond (rest_beyond edit m)) h.state
-            ∙ sym (cond-true _ _ _ (sym h.answer)),
-      ))
-      (subst (EndsIn m) was ends)

@@ -7,6 +7,9 @@
 pub mod BufferLemmas
 pub mod EditsLemmas
 pub mod LigaturesLemmas
+pub mod MatchPositionsLemmas
+pub mod NestedLemmas
 pub mod Rows
 pub mod SingleTurnLemmas
 pub mod SinglesLemmas
+pub mod TurnLemmas

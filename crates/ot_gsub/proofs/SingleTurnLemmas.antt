@@ -24,6 +24,7 @@ use Rattle.shaping_buffer.specs.State.{State, len}
 use Rattle.shaping_buffer.specs.ClusterStep.{asks}
 use Rattle.shaping_buffer.specs.Step.{Outcome, limited, next_glyphs, settled, unlimited, with_id}
 use Rattle.ot_gsub.specs.Edits.{Gives, in_class, replace, set_class}
+use Rattle.ot_gsub.specs.Nested.{Applies, Now}
 use Rattle.ot_gsub.specs.Singles.{IsLevel, first_single, single_of}
 use Rattle.ot_gsub.specs.Turn.{Comes, IsDecided, IsMade, IsTurn, mark_beyond, mark_reach, subtables}
 use Rattle.ot_gsub.proofs.EditsLemmas.{state-limited}
@@ -44,27 +45,27 @@ first_of_two None p edit some is = absurd (false≢true (sym (ap is_some is) ∙
 first_of_two (Some x) p edit some is = is
 
 first_is : (coverages : List Coverage) (options : LookupOptions) (ctx : ApplyContext) (nested : Bool) (l : List Subtable)
-    (edit : Option Edit) → All (λ (t : Subtable). t.lookup_type ≡ 1) l → IsFirstEdit coverages options ctx nested l edit
-    → edit ≡ option_map Replace (first_single l (cursor_glyph ctx).glyph_id)
-first_is coverages options ctx nested [] edit all is = is
-first_is coverages options ctx nested (t ∷ l) edit all is =
+    (places : List ℕ) (edit : Option Edit) → All (λ (t : Subtable). t.lookup_type ≡ 1) l
+    → IsFirstEdit coverages options ctx nested l places edit → edit ≡ option_map Replace (first_single l (cursor_glyph ctx).glyph_id)
+first_is coverages options ctx nested [] places edit all is = is
+first_is coverages options ctx nested (t ∷ l) places edit all is =
     let glyph = (cursor_glyph ctx).glyph_id in
     let kind = All-head (λ (x : Subtable). x.lookup_type ≡ 1) t l all in
     elim is [
       | inl w ↦ first_of_two (single_of t glyph) (first_single l glyph) edit w.0 (w.1.singles kind)
       | inr w ↦
           let none : single_of t glyph ≡ None = none_from (single_of t glyph) (w.0.singles kind) in
-          first_is coverages options ctx nested l edit (All-tail (λ (x : Subtable). x.lookup_type ≡ 1) t l all) w.1
+          first_is coverages options ctx nested l places edit (All-tail (λ (x : Subtable). x.lookup_type ≡ 1) t l all) w.1
           ∙ ap (λ o. option_map Replace (option_or o (first_single l glyph))) (sym none)
     ]
 
 -- the edit of a lookup of single substitutions
-edit_is : (substitutions : Substitutions) (lookup : Lookup) (nested : Bool) (s : State) (edit : Option Edit)
+edit_is : (substitutions : Substitutions) (lookup : Lookup) (nested : Bool) (s : State) (places : List ℕ) (edit : Option Edit)
     → All (λ (t : Subtable). t.lookup_type ≡ 1) (subtables substitutions lookup)
-    → IsDecided substitutions lookup nested s edit
+    → IsDecided substitutions lookup nested s places edit
     → edit ≡ option_map Replace (first_single (subtables substitutions lookup) (glyph_at s.input 0).glyph_id)
-edit_is substitutions lookup nested s edit all d =
-    first_is _ _ d.ctx nested (subtables substitutions lookup) edit all d.first
+edit_is substitutions lookup nested s places edit all d =
+    first_is _ _ d.ctx nested (subtables substitutions lookup) places edit all d.first
     ∙ ap (λ (l : List hb_glyph_info_t). option_map Replace
     (first_single (subtables substitutions lookup) (glyph_at l 0).glyph_id)) d.are.input
 
@@ -146,36 +147,46 @@ Turned substitutions b o x xs i result new (Some glyph) =
 
 module _ (substitutions : Substitutions) (b : State) (o : List hb_glyph_info_t) (x : hb_glyph_info_t)
     (xs : List hb_glyph_info_t) (i : ℕ) (level : length o ≡ i) (fits : length o + 1 ≤ b.max_len)
-    (unmarked : asks PRODUCE_UNSAFE_TO_CONCAT b ≡ false) (new : State) where
+    (unmarked : asks PRODUCE_UNSAFE_TO_CONCAT b ≡ false) (applies : Applies) (random left : ℕ) (new : Now) where
   abbrev gdef : List ℕ
   gdef = substitutions.gdef.now.table.now
 
-  applied : (glyph : ℕ) (step : Step) (out : Outcome)
-      → out ≡ record { done = true; state = stored b (o ++ with_id glyph (in_class gdef glyph Replaced 0 x) ∷ []) xs (i + 1) }
-      → Comes (Replace glyph) out (stored b o (x ∷ xs) i) (Ok step) new
-      → Turned substitutions b o x xs i (Ok step) new (Some glyph)
-  applied glyph step out is comes =
-      let s = stored b o (x ∷ xs) i in
-      let done : State = stored b (o ++ with_id glyph (in_class gdef glyph Replaced 0 x) ∷ []) xs (i + 1) in
-      let at = subst (λ (p : Outcome). Comes (Replace glyph) p s (Ok step) new) is comes in
-      (ap (λ (t : Step). Ok t) at.0, at.1 ∙ mark_beyond-unmarked (len s - s.idx) done unmarked)
+  abbrev s : State
+  s = stored b o (x ∷ xs) i
 
-  made : (result : Result Step AllocError) (glyph : Option ℕ) (random : ℕ) (places : List ℕ)
-      → IsMade gdef random places (option_map Replace glyph) (stored b o (x ∷ xs) i) result new
-      → Turned substitutions b o x xs i result new glyph
-  made result None random places m = m
-  made (Err e) (Some glyph) random places m = absurd (false≢true m)
-  made (Ok step) (Some glyph) random places m = applied glyph step _ (replaced_stored gdef glyph b o x xs i level fits) m
+  abbrev at_left : ℕ → Now
+  at_left n = record { buffer = s; random = random; left = n }
 
-  pub turned : (lookup : Lookup) (nested : Bool) (random : ℕ) (result : Result Step AllocError)
+  applied : (glyph : ℕ) (places : List ℕ) (n : ℕ) (step : Step)
+      → Comes applies gdef places (Replace glyph) (at_left n) step new
+      → Turned substitutions b o x xs i (Ok step) new.buffer (Some glyph)
+  applied glyph places n step m =
+      let after : State = stored b (o ++ with_id glyph (in_class gdef glyph Replaced 0 x) ∷ []) xs (i + 1) in
+      let is = replaced_stored gdef glyph b o x xs i level fits in
+      let yes : m.done ≡ true = m.edited.0 ∙ ap (λ (p : Outcome). p.done) is in
+      let at : m.mid.buffer ≡ after = ap (λ (y : Now). y.buffer) m.edited.1 ∙ ap (λ (p : Outcome). p.state) is in
+      let is_new : new ≡ record m.mid { buffer = mark_beyond (len s - s.idx) m.mid.buffer } = m.state ∙ cond-true _ _ _ yes in (
+        ap (λ (t : Step). Ok t) (m.answer ∙ cond-true _ _ _ yes),
+        ap (λ (y : Now). y.buffer) is_new ∙ ap (mark_beyond (len s - s.idx)) at
+            ∙ mark_beyond-unmarked (len s - s.idx) after unmarked,
+      )
+
+  made : (result : Result Step AllocError) (glyph : Option ℕ) (places : List ℕ) (n : ℕ)
+      → IsMade applies gdef places (option_map Replace glyph) (at_left n) result new
+      → Turned substitutions b o x xs i result new.buffer glyph
+  made result None places n m = (m.0, ap (λ (y : Now). y.buffer) m.1)
+  made (Err e) (Some glyph) places n m = absurd (false≢true m)
+  made (Ok step) (Some glyph) places n m = applied glyph places n step m
+
+  pub turned : (lookup : Lookup) (nested : Bool) (result : Result Step AllocError)
       → All (λ (t : Subtable). t.lookup_type ≡ 1) (subtables substitutions lookup)
-      → IsTurn substitutions lookup nested random (stored b o (x ∷ xs) i) result new
-      → Turned substitutions b o x xs i result new (first_single (subtables substitutions lookup) x.glyph_id)
-  turned lookup nested random result all t =
-      let s = stored b o (x ∷ xs) i in
-      made result (first_single (subtables substitutions lookup) x.glyph_id) random t.places
-      (subst (λ (m : State). IsMade gdef random t.places
-      (option_map Replace (first_single (subtables substitutions lookup) x.glyph_id)) m result new)
+      → IsTurn applies substitutions lookup nested (at_left left) result new
+      → Turned substitutions b o x xs i result new.buffer (first_single (subtables substitutions lookup) x.glyph_id)
+  turned lookup nested result all t =
+      made result (first_single (subtables substitutions lookup) x.glyph_id) t.places t.left
+      (subst (λ (m : State). IsMade applies gdef t.places
+      (option_map Replace (first_single (subtables substitutions lookup) x.glyph_id)) (record (at_left t.left) { buffer = m }) result new)
       (mark_reach-unmarked t.reach s unmarked)
-      (subst (λ (e : Option Edit). IsMade gdef random t.places e (mark_reach t.reach s) result new)
-      (edit_is substitutions lookup nested s t.edit all t.decided) t.made))
+      (subst (λ (e : Option Edit). IsMade applies gdef t.places e
+      (record (at_left t.left) { buffer = mark_reach t.reach s }) result new)
+      (edit_is substitutions lookup nested s t.places t.edit all t.decided) t.made))

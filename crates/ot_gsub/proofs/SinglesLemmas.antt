@@ -20,6 +20,7 @@ use Rattle.shaping_buffer.specs.State.{State, len}
 use Rattle.shaping_buffer.specs.ClusterStep.{asks}
 use Rattle.shaping_buffer.specs.Step.{Meets, Outcome, limited, sync}
 use Rattle.ot_gsub.specs.Singles.{GoesOn, HasMoved, IsForNext, IsLevel, IsSingle, IsSubstituted, first_single, give_way, moved, opened_at, starts_reverse, substituted}
+use Rattle.ot_gsub.specs.Nested.{Applies, Now}
 use Rattle.ot_gsub.specs.Turn.{IsTurn, subtables}
 use Rattle.ot_gsub.proofs.EditsLemmas.{state-limited}
 use Rattle.ot_gsub.specs.declared.nested.Step.{Step}
@@ -174,27 +175,31 @@ module _ (substitutions : Substitutions) (lookup : Lookup) where
     inr (t.0, λ new2. behind_applied b o x _ xs i new1 new2 level is t.1),
   )
 
-  leads_at : (b : State) (o l : List hb_glyph_info_t) (i : ℕ) (nested : Bool) (random : ℕ)
-      (result : Result Step AllocError) (new1 : State) → length o ≡ i → i + length l ≤ b.max_len → 0 < length l
+  leads_at : (b : State) (o l : List hb_glyph_info_t) (i : ℕ) (applies : Applies) (nested : Bool) (random left : ℕ)
+      (result : Result Step AllocError) (new : Now) → length o ≡ i → i + length l ≤ b.max_len → 0 < length l
       → IsSingle substitutions lookup b → is_taken (glyph_at l 0) ≡ true
-      → IsTurn substitutions lookup nested random (stored b o l i) result new1
-      → LeadsOn (stored b o l i) result new1
-  leads_at b o [] i nested random result new1 level fits some single taken t = absurd (omega (arith, some))
-  leads_at b o (x ∷ xs) i nested random result new1 level fits some single taken t =
-      leads_by b o x xs i result new1 (first_single (subtables substitutions lookup) x.glyph_id) level
+      → IsTurn applies substitutions lookup nested (record { buffer = stored b o l i; random = random; left = left }) result new
+      → LeadsOn (stored b o l i) result new.buffer
+  leads_at b o [] i applies nested random left result new level fits some single taken t = absurd (omega (arith, some))
+  leads_at b o (x ∷ xs) i applies nested random left result new level fits some single taken t =
+      leads_by b o x xs i result new.buffer (first_single (subtables substitutions lookup) x.glyph_id) level
       (substituted-taken substitutions lookup x taken)
-      (turned substitutions b o x xs i level (omega (arith, fits, level)) single.unmarked new1 lookup nested random result
-      single.kinds t)
+      (turned substitutions b o x xs i level (omega (arith, fits, level)) single.unmarked applies random left new lookup nested
+      result single.kinds t)
 
-  pub leads_on : (s : State) (nested : Bool) (random : ℕ) (result : Result Step AllocError) (new1 : State)
+  pub leads_on : (s : State) (applies : Applies) (nested : Bool) (random left : ℕ) (result : Result Step AllocError) (new : Now)
       → IsLevel s → IsSingle substitutions lookup s → IsForNext substitutions lookup s → 0 < length s.input
-      → IsTurn substitutions lookup nested random s result new1 → LeadsOn s result new1
-  leads_on s nested random result new1 is single next some t =
+      → IsTurn applies substitutions lookup nested (record { buffer = s; random = random; left = left }) result new
+      → LeadsOn s result new.buffer
+  leads_on s applies nested random left result new is single next some t =
       let e = stored_is s is in
       let all : len s ≡ s.idx + length s.input = cond-true _ _ _ is.opened in
-      subst (λ (x : State). LeadsOn x result new1) (sym e)
-      (leads_at s s.out s.input s.idx nested random result new1 is.level (omega (arith, all, is.within)) some single
-      (next some) (subst (λ (x : State). IsTurn substitutions lookup nested random x result new1) e t))
+      subst (λ (x : State). LeadsOn x result new.buffer) (sym e)
+      (leads_at s s.out s.input s.idx applies nested random left result new is.level (omega (arith, all, is.within)) some single
+      (next some)
+      (subst
+      (λ (x : State). IsTurn applies substitutions lookup nested (record { buffer = x; random = random; left = left }) result new)
+      e t))
 
   -- the answer of what is passed over, in the storage of the input
   abbrev Goes : ℕ → State → Result Bool AllocError → State → Type 0

@@ -1,7 +1,7 @@
 //! The glyphs of a match while lookups are applied to them: their places follow glyphs that are put in or taken out.
 
-ghost use Rattle.std.specs.Prelude.{◌≡◌, ◌+◌, ◌-◌, ◌<◌, ◌≤◌, false, length, max, min, slice_get, slice_index, true};
-ghost use Rattle.ot_gsub.specs.MatchPositions.{AreAll, AreMovedUp, followed_end, grown_place, is_behind, moved_up, shrunk_place, taken_out};
+ghost use Rattle.std.specs.Prelude.{◌≡◌, ◌+◌, ◌-◌, ◌<◌, ◌≤◌, length, map, max, min, nat_le, not, slice_get, slice_index, true};
+ghost use Rattle.ot_gsub.specs.MatchPositions.{followed, grown_place, is_behind, is_full, match_at, match_of, moved_up, places_by, shrunk_place};
 
 use ot_layout::MatchPositions;
 
@@ -27,7 +27,7 @@ fn grown_place(places: &[usize], number: usize, added: usize, index: usize) -> u
 fn grown(places: &[usize], number: usize, added: usize) -> MatchPositions
     requires number { number < length places.now }
     requires few { length places.now + added ≤ 64 }
-    ensures { AreAll (grown_place places.now number added) (length places.now + added) result.items }
+    ensures { result.items ≡ places_by (grown_place places.now number added) (length places.now + added) }
 {
     let mut grown = MatchPositions::new();
     for index in 0..places.len() + added {
@@ -54,7 +54,7 @@ fn shrunk_place(places: &[usize], number: usize, removed: usize, index: usize) -
 fn shrunk(places: &[usize], number: usize, removed: usize) -> MatchPositions
     requires removed { removed ≤ length places.now }
     requires few { length places.now ≤ 64 }
-    ensures { AreAll (shrunk_place places.now number removed) (length places.now - removed) result.items }
+    ensures { result.items ≡ places_by (shrunk_place places.now number removed) (length places.now - removed) }
 {
     let mut shrunk = MatchPositions::new();
     for index in 0..places.len() - removed {
@@ -66,7 +66,7 @@ fn shrunk(places: &[usize], number: usize, removed: usize) -> MatchPositions
 /// The places, counted from so many glyphs before them.
 fn all_moved_up(places: &[usize], by: usize) -> MatchPositions
     requires { length places.now ≤ 64 }
-    ensures { AreMovedUp places.now by result.items }
+    ensures { result.items ≡ map (λ place. moved_up place by) places.now }
 {
     let mut moved = MatchPositions::new();
     for index in 0..places.len() {
@@ -87,8 +87,7 @@ pub(crate) struct Matched {
 impl Matched {
     /// The match with these places and this end, counted from a cursor that so many glyphs stand before.
     pub(crate) fn new(places: &MatchPositions, end: usize, before: usize) -> Self
-        ensures places { AreMovedUp places.now.items before result.places.items }
-        ensures end { result.end ≡ moved_up before end }
+        ensures { match_of result ≡ match_at before places.now.items end }
     {
         Matched {
             places: all_moved_up(places.as_slice(), before),
@@ -119,17 +118,8 @@ impl Matched {
     /// HarfBuzz takes it that glyphs were put in, or taken out, right after the one that the lookup was applied to.
     pub(crate) fn follow(&mut self, number: usize, before: usize, after: usize) -> bool
         requires { number < length self.old.places.items }
-        ensures end { self.new.end ≡ followed_end self.old.places.items self.old.end number before after }
-        ensures grown { before < after → length self.old.places.items + (after - before) ≤ 64
-            → (result ≡ true) × AreAll (grown_place self.old.places.items number (after - before))
-            (length self.old.places.items + (after - before)) self.new.places.items }
-        ensures full { before ≤ after → 64 < length self.old.places.items + (after - before)
-            → (result ≡ false) × (self.new.places.items ≡ self.old.places.items) }
-        ensures same { before ≡ after → self.new.places.items ≡ self.old.places.items }
-        ensures shrunk { after < before → (result ≡ true) × AreAll
-            (shrunk_place self.old.places.items number (taken_out self.old.places.items self.old.end number before after))
-            (length self.old.places.items - taken_out self.old.places.items self.old.end number before after)
-            self.new.places.items }
+        ensures follows { match_of self.new ≡ followed (match_of self.old) number before after }
+        ensures on { result ≡ not (is_full (match_of self.old) before after) }
     {
         if after < before {
             self.shrink(number, before - after);
@@ -142,12 +132,11 @@ impl Matched {
     fn grow(&mut self, number: usize, added: usize) -> bool
         requires { number < length self.old.places.items }
         ensures end { self.new.end ≡ moved_up self.old.end added }
-        ensures grown { 0 < added → length self.old.places.items + added ≤ 64
-            → (result ≡ true) × AreAll (grown_place self.old.places.items number added)
-            (length self.old.places.items + added) self.new.places.items }
-        ensures full { 64 < length self.old.places.items + added
-            → (result ≡ false) × (self.new.places.items ≡ self.old.places.items) }
-        ensures same { added ≡ 0 → self.new.places.items ≡ self.old.places.items }
+        ensures on { 0 < added → result ≡ nat_le (length self.old.places.items + added) 64 }
+        ensures grown { 0 < added → length self.old.places.items + added ≤ 64 → self.new.places.items
+            ≡ places_by (grown_place self.old.places.items number added) (length self.old.places.items + added) }
+        ensures full { 64 < length self.old.places.items + added → self.new.places.items ≡ self.old.places.items }
+        ensures same { added ≡ 0 → (result ≡ true) × (self.new.places.items ≡ self.old.places.items) }
     {
         self.end = self.end.saturating_add(added);
         if self.places.len() > 64 || added > 64 - self.places.len() {
@@ -163,10 +152,9 @@ impl Matched {
     fn shrink(&mut self, number: usize, removed: usize)
         requires { number < length self.old.places.items }
         ensures end { self.new.end ≡ max (self.old.end - removed) (slice_index self.old.places.items number) }
-        ensures shrunk { AreAll (shrunk_place self.old.places.items number
-            (min (self.old.end - self.new.end) (length self.old.places.items - (number + 1))))
-            (length self.old.places.items - min (self.old.end - self.new.end) (length self.old.places.items - (number + 1)))
-            self.new.places.items }
+        ensures shrunk { let taken = min (self.old.end - self.new.end) (length self.old.places.items - (number + 1)) in
+            self.new.places.items
+            ≡ places_by (shrunk_place self.old.places.items number taken) (length self.old.places.items - taken) }
     {
         let end = self.end.saturating_sub(removed).max(self.places[number]);
         let behind = self.places.len() - (number + 1);

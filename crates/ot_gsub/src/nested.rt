@@ -1,13 +1,15 @@
 //! A lookup at the cursor, and the lookups that it applies.
 
-ghost use Rattle.std.specs.Prelude.{◌≡◌, ◌+◌, ◌<◌, ◌≤◌, true, false, length, min, nat_lt, IfOk, IfSome, Ok};
+ghost use Rattle.std.specs.Prelude.{◌≡◌, ◌+◌, ◌<◌, ◌≤◌, true, length, min, nat_lt, IfOk, Ok, if◌then◌else◌};
 ghost use Rattle.ot_layout.specs.Budget.{IsNotMore};
 ghost use Rattle.ot_gsub.specs.Edits.{GivesOrWants};
-ghost use Rattle.ot_gsub.specs.MatchPositions.{followed_end};
+ghost use Rattle.ot_gsub.specs.MatchPositions.{followed, is_full, match_of};
 ghost use Rattle.ot_gsub.specs.Open.{IsLeftOpen};
 ghost use Rattle.ot_gsub.specs.Nested as lookups;
+ghost use Rattle.ot_gsub.specs.Nested.{IsFitDone, IsRecordDone, now_of};
 ghost use Rattle.ot_gsub.specs.Turn as turn;
-ghost use Rattle.ot_gsub.specs.Turn.{IsDecided, IsTurn, edited};
+ghost use Rattle.ot_gsub.specs.Turn.{Ends, IsDecided, IsTurnAt, nested};
+ghost use Rattle.ot_gsub.specs.declared.nested.Turn.TheVariants.{On, Enough};
 ghost use Rattle.shaping_buffer.specs.KeepsClusters.{KeepsClusters};
 ghost use Rattle.shaping_buffer.specs.Step.{move_to};
 
@@ -48,7 +50,7 @@ pub(crate) fn apply_at(
     requires opened { buffer.old.have_output ≡ true }
     requires glyph { 0 < length buffer.old.input }
     ensures turn { 0 < progress.new.search.budget.steps
-        → IsTurn substitutions.now lookup.now (nat_lt depth 64) progress.old.random_state buffer.old result buffer.new }
+        → IsTurnAt depth substitutions.now lookup.now (now_of buffer.old progress.old) result (now_of buffer.new progress.new) }
     ensures changed { result ≡ Ok Step.Applied → progress.new.has_changed ≡ true }
     ensures left { IsLeftOpen result buffer.new }
     ensures spent { IsNotMore progress.old.search.budget progress.new.search.budget }
@@ -79,7 +81,7 @@ fn decide<'a>(
     requires opened { buffer.now.have_output ≡ true }
     requires glyph { 0 < length buffer.now.input }
     ensures decided { 0 < progress.new.search.budget.steps
-        → IsDecided substitutions.now lookup.now (nat_lt depth 64) buffer.now result }
+        → IsDecided substitutions.now lookup.now (nat_lt depth 64) buffer.now progress.new.search.places.items result }
     ensures same_random { progress.new.random_state ≡ progress.old.random_state }
     ensures spent { IsNotMore progress.old.search.budget progress.new.search.budget }
 {
@@ -171,9 +173,9 @@ fn make(
 ) -> Result<bool, AllocError>
     requires opened { buffer.old.have_output ≡ true }
     requires glyph { 0 < length buffer.old.input }
-    ensures edited { IfSome (edited substitutions.now.gdef.now.table.now progress.old.random_state
-        progress.old.search.places.items edit.now buffer.old)
-        (λ outcome. turn.Ends edit.now outcome buffer.old result buffer.new) }
+    ensures edited { 0 < progress.new.search.budget.steps
+        → Ends (nested depth substitutions.now) substitutions.now.gdef.now.table.now progress.old.search.places.items edit.now
+        (now_of buffer.old progress.old) result (now_of buffer.new progress.new) }
     ensures left { IsLeftOpen result buffer.new }
     ensures spent { IsNotMore progress.old.search.budget progress.new.search.budget }
     ensures keeps { KeepsClusters buffer.old buffer.new }
@@ -199,6 +201,9 @@ fn apply_fit(
     depth: u32,
 ) -> Result<bool, AllocError>
     requires opened { buffer.old.have_output ≡ true }
+    ensures done { 0 < progress.new.search.budget.steps → IfOk result (λ done.
+        IsFitDone (nested depth substitutions.now) fit.now progress.old.search.places.items
+        (now_of buffer.old progress.old) done (now_of buffer.new progress.new)) }
     ensures left { IsLeftOpen result buffer.new }
     ensures spent { IsNotMore progress.old.search.budget progress.new.search.budget }
     ensures keeps { KeepsClusters buffer.old buffer.new }
@@ -207,13 +212,14 @@ fn apply_fit(
     let out_len = buffer.out_len();
     let mut matched = Matched::new(&progress.search.places, fit.end, out_len);
     for index in 0..usize::from(fit.record_count) {
-        let Some(record) = fit.record(index) else {
+        let found = fit.record(index);
+        let Some(lookup_record) = found else {
             break;
         };
         match apply_record(
             buffer,
             substitutions,
-            &record,
+            &lookup_record,
             &mut matched,
             progress,
             depth,
@@ -284,12 +290,15 @@ enum Turn {
 fn apply_record(
     buffer: &mut hb_buffer_t,
     substitutions: &Substitutions,
-    record: &SequenceLookupRecord,
+    lookup_record: &SequenceLookupRecord,
     matched: &mut Matched,
     progress: &mut Progress,
     depth: u32,
 ) -> Result<Turn, AllocError>
     requires { buffer.old.have_output ≡ true }
+    ensures done { 0 < progress.new.search.budget.steps → IfOk result (λ turn.
+        IsRecordDone (nested depth substitutions.now) lookup_record.now (match_of matched.old) (now_of buffer.old progress.old)
+        turn (match_of matched.new) (now_of buffer.new progress.new)) }
     ensures left { IsLeftOpen result buffer.new }
     ensures spent { IsNotMore progress.old.search.budget progress.new.search.budget }
     ensures keeps { KeepsClusters buffer.old buffer.new }
@@ -298,7 +307,7 @@ fn apply_record(
     if !progress.search.budget.pay(1) {
         return Ok(Turn::Enough);
     }
-    let Some(place) = matched.place(record.sequence_index) else {
+    let Some(place) = matched.place(lookup_record.sequence_index) else {
         return Ok(Turn::On);
     };
     if place >= before {
@@ -311,10 +320,10 @@ fn apply_record(
     if !buffer.move_to(place)? {
         return Ok(Turn::Refused);
     }
-    match apply_other(buffer, substitutions, record.lookup, progress, depth)? {
+    match apply_other(buffer, substitutions, lookup_record.lookup, progress, depth)? {
         Step::Passed => Ok(Turn::On),
         Step::Refused => Ok(Turn::Refused),
-        Step::Applied => Ok(follow(buffer, matched, record.sequence_index, before)),
+        Step::Applied => Ok(follow(buffer, matched, lookup_record.sequence_index, before)),
     }
 }
 
@@ -323,8 +332,9 @@ fn apply_record(
 fn follow(buffer: &mut hb_buffer_t, matched: &mut Matched, number: usize, before: usize) -> Turn
     requires opened { buffer.old.have_output ≡ true }
     requires number { number < length matched.old.places.items }
-    ensures end { matched.new.end
-        ≡ followed_end matched.old.places.items matched.old.end number before (lookups.both_len buffer.old) }
+    ensures follows { match_of matched.new ≡ followed (match_of matched.old) number before (lookups.both_len buffer.old) }
+    ensures turn { result
+        ≡ (if is_full (match_of matched.old) before (lookups.both_len buffer.old) then Enough else On) }
     ensures is { buffer.new
         ≡ lookups.mark_behind matched.old.places.items matched.old.end number before buffer.old }
     ensures opened { buffer.new.have_output ≡ true }
@@ -355,6 +365,8 @@ fn apply_other(
     depth: u32,
 ) -> Result<Step, AllocError>
     requires { buffer.old.have_output ≡ true }
+    ensures applied { 0 < progress.new.search.budget.steps → IfOk result (λ step.
+        nested depth substitutions.now index (now_of buffer.old progress.old) step (now_of buffer.new progress.new)) }
     ensures left { IsLeftOpen result buffer.new }
     ensures spent { IsNotMore progress.old.search.budget progress.new.search.budget }
     ensures keeps { KeepsClusters buffer.old buffer.new }

@@ -39,6 +39,7 @@ pub(crate) fn write_properties(buffer: &mut hb_buffer_t, ahead: usize, glyph: &h
 
 /// Says that shaping met a limit.
 pub(crate) fn fail(buffer: &mut hb_buffer_t)
+    ensures is { buffer.new ≡ record buffer.old { shaping_failed = true } }
     ensures says { buffer.new.shaping_failed ≡ true }
     ensures same_output { buffer.new.have_output ≡ buffer.old.have_output }
     ensures same_length { length buffer.new.input ≡ length buffer.old.input }

@@ -89,13 +89,15 @@ unfolding context_rule
 context_rule-none cs t i chained s one two three = grind (arith, common_steps)
 
 -- a rule that fits is one that fits
-fitting_by : (s : ApplyContext) (o : Option Pattern) (fit : Fit) → IsFitBy s o fit → IsFitBy s (fitting s o) fit
-fitting_by s None fit is = cc
-fitting_by s (Some p) fit is = fitting-here s p fit is
+fitting_by : (s : ApplyContext) (o : Option Pattern) (places : List ℕ) (fit : Fit) → IsFitBy s o places fit
+    → IsFitBy s (fitting s o) places fit
+fitting_by s None places fit is = cc
+fitting_by s (Some p) places fit is = fitting-here s p places fit is
 
-pub fits_by : (s : ApplyContext) (o : Option Pattern) (fit : Option Fit) → IfSome fit (IsFitBy s o) → IfSome fit (IsFitBy s (fitting s o))
-fits_by s o None is = tt
-fits_by s o (Some fit) is = fitting_by s o fit is
+pub fits_by : (s : ApplyContext) (o : Option Pattern) (places : List ℕ) (fit : Option Fit) → IfSome fit (IsFitBy s o places)
+    → IfSome fit (IsFitBy s (fitting s o) places)
+fits_by s o places None is = tt
+fits_by s o places (Some fit) is = fitting_by s o places fit is
 
 pub is_some-fitting : (s : ApplyContext) (o : Option Pattern) → is_some (fitting s o) ≡ rule_fits s o
 is_some-fitting s None = refl

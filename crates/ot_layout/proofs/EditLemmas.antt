@@ -20,7 +20,7 @@ none_is None none = refl
 none_is (Some n) none = absurd (none refl)
 
 -- a subtable that is not for the glyph does nothing
-uncovered : (cs : List Coverage) (o : LookupOptions) (s : ApplyContext) (n : Bool) (t : Subtable) → cursor_index t s ≡ None → IsEditOf cs o s n t None
+uncovered : (cs : List Coverage) (o : LookupOptions) (s : ApplyContext) (n : Bool) (t : Subtable) → cursor_index t s ≡ None → IsEditOf cs o s n t [] None
 uncovered cs o s n t none = record {
   singles = λ is. rw none refl;
   multiples = λ is. rw none refl;
@@ -33,31 +33,39 @@ uncovered cs o s n t none = record {
 
 -- nor does one that cannot be for it
 pub uncovered_by : (cs : List Coverage) (o : LookupOptions) (s : ApplyContext) (n : Bool) (t : Subtable)
-    → (is_some (covered_index t.coverage.table.now (cursor_glyph s).glyph_id) ≡ true → ⊥) → IsEditOf cs o s n t None
+    → (is_some (covered_index t.coverage.table.now (cursor_glyph s).glyph_id) ≡ true → ⊥) → IsEditOf cs o s n t [] None
 uncovered_by cs o s n t none = uncovered cs o s n t (none_is _ none)
 
 drop-more : (ts : List Subtable) (i : ℕ) (t : Subtable) → i < length ts → t ≡ get_or ts i t → drop i ts ≡ t ∷ drop (i + 1) ts
 drop-more ts i t within is = drop_more ts i t within ∙ ap (λ x. x ∷ drop (i + 1) ts) (sym is)
 
 -- the edit of a subtable that has one
-pub first_here : (cs : List Coverage) (o : LookupOptions) (s : ApplyContext) (n : Bool) (ts : List Subtable) (i : ℕ) (t : Subtable) (edit : Option Edit)
-    → i < length ts → t ≡ get_or ts i t → is_some edit ≡ true → IsEditOf cs o s n t edit
-    → IsFirstEdit cs o s n (drop i ts) edit
-first_here cs o s n ts i t edit within is some has =
-    subst (λ l. IsFirstEdit cs o s n l edit) (sym (drop-more ts i t within is)) (inl (some, has))
+pub first_here : (cs : List Coverage) (o : LookupOptions) (s : ApplyContext) (n : Bool) (ts : List Subtable) (i : ℕ) (t : Subtable) (places : List ℕ) (edit : Option Edit)
+    → i < length ts → t ≡ get_or ts i t → is_some edit ≡ true → IsEditOf cs o s n t places edit
+    → IsFirstEdit cs o s n (drop i ts) places edit
+first_here cs o s n ts i t places edit within is some has =
+    subst (λ l. IsFirstEdit cs o s n l places edit) (sym (drop-more ts i t within is)) (inl (some, has))
 
 -- that of the subtables after one that has none
-pub first_later : (cs : List Coverage) (o : LookupOptions) (s : ApplyContext) (n : Bool) (ts : List Subtable) (i : ℕ) (t : Subtable) (edit : Option Edit)
-    → i < length ts → t ≡ get_or ts i t → IsEditOf cs o s n t None
-    → IsFirstEdit cs o s n (drop (i + 1) ts) edit → IsFirstEdit cs o s n (drop i ts) edit
-first_later cs o s n ts i t edit within is none rest =
-    subst (λ l. IsFirstEdit cs o s n l edit) (sym (drop-more ts i t within is)) (inr (none, rest))
+pub first_later : (cs : List Coverage) (o : LookupOptions) (s : ApplyContext) (n : Bool) (ts : List Subtable) (i : ℕ) (t : Subtable) (places : List ℕ) (edit : Option Edit)
+    → i < length ts → t ≡ get_or ts i t → IsEditOf cs o s n t [] None
+    → IsFirstEdit cs o s n (drop (i + 1) ts) places edit → IsFirstEdit cs o s n (drop i ts) places edit
+first_later cs o s n ts i t places edit within is none rest =
+    subst (λ l. IsFirstEdit cs o s n l places edit) (sym (drop-more ts i t within is)) (inr (none, rest))
 
 -- no edit
-pub no_edit : (cs : List Coverage) (o : LookupOptions) (s : ApplyContext) (n : Bool) (t : Subtable) (edit : Option Edit) → IsEditOf cs o s n t edit
-    → is_some edit ≡ false → IsEditOf cs o s n t None
-no_edit cs o s n t None has none = has
-no_edit cs o s n t (Some e) has none = cc
+pub no_edit : (cs : List Coverage) (o : LookupOptions) (s : ApplyContext) (n : Bool) (t : Subtable) (places : List ℕ) (edit : Option Edit)
+    → IsEditOf cs o s n t places edit → is_some edit ≡ false → IsEditOf cs o s n t [] None
+no_edit cs o s n t places None has none = record {
+  singles = has.singles;
+  multiples = has.multiples;
+  alternates = has.alternates;
+  ligatures = has.ligatures;
+  contexts = has.contexts;
+  chained_contexts = has.chained_contexts;
+  others = has.others;
+}
+no_edit cs o s n t places (Some e) has none = cc
 
 each_if : (cs : List Coverage) (b : Bool) (ts : List Subtable) → All (IsNextOf cs) ts
     → All (IsNextOf cs) (if b then ts else [])

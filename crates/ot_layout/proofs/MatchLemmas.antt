@@ -1,12 +1,12 @@
 -- Steps of matches, and of the search for the first ligature.
-use Rattle.std.proofs.Common.{◌≡◌, ◌≢◌, ℕ, zero, suc, ◌+◌, ◌*◌, ◌<◌, ◌==◌, Bool, true, false, List, drop, Option, Some, None, refl, arith, ◌-◌, nat_lt, sym, ◌∙◌, ap, inl, inr}
+use Rattle.std.proofs.Common.{◌≡◌, ◌≢◌, ℕ, zero, suc, ◌+◌, ◌*◌, ◌<◌, ◌==◌, Bool, true, false, List, [], ◌∷◌, ◌++◌, drop, Option, Some, None, refl, arith, ◌-◌, nat_lt, sym, ◌∙◌, ap, inl, inr}
 use Rattle.std.proofs.Common.{if◌then◌else◌, option_map, option_and_then, unwrap_or, is_some}
 use Rattle.std.proofs.lemmas.Bool.{cases_lt}
 use Rattle.std.proofs.lemmas.Grind.{common_steps}
 use Rattle.font_tables.specs.Bytes.{number_16, table_at_16}
 use Rattle.rb_glyph.specs.declared.info.hb_glyph_info_t.{hb_glyph_info_t}
 use Rattle.ot_layout.specs.LigatureParts.{ligature_id, ligature_component}
-use Rattle.ot_layout.specs.Match.{is_hidden_before, joins, last_place, next_place, first_of, ligature_at, ligature_of, match_end, components_end, AsksForOther, IsNext}
+use Rattle.ot_layout.specs.Match.{is_hidden_before, joins, last_place, next_place, first_of, ligature_at, ligature_of, match_end, match_of, match_places, components_match, AsksForOther, IsNext}
 use Rattle.ot_layout.specs.Rule.{input_iterator, matcher_by}
 use Rattle.ot_layout.specs.declared.rule.MatchFunction.TheVariants as rule
 use Rattle.ot_layout.specs.declared.neighbours.Next.{Next}
@@ -78,6 +78,21 @@ last_place-more s asked k p q so_far next joining =
     let e : k + 1 ≡ suc k = omega arith in
     rw e (rw so_far (rw next (rw joining refl)))
 
+-- the places of a match
+pub match_places_first : (s : ApplyContext) (asked : ℕ → Option Matcher) → match_places s asked 0 ≡ 0 ∷ []
+unfolding match_places
+match_places_first s asked = refl
+
+pub match_places-more : (s : ApplyContext) (asked : ℕ → Option Matcher) (k q : ℕ) (places : List ℕ)
+    → last_place s asked (k + 1) ≡ Some q → places ≡ match_places s asked k → places ++ q ∷ [] ≡ match_places s asked (k + 1)
+unfolding match_places
+match_places-more s asked k q places last so_far =
+    let e : k + 1 ≡ suc k = omega arith in
+    let at : last_place s asked (suc k) ≡ Some q = rw e at last in
+    rw (so_far, e) (sym (ap (λ o. match_places s asked k ++ unwrap_or o 0 ∷ []) at))
+
+pub ruleset first_places = (last_place_none, match_places_first)
+
 -- no match of more where one of fewer is none
 pub last_place-never : (s : ApplyContext) (asked : ℕ → Option Matcher) (n k : ℕ) → last_place s asked k ≡ None → k < n + 1
     → last_place s asked n ≡ None
@@ -123,7 +138,7 @@ first_of-later s set k so_far misses =
     rw e (rw so_far misses)
 
 -- the first that fits
-pub first_of-here : (s : ApplyContext) (set : List ℕ) (n k : ℕ) (found : ℕ × ℕ) → first_of s set k ≡ None → k < n
+pub first_of-here : (s : ApplyContext) (set : List ℕ) (n k : ℕ) (found : ℕ × (ℕ × List ℕ)) → first_of s set k ≡ None → k < n
     → ligature_at s set k ≡ Some found → first_of s set n ≡ Some found
 unfolding first_of
 first_of-here s set zero k found so_far less fits = absurd (omega (arith, less))
@@ -136,7 +151,7 @@ first_of-here s set (suc n) k found so_far less fits =
     ]
 
 -- the same of an answer
-pub first_is : (s : ApplyContext) (set : List ℕ) (n k : ℕ) (found : Option (ℕ × ℕ)) → first_of s set k ≡ None → k < n
+pub first_is : (s : ApplyContext) (set : List ℕ) (n k : ℕ) (found : Option (ℕ × (ℕ × List ℕ))) → first_of s set k ≡ None → k < n
     → found ≡ ligature_at s set k → is_some found ≡ true → found ≡ first_of s set n
 first_is s set n k None so_far less is some = cc
 first_is s set n k (Some found) so_far less is some = sym (first_of-here s set n k found so_far less (sym is))
@@ -147,7 +162,7 @@ never_if : (b : Bool) (x : Option ℕ) → x ≡ None → (if b then x else None
 never_if true x never = never
 never_if false x never = refl
 
-if-never : (b : Bool) (x : Option ℕ) → x ≡ None → (if b then None else x) ≡ None
+if-never : (b : Bool) (x : Option (ℕ × List ℕ)) → x ≡ None → (if b then None else x) ≡ None
 if-never true x never = refl
 if-never false x never = never
 
@@ -157,24 +172,31 @@ pub match_end-never : (s : ApplyContext) (asked : ℕ → Option Matcher) (n : �
 match_end-never s asked n never =
     never_if (nat_lt n 64) (option_map (λ place. place + 1) (last_place s asked n)) (rw never refl)
 
+match_of-never : (s : ApplyContext) (asked : ℕ → Option Matcher) (n : ℕ) → match_end s asked n ≡ None → match_of s asked n ≡ None
+match_of-never s asked n never = rw never refl
+
+match_of-some : (s : ApplyContext) (asked : ℕ → Option Matcher) (n end : ℕ) (places : List ℕ) → match_end s asked n ≡ Some end
+    → places ≡ match_places s asked n → match_of s asked n ≡ Some (end, places)
+match_of-some s asked n end places ends at = rw (ends, at) refl
+
 next_place-missing_second : (w : SkippingIterator) (gs : List hb_glyph_info_t) (second : Option ℕ) (next : Next)
     → IsNext w gs 0 next
     → second ≢ Some next.glyph → next_place w (option_map Glyph second) gs 0 ≡ None
 next_place-missing_second w gs None next is other = refl
 next_place-missing_second w gs (Some n) next is other = is n (λ e. other (ap Some e))
 
-components_end-other : (s : ApplyContext) (t : List ℕ) (count : Option ℕ) → 1 < unwrap_or count 0
+components_match-other : (s : ApplyContext) (t : List ℕ) (count : Option ℕ) → 1 < unwrap_or count 0
     → next_place (input_iterator s) (matcher_by rule.Glyphs (drop 4 t) 0) s.input.now 0 ≡ None
-    → components_end s t count ≡ None
-components_end-other s t None more missing = absurd (omega arith)
-components_end-other s t (Some n) more missing =
-    if-never _ _ (match_end-never _ _ _
-    (last_place-missing s (matcher_by rule.Glyphs (drop 4 t)) (n - 1) 0 0 (last_place_none s _) (omega arith) missing))
+    → components_match s t count ≡ None
+components_match-other s t None more missing = absurd (omega arith)
+components_match-other s t (Some n) more missing =
+    if-never _ _ (match_of-never _ _ _ (match_end-never _ _ _
+    (last_place-missing s (matcher_by rule.Glyphs (drop 4 t)) (n - 1) 0 0 (last_place_none s _) (omega arith) missing)))
 
-option_and_then-none : (glyph end : Option ℕ) → end ≡ None
-    → option_and_then {U = ℕ × ℕ} (λ g. option_map (λ e. (g, e)) end) glyph ≡ None
-option_and_then-none None end never = refl
-option_and_then-none (Some g) end never = rw never refl
+option_and_then-none : (glyph : Option ℕ) (found : Option (ℕ × List ℕ)) → found ≡ None
+    → option_and_then {U = ℕ × (ℕ × List ℕ)} (λ g. option_map (λ m. (g, m)) found) glyph ≡ None
+option_and_then-none None found never = refl
+option_and_then-none (Some g) found never = rw never refl
 
 -- a ligature that asks for another second glyph
 ligature_of-other : (s : ApplyContext) (t : List ℕ) (next : Next) → AsksForOther t next.glyph
@@ -182,38 +204,41 @@ ligature_of-other : (s : ApplyContext) (t : List ℕ) (next : Next) → AsksForO
     → ligature_of s t ≡ None
 unfolding ligature_of
 ligature_of-other s t next asks is =
-    option_and_then-none (number_16 t 0) (components_end s t (number_16 t 2))
-    (components_end-other s t (number_16 t 2) asks.0
+    option_and_then-none (number_16 t 0) (components_match s t (number_16 t 2))
+    (components_match-other s t (number_16 t 2) asks.0
     (next_place-missing_second (input_iterator s) s.input.now _ next is asks.1))
 
-option_and_then-some : (glyph end : Option ℕ) (g e : ℕ) → glyph ≡ Some g → end ≡ Some e
-    → option_and_then {U = ℕ × ℕ} (λ x. option_map (λ y. (x, y)) end) glyph ≡ Some (g, e)
-option_and_then-some glyph end g e p q = rw (p, q) refl
+option_and_then-some : (glyph : Option ℕ) (found : Option (ℕ × List ℕ)) (g : ℕ) (m : ℕ × List ℕ) → glyph ≡ Some g → found ≡ Some m
+    → option_and_then {U = ℕ × (ℕ × List ℕ)} (λ x. option_map (λ y. (x, y)) found) glyph ≡ Some (g, m)
+option_and_then-some glyph found g m p q = rw (p, q) refl
 
-if-some : (b : Bool) (x : Option ℕ) (e : ℕ) → b ≡ false → x ≡ Some e → (if b then None else x) ≡ Some e
-if-some b x e here is = rw here is
+if-some : (b : Bool) (x : Option (ℕ × List ℕ)) (m : ℕ × List ℕ) → b ≡ false → x ≡ Some m → (if b then None else x) ≡ Some m
+if-some b x m here is = rw here is
 
-components_end-some : (s : ApplyContext) (t : List ℕ) (count : Option ℕ) (n e : ℕ) → count ≡ Some n → 0 < n
-    → match_end s (matcher_by rule.Glyphs (drop 4 t)) (n - 1) ≡ Some e → components_end s t count ≡ Some e
-components_end-some s t count n e is some ends =
-    rw is (if-some (n == 0) (match_end s (matcher_by rule.Glyphs (drop 4 t)) (n - 1)) e
-    (unequal_false n 0 (omega arith)) ends)
+components_match-some : (s : ApplyContext) (t : List ℕ) (count : Option ℕ) (n : ℕ) (m : ℕ × List ℕ) → count ≡ Some n → 0 < n
+    → match_of s (matcher_by rule.Glyphs (drop 4 t)) (n - 1) ≡ Some m → components_match s t count ≡ Some m
+components_match-some s t count n m is some found =
+    rw is (if-some (n == 0) (match_of s (matcher_by rule.Glyphs (drop 4 t)) (n - 1)) m
+    (unequal_false n 0 (omega arith)) found)
 
 -- a ligature whose components stand at the cursor
-pub ligature_of-match : (s : ApplyContext) (t : List ℕ) (g n e : ℕ) → number_16 t 0 ≡ Some g → number_16 t 2 ≡ Some n → 0 < n
-    → match_end s (matcher_by rule.Glyphs (drop 4 t)) (n - 1) ≡ Some e → ligature_of s t ≡ Some (g, e)
+pub ligature_of-match : (s : ApplyContext) (t : List ℕ) (g n e : ℕ) (places : List ℕ) → number_16 t 0 ≡ Some g
+    → number_16 t 2 ≡ Some n → 0 < n → match_end s (matcher_by rule.Glyphs (drop 4 t)) (n - 1) ≡ Some e
+    → places ≡ match_places s (matcher_by rule.Glyphs (drop 4 t)) (n - 1) → ligature_of s t ≡ Some (g, (e, places))
 unfolding ligature_of
-ligature_of-match s t g n e glyph count some ends =
-    option_and_then-some (number_16 t 0) (components_end s t (number_16 t 2)) g e glyph
-    (components_end-some s t (number_16 t 2) n e count some ends)
+ligature_of-match s t g n e places glyph count some ends at =
+    option_and_then-some (number_16 t 0) (components_match s t (number_16 t 2)) g (e, places) glyph
+    (components_match-some s t (number_16 t 2) n (e, places) count some
+    (match_of-some s (matcher_by rule.Glyphs (drop 4 t)) (n - 1) e places ends at))
 
 -- one of a single component
 pub ligature_of-single : (s : ApplyContext) (t : List ℕ) (g n : ℕ) → number_16 t 0 ≡ Some g → number_16 t 2 ≡ Some n → n ≡ 1
-    → ligature_of s t ≡ Some (g, 1)
-unfolding last_place
+    → ligature_of s t ≡ Some (g, (1, 0 ∷ []))
+unfolding last_place match_places
 ligature_of-single s t g n glyph count one =
     let ends : match_end s (matcher_by rule.Glyphs (drop 4 t)) (n - 1) ≡ Some 1 = rw one refl in
-    ligature_of-match s t g n 1 glyph count (omega arith) ends
+    let at : 0 ∷ [] ≡ match_places s (matcher_by rule.Glyphs (drop 4 t)) (n - 1) = rw one refl in
+    ligature_of-match s t g n 1 (0 ∷ []) glyph count (omega arith) ends at
 
 -- no table
 pub ligature_at-none : (s : ApplyContext) (set : List ℕ) (k : ℕ) → table_at_16 set (2 + 2 * k) ≡ None

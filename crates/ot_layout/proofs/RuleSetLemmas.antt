@@ -56,10 +56,11 @@ first_rule-here s chained m set (suc n) k p so_far less fits =
 pub ruleset first_steps = (first_rule-nowhere, first_rule-later)
 
 -- a rule fits the same however far others looked
-fit_beyond : (s : ApplyContext) (p : Pattern) (fit : Fit) (beyond : ℕ) → IsFitOf s p fit
-    → IsFitOf s p (record fit { beyond = beyond })
-fit_beyond s p fit beyond is = record {
+fit_beyond : (s : ApplyContext) (p : Pattern) (places : List ℕ) (fit : Fit) (beyond : ℕ) → IsFitOf s p places fit
+    → IsFitOf s p places (record fit { beyond = beyond })
+fit_beyond s p places fit beyond is = record {
   input = is.input;
+  input_places = is.input_places;
   lookahead = is.lookahead;
   backtrack = is.backtrack;
   record_count = is.record_count;
@@ -67,18 +68,18 @@ fit_beyond s p fit beyond is = record {
 }
 
 -- so does the first rule of a set
-pub first_fits : (s : ApplyContext) (chained : Bool) (m : MatchFunctions) (set : List ℕ) (n k : ℕ) (o : Option Pattern) (fit : Fit) (beyond : ℕ)
-    → first_rule s chained m set k ≡ None → k < n → rule_at s chained m set k ≡ o → IsFitBy s o fit
-    → IsFitBy s (first_rule s chained m set n) (record fit { beyond = beyond })
-first_fits s chained m set n k None fit beyond so_far less is fits = cc
-first_fits s chained m set n k (Some p) fit beyond so_far less is fits =
-    rw (first_rule-here s chained m set n k p so_far less is) (fit_beyond s p fit beyond fits)
+pub first_fits : (s : ApplyContext) (chained : Bool) (m : MatchFunctions) (set : List ℕ) (n k : ℕ) (o : Option Pattern) (places : List ℕ) (fit : Fit) (beyond : ℕ)
+    → first_rule s chained m set k ≡ None → k < n → rule_at s chained m set k ≡ o → IsFitBy s o places fit
+    → IsFitBy s (first_rule s chained m set n) places (record fit { beyond = beyond })
+first_fits s chained m set n k None places fit beyond so_far less is fits = cc
+first_fits s chained m set n k (Some p) places fit beyond so_far less is fits =
+    rw (first_rule-here s chained m set n k p so_far less is) (fit_beyond s p places fit beyond fits)
 
-pub first_is_some : (s : ApplyContext) (chained : Bool) (m : MatchFunctions) (set : List ℕ) (n k : ℕ) (o : Option Pattern) (fit : Fit)
-    → first_rule s chained m set k ≡ None → k < n → rule_at s chained m set k ≡ o → IsFitBy s o fit
+pub first_is_some : (s : ApplyContext) (chained : Bool) (m : MatchFunctions) (set : List ℕ) (n k : ℕ) (o : Option Pattern) (places : List ℕ) (fit : Fit)
+    → first_rule s chained m set k ≡ None → k < n → rule_at s chained m set k ≡ o → IsFitBy s o places fit
     → is_some (first_rule s chained m set n) ≡ true
-first_is_some s chained m set n k None fit so_far less is fits = cc
-first_is_some s chained m set n k (Some p) fit so_far less is fits =
+first_is_some s chained m set n k None places fit so_far less is fits = cc
+first_is_some s chained m set n k (Some p) places fit so_far less is fits =
     rw (first_rule-here s chained m set n k p so_far less is) refl
 
 -- a rule that does not fit
@@ -354,20 +355,22 @@ rule_at-tried s chained m set t k p there is next =
     rule_at-there s chained m set t k p there is ∙ taken-tried s chained (rule_count set) p next
 
 -- a rule that fits is one that fits
-pub fitting-here : (s : ApplyContext) (p : Pattern) (fit : Fit) → IsFitOf s p fit → IsFitBy s (fitting s (Some p)) fit
-fitting-here s p fit is = rw (pattern_fits-here s p fit.end fit.to fit.from is.input is.lookahead is.backtrack) is
+pub fitting-here : (s : ApplyContext) (p : Pattern) (places : List ℕ) (fit : Fit) → IsFitOf s p places fit
+    → IsFitBy s (fitting s (Some p)) places fit
+fitting-here s p places fit is = rw (pattern_fits-here s p fit.end fit.to fit.from is.input is.lookahead is.backtrack) is
 
-rule_at-fits : (s : ApplyContext) (chained : Bool) (m : MatchFunctions) (set t : List ℕ) (k : ℕ) (p : Pattern) (fit : Fit)
+rule_at-fits : (s : ApplyContext) (chained : Bool) (m : MatchFunctions) (set t : List ℕ) (k : ℕ) (p : Pattern) (places : List ℕ) (fit : Fit)
     → table_at_16 set (2 + 2 * k) ≡ Some t → rule_pattern chained m t ≡ Some p
     → (not (looks_first s chained (rule_count set)) || fits_next s p) ≡ true
-    → IsFitOf s p fit → IsFitBy s (rule_at s chained m set k) fit
-rule_at-fits s chained m set t k p fit there is next fits =
-    rw (rule_at-tried s chained m set t k p there is next) (fitting-here s p fit fits)
+    → IsFitOf s p places fit → IsFitBy s (rule_at s chained m set k) places fit
+rule_at-fits s chained m set t k p places fit there is next fits =
+    rw (rule_at-tried s chained m set t k p there is next) (fitting-here s p places fit fits)
 
 -- what is said of the rule of a number, where one fits
-pub rules_fit : (s : ApplyContext) (chained : Bool) (m : MatchFunctions) (set t : List ℕ) (k : ℕ) (p : Pattern) (fit : Option Fit)
+pub rules_fit : (s : ApplyContext) (chained : Bool) (m : MatchFunctions) (set t : List ℕ) (k : ℕ) (p : Pattern) (places : List ℕ) (fit : Option Fit)
     → table_at_16 set (2 + 2 * k) ≡ Some t → rule_pattern chained m t ≡ Some p
     → (not (looks_first s chained (rule_count set)) || fits_next s p) ≡ true
-    → IfSome fit (IsFitOf s p) → IfSome fit (IsFitBy s (rule_at s chained m set k))
-rules_fit s chained m set t k p None there is next fits = tt
-rules_fit s chained m set t k p (Some fit) there is next fits = rule_at-fits s chained m set t k p fit there is next fits
+    → IfSome fit (IsFitOf s p places) → IfSome fit (IsFitBy s (rule_at s chained m set k) places)
+rules_fit s chained m set t k p places None there is next fits = tt
+rules_fit s chained m set t k p places (Some fit) there is next fits =
+    rule_at-fits s chained m set t k p places fit there is next fits

@@ -29,8 +29,8 @@ alternate_edit options subtable ctx =
     (λ index. alternate_of (set_at subtable.table.now index) (feature_value options.mask (cursor_glyph ctx).mask))
     (cursor_index subtable ctx)
 
--- the first ligature of the set of the glyph at the cursor whose components stand there: its glyph, and where they end
-abbrev pub ligature_edit : Subtable → ApplyContext → Option (ℕ × ℕ)
+-- the first ligature of the set of the glyph at the cursor whose components stand there: its glyph, where they end, and their places
+abbrev pub ligature_edit : Subtable → ApplyContext → Option (ℕ × (ℕ × List ℕ))
 ligature_edit subtable ctx =
     option_and_then (λ index. first_ligature ctx (set_at subtable.table.now index)) (cursor_index subtable ctx)
 
@@ -44,30 +44,30 @@ abbrev pub context_edit : List Coverage → Subtable → Bool → ApplyContext �
 context_edit coverages subtable is_chained ctx =
     option_and_then (λ index. context_rule coverages subtable index is_chained ctx) (cursor_index subtable ctx)
 
--- the lookups of a rule, if there is one, are applied where it fits
-abbrev pub IsRuleEdit : ApplyContext → Option Pattern → Option Edit → Type 0
-IsRuleEdit ctx rule None = rule ≡ None
-IsRuleEdit ctx rule (Some (Apply fit)) = IsFitBy ctx rule fit
-IsRuleEdit ctx rule (Some (Replace glyph)) = IsTrue false
-IsRuleEdit ctx rule (Some (Choose glyphs)) = IsTrue false
-IsRuleEdit ctx rule (Some (Multiply glyphs)) = IsTrue false
-IsRuleEdit ctx rule (Some (Ligate ligation)) = IsTrue false
-IsRuleEdit ctx rule (Some (ReplaceInPlace change)) = IsTrue false
+-- the lookups of a rule, if there is one, are applied where it fits, at these places
+abbrev pub IsRuleEdit : ApplyContext → Option Pattern → List ℕ → Option Edit → Type 0
+IsRuleEdit ctx rule places None = rule ≡ None
+IsRuleEdit ctx rule places (Some (Apply fit)) = IsFitBy ctx rule places fit
+IsRuleEdit ctx rule places (Some (Replace glyph)) = IsTrue false
+IsRuleEdit ctx rule places (Some (Choose glyphs)) = IsTrue false
+IsRuleEdit ctx rule places (Some (Multiply glyphs)) = IsTrue false
+IsRuleEdit ctx rule places (Some (Ligate ligation)) = IsTrue false
+IsRuleEdit ctx rule places (Some (ReplaceInPlace change)) = IsTrue false
 
 -- what a subtable does at the cursor, by its kind: a single, multiple, alternate or ligature substitution, or the lookups of the rule of
--- a context
-pub record IsEditOf (coverages : List Coverage) (options : LookupOptions) (ctx : ApplyContext) (is_nested : Bool) (subtable : Subtable) (edit : Option Edit) : Type 0 where
+-- a context; the glyphs of the match of a ligature or a rule stand at these places
+pub record IsEditOf (coverages : List Coverage) (options : LookupOptions) (ctx : ApplyContext) (is_nested : Bool) (subtable : Subtable) (places : List ℕ) (edit : Option Edit) : Type 0 where
   pub singles : subtable.lookup_type ≡ 1 → edit ≡ single_edit subtable ctx
   pub multiples : subtable.lookup_type ≡ 2 → IsMultiple subtable.table.now (cursor_index subtable ctx) edit
   pub alternates : subtable.lookup_type ≡ 3 → options.random ≡ false → edit ≡ alternate_edit options subtable ctx
-  pub ligatures : subtable.lookup_type ≡ 4 → ligated edit ≡ ligature_edit subtable ctx
-  pub contexts : subtable.lookup_type ≡ 5 → IsRuleEdit ctx (context_edit coverages subtable false ctx) edit
-  pub chained_contexts : subtable.lookup_type ≡ 6 → IsRuleEdit ctx (context_edit coverages subtable true ctx) edit
+  pub ligatures : subtable.lookup_type ≡ 4 → ligated places edit ≡ ligature_edit subtable ctx
+  pub contexts : subtable.lookup_type ≡ 5 → IsRuleEdit ctx (context_edit coverages subtable false ctx) places edit
+  pub chained_contexts : subtable.lookup_type ≡ 6 → IsRuleEdit ctx (context_edit coverages subtable true ctx) places edit
   pub others : is_of_use subtable.lookup_type is_nested ≡ false → edit ≡ None
 
 -- the edit of the first of these subtables that has one, or none
-abbrev pub IsFirstEdit : List Coverage → LookupOptions → ApplyContext → Bool → List Subtable → Option Edit → Type 0
-IsFirstEdit coverages options ctx is_nested [] edit = edit ≡ None
-IsFirstEdit coverages options ctx is_nested (subtable ∷ rest) edit =
-    ((is_some edit ≡ true) × IsEditOf coverages options ctx is_nested subtable edit)
-    ⊎ (IsEditOf coverages options ctx is_nested subtable None × IsFirstEdit coverages options ctx is_nested rest edit)
+abbrev pub IsFirstEdit : List Coverage → LookupOptions → ApplyContext → Bool → List Subtable → List ℕ → Option Edit → Type 0
+IsFirstEdit coverages options ctx is_nested [] places edit = edit ≡ None
+IsFirstEdit coverages options ctx is_nested (subtable ∷ rest) places edit =
+    ((is_some edit ≡ true) × IsEditOf coverages options ctx is_nested subtable places edit)
+    ⊎ (IsEditOf coverages options ctx is_nested subtable [] None × IsFirstEdit coverages options ctx is_nested rest places edit)

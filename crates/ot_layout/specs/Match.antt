@@ -1,5 +1,5 @@
 -- Where a match of glyphs that follow one another ends, and the first ligature of a set whose components match.
-use Rattle.std.specs.Prelude.{ℕ, zero, suc, ◌+◌, ◌-◌, ◌*◌, ◌==◌, ◌&&◌, ◌||◌, ◌≡◌, ◌≢◌, ◌<◌, Bool, false, not, List, length, drop, Option, Some, None, nat_lt, if◌then◌else◌}
+use Rattle.std.specs.Prelude.{ℕ, zero, suc, ◌+◌, ◌-◌, ◌*◌, ◌==◌, ◌&&◌, ◌||◌, ◌≡◌, ◌≢◌, ◌<◌, Bool, false, not, List, [], ◌∷◌, ◌++◌, length, drop, Option, Some, None, nat_lt, if◌then◌else◌}
 use Rattle.std.specs.Prelude.{unwrap_or, option_map, option_and_then}
 use Rattle.std.specs.Option.{option_or}
 use Rattle.font_tables.specs.Bytes.{number_16, table_at_16}
@@ -88,40 +88,49 @@ abbrev pub match_end : ApplyContext → (ℕ → Option Matcher) → ℕ → Opt
 match_end ctx asked count =
     if nat_lt count 64 then option_map (λ place. place + 1) (last_place ctx asked count) else None
 
--- where the components of a ligature end, of which there are so many with the first
-abbrev pub components_end : ApplyContext → List ℕ → Option ℕ → Option ℕ
-components_end ctx table None = None
-components_end ctx table (Some count) =
-    if count == 0 then None else match_end ctx (matcher_by rule.Glyphs (drop 4 table)) (count - 1)
+-- the places of the first glyph of a match and of so many after it
+unfoldable pub match_places : ApplyContext → (ℕ → Option Matcher) → ℕ → List ℕ
+match_places ctx asked zero = 0 ∷ []
+match_places ctx asked (suc k) = match_places ctx asked k ++ unwrap_or (last_place ctx asked (suc k)) 0 ∷ []
 
--- a ligature whose components stand at the cursor: its glyph, and where they end
-unfoldable pub ligature_of : ApplyContext → List ℕ → Option (ℕ × ℕ)
+-- a match of the first glyph and so many after it: where it ends, and the places of its glyphs
+abbrev pub match_of : ApplyContext → (ℕ → Option Matcher) → ℕ → Option (ℕ × List ℕ)
+match_of ctx asked count = option_map (λ end. (end, match_places ctx asked count)) (match_end ctx asked count)
+
+-- the match of the components of a ligature, of which there are so many with the first
+abbrev pub components_match : ApplyContext → List ℕ → Option ℕ → Option (ℕ × List ℕ)
+components_match ctx table None = None
+components_match ctx table (Some count) =
+    if count == 0 then None else match_of ctx (matcher_by rule.Glyphs (drop 4 table)) (count - 1)
+
+-- a ligature whose components stand at the cursor: its glyph, where they end, and their places
+unfoldable pub ligature_of : ApplyContext → List ℕ → Option (ℕ × (ℕ × List ℕ))
 ligature_of ctx table =
-    option_and_then (λ glyph. option_map (λ end. (glyph, end)) (components_end ctx table (number_16 table 2)))
+    option_and_then (λ glyph. option_map (λ found. (glyph, found)) (components_match ctx table (number_16 table 2)))
     (number_16 table 0)
 
 -- the ligature of this number in a set, if its components stand at the cursor
-unfoldable pub ligature_at : ApplyContext → List ℕ → ℕ → Option (ℕ × ℕ)
+unfoldable pub ligature_at : ApplyContext → List ℕ → ℕ → Option (ℕ × (ℕ × List ℕ))
 ligature_at ctx set k = option_and_then (ligature_of ctx) (table_at_16 set (2 + 2 * k))
 
 -- the first of so many ligatures of a set whose components stand at the cursor
-unfoldable pub first_of : ApplyContext → List ℕ → ℕ → Option (ℕ × ℕ)
+unfoldable pub first_of : ApplyContext → List ℕ → ℕ → Option (ℕ × (ℕ × List ℕ))
 first_of ctx set zero = None
 first_of ctx set (suc k) = option_or (first_of ctx set k) (ligature_at ctx set k)
 
 -- the first ligature of a set whose components stand at the cursor
-abbrev pub first_ligature : ApplyContext → List ℕ → Option (ℕ × ℕ)
+abbrev pub first_ligature : ApplyContext → List ℕ → Option (ℕ × (ℕ × List ℕ))
 first_ligature ctx set = first_of ctx set (unwrap_or (number_16 set 0) 0)
 
--- the glyph that an edit puts in the place of others, and where they end
-abbrev pub ligated : Option Edit → Option (ℕ × ℕ)
-ligated None = None
-ligated (Some (Replace glyph)) = Some (glyph, 1)
-ligated (Some (Ligate ligation)) = Some (ligation.ligature, ligation.end)
-ligated (Some (Choose glyphs)) = None
-ligated (Some (Multiply glyphs)) = None
-ligated (Some (Apply fit)) = None
-ligated (Some (ReplaceInPlace change)) = None
+-- the glyph that an edit puts in the place of others, where they end, and their places, if these are those of its match
+abbrev pub ligated : List ℕ → Option Edit → Option (ℕ × (ℕ × List ℕ))
+ligated places None = None
+ligated places (Some (Replace glyph)) = Some (glyph, (1, 0 ∷ []))
+ligated places (Some (Ligate ligation)) = Some (ligation.ligature, (ligation.end, places))
+ligated places (Some (Choose glyphs)) = None
+ligated places (Some (Multiply glyphs)) = None
+ligated places (Some (Apply fit)) = None
+ligated places (Some (ReplaceInPlace change)) = None
 
 -- whoever asks for another glyph after the cursor does not find it
 abbrev pub IsNext : SkippingIterator → List hb_glyph_info_t → ℕ → Next → Type 0

@@ -2,7 +2,7 @@
 use Rattle.std.specs.Prelude.{ℕ, ◌≡◌, ◌+◌, ◌-◌, ◌*◌, ◌&&◌, Bool, false, IsTrue, List, [], drop, Option, None, Some, is_some, option_map, option_and_then, slice_get, if◌then◌else◌}
 use Rattle.font_tables.specs.Bytes.{number_16}
 use Rattle.font_tables.specs.declared.coverage.Coverage.{Coverage}
-use Rattle.ot_layout.specs.Match.{lookahead_end, backtrack_start, match_end}
+use Rattle.ot_layout.specs.Match.{lookahead_end, backtrack_start, match_end, match_places}
 use Rattle.ot_layout.specs.Rule.{sequence_matcher, matcher_by}
 use Rattle.ot_layout.specs.declared.context.Fit.{Fit}
 use Rattle.ot_layout.specs.declared.rule.MatchFunction.{MatchFunction}
@@ -150,18 +150,20 @@ pattern_fits ctx p =
     is_some (option_and_then (λ end. lookahead_end ctx p.lookahead end p.lookahead_count) (match_end ctx p.input p.input_count))
     && is_some (backtrack_start ctx p.backtrack p.backtrack_count)
 
--- a rule fits at the cursor: where its input ends, how far it looks ahead and after, and the records that it applies
-pub record IsFitOf (ctx : ApplyContext) (p : Pattern) (fit : Fit) : Type 0 where
+-- a rule fits at the cursor: where its input ends, the places of its glyphs, how far it looks ahead and after, and the records that it
+-- applies
+pub record IsFitOf (ctx : ApplyContext) (p : Pattern) (places : List ℕ) (fit : Fit) : Type 0 where
   pub input : match_end ctx p.input p.input_count ≡ Some fit.end
+  pub input_places : places ≡ match_places ctx p.input p.input_count
   pub lookahead : lookahead_end ctx p.lookahead fit.end p.lookahead_count ≡ Some fit.to
   pub backtrack : backtrack_start ctx p.backtrack p.backtrack_count ≡ Some fit.from
   pub record_count : fit.record_count ≡ p.record_count
   pub records : fit.records.now ≡ p.records
 
 -- a rule, if there is one, fits at the cursor
-abbrev pub IsFitBy : ApplyContext → Option Pattern → Fit → Type 0
-IsFitBy ctx None fit = IsTrue false
-IsFitBy ctx (Some p) fit = IsFitOf ctx p fit
+abbrev pub IsFitBy : ApplyContext → Option Pattern → List ℕ → Fit → Type 0
+IsFitBy ctx None places fit = IsTrue false
+IsFitBy ctx (Some p) places fit = IsFitOf ctx p places fit
 
 -- whether a rule, if there is one, fits
 abbrev pub rule_fits : ApplyContext → Option Pattern → Bool

@@ -75,7 +75,8 @@ pub fn fitting_rule<'a>(
     ensures spent { IsNotMore search.old.budget search.new.budget }
     ensures fits { IfSome result (IsFitWithin (length ctx.now.out.now) (length ctx.now.input.now)) }
     ensures rule { IfSome result
-        (IsFitBy ctx.now (context_rule list.now.coverages.items subtable.now index is_chained ctx.now)) }
+        (IsFitBy ctx.now (context_rule list.now.coverages.items subtable.now index is_chained ctx.now)
+        search.new.places.items) }
     ensures exact { is_chained ≡ is_chained_type subtable.now.lookup_type
         → IsNextOf list.now.coverages.items subtable.now → 0 < search.new.budget.steps
         → is_some result ≡ is_some (context_rule list.now.coverages.items subtable.now index is_chained ctx.now) }
@@ -113,7 +114,8 @@ fn covered_fit<'a>(
     requires { 0 < length ctx.now.input.now }
     ensures spent { IsNotMore search.old.budget search.new.budget }
     ensures fits { IfSome result (IsFitWithin (length ctx.now.out.now) (length ctx.now.input.now)) }
-    ensures rule { IfSome result (IsFitBy ctx.now (covered_rule list.now.coverages.items subtable.now is_chained)) }
+    ensures rule { IfSome result (IsFitBy ctx.now (covered_rule list.now.coverages.items subtable.now is_chained)
+        search.new.places.items) }
     ensures exact { is_chained ≡ is_chained_type subtable.now.lookup_type → IsNextOf list.now.coverages.items subtable.now
         → 0 < search.new.budget.steps
         → is_some result ≡ rule_fits ctx.now (covered_rule list.now.coverages.items subtable.now is_chained) }

@@ -1,16 +1,21 @@
 //! Coverages that were read, by their places in a table of lookups: many lookups share one.
 
-ghost use Rattle.std.specs.Prelude.{ℕ, ◌≡◌, ◌<◌, true, length, IfSome, is_some};
+ghost use Rattle.std.specs.Prelude.{ℕ, ◌≡◌, true, is_some};
 ghost use Rattle.ot_layout.specs.Digest.{HasAll};
 ghost use Rattle.ot_layout.specs.FirstGlyphs.{may_have_first};
 ghost use Rattle.ot_layout.specs.SkippingIterator.{covered_index};
 
 use crate::first_glyphs::{Summaries, summaries_of};
+use crate::reading::count_at;
+use font_tables::bytes::u16_at;
 use font_tables::coverage::Coverage;
 use std::alloc::AllocError;
 
-/// So many coverages are remembered at a time.
-const COUNT: usize = 128;
+/// So many coverages are remembered at a time, or fewer.
+const MOST: usize = 128;
+
+/// The golden ratio less 1, as a share of 2 to the 64.
+const GOLDEN_RATIO: usize = 0x9E37_79B9_7F4A_7C15;
 
 /// A coverage, with both summaries of its glyphs.
 #[derive(Clone, Copy, Debug)]
@@ -49,11 +54,14 @@ pub(crate) fn quick_coverage(table: &[u8]) -> Coverage<'_> {
     }
 }
 
-/// A coverage that was read, and how many bytes the table of lookups has from its place on.
+/// A coverage that was read.
 #[derive(Clone, Copy, Debug)]
 pub(crate) struct Known<'a> {
+    /// How many bytes the table of lookups has from its place on.
     len: usize,
-    coverage: Coverage<'a>,
+    /// How many bytes it has itself.
+    pub(crate) size: usize,
+    pub(crate) coverage: Coverage<'a>,
     /// The same with its summaries, once they were asked for.
     summed: Option<Summed<'a>>,
 }
@@ -63,15 +71,28 @@ impl<'a> Known<'a> {
     fn read(table: &'a [u8]) -> Self {
         Known {
             len: table.len(),
+            size: size_of(table),
             coverage: quick_coverage(table),
             summed: None,
         }
     }
 }
 
+/// How many bytes the coverage in these bytes has.
+pub(crate) fn size_of(table: &[u8]) -> usize {
+    let size = if u16_at(table, 0) == Some(1) { 2 } else { 6 };
+    4 + size * count_at(table, 2)
+}
+
 /// Makes room for the coverages of so many subtables to be remembered.
 pub(crate) fn make_room(known: &mut Vec<Known>, subtables: usize) -> Result<(), AllocError> {
-    let count = subtables.min(COUNT);
+    let count = if subtables < 16 {
+        16
+    } else if subtables < 64 {
+        64
+    } else {
+        MOST
+    };
     known.reserve(count)?;
     let nothing = Known::read(&[]);
     for _slot in 0..count {
@@ -80,43 +101,52 @@ pub(crate) fn make_room(known: &mut Vec<Known>, subtables: usize) -> Result<(), 
     Ok(())
 }
 
-/// Where a coverage is remembered. Each stands in the bytes from its place to the end of the same table, so that their number tells
-/// the place.
-fn slot_of(known: &[Known], len: usize) -> Option<usize>
-    ensures { IfSome result (λ slot. slot < length known.now) }
-{
-    if known.is_empty() {
-        return None;
-    }
-    Some((len ^ (len >> 7)) % known.len())
+/// Where a coverage is remembered, the number of slots being a power of two. Each stands in the bytes from its place to the end of the
+/// same table, so that their number tells the place; times the golden ratio, places at any distance from one another are spread.
+#[inline]
+fn slot_of(len: usize, slots: usize) -> usize {
+    (len.wrapping_mul(GOLDEN_RATIO) >> 57) & slots.saturating_sub(1)
 }
 
-/// The coverage in these bytes, which is read where it is not among those that are remembered.
-pub(crate) fn coverage_of<'a>(known: &mut [Known<'a>], table: &'a [u8]) -> Coverage<'a> {
-    let Some(slot) = slot_of(known, table.len()) else {
-        return quick_coverage(table);
-    };
-    if known[slot].len != table.len() {
-        known[slot] = Known::read(table);
+/// What is remembered of the coverage in these bytes.
+#[inline]
+pub(crate) fn known_at<'k, 'a>(known: &'k [Known<'a>], table: &[u8]) -> Option<&'k Known<'a>> {
+    let found = known.get(slot_of(table.len(), known.len()))?;
+    if found.len == table.len() {
+        Some(found)
+    } else {
+        None
     }
-    known[slot].coverage
 }
 
-/// The same coverage, with its summaries.
+/// Remembers a coverage in place of the one whose slot it has.
+fn remember<'a>(known: &mut [Known<'a>], coverage: Known<'a>) {
+    if let Some(slot) = known.get_mut(slot_of(coverage.len, known.len())) {
+        *slot = coverage;
+    }
+}
+
+/// The coverage in these bytes, which is read.
+pub(crate) fn read_coverage<'a>(known: &mut [Known<'a>], table: &'a [u8]) -> Coverage<'a> {
+    let read = Known::read(table);
+    remember(known, read);
+    read.coverage
+}
+
+/// The coverage in these bytes with its summaries, which is read where it is not among those that are remembered.
 pub(crate) fn summed_of<'a>(known: &mut [Known<'a>], table: &'a [u8]) -> Summed<'a> {
-    let Some(slot) = slot_of(known, table.len()) else {
-        return Summed::new(quick_coverage(table));
-    };
-    if known[slot].len == table.len()
-        && let Some(summed) = &known[slot].summed
+    if let Some(found) = known_at(known, table)
+        && let Some(summed) = &found.summed
     {
         return *summed;
     }
     let summed = Summed::new(quick_coverage(table));
-    known[slot] = Known {
+    let read = Known {
         len: table.len(),
+        size: size_of(table),
         coverage: summed.coverage,
         summed: Some(summed),
     };
+    remember(known, read);
     summed
 }

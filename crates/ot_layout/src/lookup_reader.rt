@@ -8,7 +8,9 @@ ghost use Rattle.ot_layout.specs.Seconds.{AreSeconds};
 
 use crate::digest::Digest;
 use crate::formats::has_format;
-use crate::known::{Known, Summed, coverage_of, make_room, quick_coverage, summed_of};
+use crate::known::{
+    Known, Summed, known_at, make_room, quick_coverage, read_coverage, size_of, summed_of,
+};
 use crate::lookup_list::{Lookup, POSITIONING_EXTENSION};
 use crate::lookup_props::LookupProps;
 use crate::reading::{count_at, coverage_numbers, has_next, quick_classes, summaries_of_all};
@@ -297,7 +299,7 @@ impl<'a> LookupReader<'a> {
     fn coverage_if(&mut self, is_there: bool, table: &'a [u8], at: usize) -> Coverage<'a> {
         if is_there {
             let table = table_or_empty(table, at);
-            if self.pay_for(table) {
+            if self.pay(size_of(table)) {
                 return quick_coverage(table);
             }
         }
@@ -314,9 +316,22 @@ impl<'a> LookupReader<'a> {
     }
 
     /// The coverage in these bytes, or one that covers nothing where there is no room, or it is slow to ask.
+    #[inline]
     fn coverage(&mut self, table: &'a [u8]) -> Coverage<'a> {
-        if self.pay_for(table) {
-            coverage_of(&mut self.known, table)
+        if let Some(known) = known_at(&self.known, table)
+            && known.size <= self.room
+        {
+            self.room -= known.size;
+            return known.coverage;
+        }
+        self.read_coverage(table)
+    }
+
+    /// The same, where it is read.
+    #[inline(never)]
+    fn read_coverage(&mut self, table: &'a [u8]) -> Coverage<'a> {
+        if self.pay(size_of(table)) {
+            read_coverage(&mut self.known, table)
         } else {
             Coverage::new(&[])
         }
@@ -324,7 +339,7 @@ impl<'a> LookupReader<'a> {
 
     /// The same coverage, with the summaries of its glyphs.
     fn summed(&mut self, table: &'a [u8]) -> Summed<'a> {
-        if self.pay_for(table) {
+        if self.pay(size_of(table)) {
             summed_of(&mut self.known, table)
         } else {
             Summed::none()
@@ -338,12 +353,6 @@ impl<'a> LookupReader<'a> {
         } else {
             ClassDefinition::new(&[])
         }
-    }
-
-    /// Whether a coverage may be read.
-    fn pay_for(&mut self, table: &[u8]) -> bool {
-        let size = if u16_at(table, 0) == Some(1) { 2 } else { 6 };
-        self.pay(4 + size * count_at(table, 2))
     }
 
     /// Whether a table of classes may be read: its ranges are gone through, and a list of classes is not.

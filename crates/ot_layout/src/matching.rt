@@ -9,7 +9,7 @@ ghost use Rattle.ot_layout.specs.declared.skipping_iterator.Found.TheVariants.{A
 ghost use Rattle.ot_layout.specs.declared.matcher.Matcher.{Matcher};
 ghost use Rattle.ot_layout.specs.Budget.{IsNotMore};
 ghost use Rattle.ot_layout.specs.LigatureParts.{may_join};
-ghost use Rattle.ot_layout.specs.Match.{lookahead_end, backtrack_start, joins, match_end, may_leave, next_place, previous_place};
+ghost use Rattle.ot_layout.specs.Match.{lookahead_end, backtrack_start, joins, match_end, match_places, may_leave, next_place, previous_place};
 
 use crate::budget::Budget;
 use crate::ligature_parts::{ligature_component, ligature_id};
@@ -104,7 +104,7 @@ fn step_behind(
 
 /// Looks for the glyphs of the input after the first, and leaves their places in `search`. `Ok` says where they end, and
 /// `Err` how far glyphs were looked at: 0 where nothing was seen that could be told of.
-#[tactic(auto, using(crate::proofs::MatchLemmas::last_place_none))]
+#[tactic(auto, using(crate::proofs::MatchLemmas::first_places))]
 pub(crate) fn match_input(
     ctx: &ApplyContext,
     part: &Sequence,
@@ -122,6 +122,8 @@ pub(crate) fn match_input(
     ensures last { IfOk result (λ end. end ≡ slice_index search.new.places.items part.now.count + 1) }
     ensures count { IfOk result (λ end. array_vec_len search.new.places ≡ part.now.count + 1) }
     ensures fits { IfOk result (λ end. match_end ctx.now (sequence_matcher part.now) part.now.count ≡ Some end) }
+    ensures all { IfOk result (λ end. search.new.places.items
+        ≡ match_places ctx.now (sequence_matcher part.now) part.now.count) }
     ensures misses { 0 < search.new.budget.steps → IfErr result (λ to.
         match_end ctx.now (sequence_matcher part.now) part.now.count ≡ None) }
 {

@@ -34,7 +34,7 @@ pub(crate) fn fit<'a>(rule: &Rule<'a>, ctx: &ApplyContext, search: &mut Search) 
     ensures places { IfSome result (λ found. AreMatchPositions (input_iterator ctx.now) (sequence_matcher rule.now.input)
         ctx.now.input.now rule.now.input.count search.new.places.items) }
     ensures records { IfSome result (λ found. found.records.now ≡ rule.now.records.now) }
-    ensures is { IfSome result (IsFitOf ctx.now (pattern_of rule.now)) }
+    ensures is { IfSome result (IsFitOf ctx.now (pattern_of rule.now) search.new.places.items) }
     ensures exact { 0 < search.new.budget.steps → is_some result ≡ pattern_fits ctx.now (pattern_of rule.now) }
 {
     let end = match match_input(ctx, &rule.input, search) {
@@ -157,7 +157,8 @@ pub(crate) fn first_fit<'a>(
     ensures spent { IsNotMore search.old.budget search.new.budget }
     ensures fits { IfSome result (IsFitWithin (length ctx.now.out.now) (length ctx.now.input.now)) }
     ensures rule { IfSome result
-        (IsFitBy ctx.now (rule_of_set ctx.now rules.now.is_chained rules.now.match_functions (Some rules.now.table.now))) }
+        (IsFitBy ctx.now (rule_of_set ctx.now rules.now.is_chained rules.now.match_functions (Some rules.now.table.now))
+        search.new.places.items) }
     ensures exact { 0 < search.new.budget.steps → is_some result
         ≡ is_some (rule_of_set ctx.now rules.now.is_chained rules.now.match_functions (Some rules.now.table.now)) }
 {
@@ -352,7 +353,8 @@ fn fit_at<'a>(
     ensures spent { IsNotMore search.old.budget search.new.budget }
     ensures fits { IfSome result (IsFitWithin (length ctx.now.out.now) (length ctx.now.input.now)) }
     ensures rule { IfSome result
-        (IsFitBy ctx.now (rule_at ctx.now rules.now.is_chained rules.now.match_functions rules.now.table.now index)) }
+        (IsFitBy ctx.now (rule_at ctx.now rules.now.is_chained rules.now.match_functions rules.now.table.now index)
+        search.new.places.items) }
     ensures exact { 0 < search.new.budget.steps → is_some result
         ≡ is_some (rule_at ctx.now rules.now.is_chained rules.now.match_functions rules.now.table.now index) }
 {

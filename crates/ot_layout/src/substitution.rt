@@ -83,7 +83,7 @@ pub fn edit_at<'a>(
     ensures spent { IsNotMore search.old.budget search.new.budget }
     ensures first { 0 < search.new.budget.steps
         → IsFirstEdit list.now.coverages.items options.now ctx.now is_nested
-        (subtables_of list.now.subtables.items lookup.now) result }
+        (subtables_of list.now.subtables.items lookup.now) search.new.places.items result }
 {
     let glyph = ctx.input[0].glyph_id;
     let subtables = list.subtables_of(lookup);
@@ -120,10 +120,10 @@ fn edit_of<'a>(
     ensures alternate { subtable.now.lookup_type ≡ 3 → options.now.random ≡ false
         → result ≡ alternate_edit options.now subtable.now ctx.now }
     ensures ligature { subtable.now.lookup_type ≡ 4 → 0 < search.new.budget.steps
-        → ligated result ≡ ligature_edit subtable.now ctx.now }
+        → ligated search.new.places.items result ≡ ligature_edit subtable.now ctx.now }
     ensures other { is_of_use subtable.now.lookup_type is_nested ≡ false → result ≡ None }
     ensures is { 0 < search.new.budget.steps
-        → IsEditOf list.now.coverages.items options.now ctx.now is_nested subtable.now result }
+        → IsEditOf list.now.coverages.items options.now ctx.now is_nested subtable.now search.new.places.items result }
 {
     let glyph = &ctx.input[0];
     let index = covered_index(&subtable.coverage, glyph.glyph_id)?;
@@ -231,7 +231,7 @@ fn ligature_by<'a>(
     requires { 0 < length ctx.now.input.now }
     ensures spent { IsNotMore search.old.budget search.new.budget }
     ensures is { 0 < search.new.budget.steps
-        → ligated result ≡ first_ligature ctx.now (set_at subtable.now.table.now index) }
+        → ligated search.new.places.items result ≡ first_ligature ctx.now (set_at subtable.now.table.now index) }
 {
     let set = set_at(subtable.table, index);
     let next = next_seen(&ctx.input_iterator(), ctx.input, 0);
@@ -270,7 +270,7 @@ fn ligature_in<'a>(
     requires some { 0 < length ctx.now.input.now }
     requires next { IfSome next.now (IsNext (input_iterator ctx.now) ctx.now.input.now 0) }
     ensures spent { IsNotMore search.old.budget search.new.budget }
-    ensures is { 0 < search.new.budget.steps → ligated result ≡ first_ligature ctx.now set.now }
+    ensures is { 0 < search.new.budget.steps → ligated search.new.places.items result ≡ first_ligature ctx.now set.now }
 {
     let count = usize::from(u16_at(set, 0)?);
     let is_told_at_end = count > 4 && matches!(*next, Some(next) if next.is_there());
@@ -306,8 +306,8 @@ fn ligature_at<'a>(
     requires few { index < 65536 }
     requires next { IfSome next.now (IsNext (input_iterator ctx.now) ctx.now.input.now 0) }
     ensures spent { IsNotMore search.old.budget search.new.budget }
-    ensures is { 0 < search.new.budget.steps → ligated result ≡ ligature_at ctx.now set.now index }
-    ensures ligates { IfSome result (λ edit. is_some (ligated (Some edit)) ≡ true) }
+    ensures is { 0 < search.new.budget.steps → ligated search.new.places.items result ≡ ligature_at ctx.now set.now index }
+    ensures ligates { IfSome result (λ edit. is_some (ligated search.new.places.items (Some edit)) ≡ true) }
 {
     let table = table_at_16(set, 2 + 2 * index)?;
     match *next {
@@ -341,8 +341,8 @@ fn ligature<'a>(
     requires { 0 < length ctx.now.input.now }
     ensures spent { IsNotMore search.old.budget search.new.budget }
     ensures is { IfSome result (IsLigature table.now ctx.now search.new.places.items) }
-    ensures exact { 0 < search.new.budget.steps → ligated result ≡ ligature_of ctx.now table.now }
-    ensures ligates { IfSome result (λ edit. is_some (ligated (Some edit)) ≡ true) }
+    ensures exact { 0 < search.new.budget.steps → ligated search.new.places.items result ≡ ligature_of ctx.now table.now }
+    ensures ligates { IfSome result (λ edit. is_some (ligated search.new.places.items (Some edit)) ≡ true) }
 {
     let glyph = u16_at(table, 0)?;
     let count = u16_at(table, 2)?;

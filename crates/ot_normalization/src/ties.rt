@@ -22,40 +22,39 @@ pub trait Ties {
     fn tie_of(&self, infos: &[hb_glyph_info_t], place: usize) -> Tie;
 }
 
-/// Marks as unsafe to break where a part of at least so many characters would have some that hang on anchors, and no anchor: from the
-/// first of them up to the first anchor, and from the last anchor up to the last of them. Requires that no output is open.
+/// Marks as unsafe to break where a part would have characters that hang on anchors, and no anchor: from the first of them up to the first
+/// anchor, and from the last anchor up to the last of them. Requires that no output is open.
 #[tactic(auto, using(shaping_buffer::proofs::ClosedKeepsLemmas::kept))]
-pub fn keep_tied<T: Ties>(buffer: &mut hb_buffer_t, ties: &T, least: usize)
+pub fn keep_tied<T: Ties>(buffer: &mut hb_buffer_t, ties: &T)
     requires { buffer.old.have_output ≡ false }
     ensures closed { buffer.new.have_output ≡ false }
     ensures keeps { KeepsClusters buffer.old buffer.new }
 {
-    keep_first(buffer, ties, least);
-    keep_last(buffer, ties, least);
+    keep_first(buffer, ties);
+    keep_last(buffer, ties);
 }
 
 /// Marks what lies between the first character that hangs on the first anchor, and that.
 #[tactic(auto, using(shaping_buffer::proofs::ClosedKeepsLemmas::kept))]
-fn keep_first<T: Ties>(buffer: &mut hb_buffer_t, ties: &T, least: usize)
+fn keep_first<T: Ties>(buffer: &mut hb_buffer_t, ties: &T)
     requires { buffer.old.have_output ≡ false }
     ensures closed { buffer.new.have_output ≡ false }
     ensures keeps { KeepsClusters buffer.old buffer.new }
 {
     if let Some((first, anchor)) = first_tied(buffer.info(), ties) {
-        keep_together(buffer, first.max(least.saturating_sub(1)), anchor);
+        keep_together(buffer, first, anchor);
     }
 }
 
 /// Marks what lies between the last anchor and the last character that hangs on it.
 #[tactic(auto, using(shaping_buffer::proofs::ClosedKeepsLemmas::kept))]
-fn keep_last<T: Ties>(buffer: &mut hb_buffer_t, ties: &T, least: usize)
+fn keep_last<T: Ties>(buffer: &mut hb_buffer_t, ties: &T)
     requires { buffer.old.have_output ≡ false }
     ensures closed { buffer.new.have_output ≡ false }
     ensures keeps { KeepsClusters buffer.old buffer.new }
 {
     if let Some((anchor, last)) = last_tied(buffer.info(), ties) {
-        let most = buffer.len().saturating_sub(least);
-        keep_together(buffer, anchor, last.min(most));
+        keep_together(buffer, anchor, last);
     }
 }
 

@@ -1,10 +1,11 @@
 //! The last steps of shaping: glyphs that are not to be seen, and glyph flags of whole clusters.
 
-ghost use Rattle.std.specs.Prelude.{◌≡◌, ◌<◌, ◌≤◌, false, length, map, IsSome};
+ghost use Rattle.std.specs.Prelude.{◌≡◌, ◌<◌, ◌≤◌, false, length, map, IsSome, if◌then◌else◌};
 ghost use Rattle.glyph_lists.specs.Marks.{with_glyph_flags};
 ghost use Rattle.glyph_lists.specs.Parts.{part, map_range};
 ghost use Rattle.ot_positions.specs.SharedFlags.{flags_of, shared_flags};
 ghost use Rattle.shaping_buffer.specs.Clusters.{clusters};
+ghost use Rattle.shaping_buffer.specs.ClusterStep as step;
 ghost use Rattle.shaping_buffer.specs.KeepsClusters.{KeepsClusters};
 
 use crate::positions::take_width_at;
@@ -220,6 +221,22 @@ fn hide_all(buffer: &mut hb_buffer_t)
 {
     prove!(buffer.out_len() == 0);
     hide_default_ignorables(buffer);
+}
+
+/// Marks all clusters but the least as unsafe to break where shaping was given up: parts of the text, each with a budget of its own, may be
+/// shaped further. Requires positions, and that no output is open.
+pub fn mark_given_up(buffer: &mut hb_buffer_t)
+    requires closed { buffer.old.have_output ≡ false }
+    requires placed { IsSome buffer.old.positions }
+    ensures is { buffer.new
+        ≡ (if buffer.old.shaping_failed then step.unsafe_to_break None None buffer.old else buffer.old) }
+    ensures closed { buffer.new.have_output ≡ false }
+    ensures placed { IsSome buffer.new.positions }
+    ensures keeps { KeepsClusters buffer.old buffer.new }
+{
+    if buffer.shaping_failed {
+        buffer.unsafe_to_break(None, None);
+    }
 }
 
 /// Gives all glyphs of a cluster the same glyph flags, and takes away those that the buffer was not asked for. Requires positions, and

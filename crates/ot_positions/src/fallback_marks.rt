@@ -2,6 +2,9 @@
 //! class of the mark (HarfBuzz's `_hb_ot_shape_fallback_mark_position`; Unicode Standard, "Combining Classes").
 
 ghost use Rattle.std.specs.Prelude.{◌≡◌, false, IsSome};
+ghost use Rattle.std.specs.List.{prefix_len};
+ghost use Rattle.ot_normalization.specs.Marks.{is_mark};
+ghost use Rattle.shaping_buffer.specs.ClusterStep as step;
 ghost use Rattle.shaping_buffer.specs.Clusters.{clusters};
 ghost use Rattle.ot_positions.specs.FallbackMarks.{fallback_class, placed_by_character, class_of_character, is_thai_above, is_lao_above};
 ghost use Rattle.ot_positions.specs.FallbackMarks.{placed_by_class, placed_at_a_side, is_ordered_below, is_ordered_above, within};
@@ -181,6 +184,7 @@ pub fn position_marks<F: FontFunctions>(
     ensures placed { IsSome buffer.new.positions }
     ensures keeps { KeepsClusters buffer.old buffer.new }
 {
+    mark_baseless(buffer);
     let line = line_of(buffer, direction, face.scale.y / 16);
     let mut start = 0;
     for _turn in 0..buffer.len() {
@@ -192,6 +196,30 @@ pub fn position_marks<F: FontFunctions>(
         start = end;
     }
     Ok(())
+}
+
+/// Marks those that begin the text, and have no base, as unsafe to concatenate: behind another text they might have one.
+fn mark_baseless(buffer: &mut hb_buffer_t)
+    requires closed { buffer.old.have_output ≡ false }
+    requires placed { IsSome buffer.old.positions }
+    ensures is { buffer.new
+        ≡ step.unsafe_to_concat (Some 0) (Some (prefix_len is_mark buffer.old.input)) buffer.old }
+    ensures closed { buffer.new.have_output ≡ false }
+    ensures placed { IsSome buffer.new.positions }
+    ensures keeps { KeepsClusters buffer.old buffer.new }
+{
+    let end = first_marks(buffer.info());
+    buffer.unsafe_to_concat(Some(0), Some(end));
+}
+
+/// How many marks begin a text.
+fn first_marks(infos: &[hb_glyph_info_t]) -> usize
+    ensures { result ≡ prefix_len is_mark infos.now }
+{
+    infos
+        .iter()
+        .take_while(|info| is_unicode_mark(info))
+        .count()
 }
 
 /// Says that the text is not to be broken between these places.

@@ -11,7 +11,9 @@ mod mark_placing;
 mod positions;
 mod tracking;
 
-pub use ending::{hide_ignorables, propagate_flags, share_flags, show_variation_selectors};
+pub use ending::{
+    hide_ignorables, mark_given_up, propagate_flags, share_flags, show_variation_selectors,
+};
 pub use fallback_marks::{position_marks, recategorize_marks};
 pub use positions::{
     position_glyphs, zero_mark_widths, zero_width_default_ignorables, zero_width_deleted_glyphs,

@@ -16,16 +16,17 @@ use font_face::Face;
 use font_functions::{FontFunctions, OwnFunctions};
 use ot_apply::{Step, Unwatched, Watch, position, set_masks, substitute};
 use ot_characters::{
-    ensure_native_direction, form_clusters, insert_dotted_circle, keep_numbers, rotate_characters,
-    set_direction, set_properties,
+    ensure_native_direction, form_clusters, insert_dotted_circle, keep_contexts, keep_numbers,
+    rotate_characters, set_direction, set_properties,
 };
 use ot_gsub::substitute_start;
 use ot_normalization::normalize;
 use ot_plan::{FaceGlyphs, TextPlan, plan_of_text};
 use ot_positions::{
-    hide_ignorables, propagate_flags, recategorize_marks, share_flags, show_variation_selectors,
+    hide_ignorables, mark_given_up, propagate_flags, recategorize_marks, share_flags,
+    show_variation_selectors,
 };
-use script_shapers::ScriptPlan;
+use script_shapers::{ScriptPlan, ScriptShaper};
 use shaping_buffer::{
     BufferFlags, Direction, Feature, Flags, GlyphBuffer, UnicodeBuffer, hb_buffer_t,
     hb_glyph_info_t,
@@ -345,6 +346,7 @@ fn finish_glyphs<F: FontFunctions>(
     if !stretch_marks(buffer, face, font, &plan.script)? {
         return Ok(false);
     }
+    mark_given_up(buffer);
     propagate_flags(buffer);
     Ok(true)
 }
@@ -398,7 +400,22 @@ fn begin_characters<F: FontFunctions>(
     }
     form_clusters(buffer);
     keep_numbers(buffer);
+    keep_joining(buffer, plan.script.shaper);
     Ok(true)
+}
+
+/// Marks what may not be broken where letters join, for the contexts of a text that is turned.
+fn keep_joining(buffer: &mut hb_buffer_t, shaper: ScriptShaper)
+    requires { buffer.old.have_output ≡ false }
+    ensures closed { buffer.new.have_output ≡ false }
+    ensures keeps { KeepsClusters buffer.old buffer.new }
+{
+    if matches!(
+        shaper,
+        ScriptShaper::Arabic | ScriptShaper::UniversalJoining
+    ) {
+        keep_contexts(buffer);
+    }
 }
 
 /// Prepares the characters by their script, and finds a glyph for each. `Ok(false)` where a call was refused for length.

@@ -20,7 +20,6 @@ use rb_common::Direction;
 use rb_glyph::GlyphPosition;
 use shaping_buffer::{UnicodeBuffer, hb_buffer_t, hb_glyph_info_t};
 use std::alloc::{AllocError, Global};
-use std::process::Abort;
 
 /// The bits of the only feature.
 const OPTIONS: LookupOptions = LookupOptions {
@@ -152,157 +151,20 @@ fn is_unsafe(buffer: &hb_buffer_t, place: usize) -> bool {
     }
 }
 
-/// A lookup over a line: the advance and the offsets of glyphs at some places, and whether the line may not be broken before them.
-struct Case {
-    name: &'static str,
-    kind: u16,
-    flag: u16,
-    subtable: &'static [u16],
-    direction: Direction,
-    glyphs: &'static [u32],
-    places: &'static [(usize, i32, i32, i32)],
-    breaks: &'static [(usize, bool)],
-}
-
-const CLASSES: &[u16] = &[
-    2, 20, 4, 0, 26, 32, 1, 2, 0, 0xFFCE, 1, 1, 10, 1, 0, 0, 1, 11, 1, 1,
-];
-
-const MARKS: &[u16] = &[
-    1, 12, 18, 1, 24, 36, 1, 1, 20, 1, 1, 10, 1, 0, 6, 1, 100, 200, 1, 4, 1, 300, 500,
-];
-
-const ANCHORS: &[u16] = &[1, 14, 2, 0, 22, 28, 0, 1, 2, 10, 11, 1, 500, 100, 1, 50, 20];
-
-static CASES: [Case; 8] = [
-    Case {
-        name: "the second glyph of a pair",
-        kind: 2,
-        flag: 0,
-        subtable: &[
-            1, 12, 4, 1, 1, 18, 1, 1, 10, 2, 11, 0xFFCE, 7, 12, 0xFFC4, 8,
-        ],
-        direction: Direction::LeftToRight,
-        glyphs: &[10, 12, 10, 11],
-        places: &[
-            (0, 540, 0, 0),
-            (1, 600, 8, 0),
-            (2, 550, 0, 0),
-            (3, 600, 7, 0),
-        ],
-        breaks: &[(0, false), (1, true), (3, true)],
-    },
-    Case {
-        name: "kerning by classes",
-        kind: 2,
-        flag: 8,
-        subtable: CLASSES,
-        direction: Direction::LeftToRight,
-        glyphs: &[10, 11, 10, 12, 10, 20, 11],
-        places: &[
-            (0, 550, 0, 0),
-            (1, 600, 0, 0),
-            (2, 600, 0, 0),
-            (4, 550, 0, 0),
-        ],
-        breaks: &[(1, true), (3, false), (6, true)],
-    },
-    Case {
-        name: "kerning by classes in a line that runs down",
-        kind: 2,
-        flag: 8,
-        subtable: CLASSES,
-        direction: Direction::TopToBottom,
-        glyphs: &[10, 11],
-        places: &[(0, 600, 0, 0)],
-        breaks: &[(1, false)],
-    },
-    Case {
-        name: "kerning by glyphs",
-        kind: 2,
-        flag: 0,
-        subtable: &[1, 12, 4, 0, 1, 18, 1, 1, 10, 2, 11, 0xFFCE, 12, 20],
-        direction: Direction::LeftToRight,
-        glyphs: &[10, 12, 10, 11, 10, 13],
-        places: &[(0, 620, 0, 0), (2, 550, 0, 0), (4, 600, 0, 0)],
-        breaks: &[(3, true), (5, false)],
-    },
-    Case {
-        name: "marks on their base",
-        kind: 4,
-        flag: 0,
-        subtable: MARKS,
-        direction: Direction::LeftToRight,
-        glyphs: &[10, 20, 20],
-        places: &[(1, 0, -400, 300), (2, 0, -400, 300)],
-        breaks: &[],
-    },
-    Case {
-        name: "a mark on its base in a line that runs to the left",
-        kind: 4,
-        flag: 0,
-        subtable: MARKS,
-        direction: Direction::RightToLeft,
-        glyphs: &[10, 20],
-        places: &[(1, 0, 200, 300)],
-        breaks: &[],
-    },
-    Case {
-        name: "an exit meets an entry",
-        kind: 3,
-        flag: 0,
-        subtable: ANCHORS,
-        direction: Direction::LeftToRight,
-        glyphs: &[10, 11],
-        places: &[(0, 500, 0, 0), (1, 550, -50, 80)],
-        breaks: &[],
-    },
-    Case {
-        name: "an exit meets an entry, and the last glyph stands on the line",
-        kind: 3,
-        flag: 1,
-        subtable: ANCHORS,
-        direction: Direction::RightToLeft,
-        glyphs: &[10, 11],
-        places: &[(0, 100, -500, -80), (1, 50, 0, 0)],
-        breaks: &[],
-    },
-];
-
-/// Asserts the advance and the offsets at these places.
-fn assert_places(
-    rt: &impl Abort,
-    name: &str,
-    buffer: &hb_buffer_t,
-    places: &[(usize, i32, i32, i32)],
-)
-    requires { IsSome buffer.now.positions }
-{
-    for (place, advance, x, y) in places {
-        assert!(rt; at(buffer, *place) == (*advance, *x, *y), "{name}");
-    }
-}
-
-/// Asserts whether a line may not be broken before these glyphs.
-fn assert_breaks(rt: &impl Abort, name: &str, buffer: &hb_buffer_t, breaks: &[(usize, bool)]) {
-    for (place, unsafe_there) in breaks {
-        assert!(rt; is_unsafe(buffer, *place) == *unsafe_there, "{name}");
-    }
-}
-
-fn assert_case(rt: &impl Abort, alloc: Global, case: &Case) -> Result<(), AllocError> {
-    let gpos = gpos_of(alloc, case.kind, case.flag, case.subtable)?;
-    let buffer = positioned(alloc, &gpos, case.direction, case.glyphs)?;
-    assert_places(rt, case.name, &buffer, case.places);
-    assert_breaks(rt, case.name, &buffer, case.breaks);
-    Ok(())
-}
-
 #[test]
-fn glyphs_are_positioned(rt: HostRuntime) -> Result<(), AllocError> {
-    for case in &CASES {
-        assert_case(&rt, rt.alloc(), case)?;
-    }
+fn the_second_glyph_of_a_pair(rt: HostRuntime) -> Result<(), AllocError> {
+    let pairs = [
+        1, 12, 4, 1, 1, 18, 1, 1, 10, 2, 11, 0xFFCE, 7, 12, 0xFFC4, 8,
+    ];
+    let gpos = gpos_of(rt.alloc(), 2, 0, &pairs)?;
+    let buffer = positioned(rt.alloc(), &gpos, Direction::LeftToRight, &[10, 12, 10, 11])?;
+    assert_eq!(rt; at(&buffer, 0), (540, 0, 0));
+    assert_eq!(rt; at(&buffer, 1), (600, 8, 0));
+    assert_eq!(rt; at(&buffer, 2), (550, 0, 0));
+    assert_eq!(rt; at(&buffer, 3), (600, 7, 0));
+    assert!(rt; !is_unsafe(&buffer, 0));
+    assert!(rt; is_unsafe(&buffer, 1));
+    assert!(rt; is_unsafe(&buffer, 3));
     Ok(())
 }
 
@@ -316,22 +178,71 @@ fn a_spent_budget_is_told(rt: HostRuntime) -> Result<(), AllocError> {
     for (steps, matcher) in [(3, (600, true)), (1000, (550, false))] {
         let mut buffer = line_of(rt.alloc(), Direction::LeftToRight, &[10, 11])?;
         position_all(&mut buffer, &list, Budget { nested: 1, steps });
-        assert!(rt; (at(&buffer, 0).0, buffer.shaping_failed) == matcher);
+        assert_eq!(rt; (at(&buffer, 0).0, buffer.shaping_failed), matcher);
     }
     Ok(())
 }
 
-/// A pair is kerned by half of its value on each side.
-fn assert_kerned(
-    rt: &impl Abort,
-    alloc: Global,
-    table: &KernTable,
-    direction: Direction,
-    glyphs: &[u32],
-    places: &[(usize, i32, i32, i32)],
-) -> Result<(), AllocError> {
-    let buffer = kerned(alloc, table, direction, glyphs)?;
-    assert_places(rt, "half of a value", &buffer, places);
+#[test]
+fn kerning_by_classes(rt: HostRuntime) -> Result<(), AllocError> {
+    let pairs = [
+        2, 20, 4, 0, 26, 32, 1, 2, 0, 0xFFCE, 1, 1, 10, 1, 0, 0, 1, 11, 1, 1,
+    ];
+    let gpos = gpos_of(rt.alloc(), 2, 8, &pairs)?;
+    let glyphs = [10, 11, 10, 12, 10, 20, 11];
+    let buffer = positioned(rt.alloc(), &gpos, Direction::LeftToRight, &glyphs)?;
+    assert_eq!(rt; at(&buffer, 0), (550, 0, 0));
+    assert_eq!(rt; at(&buffer, 1), (600, 0, 0));
+    assert_eq!(rt; at(&buffer, 2), (600, 0, 0));
+    assert_eq!(rt; at(&buffer, 4), (550, 0, 0));
+    assert!(rt; is_unsafe(&buffer, 1));
+    assert!(rt; !is_unsafe(&buffer, 3));
+    assert!(rt; is_unsafe(&buffer, 6));
+    let downward = positioned(rt.alloc(), &gpos, Direction::TopToBottom, &[10, 11])?;
+    assert_eq!(rt; at(&downward, 0), (600, 0, 0));
+    assert!(rt; !is_unsafe(&downward, 1));
+    Ok(())
+}
+
+#[test]
+fn kerning_by_glyphs(rt: HostRuntime) -> Result<(), AllocError> {
+    let pairs = [1, 12, 4, 0, 1, 18, 1, 1, 10, 2, 11, 0xFFCE, 12, 20];
+    let gpos = gpos_of(rt.alloc(), 2, 0, &pairs)?;
+    let glyphs = [10, 12, 10, 11, 10, 13];
+    let buffer = positioned(rt.alloc(), &gpos, Direction::LeftToRight, &glyphs)?;
+    assert_eq!(rt; at(&buffer, 0), (620, 0, 0));
+    assert_eq!(rt; at(&buffer, 2), (550, 0, 0));
+    assert_eq!(rt; at(&buffer, 4), (600, 0, 0));
+    assert!(rt; is_unsafe(&buffer, 3));
+    assert!(rt; !is_unsafe(&buffer, 5));
+    Ok(())
+}
+
+#[test]
+fn a_mark_on_its_base(rt: HostRuntime) -> Result<(), AllocError> {
+    let marks = [
+        1, 12, 18, 1, 24, 36, 1, 1, 20, 1, 1, 10, 1, 0, 6, 1, 100, 200, 1, 4, 1, 300, 500,
+    ];
+    let gpos = gpos_of(rt.alloc(), 4, 0, &marks)?;
+    let forward = positioned(rt.alloc(), &gpos, Direction::LeftToRight, &[10, 20, 20])?;
+    assert_eq!(rt; at(&forward, 1), (0, -400, 300));
+    assert_eq!(rt; at(&forward, 2), (0, -400, 300));
+    let backward = positioned(rt.alloc(), &gpos, Direction::RightToLeft, &[10, 20])?;
+    assert_eq!(rt; at(&backward, 1), (0, 200, 300));
+    Ok(())
+}
+
+#[test]
+fn an_exit_meets_an_entry(rt: HostRuntime) -> Result<(), AllocError> {
+    let anchors = [1, 14, 2, 0, 22, 28, 0, 1, 2, 10, 11, 1, 500, 100, 1, 50, 20];
+    let gpos = gpos_of(rt.alloc(), 3, 0, &anchors)?;
+    let buffer = positioned(rt.alloc(), &gpos, Direction::LeftToRight, &[10, 11])?;
+    assert_eq!(rt; at(&buffer, 0), (500, 0, 0));
+    assert_eq!(rt; at(&buffer, 1), (550, -50, 80));
+    let hanging = gpos_of(rt.alloc(), 3, 1, &anchors)?;
+    let buffer = positioned(rt.alloc(), &hanging, Direction::RightToLeft, &[10, 11])?;
+    assert_eq!(rt; at(&buffer, 0), (100, -500, -80));
+    assert_eq!(rt; at(&buffer, 1), (50, 0, 0));
     Ok(())
 }
 
@@ -341,16 +252,11 @@ fn half_of_a_kerning_value(rt: HostRuntime) -> Result<(), AllocError> {
     let bytes = bytes_of(rt.alloc(), &words)?;
     let table = KernTable::new(&bytes);
     assert!(rt; table.has_kerning());
-    let forward = [(0, 574, 0, 0), (2, 575, -25, 0)];
-    let (alloc, to_right) = (rt.alloc(), Direction::LeftToRight);
-    assert_kerned(&rt, alloc, &table, to_right, &[10, 20, 11], &forward)?;
-    let backward = [(0, 575, -25, 0), (1, 574, 0, 0)];
-    assert_kerned(
-        &rt,
-        alloc,
-        &table,
-        Direction::RightToLeft,
-        &[11, 10],
-        &backward,
-    )
+    let forward = kerned(rt.alloc(), &table, Direction::LeftToRight, &[10, 20, 11])?;
+    assert_eq!(rt; at(&forward, 0), (574, 0, 0));
+    assert_eq!(rt; at(&forward, 2), (575, -25, 0));
+    let backward = kerned(rt.alloc(), &table, Direction::RightToLeft, &[11, 10])?;
+    assert_eq!(rt; at(&backward, 0), (575, -25, 0));
+    assert_eq!(rt; at(&backward, 1), (574, 0, 0));
+    Ok(())
 }

@@ -4,7 +4,7 @@ ghost use Rattle.std.specs.Prelude.{◌≡◌, ◌++◌, IfOk};
 ghost use Rattle.ot_map.specs.Pauses.{HasSamePauses};
 ghost use Rattle.script_indic.specs.Stages.{indic_pauses};
 
-use crate::plan::{IndicMasks, IndicPlan};
+use crate::plan::{ConsonantForms, IndicMasks, IndicPlan};
 use ot_map::{FeatureFlags, LayoutPlan, Pause, PlanBuilder};
 use rb_common::{Script, Tag};
 use script_syllables::requests::{add_all, add_in_stages};
@@ -80,5 +80,17 @@ pub fn plan(script: Option<Script>, layout: &LayoutPlan) -> IndicPlan {
         pstf: mask(b"pstf"),
         init: mask(b"init"),
     };
-    IndicPlan::new(script, layout.gsub_script, masks)
+    let forms = ConsonantForms {
+        pref: has_lookups(layout, b"pref"),
+        blwf: has_lookups(layout, b"blwf"),
+        pstf: has_lookups(layout, b"pstf"),
+        vatu: has_lookups(layout, b"vatu"),
+    };
+    IndicPlan::new(script, layout.gsub_script, masks, forms)
+}
+
+/// Whether the font has lookups for a feature.
+fn has_lookups(layout: &LayoutPlan, name: &[u8; 4]) -> bool {
+    let places = layout.stage_places(Tag::from_bytes(name));
+    places.start < places.end
 }

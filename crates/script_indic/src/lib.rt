@@ -3,7 +3,7 @@
 #![tactic(auto)]
 
 pub use configuration::{IndicConfiguration, RephMode};
-pub use plan::{IndicMasks, IndicPlan};
+pub use plan::{ConsonantForms, IndicMasks, IndicPlan};
 
 mod base;
 pub mod composition;

@@ -9,7 +9,7 @@ use crate::base::{Base, find_base};
 use crate::initial_masks::{mask_pref, set_masks};
 use crate::initial_order::set_positions;
 use crate::item::{is_halant, is_one};
-use crate::plan::{BROKEN, IndicPlan};
+use crate::plan::{BROKEN, ConsonantForms, IndicPlan};
 use crate::sorting::sort_syllable;
 use rb_common::script;
 use script_syllables::clusters::merge;
@@ -46,7 +46,7 @@ pub(crate) fn order_initially<F: FontForms>(
     ensures keeps { KeepsNumbers buffer.old buffer.new }
 {
     if let Some(virama) = plan.virama_glyph(font) {
-        place_consonants(buffer, font, virama);
+        place_consonants(buffer, plan.forms, font, virama);
     }
     if !insert_dotted_circles(buffer, font, CIRCLE)? {
         return Ok(false);
@@ -87,22 +87,32 @@ fn is_reordered(kind: u8) -> bool {
 }
 
 /// Lets each consonant have the position that its forms in the font give it.
-fn place_consonants<F: FontForms>(buffer: &mut hb_buffer_t, font: &mut F, virama: u32)
+fn place_consonants<F: FontForms>(
+    buffer: &mut hb_buffer_t,
+    forms: ConsonantForms,
+    font: &mut F,
+    virama: u32,
+)
     requires { buffer.old.have_output ≡ false }
     ensures closed { buffer.new.have_output ≡ false }
     ensures keeps { KeepsClusters buffer.old buffer.new }
 {
-    place_all(buffer.info_slice_mut(), font, virama);
+    place_all(buffer.info_slice_mut(), forms, font, virama);
 }
 
 /// Does that in a list.
 #[tactic(auto, using(shaping_buffer::proofs::ClosedKeepsLemmas::clusters_written))]
-fn place_all<F: FontForms>(infos: &mut [hb_glyph_info_t], font: &mut F, virama: u32)
+fn place_all<F: FontForms>(
+    infos: &mut [hb_glyph_info_t],
+    forms: ConsonantForms,
+    font: &mut F,
+    virama: u32,
+)
     ensures { clusters infos.new ≡ clusters infos.old }
 {
     for place in 0..infos.len() {
         if position(&infos[place]) == Position::Base {
-            let own = consonant_position(font, infos[place].glyph_id, virama);
+            let own = consonant_position(forms, font, infos[place].glyph_id, virama);
             set_position(&mut infos[place], own);
         }
     }
@@ -110,12 +120,19 @@ fn place_all<F: FontForms>(infos: &mut [hb_glyph_info_t], font: &mut F, virama: 
 
 /// The position of a consonant by its forms: the font may have rules with the halant before it, as the new specification wants, or
 /// behind it, as the old one does.
-fn consonant_position<F: FontForms>(font: &mut F, consonant: u32, virama: u32) -> Position {
+fn consonant_position<F: FontForms>(
+    forms: ConsonantForms,
+    font: &mut F,
+    consonant: u32,
+    virama: u32,
+) -> Position {
     let glyphs = [virama, consonant, virama];
-    if has_form(font, FormFeature::Blwf, &glyphs) || has_form(font, FormFeature::Vatu, &glyphs) {
+    if forms.blwf && has_form(font, FormFeature::Blwf, &glyphs)
+        || forms.vatu && has_form(font, FormFeature::Vatu, &glyphs)
+    {
         Position::Below
-    } else if has_form(font, FormFeature::Pstf, &glyphs)
-        || has_form(font, FormFeature::Pref, &glyphs)
+    } else if forms.pstf && has_form(font, FormFeature::Pstf, &glyphs)
+        || forms.pref && has_form(font, FormFeature::Pref, &glyphs)
     {
         Position::Post
     } else {

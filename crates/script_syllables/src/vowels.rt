@@ -7,7 +7,12 @@ ghost use Rattle.shaping_buffer.specs.KeepsClusters.{KeepsClusters};
 
 use crate::dotted_circle::DOTTED_CIRCLE;
 use crate::vowel_sequences::third_vowel;
+use rb_common::Script;
+use rb_glyph::hb_gc::{
+    RB_UNICODE_GENERAL_CATEGORY_NON_SPACING_MARK, RB_UNICODE_GENERAL_CATEGORY_SPACING_MARK,
+};
 use rb_glyph::{BufferFlags, CharExt, Flags, UnicodeProps};
+use script_items::item::general_category;
 use shaping_buffer::{hb_buffer_t, hb_glyph_info_t};
 use std::alloc::AllocError;
 
@@ -22,6 +27,7 @@ pub fn part_vowels(buffer: &mut hb_buffer_t) -> Result<bool, AllocError>
     if buffer
         .flags
         .contains(BufferFlags::DO_NOT_INSERT_DOTTED_CIRCLE)
+        || !has_sequence(buffer)
     {
         return Ok(true);
     }
@@ -85,19 +91,47 @@ fn keep_sequence(buffer: &mut hb_buffer_t, count: usize)
     buffer.unsafe_to_break(Some(start), Some(start.saturating_add(count)));
 }
 
+/// Whether the text has such a sequence.
+fn has_sequence(buffer: &hb_buffer_t) -> bool {
+    let infos = buffer.info();
+    for place in 0..infos.len() {
+        if length_of_sequence(&infos[place..], buffer.script).is_some() {
+            return true;
+        }
+    }
+    false
+}
+
 /// How many characters the sequence at the cursor has; `None` where there is none.
 fn sequence_length(buffer: &hb_buffer_t) -> Option<usize> {
-    let infos = buffer.info();
+    length_of_sequence(buffer.info(), buffer.script)
+}
+
+/// How many characters the sequence of a script has that these begin with; `None` where there is none.
+#[inline]
+fn length_of_sequence(infos: &[hb_glyph_info_t], script: Option<Script>) -> Option<usize> {
     let first = char::from_u32(infos.first()?.glyph_id)?;
-    let second = infos.get(1)?.glyph_id;
-    if buffer.script != Some(first.script()) {
+    let second = infos.get(1)?;
+    if !is_mark(second) {
         return None;
     }
-    match third_vowel(first, second)? {
+    let third = third_vowel(first, second.glyph_id)?;
+    if script != Some(first.script()) {
+        return None;
+    }
+    match third {
         None => Some(2),
         Some(third) if infos.get(2)?.glyph_id == third as u32 => Some(3),
         Some(_) => None,
     }
+}
+
+/// Whether the character is a mark, as the second of each sequence is.
+fn is_mark(info: &hb_glyph_info_t) -> bool {
+    matches!(
+        general_category(info),
+        RB_UNICODE_GENERAL_CATEGORY_SPACING_MARK | RB_UNICODE_GENERAL_CATEGORY_NON_SPACING_MARK
+    )
 }
 
 /// Lets the last item that was put out begin a grapheme.

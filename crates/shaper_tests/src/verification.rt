@@ -2,7 +2,8 @@
 
 use crate::upright::UPRIGHT;
 use ot_shape::{Face, ShapeError, VerifyError, shape};
-use shaping_buffer::{BufferFlags, Direction, Flags, UnicodeBuffer};
+use shaping_buffer::{BufferFlags, Direction, Flags, GlyphBuffer, UnicodeBuffer, hb_buffer_t};
+use shaping_verification::{Original, ShapesParts, verify};
 use std::alloc::Global;
 use std::test::Fail;
 
@@ -20,14 +21,41 @@ fn verified() -> BufferFlags {
     BufferFlags::VERIFY.union(BufferFlags::PRODUCE_UNSAFE_TO_CONCAT)
 }
 
-/// A digit alone runs to the right, and behind a point of Hebrew it is turned round with it: so a text that is cut between the two
-/// has other glyphs. A cut behind a single character is not marked.
+/// Leaves parts as they are, with the numbers of characters in place of glyphs.
+#[derive(Clone, Copy, Drop)]
+struct Unshaped;
+
+impl ShapesParts for Unshaped {
+    fn shape(&self, buffer: hb_buffer_t) -> Result<GlyphBuffer, ShapeError> {
+        let mut buffer = buffer;
+        buffer.clear_positions();
+        Ok(GlyphBuffer::from_buffer(buffer))
+    }
+}
+
+/// Parts of a text that have other glyphs than the whole, which is not marked.
 #[test]
 fn a_text_that_is_not_safe_to_cut_is_told(rt: HostRuntime) -> Result<(), Fail> {
     let face = Face::parse(rt.alloc(), UPRIGHT, 0)?.ok_or("no font")?;
-    let mut buffer = text_of(rt.alloc(), "\u{5b0}1", Direction::LeftToRight)?;
+    let whole = text_of(rt.alloc(), "ab", Direction::LeftToRight)?;
+    let glyphs = shape(&face, &[], whole)?;
+    let buffer = text_of(rt.alloc(), "ab", Direction::LeftToRight)?.into_buffer();
+    let original = Original::of(rt.alloc(), &buffer)?;
+    let error = verify(rt.alloc(), &Unshaped, &original, &glyphs)
+        .err()
+        .ok_or("verified")?;
+    assert!(rt; error == ShapeError::Unverified(VerifyError::UnsafeToBreak));
+    Ok(())
+}
+
+/// Two jamo with a letter between them are clusters of their own, and side by side they are one. They are not marked as unsafe to
+/// concatenate.
+#[test]
+fn a_text_that_is_not_safe_to_put_together_is_told(rt: HostRuntime) -> Result<(), Fail> {
+    let face = Face::parse(rt.alloc(), UPRIGHT, 0)?.ok_or("no font")?;
+    let mut buffer = text_of(rt.alloc(), "\u{1100}a\u{1161}", Direction::LeftToRight)?;
     buffer.set_flags(verified());
     let error = shape(&face, &[], buffer).err().ok_or("verified")?;
-    assert!(rt; error == ShapeError::Unverified(VerifyError::UnsafeToBreak));
+    assert!(rt; error == ShapeError::Unverified(VerifyError::UnsafeToConcat));
     Ok(())
 }

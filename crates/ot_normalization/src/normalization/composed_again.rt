@@ -26,7 +26,7 @@ pub(crate) fn keep_composed_again<F: FontFunctions>(
 {
     if has_marks && script.shaper.normalization_mode() == NormalizationMode::Decomposed {
         let composing = Composing::new(font, script);
-        keep_tied(buffer, &composing, 1);
+        keep_tied(buffer, &composing);
     }
 }
 

@@ -104,3 +104,6 @@ pub(crate) static SEQUENCES: [(char, char, Option<char>); 100] = [
     ('\u{11680}', '\u{116b5}', None),
     ('\u{11686}', '\u{116b2}', None),
 ];
+
+/// A bit for each first character: that of its number, counted round.
+pub(crate) const FIRSTS: u64 = 0x800d1400001efee3;

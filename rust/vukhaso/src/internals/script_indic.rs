@@ -4,7 +4,7 @@
 //! Fonts for Devanagari Script" and its companions): HarfBuzz's `hb-ot-shaper-indic.cc`.
 
 pub use configuration::{IndicConfiguration, RephMode};
-pub use plan::{IndicMasks, IndicPlan};
+pub use plan::{ConsonantForms, IndicMasks, IndicPlan};
 
 mod base;
 pub mod composition;

@@ -5,7 +5,7 @@ use Rattle.ot_layout.proofs.context.fitting_rule.Goals as goal
 pub returns-in-3-clause-rule : goal.returns-in-3-clause-rule
 returns-in-3-clause-rule c =
     rw (context_rule-covered c.args.list.now.coverages.items c.args.subtable.now c.args.index c.args.is_chained c.args.ctx.now c.in-3.is)
-    (fits_by c.args.ctx.now _ _ c.covered_fit.ensures.rule)
+    (fits_by c.args.ctx.now _ _ _ c.covered_fit.ensures.rule)
 
 pub returns-in-3-clause-exact : goal.returns-in-3-clause-exact
 returns-in-3-clause-exact c chained next some =

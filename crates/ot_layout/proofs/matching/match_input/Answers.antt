@@ -1,7 +1,7 @@
-use Rattle.std.proofs.Common.{◌≡◌, true, false, arith, rules}
+use Rattle.std.proofs.Common.{◌≡◌, ◌∙◌, true, false, arith, rules}
 use Rattle.std.proofs.lemmas.Grind.{common_steps}
 use Rattle.ot_layout.specs.Match.{joins}
-use Rattle.ot_layout.proofs.MatchLemmas.{match_end-never, last_place-missing, last_place-apart, last_place-more}
+use Rattle.ot_layout.proofs.MatchLemmas.{match_end-never, last_place-missing, last_place-apart, last_place-more, match_places-more}
 use Rattle.ot_layout.proofs.matching.match_input.Goals as goal
 
 pub returns-in-Err-clause-misses : goal.returns-in-Err-clause-misses
@@ -19,6 +19,7 @@ pub loop-index-preserved : goal.loop-index-preserved
 loop-index-preserved c =
     let found = rw c.input_iterator-iterator.ensures at c.in-Ok.ensures.found in
     let joining : joins c.args.ctx.now c.in-Ok.next ≡ true = c.may_stand.ensures.joins c.if-not-may_stand.false in
+    let last = last_place-more _ _ _ _ _ c.loop-index.invariant.last found joining in
     record {
       within = search rules;
       spent = search rules;
@@ -26,7 +27,8 @@ loop-index-preserved c =
       inside = grind (arith, common_steps);
       count = search rules;
       places = grind (arith, common_steps);
-      last = last_place-more _ _ _ _ _ c.loop-index.invariant.last found joining;
+      last = last;
+      all = c.push-in-loop-index.ensures.items ∙ match_places-more _ _ _ _ _ last c.loop-index.invariant.all;
       leaves = search rules;
       first = grind (arith, common_steps);
       place = grind (arith, common_steps);

@@ -2,7 +2,7 @@ use Rattle.std.proofs.Common.{◌≡◌, ◌+◌, ◌<◌, length, All}
 use Rattle.arrayvec.specs.ArrayVec.{array_vec_len}
 use Rattle.std.specs.Prelude.{slice_index, Some, true}
 use Rattle.ot_layout.specs.Budget.{IsNotMore}
-use Rattle.ot_layout.specs.Match.{last_place, may_leave}
+use Rattle.ot_layout.specs.Match.{last_place, match_places, may_leave}
 use Rattle.ot_layout.specs.SkippingIterator.{glyph_at}
 use Rattle.ot_layout.specs.Rule.{AreMatchPositions, input_iterator, sequence_matcher}
 use Rattle.ot_layout.proofs.matching.match_input.Given as goal
@@ -16,6 +16,7 @@ invariant-loop-index l = record {
   count : array_vec_len l.search.places ≡ l.index + 1;
   places : AreMatchPositions (input_iterator l.ctx) (sequence_matcher l.part) l.ctx.input.now l.index l.search.places.items;
   last : last_place l.ctx (sequence_matcher l.part) l.index ≡ Some l.place;
+  all : l.search.places.items ≡ match_places l.ctx (sequence_matcher l.part) l.index;
   leaves : l.may_leave ≡ true → may_leave l.ctx (glyph_at l.ctx.input.now 0) ≡ true;
   first : slice_index l.search.places.items 0 ≡ 0;
   place : slice_index l.search.places.items l.index ≡ l.place;

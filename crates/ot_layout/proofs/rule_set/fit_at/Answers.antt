@@ -34,4 +34,4 @@ returns-clause-rule c =
     let rule = sym c.rule_in-2.ensures ∙ ap (option_map pattern_of) c.in_ok-rule.was in
     let next = sym (c.requires.neighbours p) ∙ (sym c.may_fit.ensures ∙ c.if-not-may_fit.false) in
     rules_fit c.args.ctx.now c.args.rules.now.is_chained c.args.rules.now.match_functions
-    c.args.rules.now.table.now _ c.args.index p c.fit.result table rule next c.fit.ensures.is
+    c.args.rules.now.table.now _ c.args.index p _ c.fit.result table rule next c.fit.ensures.is

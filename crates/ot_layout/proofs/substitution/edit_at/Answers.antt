@@ -11,29 +11,29 @@ loop-subtable-preserved c =
     elim c.if-may_be_for.branch [
       | then-may_be_for+else-not-pay+else-is_some w ↦ record {
         spent = search rules;
-        first = λ some edit rest.
+        first = λ some places edit rest.
             let left = subst (λ (x : Search). 0 < x.budget.steps) w.search-is some in
             let missed = sym w.is_some.ensures ∙ w.if-is_some.false in
-            let none = no_edit _ _ _ _ _ _ (w.edit_of-edit.ensures.is left) missed in
-            c.loop-subtable.invariant.first (omega (arith, left)) edit
-            (next edit c.loop-subtable-test.true c.subtable-item.is none rest);
+            let none = no_edit _ _ _ _ _ _ _ (w.edit_of-edit.ensures.is left) missed in
+            c.loop-subtable.invariant.first (omega (arith, left)) places edit
+            (next places edit c.loop-subtable-test.true c.subtable-item.is none rest);
       }
       | else-may_be_for w ↦ record {
         spent = search rules;
-        first = λ some edit rest.
+        first = λ some places edit rest.
             let left = subst (λ (x : Search). 0 < x.budget.steps) w.search-is some in
             let none = uncovered_by c.args.list.now.coverages.items c.args.options.now c.args.ctx.now c.args.is_nested c.subtable-item.result
             (λ has. let may = c.may_be_for.ensures has in let not = w.if-may_be_for.false in cc) in
-            c.loop-subtable.invariant.first left edit
-            (next edit c.loop-subtable-test.true c.subtable-item.is none rest);
+            c.loop-subtable.invariant.first left places edit
+            (next places edit c.loop-subtable-test.true c.subtable-item.is none rest);
       }
     ]
 
 pub returns-then-is_some-clause-first : goal.returns-then-is_some-clause-first
 returns-then-is_some-clause-first c some =
     let has = sym c.is_some.ensures ∙ c.if-is_some.true in
-    let first = c.loop-subtable.invariant.first (omega (arith, some)) c.edit_of-edit.result
-    (first_here _ _ _ _ _ _ c.subtable-item.result _ c.loop-subtable-test.true c.subtable-item.is has (c.edit_of-edit.ensures.is some)) in
+    let first = c.loop-subtable.invariant.first (omega (arith, some)) _ c.edit_of-edit.result
+    (first_here _ _ _ _ _ _ c.subtable-item.result _ _ c.loop-subtable-test.true c.subtable-item.is has (c.edit_of-edit.ensures.is some)) in
     rw c.subtables_of-subtables.ensures at first
 
 pub edit_of-edit-requires-clause-next : goal.edit_of-edit-requires-clause-next

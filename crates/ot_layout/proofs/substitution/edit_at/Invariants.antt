@@ -1,4 +1,4 @@
-use Rattle.std.proofs.Common.{◌<◌, Option, drop}
+use Rattle.std.proofs.Common.{ℕ, ◌<◌, List, Option, drop}
 use Rattle.ot_layout.specs.Budget.{IsNotMore}
 use Rattle.ot_layout.specs.FirstEdit.{IsFirstEdit}
 use Rattle.ot_layout.specs.declared.substitution.Edit.{Edit}
@@ -8,7 +8,7 @@ use Rattle.ot_layout.proofs.substitution.edit_at.Given as goal
 abbrev pub invariant-loop-subtable : goal.invariant-loop-subtable
 invariant-loop-subtable l = record {
   spent : IsNotMore l.fn.search.budget l.search.budget;
-  first : 0 < l.search.budget.steps → (edit : Option Edit)
-      → IsFirstEdit l.list.coverages.items l.options l.ctx l.is_nested (drop l.subtable-index l.subtables) edit
-      → IsFirstEdit l.list.coverages.items l.options l.ctx l.is_nested l.subtables edit;
+  first : 0 < l.search.budget.steps → (places : List ℕ) (edit : Option Edit)
+      → IsFirstEdit l.list.coverages.items l.options l.ctx l.is_nested (drop l.subtable-index l.subtables) places edit
+      → IsFirstEdit l.list.coverages.items l.options l.ctx l.is_nested l.subtables places edit;
 }

@@ -12,4 +12,5 @@ pub returns-in-Ok-clause-exact : goal.returns-in-Ok-clause-exact
 returns-in-Ok-clause-exact c some =
     let glyph = sym c.u16_at.ensures ∙ c.in_ok-glyph.was in
     let count = sym c.u16_at-2.ensures ∙ c.in_ok-count.was in
-    sym (ligature_of-match _ _ _ _ _ glyph count (omega arith) (rw c.tail.ensures at c.in-Ok.ensures.fits))
+    sym (ligature_of-match _ _ _ _ _ _ glyph count (omega arith) (rw c.tail.ensures at c.in-Ok.ensures.fits)
+    (rw c.tail.ensures at c.in-Ok.ensures.all))

@@ -4,11 +4,14 @@
 
 use crate::buffer::{hb_buffer_t, hb_glyph_info_t};
 use crate::font_face::Face;
-use crate::ot_layout::lookup_list::Lookup;
+use crate::ot_layout::lookup_list::{Lookup, SUBSTITUTION_EXTENSION};
 use crate::ot_map::PlannedLookup;
 use crate::ot_plan::TextPlan;
 use crate::script_shapers::SyllablePlan;
 use crate::script_universal::{FormLookup, FormMasks, flag_forms};
+
+/// The kind of a lookup of ligatures. Those above it up to extensions take several glyphs too, or may do.
+const LIGATURES: u16 = 4;
 
 /// A lookup, and the bits of its features.
 #[derive(Clone, Copy)]
@@ -26,7 +29,14 @@ impl FormLookup for MaskedLookup<'_> {
 /// Whether a lookup with these bits of its features is for a glyph, and is so with only one of the
 /// masks: the glyph's own, and another.
 fn is_parted(lookup: &Lookup<'_>, bits: u32, glyph: &hb_glyph_info_t, other: u32) -> bool {
-    is_in_one(bits, glyph.mask, other) && lookup.is_for(u32::MAX, glyph)
+    is_in_one(bits, glyph.mask, other)
+        && (lookup.is_for(u32::MAX, glyph) || may_follow(lookup, glyph))
+}
+
+/// Whether a glyph may be another than the first of those that a lookup takes together.
+fn may_follow(lookup: &Lookup<'_>, glyph: &hb_glyph_info_t) -> bool {
+    matches!(lookup.lookup_type, LIGATURES..=SUBSTITUTION_EXTENSION)
+        && !lookup.lookup_props.passes_over(glyph)
 }
 
 /// Whether bits are in only one of two masks.

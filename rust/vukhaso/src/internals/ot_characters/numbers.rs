@@ -18,8 +18,7 @@ pub(crate) fn are_numbers(infos: &[hb_glyph_info_t]) -> bool {
 }
 
 /// Marks as unsafe to break where a part of such a line would run otherwise than the whole: numbers
-/// without the letters that turn them, and other characters without the numbers that keep them. One
-/// character alone is the same both ways.
+/// without the letters that turn them, and other characters without the numbers that keep them.
 ///
 /// # Requires
 ///
@@ -36,7 +35,7 @@ pub fn keep_numbers(buffer: &mut hb_buffer_t) {
     debug_assert!(!buffer.have_output());
     if is_against_script(buffer) {
         let is_turned = !are_numbers(buffer.info());
-        keep_tied(buffer, &LineOfNumbers { is_turned }, 2);
+        keep_tied(buffer, &LineOfNumbers { is_turned });
     }
 }
 

@@ -13,6 +13,7 @@ use crate::ot_characters::glyph_info::{
     is_regional_indicator, is_same_grapheme, is_zwj, set_continuation,
 };
 use crate::ot_characters::numbers::{are_numbers, is_against_script};
+use crate::ot_characters::turned_contexts::keep_turned_contexts;
 use crate::ot_normalization::allows_any_order;
 use crate::ot_normalization::glyph_info::{
     general_category, is_continuation, is_unicode_mark, set_unicode_props,
@@ -252,14 +253,41 @@ fn form_cluster(buffer: &mut hb_buffer_t, start: usize, end: usize, merges: bool
 #[inline]
 pub fn ensure_native_direction(buffer: &mut hb_buffer_t) -> bool {
     debug_assert!(!buffer.have_output());
-    let direction = buffer.direction;
-    let native = native_direction(buffer);
-    let is_against = direction.is_horizontal() && native.is_some_and(|native| native != direction)
-        || direction.is_vertical() && direction != Direction::TopToBottom;
+    let is_against = is_to_be_turned(buffer);
     if is_against {
-        reverse_graphemes(buffer, direction.reverse());
+        let direction = buffer.direction.reverse();
+        reverse_graphemes(buffer, direction);
     }
     is_against
+}
+
+/// Marks as unsafe to break where a text that runs against its script would be shaped otherwise by
+/// contexts, which are not reversed with it.
+///
+/// # Requires
+///
+/// - `buffer.old.have_output ≡ false`
+///
+/// # Proved
+///
+/// ```text
+/// ensures closed { buffer.new.have_output ≡ false }
+/// ensures keeps { KeepsClusters buffer.old buffer.new }
+/// ```
+#[inline]
+pub fn keep_contexts(buffer: &mut hb_buffer_t) {
+    debug_assert!(!buffer.have_output());
+    if is_to_be_turned(buffer) {
+        keep_turned_contexts(buffer);
+    }
+}
+
+/// Whether the text runs against its script.
+fn is_to_be_turned(buffer: &hb_buffer_t) -> bool {
+    let direction = buffer.direction;
+    let native = native_direction(buffer);
+    direction.is_horizontal() && native.is_some_and(|native| native != direction)
+        || direction.is_vertical() && direction != Direction::TopToBottom
 }
 
 /// Puts the graphemes into reverse order, each in its own order, so that the text runs in this

@@ -196,13 +196,14 @@ fn apply_fit(
     let out_len = buffer.out_len();
     let mut matched = Matched::new(&progress.search.places, fit.end, out_len);
     for index in 0..usize::from(fit.record_count) {
-        let Some(record) = fit.record(index) else {
+        let found = fit.record(index);
+        let Some(lookup_record) = found else {
             break;
         };
         match apply_record(
             buffer,
             substitutions,
-            &record,
+            &lookup_record,
             &mut matched,
             progress,
             depth,
@@ -278,7 +279,7 @@ enum Turn {
 fn apply_record(
     buffer: &mut hb_buffer_t,
     substitutions: &Substitutions,
-    record: &SequenceLookupRecord,
+    lookup_record: &SequenceLookupRecord,
     matched: &mut Matched,
     progress: &mut Progress,
     depth: u32,
@@ -288,7 +289,7 @@ fn apply_record(
     if !progress.search.budget.pay(1) {
         return Ok(Turn::Enough);
     }
-    let Some(place) = matched.place(record.sequence_index) else {
+    let Some(place) = matched.place(lookup_record.sequence_index) else {
         return Ok(Turn::On);
     };
     if place >= before {
@@ -301,10 +302,15 @@ fn apply_record(
     if !buffer.move_to(place)? {
         return Ok(Turn::Refused);
     }
-    match apply_other(buffer, substitutions, record.lookup, progress, depth)? {
+    match apply_other(buffer, substitutions, lookup_record.lookup, progress, depth)? {
         Step::Passed => Ok(Turn::On),
         Step::Refused => Ok(Turn::Refused),
-        Step::Applied => Ok(follow(buffer, matched, record.sequence_index, before)),
+        Step::Applied => Ok(follow(
+            buffer,
+            matched,
+            lookup_record.sequence_index,
+            before,
+        )),
     }
 }
 

@@ -71,7 +71,8 @@ impl<'a> Fit<'a> {
 /// ensures spent { IsNotMore search.old.budget search.new.budget }
 /// ensures fits { IfSome result (IsFitWithin (length ctx.now.out.now) (length ctx.now.input.now)) }
 /// ensures rule { IfSome result
-///     (IsFitBy ctx.now (context_rule list.now.coverages.items subtable.now index is_chained ctx.now)) }
+///     (IsFitBy ctx.now (context_rule list.now.coverages.items subtable.now index is_chained ctx.now)
+///     search.new.places.items) }
 /// ensures exact { is_chained ≡ is_chained_type subtable.now.lookup_type
 ///     → IsNextOf list.now.coverages.items subtable.now → 0 < search.new.budget.steps
 ///     → is_some result ≡ is_some (context_rule list.now.coverages.items subtable.now index is_chained ctx.now) }

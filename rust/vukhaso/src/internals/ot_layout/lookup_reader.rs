@@ -9,7 +9,9 @@ use crate::font_tables::gdef::Gdef;
 use crate::memory::{AllocError, Vec};
 use crate::ot_layout::digest::Digest;
 use crate::ot_layout::formats::has_format;
-use crate::ot_layout::known::{Known, Summed, coverage_of, make_room, quick_coverage, summed_of};
+use crate::ot_layout::known::{
+    Known, Summed, known_at, make_room, quick_coverage, read_coverage, size_of, summed_of,
+};
 use crate::ot_layout::lookup_list::{Lookup, POSITIONING_EXTENSION};
 use crate::ot_layout::lookup_props::LookupProps;
 use crate::ot_layout::reading::{
@@ -289,7 +291,7 @@ impl<'a> LookupReader<'a> {
     fn coverage_if(&mut self, is_there: bool, table: &'a [u8], at: usize) -> Coverage<'a> {
         if is_there {
             let table = table_or_empty(table, at);
-            if self.pay_for(table) {
+            if self.pay(size_of(table)) {
                 return quick_coverage(table);
             }
         }
@@ -307,9 +309,22 @@ impl<'a> LookupReader<'a> {
 
     /// The coverage in these bytes, or one that covers nothing where there is no room, or it is slow to
     /// ask.
+    #[inline(always)]
     fn coverage(&mut self, table: &'a [u8]) -> Coverage<'a> {
-        if self.pay_for(table) {
-            coverage_of(&mut self.known, table)
+        if let Some(known) = known_at(&self.known, table) {
+            if known.size <= self.room {
+                self.room -= known.size;
+                return known.coverage;
+            }
+        }
+        self.read_coverage(table)
+    }
+
+    /// The same, where it is read.
+    #[inline(never)]
+    fn read_coverage(&mut self, table: &'a [u8]) -> Coverage<'a> {
+        if self.pay(size_of(table)) {
+            read_coverage(&mut self.known, table)
         } else {
             Coverage::new(&[])
         }
@@ -317,7 +332,7 @@ impl<'a> LookupReader<'a> {
 
     /// The same coverage, with the summaries of its glyphs.
     fn summed(&mut self, table: &'a [u8]) -> Summed<'a> {
-        if self.pay_for(table) {
+        if self.pay(size_of(table)) {
             summed_of(&mut self.known, table)
         } else {
             Summed::none()
@@ -331,12 +346,6 @@ impl<'a> LookupReader<'a> {
         } else {
             ClassDefinition::new(&[])
         }
-    }
-
-    /// Whether a coverage may be read.
-    fn pay_for(&mut self, table: &[u8]) -> bool {
-        let size = if u16_at(table, 0) == Some(1) { 2 } else { 6 };
-        self.pay(4 + size * count_at(table, 2))
     }
 
     /// Whether a table of classes may be read: its ranges are gone through, and a list of classes is not.

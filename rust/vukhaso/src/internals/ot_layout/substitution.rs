@@ -71,7 +71,7 @@ pub struct Ligation {
 /// ensures spent { IsNotMore search.old.budget search.new.budget }
 /// ensures first { 0 < search.new.budget.steps
 ///     → IsFirstEdit list.now.coverages.items options.now ctx.now is_nested
-///     (subtables_of list.now.subtables.items lookup.now) result }
+///     (subtables_of list.now.subtables.items lookup.now) search.new.places.items result }
 /// ```
 #[inline]
 pub fn edit_at<'a>(

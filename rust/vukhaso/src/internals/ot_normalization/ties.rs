@@ -25,9 +25,8 @@ pub trait Ties {
     fn tie_of(&self, infos: &[hb_glyph_info_t], place: usize) -> Tie;
 }
 
-/// Marks as unsafe to break where a part of at least so many characters would have some that hang on
-/// anchors, and no anchor: from the first of them up to the first anchor, and from the last anchor up
-/// to the last of them.
+/// Marks as unsafe to break where a part would have characters that hang on anchors, and no anchor:
+/// from the first of them up to the first anchor, and from the last anchor up to the last of them.
 ///
 /// # Requires
 ///
@@ -42,10 +41,10 @@ pub trait Ties {
 /// ensures keeps { KeepsClusters buffer.old buffer.new }
 /// ```
 #[inline]
-pub fn keep_tied<T: Ties>(buffer: &mut hb_buffer_t, ties: &T, least: usize) {
+pub fn keep_tied<T: Ties>(buffer: &mut hb_buffer_t, ties: &T) {
     debug_assert!(!buffer.have_output());
-    keep_first(buffer, ties, least);
-    keep_last(buffer, ties, least);
+    keep_first(buffer, ties);
+    keep_last(buffer, ties);
 }
 
 /// Marks what lies between the first character that hangs on the first anchor, and that.
@@ -53,10 +52,10 @@ pub fn keep_tied<T: Ties>(buffer: &mut hb_buffer_t, ties: &T, least: usize) {
 /// # Requires
 ///
 /// - `buffer.old.have_output ≡ false`
-fn keep_first<T: Ties>(buffer: &mut hb_buffer_t, ties: &T, least: usize) {
+fn keep_first<T: Ties>(buffer: &mut hb_buffer_t, ties: &T) {
     debug_assert!(!buffer.have_output());
     if let Some((first, anchor)) = first_tied(buffer.info(), ties) {
-        keep_together(buffer, first.max(least.saturating_sub(1)), anchor);
+        keep_together(buffer, first, anchor);
     }
 }
 
@@ -65,11 +64,10 @@ fn keep_first<T: Ties>(buffer: &mut hb_buffer_t, ties: &T, least: usize) {
 /// # Requires
 ///
 /// - `buffer.old.have_output ≡ false`
-fn keep_last<T: Ties>(buffer: &mut hb_buffer_t, ties: &T, least: usize) {
+fn keep_last<T: Ties>(buffer: &mut hb_buffer_t, ties: &T) {
     debug_assert!(!buffer.have_output());
     if let Some((anchor, last)) = last_tied(buffer.info(), ties) {
-        let most = buffer.len().saturating_sub(least);
-        keep_together(buffer, anchor, last.min(most));
+        keep_together(buffer, anchor, last);
     }
 }
 

@@ -244,6 +244,34 @@ fn hide_all(buffer: &mut hb_buffer_t) {
     hide_default_ignorables(buffer);
 }
 
+/// Marks all clusters but the least as unsafe to break where shaping was given up: parts of the text,
+/// each with a budget of its own, may be shaped further.
+///
+/// # Requires
+///
+/// Positions, and that no output is open.
+///
+/// - `closed: buffer.old.have_output ≡ false`
+/// - `placed: IsSome buffer.old.positions`
+///
+/// # Proved
+///
+/// ```text
+/// ensures is { buffer.new
+///     ≡ (if buffer.old.shaping_failed then step.unsafe_to_break None None buffer.old else buffer.old) }
+/// ensures closed { buffer.new.have_output ≡ false }
+/// ensures placed { IsSome buffer.new.positions }
+/// ensures keeps { KeepsClusters buffer.old buffer.new }
+/// ```
+#[inline]
+pub fn mark_given_up(buffer: &mut hb_buffer_t) {
+    debug_assert!(!buffer.have_output());
+    debug_assert!(buffer.have_positions());
+    if buffer.shaping_failed {
+        buffer.unsafe_to_break(None, None);
+    }
+}
+
 /// Gives all glyphs of a cluster the same glyph flags, and takes away those that the buffer was not
 /// asked for.
 ///

@@ -181,6 +181,7 @@ pub fn position_marks<F: FontFunctions>(
 ) -> Result<(), AllocError> {
     debug_assert!(!buffer.have_output());
     debug_assert!(buffer.have_positions());
+    mark_baseless(buffer);
     let line = line_of(buffer, direction, face.scale.y / 16);
     let mut start = 0;
     for _turn in 0..buffer.len() {
@@ -192,6 +193,28 @@ pub fn position_marks<F: FontFunctions>(
         start = end;
     }
     Ok(())
+}
+
+/// Marks those that begin the text, and have no base, as unsafe to concatenate: behind another text
+/// they might have one.
+///
+/// # Requires
+///
+/// - `closed: buffer.old.have_output ≡ false`
+/// - `placed: IsSome buffer.old.positions`
+fn mark_baseless(buffer: &mut hb_buffer_t) {
+    debug_assert!(!buffer.have_output());
+    debug_assert!(buffer.have_positions());
+    let end = first_marks(buffer.info());
+    buffer.unsafe_to_concat(Some(0), Some(end));
+}
+
+/// How many marks begin a text.
+fn first_marks(infos: &[hb_glyph_info_t]) -> usize {
+    infos
+        .iter()
+        .take_while(|info| is_unicode_mark(info))
+        .count()
 }
 
 /// Says that the text is not to be broken between these places.

@@ -11,17 +11,18 @@ use crate::font_functions::{FontFunctions, OwnFunctions};
 use crate::memory::AllocError;
 use crate::ot_apply::{Step, Unwatched, Watch, position, set_masks, substitute};
 use crate::ot_characters::{
-    ensure_native_direction, form_clusters, insert_dotted_circle, keep_numbers, rotate_characters,
-    set_direction, set_properties,
+    ensure_native_direction, form_clusters, insert_dotted_circle, keep_contexts, keep_numbers,
+    rotate_characters, set_direction, set_properties,
 };
 use crate::ot_gsub::substitute_start;
 use crate::ot_normalization::normalize;
 use crate::ot_plan::{FaceGlyphs, TextPlan, plan_of_text};
 use crate::ot_positions::{
-    hide_ignorables, propagate_flags, recategorize_marks, share_flags, show_variation_selectors,
+    hide_ignorables, mark_given_up, propagate_flags, recategorize_marks, share_flags,
+    show_variation_selectors,
 };
 use crate::ot_shape::verified::shape_verified;
-use crate::script_shapers::ScriptPlan;
+use crate::script_shapers::{ScriptPlan, ScriptShaper};
 use crate::verification::ShapeError;
 
 /// Shapes a text by a font: finds a glyph for each of its characters, and says where each is drawn. A
@@ -377,6 +378,7 @@ fn finish_glyphs<F: FontFunctions>(
     if !stretch_marks(buffer, face, font, &plan.script)? {
         return Ok(false);
     }
+    mark_given_up(buffer);
     propagate_flags(buffer);
     Ok(true)
 }
@@ -440,7 +442,23 @@ fn begin_characters<F: FontFunctions>(
     }
     form_clusters(buffer);
     keep_numbers(buffer);
+    keep_joining(buffer, plan.script.shaper);
     Ok(true)
+}
+
+/// Marks what may not be broken where letters join, for the contexts of a text that is turned.
+///
+/// # Requires
+///
+/// - `buffer.old.have_output ≡ false`
+fn keep_joining(buffer: &mut hb_buffer_t, shaper: ScriptShaper) {
+    debug_assert!(!buffer.have_output());
+    if matches!(
+        shaper,
+        ScriptShaper::Arabic | ScriptShaper::UniversalJoining
+    ) {
+        keep_contexts(buffer);
+    }
 }
 
 /// Prepares the characters by their script, and finds a glyph for each.

@@ -5,7 +5,7 @@
 use crate::common::{Script, Tag};
 use crate::memory::AllocError;
 use crate::ot_map::{FeatureFlags, LayoutPlan, Pause, PlanBuilder};
-use crate::script_indic::plan::{IndicMasks, IndicPlan};
+use crate::script_indic::plan::{ConsonantForms, IndicMasks, IndicPlan};
 use crate::script_syllables::requests::{add_all, add_in_stages};
 
 /// The basic features, each in a stage of its own, and whether every glyph has it.
@@ -101,5 +101,17 @@ pub fn plan(script: Option<Script>, layout: &LayoutPlan) -> IndicPlan {
         pstf: mask(b"pstf"),
         init: mask(b"init"),
     };
-    IndicPlan::new(script, layout.gsub_script, masks)
+    let forms = ConsonantForms {
+        pref: has_lookups(layout, b"pref"),
+        blwf: has_lookups(layout, b"blwf"),
+        pstf: has_lookups(layout, b"pstf"),
+        vatu: has_lookups(layout, b"vatu"),
+    };
+    IndicPlan::new(script, layout.gsub_script, masks, forms)
+}
+
+/// Whether the font has lookups for a feature.
+fn has_lookups(layout: &LayoutPlan, name: &[u8; 4]) -> bool {
+    let places = layout.stage_places(Tag::from_bytes(name));
+    places.start < places.end
 }

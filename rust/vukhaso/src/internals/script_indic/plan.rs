@@ -38,6 +38,19 @@ pub struct IndicMasks {
     pub init: u32,
 }
 
+/// Which forms of consonants a font has lookups for.
+#[derive(Clone, Copy, PartialEq, Eq, Debug, Default)]
+pub struct ConsonantForms {
+    /// Those of a RA that stands before its base.
+    pub pref: bool,
+    /// Those below the base.
+    pub blwf: bool,
+    /// Those behind the base.
+    pub pstf: bool,
+    /// Those with a RA below them.
+    pub vatu: bool,
+}
+
 /// How a text of an Indic script is shaped by a font.
 #[derive(Clone, Copy, PartialEq, Eq, Debug)]
 pub struct IndicPlan {
@@ -49,6 +62,8 @@ pub struct IndicPlan {
     pub is_old_spec: bool,
     /// The masks.
     pub masks: IndicMasks,
+    /// The forms of consonants, of which the font is asked only where it has them.
+    pub forms: ConsonantForms,
 }
 
 impl IndicPlan {
@@ -59,13 +74,19 @@ impl IndicPlan {
     ///
     /// That it returns.
     #[inline]
-    pub fn new(script: Option<Script>, gsub_script: Tag, masks: IndicMasks) -> IndicPlan {
+    pub fn new(
+        script: Option<Script>,
+        gsub_script: Tag,
+        masks: IndicMasks,
+        forms: ConsonantForms,
+    ) -> IndicPlan {
         let configuration = IndicConfiguration::of(script);
         IndicPlan {
             script,
             configuration,
             is_old_spec: configuration.has_old_spec && gsub_script.to_bytes()[3] != b'2',
             masks,
+            forms,
         }
     }
 

@@ -9,7 +9,7 @@ use crate::script_indic::base::{Base, find_base};
 use crate::script_indic::initial_masks::{mask_pref, set_masks};
 use crate::script_indic::initial_order::set_positions;
 use crate::script_indic::item::{is_halant, is_one};
-use crate::script_indic::plan::{BROKEN, IndicPlan};
+use crate::script_indic::plan::{BROKEN, ConsonantForms, IndicPlan};
 use crate::script_indic::sorting::sort_syllable;
 use crate::script_syllables::clusters::merge;
 use crate::script_syllables::dotted_circle::{CircleKind, insert_dotted_circles};
@@ -42,7 +42,7 @@ pub(crate) fn order_initially<F: FontForms>(
 ) -> Result<bool, AllocError> {
     debug_assert!(!buffer.have_output());
     if let Some(virama) = plan.virama_glyph(font) {
-        place_consonants(buffer, font, virama);
+        place_consonants(buffer, plan.forms, font, virama);
     }
     if !insert_dotted_circles(buffer, font, CIRCLE)? {
         return Ok(false);
@@ -86,16 +86,26 @@ fn is_reordered(kind: u8) -> bool {
 /// # Requires
 ///
 /// - `buffer.old.have_output ≡ false`
-fn place_consonants<F: FontForms>(buffer: &mut hb_buffer_t, font: &mut F, virama: u32) {
+fn place_consonants<F: FontForms>(
+    buffer: &mut hb_buffer_t,
+    forms: ConsonantForms,
+    font: &mut F,
+    virama: u32,
+) {
     debug_assert!(!buffer.have_output());
-    place_all(buffer.info_slice_mut(), font, virama);
+    place_all(buffer.info_slice_mut(), forms, font, virama);
 }
 
 /// Does that in a list.
-fn place_all<F: FontForms>(infos: &mut [hb_glyph_info_t], font: &mut F, virama: u32) {
+fn place_all<F: FontForms>(
+    infos: &mut [hb_glyph_info_t],
+    forms: ConsonantForms,
+    font: &mut F,
+    virama: u32,
+) {
     for place in 0..infos.len() {
         if position(&infos[place]) == Position::Base {
-            let own = consonant_position(font, infos[place].glyph_id, virama);
+            let own = consonant_position(forms, font, infos[place].glyph_id, virama);
             set_position(&mut infos[place], own);
         }
     }
@@ -103,12 +113,19 @@ fn place_all<F: FontForms>(infos: &mut [hb_glyph_info_t], font: &mut F, virama: 
 
 /// The position of a consonant by its forms: the font may have rules with the halant before it, as the
 /// new specification wants, or behind it, as the old one does.
-fn consonant_position<F: FontForms>(font: &mut F, consonant: u32, virama: u32) -> Position {
+fn consonant_position<F: FontForms>(
+    forms: ConsonantForms,
+    font: &mut F,
+    consonant: u32,
+    virama: u32,
+) -> Position {
     let glyphs = [virama, consonant, virama];
-    if has_form(font, FormFeature::Blwf, &glyphs) || has_form(font, FormFeature::Vatu, &glyphs) {
+    if forms.blwf && has_form(font, FormFeature::Blwf, &glyphs)
+        || forms.vatu && has_form(font, FormFeature::Vatu, &glyphs)
+    {
         Position::Below
-    } else if has_form(font, FormFeature::Pstf, &glyphs)
-        || has_form(font, FormFeature::Pref, &glyphs)
+    } else if forms.pstf && has_form(font, FormFeature::Pstf, &glyphs)
+        || forms.pref && has_form(font, FormFeature::Pref, &glyphs)
     {
         Position::Post
     } else {

@@ -6,7 +6,7 @@
 mod rows;
 
 use crate::glyph::row_search::row_at;
-use rows::SEQUENCES;
+use rows::{FIRSTS, SEQUENCES};
 
 /// The third character of the sequence that begins with these two: `Some(None)` where the two are all
 /// of it, `None` where no sequence begins with them.
@@ -16,6 +16,9 @@ use rows::SEQUENCES;
 /// That it returns.
 #[inline]
 pub fn third_vowel(first: char, second: u32) -> Option<Option<char>> {
+    if FIRSTS >> (first as u32 % 64) & 1 == 0 {
+        return None;
+    }
     row_at(&SEQUENCES, |row| {
         (row.0 as u32, row.1 as u32).cmp(&(first as u32, second))
     })

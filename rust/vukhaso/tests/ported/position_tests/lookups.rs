@@ -150,155 +150,20 @@ fn is_unsafe(buffer: &hb_buffer_t, place: usize) -> bool {
     }
 }
 
-/// A lookup over a line: the advance and the offsets of glyphs at some places, and whether the line may not be broken before them.
-struct Case {
-    name: &'static str,
-    kind: u16,
-    flag: u16,
-    subtable: &'static [u16],
-    direction: Direction,
-    glyphs: &'static [u32],
-    places: &'static [(usize, i32, i32, i32)],
-    breaks: &'static [(usize, bool)],
-}
-
-const CLASSES: &[u16] = &[
-    2, 20, 4, 0, 26, 32, 1, 2, 0, 0xFFCE, 1, 1, 10, 1, 0, 0, 1, 11, 1, 1,
-];
-
-const MARKS: &[u16] = &[
-    1, 12, 18, 1, 24, 36, 1, 1, 20, 1, 1, 10, 1, 0, 6, 1, 100, 200, 1, 4, 1, 300, 500,
-];
-
-const ANCHORS: &[u16] = &[1, 14, 2, 0, 22, 28, 0, 1, 2, 10, 11, 1, 500, 100, 1, 50, 20];
-
-static CASES: [Case; 8] = [
-    Case {
-        name: "the second glyph of a pair",
-        kind: 2,
-        flag: 0,
-        subtable: &[
-            1, 12, 4, 1, 1, 18, 1, 1, 10, 2, 11, 0xFFCE, 7, 12, 0xFFC4, 8,
-        ],
-        direction: Direction::LeftToRight,
-        glyphs: &[10, 12, 10, 11],
-        places: &[
-            (0, 540, 0, 0),
-            (1, 600, 8, 0),
-            (2, 550, 0, 0),
-            (3, 600, 7, 0),
-        ],
-        breaks: &[(0, false), (1, true), (3, true)],
-    },
-    Case {
-        name: "kerning by classes",
-        kind: 2,
-        flag: 8,
-        subtable: CLASSES,
-        direction: Direction::LeftToRight,
-        glyphs: &[10, 11, 10, 12, 10, 20, 11],
-        places: &[
-            (0, 550, 0, 0),
-            (1, 600, 0, 0),
-            (2, 600, 0, 0),
-            (4, 550, 0, 0),
-        ],
-        breaks: &[(1, true), (3, false), (6, true)],
-    },
-    Case {
-        name: "kerning by classes in a line that runs down",
-        kind: 2,
-        flag: 8,
-        subtable: CLASSES,
-        direction: Direction::TopToBottom,
-        glyphs: &[10, 11],
-        places: &[(0, 600, 0, 0)],
-        breaks: &[(1, false)],
-    },
-    Case {
-        name: "kerning by glyphs",
-        kind: 2,
-        flag: 0,
-        subtable: &[1, 12, 4, 0, 1, 18, 1, 1, 10, 2, 11, 0xFFCE, 12, 20],
-        direction: Direction::LeftToRight,
-        glyphs: &[10, 12, 10, 11, 10, 13],
-        places: &[(0, 620, 0, 0), (2, 550, 0, 0), (4, 600, 0, 0)],
-        breaks: &[(3, true), (5, false)],
-    },
-    Case {
-        name: "marks on their base",
-        kind: 4,
-        flag: 0,
-        subtable: MARKS,
-        direction: Direction::LeftToRight,
-        glyphs: &[10, 20, 20],
-        places: &[(1, 0, -400, 300), (2, 0, -400, 300)],
-        breaks: &[],
-    },
-    Case {
-        name: "a mark on its base in a line that runs to the left",
-        kind: 4,
-        flag: 0,
-        subtable: MARKS,
-        direction: Direction::RightToLeft,
-        glyphs: &[10, 20],
-        places: &[(1, 0, 200, 300)],
-        breaks: &[],
-    },
-    Case {
-        name: "an exit meets an entry",
-        kind: 3,
-        flag: 0,
-        subtable: ANCHORS,
-        direction: Direction::LeftToRight,
-        glyphs: &[10, 11],
-        places: &[(0, 500, 0, 0), (1, 550, -50, 80)],
-        breaks: &[],
-    },
-    Case {
-        name: "an exit meets an entry, and the last glyph stands on the line",
-        kind: 3,
-        flag: 1,
-        subtable: ANCHORS,
-        direction: Direction::RightToLeft,
-        glyphs: &[10, 11],
-        places: &[(0, 100, -500, -80), (1, 50, 0, 0)],
-        breaks: &[],
-    },
-];
-
-/// Asserts the advance and the offsets at these places.
-///
-/// # Requires
-///
-/// - `IsSome buffer.now.positions`
-fn assert_places(name: &str, buffer: &hb_buffer_t, places: &[(usize, i32, i32, i32)]) {
-    debug_assert!(buffer.have_positions());
-    for (place, advance, x, y) in places {
-        assert!(at(buffer, *place) == (*advance, *x, *y), "{name}");
-    }
-}
-
-/// Asserts whether a line may not be broken before these glyphs.
-fn assert_breaks(name: &str, buffer: &hb_buffer_t, breaks: &[(usize, bool)]) {
-    for (place, unsafe_there) in breaks {
-        assert!(is_unsafe(buffer, *place) == *unsafe_there, "{name}");
-    }
-}
-
-fn assert_case(case: &Case) -> Result<(), AllocError> {
-    let gpos = gpos_of(case.kind, case.flag, case.subtable)?;
-    let buffer = positioned(&gpos, case.direction, case.glyphs)?;
-    assert_places(case.name, &buffer, case.places);
-    assert_breaks(case.name, &buffer, case.breaks);
-    Ok(())
-}
-
 #[test]
-fn glyphs_are_positioned() -> Result<(), AllocError> {
-    for case in &CASES {
-        assert_case(case)?;
-    }
+fn the_second_glyph_of_a_pair() -> Result<(), AllocError> {
+    let pairs = [
+        1, 12, 4, 1, 1, 18, 1, 1, 10, 2, 11, 0xFFCE, 7, 12, 0xFFC4, 8,
+    ];
+    let gpos = gpos_of(2, 0, &pairs)?;
+    let buffer = positioned(&gpos, Direction::LeftToRight, &[10, 12, 10, 11])?;
+    assert_eq!(at(&buffer, 0), (540, 0, 0));
+    assert_eq!(at(&buffer, 1), (600, 8, 0));
+    assert_eq!(at(&buffer, 2), (550, 0, 0));
+    assert_eq!(at(&buffer, 3), (600, 7, 0));
+    assert!(!is_unsafe(&buffer, 0));
+    assert!(is_unsafe(&buffer, 1));
+    assert!(is_unsafe(&buffer, 3));
     Ok(())
 }
 
@@ -312,20 +177,71 @@ fn a_spent_budget_is_told() -> Result<(), AllocError> {
     for (steps, matcher) in [(3, (600, true)), (1000, (550, false))] {
         let mut buffer = line_of(Direction::LeftToRight, &[10, 11])?;
         position_all(&mut buffer, &list, Budget { nested: 1, steps });
-        assert!((at(&buffer, 0).0, buffer.shaping_failed) == matcher);
+        assert_eq!((at(&buffer, 0).0, buffer.shaping_failed), matcher);
     }
     Ok(())
 }
 
-/// A pair is kerned by half of its value on each side.
-fn assert_kerned(
-    table: &KernTable,
-    direction: Direction,
-    glyphs: &[u32],
-    places: &[(usize, i32, i32, i32)],
-) -> Result<(), AllocError> {
-    let buffer = kerned(table, direction, glyphs)?;
-    assert_places("half of a value", &buffer, places);
+#[test]
+fn kerning_by_classes() -> Result<(), AllocError> {
+    let pairs = [
+        2, 20, 4, 0, 26, 32, 1, 2, 0, 0xFFCE, 1, 1, 10, 1, 0, 0, 1, 11, 1, 1,
+    ];
+    let gpos = gpos_of(2, 8, &pairs)?;
+    let glyphs = [10, 11, 10, 12, 10, 20, 11];
+    let buffer = positioned(&gpos, Direction::LeftToRight, &glyphs)?;
+    assert_eq!(at(&buffer, 0), (550, 0, 0));
+    assert_eq!(at(&buffer, 1), (600, 0, 0));
+    assert_eq!(at(&buffer, 2), (600, 0, 0));
+    assert_eq!(at(&buffer, 4), (550, 0, 0));
+    assert!(is_unsafe(&buffer, 1));
+    assert!(!is_unsafe(&buffer, 3));
+    assert!(is_unsafe(&buffer, 6));
+    let downward = positioned(&gpos, Direction::TopToBottom, &[10, 11])?;
+    assert_eq!(at(&downward, 0), (600, 0, 0));
+    assert!(!is_unsafe(&downward, 1));
+    Ok(())
+}
+
+#[test]
+fn kerning_by_glyphs() -> Result<(), AllocError> {
+    let pairs = [1, 12, 4, 0, 1, 18, 1, 1, 10, 2, 11, 0xFFCE, 12, 20];
+    let gpos = gpos_of(2, 0, &pairs)?;
+    let glyphs = [10, 12, 10, 11, 10, 13];
+    let buffer = positioned(&gpos, Direction::LeftToRight, &glyphs)?;
+    assert_eq!(at(&buffer, 0), (620, 0, 0));
+    assert_eq!(at(&buffer, 2), (550, 0, 0));
+    assert_eq!(at(&buffer, 4), (600, 0, 0));
+    assert!(is_unsafe(&buffer, 3));
+    assert!(!is_unsafe(&buffer, 5));
+    Ok(())
+}
+
+#[test]
+fn a_mark_on_its_base() -> Result<(), AllocError> {
+    let marks = [
+        1, 12, 18, 1, 24, 36, 1, 1, 20, 1, 1, 10, 1, 0, 6, 1, 100, 200, 1, 4, 1, 300, 500,
+    ];
+    let gpos = gpos_of(4, 0, &marks)?;
+    let forward = positioned(&gpos, Direction::LeftToRight, &[10, 20, 20])?;
+    assert_eq!(at(&forward, 1), (0, -400, 300));
+    assert_eq!(at(&forward, 2), (0, -400, 300));
+    let backward = positioned(&gpos, Direction::RightToLeft, &[10, 20])?;
+    assert_eq!(at(&backward, 1), (0, 200, 300));
+    Ok(())
+}
+
+#[test]
+fn an_exit_meets_an_entry() -> Result<(), AllocError> {
+    let anchors = [1, 14, 2, 0, 22, 28, 0, 1, 2, 10, 11, 1, 500, 100, 1, 50, 20];
+    let gpos = gpos_of(3, 0, &anchors)?;
+    let buffer = positioned(&gpos, Direction::LeftToRight, &[10, 11])?;
+    assert_eq!(at(&buffer, 0), (500, 0, 0));
+    assert_eq!(at(&buffer, 1), (550, -50, 80));
+    let hanging = gpos_of(3, 1, &anchors)?;
+    let buffer = positioned(&hanging, Direction::RightToLeft, &[10, 11])?;
+    assert_eq!(at(&buffer, 0), (100, -500, -80));
+    assert_eq!(at(&buffer, 1), (50, 0, 0));
     Ok(())
 }
 
@@ -335,9 +251,11 @@ fn half_of_a_kerning_value() -> Result<(), AllocError> {
     let bytes = bytes_of(&words)?;
     let table = KernTable::new(&bytes);
     assert!(table.has_kerning());
-    let forward = [(0, 574, 0, 0), (2, 575, -25, 0)];
-    let (to_right) = (Direction::LeftToRight);
-    assert_kerned(&table, to_right, &[10, 20, 11], &forward)?;
-    let backward = [(0, 575, -25, 0), (1, 574, 0, 0)];
-    assert_kerned(&table, Direction::RightToLeft, &[11, 10], &backward)
+    let forward = kerned(&table, Direction::LeftToRight, &[10, 20, 11])?;
+    assert_eq!(at(&forward, 0), (574, 0, 0));
+    assert_eq!(at(&forward, 2), (575, -25, 0));
+    let backward = kerned(&table, Direction::RightToLeft, &[11, 10])?;
+    assert_eq!(at(&backward, 0), (575, -25, 0));
+    assert_eq!(at(&backward, 1), (574, 0, 0));
+    Ok(())
 }

@@ -8,6 +8,8 @@ mod color;
 #[cfg(test)]
 mod face;
 #[cfg(test)]
+mod given_up;
+#[cfg(test)]
 mod normalization;
 #[cfg(test)]
 mod plans;

@@ -25,7 +25,7 @@ pub(crate) fn keep_composed_again<F: FontFunctions>(
     debug_assert!(!buffer.have_output());
     if has_marks && script.shaper.normalization_mode() == NormalizationMode::Decomposed {
         let composing = Composing::new(font, script);
-        keep_tied(buffer, &composing, 1);
+        keep_tied(buffer, &composing);
     }
 }
 

@@ -1,0 +1,6 @@
+use Rattle.std.proofs.Common.{◌≡◌, false}
+use Rattle.shaping_buffer.specs.KeepsClusters.{KeepsClusters}
+use Rattle.ot_characters.proofs.turned_contexts.keep_turned_contexts.Given as goal
+
+abbrev pub invariant-loop-place : goal.invariant-loop-place
+invariant-loop-place l = (l.buffer.have_output ≡ false) × KeepsClusters l.fn.buffer l.buffer

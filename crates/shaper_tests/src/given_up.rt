@@ -1,0 +1,41 @@
+//! What is marked where shaping was given up.
+
+ghost use Rattle.std.specs.Prelude.{◌≡◌, false, IfOk, IsSome};
+
+use ot_positions::mark_given_up;
+use shaping_buffer::{UnicodeBuffer, hb_buffer_t};
+use std::alloc::{AllocError, Global};
+
+/// Three characters, of which shaping was given up or not.
+fn line_of(alloc: Global, is_given_up: bool) -> Result<hb_buffer_t, AllocError>
+    ensures closed { IfOk result (λ buffer. buffer.have_output ≡ false) }
+    ensures placed { IfOk result (λ buffer. IsSome buffer.positions) }
+{
+    let mut text = UnicodeBuffer::new(alloc);
+    let _ = text.push_str("abc")?;
+    let mut buffer = text.into_buffer();
+    buffer.clear_positions();
+    buffer.shaping_failed = is_given_up;
+    Ok(buffer)
+}
+
+/// Whether a line may not be broken before the character at a place.
+fn is_unsafe(buffer: &hb_buffer_t, place: usize) -> bool {
+    match buffer.info().get(place) {
+        Some(glyph) => glyph.unsafe_to_break(),
+        None => false,
+    }
+}
+
+/// All clusters but the first are unsafe to break.
+#[test]
+fn a_text_that_is_given_up(rt: HostRuntime) -> Result<(), AllocError> {
+    for is_given_up in [false, true] {
+        let mut buffer = line_of(rt.alloc(), is_given_up)?;
+        mark_given_up(&mut buffer);
+        assert!(rt; !is_unsafe(&buffer, 0));
+        assert!(rt; is_unsafe(&buffer, 1) == is_given_up);
+        assert!(rt; is_unsafe(&buffer, 2) == is_given_up);
+    }
+    Ok(())
+}

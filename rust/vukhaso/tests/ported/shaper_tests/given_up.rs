@@ -1,0 +1,38 @@
+// Written by tools/plain_rust from crates/shaper_tests. Do not edit.
+
+//! What is marked where shaping was given up.
+
+use vukhaso::internals::buffer::{UnicodeBuffer, hb_buffer_t};
+use vukhaso::internals::ot_positions::mark_given_up;
+use vukhaso::memory::AllocError;
+
+/// Three characters, of which shaping was given up or not.
+fn line_of(is_given_up: bool) -> Result<hb_buffer_t, AllocError> {
+    let mut text = UnicodeBuffer::new();
+    let _ = text.push_str("abc")?;
+    let mut buffer = text.into_buffer();
+    buffer.clear_positions();
+    buffer.shaping_failed = is_given_up;
+    Ok(buffer)
+}
+
+/// Whether a line may not be broken before the character at a place.
+fn is_unsafe(buffer: &hb_buffer_t, place: usize) -> bool {
+    match buffer.info().get(place) {
+        Some(glyph) => glyph.unsafe_to_break(),
+        None => false,
+    }
+}
+
+/// All clusters but the first are unsafe to break.
+#[test]
+fn a_text_that_is_given_up() -> Result<(), AllocError> {
+    for is_given_up in [false, true] {
+        let mut buffer = line_of(is_given_up)?;
+        mark_given_up(&mut buffer);
+        assert!(!is_unsafe(&buffer, 0));
+        assert!(is_unsafe(&buffer, 1) == is_given_up);
+        assert!(is_unsafe(&buffer, 2) == is_given_up);
+    }
+    Ok(())
+}
