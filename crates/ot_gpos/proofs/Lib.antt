@@ -8,5 +8,6 @@ pub mod AttachmentLemmas
 pub mod CursiveLemmas
 pub mod FlagLemmas
 pub mod LookupLemmas
+pub mod OffsetsLemmas
 pub mod PairLemmas
 pub mod PositionsLemmas

@@ -5,7 +5,9 @@ pub mod Chains
 pub mod Cursive
 pub mod Flags
 pub mod Lookups
+pub mod Offsets
 pub mod PairAdjustments
 pub mod Placing
+pub mod Spans
 pub mod Subtables
 pub mod Visit

@@ -137,7 +137,7 @@ fn is_joined(position: &GlyphPosition) -> bool
 
 /// Takes the chain of the glyph at a place.
 #[tactic(auto, using(crate::proofs::PositionsLemmas::length_changed_at), unfolding(crate::specs::Placing::changed_at))]
-fn cut(positions: &mut [GlyphPosition], place: usize)
+pub(crate) fn cut(positions: &mut [GlyphPosition], place: usize)
     ensures is { positions.new ≡ changed_at (with_chain (pos 0)) place positions.old }
     ensures as_many { length positions.new ≡ length positions.old }
 {
