@@ -1,6 +1,6 @@
 -- Attached glyphs, and the advances that lie between: those are no other once glyphs are moved.
 use Rattle.std.proofs.Common.{◌≡◌, ℕ, ℤ, zero, suc, pos, ◌+◌, ◌<◌, ◌≤◌, Bool, true, List, Option, Some, length, refl, ap, sym, subst}
-use Rattle.std.proofs.Common.{[], ◌∷◌, ◌^◌, ◌%◌, ◌-◌, false, if◌then◌else◌, ◌∙◌, arith, to_z, of_z, None}
+use Rattle.std.proofs.Common.{[], ◌∷◌, ◌^◌, ◌%◌, ◌-◌, false, if◌then◌else◌, ◌∙◌, arith, to_z, of_z}
 use Rattle.std.proofs.lemmas.Int.{of_z-to_z}
 use Rattle.std.proofs.Math.Seq.{map-set_same}
 use Rattle.std.specs.Prelude.{nat_lt, slice_index_or}

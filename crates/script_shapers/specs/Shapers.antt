@@ -12,7 +12,7 @@ use Rattle.script_indic.specs.Composition.{stays_whole, is_yya}
 use Rattle.script_indic.specs.Scripts.{indic_scripts}
 use Rattle.script_universal.specs.Composition.{is_two_part}
 use Rattle.script_universal.specs.Scripts.{universal_scripts, joining_scripts}
-use Rattle.script_shapers.specs.Hebrew.{presentation_forms}
+use Rattle.script_letters.specs.Hebrew.{presentation_forms}
 use Rattle.script_shapers.specs.declared.shaper.NormalizationMode.{NormalizationMode}
 use Rattle.script_shapers.specs.declared.shaper.NormalizationMode.TheVariants as mode
 use Rattle.script_shapers.specs.declared.shaper.ZeroWidthMarks.{ZeroWidthMarks}

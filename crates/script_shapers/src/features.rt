@@ -5,11 +5,11 @@ ghost use Rattle.ot_map.specs.Pauses.{HasSamePauses};
 ghost use Rattle.script_shapers.specs.Stages.{pauses_of};
 ghost use Rattle.script_shapers.specs.declared.shaper.ScriptShaper.TheVariants.{Arabic};
 
-use crate::hangul;
 use crate::shaper::ScriptShaper;
 use ot_map::PlanBuilder;
 use rb_common::{Script, Tag};
 use script_joining::arabic;
+use script_letters::hangul;
 use script_universal::{khmer, myanmar, universal};
 use std::alloc::AllocError;
 
@@ -24,7 +24,7 @@ pub fn collect_features(
 {
     match shaper {
         ScriptShaper::Arabic => arabic::features::collect_features(builder, script),
-        ScriptShaper::Hangul => hangul::features::add_jamo_features(builder),
+        ScriptShaper::Hangul => hangul::add_jamo_features(builder),
         ScriptShaper::Indic => script_indic::features::collect_features(builder),
         ScriptShaper::Khmer => khmer::features::collect_features(builder),
         ScriptShaper::Myanmar => myanmar::features::collect_features(builder),

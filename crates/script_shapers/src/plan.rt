@@ -3,11 +3,11 @@
 ghost use Rattle.std.specs.Prelude.{◌≡◌, ◌≢◌, true, false};
 ghost use Rattle.script_shapers.specs.declared.shaper.ScriptShaper.TheVariants.{Arabic};
 
-use crate::hangul::features::JAMO_FEATURES;
 use crate::shaper::ScriptShaper;
 use ot_map::LayoutPlan;
 use rb_common::{Script, Tag, script};
 use script_joining::arabic::features::{FORM_FEATURES, lacks_forms};
+use script_letters::hangul::JAMO_FEATURES;
 
 /// What the features of a font make of a script's shaper: HarfBuzz's `data_create`.
 #[derive(Clone, Copy, Debug)]

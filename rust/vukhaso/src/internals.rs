@@ -38,6 +38,7 @@ pub mod runs;
 pub mod script_indic;
 pub mod script_items;
 pub mod script_joining;
+pub mod script_letters;
 pub mod script_shapers;
 pub mod script_syllables;
 pub mod script_universal;

@@ -1,7 +1,6 @@
 // Written by tools/plain_rust from crates/script_shapers. Do not edit.
 
-//! Which shaper a script has, and what it asks beyond the default one, with the shapers that are no family: Hebrew's presentation
-//! forms, Hangul syllables, and the vowel AM of Thai and Lao.
+//! Which shaper a script has, and what it asks beyond the default one.
 //!
 //! A text's [`ScriptShaper`] says by its methods what is done at each step of shaping; [`ScriptPlan`] and [`SyllablePlan`] keep what
 //! the features of a font make of it.
@@ -12,9 +11,6 @@ pub use shaper::{NormalizationMode, ScriptShaper, ZeroWidthMarks};
 pub use syllables::{SyllablePlan, syllable_plan};
 
 mod features;
-mod hangul;
-mod hebrew;
 mod plan;
 mod shaper;
 mod syllables;
-mod thai;

@@ -111,7 +111,7 @@ fn is_joined(position: &GlyphPosition) -> bool {
 }
 
 /// Takes the chain of the glyph at a place.
-fn cut(positions: &mut [GlyphPosition], place: usize) {
+pub(crate) fn cut(positions: &mut [GlyphPosition], place: usize) {
     if place < positions.len() {
         positions[place].set_attach_chain(0);
     }

@@ -5,10 +5,10 @@
 use crate::buffer::{HB_BUFFER_SCRATCH_FLAG_HAS_GPOS_ATTACHMENT, hb_buffer_t};
 use crate::common::Direction;
 use crate::glyph::GlyphPosition;
-use crate::ot_gpos::chains::{ATTACH_TYPE_CURSIVE, place_behind};
+use crate::ot_gpos::chains::{ATTACH_TYPE_CURSIVE, cut, place_behind};
 
-/// How many links of a chain are followed (HarfBuzz, `HB_MAX_NESTING_LEVEL`).
-const MAX_LINKS: usize = 64;
+/// How many levels a chain may have (HarfBuzz, `HB_MAX_NESTING_LEVEL`).
+const MAX_NESTING_LEVEL: u32 = 64;
 
 /// Takes what glyphs are attached to from all positions.
 ///
@@ -47,8 +47,9 @@ fn detach(position: &mut GlyphPosition) {
     position.set_attach_type(0);
 }
 
-/// Moves each attached glyph to where the glyph stands that it is attached to: it gets that glyph's
-/// offset, and a mark goes back over the advances that lie between. No glyph is attached any more.
+/// Moves each attached glyph to where the glyph stands that it is attached to: one that is joined gets
+/// that glyph's offset across the line, and a mark its offset, less the advances that lie between. No
+/// glyph is attached any more.
 ///
 /// # Requires
 ///
@@ -58,6 +59,7 @@ fn detach(position: &mut GlyphPosition) {
 /// # Proved
 ///
 /// ```text
+/// ensures is { buffer.new ≡ offsets_finished buffer.old }
 /// ensures closed { buffer.new.have_output ≡ false }
 /// ensures placed { IsSome buffer.new.positions }
 /// ensures rest { untouched buffer.new ≡ untouched buffer.old }
@@ -69,7 +71,7 @@ pub fn position_finish_offsets(buffer: &mut hb_buffer_t) {
     debug_assert!(!buffer.have_output());
     debug_assert!(buffer.have_positions());
     debug_assert!(buffer.out_len() == 0);
-    follow_all(buffer);
+    propagate_all(buffer);
     debug_assert!(buffer.out_len() == 0);
 }
 
@@ -79,27 +81,16 @@ pub fn position_finish_offsets(buffer: &mut hb_buffer_t) {
 ///
 /// - `closed: buffer.old.have_output ≡ false`
 /// - `placed: IsSome buffer.old.positions`
-fn follow_all(buffer: &mut hb_buffer_t) {
+fn propagate_all(buffer: &mut hb_buffer_t) {
     debug_assert!(!buffer.have_output());
     debug_assert!(buffer.have_positions());
     if buffer.scratch_flags & HB_BUFFER_SCRATCH_FLAG_HAS_GPOS_ATTACHMENT != 0 {
         let direction = buffer.direction;
-        finish_offsets(buffer.pos_mut(), direction);
+        propagate_each(buffer.pos_mut(), direction);
     }
 }
 
-/// A glyph that is attached to another one.
-#[derive(Clone, Copy, Debug)]
-struct Link {
-    /// The place of the glyph.
-    place: usize,
-    /// The place of the other one.
-    to: usize,
-    /// Whether the two are joined, and else the glyph is a mark.
-    is_cursive: bool,
-}
-
-/// The advances from one place up to another.
+/// The advances from one place up to another, summed.
 #[derive(Clone, Copy, Debug)]
 struct Span {
     from: usize,
@@ -108,117 +99,169 @@ struct Span {
     y: i32,
 }
 
-/// Moves each attached glyph to where the glyph stands that it is attached to.
-fn finish_offsets(positions: &mut [GlyphPosition], direction: Direction) {
-    let none = Link {
-        place: 0,
-        to: 0,
-        is_cursive: true,
-    };
-    let mut links = [none; MAX_LINKS];
+/// Moves each attached glyph, one after the other.
+fn propagate_each(positions: &mut [GlyphPosition], direction: Direction) {
+    let len = positions.len();
     let mut span = Span {
         from: 0,
         to: 0,
         x: 0,
         y: 0,
     };
-    for place in 0..positions.len() {
-        let count = take_chain(positions, place, &mut links);
-        for link in links[..count].iter().rev() {
-            follow(positions, link, direction, &mut span);
-        }
+    for place in 0..len {
+        propagate_attachment_offsets(positions, place, direction, MAX_NESTING_LEVEL, &mut span);
     }
 }
 
-/// Takes the links of the chain of the glyph at a place, one after the other up to its end, and says
-/// how many these are. Where there are more than there is room for, the chain is cut.
-fn take_chain(positions: &mut [GlyphPosition], place: usize, links: &mut [Link]) -> usize {
-    let mut at = place;
-    for count in 0..links.len() {
-        let Some(link) = take_link(positions, at) else {
-            return count;
-        };
-        links[count] = link;
-        at = link.to;
+/// Moves the glyph at a place to where its parent stands, which is moved first, and attaches it to
+/// none. Where a chain has more levels, the rest stays where it is.
+///
+/// # Requires
+///
+/// - `there: place < length positions.old`
+/// - `span: IsSummed positions.old span.old`
+fn propagate_attachment_offsets(
+    positions: &mut [GlyphPosition],
+    place: usize,
+    direction: Direction,
+    levels: u32,
+    span: &mut Span,
+) {
+    debug_assert!(place < positions.len());
+    let kind = positions[place].attach_type();
+    let parent = parent_of(positions, place);
+    unchain(positions, place);
+    if levels == 0 {
+        return;
     }
-    let _lost = take_link(positions, at);
-    links.len()
-}
-
-/// The link of the glyph at a place, which is taken from its position; `None` where it is not attached
-/// to a glyph.
-fn take_link(positions: &mut [GlyphPosition], place: usize) -> Option<Link> {
-    let len = positions.len();
-    let position = positions.get_mut(place)?;
-    let chain = position.attach_chain();
-    if chain == 0 {
-        return None;
-    }
-    position.set_attach_chain(0);
-    let is_cursive = position.attach_type() & ATTACH_TYPE_CURSIVE != 0;
-    let to = place_behind(place, chain, len)?;
-    Some(Link {
-        place,
-        to,
-        is_cursive,
-    })
-}
-
-/// Moves a glyph to where the glyph stands that it is attached to.
-fn follow(positions: &mut [GlyphPosition], link: &Link, direction: Direction, span: &mut Span) {
-    let Some(parent) = positions.get(link.to) else {
+    let Some(parent) = parent else {
         return;
     };
-    let (x, y) = (parent.x_offset, parent.y_offset);
-    if link.is_cursive {
-        if let Some(position) = positions.get_mut(link.place) {
-            move_across(position, x, y, direction);
-        }
-        return;
-    }
-    let (across, down) = advances_between(positions, link, direction, span);
-    if let Some(position) = positions.get_mut(link.place) {
-        position.x_offset = position.x_offset.wrapping_add(x).wrapping_sub(across);
-        position.y_offset = position.y_offset.wrapping_add(y).wrapping_sub(down);
-    }
-}
-
-/// Moves a glyph across the line.
-fn move_across(position: &mut GlyphPosition, x: i32, y: i32, direction: Direction) {
-    if direction.is_horizontal() {
-        position.y_offset = position.y_offset.wrapping_add(y);
+    propagate_attachment_offsets(positions, parent, direction, levels - 1, span);
+    if kind & ATTACH_TYPE_CURSIVE != 0 {
+        join(positions, place, parent, direction);
     } else {
-        position.x_offset = position.x_offset.wrapping_add(x);
+        hang(positions, place, parent, direction, span);
     }
 }
 
-/// How far a mark goes back to the glyph before it that it is attached to. In lines that run forward
-/// these are the advances from that glyph up to the mark; else the mark goes forward over the advances
-/// after that glyph, its own among them.
-fn advances_between(
-    positions: &[GlyphPosition],
-    link: &Link,
+/// The place of the glyph to which the one at a place is attached; `None` where it is attached to none
+/// of the glyphs.
+///
+/// # Requires
+///
+/// - `there: place < length positions.now`
+fn parent_of(positions: &[GlyphPosition], place: usize) -> Option<usize> {
+    debug_assert!(place < positions.len());
+    let chain = positions[place].attach_chain();
+    if chain == 0 {
+        None
+    } else {
+        place_behind(place, chain, positions.len())
+    }
+}
+
+/// Attaches the glyph at a place to none.
+///
+/// # Requires
+///
+/// - `there: place < length positions.old`
+fn unchain(positions: &mut [GlyphPosition], place: usize) {
+    debug_assert!(place < positions.len());
+    if positions[place].attach_chain() != 0 {
+        cut(positions, place);
+    }
+}
+
+/// Moves a glyph as far across the line as the one to which it is joined.
+///
+/// # Requires
+///
+/// - `there: place < length positions.old`
+/// - `parent: parent < length positions.old`
+fn join(positions: &mut [GlyphPosition], place: usize, parent: usize, direction: Direction) {
+    debug_assert!(place < positions.len());
+    debug_assert!(parent < positions.len());
+    let parent = positions[parent];
+    join_to(&mut positions[place], &parent, direction);
+}
+
+/// Moves a glyph as far across the line as its parent.
+fn join_to(position: &mut GlyphPosition, parent: &GlyphPosition, direction: Direction) {
+    if direction.is_horizontal() {
+        position.y_offset = position.y_offset.wrapping_add(parent.y_offset);
+    } else {
+        position.x_offset = position.x_offset.wrapping_add(parent.x_offset);
+    }
+}
+
+/// Moves a mark to where the glyph stands on which it hangs.
+///
+/// # Requires
+///
+/// - `there: place < length positions.old`
+/// - `parent: parent < length positions.old`
+/// - `span: IsSummed positions.old span.old`
+fn hang(
+    positions: &mut [GlyphPosition],
+    place: usize,
+    parent: usize,
     direction: Direction,
     span: &mut Span,
-) -> (i32, i32) {
-    if direction.is_forward() {
-        widen(positions, span, link.to, link.place);
-        (span.x, span.y)
+) {
+    debug_assert!(place < positions.len());
+    debug_assert!(parent < positions.len());
+    let (x, y) = if direction.is_forward() {
+        sum_between(positions, span, parent, place)
     } else {
-        widen(
-            positions,
-            span,
-            link.to.saturating_add(1),
-            link.place.saturating_add(1),
-        );
-        (span.x.wrapping_neg(), span.y.wrapping_neg())
+        sum_between(positions, span, parent + 1, place + 1)
+    };
+    let parent = positions[parent];
+    hang_on(&mut positions[place], &parent, direction, x, y);
+}
+
+/// Moves a mark to where its parent stands, so far back in lines that run forward, else ahead.
+fn hang_on(
+    position: &mut GlyphPosition,
+    parent: &GlyphPosition,
+    direction: Direction,
+    x: i32,
+    y: i32,
+) {
+    position.x_offset = gone(
+        direction,
+        x,
+        position.x_offset.wrapping_add(parent.x_offset),
+    );
+    position.y_offset = gone(
+        direction,
+        y,
+        position.y_offset.wrapping_add(parent.y_offset),
+    );
+}
+
+/// An offset, so far back in lines that run forward, else ahead.
+fn gone(direction: Direction, far: i32, offset: i32) -> i32 {
+    if direction.is_forward() {
+        offset.wrapping_sub(far)
+    } else {
+        offset.wrapping_add(far)
     }
 }
 
-/// Makes the span that from a place up to another. Many marks on one base widen the same span, step by
-/// step.
-fn widen(positions: &[GlyphPosition], span: &mut Span, from: usize, to: usize) {
-    if span.from != from || span.to > to {
+/// The sums of the advances from a place up to another. Many marks on one base widen the same span,
+/// step by step.
+///
+/// # Requires
+///
+/// - `within: to ≤ length positions.now`
+/// - `span: IsSummed positions.now span.old`
+fn sum_between(positions: &[GlyphPosition], span: &mut Span, from: usize, to: usize) -> (i32, i32) {
+    debug_assert!(to <= positions.len());
+    if to <= from {
+        return (0, 0);
+    }
+    if span.from != from || to < span.to {
         *span = Span {
             from,
             to: from,
@@ -226,11 +269,11 @@ fn widen(positions: &[GlyphPosition], span: &mut Span, from: usize, to: usize) {
             y: 0,
         };
     }
+    let (mut x, mut y) = (span.x, span.y);
     for place in span.to..to {
-        if let Some(position) = positions.get(place) {
-            span.x = span.x.wrapping_add(position.x_advance);
-            span.y = span.y.wrapping_add(position.y_advance);
-        }
+        x = x.wrapping_add(positions[place].x_advance);
+        y = y.wrapping_add(positions[place].y_advance);
     }
-    span.to = to;
+    *span = Span { from, to, x, y };
+    (x, y)
 }

@@ -6,7 +6,7 @@ use crate::common::{Script, Tag};
 use crate::memory::AllocError;
 use crate::ot_map::PlanBuilder;
 use crate::script_joining::arabic;
-use crate::script_shapers::hangul;
+use crate::script_letters::hangul;
 use crate::script_shapers::shaper::ScriptShaper;
 use crate::script_universal::{khmer, myanmar, universal};
 
@@ -30,7 +30,7 @@ pub fn collect_features(
 ) -> Result<(), AllocError> {
     match shaper {
         ScriptShaper::Arabic => arabic::features::collect_features(builder, script),
-        ScriptShaper::Hangul => hangul::features::add_jamo_features(builder),
+        ScriptShaper::Hangul => hangul::add_jamo_features(builder),
         ScriptShaper::Indic => crate::script_indic::features::collect_features(builder),
         ScriptShaper::Khmer => khmer::features::collect_features(builder),
         ScriptShaper::Myanmar => myanmar::features::collect_features(builder),

@@ -5,7 +5,7 @@
 use crate::common::{Script, Tag, script};
 use crate::ot_map::LayoutPlan;
 use crate::script_joining::arabic::features::{FORM_FEATURES, lacks_forms};
-use crate::script_shapers::hangul::features::JAMO_FEATURES;
+use crate::script_letters::hangul::JAMO_FEATURES;
 use crate::script_shapers::shaper::ScriptShaper;
 
 /// What the features of a font make of a script's shaper: HarfBuzz's `data_create`.

@@ -1,0 +1,3 @@
+pub mod Hangul
+pub mod Hebrew
+pub mod Thai
