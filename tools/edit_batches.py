@@ -160,11 +160,22 @@ def verdict_alone(edit, lines):
     return False, f"NOT TRIED: {said[:200]}"
 
 
-def tried(place, edits, texts):
-    """The lines of a check with these texts: of the functions that these edits change, or of the whole crate, where one changes a table."""
+def users_of_table(edit):
+    """The functions that name the constant or static in which the edit's texts stand."""
+    names = set()
+    for pair in edit.pairs:
+        text = (edit.crate / pair.file).read_text()
+        names |= set(re.findall(r"^\s*(?:pub(?:\(crate\))? )?(?:const|static) (\w+)", text.partition(pair.old)[0] + pair.old, re.M)[-1:])
+    uses = re.compile(rf"\b(?:{'|'.join(sorted(names))})\b")
+    return [it for it in functions_of(edit.crate) if names and uses.search("\n".join(it.whole))]
+
+
+def tried(place, edits, texts, functions=()):
+    """The lines of a check with these texts: of the functions that these edits change, or of these, or else of the whole crate."""
     crate = edits[0].crate
     own = {path.relative_to(crate): text for path, text in texts.items()}
-    only = [word for edit in edits for it in changed_functions(edit) for word in ("--only", it.printed(crate))]
+    checked = functions or [it for edit in edits for it in changed_functions(edit)]
+    only = [word for it in checked for word in ("--only", it.printed(crate))]
     lines = place.tried(crate.name, own, ["--jobs", "1", *only])[1]
     with LOG.open("a") as log:
         log.write("".join(f"{line}\n" for line in (f"== {' '.join(edit.label for edit in edits)}", *lines)))
@@ -221,7 +232,10 @@ class Tries:
         return [(edit, True, f"refused in {name}") if name else (edit, None, "") for edit, name in names]
 
     def try_alone(self, edit):
-        return [(edit, *verdict_alone(edit, tried(self.place, [edit], texts_with(edit, "new", {}))))]
+        """An edit by itself. One that changes a table is tried by the functions that use it, and only then by the whole crate."""
+        texts, users = texts_with(edit, "new", {}), [] if changed_functions(edit) else users_of_table(edit)
+        said = verdict_alone(edit, tried(self.place, [edit], texts, users)) if users else (False, "")
+        return [(edit, *(said if said[0] else verdict_alone(edit, tried(self.place, [edit], texts))))]
 
     def run(self, edits):
         self.passed = sum(self.kept.key(edit) in self.kept.said for edit in edits)
