@@ -9,7 +9,7 @@ ghost use Rattle.font_tables.specs.GlyphRanges.{range_last, range_count};
 
 use crate::bytes::{part, tail, u16_at};
 use crate::glyph_ranges::{range_count, range_of, ranges_rise};
-use crate::rows::{FEW_ROWS, SHORT, Numbers16, first_row, rows_within};
+use crate::rows::{FEW_ROWS, Numbers16, SHORT, first_row, rows_within};
 use rb_common::GlyphId;
 
 /// A coverage table.
