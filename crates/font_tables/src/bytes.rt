@@ -19,7 +19,7 @@ pub fn u16_at(table: &[u8], at: usize) -> Option<u16>
     ensures { result ≡ number_16 table.now at }
 {
     match table.get(at..)? {
-        [high, low, ..] => Some(u16::from(*high) * 256 + u16::from(*low)),
+        [high, low, ..] => Some(u16::from_be_bytes([*high, *low])),
         _ => None,
     }
 }
@@ -51,9 +51,7 @@ pub fn u32_at(table: &[u8], at: usize) -> Option<u32>
 {
     match table.get(at..)? {
         [first, second, third, fourth, ..] => {
-            let high = u32::from(*first) * 256 + u32::from(*second);
-            let low = u32::from(*third) * 256 + u32::from(*fourth);
-            Some(high * 65536 + low)
+            Some(u32::from_be_bytes([*first, *second, *third, *fourth]))
         }
         _ => None,
     }

@@ -9,7 +9,7 @@ ghost use Rattle.font_tables.specs.GlyphRanges.{range_last, range_count};
 
 use crate::bytes::{part, tail, u16_at};
 use crate::glyph_ranges::{range_count, range_of, ranges_rise};
-use crate::rows::{FEW_ROWS, Numbers16, first_row, rows_within};
+use crate::rows::{FEW_ROWS, Numbers16, SHORT, first_row, rows_within};
 use rb_common::GlyphId;
 
 /// A coverage table.
@@ -85,13 +85,16 @@ fn list_rises(table: &[u8], count: u16) -> bool
     requires { count ≡ listed_count table.now }
     ensures { IsTrue result → Rises (listed_glyph table.now) count }
 {
+    if count <= SHORT {
+        return false;
+    }
     let (glyphs, _) = part(table, 4, 2 * usize::from(count)).as_chunks::<2>();
     let mut before = 0;
     let mut falls = false;
     for glyph in glyphs {
         match u16_at(glyph, 0) {
             Some(next) => {
-                falls = falls || next < before;
+                falls |= next < before;
                 before = next;
             }
             None => falls = true,

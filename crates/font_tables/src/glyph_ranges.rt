@@ -10,7 +10,7 @@ ghost use Rattle.font_tables.specs.ClassDefinition.{ranged_class};
 ghost use Rattle.font_tables.specs.Coverage.{ranged_index};
 
 use crate::bytes::{part, tail, u16_at};
-use crate::rows::{Rows, first_row, rows_within};
+use crate::rows::{Rows, SHORT, first_row, rows_within};
 use rb_common::GlyphId;
 
 /// Ranges that lie whole in the table.
@@ -41,13 +41,16 @@ pub(crate) fn ranges_rise(table: &[u8], count: u16) -> bool
     requires { count ≡ range_count table.now }
     ensures { IsTrue result → Rises (range_last table.now) count }
 {
+    if count <= SHORT {
+        return false;
+    }
     let (ranges, _) = part(table, 4, 6 * usize::from(count)).as_chunks::<6>();
     let mut before = 0;
     let mut falls = false;
     for range in ranges {
         match u16_at(range, 2) {
             Some(last) => {
-                falls = falls || last < before;
+                falls |= last < before;
                 before = last;
             }
             None => falls = true,

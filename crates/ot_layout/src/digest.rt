@@ -38,6 +38,18 @@ impl Digest {
         }
     }
 
+    /// The digest of all glyphs.
+    #[tactic(auto, unfolding(crate::specs::Digest::may_have), using(crate::proofs::DigestLemmas::all_rows))]
+    pub(crate) fn full() -> Self
+        ensures { (glyph : ℕ) → may_have result glyph ≡ true }
+    {
+        Digest {
+            singles: u64::MAX,
+            sixteens: u64::MAX,
+            blocks: u64::MAX,
+        }
+    }
+
     /// Whether the glyph may have been added. One that was added always may.
     #[tactic(auto, unfolding(crate::specs::Digest::may_have))]
     pub fn may_have(&self, glyph: u32) -> bool

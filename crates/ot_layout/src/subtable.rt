@@ -78,9 +78,23 @@ impl<'a> NextAsked<'a> {
     {
         NextAsked {
             coverage,
-            digest: Digest::of_coverage(&coverage),
+            digest: next_digest(&coverage),
             is_input,
         }
+    }
+}
+
+/// So many glyphs or ranges of glyphs have hardly a row without one of them.
+const MANY_ROWS: u16 = 64;
+
+/// The digest of the glyphs of a coverage, or of all glyphs where the coverage has many rows.
+fn next_digest(coverage: &Coverage) -> Digest
+    ensures { HasAll (λ glyph. is_some (covered_index coverage.now.table.now glyph) ≡ true) result }
+{
+    if u16_at(coverage.table, 2).unwrap_or(0) > MANY_ROWS {
+        Digest::full()
+    } else {
+        Digest::of_coverage(coverage)
     }
 }
 

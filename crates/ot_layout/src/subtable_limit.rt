@@ -18,7 +18,7 @@ pub fn is_refused(table: &[u8]) -> bool
 {
     let list = table_or_empty(table, 8);
     let count = lookup_count(list);
-    offsets_of_first(list, count) > MAX_EDITS && subtables_of_first(list, count) >= MAX_SUBTABLES
+    subtables_of_first(list, count) >= MAX_SUBTABLES && offsets_of_first(list, count) > MAX_EDITS
 }
 
 /// How many lookups a list declares.

@@ -39,7 +39,9 @@ impl<T> Vec<T> {
     /// Puts an element at the end.
     #[inline]
     pub fn push(&mut self, element: T) -> Result<(), AllocError> {
-        self.reserve(1)?;
+        if self.0.len() >= self.0.capacity() {
+            self.grow(1)?;
+        }
         self.push_reserved(element);
         Ok(())
     }

@@ -6,7 +6,7 @@
 use crate::common::GlyphId;
 use crate::font_tables::bytes::{part, tail, u16_at};
 use crate::font_tables::glyph_ranges::{range_count, range_of, ranges_rise};
-use crate::font_tables::rows::{FEW_ROWS, Numbers16, first_row, rows_within};
+use crate::font_tables::rows::{FEW_ROWS, Numbers16, SHORT, first_row, rows_within};
 use crate::numbers::Chunks;
 
 /// A coverage table.
@@ -101,13 +101,16 @@ impl<'a> Coverage<'a> {
 ///
 /// - `count ≡ listed_count table.now`
 fn list_rises(table: &[u8], count: u16) -> bool {
+    if count <= SHORT {
+        return false;
+    }
     let (glyphs, _) = Chunks::<2>::split(part(table, 4, 2 * usize::from(count)));
     let mut before = 0;
     let mut falls = false;
     for glyph in glyphs {
         match u16_at(glyph, 0) {
             Some(next) => {
-                falls = falls || next < before;
+                falls |= next < before;
                 before = next;
             }
             None => falls = true,

@@ -5,7 +5,7 @@
 
 use crate::common::GlyphId;
 use crate::font_tables::bytes::{part, tail, u16_at};
-use crate::font_tables::rows::{Rows, first_row, rows_within};
+use crate::font_tables::rows::{Rows, SHORT, first_row, rows_within};
 use crate::numbers::Chunks;
 
 /// Ranges that lie whole in the table.
@@ -36,13 +36,16 @@ pub(crate) fn range_count(table: &[u8]) -> u16 {
 ///
 /// - `count ≡ range_count table.now`
 pub(crate) fn ranges_rise(table: &[u8], count: u16) -> bool {
+    if count <= SHORT {
+        return false;
+    }
     let (ranges, _) = Chunks::<6>::split(part(table, 4, 6 * usize::from(count)));
     let mut before = 0;
     let mut falls = false;
     for range in ranges {
         match u16_at(range, 2) {
             Some(last) => {
-                falls = falls || last < before;
+                falls |= last < before;
                 before = last;
             }
             None => falls = true,

@@ -8,6 +8,9 @@ use crate::numbers::Chunks;
 /// So many rows are soon looked through.
 pub(crate) const FEW_ROWS: u16 = 64;
 
+/// So many are looked through as soon as by bisection, so that nobody asks whether they rise.
+pub(crate) const SHORT: u16 = 8;
+
 /// Rows of a font's table. A row reaches a key where its last key is not below it.
 ///
 /// # Proved

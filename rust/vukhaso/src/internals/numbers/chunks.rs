@@ -1,5 +1,4 @@
 use core::ops::Index;
-use core::slice::ChunksExact;
 
 /// The chunks of `N` bytes that lie whole in a slice, as `as_chunks` of std gives them since Rust 1.88.
 #[derive(Clone, Copy, Debug)]
@@ -9,8 +8,8 @@ impl<'a, const N: usize> Chunks<'a, N> {
     /// The chunks of a slice, and what is left behind them.
     #[inline(always)]
     pub fn split(bytes: &'a [u8]) -> (Self, &'a [u8]) {
-        let (whole, rest) = bytes.split_at(bytes.len() / N * N);
-        (Chunks(whole), rest)
+        let rest = bytes.get(bytes.len() / N * N..).unwrap_or(&[]);
+        (Chunks(bytes), rest)
     }
 
     /// The chunk of this number.
@@ -44,19 +43,21 @@ impl<'a, const N: usize> IntoIterator for Chunks<'a, N> {
 
     #[inline(always)]
     fn into_iter(self) -> Each<'a, N> {
-        Each(self.0.chunks_exact(N))
+        Each(self.0)
     }
 }
 
 /// The chunks of a slice, one after the other.
 #[derive(Clone, Debug)]
-pub struct Each<'a, const N: usize>(ChunksExact<'a, u8>);
+pub struct Each<'a, const N: usize>(&'a [u8]);
 
 impl<'a, const N: usize> Iterator for Each<'a, N> {
     type Item = &'a [u8; N];
 
     #[inline(always)]
     fn next(&mut self) -> Option<&'a [u8; N]> {
-        self.0.next()?.first_chunk()
+        let (chunk, rest) = self.0.split_first_chunk::<N>()?;
+        self.0 = rest;
+        Some(chunk)
     }
 }

@@ -40,6 +40,15 @@ impl Digest {
         }
     }
 
+    /// The digest of all glyphs.
+    pub(crate) fn full() -> Self {
+        Digest {
+            singles: u64::MAX,
+            sixteens: u64::MAX,
+            blocks: u64::MAX,
+        }
+    }
+
     /// Whether the glyph may have been added. One that was added always may.
     ///
     /// # Proved

@@ -80,10 +80,10 @@ pub(crate) fn size_of(table: &[u8]) -> usize {
 
 /// Makes room for the coverages of so many subtables to be remembered.
 pub(crate) fn make_room(known: &mut Vec<Known>, subtables: usize) -> Result<(), AllocError> {
-    let count = if subtables < 16 {
+    let count = if subtables < 32 {
         16
     } else if subtables < 64 {
-        64
+        32
     } else {
         MOST
     };

@@ -2,11 +2,12 @@
 
 //! Reads lookups and their subtables, as far as there is room.
 
-use crate::font_tables::bytes::{table_at_16, u16_at};
+use crate::font_tables::bytes::{part, table_at_16, tail, u16_at};
 use crate::font_tables::class_definition::ClassDefinition;
 use crate::font_tables::coverage::Coverage;
 use crate::font_tables::gdef::Gdef;
 use crate::memory::{AllocError, Vec};
+use crate::numbers::Chunks;
 use crate::ot_layout::digest::Digest;
 use crate::ot_layout::formats::has_format;
 use crate::ot_layout::known::{
@@ -147,7 +148,51 @@ impl<'a> LookupReader<'a> {
         if !has_format(self.is_positioning(), lookup_type, format) {
             return Ok(());
         }
-        let form = self.form_of(lookup_type, format);
+        match self.form_of(lookup_type, format) {
+            Form::Plain => self.read_plain(lookup_type, format, table),
+            form => self.read_formed(form, lookup_type, format, table),
+        }
+    }
+
+    /// Reads a subtable of which nothing is parsed but its coverage, and the second glyphs of its
+    /// ligatures.
+    fn read_plain(
+        &mut self,
+        lookup_type: u16,
+        format: u16,
+        table: &'a [u8],
+    ) -> Result<(), AllocError> {
+        let first = self.summed(table_or_empty(table, 2));
+        let subtable = Subtable {
+            lookup_type,
+            format,
+            table,
+            coverage: first.coverage,
+            digest: first.summaries.digest,
+            firsts: first.summaries.firsts,
+            bases: Coverage::new(&[]),
+            classes: ClassDefinition::new(&[]),
+            backtrack_classes: ClassDefinition::new(&[]),
+            lookahead_classes: ClassDefinition::new(&[]),
+            next: None,
+            first_coverage: self.coverages.len(),
+            seconds: self.seconds(lookup_type, table),
+        };
+        self.add_subtable(subtable)
+    }
+
+    /// Reads a subtable of another form. None of these has ligatures.
+    ///
+    /// # Requires
+    ///
+    /// - `is_covered_form form ≡ true → is_chained_type lookup_type ≡ is_chained_form form`
+    fn read_formed(
+        &mut self,
+        form: Form,
+        lookup_type: u16,
+        format: u16,
+        table: &'a [u8],
+    ) -> Result<(), AllocError> {
         let first_coverage = self.coverages.len();
         self.read_coverages(form, table)?;
         let first = self.first_of(form, table, first_coverage);
@@ -164,7 +209,7 @@ impl<'a> LookupReader<'a> {
             lookahead_classes: self.ahead_classes(form, table),
             next: self.next_asked(form, table, first_coverage),
             first_coverage,
-            seconds: self.seconds(lookup_type, table),
+            seconds: None,
         };
         self.add_subtable(subtable)
     }
@@ -191,10 +236,7 @@ impl<'a> LookupReader<'a> {
     /// Reads the coverages of a context by coverages, or around a reverse substitution.
     fn read_coverages(&mut self, form: Form, table: &'a [u8]) -> Result<(), AllocError> {
         match form {
-            Form::Coverages => {
-                let count = usize::from(u16_at(table, 2).unwrap_or(0));
-                self.read_offsets(table, 6, count)
-            }
+            Form::Coverages => self.read_offsets(table, 6, u16_at(table, 2).unwrap_or(0)),
             Form::ChainedCoverages => {
                 let input = self.read_list(table, 2)?;
                 let lookahead = self.read_list(table, input)?;
@@ -212,7 +254,7 @@ impl<'a> LookupReader<'a> {
 
     /// Reads the coverages of a list of offsets with their number before it, and says where it ends.
     fn read_list(&mut self, table: &'a [u8], at: usize) -> Result<usize, AllocError> {
-        let count = usize::from(u16_at(table, at).unwrap_or(0));
+        let count = u16_at(table, at).unwrap_or(0);
         if count > 0 {
             self.read_offsets(table, at.saturating_add(2), count)?;
         }
@@ -220,7 +262,28 @@ impl<'a> LookupReader<'a> {
     }
 
     /// Reads the coverages of so many offsets from a place on.
-    fn read_offsets(&mut self, table: &'a [u8], at: usize, count: usize) -> Result<(), AllocError> {
+    fn read_offsets(&mut self, table: &'a [u8], at: usize, count: u16) -> Result<(), AllocError> {
+        let count = usize::from(count);
+        let listed = part(table, at, 2 * count);
+        if listed.len() < 2 * count {
+            return self.read_offsets_within(table, at, count);
+        }
+        let (offsets, _) = Chunks::<2>::split(listed);
+        for offset in offsets {
+            let coverage = self.coverage(behind_offset(table, *offset));
+            self.coverages.push(coverage)?;
+        }
+        Ok(())
+    }
+
+    /// The same, where the list is cut short: an offset behind its end leads nowhere.
+    #[inline(never)]
+    fn read_offsets_within(
+        &mut self,
+        table: &'a [u8],
+        at: usize,
+        count: usize,
+    ) -> Result<(), AllocError> {
         for index in 0..count {
             let coverage = self.coverage(table_or_empty(
                 table,
@@ -363,6 +426,14 @@ impl<'a> LookupReader<'a> {
         }
         self.room -= bytes;
         true
+    }
+}
+
+/// The table that an offset leads to, or an empty one.
+fn behind_offset(table: &[u8], offset: [u8; 2]) -> &[u8] {
+    match u16::from_be_bytes(offset) {
+        0 => &[],
+        offset => tail(table, usize::from(offset)),
     }
 }
 

@@ -92,9 +92,21 @@ impl<'a> NextAsked<'a> {
     pub fn new(coverage: Coverage<'a>, is_input: bool) -> Self {
         NextAsked {
             coverage,
-            digest: Digest::of_coverage(&coverage),
+            digest: next_digest(&coverage),
             is_input,
         }
+    }
+}
+
+/// So many glyphs or ranges of glyphs have hardly a row without one of them.
+const MANY_ROWS: u16 = 64;
+
+/// The digest of the glyphs of a coverage, or of all glyphs where the coverage has many rows.
+fn next_digest(coverage: &Coverage) -> Digest {
+    if u16_at(coverage.table, 2).unwrap_or(0) > MANY_ROWS {
+        Digest::full()
+    } else {
+        Digest::of_coverage(coverage)
     }
 }
 
