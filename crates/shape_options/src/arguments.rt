@@ -36,33 +36,36 @@ fn command<'a>(alloc: Global) -> Result<Command<'a>, AllocError> {
 /// A command with the options of a group, or with all.
 fn with_options<'a>(alloc: Global, group: Option<&str>) -> Result<Command<'a>, AllocError> {
     let mut command = Command::new(alloc, "vukhaso_shape");
-    for (of, name, value_name, help) in OPTIONS {
-        if group.is_none_or(|group| group == of) {
-            command = command.arg(option(alloc, name, value_name)?.help(help))?;
-        }
-        if name == "ned" && group.is_none_or(|group| group == of) {
-            command = command.arg(both_of_v(alloc)?)?;
+    for (of, name, value_name, help) in &OPTIONS {
+        if group.is_none_or(|group| group == *of) {
+            command = with_option(command, option(alloc, name, value_name, help))?;
         }
     }
     Ok(command)
 }
 
-/// The option `-v`, which is that of two options in `hb-shape`, and does what both do.
-fn both_of_v<'a>(alloc: Global) -> Result<Arg<'a>, AllocError> {
-    let arg = Arg::new(alloc, "v")
-        .short('v')
-        .overrides_with("v")?
-        .action(ArgAction::SetTrue);
-    Ok(arg.help("Do what --verbose and --ned do"))
+/// A command with one more option, if that was made.
+fn with_option<'a>(
+    command: Command<'a>,
+    option: Result<Arg<'a>, AllocError>,
+) -> Result<Command<'a>, AllocError> {
+    match option {
+        Ok(option) => command.arg(option),
+        Err(error) => Err(error),
+    }
 }
 
-/// An option of this name, which may be given more than once, with a value where that has a name.
+/// An option of this name, which may be given more than once, with a value where that has a name. `v` is a letter alone.
 fn option<'a>(
     alloc: Global,
     name: &'static str,
     value_name: &'static str,
+    help: &'static str,
 ) -> Result<Arg<'a>, AllocError> {
-    let mut arg = Arg::new(alloc, name).long(name).overrides_with(name)?;
+    let mut arg = Arg::new(alloc, name).help(help).overrides_with(name)?;
+    if name != "v" {
+        arg = arg.long(name);
+    }
     if let Some(letter) = letter_of(name) {
         arg = arg.short(letter);
     }
@@ -73,14 +76,12 @@ fn option<'a>(
 }
 
 /// A command with the options that ask for help on a group, or on all.
-fn with_help_options<'a>(
-    alloc: Global,
-    mut command: Command<'a>,
-) -> Result<Command<'a>, AllocError> {
-    for (_, name, about) in GROUPS {
-        command = command.arg(help_option(alloc, name, about)?)?;
+fn with_help_options<'a>(alloc: Global, command: Command<'a>) -> Result<Command<'a>, AllocError> {
+    let mut command = command;
+    for (_, name, about) in &GROUPS {
+        command = with_option(command, help_option(alloc, name, about))?;
     }
-    command.arg(help_option(alloc, "help-all", "All options")?)
+    with_option(command, help_option(alloc, "help-all", "All options"))
 }
 
 /// An option that asks for help.
@@ -98,7 +99,7 @@ pub(crate) fn asked_for(
     alloc: Global,
     matches: &ArgMatches<'_>,
 ) -> Result<Option<String>, AllocError> {
-    for (group, name, about) in GROUPS {
+    for (group, name, about) in &GROUPS {
         if matches.get_flag(name) {
             return Ok(Some(help_on(alloc, group, about)?));
         }

@@ -4,7 +4,7 @@
 type Row = (&'static str, &'static str, &'static str, &'static str);
 
 /// Groups of options, each with the option that asks for help on it alone, and what its options are about.
-pub(crate) const GROUPS: [(&str, &str, &str); 9] = [
+pub(crate) static GROUPS: [(&str, &str, &str); 9] = [
     ("face", "help-face", "Options of the file of the font"),
     ("font", "help-font", "Options of the font's size"),
     (
@@ -36,8 +36,8 @@ pub(crate) const GROUPS: [(&str, &str, &str); 9] = [
     ),
 ];
 
-/// The options. Those of no group are shown in the help on all.
-pub(crate) const OPTIONS: [Row; 61] = [
+/// The options. Those of no group are shown in the help on all. `v` is that of two options in `hb-shape`, and does what both do.
+pub(crate) static OPTIONS: [Row; 62] = [
     ("face", "font-file", "FILE", "The font"),
     (
         "face",
@@ -335,6 +335,7 @@ pub(crate) const OPTIONS: [Row; 61] = [
         "",
         "Print no clusters and no advances",
     ),
+    ("output-syntax", "v", "", "Do what --verbose and --ned do"),
     (
         "output-syntax",
         "trace",
@@ -370,6 +371,7 @@ pub(crate) fn letter_of(name: &str) -> Option<char> {
         "output-file" => Some('o'),
         "output-format" => Some('O'),
         "trace" => Some('V'),
+        "v" => Some('v'),
         _ => None,
     }
 }

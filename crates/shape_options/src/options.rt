@@ -176,27 +176,38 @@ impl<'a> Options<'a> {
         matches: &ArgMatches<'a>,
     ) -> Result<Self, OptionsError<'a>> {
         refuse_unsupported(matches)?;
-        let (font_file, text) = font_and_text(matches)?;
+        let (font_file, word) = font_and_text(matches)?;
+        let font = font_choice(matches)?;
+        let iterations = iterations(matches)?;
+        let output = output_of(matches)?;
+        let variations = variations(alloc, unquoted(matches.get_str("variations").unwrap_or("")))?;
+        let text = text_source(alloc, matches, word)?;
+        let line = line_options(alloc, matches)?;
         Ok(Options {
             font_file,
-            font: FontChoice {
-                index: number(matches, "face-index")?.unwrap_or(0),
-                size: font_size(matches)?,
-                pixels: pixels(matches)?,
-                points: points(matches)?,
-                named_instance: number(matches, "named-instance")?,
-                synthetic: synthetic_of(matches)?,
-            },
-            variations: variations(alloc, unquoted(matches.get_str("variations").unwrap_or("")))?,
-            text: text_source(alloc, matches, text)?,
+            font,
+            variations,
+            text,
             single_par: matches.get_flag("single-par"),
-            line: line_options(alloc, matches)?,
-            iterations: iterations(matches)?,
-            output: output_of(matches)?,
+            line,
+            iterations,
+            output,
             output_file: output_file(matches),
             svg: matches.get_flag("svg"),
         })
     }
+}
+
+/// The font of a file, and the size, that words ask for.
+fn font_choice<'a>(matches: &ArgMatches<'a>) -> Result<FontChoice, OptionsError<'a>> {
+    Ok(FontChoice {
+        index: number(matches, "face-index")?.unwrap_or(0),
+        size: font_size(matches)?,
+        pixels: pixels(matches)?,
+        points: points(matches)?,
+        named_instance: number(matches, "named-instance")?,
+        synthetic: synthetic_of(matches)?,
+    })
 }
 
 /// Refuses the values of options that are there for HarfBuzz's sake alone, unless they change nothing.
@@ -311,6 +322,7 @@ fn context<'a>(
     }
 }
 
+/// How lines are made into texts and shaped.
 fn line_options<'a>(
     alloc: Global,
     matches: &ArgMatches<'a>,

@@ -2,6 +2,7 @@
 
 use crate::arguments::{asked_for, matches_of};
 use crate::options::{Options, OptionsError};
+use clap::ArgMatches;
 use std::alloc::{AllocError, Global};
 use std::convert::AsStr;
 use thiserror::Error;
@@ -43,12 +44,19 @@ pub fn options_of<'a, S: AsStr>(
     alloc: Global,
     words: &'a [S],
 ) -> Result<Options<'a>, WordsError<'a>> {
-    let matches = match matches_of(alloc, words) {
-        Ok(matches) => matches,
-        Err(error) => return Err(WordsError::Words(error)),
-    };
-    if let Some(text) = asked_for(alloc, &matches)? {
-        return Err(WordsError::Asked(text));
+    match matches_of(alloc, words) {
+        Ok(matches) => options_of_matches(alloc, &matches),
+        Err(error) => Err(WordsError::Words(error)),
     }
-    Ok(Options::from_matches(alloc, &matches)?)
+}
+
+/// What the words of a command line ask for.
+fn options_of_matches<'a>(
+    alloc: Global,
+    matches: &ArgMatches<'a>,
+) -> Result<Options<'a>, WordsError<'a>> {
+    match asked_for(alloc, matches)? {
+        Some(text) => Err(WordsError::Asked(text)),
+        None => Ok(Options::from_matches(alloc, matches)?),
+    }
 }

@@ -35,29 +35,36 @@ fn command<'a>() -> Result<Command<'a>, AllocError> {
 /// A command with the options of a group, or with all.
 fn with_options<'a>(group: Option<&str>) -> Result<Command<'a>, AllocError> {
     let mut command = Command::new("vukhaso_shape");
-    for (of, name, value_name, help) in OPTIONS {
-        if group.is_none_or(|group| group == of) {
-            command = command.arg(option(name, value_name)?.help(help))?;
-        }
-        if name == "ned" && group.is_none_or(|group| group == of) {
-            command = command.arg(both_of_v()?)?;
+    for (of, name, value_name, help) in &OPTIONS {
+        if group.is_none_or(|group| group == *of) {
+            command = with_option(command, option(name, value_name, help))?;
         }
     }
     Ok(command)
 }
 
-/// The option `-v`, which is that of two options in `hb-shape`, and does what both do.
-fn both_of_v<'a>() -> Result<Arg<'a>, AllocError> {
-    let arg = Arg::new("v")
-        .short('v')
-        .overrides_with("v")?
-        .action(ArgAction::SetTrue);
-    Ok(arg.help("Do what --verbose and --ned do"))
+/// A command with one more option, if that was made.
+fn with_option<'a>(
+    command: Command<'a>,
+    option: Result<Arg<'a>, AllocError>,
+) -> Result<Command<'a>, AllocError> {
+    match option {
+        Ok(option) => command.arg(option),
+        Err(error) => Err(error),
+    }
 }
 
-/// An option of this name, which may be given more than once, with a value where that has a name.
-fn option<'a>(name: &'static str, value_name: &'static str) -> Result<Arg<'a>, AllocError> {
-    let mut arg = Arg::new(name).long(name).overrides_with(name)?;
+/// An option of this name, which may be given more than once, with a value where that has a name. `v`
+/// is a letter alone.
+fn option<'a>(
+    name: &'static str,
+    value_name: &'static str,
+    help: &'static str,
+) -> Result<Arg<'a>, AllocError> {
+    let mut arg = Arg::new(name).help(help).overrides_with(name)?;
+    if name != "v" {
+        arg = arg.long(name);
+    }
     if let Some(letter) = letter_of(name) {
         arg = arg.short(letter);
     }
@@ -68,11 +75,12 @@ fn option<'a>(name: &'static str, value_name: &'static str) -> Result<Arg<'a>, A
 }
 
 /// A command with the options that ask for help on a group, or on all.
-fn with_help_options<'a>(mut command: Command<'a>) -> Result<Command<'a>, AllocError> {
-    for (_, name, about) in GROUPS {
-        command = command.arg(help_option(name, about)?)?;
+fn with_help_options<'a>(command: Command<'a>) -> Result<Command<'a>, AllocError> {
+    let mut command = command;
+    for (_, name, about) in &GROUPS {
+        command = with_option(command, help_option(name, about))?;
     }
-    command.arg(help_option("help-all", "All options")?)
+    with_option(command, help_option("help-all", "All options"))
 }
 
 /// An option that asks for help.
@@ -84,7 +92,7 @@ fn help_option<'a>(name: &'static str, about: &'static str) -> Result<Arg<'a>, A
 /// What words ask for in place of answers, if they do: help on some options, the version or the
 /// shapers.
 pub(crate) fn asked_for(matches: &ArgMatches<'_>) -> Result<Option<String>, AllocError> {
-    for (group, name, about) in GROUPS {
+    for (group, name, about) in &GROUPS {
         if matches.get_flag(name) {
             return Ok(Some(help_on(group, about)?));
         }

@@ -2,6 +2,7 @@
 
 //! The words of a command line.
 
+use crate::clap::ArgMatches;
 use crate::host::AsStr;
 use crate::memory::{AllocError, String};
 use crate::options::arguments::{asked_for, matches_of};
@@ -59,12 +60,16 @@ impl<'a> From<OptionsError<'a>> for WordsError<'a> {
 /// That it returns.
 #[inline]
 pub fn options_of<'a, S: AsStr>(words: &'a [S]) -> Result<Options<'a>, WordsError<'a>> {
-    let matches = match matches_of(words) {
-        Ok(matches) => matches,
-        Err(error) => return Err(WordsError::Words(error)),
-    };
-    if let Some(text) = asked_for(&matches)? {
-        return Err(WordsError::Asked(text));
+    match matches_of(words) {
+        Ok(matches) => options_of_matches(&matches),
+        Err(error) => Err(WordsError::Words(error)),
     }
-    Ok(Options::from_matches(&matches)?)
+}
+
+/// What the words of a command line ask for.
+fn options_of_matches<'a>(matches: &ArgMatches<'a>) -> Result<Options<'a>, WordsError<'a>> {
+    match asked_for(matches)? {
+        Some(text) => Err(WordsError::Asked(text)),
+        None => Ok(Options::from_matches(matches)?),
+    }
 }
