@@ -10,6 +10,7 @@ pub mod LigaturesLemmas
 pub mod MatchPositionsLemmas
 pub mod NestedLemmas
 pub mod Rows
+pub mod RunsLemmas
 pub mod SingleTurnLemmas
 pub mod SinglesLemmas
 pub mod TurnLemmas

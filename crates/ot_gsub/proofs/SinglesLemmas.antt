@@ -230,6 +230,18 @@ module _ (substitutions : Substitutions) (lookup : Lookup) where
 
   -- ---- turns
 
+  pub moves_none : (s : State) → IsForNext substitutions lookup s → HasMoved substitutions lookup 0 s s
+  moves_none s next =
+      let place : s.idx ≡ s.idx + 0 = omega arith in
+      record {
+        count = 0;
+        from = omega arith;
+        within = omega arith;
+        state = ap (λ (o : List hb_glyph_info_t). record s { out = o }) (sym (append-nil s.out))
+            ∙ ap (λ k. record s { out = s.out ++ []; idx = k }) place;
+        at = next;
+      }
+
   pub moves_more : (t : ℕ) (s b c : State) → HasMoved substitutions lookup t s b → HasMoved substitutions lookup 1 b c
       → HasMoved substitutions lookup (t + 1) s c
   moves_more t s b c first second =

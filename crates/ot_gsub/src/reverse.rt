@@ -1,16 +1,21 @@
 //! Reverse substitutions: glyphs are replaced in place, from the last one to the first, so that each sees what became of
 //! those after it.
 
-ghost use Rattle.std.specs.Prelude.{◌≡◌, ◌<◌, ◌+◌, false, length};
+ghost use Rattle.std.specs.Prelude.{◌≡◌, ◌<◌, ◌+◌, false, true, length, None, if◌then◌else◌};
+ghost use Rattle.rb_glyph.specs.Fields.{field};
 ghost use Rattle.ot_layout.specs.Budget.{IsNotMore};
 ghost use Rattle.ot_gsub.specs.Edits as edits;
+ghost use Rattle.ot_gsub.specs.Nested.{now_of};
+ghost use Rattle.ot_gsub.specs.Runs.{AreDoneBackward, IsPlaceDone, mark_around, takes};
+ghost use Rattle.ot_gsub.specs.Singles.{opened_at};
+ghost use Rattle.ot_gsub.specs.Turn.{IsDecided};
 ghost use Rattle.shaping_buffer.specs.KeepsClusters.{KeepsClusters};
 
 use crate::properties::{Way, substituted_props};
 use crate::substitution::{Progress, Substitutions};
 use font_tables::gdef::Gdef;
 use ot_layout::substitution::{Edit, edit_at};
-use ot_layout::{ApplyContext, Lookup, Reach, SkippingIterator};
+use ot_layout::{ApplyContext, Lookup, LookupOptions, Reach, SkippingIterator};
 use rb_glyph::hb_glyph_info_t;
 use shaping_buffer::hb_buffer_t;
 
@@ -22,6 +27,9 @@ pub(crate) fn substitute_reverse(
     progress: &mut Progress,
 )
     requires { buffer.old.have_output ≡ false }
+    ensures run { 0 < progress.new.search.budget.steps
+        → AreDoneBackward substitutions.now lookup.now (length buffer.old.input) (now_of buffer.old progress.old)
+        (now_of buffer.new progress.new) }
     ensures closed { buffer.new.have_output ≡ false }
     ensures spent { IsNotMore progress.old.search.budget progress.new.search.budget }
     ensures keeps { KeepsClusters buffer.old buffer.new }
@@ -41,22 +49,27 @@ fn substitute_one(
     place: usize,
 )
     requires { buffer.old.have_output ≡ false }
+    ensures done { 0 < progress.new.search.budget.steps → place < length buffer.old.input
+        → IsPlaceDone substitutions.now lookup.now place (now_of buffer.old progress.old) (now_of buffer.new progress.new) }
+    ensures same_length { length buffer.new.input ≡ length buffer.old.input }
     ensures closed { buffer.new.have_output ≡ false }
     ensures spent { IsNotMore progress.old.search.budget progress.new.search.budget }
     ensures keeps { KeepsClusters buffer.old buffer.new }
 {
-    let edit = decide(buffer.info(), substitutions, lookup, progress, place);
+    let edit = decide(buffer, substitutions, lookup, progress, place);
     mark_concat(buffer, &progress.search.reach, place);
-    if let Some(edit) = edit {
-        progress.has_changed = true;
-        make(buffer, substitutions.gdef, place, &edit);
-    }
+    let Some(edit) = edit else {
+        return;
+    };
+    progress.has_changed = true;
+    make(buffer, substitutions.gdef, place, &edit);
 }
 
 /// Makes an edit of the glyph at a place.
 fn make(buffer: &mut hb_buffer_t, gdef: &Gdef, place: usize, edit: &Edit)
     requires { buffer.old.have_output ≡ false }
     ensures is { buffer.new ≡ edits.made_in_place gdef.now.table.now place edit.now buffer.old }
+    ensures same_length { length buffer.new.input ≡ length buffer.old.input }
     ensures closed { buffer.new.have_output ≡ false }
     ensures keeps { KeepsClusters buffer.old buffer.new }
 {
@@ -68,17 +81,28 @@ fn make(buffer: &mut hb_buffer_t, gdef: &Gdef, place: usize, edit: &Edit)
 
 /// What the lookup does at a place.
 fn decide<'a>(
-    glyphs: &[hb_glyph_info_t],
+    buffer: &hb_buffer_t,
     substitutions: &Substitutions<'a>,
     lookup: &Lookup,
     progress: &mut Progress,
     place: usize,
 ) -> Option<Edit<'a>>
+    requires { buffer.now.have_output ≡ false }
+    ensures decided { 0 < progress.new.search.budget.steps → place < length buffer.now.input
+        → takes substitutions.now lookup.now place buffer.now ≡ true
+        → IsDecided substitutions.now lookup.now false (opened_at place buffer.now) progress.new.search.places.items result }
+    ensures passed { place < length buffer.now.input → takes substitutions.now lookup.now place buffer.now ≡ false
+        → (result ≡ None) × (progress.new.search.reach.to ≡ 0) × (now_of buffer.now progress.new ≡ now_of buffer.now progress.old) }
+    ensures same_random { progress.new.random_state ≡ progress.old.random_state }
     ensures spent { IsNotMore progress.old.search.budget progress.new.search.budget }
 {
+    let glyphs = buffer.info();
     let options = &substitutions.options;
     progress.search.reach = Reach::none(0);
-    if place >= glyphs.len() || !lookup.is_for(options.mask, &glyphs[place]) {
+    if place >= glyphs.len() {
+        return None;
+    }
+    if !lookup.is_for(options.mask, &glyphs[place]) {
         return None;
     }
     let ctx = ApplyContext {
@@ -86,11 +110,7 @@ fn decide<'a>(
         input: &glyphs[place..],
         iterator: SkippingIterator::over_input(lookup.lookup_props, options, false),
         context: SkippingIterator::over_context(lookup.lookup_props, options, false),
-        syllable: if options.per_syllable {
-            glyphs[place].syllable()
-        } else {
-            0
-        },
+        syllable: syllable_of(&glyphs[place], options),
         is_level: true,
     };
     progress.search.reach = Reach::none(place);
@@ -104,9 +124,22 @@ fn decide<'a>(
     )
 }
 
+/// The syllable of a glyph where all glyphs of a match are of one syllable, or else 0.
+fn syllable_of(glyph: &hb_glyph_info_t, options: &LookupOptions) -> u8
+    ensures { result ≡ (if options.now.per_syllable then field glyph.now.var1 24 8 else 0) }
+{
+    if options.per_syllable {
+        glyph.syllable()
+    } else {
+        0
+    }
+}
+
 /// Marks the glyphs that were looked at from a place on, and before it, as unsafe to concatenate.
 fn mark_concat(buffer: &mut hb_buffer_t, reach: &Reach, place: usize)
     requires { buffer.old.have_output ≡ false }
+    ensures is { buffer.new ≡ mark_around place reach.now buffer.old }
+    ensures same_length { length buffer.new.input ≡ length buffer.old.input }
     ensures closed { buffer.new.have_output ≡ false }
     ensures keeps { KeepsClusters buffer.old buffer.new }
 {
