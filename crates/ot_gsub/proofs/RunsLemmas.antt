@@ -2,15 +2,19 @@
 use Rattle.std.proofs.Common.{◌≡◌, ◌⊎◌, ℕ, zero, suc, ◌+◌, ◌<◌, ◌≤◌, Bool, true, false, List, [], ◌∷◌, ◌++◌, length, take, drop, Result, Ok, Err, IfOk}
 use Rattle.std.proofs.Common.{refl, sym, ap, subst, ◌∙◌, inl, inr, arith, append_assoc, length-append, length-drop}
 use Rattle.std.proofs.lemmas.Bool.{cases_Bool, cases_lt, cond-true, cond-false, cond_both, eqb-true, false≢true, le-leb, le-ltb, lt-leb, lt-ltb, ne_eqb}
-use Rattle.std.proofs.lemmas.List.{length-take-le}
+use Rattle.std.proofs.lemmas.List.{get_or-drop, get_or_past, length-take-le}
+use Rattle.std.proofs.lemmas.Nat.{and_comm}
 use Rattle.std.proofs.lemmas.List.Folds.{list_any_at}
 use Rattle.std.specs.List.{list_any}
-use Rattle.std.specs.Prelude.{IsErr, Option, None, is_err, min, nat_le, nat_lt, ◌-◌, ◌^◌, ◌==◌, ◌&&◌, ◌||◌, if◌then◌else◌}
+use Rattle.std.specs.Prelude.{IsErr, Option, None, is_err, min, nat_le, nat_lt, ◌-◌, ◌^◌, not, ◌==◌, ◌&&◌, ◌||◌, if◌then◌else◌}
 use Rattle.std.specs.declared.alloc.AllocError.{AllocError}
 use Rattle.rb_glyph.specs.declared.info.hb_glyph_info_t.{hb_glyph_info_t}
 use Rattle.glyph_lists.specs.Clusters.{zero_glyph}
+use Rattle.std.specs.Int.Bits.{and_zero_r}
+use Rattle.ot_layout.specs.Digest.{may_have}
+use Rattle.ot_layout.specs.FirstGlyphs.{may_have_first}
 use Rattle.ot_layout.specs.Lookup.{is_for}
-use Rattle.ot_layout.specs.SkippingIterator.{glyph_at}
+use Rattle.ot_layout.specs.SkippingIterator.{glyph_at, passes_over, share}
 use Rattle.ot_layout.specs.declared.lookup_list.Lookup.{Lookup}
 use Rattle.ot_layout.specs.declared.search.Reach.{Reach}
 use Rattle.ot_layout.specs.declared.substitution.Edit.{Edit}
@@ -26,6 +30,7 @@ use Rattle.ot_gsub.specs.declared.substitution.Progress.{Progress}
 use Rattle.ot_gsub.specs.declared.substitution.Substitutions.{Substitutions}
 use Rattle.ot_gsub.proofs.EditsLemmas.{state-limited}
 use Rattle.ot_gsub.proofs.SingleTurnLemmas.{settled_level}
+use Rattle.ot_gsub.proofs.SinglesLemmas.{and_false}
 
 -- ---- glyphs that are put out in one call, or one by one
 
@@ -156,9 +161,9 @@ module _ (b : State) (p : Bool) (o : List hb_glyph_info_t) (x : hb_glyph_info_t)
   rest_is (suc m) within yes = some_more (suc m) within (omega arith)
 
 -- an output is opened, and n glyphs are put out
-opened_put : (n : ℕ) (s : State) → n ≤ length s.input → length s.input ≤ s.max_len
+next_glyphs-opened : (n : ℕ) (s : State) → n ≤ length s.input → length s.input ≤ s.max_len
     → next_glyphs n (clear_output s) ≡ unlimited (opened_at n s)
-opened_put n s within long =
+next_glyphs-opened n s within long =
     let after : State = record (opened_at n s) { idx = 0 + n } in
     let count = length-take-le n s.input within in
     let place : 0 + n ≡ n = omega arith in
@@ -171,6 +176,9 @@ pub wants_storage : (separate : Bool) (result : Result Bool AllocError) → (sep
     → separate ≡ true
 wants_storage true result done failed = refl
 wants_storage false result done failed = absurd (false≢true (sym (ap is_err (done refl)) ∙ failed))
+
+pub glyph_at-drop : (n : ℕ) (l : List hb_glyph_info_t) → glyph_at (drop n l) 0 ≡ glyph_at l n
+glyph_at-drop n l = let none : n + 0 ≡ n = omega arith in get_or-drop n l 0 zero_glyph ∙ ap (glyph_at l) none
 
 -- ---- glyphs in a row
 
@@ -364,11 +372,6 @@ module _ (substitutions : Substitutions) (lookup : Lookup) where
   }
   under_way_then m old mid false new first rest = stopped_then m old mid (Ok false) first rest
 
-  glyph_at_drop : (n : ℕ) (l : List hb_glyph_info_t) → glyph_at (drop n l) 0 ≡ glyph_at l n
-  glyph_at_drop zero l = refl
-  glyph_at_drop (suc n) [] = refl
-  glyph_at_drop (suc n) (x ∷ l) = glyph_at_drop n l
-
   next_by : (start : ℕ) (s : State) (done : Bool) (new : State) (g : GoesOn lookup substitutions.options.mask start s done new)
       → s.have_output ≡ true → done ≡ true → 0 < length new.input → is_taken (glyph_at new.input 0) ≡ true
   next_by start s done new g is yes some =
@@ -376,7 +379,7 @@ module _ (substitutions : Substitutions) (lookup : Lookup) where
       ap (λ (t : State). t.input) g.gives.state ∙ input-put g.count s is (sym g.gives.answer ∙ yes) in
       let long : length new.input ≡ length s.input - g.count = ap length left ∙ length-drop g.count s.input in
       ap (λ (l : List hb_glyph_info_t). is_taken (glyph_at l 0)) left
-      ∙ ap is_taken (glyph_at_drop g.count s.input) ∙ g.at (omega (arith, long, some))
+      ∙ ap is_taken (glyph_at-drop g.count s.input) ∙ g.at (omega (arith, long, some))
 
   -- glyphs are passed over from the cursor on
   pub goes : (old : Now) (done : Bool) (new : State) → old.buffer.have_output ≡ true
@@ -538,7 +541,7 @@ module _ (substitutions : Substitutions) (lookup : Lookup) where
       let put_is : put n c ≡ unlimited (opened_at n s) =
       cond_both (n == 0) _ _ (λ (r : Outcome). r ≡ unlimited (opened_at n s))
       (λ e. ap (λ k. unlimited (opened_at k s)) (sym (eqb-true n 0 e)))
-      (λ _. opened_put n s within long) in
+      (λ _. next_glyphs-opened n s within long) in
       subst (λ (r : Outcome). CameTo n (opened old) r.done (record old { buffer = r.state })) put_is
       (came n (opened old) refl within none)
 
@@ -635,6 +638,18 @@ mark_around-none : (place : ℕ) (reach : Reach) (s : State) → reach.to ≡ 0 
 mark_around-none place reach s none =
     cond-false _ _ _
     (ap (λ k. nat_lt 0 k && nat_le reach.from (min (min (place + reach.to) (2 ^ 64 - 1)) (len s))) none)
+
+-- there is none behind the text
+pub takes-past : (substitutions : Substitutions) (lookup : Lookup) (place : ℕ) (s : State) → length s.input ≤ place
+    → takes substitutions lookup place s ≡ false
+takes-past substitutions lookup place s past =
+    let mask = substitutions.options.mask in
+    let apart : share 0 mask ≡ false = ap (λ k. not (k == 0)) (and_comm 0 mask ∙ and_zero_r mask) in
+    ap (is_for lookup mask) (get_or_past s.input place zero_glyph past)
+    ∙ ap (λ b. may_have lookup.digest 0 && b && not (passes_over lookup.lookup_props zero_glyph) && may_have_first lookup.firsts 0)
+    apart
+    ∙ ap (λ b. b && not (passes_over lookup.lookup_props zero_glyph) && may_have_first lookup.firsts 0)
+    (and_false (may_have lookup.digest 0))
 
 -- what comes of the glyph at a place, by what is decided there, marked and made
 pub place_done : (substitutions : Substitutions) (lookup : Lookup) (place : ℕ) (p q : Progress) (s m new : State)

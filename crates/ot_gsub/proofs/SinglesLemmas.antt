@@ -74,7 +74,7 @@ pub not_reverse : (l : List Subtable) → All (λ (t : Subtable). t.lookup_type 
 not_reverse [] all = refl
 not_reverse (t ∷ l) all = ap (λ k. k == 8) (All-head (λ (x : Subtable). x.lookup_type ≡ 1) t l all)
 
-and_false : (a : Bool) → (a && false) ≡ false
+pub and_false : (a : Bool) → (a && false) ≡ false
 and_false true = refl
 and_false false = refl
 

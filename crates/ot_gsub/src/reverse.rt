@@ -1,9 +1,10 @@
 //! Reverse substitutions: glyphs are replaced in place, from the last one to the first, so that each sees what became of
 //! those after it.
 
-ghost use Rattle.std.specs.Prelude.{◌≡◌, ◌<◌, ◌+◌, false, true, length, None, if◌then◌else◌};
+ghost use Rattle.std.specs.Prelude.{◌≡◌, ◌<◌, ◌≤◌, ◌+◌, false, true, length, take, drop, None, if◌then◌else◌};
 ghost use Rattle.rb_glyph.specs.Fields.{field};
 ghost use Rattle.ot_layout.specs.Budget.{IsNotMore};
+ghost use Rattle.ot_layout.specs.SkippingIterator.{glyph_at};
 ghost use Rattle.ot_gsub.specs.Edits as edits;
 ghost use Rattle.ot_gsub.specs.Nested.{now_of};
 ghost use Rattle.ot_gsub.specs.Runs.{AreDoneBackward, IsPlaceDone, mark_around, takes};
@@ -49,9 +50,8 @@ fn substitute_one(
     place: usize,
 )
     requires { buffer.old.have_output ≡ false }
-    ensures done { 0 < progress.new.search.budget.steps → place < length buffer.old.input
+    ensures done { 0 < progress.new.search.budget.steps
         → IsPlaceDone substitutions.now lookup.now place (now_of buffer.old progress.old) (now_of buffer.new progress.new) }
-    ensures same_length { length buffer.new.input ≡ length buffer.old.input }
     ensures closed { buffer.new.have_output ≡ false }
     ensures spent { IsNotMore progress.old.search.budget progress.new.search.budget }
     ensures keeps { KeepsClusters buffer.old buffer.new }
@@ -69,7 +69,6 @@ fn substitute_one(
 fn make(buffer: &mut hb_buffer_t, gdef: &Gdef, place: usize, edit: &Edit)
     requires { buffer.old.have_output ≡ false }
     ensures is { buffer.new ≡ edits.made_in_place gdef.now.table.now place edit.now buffer.old }
-    ensures same_length { length buffer.new.input ≡ length buffer.old.input }
     ensures closed { buffer.new.have_output ≡ false }
     ensures keeps { KeepsClusters buffer.old buffer.new }
 {
@@ -88,29 +87,25 @@ fn decide<'a>(
     place: usize,
 ) -> Option<Edit<'a>>
     requires { buffer.now.have_output ≡ false }
-    ensures decided { 0 < progress.new.search.budget.steps → place < length buffer.now.input
-        → takes substitutions.now lookup.now place buffer.now ≡ true
+    ensures decided { 0 < progress.new.search.budget.steps → takes substitutions.now lookup.now place buffer.now ≡ true
         → IsDecided substitutions.now lookup.now false (opened_at place buffer.now) progress.new.search.places.items result }
-    ensures passed { place < length buffer.now.input → takes substitutions.now lookup.now place buffer.now ≡ false
+    ensures passed { takes substitutions.now lookup.now place buffer.now ≡ false
         → (result ≡ None) × (progress.new.search.reach.to ≡ 0) × (now_of buffer.now progress.new ≡ now_of buffer.now progress.old) }
     ensures same_random { progress.new.random_state ≡ progress.old.random_state }
     ensures spent { IsNotMore progress.old.search.budget progress.new.search.budget }
 {
-    let glyphs = buffer.info();
-    let options = &substitutions.options;
     progress.search.reach = Reach::none(0);
-    if place >= glyphs.len() {
+    if !is_taken(buffer, substitutions, lookup, place) {
         return None;
     }
-    if !lookup.is_for(options.mask, &glyphs[place]) {
-        return None;
-    }
+    let options = &substitutions.options;
+    let glyphs = buffer.info();
     let ctx = ApplyContext {
-        out: &glyphs[..place],
-        input: &glyphs[place..],
+        out: glyphs_before(glyphs, place),
+        input: glyphs_from(glyphs, place),
         iterator: SkippingIterator::over_input(lookup.lookup_props, options, false),
         context: SkippingIterator::over_context(lookup.lookup_props, options, false),
-        syllable: syllable_of(&glyphs[place], options),
+        syllable: syllable_at(glyphs, options, place),
         is_level: true,
     };
     progress.search.reach = Reach::none(place);
@@ -124,12 +119,47 @@ fn decide<'a>(
     )
 }
 
-/// The syllable of a glyph where all glyphs of a match are of one syllable, or else 0.
-fn syllable_of(glyph: &hb_glyph_info_t, options: &LookupOptions) -> u8
-    ensures { result ≡ (if options.now.per_syllable then field glyph.now.var1 24 8 else 0) }
+/// Whether the lookup is for the glyph at a place, if there is one.
+fn is_taken(
+    buffer: &hb_buffer_t,
+    substitutions: &Substitutions,
+    lookup: &Lookup,
+    place: usize,
+) -> bool
+    requires { buffer.now.have_output ≡ false }
+    ensures takes { result ≡ takes substitutions.now lookup.now place buffer.now }
+    ensures within { result ≡ true → place < length buffer.now.input }
+{
+    let glyphs = buffer.info();
+    if place >= glyphs.len() {
+        return false;
+    }
+    lookup.is_for(substitutions.options.mask, &glyphs[place])
+}
+
+/// The glyphs before a place.
+fn glyphs_before(glyphs: &[hb_glyph_info_t], place: usize) -> &[hb_glyph_info_t]
+    requires { place ≤ length glyphs.now }
+    ensures { result.now ≡ take place glyphs.now }
+{
+    &glyphs[..place]
+}
+
+/// The glyphs from a place on.
+fn glyphs_from(glyphs: &[hb_glyph_info_t], place: usize) -> &[hb_glyph_info_t]
+    requires { place ≤ length glyphs.now }
+    ensures { result.now ≡ drop place glyphs.now }
+{
+    &glyphs[place..]
+}
+
+/// The syllable of the glyph at a place where all glyphs of a match are of one syllable, or else 0.
+fn syllable_at(glyphs: &[hb_glyph_info_t], options: &LookupOptions, place: usize) -> u8
+    requires { place < length glyphs.now }
+    ensures { result ≡ (if options.now.per_syllable then field (glyph_at glyphs.now place).var1 24 8 else 0) }
 {
     if options.per_syllable {
-        glyph.syllable()
+        glyphs[place].syllable()
     } else {
         0
     }
@@ -139,7 +169,6 @@ fn syllable_of(glyph: &hb_glyph_info_t, options: &LookupOptions) -> u8
 fn mark_concat(buffer: &mut hb_buffer_t, reach: &Reach, place: usize)
     requires { buffer.old.have_output ≡ false }
     ensures is { buffer.new ≡ mark_around place reach.now buffer.old }
-    ensures same_length { length buffer.new.input ≡ length buffer.old.input }
     ensures closed { buffer.new.have_output ≡ false }
     ensures keeps { KeepsClusters buffer.old buffer.new }
 {

@@ -1,4 +1,4 @@
-use Rattle.std.proofs.Common.{◌≡◌, ◌+◌, ◌-◌, ◌<◌, suc, ap, arith, length, refl, subst, ◌∙◌}
+use Rattle.std.proofs.Common.{◌≡◌, ◌+◌, ◌-◌, ◌<◌, suc, ap, arith, length, subst, ◌∙◌}
 use Rattle.shaping_buffer.proofs.KeepsLemmas.{keeps_none, keeps_then}
 use Rattle.ot_gsub.specs.Nested.{now_of}
 use Rattle.ot_gsub.specs.Runs.{AreDoneBackward}
@@ -13,7 +13,6 @@ loop-turn-init c =
       closed = c.requires;
       keeps = keeps_none s;
       spent = (omega arith, omega arith);
-      same_length = refl;
       rest = λ steps new done.
           subst (λ k. AreDoneBackward c.args.substitutions.now c.args.lookup.now k (now_of s c.args.progress.now) new) all done;
     }
@@ -33,7 +32,6 @@ loop-turn-preserved c =
         omega (arith, c.loop-turn.invariant.spent.0, c.substitute_one.ensures.spent.0),
         omega (arith, c.loop-turn.invariant.spent.1, c.substitute_one.ensures.spent.1),
       );
-      same_length = c.substitute_one.ensures.same_length ∙ c.loop-turn.invariant.same_length;
       rest = λ steps end done.
           let before : 0 < c.loop-turn.progress.search.budget.steps = omega (arith, steps, c.substitute_one.ensures.spent.1) in
           let place : c.len-count.result - 1 - t ≡ length s.input - (t + 1) = omega (arith, count, left) in
@@ -41,7 +39,7 @@ loop-turn-preserved c =
           (backward_next c.args.substitutions.now c.args.lookup.now (now_of b c.loop-turn.progress) (length s.input - (t + 1))
           (c.len-count.result - 1 - t) (length s.input - t) (now_of new c.substitute_one.new.progress) end place
           (omega (arith, left))
-          (c.substitute_one.ensures.done steps (omega (arith, count, left, c.loop-turn.invariant.same_length))) done);
+          (c.substitute_one.ensures.done steps) done);
     }
 
 pub returns-clause-run : goal.returns-clause-run

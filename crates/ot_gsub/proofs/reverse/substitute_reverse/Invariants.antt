@@ -11,7 +11,6 @@ invariant-loop-turn l = record {
   closed : l.buffer.have_output ≡ false;
   keeps : KeepsClusters l.fn.buffer l.buffer;
   spent : IsNotMore l.fn.progress.search.budget l.progress.search.budget;
-  same_length : length l.buffer.input ≡ length l.fn.buffer.input;
   rest : 0 < l.progress.search.budget.steps → (new : Now)
       → AreDoneBackward l.substitutions l.lookup (length l.fn.buffer.input - l.turn) (now_of l.buffer l.progress) new
       → AreDoneBackward l.substitutions l.lookup (length l.fn.buffer.input) (now_of l.fn.buffer l.fn.progress) new;
