@@ -43,7 +43,7 @@ held_is : (s : State) → s.have_output ≡ true → s ≡ held s s.have_separat
 held_is s is = ap (λ h. record s { have_output = h }) is
 
 -- what comes of n glyphs that are put out, if there are any
-abbrev pub put : ℕ → State → Outcome
+abbrev put : ℕ → State → Outcome
 put n s = if n == 0 then unlimited s else next_glyphs n s
 
 put_some : (n : ℕ) (s : State) → 0 < n → put n s ≡ next_glyphs n s
@@ -97,10 +97,10 @@ module _ (b : State) (p : Bool) (o : List hb_glyph_info_t) (x : hb_glyph_info_t)
   fits = nat_le (length (o ++ x ∷ [])) b.max_len
 
   first_fits : fits ≡ true → next_glyph s ≡ unlimited s1
-  first_fits yes = cond-true _ _ _ yes
+  first_fits holds = cond-true _ _ _ holds
 
   first_refused : fits ≡ false → (next_glyph s).done ≡ false
-  first_refused no = done-held b p o (x ∷ xs) i 1 ∙ no
+  first_refused fails = done-held b p o (x ∷ xs) i 1 ∙ fails
 
   long_one : length (o ++ x ∷ []) ≡ length o + 1
   long_one = length-append o (x ∷ [])
@@ -119,10 +119,13 @@ module _ (b : State) (p : Bool) (o : List hb_glyph_info_t) (x : hb_glyph_info_t)
     done_all = ap (λ (r : Outcome). r.done) one ∙ done-held b p o (x ∷ xs) i (suc m)
 
     all_refused : fits ≡ false → (put (suc m) s).done ≡ false
-    all_refused no = done_all ∙ elim (cases_lt b.max_len (length (o ++ x ∷ []))) [
-      | inl lt ↦ lt-leb b.max_len (length more) (omega (arith, lt, long_put, long_one))
-      | inr ge ↦ absurd (false≢true (sym no ∙ le-leb (length (o ++ x ∷ [])) b.max_len ge))
-    ]
+    all_refused fails =
+        let long : nat_le (length more) b.max_len ≡ false =
+        elim (cases_lt b.max_len (length (o ++ x ∷ []))) [
+          | inl lt ↦ lt-leb b.max_len (length more) (omega (arith, lt, long_put, long_one))
+          | inr ge ↦ absurd (false≢true (sym fails ∙ le-leb (length (o ++ x ∷ [])) b.max_len ge))
+        ] in
+        done_all ∙ long
 
     -- those after the first come as if they were put out alone
     abbrev RestIs : Type 0
@@ -139,26 +142,25 @@ module _ (b : State) (p : Bool) (o : List hb_glyph_info_t) (x : hb_glyph_info_t)
         done_all ∙ ap (λ (l : List hb_glyph_info_t). nat_le (length l) b.max_len) (sym same) ∙ sym done_rest in
         let shift : nat_lt (i + 1 + m) (length more) ≡ q =
         sym (nat_lt-shift (i + 1) (length (o ++ x ∷ [])) (i + 1 + m) (length more) m refl (omega (arith, long_put, long_one))) in
-        let place : i + suc m ≡ i + 1 + m = omega arith in
-        (
+        let place : i + suc m ≡ i + 1 + m = omega arith in (
           equal,
-          λ yes.
+          λ holds.
               ap (λ (r : Outcome). r.state) one
-              ∙ state-held b p o (x ∷ xs) i (suc m) (sym (ap (λ (r : Outcome). r.done) one) ∙ equal ∙ yes)
+              ∙ state-held b p o (x ∷ xs) i (suc m) (sym (ap (λ (r : Outcome). r.done) one) ∙ equal ∙ holds)
               ∙ ap (λ k. held b (p || nat_lt k (length more)) more (drop m xs) k) place
               ∙ ap (λ z. held b z more (drop m xs) (i + 1 + m))
               (ap (λ z. p || z) shift ∙ sym (or_twice p q) ∙ ap (λ z. (p || q) || z) (sym shift))
               ∙ ap (λ (l : List hb_glyph_info_t). held b ((p || q) || nat_lt (i + 1 + m) (length l)) l (drop m xs) (i + 1 + m))
               (sym same)
-              ∙ sym (state-held b (p || q) (o ++ x ∷ []) xs (i + 1) m (sym (ap (λ (r : Outcome). r.done) two) ∙ yes))
+              ∙ sym (state-held b (p || q) (o ++ x ∷ []) xs (i + 1) m (sym (ap (λ (r : Outcome). r.done) two) ∙ holds))
               ∙ sym (ap (λ (r : Outcome). r.state) two),
         )
 
   rest_is : (m : ℕ) (within : m ≤ length xs) → fits ≡ true
       → ((put (suc m) s).done ≡ (put m s1).done) × ((put m s1).done ≡ true → (put (suc m) s).state ≡ (put m s1).state)
-  rest_is zero within yes =
-      (ap (λ (r : Outcome). r.done) (first_fits yes), λ _. ap (λ (r : Outcome). r.state) (first_fits yes))
-  rest_is (suc m) within yes = some_more (suc m) within (omega arith)
+  rest_is zero within holds =
+      (ap (λ (r : Outcome). r.done) (first_fits holds), λ _. ap (λ (r : Outcome). r.state) (first_fits holds))
+  rest_is (suc m) within holds = some_more (suc m) within (omega arith)
 
 -- an output is opened, and n glyphs are put out
 next_glyphs-opened : (n : ℕ) (s : State) → n ≤ length s.input → length s.input ≤ s.max_len
@@ -207,7 +209,7 @@ module _ (substitutions : Substitutions) (lookup : Lookup) where
   unfolding AreGlyphsDone
   done_one old new first = record { mid = new; first = first; others = refl }
 
-  pub done_then : (m n : ℕ) (old mid new : Now) → Done m old mid → Done n mid new → Done (m + n) old new
+  done_then : (m n : ℕ) (old mid new : Now) → Done m old mid → Done n mid new → Done (m + n) old new
   unfolding AreGlyphsDone
   done_then zero n old mid new first rest =
       let e : n ≡ zero + n = omega arith in
@@ -218,7 +220,7 @@ module _ (substitutions : Substitutions) (lookup : Lookup) where
       record { mid = first.mid; first = first.first; others = done_then m n first.mid mid new first.others rest } in
       subst (λ k. Done k old new) e all
 
-  pub stopped_then : (m : ℕ) (old mid : Now) (result : Result Bool AllocError) → Done m old mid → Stopped mid result
+  stopped_then : (m : ℕ) (old mid : Now) (result : Result Bool AllocError) → Done m old mid → Stopped mid result
       → Stopped old result
   stopped_then m old mid result first s = record {
     turns = m + s.turns;
@@ -242,7 +244,7 @@ module _ (substitutions : Substitutions) (lookup : Lookup) where
   -- ---- glyphs that the lookup is not for
 
   -- so many glyphs are done, or one of them was refused
-  abbrev pub CameTo : ℕ → Now → Bool → Now → Type 0
+  abbrev CameTo : ℕ → Now → Bool → Now → Type 0
   CameTo n old true new = Done n old new
   CameTo n old false new = Stopped old (Ok false)
 
@@ -258,17 +260,7 @@ module _ (substitutions : Substitutions) (lookup : Lookup) where
       (subst (λ (t : State). Done n old (record at { buffer = t })) (sym (same refl)) c)
   came_same n old at false d2 st st2 e same c = subst (λ z. CameTo n old z (record at { buffer = st2 })) (sym e) c
 
-  -- a glyph that is put out as it stands
-  plain : (old : Now) (done : Bool) (new : State) → 0 < length old.buffer.input → is_taken (glyph_at old.buffer.input 0) ≡ false
-      → done ≡ (next_glyph old.buffer).done → new ≡ (next_glyph old.buffer).state
-      → Glyph old (Ok done) (record old { buffer = new })
-  plain old done new some none answer state = record {
-    some = some;
-    others = λ _. (answer, ap (λ (t : State). record old { buffer = t }) state);
-    taken = λ yes. absurd (false≢true (sym none ∙ yes));
-  }
-
-  -- the first of them is what it is by a call that puts it out
+  -- what comes of the first of them is known from the call that puts it out
   module _ (at : Now) (old : Now) (b : State) (p : Bool) (o : List hb_glyph_info_t) (x : hb_glyph_info_t)
       (xs : List hb_glyph_info_t) (i : ℕ)
       (by : (result : Result Bool AllocError) (new : Now)
@@ -283,18 +275,18 @@ module _ (substitutions : Substitutions) (lookup : Lookup) where
         → CameTo n (record at { buffer = h1 }) (put n h1).done (record at { buffer = (put n h1).state })
         → CameTo (suc n) old (put (suc n) h).done (record at { buffer = (put (suc n) h).state })
     came_more n within rest = elim (cases_Bool (nat_le (length (o ++ x ∷ [])) b.max_len)) [
-      | inl yes ↦
-          let first : next_glyph h ≡ unlimited h1 = first_fits b p o x xs i yes in
-          let same = rest_is b p o x xs i n within yes in
+      | inl holds ↦
+          let first : next_glyph h ≡ unlimited h1 = first_fits b p o x xs i holds in
+          let same = rest_is b p o x xs i n within holds in
           came_same (suc n) old at (put n h1).done (put (suc n) h).done (put n h1).state (put (suc n) h).state same.0 same.1
           (came_first n old (record at { buffer = h1 }) (put n h1).done (record at { buffer = (put n h1).state })
           (by (Ok true) (record at { buffer = h1 })
           (sym (ap (λ (r : Outcome). r.done) first), sym (ap (λ (r : Outcome). record at { buffer = r.state }) first))) rest)
-      | inr no ↦
+      | inr fails ↦
           subst (λ z. CameTo (suc n) old z (record at { buffer = (put (suc n) h).state }))
-          (sym (all_refused b p o x xs i n within no))
+          (sym (all_refused b p o x xs i n within fails))
           (stopped_here old (record at { buffer = (next_glyph h).state }) (Ok false)
-          (by (Ok false) (record at { buffer = (next_glyph h).state }) (sym (first_refused b p o x xs i no), refl)) refl)
+          (by (Ok false) (record at { buffer = (next_glyph h).state }) (sym (first_refused b p o x xs i fails), refl)) refl)
     ]
 
   came_held : (n : ℕ) (at : Now) (b : State) (p : Bool) (o l : List hb_glyph_info_t) (i : ℕ) → n ≤ length l
@@ -310,13 +302,13 @@ module _ (substitutions : Substitutions) (lookup : Lookup) where
       (λ result new is. record {
         some = omega arith;
         others = λ _. is;
-        taken = λ yes. absurd (false≢true (sym here ∙ yes));
+        taken = λ holds. absurd (false≢true (sym here ∙ holds));
       })
       n (omega (arith, within))
       (came_held n at b (p || nat_lt (i + 1) (length (o ++ x ∷ []))) (o ++ x ∷ []) xs (i + 1) (omega (arith, within))
       (λ k less. none (suc k) (omega (arith, less))))
 
-  pub came : (n : ℕ) (old : Now) → old.buffer.have_output ≡ true → n ≤ length old.buffer.input
+  came : (n : ℕ) (old : Now) → old.buffer.have_output ≡ true → n ≤ length old.buffer.input
       → ((k : ℕ) → k < n → is_taken (glyph_at old.buffer.input k) ≡ false)
       → CameTo n old (put n old.buffer).done (record old { buffer = (put n old.buffer).state })
   came n old is within none =
@@ -374,15 +366,15 @@ module _ (substitutions : Substitutions) (lookup : Lookup) where
 
   next_by : (start : ℕ) (s : State) (done : Bool) (new : State) (g : GoesOn lookup substitutions.options.mask start s done new)
       → s.have_output ≡ true → done ≡ true → 0 < length new.input → is_taken (glyph_at new.input 0) ≡ true
-  next_by start s done new g is yes some =
+  next_by start s done new g is holds some =
       let left : new.input ≡ drop g.count s.input =
-      ap (λ (t : State). t.input) g.gives.state ∙ input-put g.count s is (sym g.gives.answer ∙ yes) in
+      ap (λ (t : State). t.input) g.gives.state ∙ input-put g.count s is (sym g.gives.answer ∙ holds) in
       let long : length new.input ≡ length s.input - g.count = ap length left ∙ length-drop g.count s.input in
       ap (λ (l : List hb_glyph_info_t). is_taken (glyph_at l 0)) left
       ∙ ap is_taken (glyph_at-drop g.count s.input) ∙ g.at (omega (arith, long, some))
 
   -- glyphs are passed over from the cursor on
-  pub goes : (old : Now) (done : Bool) (new : State) → old.buffer.have_output ≡ true
+  goes : (old : Now) (done : Bool) (new : State) → old.buffer.have_output ≡ true
       → GoesOn lookup substitutions.options.mask 0 old.buffer done new → UnderWay 0 old (Ok done) (record old { buffer = new })
   goes old done new is g =
       under_way 0 g.count old done (record old { buffer = new }) (omega arith)
@@ -452,14 +444,14 @@ module _ (substitutions : Substitutions) (lookup : Lookup) where
         (stopped_here mid mid (Err e) (record {
           some = w.some;
           others = λ _. w.separate;
-          taken = λ yes. absurd (false≢true (sym (w.first refl) ∙ yes));
+          taken = λ holds. absurd (false≢true (sym (w.first refl) ∙ holds));
         }) tt)
 
     pub after_passed : (result : Result Bool AllocError) (new : State) → IsTurnAt 64 substitutions lookup old (Ok Passed) mid
         → mid.buffer.have_output ≡ true → 0 < length mid.buffer.input → Goes 1 result new
         → UnderWay 1 old result (record mid { buffer = new })
-    after_passed (Ok done) new turn is more g = after_passed_ok done new turn is more g.0
-    after_passed (Err e) new turn is more g =
+    after_passed (Ok done) new turn is some_left g = after_passed_ok done new turn is some_left g.0
+    after_passed (Err e) new turn is some_left g =
         let w = g.1 refl in stopped_here old mid (Err e) (passed turn (Err e) mid w.separate) tt
 
   -- ---- turns
@@ -561,11 +553,11 @@ module _ (substitutions : Substitutions) (lookup : Lookup) (old : Now) where
   pub run_none : ((k : ℕ) → k < length old.buffer.input → of (glyph_at old.buffer.input k) ≡ false)
       → IsRunOf substitutions lookup old (Ok true) old
   run_none none =
-      let no : list_any of old.buffer.input ≡ false = none_of of old.buffer.input none in
+      let fails : list_any of old.buffer.input ≡ false = none_of of old.buffer.input none in
       record {
         none = λ _. (refl, refl);
-        forward = λ yes. absurd (false≢true (sym no ∙ yes));
-        backward = λ yes. absurd (false≢true (sym no ∙ yes));
+        forward = λ holds. absurd (false≢true (sym fails ∙ holds));
+        backward = λ holds. absurd (false≢true (sym fails ∙ holds));
       }
 
   module _ (first : ℕ) (within : first < length old.buffer.input) (at : of (glyph_at old.buffer.input first) ≡ true) where
@@ -575,7 +567,7 @@ module _ (substitutions : Substitutions) (lookup : Lookup) (old : Now) where
     pub run_forward : (result : Result Bool AllocError) (new : Now) → starts_reverse (subtables substitutions lookup) ≡ false
         → IsForward substitutions lookup old result new → IsRunOf substitutions lookup old result new
     run_forward result new ahead is = record {
-      none = λ no. absurd (false≢true (sym no ∙ some_of));
+      none = λ fails. absurd (false≢true (sym fails ∙ some_of));
       forward = λ _ _. is;
       backward = λ _ back. absurd (false≢true (sym ahead ∙ back));
     }
@@ -584,7 +576,7 @@ module _ (substitutions : Substitutions) (lookup : Lookup) (old : Now) where
         → AreDoneBackward substitutions lookup (length old.buffer.input) old new
         → IsRunOf substitutions lookup old (Ok true) new
     run_backward new back is = record {
-      none = λ no. absurd (false≢true (sym no ∙ some_of));
+      none = λ fails. absurd (false≢true (sym fails ∙ some_of));
       forward = λ _ ahead. absurd (false≢true (sym ahead ∙ back));
       backward = λ _ _. (refl, is);
     }
@@ -663,17 +655,17 @@ pub place_done : (substitutions : Substitutions) (lookup : Lookup) (place : ℕ)
 place_done substitutions lookup place p q s m new edit decided passed same fewer marked made =
     let gdef = substitutions.gdef.now.table.now in
     record {
-      others = λ no.
-          let w = passed no in
+      others = λ fails.
+          let w = passed fails in
           ap (λ (b : State). now_of b q)
           (made ∙ ap (λ (e : Option Edit). made_if gdef place e m) w.0 ∙ marked ∙ mark_around-none place q.search.reach s w.1)
           ∙ w.2;
-      taken = λ yes. record {
+      taken = λ holds. record {
         edit = edit;
         reach = q.search.reach;
         places = q.search.places.items;
         left = q.search.budget.nested;
-        decided = decided yes;
+        decided = decided holds;
         fewer = fewer;
         made = ap (λ (b : State). now_of b q) (made ∙ ap (made_if gdef place edit) marked)
             ∙ ap (λ k. record (now_of (made_if gdef place edit (mark_around place q.search.reach s)) q) { random = k }) same;

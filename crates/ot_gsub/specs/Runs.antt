@@ -1,6 +1,6 @@
 -- A lookup over a whole text: its glyphs in order, or where it has reverse substitutions, from the last to the first (OpenType, "Lookup
 -- table" and "Reverse Chaining Contextual Single Substitution"; HarfBuzz, `apply_forward` and `apply_backward`).
-use Rattle.std.specs.Prelude.{◌≡◌, ◌⊎◌, ◌&&◌, ◌+◌, ◌^◌, ◌<◌, ◌≤◌, ℕ, zero, suc, Bool, true, false, List, length, min, nat_le, nat_lt}
+use Rattle.std.specs.Prelude.{◌≡◌, ◌⊎◌, ◌&&◌, ◌+◌, ◌-◌, ◌^◌, ◌<◌, ◌≤◌, ℕ, zero, suc, Bool, true, false, List, length, min, nat_le, nat_lt}
 use Rattle.std.specs.Prelude.{Option, None, Some, Result, Ok, Err, IsErr, ⊤, if◌then◌else◌}
 use Rattle.std.specs.List.{list_any}
 use Rattle.std.specs.declared.alloc.AllocError.{AllocError}

@@ -35,7 +35,7 @@ pub(crate) fn substitute_reverse(
     ensures spent { IsNotMore progress.old.search.budget progress.new.search.budget }
     ensures keeps { KeepsClusters buffer.old buffer.new }
 {
-    let count = buffer.info().len();
+    let count = buffer.len();
     for turn in 0..count {
         substitute_one(buffer, substitutions, lookup, progress, count - 1 - turn);
     }

@@ -223,7 +223,8 @@ fn substitute_rest(
     ensures spent { IsNotMore progress.old.search.budget progress.new.search.budget }
     ensures keeps { KeepsClusters buffer.old buffer.new }
 {
-    for _turn in 0..buffer.len() {
+    let count = buffer.len();
+    for _turn in 0..count {
         if buffer.lookahead_len() == 0 {
             return Ok(true);
         }

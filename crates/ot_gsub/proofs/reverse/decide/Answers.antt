@@ -11,11 +11,11 @@ use Rattle.ot_gsub.proofs.RunsLemmas.{glyph_at-drop}
 use Rattle.ot_gsub.proofs.reverse.decide.Goals as goal
 
 pub returns-then-not-is_taken-clause-decided : goal.returns-then-not-is_taken-clause-decided
-returns-then-not-is_taken-clause-decided c = λ steps yes.
-    absurd (false≢true (sym c.if-not-is_taken.true ∙ c.is_taken.ensures.takes ∙ yes))
+returns-then-not-is_taken-clause-decided c = λ steps holds.
+    absurd (false≢true (sym c.if-not-is_taken.true ∙ c.is_taken.ensures.takes ∙ holds))
 
 pub returns-then-not-is_taken-clause-passed : goal.returns-then-not-is_taken-clause-passed
-returns-then-not-is_taken-clause-passed c = λ no. (refl, ap (λ (r : Reach). r.to) c.none.ensures, refl)
+returns-then-not-is_taken-clause-passed c = λ fails. (refl, ap (λ (r : Reach). r.to) c.none.ensures, refl)
 
 pub glyphs_before-requires : goal.glyphs_before-requires
 glyphs_before-requires c =
@@ -41,11 +41,11 @@ edit_at-requires c =
     )
 
 pub returns-clause-passed : goal.returns-clause-passed
-returns-clause-passed c = λ no.
-    absurd (false≢true (sym no ∙ sym c.is_taken.ensures.takes ∙ c.if-not-is_taken.false))
+returns-clause-passed c = λ fails.
+    absurd (false≢true (sym fails ∙ sym c.is_taken.ensures.takes ∙ c.if-not-is_taken.false))
 
 pub returns-clause-decided : goal.returns-clause-decided
-returns-clause-decided c = λ steps yes.
+returns-clause-decided c = λ steps holds.
     let s = c.args.buffer.now in
     let place = c.args.place in
     let options = c.args.substitutions.now.options in

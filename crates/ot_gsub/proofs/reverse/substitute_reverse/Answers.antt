@@ -1,8 +1,9 @@
-use Rattle.std.proofs.Common.{◌≡◌, ◌+◌, ◌-◌, ◌<◌, suc, ap, arith, length, subst, ◌∙◌}
+use Rattle.std.proofs.Common.{◌≡◌, ◌+◌, ◌-◌, ◌<◌, arith, length, subst, ◌∙◌}
 use Rattle.shaping_buffer.proofs.KeepsLemmas.{keeps_none, keeps_then}
 use Rattle.ot_gsub.specs.Nested.{now_of}
 use Rattle.ot_gsub.specs.Runs.{AreDoneBackward}
 use Rattle.ot_gsub.proofs.RunsLemmas.{backward_ended, backward_next}
+use Rattle.ot_gsub.proofs.SinglesLemmas.{len_closed}
 use Rattle.ot_gsub.proofs.reverse.substitute_reverse.Goals as goal
 
 pub loop-turn-init : goal.loop-turn-init
@@ -23,7 +24,7 @@ loop-turn-preserved c =
     let b = c.loop-turn.buffer in
     let new = c.substitute_one.new.buffer in
     let t = c.loop-turn.turn in
-    let count : c.len-count.result ≡ length s.input = c.len-count.ensures ∙ ap length c.info.ensures in
+    let count : c.len-count.result ≡ length s.input = c.len-count.ensures.len ∙ len_closed s c.requires in
     let left : t < length s.input = omega (arith, c.loop-turn-test.true, count) in
     record {
       closed = c.substitute_one.ensures.closed;
@@ -45,7 +46,7 @@ loop-turn-preserved c =
 pub returns-clause-run : goal.returns-clause-run
 returns-clause-run c = λ steps.
     let s = c.args.buffer.now in
-    let count : c.len-count.result ≡ length s.input = c.len-count.ensures ∙ ap length c.info.ensures in
+    let count : c.len-count.result ≡ length s.input = c.len-count.ensures.len ∙ len_closed s c.requires in
     c.loop-turn.invariant.rest steps _
     (backward_ended c.args.substitutions.now c.args.lookup.now (now_of c.loop-turn.buffer c.loop-turn.progress)
     (length s.input - c.loop-turn.turn) (omega (arith, c.loop-turn-test.false, count)))

@@ -1,9 +1,13 @@
 use Rattle.std.proofs.Common.{List, ap, arith, length, sym, ◌∙◌}
+use Rattle.std.proofs.lemmas.Bool.{false≢true}
 use Rattle.rb_glyph.specs.declared.info.hb_glyph_info_t.{hb_glyph_info_t}
 use Rattle.ot_layout.specs.Lookup.{is_for}
 use Rattle.ot_layout.specs.SkippingIterator.{glyph_at}
 use Rattle.ot_gsub.proofs.RunsLemmas.{wants_storage}
 use Rattle.ot_gsub.proofs.substitution.go_on.Goals as goal
+
+pub returns-then-passed-eq0-clause-wants : goal.returns-then-passed-eq0-clause-wants
+returns-then-passed-eq0-clause-wants c = λ failed. absurd (false≢true failed)
 
 pub returns-clause-wants : goal.returns-clause-wants
 returns-clause-wants c = λ failed.

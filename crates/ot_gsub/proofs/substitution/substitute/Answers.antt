@@ -1,4 +1,5 @@
-use Rattle.std.proofs.Common.{◌≡◌, Ok, Option, List, arith, ap, length, sym, subst, ◌∙◌, true, ◌<◌}
+use Rattle.std.proofs.Common.{◌≡◌, Ok, Option, List, arith, ap, length, refl, sym, subst, ◌∙◌, true, ◌<◌}
+use Rattle.std.specs.Option.{option_copied}
 use Rattle.rb_glyph.specs.declared.info.hb_glyph_info_t.{hb_glyph_info_t}
 use Rattle.ot_layout.specs.Lookup.{is_for}
 use Rattle.ot_layout.specs.SkippingIterator.{glyph_at}
@@ -32,6 +33,12 @@ returns-then-first-len-clause-singles c = λ steps good single.
     = omega (arith, h, c.if-first-len.true, c.len-2.ensures.len, len_closed s c.requires) in
     ap (λ (l : List hb_glyph_info_t). is_for lookup subs.options.mask (glyph_at l k)) (sym c.info.ensures)
     ∙ c.first_place-first.ensures.passed k (omega arith) before))
+
+pub returns-in_default-clause-run : goal.returns-in_default-clause-run
+returns-in_default-clause-run c = λ steps.
+    let old = now_of c.args.buffer.now c.args.progress.now in
+    subst (λ (o : Option Lookup). IsRun c.args.substitutions.now o old (Ok true) old)
+    (sym (ap option_copied c.in_default.is) ∙ c.lookup.ensures) (refl, refl)
 
 pub returns-then-mask-eq0-clause-run : goal.returns-then-mask-eq0-clause-run
 returns-then-mask-eq0-clause-run c = λ steps.

@@ -84,4 +84,4 @@ returns-clause-rest c = λ steps next.
     let s = c.args.buffer.now in
     rest_ended c.args.substitutions.now c.args.lookup.now c.loop-turn._turn (now_of s c.args.progress.now)
     (now_of c.loop-turn.buffer c.loop-turn.progress) (c.loop-turn.invariant.done steps next)
-    (inr (omega (arith, c.loop-turn-test.false, c.len-_turn-end.ensures.len, cond-true _ _ _ c.requires.opened)))
+    (inr (omega (arith, c.loop-turn-test.false, c.len-count.ensures.len, cond-true _ _ _ c.requires.opened)))
