@@ -122,7 +122,7 @@ module _ (b : State) (p : Bool) (o : List hb_glyph_info_t) (x : hb_glyph_info_t)
     all_refused fails =
         let long : nat_le (length more) b.max_len ≡ false =
         elim (cases_lt b.max_len (length (o ++ x ∷ []))) [
-          | inl lt ↦ lt-leb b.max_len (length more) (omega (arith, lt, long_put, long_one))
+          | inl lt ↦ lt-leb (length more) b.max_len (omega (arith, lt, long_put, long_one))
           | inr ge ↦ absurd (false≢true (sym fails ∙ le-leb (length (o ++ x ∷ [])) b.max_len ge))
         ] in
         done_all ∙ long

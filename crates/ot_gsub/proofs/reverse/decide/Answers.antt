@@ -15,7 +15,7 @@ returns-then-not-is_taken-clause-decided c = λ steps holds.
     absurd (false≢true (sym c.if-not-is_taken.true ∙ c.is_taken.ensures.takes ∙ holds))
 
 pub returns-then-not-is_taken-clause-passed : goal.returns-then-not-is_taken-clause-passed
-returns-then-not-is_taken-clause-passed c = λ fails. (refl, ap (λ (r : Reach). r.to) c.none.ensures, refl)
+returns-then-not-is_taken-clause-passed c = λ fails. (refl, ap (λ (r : Reach). r.to) c.none-progress.ensures, refl)
 
 pub glyphs_before-requires : goal.glyphs_before-requires
 glyphs_before-requires c =

@@ -35,7 +35,7 @@ returns-then-not-branch-2-clause-singles c = λ steps good single.
     (subst IsLevel (sym at) (opened_level subs lookup first s c.requires.first long))
     (subst (IsForNext subs lookup) (sym at) (opened_next subs lookup first s c.requires.at)) in
     absurd (false_is_no_answer c.substitute_rest.result done.0
-    (c.in_ok-substitute_rest.was ∙ ap (λ (x : Bool). Ok x) c.if-not-branch.true))
+    (c.in_ok-substitute_rest.was ∙ ap (λ (x : Bool). Ok x) c.if-not-branch-2.true))
 
 pub returns-clause-singles : goal.returns-clause-singles
 returns-clause-singles c = λ steps good single.
@@ -98,7 +98,7 @@ returns-then-not-branch-2-clause-run c = λ steps.
     (subst (IsForNext subs lookup) (sym at) (opened_next subs lookup first s c.requires.at)) in
     forward_stopped subs lookup old first mid (Ok false) end before
     (way_refused subs lookup mid end c.substitute_rest.result
-    (c.in_ok-substitute_rest.was ∙ ap (λ (x : Bool). Ok x) c.if-not-branch.true) rest)
+    (c.in_ok-substitute_rest.was ∙ ap (λ (x : Bool). Ok x) c.if-not-branch-2.true) rest)
 
 pub returns-clause-run : goal.returns-clause-run
 returns-clause-run c = λ steps.
@@ -125,5 +125,5 @@ returns-clause-run c = λ steps.
     omega (arith, ap (λ (t : State). length t.input) at, length-drop first s.input) in
     forward_through subs lookup old first rest.least mid end c.sync.result (now_of new q) before
     (way_ended subs lookup mid end c.substitute_rest.result
-    (c.in_ok-substitute_rest.was ∙ ap (λ (x : Bool). Ok x) c.if-not-branch.false) rest) all rest.all
+    (c.in_ok-substitute_rest.was ∙ ap (λ (x : Bool). Ok x) c.if-not-branch-2.false) rest) all rest.all
     (subst (λ (t : State). Meets (sync t) t c.sync.result new) (c.fail_if_spent.ensures.same steps) c.sync.ensures.meets) refl

@@ -1,4 +1,4 @@
-use Rattle.std.proofs.Common.{Ok, Result, ap, subst, ◌∙◌}
+use Rattle.std.proofs.Common.{Ok, Result, ap, arith, subst, ◌∙◌}
 use Rattle.std.specs.declared.alloc.AllocError.{AllocError}
 use Rattle.ot_gsub.specs.Nested.{now_of}
 use Rattle.ot_gsub.specs.Turn.{IsTurnAt}

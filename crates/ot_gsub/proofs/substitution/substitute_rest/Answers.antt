@@ -1,6 +1,7 @@
-use Rattle.std.proofs.Common.{◌<◌, Bool, Ok, ap, arith, inl, inr, ◌∙◌}
+use Rattle.std.proofs.Common.{◌≡◌, ◌+◌, ◌<◌, Bool, length, Ok, ap, arith, inl, inr, ◌∙◌}
 use Rattle.std.proofs.lemmas.Bool.{cond-true}
 use Rattle.shaping_buffer.proofs.KeepsLemmas.{keeps_none, keeps_then}
+use Rattle.shaping_buffer.specs.State.{len}
 use Rattle.ot_gsub.specs.Nested.{now_of}
 use Rattle.ot_gsub.proofs.NestedLemmas.{lookahead_len-opened}
 use Rattle.ot_gsub.proofs.RunsLemmas.{has_none, rest_ended, rest_failed, rest_more, rest_refused}
@@ -82,6 +83,7 @@ returns-then-not-branch-clause-rest c = λ steps next.
 pub returns-clause-rest : goal.returns-clause-rest
 returns-clause-rest c = λ steps next.
     let s = c.args.buffer.now in
+    let all : len s ≡ s.idx + length s.input = cond-true _ _ _ c.requires.opened in
     rest_ended c.args.substitutions.now c.args.lookup.now c.loop-turn._turn (now_of s c.args.progress.now)
     (now_of c.loop-turn.buffer c.loop-turn.progress) (c.loop-turn.invariant.done steps next)
-    (inr (omega (arith, c.loop-turn-test.false, c.len-count.ensures.len, cond-true _ _ _ c.requires.opened)))
+    (inr (omega (arith, c.loop-turn-test.false, c.len-count.ensures.len, all)))
