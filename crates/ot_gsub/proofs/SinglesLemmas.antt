@@ -74,7 +74,7 @@ pub not_reverse : (l : List Subtable) → All (λ (t : Subtable). t.lookup_type 
 not_reverse [] all = refl
 not_reverse (t ∷ l) all = ap (λ k. k == 8) (All-head (λ (x : Subtable). x.lookup_type ≡ 1) t l all)
 
-and_false : (a : Bool) → (a && false) ≡ false
+pub and_false : (a : Bool) → (a && false) ≡ false
 and_false true = refl
 and_false false = refl
 
@@ -229,6 +229,18 @@ module _ (substitutions : Substitutions) (lookup : Lookup) where
   no_error s new1 e leads = elim leads.1 [ inl w ↦ (let no = w.0 in cc) | inr w ↦ (let no = w.0 in cc) ]
 
   -- ---- turns
+
+  pub moves_none : (s : State) → IsForNext substitutions lookup s → HasMoved substitutions lookup 0 s s
+  moves_none s next =
+      let place : s.idx ≡ s.idx + 0 = omega arith in
+      record {
+        count = 0;
+        from = omega arith;
+        within = omega arith;
+        state = ap (λ (o : List hb_glyph_info_t). record s { out = o }) (sym (append-nil s.out))
+            ∙ ap (λ k. record s { out = s.out ++ []; idx = k }) place;
+        at = next;
+      }
 
   pub moves_more : (t : ℕ) (s b c : State) → HasMoved substitutions lookup t s b → HasMoved substitutions lookup 1 b c
       → HasMoved substitutions lookup (t + 1) s c

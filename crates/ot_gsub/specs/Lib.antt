@@ -4,6 +4,7 @@ pub mod Nested
 pub mod Open
 pub mod MatchPositions
 pub mod Properties
+pub mod Runs
 pub mod Singles
 pub mod Turn
 pub mod Writing

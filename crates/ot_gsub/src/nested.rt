@@ -52,6 +52,7 @@ pub(crate) fn apply_at(
     ensures turn { 0 < progress.new.search.budget.steps
         → IsTurnAt depth substitutions.now lookup.now (now_of buffer.old progress.old) result (now_of buffer.new progress.new) }
     ensures changed { result ≡ Ok Step.Applied → progress.new.has_changed ≡ true }
+    ensures same_length { result ≡ Ok Step.Passed → length buffer.new.input ≡ length buffer.old.input }
     ensures left { IsLeftOpen result buffer.new }
     ensures spent { IsNotMore progress.old.search.budget progress.new.search.budget }
     ensures keeps { KeepsClusters buffer.old buffer.new }

@@ -1,16 +1,22 @@
 //! Reverse substitutions: glyphs are replaced in place, from the last one to the first, so that each sees what became of
 //! those after it.
 
-ghost use Rattle.std.specs.Prelude.{◌≡◌, ◌<◌, ◌+◌, false, length};
+ghost use Rattle.std.specs.Prelude.{◌≡◌, ◌<◌, ◌≤◌, ◌+◌, false, true, length, take, drop, None, if◌then◌else◌};
+ghost use Rattle.rb_glyph.specs.Fields.{field};
 ghost use Rattle.ot_layout.specs.Budget.{IsNotMore};
+ghost use Rattle.ot_layout.specs.SkippingIterator.{glyph_at};
 ghost use Rattle.ot_gsub.specs.Edits as edits;
+ghost use Rattle.ot_gsub.specs.Nested.{now_of};
+ghost use Rattle.ot_gsub.specs.Runs.{AreDoneBackward, IsPlaceDone, mark_around, takes};
+ghost use Rattle.ot_gsub.specs.Singles.{opened_at};
+ghost use Rattle.ot_gsub.specs.Turn.{IsDecided};
 ghost use Rattle.shaping_buffer.specs.KeepsClusters.{KeepsClusters};
 
 use crate::properties::{Way, substituted_props};
 use crate::substitution::{Progress, Substitutions};
 use font_tables::gdef::Gdef;
 use ot_layout::substitution::{Edit, edit_at};
-use ot_layout::{ApplyContext, Lookup, Reach, SkippingIterator};
+use ot_layout::{ApplyContext, Lookup, LookupOptions, Reach, SkippingIterator};
 use rb_glyph::hb_glyph_info_t;
 use shaping_buffer::hb_buffer_t;
 
@@ -22,11 +28,14 @@ pub(crate) fn substitute_reverse(
     progress: &mut Progress,
 )
     requires { buffer.old.have_output ≡ false }
+    ensures run { 0 < progress.new.search.budget.steps
+        → AreDoneBackward substitutions.now lookup.now (length buffer.old.input) (now_of buffer.old progress.old)
+        (now_of buffer.new progress.new) }
     ensures closed { buffer.new.have_output ≡ false }
     ensures spent { IsNotMore progress.old.search.budget progress.new.search.budget }
     ensures keeps { KeepsClusters buffer.old buffer.new }
 {
-    let count = buffer.info().len();
+    let count = buffer.len();
     for turn in 0..count {
         substitute_one(buffer, substitutions, lookup, progress, count - 1 - turn);
     }
@@ -41,16 +50,19 @@ fn substitute_one(
     place: usize,
 )
     requires { buffer.old.have_output ≡ false }
+    ensures done { 0 < progress.new.search.budget.steps
+        → IsPlaceDone substitutions.now lookup.now place (now_of buffer.old progress.old) (now_of buffer.new progress.new) }
     ensures closed { buffer.new.have_output ≡ false }
     ensures spent { IsNotMore progress.old.search.budget progress.new.search.budget }
     ensures keeps { KeepsClusters buffer.old buffer.new }
 {
-    let edit = decide(buffer.info(), substitutions, lookup, progress, place);
+    let edit = decide(buffer, substitutions, lookup, progress, place);
     mark_concat(buffer, &progress.search.reach, place);
-    if let Some(edit) = edit {
-        progress.has_changed = true;
-        make(buffer, substitutions.gdef, place, &edit);
-    }
+    let Some(edit) = edit else {
+        return;
+    };
+    progress.has_changed = true;
+    make(buffer, substitutions.gdef, place, &edit);
 }
 
 /// Makes an edit of the glyph at a place.
@@ -68,29 +80,32 @@ fn make(buffer: &mut hb_buffer_t, gdef: &Gdef, place: usize, edit: &Edit)
 
 /// What the lookup does at a place.
 fn decide<'a>(
-    glyphs: &[hb_glyph_info_t],
+    buffer: &hb_buffer_t,
     substitutions: &Substitutions<'a>,
     lookup: &Lookup,
     progress: &mut Progress,
     place: usize,
 ) -> Option<Edit<'a>>
+    requires { buffer.now.have_output ≡ false }
+    ensures decided { 0 < progress.new.search.budget.steps → takes substitutions.now lookup.now place buffer.now ≡ true
+        → IsDecided substitutions.now lookup.now false (opened_at place buffer.now) progress.new.search.places.items result }
+    ensures passed { takes substitutions.now lookup.now place buffer.now ≡ false
+        → (result ≡ None) × (progress.new.search.reach.to ≡ 0) × (now_of buffer.now progress.new ≡ now_of buffer.now progress.old) }
+    ensures same_random { progress.new.random_state ≡ progress.old.random_state }
     ensures spent { IsNotMore progress.old.search.budget progress.new.search.budget }
 {
-    let options = &substitutions.options;
     progress.search.reach = Reach::none(0);
-    if place >= glyphs.len() || !lookup.is_for(options.mask, &glyphs[place]) {
+    if !is_taken(buffer, substitutions, lookup, place) {
         return None;
     }
+    let options = &substitutions.options;
+    let glyphs = buffer.info();
     let ctx = ApplyContext {
-        out: &glyphs[..place],
-        input: &glyphs[place..],
+        out: glyphs_before(glyphs, place),
+        input: glyphs_from(glyphs, place),
         iterator: SkippingIterator::over_input(lookup.lookup_props, options, false),
         context: SkippingIterator::over_context(lookup.lookup_props, options, false),
-        syllable: if options.per_syllable {
-            glyphs[place].syllable()
-        } else {
-            0
-        },
+        syllable: syllable_at(glyphs, options, place),
         is_level: true,
     };
     progress.search.reach = Reach::none(place);
@@ -104,9 +119,56 @@ fn decide<'a>(
     )
 }
 
+/// Whether the lookup is for the glyph at a place, if there is one.
+fn is_taken(
+    buffer: &hb_buffer_t,
+    substitutions: &Substitutions,
+    lookup: &Lookup,
+    place: usize,
+) -> bool
+    requires { buffer.now.have_output ≡ false }
+    ensures takes { result ≡ takes substitutions.now lookup.now place buffer.now }
+    ensures within { result ≡ true → place < length buffer.now.input }
+{
+    let glyphs = buffer.info();
+    if place >= glyphs.len() {
+        return false;
+    }
+    lookup.is_for(substitutions.options.mask, &glyphs[place])
+}
+
+/// The glyphs before a place.
+fn glyphs_before(glyphs: &[hb_glyph_info_t], place: usize) -> &[hb_glyph_info_t]
+    requires { place ≤ length glyphs.now }
+    ensures { result.now ≡ take place glyphs.now }
+{
+    &glyphs[..place]
+}
+
+/// The glyphs from a place on.
+fn glyphs_from(glyphs: &[hb_glyph_info_t], place: usize) -> &[hb_glyph_info_t]
+    requires { place ≤ length glyphs.now }
+    ensures { result.now ≡ drop place glyphs.now }
+{
+    &glyphs[place..]
+}
+
+/// The syllable of the glyph at a place where all glyphs of a match are of one syllable, or else 0.
+fn syllable_at(glyphs: &[hb_glyph_info_t], options: &LookupOptions, place: usize) -> u8
+    requires { place < length glyphs.now }
+    ensures { result ≡ (if options.now.per_syllable then field (glyph_at glyphs.now place).var1 24 8 else 0) }
+{
+    if options.per_syllable {
+        glyphs[place].syllable()
+    } else {
+        0
+    }
+}
+
 /// Marks the glyphs that were looked at from a place on, and before it, as unsafe to concatenate.
 fn mark_concat(buffer: &mut hb_buffer_t, reach: &Reach, place: usize)
     requires { buffer.old.have_output ≡ false }
+    ensures is { buffer.new ≡ mark_around place reach.now buffer.old }
     ensures closed { buffer.new.have_output ≡ false }
     ensures keeps { KeepsClusters buffer.old buffer.new }
 {

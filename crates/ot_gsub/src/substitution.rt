@@ -1,11 +1,13 @@
 //! One lookup, applied to all glyphs of a buffer.
 
-ghost use Rattle.std.specs.Prelude.{ℕ, ◌≡◌, ◌+◌, ◌<◌, ◌≤◌, true, false, length, slice_get, IfOk, Ok, Some};
+ghost use Rattle.std.specs.Prelude.{ℕ, ◌≡◌, ◌+◌, ◌<◌, ◌≤◌, true, false, length, slice_get, IfOk, IsErr, Ok, Some};
 ghost use Rattle.ot_layout.specs.Budget.{IsNotMore};
 ghost use Rattle.ot_layout.specs.Lookup.{is_for};
 ghost use Rattle.ot_layout.specs.Subtables.{subtables_of};
 ghost use Rattle.ot_layout.specs.SkippingIterator.{glyph_at};
+ghost use Rattle.ot_gsub.specs.Nested.{now_of};
 ghost use Rattle.ot_gsub.specs.Open.{IsLeftOpen, IsLeftClosed};
+ghost use Rattle.ot_gsub.specs.Runs.{IsForward, IsRestDone, IsRun, IsRunOf, IsUnderWay, IsWanting};
 ghost use Rattle.ot_gsub.specs.Singles.{GoesOn, HasMoved, IsForNext, IsLevel, IsSingle, IsSingleIf, IsSubstituted, moved, opened_at, starts_reverse, substituted};
 ghost use Rattle.shaping_buffer.specs.KeepsClusters.{KeepsClusters};
 
@@ -68,6 +70,9 @@ pub fn substitute(
     progress: &mut Progress,
 ) -> Result<bool, AllocError>
     requires { buffer.old.have_output ≡ false }
+    ensures run { 0 < progress.new.search.budget.steps
+        → IsRun substitutions.now (slice_get substitutions.now.list.now.lookups.items index) (now_of buffer.old progress.old) result
+        (now_of buffer.new progress.new) }
     ensures singles { let lookup = slice_get substitutions.now.list.now.lookups.items index in
         0 < progress.new.search.budget.steps → buffer.old.successful ≡ true
         → IsSingleIf substitutions.now lookup buffer.old
@@ -108,6 +113,8 @@ fn apply(
         → is_for lookup.now substitutions.now.options.mask (glyph_at buffer.old.input place) ≡ false }
     requires at { first < length buffer.old.input
         → is_for lookup.now substitutions.now.options.mask (glyph_at buffer.old.input first) ≡ true }
+    ensures run { 0 < progress.new.search.budget.steps → first < length buffer.old.input
+        → IsRunOf substitutions.now lookup.now (now_of buffer.old progress.old) result (now_of buffer.new progress.new) }
     ensures singles { 0 < progress.new.search.budget.steps → buffer.old.successful ≡ true
         → IsSingle substitutions.now lookup.now buffer.old
         → IsSubstituted substitutions.now (Some lookup.now) buffer.old result buffer.new }
@@ -164,6 +171,8 @@ fn substitute_forward(
         → is_for lookup.now substitutions.now.options.mask (glyph_at buffer.old.input place) ≡ false }
     requires at { first < length buffer.old.input
         → is_for lookup.now substitutions.now.options.mask (glyph_at buffer.old.input first) ≡ true }
+    ensures run { 0 < progress.new.search.budget.steps
+        → IsForward substitutions.now lookup.now (now_of buffer.old progress.old) result (now_of buffer.new progress.new) }
     ensures singles { 0 < progress.new.search.budget.steps → buffer.old.successful ≡ true
         → IsSingle substitutions.now lookup.now buffer.old
         → IsSubstituted substitutions.now (Some lookup.now) buffer.old result buffer.new }
@@ -204,6 +213,8 @@ fn substitute_rest(
     progress: &mut Progress,
 ) -> Result<bool, AllocError>
     requires opened { buffer.old.have_output ≡ true }
+    ensures rest { 0 < progress.new.search.budget.steps → IsForNext substitutions.now lookup.now buffer.old
+        → IsRestDone substitutions.now lookup.now (now_of buffer.old progress.old) result (now_of buffer.new progress.new) }
     ensures singles { 0 < progress.new.search.budget.steps → IsSingle substitutions.now lookup.now buffer.old
         → IsLevel buffer.old → IsForNext substitutions.now lookup.now buffer.old
         → (result ≡ Ok true)
@@ -212,8 +223,12 @@ fn substitute_rest(
     ensures spent { IsNotMore progress.old.search.budget progress.new.search.budget }
     ensures keeps { KeepsClusters buffer.old buffer.new }
 {
-    for _turn in 0..buffer.len() {
-        if buffer.lookahead_len() == 0 || progress.search.budget.is_spent() {
+    let count = buffer.len();
+    for _turn in 0..count {
+        if buffer.lookahead_len() == 0 {
+            return Ok(true);
+        }
+        if progress.search.budget.is_spent() {
             return Ok(true);
         }
         if !substitute_next(buffer, substitutions, lookup, progress)? {
@@ -232,6 +247,8 @@ fn substitute_next(
 ) -> Result<bool, AllocError>
     requires opened { buffer.old.have_output ≡ true }
     requires glyph { 0 < length buffer.old.input }
+    ensures next { 0 < progress.new.search.budget.steps → IsForNext substitutions.now lookup.now buffer.old
+        → IsUnderWay substitutions.now lookup.now 1 (now_of buffer.old progress.old) result (now_of buffer.new progress.new) }
     ensures singles { 0 < progress.new.search.budget.steps → IsSingle substitutions.now lookup.now buffer.old
         → IsLevel buffer.old → IsForNext substitutions.now lookup.now buffer.old
         → (result ≡ Ok true) × HasMoved substitutions.now lookup.now 1 buffer.old buffer.new }
@@ -255,6 +272,7 @@ fn go_on(
 ) -> Result<bool, AllocError>
     requires { buffer.old.have_output ≡ true }
     ensures on { IfOk result (λ done. GoesOn lookup.now substitutions.now.options.mask count buffer.old done buffer.new) }
+    ensures wants { IsErr result → IsWanting lookup.now substitutions.now.options.mask count buffer.old }
     ensures in_place { buffer.old.have_separate_output ≡ false → result ≡ Ok true }
     ensures left { IsLeftOpen result buffer.new }
     ensures keeps { KeepsClusters buffer.old buffer.new }

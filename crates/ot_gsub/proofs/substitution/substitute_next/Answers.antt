@@ -1,8 +1,9 @@
-use Rattle.std.proofs.Common.{Ok, Result, ap, subst, ◌∙◌}
+use Rattle.std.proofs.Common.{Ok, Result, ap, arith, subst, ◌∙◌}
 use Rattle.std.specs.declared.alloc.AllocError.{AllocError}
 use Rattle.ot_gsub.specs.Nested.{now_of}
 use Rattle.ot_gsub.specs.Turn.{IsTurnAt}
 use Rattle.ot_gsub.specs.declared.nested.Step.{Step}
+use Rattle.ot_gsub.proofs.RunsLemmas.{after_applied, after_passed, turn_failed, turn_refused}
 use Rattle.ot_gsub.proofs.SinglesLemmas.{leads_on, next_by_applied, next_by_passed, no_error, no_refusal}
 use Rattle.ot_gsub.proofs.substitution.substitute_next.Goals as goal
 
@@ -57,3 +58,45 @@ returns-in-Passed-clause-singles c = λ steps single level next.
     (subst (λ (r : Result Step AllocError). IsTurnAt 64 subs lookup (now_of s p) r (now_of new q))
     (c.in_ok-apply_at.was ∙ ap (λ (x : Step). Ok x) c.in-Passed.is) (c.apply_at.ensures.turn steps)))
     c.go_on-in-Passed.ensures.in_place c.go_on-in-Passed.ensures.on
+
+pub returns-in_err-apply_at-clause-next : goal.returns-in_err-apply_at-clause-next
+returns-in_err-apply_at-clause-next c = λ steps next.
+    let old = now_of c.args.buffer.now c.args.progress.now in
+    let mid = now_of c.apply_at.new.buffer c.apply_at.new.progress in
+    let subs = c.args.substitutions.now in
+    let lookup = c.args.lookup.now in
+    turn_failed subs lookup old mid c.requires.glyph (next c.requires.glyph) _ c.from_residual.result c.from_residual.ensures.0
+    (subst (λ (r : Result Step AllocError). IsTurnAt 64 subs lookup old r mid) c.in_err-apply_at.was (c.apply_at.ensures.turn steps))
+
+pub returns-in-Applied-clause-next : goal.returns-in-Applied-clause-next
+returns-in-Applied-clause-next c = λ steps next.
+    let old = now_of c.args.buffer.now c.args.progress.now in
+    let mid = now_of c.apply_at.new.buffer c.apply_at.new.progress in
+    let subs = c.args.substitutions.now in
+    let lookup = c.args.lookup.now in
+    after_applied subs lookup old mid c.requires.glyph (next c.requires.glyph) c.go_on.result c.go_on.new.buffer
+    (subst (λ (r : Result Step AllocError). IsTurnAt 64 subs lookup old r mid)
+    (c.in_ok-apply_at.was ∙ ap (λ (x : Step). Ok x) c.in-Applied.is) (c.apply_at.ensures.turn steps))
+    c.in_ok-apply_at.ensures.left (c.go_on.ensures.on, c.go_on.ensures.wants)
+
+pub returns-in-Refused-clause-next : goal.returns-in-Refused-clause-next
+returns-in-Refused-clause-next c = λ steps next.
+    let old = now_of c.args.buffer.now c.args.progress.now in
+    let mid = now_of c.apply_at.new.buffer c.apply_at.new.progress in
+    let subs = c.args.substitutions.now in
+    let lookup = c.args.lookup.now in
+    turn_refused subs lookup old mid c.requires.glyph (next c.requires.glyph)
+    (subst (λ (r : Result Step AllocError). IsTurnAt 64 subs lookup old r mid)
+    (c.in_ok-apply_at.was ∙ ap (λ (x : Step). Ok x) c.in-Refused.is) (c.apply_at.ensures.turn steps))
+
+pub returns-in-Passed-clause-next : goal.returns-in-Passed-clause-next
+returns-in-Passed-clause-next c = λ steps next.
+    let old = now_of c.args.buffer.now c.args.progress.now in
+    let mid = now_of c.apply_at.new.buffer c.apply_at.new.progress in
+    let subs = c.args.substitutions.now in
+    let lookup = c.args.lookup.now in
+    let is = c.in_ok-apply_at.was ∙ ap (λ (x : Step). Ok x) c.in-Passed.is in
+    after_passed subs lookup old mid c.requires.glyph (next c.requires.glyph) c.go_on-in-Passed.result c.go_on-in-Passed.new.buffer
+    (subst (λ (r : Result Step AllocError). IsTurnAt 64 subs lookup old r mid) is (c.apply_at.ensures.turn steps))
+    c.in_ok-apply_at.ensures.left (omega (arith, c.requires.glyph, c.apply_at.ensures.same_length is))
+    (c.go_on-in-Passed.ensures.on, c.go_on-in-Passed.ensures.wants)

@@ -1,6 +1,8 @@
 use Rattle.std.proofs.Common.{◌≡◌, ◌<◌, true}
 use Rattle.shaping_buffer.specs.KeepsClusters.{KeepsClusters}
 use Rattle.ot_layout.specs.Budget.{IsNotMore}
+use Rattle.ot_gsub.specs.Nested.{now_of}
+use Rattle.ot_gsub.specs.Runs.{HasDone}
 use Rattle.ot_gsub.specs.Singles.{HasMoved, IsForNext, IsLevel, IsSingle}
 use Rattle.ot_gsub.proofs.substitution.substitute_rest.Given as goal
 
@@ -11,4 +13,6 @@ invariant-loop-turn l = record {
   spent : IsNotMore l.fn.progress.search.budget l.progress.search.budget;
   moves : 0 < l.progress.search.budget.steps → IsSingle l.substitutions l.lookup l.fn.buffer → IsLevel l.fn.buffer
       → IsForNext l.substitutions l.lookup l.fn.buffer → HasMoved l.substitutions l.lookup l._turn l.fn.buffer l.buffer;
+  done : 0 < l.progress.search.budget.steps → IsForNext l.substitutions l.lookup l.fn.buffer
+      → HasDone l.substitutions l.lookup l._turn (now_of l.fn.buffer l.fn.progress) (now_of l.buffer l.progress);
 }

@@ -9,7 +9,7 @@ use crate::glyph::hb_glyph_info_t;
 use crate::ot_gsub::properties::{Way, substituted_props};
 use crate::ot_gsub::substitution::{Progress, Substitutions};
 use crate::ot_layout::substitution::{Edit, edit_at};
-use crate::ot_layout::{ApplyContext, Lookup, Reach, SkippingIterator};
+use crate::ot_layout::{ApplyContext, Lookup, LookupOptions, Reach, SkippingIterator};
 
 /// Applies a lookup of reverse substitutions at each glyph, from the last one to the first.
 ///
@@ -23,7 +23,7 @@ pub(crate) fn substitute_reverse(
     progress: &mut Progress,
 ) {
     debug_assert!(!buffer.have_output());
-    let count = buffer.info().len();
+    let count = buffer.len();
     for turn in 0..count {
         substitute_one(buffer, substitutions, lookup, progress, count - 1 - turn);
     }
@@ -42,12 +42,13 @@ fn substitute_one(
     place: usize,
 ) {
     debug_assert!(!buffer.have_output());
-    let edit = decide(buffer.info(), substitutions, lookup, progress, place);
+    let edit = decide(buffer, substitutions, lookup, progress, place);
     mark_concat(buffer, &progress.search.reach, place);
-    if let Some(edit) = edit {
-        progress.has_changed = true;
-        make(buffer, substitutions.gdef, place, &edit);
-    }
+    let Some(edit) = edit else {
+        return;
+    };
+    progress.has_changed = true;
+    make(buffer, substitutions.gdef, place, &edit);
 }
 
 /// Makes an edit of the glyph at a place.
@@ -64,28 +65,30 @@ fn make(buffer: &mut hb_buffer_t, gdef: &Gdef, place: usize, edit: &Edit) {
 }
 
 /// What the lookup does at a place.
+///
+/// # Requires
+///
+/// - `buffer.now.have_output ≡ false`
 fn decide<'a>(
-    glyphs: &[hb_glyph_info_t],
+    buffer: &hb_buffer_t,
     substitutions: &Substitutions<'a>,
     lookup: &Lookup,
     progress: &mut Progress,
     place: usize,
 ) -> Option<Edit<'a>> {
-    let options = &substitutions.options;
+    debug_assert!(!buffer.have_output());
     progress.search.reach = Reach::none(0);
-    if place >= glyphs.len() || !lookup.is_for(options.mask, &glyphs[place]) {
+    if !is_taken(buffer, substitutions, lookup, place) {
         return None;
     }
+    let options = &substitutions.options;
+    let glyphs = buffer.info();
     let ctx = ApplyContext {
-        out: &glyphs[..place],
-        input: &glyphs[place..],
+        out: glyphs_before(glyphs, place),
+        input: glyphs_from(glyphs, place),
         iterator: SkippingIterator::over_input(lookup.lookup_props, options, false),
         context: SkippingIterator::over_context(lookup.lookup_props, options, false),
-        syllable: if options.per_syllable {
-            glyphs[place].syllable()
-        } else {
-            0
-        },
+        syllable: syllable_at(glyphs, options, place),
         is_level: true,
     };
     progress.search.reach = Reach::none(place);
@@ -97,6 +100,59 @@ fn decide<'a>(
         &ctx,
         &mut progress.search,
     )
+}
+
+/// Whether the lookup is for the glyph at a place, if there is one.
+///
+/// # Requires
+///
+/// - `buffer.now.have_output ≡ false`
+fn is_taken(
+    buffer: &hb_buffer_t,
+    substitutions: &Substitutions,
+    lookup: &Lookup,
+    place: usize,
+) -> bool {
+    debug_assert!(!buffer.have_output());
+    let glyphs = buffer.info();
+    if place >= glyphs.len() {
+        return false;
+    }
+    lookup.is_for(substitutions.options.mask, &glyphs[place])
+}
+
+/// The glyphs before a place.
+///
+/// # Requires
+///
+/// - `place ≤ length glyphs.now`
+fn glyphs_before(glyphs: &[hb_glyph_info_t], place: usize) -> &[hb_glyph_info_t] {
+    debug_assert!(place <= glyphs.len());
+    &glyphs[..place]
+}
+
+/// The glyphs from a place on.
+///
+/// # Requires
+///
+/// - `place ≤ length glyphs.now`
+fn glyphs_from(glyphs: &[hb_glyph_info_t], place: usize) -> &[hb_glyph_info_t] {
+    debug_assert!(place <= glyphs.len());
+    &glyphs[place..]
+}
+
+/// The syllable of the glyph at a place where all glyphs of a match are of one syllable, or else 0.
+///
+/// # Requires
+///
+/// - `place < length glyphs.now`
+fn syllable_at(glyphs: &[hb_glyph_info_t], options: &LookupOptions, place: usize) -> u8 {
+    debug_assert!(place < glyphs.len());
+    if options.per_syllable {
+        glyphs[place].syllable()
+    } else {
+        0
+    }
 }
 
 /// Marks the glyphs that were looked at from a place on, and before it, as unsafe to concatenate.

@@ -71,6 +71,9 @@ impl Progress {
 /// # Proved
 ///
 /// ```text
+/// ensures run { 0 < progress.new.search.budget.steps
+///     → IsRun substitutions.now (slice_get substitutions.now.list.now.lookups.items index) (now_of buffer.old progress.old) result
+///     (now_of buffer.new progress.new) }
 /// ensures singles { let lookup = slice_get substitutions.now.list.now.lookups.items index in
 ///     0 < progress.new.search.budget.steps → buffer.old.successful ≡ true
 ///     → IsSingleIf substitutions.now lookup buffer.old
@@ -204,8 +207,12 @@ fn substitute_rest(
     progress: &mut Progress,
 ) -> Result<bool, AllocError> {
     debug_assert!(buffer.have_output());
-    for _turn in 0..buffer.len() {
-        if buffer.lookahead_len() == 0 || progress.search.budget.is_spent() {
+    let count = buffer.len();
+    for _turn in 0..count {
+        if buffer.lookahead_len() == 0 {
+            return Ok(true);
+        }
+        if progress.search.budget.is_spent() {
             return Ok(true);
         }
         if !substitute_next(buffer, substitutions, lookup, progress)? {
