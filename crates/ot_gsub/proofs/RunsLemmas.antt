@@ -19,12 +19,11 @@ use Rattle.ot_layout.specs.declared.lookup_list.Lookup.{Lookup}
 use Rattle.ot_layout.specs.declared.search.Reach.{Reach}
 use Rattle.ot_layout.specs.declared.substitution.Edit.{Edit}
 use Rattle.shaping_buffer.specs.State.{State, len}
-use Rattle.shaping_buffer.specs.Step.{Meets, Outcome, clear_output, limited, next_glyph, next_glyphs, sync, unlimited}
+use Rattle.shaping_buffer.specs.Step.{Meets, Outcome, clear_output, next_glyph, next_glyphs, sync, unlimited}
 use Rattle.ot_gsub.specs.Nested.{Now, now_of}
 use Rattle.ot_gsub.specs.Runs.{AreDoneBackward, AreGlyphsDone, HasDone, IsForward, IsGlyphDone, IsPlaceDone, IsPutOut, IsRestDone, IsRunOf, IsStop, IsStopped, IsTried, IsUnderWay, IsWanting, made_if, mark_around, opened, takes}
 use Rattle.ot_gsub.specs.Singles.{GoesOn, opened_at, starts_reverse}
 use Rattle.ot_gsub.specs.Turn.{IsDecided, IsTurnAt, subtables}
-use Rattle.ot_gsub.specs.declared.nested.Step.{Step}
 use Rattle.ot_gsub.specs.declared.nested.Step.TheVariants.{Applied, Passed, Refused}
 use Rattle.ot_gsub.specs.declared.substitution.Progress.{Progress}
 use Rattle.ot_gsub.specs.declared.substitution.Substitutions.{Substitutions}
