@@ -10,6 +10,8 @@ pub mod LigaturesLemmas
 pub mod MatchPositionsLemmas
 pub mod NestedLemmas
 pub mod Rows
+pub mod PutOutLemmas
+pub mod ReverseLemmas
 pub mod RunsLemmas
 pub mod RunsRows
 pub mod SingleTurnLemmas

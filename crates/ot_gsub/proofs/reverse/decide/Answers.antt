@@ -7,7 +7,7 @@ use Rattle.rb_glyph.specs.declared.info.hb_glyph_info_t.{hb_glyph_info_t}
 use Rattle.ot_layout.specs.SkippingIterator.{glyph_at}
 use Rattle.ot_layout.specs.declared.search.ApplyContext.{ApplyContext}
 use Rattle.ot_layout.specs.declared.search.Reach.{Reach}
-use Rattle.ot_gsub.proofs.RunsLemmas.{glyph_at-drop}
+use Rattle.ot_gsub.proofs.PutOutLemmas.{glyph_at-drop}
 use Rattle.ot_gsub.proofs.reverse.decide.Goals as goal
 
 pub returns-then-not-is_taken-clause-decided : goal.returns-then-not-is_taken-clause-decided

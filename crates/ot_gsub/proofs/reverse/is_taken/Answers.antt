@@ -1,6 +1,6 @@
 use Rattle.std.proofs.Common.{ap, arith, length, sym}
 use Rattle.std.proofs.lemmas.Bool.{false≢true}
-use Rattle.ot_gsub.proofs.RunsLemmas.{takes-past}
+use Rattle.ot_gsub.proofs.ReverseLemmas.{takes-past}
 use Rattle.ot_gsub.proofs.reverse.is_taken.Goals as goal
 
 pub returns-then-place-glyphs-clause-takes : goal.returns-then-place-glyphs-clause-takes

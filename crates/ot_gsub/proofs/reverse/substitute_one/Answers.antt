@@ -1,7 +1,7 @@
 use Rattle.std.proofs.Common.{Option, ap, sym, ◌∙◌}
 use Rattle.ot_layout.specs.declared.substitution.Edit.{Edit}
 use Rattle.ot_gsub.specs.Runs.{made_if}
-use Rattle.ot_gsub.proofs.RunsLemmas.{place_done}
+use Rattle.ot_gsub.proofs.ReverseLemmas.{place_done}
 use Rattle.ot_gsub.proofs.reverse.substitute_one.Goals as goal
 
 pub returns-in_default-clause-done : goal.returns-in_default-clause-done

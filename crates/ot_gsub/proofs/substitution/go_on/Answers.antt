@@ -3,7 +3,7 @@ use Rattle.std.proofs.lemmas.Bool.{false≢true}
 use Rattle.rb_glyph.specs.declared.info.hb_glyph_info_t.{hb_glyph_info_t}
 use Rattle.ot_layout.specs.Lookup.{is_for}
 use Rattle.ot_layout.specs.SkippingIterator.{glyph_at}
-use Rattle.ot_gsub.proofs.RunsLemmas.{wants_storage}
+use Rattle.ot_gsub.proofs.PutOutLemmas.{wants_storage}
 use Rattle.ot_gsub.proofs.substitution.go_on.Goals as goal
 
 pub returns-then-passed-eq0-clause-wants : goal.returns-then-passed-eq0-clause-wants
