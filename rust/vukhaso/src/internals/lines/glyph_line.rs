@@ -115,19 +115,45 @@ fn advance<F: FontFunctions>(
     }
 }
 
-/// The glyph that an item writes, and its position: its name or number, then `=` and the cluster,
-/// `@x,y`, `+x` or `+x,y`, and `#` and its flags, of which each may be left out. `None` where the font
-/// has no such glyph, or something else stands there.
+/// What an item writes, of which each part but the name may be left out.
+#[derive(Clone, Copy, Debug)]
+struct Item<'a> {
+    /// The glyph's name, or its number.
+    name: &'a str,
+    /// Behind `=` its cluster.
+    cluster: Option<&'a str>,
+    /// Behind `@` how far it is moved, as `x,y`.
+    offsets: Option<&'a str>,
+    /// Behind `+` its advance, as `x` or `x,y`.
+    advances: Option<&'a str>,
+    /// Behind `#` its flags.
+    flags: Option<&'a str>,
+}
+
+/// The glyph that an item writes, and its position. `None` where the font has no such glyph, or
+/// something else stands there.
 fn read_item<N: GlyphNames>(
     face: &Face<'_>,
     names: &N,
-    item: &str,
+    text: &str,
 ) -> Option<(hb_glyph_info_t, GlyphPosition)> {
-    let (name, rest) = match item.find(['=', '@', '+', '#', ',', '\\']) {
-        Some(end) => item.split_at(end),
-        None => (item, ""),
+    let item = parts_of(text)?;
+    let info = hb_glyph_info_t {
+        glyph_id: glyph_named(face, names, item.name)?,
+        mask: whole(item.flags.unwrap_or("0"))?,
+        cluster: whole(item.cluster.unwrap_or("0"))?,
+        var1: 0,
+        var2: 0,
     };
-    let glyph_id = glyph_named(face, names, name)?;
+    Some((info, position_of(&item)?))
+}
+
+/// The parts of an item; `None` where something else stands behind them.
+fn parts_of(text: &str) -> Option<Item<'_>> {
+    let (name, rest) = match text.find(['=', '@', '+', '#', ',', '\\']) {
+        Some(end) => text.split_at(end),
+        None => (text, ""),
+    };
     let (cluster, rest) = taken(rest, "=", ['@', '+', '#']);
     let (offsets, rest) = taken(rest, "@", ['+', '#', '#']);
     let (advances, rest) = taken(rest, "+", ['#', '#', '#']);
@@ -135,23 +161,26 @@ fn read_item<N: GlyphNames>(
     if !rest.is_empty() {
         return None;
     }
-    let (x_offset, y_offset) = two(offsets.unwrap_or("0,0"))?;
-    let (x_advance, y_advance) = one_or_two(advances.unwrap_or("0"))?;
-    let info = hb_glyph_info_t {
-        glyph_id,
-        mask: whole(flags.unwrap_or("0"))?,
-        cluster: whole(cluster.unwrap_or("0"))?,
-        var1: 0,
-        var2: 0,
-    };
-    let position = GlyphPosition {
+    Some(Item {
+        name,
+        cluster,
+        offsets,
+        advances,
+        flags,
+    })
+}
+
+/// The position that an item writes.
+fn position_of(item: &Item<'_>) -> Option<GlyphPosition> {
+    let (x_offset, y_offset) = two(item.offsets.unwrap_or("0,0"))?;
+    let (x_advance, y_advance) = one_or_two(item.advances.unwrap_or("0"))?;
+    Some(GlyphPosition {
         x_advance,
         y_advance,
         x_offset,
         y_offset,
         var: 0,
-    };
-    Some((info, position))
+    })
 }
 
 /// What a sign at the front of a text has behind it, if it stands there, up to one of some ends, and
