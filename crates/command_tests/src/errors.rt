@@ -1,7 +1,7 @@
 //! Command lines that are not answered.
 
-use shape_command::font_file::FontFile;
 use shape_command::run::answer_command;
+use shape_fonts::font_file::FontFile;
 use std::test::Fail;
 
 #[test]

@@ -4,9 +4,3 @@
 
 #[cfg(test)]
 mod errors;
-#[cfg(test)]
-mod lines;
-#[cfg(test)]
-mod normalized;
-#[cfg(test)]
-mod texts;

@@ -5,10 +5,10 @@ use Rattle.std.specs.Prelude.{⊤}
 use Rattle.std.specs.Io.KnownBytes.{Appends, Consumes, IsAtEnd}
 use Rattle.line_formats.specs.Heads.{head}
 use Rattle.shape_options.specs.declared.output.Output.{Output}
-use Rattle.shape_command.specs.declared.reading.Reading.{Reading}
-use Rattle.shape_command.specs.Reading.{seen}
-use Rattle.shape_command.specs.Lines.{lines_of, EachAnswered, transcript, TakesLine, AnswersAll}
-use Rattle.shape_command.specs.Lines.{AnswersParagraph, paragraph_of, IsAnswer, IsList, IsShown, Shows}
+use Rattle.shape_lines.specs.declared.reading.Reading.{Reading}
+use Rattle.shape_lines.specs.Reading.{seen}
+use Rattle.shape_lines.specs.Lines.{lines_of, EachAnswered, transcript, TakesLine, AnswersAll}
+use Rattle.shape_lines.specs.Lines.{AnswersParagraph, paragraph_of, IsAnswer, IsList, IsShown, Shows}
 
 -- ---- the answers
 

@@ -1,10 +1,7 @@
-pub mod Answer
-pub mod HeldFile
-pub mod KeptAdvances
-pub mod Lines
 pub mod Numbered
-pub mod Prepared
-pub mod Reading
 pub mod Status
-pub mod Synthetic
-pub mod SyntheticFont
+-- the lines of a text, and what is held of a file
+pub use Rattle.shape_lines.specs.Answer
+pub use Rattle.shape_lines.specs.Lines
+pub use Rattle.shape_lines.specs.Reading
+pub use Rattle.shape_fonts.specs.HeldFile

@@ -1,11 +1,11 @@
 //! The answers to the lines of a batch. A font is kept for all lines in a row that name it.
 
 use crate::ending::NAME;
-use crate::font_file::FontFile;
-use crate::lines::{LinesError, next_line};
 use crate::loaded_font::LoadedFont;
-use crate::reading::Reading;
-use crate::run::{CommandError, answer_options, read_font_file};
+use crate::run::{answer_options, read_font_file};
+use shape_fonts::font_file::FontFile;
+use shape_lines::errors::{CommandError, LinesError};
+use shape_lines::reading::{Reading, next_line};
 use shape_options::batch::words_of_line;
 use shape_options::options::FontChoice;
 use shape_options::words::{WordsError, options_of};
@@ -93,20 +93,24 @@ fn read_named_font<F: Files + AllocGlobal, W: Write>(
         return Ok(None);
     };
     let words = words_of_line(rt.alloc(), NAME, line)?;
-    let chosen = match options_of(rt.alloc(), words.as_slice()) {
-        Ok(options) => match read_font_file(rt, &options, file) {
-            Ok(()) => Ok(options.font),
-            Err(error) => Err(error),
-        },
-        Err(error) => Err(CommandError::from(error)),
-    };
-    match chosen {
+    match read_font(rt, words.as_slice(), file) {
         Ok(choice) => Ok(Some(choice)),
         Err(error) => {
             say(rt.alloc(), output, error)?;
             Ok(None)
         }
     }
+}
+
+/// Reads the file of the font that words name, unless it was read last, and says which font it is.
+fn read_font<'a, F: Files + AllocGlobal>(
+    rt: &F,
+    words: &'a [&'a str],
+    file: &mut FontFile,
+) -> Result<FontChoice, CommandError<'a>> {
+    let options = options_of(rt.alloc(), words)?;
+    read_font_file(rt, &options, file)?;
+    Ok(options.font)
 }
 
 /// Answers the line that was read with its font, and those behind it that name the same one.
@@ -152,23 +156,30 @@ fn answer_line<F: Files + AllocGlobal + Eprint, R: BufRead, W: Write>(
         return Ok(Some(false));
     };
     let words = words_of_line(rt.alloc(), NAME, line)?;
-    let answered = match options_of(rt.alloc(), words.as_slice()) {
-        Ok(options) => {
-            if !font.is_named_by(&options) {
-                return Ok(None);
-            }
-            answer_options(rt, &options, font, input, output)
-        }
-        Err(error) => Err(CommandError::from(error)),
-    };
-    match answered {
-        Ok(all_shaped) => Ok(Some(all_shaped)),
+    match answer_words(rt, words.as_slice(), font, input, output) {
+        Ok(answered) => Ok(answered),
         Err(CommandError::GivenUp) => Ok(Some(false)),
         Err(error) => {
             say(rt.alloc(), output, error)?;
             Ok(Some(false))
         }
     }
+}
+
+/// Answers words, and says whether each line was shaped; `None` where they name another font, and were not answered.
+fn answer_words<'a, F: Files + AllocGlobal + Eprint, R: BufRead, W: Write>(
+    rt: &F,
+    words: &'a [&'a str],
+    font: &mut LoadedFont<'_>,
+    input: &mut R,
+    output: &mut W,
+) -> Result<Option<bool>, CommandError<'a>> {
+    let options = options_of(rt.alloc(), words)?;
+    if !font.is_named_by(&options) {
+        return Ok(None);
+    }
+    let all_shaped = answer_options(rt, &options, font, input, output)?;
+    Ok(Some(all_shaped))
 }
 
 /// Says in place of an answer why there is none. An answer that was not written is an error of the whole batch.

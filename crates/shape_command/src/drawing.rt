@@ -1,14 +1,43 @@
 //! A text whose shaping is drawn step by step.
 
+ghost use Rattle.std.specs.Prelude.{◌≡◌, false};
+
 use crate::loaded_font::LoadedFont;
-use crate::picture::Picture;
-use crate::run::CommandError;
-use crate::text::{empty_text, fill};
-use ot_shape::{Face, FaceNames, ShapeError, shape_watched};
+use ot_shape::{Face, FaceNames, ShapeError, Step, Watch, shape_watched};
+use shape_lines::errors::CommandError;
+use shape_lines::picture::{Picture, RowName};
+use shape_lines::text::{empty_text, fill};
 use shape_options::options::{LineOptions, Options, OptionsError, TextSource};
 use shape_options::words::WordsError;
+use shaping_buffer::hb_buffer_t;
 use std::alloc::{AllocError, Global};
 use std::io::Write;
+
+/// A picture, to which each step of shaping adds a row.
+#[derive(Drop)]
+struct Drawing {
+    picture: Picture,
+}
+
+impl Watch for Drawing {
+    /// Adds a row for the step, unless it changed nothing that is drawn.
+    fn step(&mut self, step: Step, buffer: &hb_buffer_t) -> Result<(), AllocError> {
+        self.picture.add(name_of(step), buffer)
+    }
+}
+
+/// The name of a step's row.
+fn name_of(step: Step) -> RowName {
+    match step {
+        Step::Characters => RowName::Characters,
+        Step::Glyphs => RowName::Step("cmap"),
+        Step::Substituted(lookup) => RowName::Lookup("GSUB", lookup),
+        Step::Advances => RowName::Step("advances"),
+        Step::Positioned(lookup) => RowName::Lookup("GPOS", lookup),
+        Step::Kerned => RowName::Step("kern"),
+        Step::Shaped => RowName::Step("shaped"),
+    }
+}
 
 /// Draws the steps of shaping a text with a font, as a picture in SVG, and says whether the text was shaped.
 pub(crate) fn draw_text<'a, W: Write>(
@@ -33,9 +62,11 @@ fn draw<'a, W: Write>(
     text: &str,
     output: &mut W,
 ) -> Result<bool, CommandError<'a>> {
-    let mut picture = Picture::new(alloc);
-    let is_shaped = shape_text(alloc, face, options, text, &mut picture)?;
-    let svg = picture.draw(names)?;
+    let mut drawing = Drawing {
+        picture: Picture::new(alloc),
+    };
+    let is_shaped = shape_text(alloc, face, options, text, &mut drawing)?;
+    let svg = drawing.picture.draw(names)?;
     write_picture(output, svg.as_str())?;
     Ok(is_shaped)
 }
@@ -59,19 +90,19 @@ fn write_picture<'a, W: Write>(output: &mut W, picture: &str) -> Result<(), Comm
     }
 }
 
-/// Shapes a text, and tells the picture of each step. The answer is whether it was shaped.
+/// Shapes a text, and draws each step. The answer is whether it was shaped.
 fn shape_text(
     alloc: Global,
     face: &Face<'_>,
     options: &LineOptions<'_>,
     text: &str,
-    picture: &mut Picture,
+    drawing: &mut Drawing,
 ) -> Result<bool, AllocError> {
     let mut characters = empty_text(alloc, options);
     if !fill(alloc, options, text, &mut characters)? {
         return Ok(false);
     }
-    match shape_watched(face, options.features.as_slice(), characters, picture) {
+    match shape_watched(face, options.features.as_slice(), characters, drawing) {
         Ok(glyphs) => Ok(!glyphs.shaping_failed()),
         Err(ShapeError::Memory) => Err(AllocError),
         Err(_) => Ok(false),

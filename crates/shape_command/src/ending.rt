@@ -5,11 +5,12 @@ ghost use Rattle.std.specs.Process.{exit_status};
 ghost use Rattle.shape_command.specs.Status.{status_after};
 
 use crate::batch_answers::answer_batch;
-use crate::font_file::FontFile;
-use crate::run::{CommandError, answer_command};
+use crate::run::answer_command;
+use shape_fonts::font_file::FontFile;
+use shape_lines::errors::CommandError;
 use shape_options::words::WordsError;
 use std::env;
-use std::io::{self, BufReader, BufWriter, Write};
+use std::io::{self, BufRead, BufReader, BufWriter, Write};
 use std::process::ExitCode;
 use std::rt::{Env, Files};
 
@@ -43,18 +44,49 @@ fn conclude<E: Eprint>(error_output: &E, outcome: io::Result<bool>) -> ExitCode
 
 /// Answers the command line of the program, or the batch on standard input.
 fn run<F: Files + AllocGlobal + Env + Input + Print + Eprint>(rt: &F) -> io::Result<bool> {
-    let alloc = rt.alloc();
-    let words: Vec<String> = env::args(rt)?.collect(alloc)?;
-    let mut input = BufReader::new(alloc, rt.reader())?;
-    let mut output = BufWriter::new(alloc, io::writer(rt))?;
-    if let [_, word] = words.as_slice() {
-        if word.as_str() == "--batch" {
-            return answer_batch(rt, &mut input, &mut output);
-        }
+    let words: Vec<String> = env::args(rt)?.collect(rt.alloc())?;
+    run_words(rt, words.as_slice())
+}
+
+/// Answers the words of a command line, the first of which is the name of the program.
+fn run_words<F: Files + AllocGlobal + Input + Print + Eprint>(
+    rt: &F,
+    words: &[String],
+) -> io::Result<bool> {
+    let mut input = BufReader::new(rt.alloc(), rt.reader())?;
+    let mut output = BufWriter::new(rt.alloc(), io::writer(rt))?;
+    if asks_for_batch(words) {
+        answer_batch(rt, &mut input, &mut output)
+    } else {
+        answer_words(rt, words, &mut input, &mut output)
     }
-    let mut file = FontFile::new(alloc);
-    let answered = answer_command(rt, words.as_slice(), &mut file, &mut input, &mut output);
-    output.flush()?;
+}
+
+/// Whether the words ask for the answers to a batch.
+fn asks_for_batch(words: &[String]) -> bool {
+    match words {
+        [_, word] => word.as_str() == "--batch",
+        _ => false,
+    }
+}
+
+/// Answers the words of a command line, and says why that ended early, if it did.
+fn answer_words<F: Files + AllocGlobal + Print + Eprint, R: BufRead, W: Write>(
+    rt: &F,
+    words: &[String],
+    input: &mut R,
+    output: &mut W,
+) -> io::Result<bool> {
+    let mut file = FontFile::new(rt.alloc());
+    let answered = answer_command(rt, words, &mut file, input, output);
+    match output.flush() {
+        Ok(()) => tell(rt, answered),
+        Err(error) => Err(error),
+    }
+}
+
+/// Says why a command line was not answered to its end, or the text that it asks for.
+fn tell<F: Print + Eprint>(rt: &F, answered: Result<bool, CommandError<'_>>) -> io::Result<bool> {
     match answered {
         Ok(all_shaped) => Ok(all_shaped),
         Err(CommandError::Words(WordsError::Words(error))) => say(rt, &error),

@@ -1,44 +1,17 @@
 //! The lines of a text, and their answers.
 
-ghost use Rattle.std.specs.Prelude.{◌≡◌, ◌++◌, ◌∷◌, [], IfOk, OnOk};
-ghost use Rattle.std.specs.Io.BufRead.{ends_with_byte};
-ghost use Rattle.std.specs.Io.KnownBytes.{Appends};
-ghost use Rattle.shape_command.specs.Answer.{answer_text};
-ghost use Rattle.shape_command.specs.Lines.{TakesLine, AnswersAll, AnswersParagraph, IsShown, Shows, unverified_line};
+ghost use Rattle.std.specs.Prelude.{OnOk};
+ghost use Rattle.shape_lines.specs.Lines.{AnswersAll, AnswersParagraph, IsShown, Shows};
 
-use crate::reading::{Reading, keep_seen, read_run};
-use crate::shaper::{Answer, LineNames, LineShaper, LineState};
-use crate::text::lossy_text;
+use crate::shaper::{LineShaper, LineState};
 use crate::trace::trace_lines;
 use line_formats::heads::head;
-use ot_shape::VerifyError;
-use std::alloc::{AllocError, Global};
+use shape_fonts::synthetic_font::LineNames;
+use shape_lines::answers::{put, write_answer};
+use shape_lines::errors::{LinesError, read_error};
+use shape_lines::reading::{keep_seen, next_line};
+use shape_lines::text::lossy_text;
 use std::io::{self, BufRead, ErrorKind, Read, Write};
-
-/// Why not each line of a text was answered.
-#[derive(Debug, Drop)]
-pub enum LinesError {
-    /// The text was not read to its end.
-    Read(io::Error),
-    /// An answer was not written.
-    Write(io::Error),
-    /// There is no memory.
-    Memory,
-}
-
-impl From<AllocError> for LinesError {
-    fn from(_error: AllocError) -> LinesError {
-        LinesError::Memory
-    }
-}
-
-/// The error of a read.
-pub(crate) fn read_error(error: io::Error) -> LinesError {
-    match error.kind() {
-        ErrorKind::OutOfMemory => LinesError::Memory,
-        _ => LinesError::Read(error),
-    }
-}
 
 /// Answers each line of a text, and says whether all of them were shaped. A line feed ends a line, and the last line may
 /// lack it. One line is held at a time.
@@ -126,82 +99,6 @@ fn tell<F: AllocGlobal + Eprint>(rt: &F, steps: &[u8]) -> Result<(), LinesError>
     }
     let text = lossy_text(rt.alloc(), steps)?;
     match rt.eprint(&text) {
-        Ok(()) => Ok(()),
-        Err(error) => Err(LinesError::Write(error)),
-    }
-}
-
-/// Reads a line in place of the one that is held, without the line feed that ends it. It says whether there was one.
-pub fn next_line<R: BufRead>(
-    alloc: Global,
-    reader: &mut R,
-    reading: Reading,
-    line: &mut Vec<u8>,
-) -> Result<bool, LinesError>
-    ensures { IfOk result (λ found. TakesLine reading found
-        (R.remaining reader.old) (R.remaining reader.new) line.new.items) }
-{
-    line.clear();
-    for _ in 0..u64::MAX {
-        if !read_run(alloc, reader, reading, line)? {
-            return Ok(!line.is_empty());
-        }
-        if ends_line(line.as_slice()) {
-            line.truncate(line.len() - 1);
-            return Ok(true);
-        }
-    }
-    Err(LinesError::Read(io::Error::from(ErrorKind::Other)))
-}
-
-/// Whether a line feed stands at the end.
-fn ends_line(line: &[u8]) -> bool
-    ensures { result ≡ ends_with_byte 10 line.now }
-{
-    !line.is_empty() && line[line.len() - 1] == b'\n'
-}
-
-/// Writes an answer: the glyphs in brackets, and a line feed.
-pub fn write_answer<W: Write>(writer: &mut W, answer: &Answer) -> Result<(), LinesError>
-    ensures { OnOk result (Appends (W.contents writer.old) (W.contents writer.new)
-        (answer_text answer.now ++ 10 ∷ [])) }
-{
-    match answer {
-        Answer::Empty => put(writer, b"\n"),
-        Answer::Failed => put(writer, b"error: Shaping failed.\n"),
-        Answer::Unverified(error) => put(writer, unverified_line(*error)),
-        Answer::Glyphs(text) => put_in_brackets(writer, text.as_bytes()),
-        Answer::Objects(objects) => put_in_brackets(writer, objects.as_slice()),
-    }
-}
-
-/// Writes bytes in brackets, and a line feed.
-fn put_in_brackets<W: Write>(writer: &mut W, bytes: &[u8]) -> Result<(), LinesError>
-    ensures { OnOk result (Appends (W.contents writer.old) (W.contents writer.new)
-        ((91 ∷ bytes.now ++ 93 ∷ []) ++ 10 ∷ [])) }
-{
-    put(writer, b"[")?;
-    put(writer, bytes)?;
-    put(writer, b"]\n")
-}
-
-/// What is printed of a line whose glyphs are not what they say of themselves.
-fn unverified_line(error: VerifyError) -> &'static [u8]
-    ensures { result.now ≡ unverified_line error ++ 10 ∷ [] }
-{
-    match error {
-        VerifyError::NotMonotone => b"error: buffer verify error: clusters are not monotone.\n",
-        VerifyError::UnsafeToBreak => b"error: buffer verify error: unsafe-to-break test failed.\n",
-        VerifyError::UnsafeToConcat => {
-            b"error: buffer verify error: unsafe-to-concat test failed.\n"
-        }
-    }
-}
-
-fn put<W: Write>(writer: &mut W, bytes: &[u8]) -> Result<(), LinesError>
-    ensures { OnOk result (Appends (W.contents writer.old) (W.contents writer.new) bytes.now) }
-{
-    match writer.write_all(bytes) {
         Ok(()) => Ok(()),
         Err(error) => Err(LinesError::Write(error)),
     }

@@ -4,10 +4,10 @@ ghost use Rattle.std.specs.Prelude.{◌≡◌, None, option_map, IfOk, IfSome, O
 ghost use Rattle.ot_shape.specs.Face.{KeepsItsTables};
 ghost use Rattle.shape_command.specs.Numbered.{numbered_font};
 
-use crate::font_file::FontFile;
 use crate::shaper::KeptLine;
 use font_tables::directory::face_count;
 use ot_shape::{Face, FaceNames, Variation};
+use shape_fonts::font_file::FontFile;
 use shape_options::options::{FontChoice, Options};
 use std::alloc::{AllocError, Global};
 use std::mem;

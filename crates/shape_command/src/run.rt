@@ -3,102 +3,20 @@
 ghost use Rattle.std.specs.Prelude.{◌≡◌, Some, true, false, IsErr, IsSome, OnOk};
 
 use crate::drawing::draw_text;
-use crate::font_file::FontFile;
-use crate::lines::{LinesError, answer_lines, answer_paragraph};
+use crate::lines::{answer_lines, answer_paragraph};
 use crate::loaded_font::LoadedFont;
-use crate::reading::Reading;
-use crate::shaper::{KeptLine, LineNames, LineShaper, LineState};
-use crate::synthetic_font::{SyntheticFont, SyntheticNames};
+use crate::shaper::{KeptLine, LineShaper, LineState};
+use shape_fonts::font_file::FontFile;
+use shape_fonts::synthetic_font::{LineNames, SyntheticFont, SyntheticNames};
+use shape_lines::errors::CommandError;
+use shape_lines::reading::Reading;
 use shape_options::options::{Options, Shaper, TextSource};
-use shape_options::words::{WordsError, options_of};
+use shape_options::words::options_of;
 use shaping_buffer::{Flags, GlyphId, NoGlyphNames, SerializeFlags};
-use std::alloc::AllocError;
 use std::convert::AsStr;
 use std::fs;
 use std::io::{self, BufRead, BufReader, BufWriter, Write};
 use std::rt::Files;
-use thiserror::Error;
-
-/// Why a command line was not answered to its end.
-#[derive(Debug, Drop, Error)]
-pub enum CommandError<'a> {
-    /// The words are not answered; no file was read.
-    #[error("{0}")]
-    Words(WordsError<'a>),
-    /// The file of the font was not read.
-    #[error("{file}: {error}")]
-    Font {
-        /// The file.
-        file: &'a str,
-        /// Why it was not read.
-        error: io::Error,
-    },
-    /// The file has no font of this number.
-    #[error("{0}: Failed loading font face")]
-    Face(&'a str),
-    /// The text was not read.
-    #[error("Failed reading text: {file}: {error}")]
-    Text {
-        /// The file.
-        file: &'a str,
-        /// Why it was not read.
-        error: io::Error,
-    },
-    /// The answers are those of shaping that was given up.
-    #[error("Shaping was given up: the font asks for more work than the text may cost")]
-    GivenUp,
-    /// The answers were not written.
-    #[error("Failed writing glyphs: {0}")]
-    Output(io::Error),
-    /// The file of the answers was not made.
-    #[error("Cannot open output file '{file}': {error}")]
-    OutputFile {
-        /// The file.
-        file: &'a str,
-        /// Why it was not made.
-        error: io::Error,
-    },
-    /// There is no memory.
-    #[error("out of memory")]
-    Memory,
-}
-
-impl From<AllocError> for CommandError<'_> {
-    fn from(_error: AllocError) -> Self {
-        CommandError::Memory
-    }
-}
-
-impl<'a> From<WordsError<'a>> for CommandError<'a> {
-    fn from(error: WordsError<'a>) -> Self {
-        match error {
-            WordsError::Memory => CommandError::Memory,
-            error => CommandError::Words(error),
-        }
-    }
-}
-
-impl<'a> CommandError<'a> {
-    /// Whether other words may do, so that help on them may be wanted.
-    pub(crate) fn wants_help(&self) -> bool {
-        matches!(
-            self,
-            CommandError::Words(WordsError::Options(_))
-                | CommandError::Font { .. }
-                | CommandError::Face(_)
-                | CommandError::OutputFile { .. }
-        )
-    }
-
-    /// The error of lines that are in this file.
-    fn of_lines(file: &'a str, error: LinesError) -> Self {
-        match error {
-            LinesError::Read(error) => CommandError::Text { file, error },
-            LinesError::Write(error) => CommandError::Output(error),
-            LinesError::Memory => CommandError::Memory,
-        }
-    }
-}
 
 /// Answers a command line, whose first word is the name of the program, and says whether each line was shaped. The
 /// font's file is read unless it was read last, and held for the next command line.

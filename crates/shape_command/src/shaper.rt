@@ -1,86 +1,28 @@
-//! What a line is answered with.
+//! What a line is answered with: how it is shaped.
 
 ghost use Rattle.std.specs.Prelude.{◌≡◌, [], None, false, IfOk};
-ghost use Rattle.shape_command.specs.Answer.{answer_text, is_shaped};
-ghost use Rattle.shape_command.specs.Lines.{IsAnswer, IsList, glyphs_in, glyphs_line};
-ghost use Rattle.shape_options.specs.declared.output.OutputFormat.TheVariants.{Text, Json};
+ghost use Rattle.shape_lines.specs.Answer.{answer_text};
+ghost use Rattle.shape_lines.specs.Lines.{IsAnswer, IsList};
 
-use crate::edits::{Edits, buffer_of};
-use crate::fallback::shape_fallback;
-use crate::glyph_line::read_glyphs;
-use crate::kept_advances::KeptAdvances;
-use crate::reading::Reading;
-use crate::synthetic_font::SyntheticFont;
-use crate::text::{emptied, empty_text, fill, lossy_text};
 use crate::trace::Trace;
 use line_formats::characters::characters_list;
-use line_formats::json::glyphs_json;
 use ot_shape::{
-    Face, FaceNames, KeptPlans, ShapeError, VerifyError, shape_watched,
-    shape_with_functions_and_plans, shape_with_functions_watched, shape_with_kept_plans,
+    Face, KeptPlans, ShapeError, shape_watched, shape_with_functions_and_plans,
+    shape_with_functions_watched, shape_with_kept_plans,
 };
+use shape_fonts::fallback::shape_fallback;
+use shape_fonts::kept_advances::KeptAdvances;
+use shape_fonts::synthetic_font::{LineNames, SyntheticFont};
+use shape_lines::answers::Answer;
+use shape_lines::edits::{Edits, buffer_of};
+use shape_lines::glyph_line::read_glyphs;
+use shape_lines::printing::GlyphPrinter;
+use shape_lines::reading::Reading;
+use shape_lines::text::{emptied, empty_text, fill, lossy_text};
 use shape_options::options::{LineOptions, Shaper};
-use shape_options::output::{Output, OutputFormat};
-use shaping_buffer::{
-    Direction, Flags, GlyphBuffer, GlyphId, GlyphNames, NoGlyphNames, SerializeFlags,
-    UnicodeBuffer, hb_glyph_info_t,
-};
+use shape_options::output::Output;
+use shaping_buffer::{Direction, GlyphBuffer, GlyphId, UnicodeBuffer};
 use std::alloc::{AllocError, Global};
-
-/// Names and extents of glyphs, where the extents are found before they are asked for.
-pub trait LineNames: GlyphNames {
-    /// Finds the extents of glyphs as a font draws them.
-    fn find(
-        &mut self,
-        font: &SyntheticFont<'_>,
-        infos: &[hb_glyph_info_t],
-    ) -> Result<(), AllocError>;
-}
-
-impl LineNames for NoGlyphNames {
-    fn find(
-        &mut self,
-        _font: &SyntheticFont<'_>,
-        _infos: &[hb_glyph_info_t],
-    ) -> Result<(), AllocError> {
-        Ok(())
-    }
-}
-
-impl LineNames for FaceNames<'_> {
-    /// Finds them as the font has them, which draws them so.
-    fn find(
-        &mut self,
-        _font: &SyntheticFont<'_>,
-        infos: &[hb_glyph_info_t],
-    ) -> Result<(), AllocError> {
-        self.find_extents(infos)
-    }
-}
-
-/// What a line is answered with.
-#[derive(Debug, Drop)]
-pub enum Answer {
-    /// It has no glyph.
-    Empty,
-    /// It has glyphs, and this is their text.
-    Glyphs(String),
-    /// It has glyphs, and these are their objects in JSON.
-    Objects(Vec<u8>),
-    /// It is too long to be shaped.
-    Failed,
-    /// A test of its glyphs failed.
-    Unverified(VerifyError),
-}
-
-impl Answer {
-    /// Whether the line was shaped.
-    pub fn is_shaped(&self) -> bool
-        ensures { result ≡ is_shaped self.now }
-    {
-        matches!(self, Answer::Empty | Answer::Glyphs(_) | Answer::Objects(_))
-    }
-}
 
 /// What is printed of a line.
 #[derive(Debug, Drop)]
@@ -408,89 +350,13 @@ impl<'a> LineShaper<'a> {
     ) -> Result<Answer, AllocError>
         ensures { IfOk result (λ answer. IsAnswer self.now.output (answer_text answer)) }
     {
-        let answer = self.print(alloc, &mut state.names, &glyphs)?;
+        let printer = GlyphPrinter {
+            font: self.font,
+            output: self.output,
+        };
+        let answer = printer.print(alloc, &mut state.names, &glyphs)?;
         state.kept.has_given_up |= glyphs.shaping_failed();
         state.kept.text = Some(glyphs.clear());
         Ok(answer)
-    }
-
-    /// What is printed of glyphs: their text, or their objects. It is public for its clause, which says more than that of `answer`.
-    pub fn print<N: LineNames>(
-        &self,
-        alloc: Global,
-        names: &mut N,
-        glyphs: &GlyphBuffer,
-    ) -> Result<Answer, AllocError>
-        ensures { IfOk result (λ answer. answer_text answer ≡ glyphs_line
-            (record { name = N.name_of names.new; extents = N.extents_of names.new }) self.now.output glyphs.now) }
-    {
-        if glyphs.is_empty() {
-            return Ok(Answer::Empty);
-        }
-        self.find_extents(names, glyphs.glyph_infos())?;
-        let answer = self.print_some(alloc, names, glyphs)?;
-        Ok(answer)
-    }
-
-    /// What is printed of glyphs where there are some.
-    fn print_some<N: LineNames>(
-        &self,
-        alloc: Global,
-        names: &N,
-        glyphs: &GlyphBuffer,
-    ) -> Result<Answer, AllocError>
-        ensures { IfOk result (λ answer. answer_text answer ≡ glyphs_in
-            (record { name = N.name_of names.now; extents = N.extents_of names.now }) self.now.output.format
-            self.now.output.flags glyphs.now) }
-    {
-        match self.output.format {
-            OutputFormat::Text => self.text(alloc, names, glyphs),
-            OutputFormat::Json => self.objects(alloc, names, glyphs),
-            OutputFormat::Nothing => Ok(Answer::Empty),
-        }
-    }
-
-    /// The text of glyphs.
-    fn text<N: LineNames>(
-        &self,
-        alloc: Global,
-        names: &N,
-        glyphs: &GlyphBuffer,
-    ) -> Result<Answer, AllocError>
-        ensures { IfOk result (λ answer. answer_text answer ≡ glyphs_in
-            (record { name = N.name_of names.now; extents = N.extents_of names.now }) Text
-            self.now.output.flags glyphs.now) }
-    {
-        let text = glyphs.serialize(alloc, names, self.output.flags)?;
-        Ok(Answer::Glyphs(text))
-    }
-
-    /// The objects of glyphs.
-    fn objects<N: LineNames>(
-        &self,
-        alloc: Global,
-        names: &N,
-        glyphs: &GlyphBuffer,
-    ) -> Result<Answer, AllocError>
-        ensures { IfOk result (λ answer. answer_text answer ≡ glyphs_in
-            (record { name = N.name_of names.now; extents = N.extents_of names.now }) Json
-            self.now.output.flags glyphs.now) }
-    {
-        let infos = glyphs.glyph_infos();
-        let positions = glyphs.glyph_positions();
-        let objects = glyphs_json(alloc, names, self.output.flags, infos, positions)?;
-        Ok(Answer::Objects(objects))
-    }
-
-    /// Finds the extents of glyphs, where they are printed.
-    fn find_extents<N: LineNames>(
-        &self,
-        names: &mut N,
-        infos: &[hb_glyph_info_t],
-    ) -> Result<(), AllocError> {
-        if self.output.flags.contains(SerializeFlags::GLYPH_EXTENTS) {
-            names.find(&self.font, infos)?;
-        }
-        Ok(())
     }
 }

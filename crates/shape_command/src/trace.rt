@@ -1,14 +1,17 @@
 //! The steps of shaping a line, and how they are printed.
 
 ghost use Rattle.std.specs.Prelude.{◌≡◌, false, IfOk};
-ghost use Rattle.shape_command.specs.Lines.{IsTrace};
+ghost use Rattle.shape_lines.specs.Lines.{IsTrace};
 
-use crate::edits::buffer_of;
-use crate::shaper::{Answer, LineNames, LineShaper};
-use crate::text::empty_text;
+use crate::shaper::LineShaper;
 use line_formats::characters::characters_list;
 use line_formats::heads::{Shown, head};
 use ot_shape::{Step, Watch};
+use shape_fonts::synthetic_font::LineNames;
+use shape_lines::answers::Answer;
+use shape_lines::edits::buffer_of;
+use shape_lines::printing::GlyphPrinter;
+use shape_lines::text::empty_text;
 use shape_options::output::Output;
 use shaping_buffer::{Flags, GlyphPosition, SerializeFlags, hb_buffer_t, hb_glyph_info_t};
 use std::alloc::{AllocError, Global};
@@ -72,6 +75,19 @@ pub(crate) fn trace_lines<N: LineNames>(
     if !shaper.output.trace {
         return Ok(text);
     }
+    write_steps(alloc, shaper, names, number, trace, &mut text)?;
+    Ok(text)
+}
+
+/// Writes the steps of shaping the line of this number.
+fn write_steps<N: LineNames>(
+    alloc: Global,
+    shaper: &LineShaper<'_>,
+    names: &mut N,
+    number: u64,
+    trace: &Trace,
+    text: &mut Vec<u8>,
+) -> Result<(), AllocError> {
     let shown = Shown {
         text: false,
         characters: false,
@@ -80,17 +96,35 @@ pub(crate) fn trace_lines<N: LineNames>(
     let before = head(alloc, shown, number, b"", b"")?;
     for told in trace.steps.iter() {
         text.extend_from_slice(before.as_slice())?;
-        let words = words_of(alloc, told.step)?;
-        text.extend_from_slice(words.as_bytes())?;
-        write_items(alloc, shaper, names, told, &mut text)?;
-        text.push(b'\n')?;
+        write_step(alloc, shaper, names, told, text)?;
     }
-    Ok(text)
+    Ok(())
 }
 
-/// What stands before the items that a step left: its message, in HarfBuzz's words where it has one.
-fn words_of(alloc: Global, step: Step) -> Result<String, AllocError> {
-    let mut words = String::from_str(alloc, "trace: ")?;
+/// Writes a step, and the items that it left.
+fn write_step<N: LineNames>(
+    alloc: Global,
+    shaper: &LineShaper<'_>,
+    names: &mut N,
+    told: &Told,
+    text: &mut Vec<u8>,
+) -> Result<(), AllocError> {
+    write_words(alloc, told.step, text)?;
+    write_items(alloc, shaper, names, told, text)?;
+    text.push(b'\n')?;
+    Ok(())
+}
+
+/// Writes what stands before the items that a step left.
+fn write_words(alloc: Global, step: Step, text: &mut Vec<u8>) -> Result<(), AllocError> {
+    let mut words = String::new(alloc);
+    push_words(&mut words, step)?;
+    text.extend_from_slice(words.as_bytes())
+}
+
+/// Adds the message of a step, in HarfBuzz's words where it has one.
+fn push_words(words: &mut String, step: Step) -> Result<(), AllocError> {
+    words.push_str("trace: ")?;
     match step {
         Step::Characters => words.push_str("end normalize")?,
         Step::Glyphs => words.push_str("end map glyphs")?,
@@ -101,8 +135,7 @@ fn words_of(alloc: Global, step: Step) -> Result<String, AllocError> {
         Step::Kerned => words.push_str("end table kern")?,
         Step::Shaped => words.push_str("end shape")?,
     }
-    words.push_str("\tbuffer: ")?;
-    Ok(words)
+    words.push_str("\tbuffer: ")
 }
 
 /// Writes the items that a step left.
@@ -153,12 +186,12 @@ fn glyphs_answer<N: LineNames>(
     let Some(glyphs) = buffer_of(text, told.items.as_slice(), positions)? else {
         return Ok(Answer::Failed);
     };
-    let printer = LineShaper {
+    let printer = GlyphPrinter {
+        font: shaper.font,
         output: Output {
             flags,
             ..shaper.output
         },
-        ..*shaper
     };
     printer.print(alloc, names, &glyphs)
 }

@@ -50,6 +50,12 @@ pub mod verification;
 pub(crate) mod options;
 
 #[cfg(feature = "std")]
+pub(crate) mod fonts;
+
+#[cfg(feature = "std")]
+pub(crate) mod lines;
+
+#[cfg(feature = "std")]
 pub(crate) mod command;
 #[cfg(feature = "std")]
 pub mod program;

@@ -7,11 +7,12 @@ mod rounds;
 
 use crate::clap::{Arg, ArgMatches};
 use crate::command::ending;
-use crate::command::font_file::FontFile;
 use crate::command::loaded_font::LoadedFont;
-use crate::command::run::{CommandError, read_font_file, shaper_of};
+use crate::command::run::{read_font_file, shaper_of};
+use crate::fonts::font_file::FontFile;
 use crate::host::io::{BufRead, BufReader, BufWriter};
 use crate::host::{Env, Host, fs};
+use crate::lines::errors::CommandError;
 use crate::memory::String;
 use crate::options::arguments::matches_of;
 use crate::options::options::{Options, TextSource};

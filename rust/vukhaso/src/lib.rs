@@ -65,6 +65,10 @@ mod jobs;
 #[cfg(feature = "std")]
 use internals::command;
 #[cfg(feature = "std")]
+use internals::fonts;
+#[cfg(feature = "std")]
+use internals::lines;
+#[cfg(feature = "std")]
 use internals::options;
 use internals::{
     aat_substitution, aat_tables, arrayvec, bitflags, buffer, common, font_cmap, font_colors,

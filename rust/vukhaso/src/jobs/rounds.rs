@@ -1,10 +1,11 @@
 //! Rounds of lines, which threads answer.
 
-use crate::command::lines::{LinesError, answer_lines};
-use crate::command::reading::{Reading, read_run};
+use crate::command::lines::answer_lines;
 use crate::command::shaper::{KeptLine, LineShaper, LineState};
 use crate::host::Host;
 use crate::host::io::BufRead;
+use crate::lines::errors::LinesError;
+use crate::lines::reading::{Reading, read_run};
 use crate::memory::{AllocError, Vec};
 use crate::ot_shape::FaceNames;
 use std::io::{self, Write};

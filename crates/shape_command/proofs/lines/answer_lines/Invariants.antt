@@ -1,4 +1,4 @@
-use Rattle.shape_command.specs.Lines.{IsShown}
+use Rattle.shape_lines.specs.Lines.{IsShown}
 use Rattle.shape_command.proofs.LineLemmas.{AnswersSoFar}
 use Rattle.shape_command.proofs.lines.answer_lines.Given as goal
 

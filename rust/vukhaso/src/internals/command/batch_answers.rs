@@ -3,13 +3,13 @@
 //! The answers to the lines of a batch. A font is kept for all lines in a row that name it.
 
 use crate::command::ending::NAME;
-use crate::command::font_file::FontFile;
-use crate::command::lines::{LinesError, next_line};
 use crate::command::loaded_font::LoadedFont;
-use crate::command::reading::Reading;
-use crate::command::run::{CommandError, answer_options, read_font_file};
+use crate::command::run::{answer_options, read_font_file};
+use crate::fonts::font_file::FontFile;
 use crate::host::io::{self, BufRead, ErrorKind, Write};
 use crate::host::{AllocGlobal, Eprint, Files};
+use crate::lines::errors::{CommandError, LinesError};
+use crate::lines::reading::{Reading, next_line};
 use crate::memory::{TryDisplay, Vec};
 use crate::options::batch::words_of_line;
 use crate::options::options::FontChoice;
@@ -94,20 +94,24 @@ fn read_named_font<F: Files + AllocGlobal, W: Write>(
         return Ok(None);
     };
     let words = words_of_line(NAME, line)?;
-    let chosen = match options_of(words.as_slice()) {
-        Ok(options) => match read_font_file(rt, &options, file) {
-            Ok(()) => Ok(options.font),
-            Err(error) => Err(error),
-        },
-        Err(error) => Err(CommandError::from(error)),
-    };
-    match chosen {
+    match read_font(rt, words.as_slice(), file) {
         Ok(choice) => Ok(Some(choice)),
         Err(error) => {
             say(output, error)?;
             Ok(None)
         }
     }
+}
+
+/// Reads the file of the font that words name, unless it was read last, and says which font it is.
+fn read_font<'a, F: Files + AllocGlobal>(
+    rt: &F,
+    words: &'a [&'a str],
+    file: &mut FontFile,
+) -> Result<FontChoice, CommandError<'a>> {
+    let options = options_of(words)?;
+    read_font_file(rt, &options, file)?;
+    Ok(options.font)
 }
 
 /// Answers the line that was read with its font, and those behind it that name the same one.
@@ -154,23 +158,31 @@ fn answer_line<F: Files + AllocGlobal + Eprint, R: BufRead, W: Write>(
         return Ok(Some(false));
     };
     let words = words_of_line(NAME, line)?;
-    let answered = match options_of(words.as_slice()) {
-        Ok(options) => {
-            if !font.is_named_by(&options) {
-                return Ok(None);
-            }
-            answer_options(rt, &options, font, input, output)
-        }
-        Err(error) => Err(CommandError::from(error)),
-    };
-    match answered {
-        Ok(all_shaped) => Ok(Some(all_shaped)),
+    match answer_words(rt, words.as_slice(), font, input, output) {
+        Ok(answered) => Ok(answered),
         Err(CommandError::GivenUp) => Ok(Some(false)),
         Err(error) => {
             say(output, error)?;
             Ok(Some(false))
         }
     }
+}
+
+/// Answers words, and says whether each line was shaped; `None` where they name another font, and were
+/// not answered.
+fn answer_words<'a, F: Files + AllocGlobal + Eprint, R: BufRead, W: Write>(
+    rt: &F,
+    words: &'a [&'a str],
+    font: &mut LoadedFont<'_>,
+    input: &mut R,
+    output: &mut W,
+) -> Result<Option<bool>, CommandError<'a>> {
+    let options = options_of(words)?;
+    if !font.is_named_by(&options) {
+        return Ok(None);
+    }
+    let all_shaped = answer_options(rt, &options, font, input, output)?;
+    Ok(Some(all_shaped))
 }
 
 /// Says in place of an answer why there is none. An answer that was not written is an error of the

@@ -2,15 +2,41 @@
 
 //! A text whose shaping is drawn step by step.
 
+use crate::buffer::hb_buffer_t;
 use crate::command::loaded_font::LoadedFont;
-use crate::command::picture::Picture;
-use crate::command::run::CommandError;
-use crate::command::text::{empty_text, fill};
 use crate::host::io::Write;
+use crate::lines::errors::CommandError;
+use crate::lines::picture::{Picture, RowName};
+use crate::lines::text::{empty_text, fill};
 use crate::memory::AllocError;
 use crate::options::options::{LineOptions, Options, OptionsError, TextSource};
 use crate::options::words::WordsError;
-use crate::ot_shape::{Face, FaceNames, ShapeError, shape_watched};
+use crate::ot_shape::{Face, FaceNames, ShapeError, Step, Watch, shape_watched};
+
+/// A picture, to which each step of shaping adds a row.
+struct Drawing {
+    picture: Picture,
+}
+
+impl Watch for Drawing {
+    /// Adds a row for the step, unless it changed nothing that is drawn.
+    fn step(&mut self, step: Step, buffer: &hb_buffer_t) -> Result<(), AllocError> {
+        self.picture.add(name_of(step), buffer)
+    }
+}
+
+/// The name of a step's row.
+fn name_of(step: Step) -> RowName {
+    match step {
+        Step::Characters => RowName::Characters,
+        Step::Glyphs => RowName::Step("cmap"),
+        Step::Substituted(lookup) => RowName::Lookup("GSUB", lookup),
+        Step::Advances => RowName::Step("advances"),
+        Step::Positioned(lookup) => RowName::Lookup("GPOS", lookup),
+        Step::Kerned => RowName::Step("kern"),
+        Step::Shaped => RowName::Step("shaped"),
+    }
+}
 
 /// Draws the steps of shaping a text with a font, as a picture in SVG, and says whether the text was
 /// shaped.
@@ -34,9 +60,11 @@ fn draw<'a, W: Write>(
     text: &str,
     output: &mut W,
 ) -> Result<bool, CommandError<'a>> {
-    let mut picture = Picture::new();
-    let is_shaped = shape_text(face, options, text, &mut picture)?;
-    let svg = picture.draw(names)?;
+    let mut drawing = Drawing {
+        picture: Picture::new(),
+    };
+    let is_shaped = shape_text(face, options, text, &mut drawing)?;
+    let svg = drawing.picture.draw(names)?;
     write_picture(output, svg.as_str())?;
     Ok(is_shaped)
 }
@@ -60,18 +88,18 @@ fn write_picture<'a, W: Write>(output: &mut W, picture: &str) -> Result<(), Comm
     }
 }
 
-/// Shapes a text, and tells the picture of each step. The answer is whether it was shaped.
+/// Shapes a text, and draws each step. The answer is whether it was shaped.
 fn shape_text(
     face: &Face<'_>,
     options: &LineOptions<'_>,
     text: &str,
-    picture: &mut Picture,
+    drawing: &mut Drawing,
 ) -> Result<bool, AllocError> {
     let mut characters = empty_text(options);
     if !fill(options, text, &mut characters)? {
         return Ok(false);
     }
-    match shape_watched(face, options.features.as_slice(), characters, picture) {
+    match shape_watched(face, options.features.as_slice(), characters, drawing) {
         Ok(glyphs) => Ok(!glyphs.shaping_failed()),
         Err(ShapeError::Memory) => Err(AllocError),
         Err(_) => Ok(false),

@@ -3,11 +3,12 @@
 //! How the program ends.
 
 use crate::command::batch_answers::answer_batch;
-use crate::command::font_file::FontFile;
-use crate::command::run::{CommandError, answer_command};
-use crate::host::io::{self, BufReader, BufWriter, Write};
+use crate::command::run::answer_command;
+use crate::fonts::font_file::FontFile;
+use crate::host::io::{self, BufRead, BufReader, BufWriter, Write};
 use crate::host::{AllocGlobal, Eprint, Input, Print, env};
 use crate::host::{Env, Files};
+use crate::lines::errors::CommandError;
 use crate::memory::{String, TryIterator, Vec};
 use crate::options::words::WordsError;
 use std::process::ExitCode;
@@ -45,16 +46,48 @@ fn conclude<E: Eprint>(error_output: &E, outcome: io::Result<bool>) -> ExitCode 
 /// Answers the command line of the program, or the batch on standard input.
 fn run<F: Files + AllocGlobal + Env + Input + Print + Eprint>(rt: &F) -> io::Result<bool> {
     let words: Vec<String> = env::args(rt)?.try_into_vec()?;
+    run_words(rt, words.as_slice())
+}
+
+/// Answers the words of a command line, the first of which is the name of the program.
+fn run_words<F: Files + AllocGlobal + Input + Print + Eprint>(
+    rt: &F,
+    words: &[String],
+) -> io::Result<bool> {
     let mut input = BufReader::new(rt.reader())?;
     let mut output = BufWriter::new(io::writer(rt))?;
-    if let [_, word] = words.as_slice() {
-        if word.as_str() == "--batch" {
-            return answer_batch(rt, &mut input, &mut output);
-        }
+    if asks_for_batch(words) {
+        answer_batch(rt, &mut input, &mut output)
+    } else {
+        answer_words(rt, words, &mut input, &mut output)
     }
+}
+
+/// Whether the words ask for the answers to a batch.
+fn asks_for_batch(words: &[String]) -> bool {
+    match words {
+        [_, word] => word.as_str() == "--batch",
+        _ => false,
+    }
+}
+
+/// Answers the words of a command line, and says why that ended early, if it did.
+fn answer_words<F: Files + AllocGlobal + Print + Eprint, R: BufRead, W: Write>(
+    rt: &F,
+    words: &[String],
+    input: &mut R,
+    output: &mut W,
+) -> io::Result<bool> {
     let mut file = FontFile::new();
-    let answered = answer_command(rt, words.as_slice(), &mut file, &mut input, &mut output);
-    output.flush()?;
+    let answered = answer_command(rt, words, &mut file, input, output);
+    match output.flush() {
+        Ok(()) => tell(rt, answered),
+        Err(error) => Err(error),
+    }
+}
+
+/// Says why a command line was not answered to its end, or the text that it asks for.
+fn tell<F: Print + Eprint>(rt: &F, answered: Result<bool, CommandError<'_>>) -> io::Result<bool> {
     match answered {
         Ok(all_shaped) => Ok(all_shaped),
         Err(CommandError::Words(WordsError::Words(error))) => say(rt, &error),

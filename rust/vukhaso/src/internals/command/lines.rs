@@ -2,40 +2,17 @@
 
 //! The lines of a text, and their answers.
 
-use crate::command::reading::{Reading, keep_seen, read_run};
-use crate::command::shaper::{Answer, LineNames, LineShaper, LineState};
-use crate::command::text::lossy_text;
+use crate::command::shaper::{LineShaper, LineState};
 use crate::command::trace::trace_lines;
+use crate::fonts::synthetic_font::LineNames;
 use crate::host::io::{self, BufRead, ErrorKind, Read, Write};
 use crate::host::{AllocGlobal, Eprint};
 use crate::line_formats::heads::head;
-use crate::memory::{AllocError, Vec};
-use crate::ot_shape::VerifyError;
-
-/// Why not each line of a text was answered.
-#[derive(Debug)]
-pub enum LinesError {
-    /// The text was not read to its end.
-    Read(io::Error),
-    /// An answer was not written.
-    Write(io::Error),
-    /// There is no memory.
-    Memory,
-}
-
-impl From<AllocError> for LinesError {
-    fn from(_error: AllocError) -> LinesError {
-        LinesError::Memory
-    }
-}
-
-/// The error of a read.
-pub(crate) fn read_error(error: io::Error) -> LinesError {
-    match error.kind() {
-        ErrorKind::OutOfMemory => LinesError::Memory,
-        _ => LinesError::Read(error),
-    }
-}
+use crate::lines::answers::{put, write_answer};
+use crate::lines::errors::{LinesError, read_error};
+use crate::lines::reading::{keep_seen, next_line};
+use crate::lines::text::lossy_text;
+use crate::memory::Vec;
 
 /// Answers each line of a text, and says whether all of them were shaped. A line feed ends a line, and
 /// the last line may lack it. One line is held at a time.
@@ -132,91 +109,6 @@ fn tell<F: AllocGlobal + Eprint>(rt: &F, steps: &[u8]) -> Result<(), LinesError>
     }
     let text = lossy_text(steps)?;
     match rt.eprint(&text) {
-        Ok(()) => Ok(()),
-        Err(error) => Err(LinesError::Write(error)),
-    }
-}
-
-/// Reads a line in place of the one that is held, without the line feed that ends it. It says whether
-/// there was one.
-///
-/// # Errors
-///
-/// `Err`: the clauses below say when.
-///
-/// # Proved
-///
-/// ```text
-/// ensures { IfOk result (λ found. TakesLine reading found
-///     (R.remaining reader.old) (R.remaining reader.new) line.new.items) }
-/// ```
-#[inline]
-pub fn next_line<R: BufRead>(
-    reader: &mut R,
-    reading: Reading,
-    line: &mut Vec<u8>,
-) -> Result<bool, LinesError> {
-    line.clear();
-    for _ in 0..u64::MAX {
-        if !read_run(reader, reading, line)? {
-            return Ok(!line.is_empty());
-        }
-        if ends_line(line.as_slice()) {
-            line.truncate(line.len() - 1);
-            return Ok(true);
-        }
-    }
-    Err(LinesError::Read(io::Error::from(ErrorKind::Other)))
-}
-
-/// Whether a line feed stands at the end.
-fn ends_line(line: &[u8]) -> bool {
-    !line.is_empty() && line[line.len() - 1] == b'\n'
-}
-
-/// Writes an answer: the glyphs in brackets, and a line feed.
-///
-/// # Errors
-///
-/// `Err`: the clauses below say when.
-///
-/// # Proved
-///
-/// ```text
-/// ensures { OnOk result (Appends (W.contents writer.old) (W.contents writer.new)
-///     (answer_text answer.now ++ 10 ∷ [])) }
-/// ```
-#[inline]
-pub fn write_answer<W: Write>(writer: &mut W, answer: &Answer) -> Result<(), LinesError> {
-    match answer {
-        Answer::Empty => put(writer, b"\n"),
-        Answer::Failed => put(writer, b"error: Shaping failed.\n"),
-        Answer::Unverified(error) => put(writer, unverified_line(*error)),
-        Answer::Glyphs(text) => put_in_brackets(writer, text.as_bytes()),
-        Answer::Objects(objects) => put_in_brackets(writer, objects.as_slice()),
-    }
-}
-
-/// Writes bytes in brackets, and a line feed.
-fn put_in_brackets<W: Write>(writer: &mut W, bytes: &[u8]) -> Result<(), LinesError> {
-    put(writer, b"[")?;
-    put(writer, bytes)?;
-    put(writer, b"]\n")
-}
-
-/// What is printed of a line whose glyphs are not what they say of themselves.
-fn unverified_line(error: VerifyError) -> &'static [u8] {
-    match error {
-        VerifyError::NotMonotone => b"error: buffer verify error: clusters are not monotone.\n",
-        VerifyError::UnsafeToBreak => b"error: buffer verify error: unsafe-to-break test failed.\n",
-        VerifyError::UnsafeToConcat => {
-            b"error: buffer verify error: unsafe-to-concat test failed.\n"
-        }
-    }
-}
-
-fn put<W: Write>(writer: &mut W, bytes: &[u8]) -> Result<(), LinesError> {
-    match writer.write_all(bytes) {
         Ok(()) => Ok(()),
         Err(error) => Err(LinesError::Write(error)),
     }

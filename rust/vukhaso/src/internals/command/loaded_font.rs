@@ -2,9 +2,9 @@
 
 //! A font of a file, which is kept for all command lines in a row that name it.
 
-use crate::command::font_file::FontFile;
 use crate::command::shaper::KeptLine;
 use crate::font_tables::directory::face_count;
+use crate::fonts::font_file::FontFile;
 use crate::memory::{AllocError, Vec};
 use crate::options::options::{FontChoice, Options};
 use crate::ot_shape::{Face, FaceNames, Variation};

@@ -4,114 +4,19 @@
 
 use crate::buffer::{GlyphId, NoGlyphNames, SerializeFlags};
 use crate::command::drawing::draw_text;
-use crate::command::font_file::FontFile;
-use crate::command::lines::{LinesError, answer_lines, answer_paragraph};
+use crate::command::lines::{answer_lines, answer_paragraph};
 use crate::command::loaded_font::LoadedFont;
-use crate::command::reading::Reading;
-use crate::command::shaper::{KeptLine, LineNames, LineShaper, LineState};
-use crate::command::synthetic_font::{SyntheticFont, SyntheticNames};
+use crate::command::shaper::{KeptLine, LineShaper, LineState};
+use crate::fonts::font_file::FontFile;
+use crate::fonts::synthetic_font::{LineNames, SyntheticFont, SyntheticNames};
 use crate::host::Files;
 use crate::host::fs;
 use crate::host::io::{self, BufRead, BufReader, BufWriter, Write};
 use crate::host::{AllocGlobal, AsStr, Eprint};
-use crate::memory::AllocError;
+use crate::lines::errors::CommandError;
+use crate::lines::reading::Reading;
 use crate::options::options::{Options, Shaper, TextSource};
-use crate::options::words::{WordsError, options_of};
-
-/// Why a command line was not answered to its end.
-#[derive(Debug)]
-pub enum CommandError<'a> {
-    /// The words are not answered; no file was read.
-    Words(WordsError<'a>),
-    /// The file of the font was not read.
-    Font {
-        /// The file.
-        file: &'a str,
-        /// Why it was not read.
-        error: io::Error,
-    },
-    /// The file has no font of this number.
-    Face(&'a str),
-    /// The text was not read.
-    Text {
-        /// The file.
-        file: &'a str,
-        /// Why it was not read.
-        error: io::Error,
-    },
-    /// The answers are those of shaping that was given up.
-    GivenUp,
-    /// The answers were not written.
-    Output(io::Error),
-    /// The file of the answers was not made.
-    OutputFile {
-        /// The file.
-        file: &'a str,
-        /// Why it was not made.
-        error: io::Error,
-    },
-    /// There is no memory.
-    Memory,
-}
-
-impl<'a> core::fmt::Display for CommandError<'a> {
-    fn fmt(&self, f: &mut core::fmt::Formatter<'_>) -> core::fmt::Result {
-        match self {
-            Self::Words(n0) => write!(f, "{n0}"),
-            Self::Font { file, error, .. } => write!(f, "{file}: {error}"),
-            Self::Face(n0) => write!(f, "{n0}: Failed loading font face"),
-            Self::Text { file, error, .. } => write!(f, "Failed reading text: {file}: {error}"),
-            Self::GivenUp => write!(
-                f,
-                "Shaping was given up: the font asks for more work than the text may cost"
-            ),
-            Self::Output(n0) => write!(f, "Failed writing glyphs: {n0}"),
-            Self::OutputFile { file, error, .. } => {
-                write!(f, "Cannot open output file '{file}': {error}")
-            }
-            Self::Memory => write!(f, "out of memory"),
-        }
-    }
-}
-
-impl<'a> core::error::Error for CommandError<'a> {}
-
-impl From<AllocError> for CommandError<'_> {
-    fn from(_error: AllocError) -> Self {
-        CommandError::Memory
-    }
-}
-
-impl<'a> From<WordsError<'a>> for CommandError<'a> {
-    fn from(error: WordsError<'a>) -> Self {
-        match error {
-            WordsError::Memory => CommandError::Memory,
-            error => CommandError::Words(error),
-        }
-    }
-}
-
-impl<'a> CommandError<'a> {
-    /// Whether other words may do, so that help on them may be wanted.
-    pub(crate) fn wants_help(&self) -> bool {
-        matches!(
-            self,
-            CommandError::Words(WordsError::Options(_))
-                | CommandError::Font { .. }
-                | CommandError::Face(_)
-                | CommandError::OutputFile { .. }
-        )
-    }
-
-    /// The error of lines that are in this file.
-    pub(crate) fn of_lines(file: &'a str, error: LinesError) -> Self {
-        match error {
-            LinesError::Read(error) => CommandError::Text { file, error },
-            LinesError::Write(error) => CommandError::Output(error),
-            LinesError::Memory => CommandError::Memory,
-        }
-    }
-}
+use crate::options::words::options_of;
 
 /// Answers a command line, whose first word is the name of the program, and says whether each line was
 /// shaped. The font's file is read unless it was read last, and held for the next command line.

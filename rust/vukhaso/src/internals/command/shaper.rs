@@ -1,96 +1,26 @@
 // Written by tools/plain_rust from crates/shape_command. Do not edit.
 
-//! What a line is answered with.
+//! What a line is answered with: how it is shaped.
 
-use crate::buffer::{
-    Direction, GlyphBuffer, GlyphId, GlyphNames, NoGlyphNames, SerializeFlags, UnicodeBuffer,
-    hb_glyph_info_t,
-};
-use crate::command::edits::{Edits, buffer_of};
-use crate::command::fallback::shape_fallback;
-use crate::command::glyph_line::read_glyphs;
-use crate::command::kept_advances::KeptAdvances;
-use crate::command::reading::Reading;
-use crate::command::synthetic_font::SyntheticFont;
-use crate::command::text::{emptied, empty_text, fill, lossy_text};
+use crate::buffer::{Direction, GlyphBuffer, GlyphId, UnicodeBuffer};
 use crate::command::trace::Trace;
+use crate::fonts::fallback::shape_fallback;
+use crate::fonts::kept_advances::KeptAdvances;
+use crate::fonts::synthetic_font::{LineNames, SyntheticFont};
 use crate::line_formats::characters::characters_list;
-use crate::line_formats::json::glyphs_json;
-use crate::memory::{AllocError, String, Vec};
+use crate::lines::answers::Answer;
+use crate::lines::edits::{Edits, buffer_of};
+use crate::lines::glyph_line::read_glyphs;
+use crate::lines::printing::GlyphPrinter;
+use crate::lines::reading::Reading;
+use crate::lines::text::{emptied, empty_text, fill, lossy_text};
+use crate::memory::{AllocError, Vec};
 use crate::options::options::{LineOptions, Shaper};
-use crate::options::output::{Output, OutputFormat};
+use crate::options::output::Output;
 use crate::ot_shape::{
-    Face, FaceNames, KeptPlans, ShapeError, VerifyError, shape_watched,
-    shape_with_functions_and_plans, shape_with_functions_watched, shape_with_kept_plans,
+    Face, KeptPlans, ShapeError, shape_watched, shape_with_functions_and_plans,
+    shape_with_functions_watched, shape_with_kept_plans,
 };
-
-/// Names and extents of glyphs, where the extents are found before they are asked for.
-pub trait LineNames: GlyphNames {
-    /// Finds the extents of glyphs as a font draws them.
-    ///
-    /// # Errors
-    ///
-    /// `Err(AllocError)` where memory ran out.
-    ///
-    /// # Proved
-    ///
-    /// That it returns.
-    fn find(
-        &mut self,
-        font: &SyntheticFont<'_>,
-        infos: &[hb_glyph_info_t],
-    ) -> Result<(), AllocError>;
-}
-
-impl LineNames for NoGlyphNames {
-    fn find(
-        &mut self,
-        _font: &SyntheticFont<'_>,
-        _infos: &[hb_glyph_info_t],
-    ) -> Result<(), AllocError> {
-        Ok(())
-    }
-}
-
-impl LineNames for FaceNames<'_> {
-    /// Finds them as the font has them, which draws them so.
-    fn find(
-        &mut self,
-        _font: &SyntheticFont<'_>,
-        infos: &[hb_glyph_info_t],
-    ) -> Result<(), AllocError> {
-        self.find_extents(infos)
-    }
-}
-
-/// What a line is answered with.
-#[derive(Debug)]
-pub enum Answer {
-    /// It has no glyph.
-    Empty,
-    /// It has glyphs, and this is their text.
-    Glyphs(String),
-    /// It has glyphs, and these are their objects in JSON.
-    Objects(Vec<u8>),
-    /// It is too long to be shaped.
-    Failed,
-    /// A test of its glyphs failed.
-    Unverified(VerifyError),
-}
-
-impl Answer {
-    /// Whether the line was shaped.
-    ///
-    /// # Proved
-    ///
-    /// ```text
-    /// ensures { result ≡ is_shaped self.now }
-    /// ```
-    #[inline]
-    pub fn is_shaped(&self) -> bool {
-        matches!(self, Answer::Empty | Answer::Glyphs(_) | Answer::Objects(_))
-    }
-}
 
 /// What is printed of a line.
 #[derive(Debug)]
@@ -424,77 +354,13 @@ impl<'a> LineShaper<'a> {
         state: &mut LineState<'_, N>,
         glyphs: GlyphBuffer,
     ) -> Result<Answer, AllocError> {
-        let answer = self.print(&mut state.names, &glyphs)?;
+        let printer = GlyphPrinter {
+            font: self.font,
+            output: self.output,
+        };
+        let answer = printer.print(&mut state.names, &glyphs)?;
         state.kept.has_given_up |= glyphs.shaping_failed();
         state.kept.text = Some(glyphs.clear());
         Ok(answer)
-    }
-
-    /// What is printed of glyphs: their text, or their objects. It is public for its clause, which says
-    /// more than that of `answer`.
-    ///
-    /// # Errors
-    ///
-    /// `Err(AllocError)` where memory ran out.
-    ///
-    /// # Proved
-    ///
-    /// ```text
-    /// ensures { IfOk result (λ answer. answer_text answer ≡ glyphs_line
-    ///     (record { name = N.name_of names.new; extents = N.extents_of names.new }) self.now.output glyphs.now) }
-    /// ```
-    #[inline]
-    pub fn print<N: LineNames>(
-        &self,
-
-        names: &mut N,
-        glyphs: &GlyphBuffer,
-    ) -> Result<Answer, AllocError> {
-        if glyphs.is_empty() {
-            return Ok(Answer::Empty);
-        }
-        self.find_extents(names, glyphs.glyph_infos())?;
-        let answer = self.print_some(names, glyphs)?;
-        Ok(answer)
-    }
-
-    /// What is printed of glyphs where there are some.
-    fn print_some<N: LineNames>(
-        &self,
-
-        names: &N,
-        glyphs: &GlyphBuffer,
-    ) -> Result<Answer, AllocError> {
-        match self.output.format {
-            OutputFormat::Text => self.text(names, glyphs),
-            OutputFormat::Json => self.objects(names, glyphs),
-            OutputFormat::Nothing => Ok(Answer::Empty),
-        }
-    }
-
-    /// The text of glyphs.
-    fn text<N: LineNames>(&self, names: &N, glyphs: &GlyphBuffer) -> Result<Answer, AllocError> {
-        let text = glyphs.serialize(names, self.output.flags)?;
-        Ok(Answer::Glyphs(text))
-    }
-
-    /// The objects of glyphs.
-    fn objects<N: LineNames>(&self, names: &N, glyphs: &GlyphBuffer) -> Result<Answer, AllocError> {
-        let infos = glyphs.glyph_infos();
-        let positions = glyphs.glyph_positions();
-        let objects = glyphs_json(names, self.output.flags, infos, positions)?;
-        Ok(Answer::Objects(objects))
-    }
-
-    /// Finds the extents of glyphs, where they are printed.
-    fn find_extents<N: LineNames>(
-        &self,
-        names: &mut N,
-        infos: &[hb_glyph_info_t],
-    ) -> Result<(), AllocError> {
-        if self.output.flags.contains(SerializeFlags::GLYPH_EXTENTS) {
-            names.find(&self.font, infos)?;
-        }
-        Ok(())
     }
 }

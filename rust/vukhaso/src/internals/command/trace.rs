@@ -3,11 +3,14 @@
 //! The steps of shaping a line, and how they are printed.
 
 use crate::buffer::{GlyphPosition, SerializeFlags, hb_buffer_t, hb_glyph_info_t};
-use crate::command::edits::buffer_of;
-use crate::command::shaper::{Answer, LineNames, LineShaper};
-use crate::command::text::empty_text;
+use crate::command::shaper::LineShaper;
+use crate::fonts::synthetic_font::LineNames;
 use crate::line_formats::characters::characters_list;
 use crate::line_formats::heads::{Shown, head};
+use crate::lines::answers::Answer;
+use crate::lines::edits::buffer_of;
+use crate::lines::printing::GlyphPrinter;
+use crate::lines::text::empty_text;
 use crate::memory::{AllocError, String, Vec};
 use crate::options::output::Output;
 use crate::ot_shape::{Step, Watch};
@@ -64,6 +67,18 @@ pub(crate) fn trace_lines<N: LineNames>(
     if !shaper.output.trace {
         return Ok(text);
     }
+    write_steps(shaper, names, number, trace, &mut text)?;
+    Ok(text)
+}
+
+/// Writes the steps of shaping the line of this number.
+fn write_steps<N: LineNames>(
+    shaper: &LineShaper<'_>,
+    names: &mut N,
+    number: u64,
+    trace: &Trace,
+    text: &mut Vec<u8>,
+) -> Result<(), AllocError> {
     let shown = Shown {
         text: false,
         characters: false,
@@ -72,17 +87,34 @@ pub(crate) fn trace_lines<N: LineNames>(
     let before = head(shown, number, b"", b"")?;
     for told in trace.steps.iter() {
         text.extend_from_slice(before.as_slice())?;
-        let words = words_of(told.step)?;
-        text.extend_from_slice(words.as_bytes())?;
-        write_items(shaper, names, told, &mut text)?;
-        text.push(b'\n')?;
+        write_step(shaper, names, told, text)?;
     }
-    Ok(text)
+    Ok(())
 }
 
-/// What stands before the items that a step left: its message, in HarfBuzz's words where it has one.
-fn words_of(step: Step) -> Result<String, AllocError> {
-    let mut words = String::from_str("trace: ")?;
+/// Writes a step, and the items that it left.
+fn write_step<N: LineNames>(
+    shaper: &LineShaper<'_>,
+    names: &mut N,
+    told: &Told,
+    text: &mut Vec<u8>,
+) -> Result<(), AllocError> {
+    write_words(told.step, text)?;
+    write_items(shaper, names, told, text)?;
+    text.push(b'\n')?;
+    Ok(())
+}
+
+/// Writes what stands before the items that a step left.
+fn write_words(step: Step, text: &mut Vec<u8>) -> Result<(), AllocError> {
+    let mut words = String::new();
+    push_words(&mut words, step)?;
+    text.extend_from_slice(words.as_bytes())
+}
+
+/// Adds the message of a step, in HarfBuzz's words where it has one.
+fn push_words(words: &mut String, step: Step) -> Result<(), AllocError> {
+    words.push_str("trace: ")?;
     match step {
         Step::Characters => words.push_str("end normalize")?,
         Step::Glyphs => words.push_str("end map glyphs")?,
@@ -93,8 +125,7 @@ fn words_of(step: Step) -> Result<String, AllocError> {
         Step::Kerned => words.push_str("end table kern")?,
         Step::Shaped => words.push_str("end shape")?,
     }
-    words.push_str("\tbuffer: ")?;
-    Ok(words)
+    words.push_str("\tbuffer: ")
 }
 
 /// Writes the items that a step left.
@@ -143,12 +174,12 @@ fn glyphs_answer<N: LineNames>(
     let Some(glyphs) = buffer_of(text, told.items.as_slice(), positions)? else {
         return Ok(Answer::Failed);
     };
-    let printer = LineShaper {
+    let printer = GlyphPrinter {
+        font: shaper.font,
         output: Output {
             flags,
             ..shaper.output
         },
-        ..*shaper
     };
     printer.print(names, &glyphs)
 }

@@ -1,7 +1,0 @@
-use Rattle.shape_command.proofs.ReadingLemmas.{ReadSoFar}
-use Rattle.shape_command.proofs.lines.next_line.Given as goal
-
--- so much of the line was read, and not its end
-abbrev pub invariant-loop : goal.invariant-loop
-invariant-loop g l =
-    ReadSoFar l.reading (g.R.Read.remaining l.initial.reader) (g.R.Read.remaining l.reader) l.line.items

@@ -1,7 +1,0 @@
-use Rattle.std.proofs.Common.{◌≡◌, ◌++◌, false, drop}
-use Rattle.shape_command.specs.Reading.{held, room}
-use Rattle.shape_command.proofs.reading.held.Given as goal
-
--- what is seen of the bytes so far, and of the rest
-abbrev pub invariant-loop-i : goal.invariant-loop-i
-invariant-loop-i l = l.seen.items ++ held l.place.left l.place.hides (drop l.i l.bytes) ≡ held room false l.bytes

@@ -1,0 +1,4 @@
+pub mod HeldFile
+pub mod KeptAdvances
+pub mod Synthetic
+pub mod SyntheticFont

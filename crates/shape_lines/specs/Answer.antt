@@ -1,0 +1,20 @@
+-- What an answer reads as.
+use Rattle.std.specs.Prelude.{ℕ, Bool, true, false, List, [], ◌∷◌, ◌++◌, string_bytes}
+use Rattle.shape_lines.specs.declared.answers.Answer.{Answer}
+use Rattle.shape_lines.specs.declared.answers.Answer.TheVariants.{Empty, Glyphs, Objects, Failed, Unverified}
+use Rattle.shape_lines.specs.Lines.{failure_line, unverified_line}
+
+abbrev pub answer_text : Answer → List ℕ
+answer_text Empty = []
+answer_text (Glyphs text) = 91 ∷ string_bytes text ++ 93 ∷ []
+answer_text (Objects objects) = 91 ∷ objects.items ++ 93 ∷ []
+answer_text Failed = failure_line
+answer_text (Unverified error) = unverified_line error
+
+-- whether a line with this answer was shaped
+abbrev pub is_shaped : Answer → Bool
+is_shaped Empty = true
+is_shaped (Glyphs text) = true
+is_shaped (Objects objects) = true
+is_shaped Failed = false
+is_shaped (Unverified error) = false

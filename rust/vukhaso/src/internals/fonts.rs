@@ -1,0 +1,8 @@
+// Written by tools/plain_rust from crates/shape_fonts. Do not edit.
+
+//! Fonts as the program `vukhaso_shape` asks them: files, kept advances, bolder and slanted glyphs, and the shaper `fallback`.
+
+pub mod fallback;
+pub mod font_file;
+pub mod kept_advances;
+pub mod synthetic_font;
