@@ -81,21 +81,21 @@ fn answer_words<F: Files + AllocGlobal + Print + Eprint, R: BufRead, W: Write>(
     let mut file = FontFile::new();
     let answered = answer_command(rt, words, &mut file, input, output);
     match output.flush() {
-        Ok(()) => tell(rt, answered),
+        Ok(()) => tell(rt, &answered),
         Err(error) => Err(error),
     }
 }
 
 /// Says why a command line was not answered to its end, or the text that it asks for.
-fn tell<F: Print + Eprint>(rt: &F, answered: Result<bool, CommandError<'_>>) -> io::Result<bool> {
+fn tell<F: Print + Eprint>(rt: &F, answered: &Result<bool, CommandError<'_>>) -> io::Result<bool> {
     match answered {
-        Ok(all_shaped) => Ok(all_shaped),
-        Err(CommandError::Words(WordsError::Words(error))) => say(rt, &error),
+        Ok(all_shaped) => Ok(*all_shaped),
+        Err(CommandError::Words(WordsError::Words(error))) => say(rt, error),
         Err(CommandError::Words(WordsError::Asked(text))) => {
-            rt.print(&text)?;
+            rt.print(text)?;
             Ok(true)
         }
-        Err(error) => complain(rt, &error),
+        Err(error) => complain(rt, error),
     }
 }
 
