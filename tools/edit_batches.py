@@ -1,6 +1,6 @@
 """Plants many wrong bodies of a crate at once, so that one check tells of all of them.
 
-A batch has wrong bodies of functions of which none calls another, by itself or through others, so what is refused of a
+Most are planted as copies (`edit_copies`). The others are planted in their place, in batches: a batch has wrong bodies of functions of which none calls another, by itself or through others, so what is refused of a
 function is refused for its own body. Calls are read from the text: by a name and where it stands, of all functions that it may
 be, and an operator or a loop as a call of each that a type of the crate has for one. So some count as calls that are
 none, and none is missed.
@@ -14,6 +14,7 @@ from collections import defaultdict
 from dataclasses import dataclass, field
 from functools import lru_cache
 
+import edit_copies
 from rattle_source import every
 from scratch import PARTS, ROOT, libraries, run, side_by_side, with_below
 from wrong_bodies import changed_functions, functions_of, is_named, is_of_a_goal, left_open, readers_of, speaks_of, texts_with
@@ -155,9 +156,30 @@ def verdict_alone(edit, lines):
     if left and goals:
         return False, f"NOT REFUSED in its own function, and only in {', '.join(left[:3])}"
     if any(re.match(r"logic=proved|only=(\d+) proved=\1$", line) for line in lines):
-        return False, "NOT REFUSED: it is proved, so it means the same, or the contract says too little"
+        return False, PROVED
     said = next((line for line in lines if re.match(r"rattle: |.*: error", line)), lines[-1] if lines else "nothing")
     return False, f"NOT TRIED: {said[:200]}"
+
+
+PROVED = "NOT REFUSED: it is proved, so it means the same, or the contract says too little"
+
+
+def verdict_of_copy(copy, span, lines):
+    """What a check says of a copy: whether it is refused, or None where that is not known, and the words for it."""
+    named = lambda path: is_named(path, copy.printed())
+    if any(map(named, left_open(lines))) and edit_copies.is_refused(copy, span, lines):
+        return True, f"refused in {copy.function.printed(copy.edit.crate)}"
+    if any(named(found[1]) for line in lines if (found := re.match(r"fn (\S+): proved", line))):
+        return False, PROVED
+    return None, ""
+
+
+def open_copies(place, copies):
+    """The functions whose right body is not proved as a copy."""
+    texts, _ = edit_copies.planted(copies)
+    lines = tried(place, [it.edit for it in copies], texts, [it.printed() for it in copies])
+    proved = [found[1] for line in lines if (found := re.match(r"fn (\S+): proved", line))]
+    return [it for it in copies if not any(is_named(path, it.printed()) for path in proved)]
 
 
 def users_of_table(edit):
@@ -170,12 +192,15 @@ def users_of_table(edit):
     return [it for it in functions_of(edit.crate) if names and uses.search("\n".join(it.whole))]
 
 
-def tried(place, edits, texts, functions=()):
-    """The lines of a check with these texts: of the functions that these edits change, or of these, or else of the whole crate."""
+def printed(functions, crate):
+    return [it.printed(crate) for it in functions]
+
+
+def tried(place, edits, texts, names):
+    """The lines of a check with these texts: of the functions with these names, or of the whole crate where there are none."""
     crate = edits[0].crate
     own = {path.relative_to(crate): text for path, text in texts.items()}
-    checked = functions or [it for edit in edits for it in changed_functions(edit)]
-    only = [word for it in checked for word in ("--only", it.printed(crate))]
+    only = [word for name in names for word in ("--only", name)]
     lines = place.tried(crate.name, own, ["--jobs", "1", *only])[1]
     with LOG.open("a") as log:
         log.write("".join(f"{line}\n" for line in (f"== {' '.join(edit.label for edit in edits)}", *lines)))
@@ -227,15 +252,27 @@ class Tries:
             return []
         if not changed_functions(batch.edits[0]):
             return self.try_alone(batch.edits[0])
-        lines = tried(self.place, batch.edits, batch.texts)
+        crate = batch.edits[0].crate
+        changed = [it for edit in batch.edits for it in changed_functions(edit)]
+        lines = tried(self.place, batch.edits, batch.texts, printed(changed, crate))
         names = [(edit, refused_in(edit, lines)) for edit in batch.edits]
         return [(edit, True, f"refused in {name}") if name else (edit, None, "") for edit, name in names]
 
+    def try_copies(self, copies):
+        """The edits of these copies, as `try_batch` gives them. A copy that is proved needs no other try."""
+        if time.monotonic() > self.ends:
+            self.left += len(copies)
+            return []
+        texts, spans = edit_copies.planted(copies)
+        lines = tried(self.place, [it.edit for it in copies], texts, [it.printed() for it in copies])
+        return [(it.edit, *verdict_of_copy(it, spans[it.name], lines)) for it in copies]
+
     def try_alone(self, edit):
         """An edit by itself. One that changes a table is tried by the functions that use it, and only then by the whole crate."""
-        texts, users = texts_with(edit, "new", {}), [] if changed_functions(edit) else users_of_table(edit)
-        said = verdict_alone(edit, tried(self.place, [edit], texts, users)) if users else (False, "")
-        return [(edit, *(said if said[0] else verdict_alone(edit, tried(self.place, [edit], texts))))]
+        texts, changed = texts_with(edit, "new", {}), changed_functions(edit)
+        functions = printed(changed or users_of_table(edit), edit.crate)
+        said = verdict_alone(edit, tried(self.place, [edit], texts, functions)) if functions else (False, "")
+        return [(edit, *(said if said[0] or changed else verdict_alone(edit, tried(self.place, [edit], texts, []))))]
 
     def run(self, edits):
         self.passed = sum(self.kept.key(edit) in self.kept.said for edit in edits)
@@ -246,8 +283,9 @@ class Tries:
         crates = sorted({edit.crate for edit in edits})
         for crate in crates:
             needs = self.place.needs(crate.name)
-            batches = batches_of(crate, [edit for edit in edits if edit.crate == crate])
-            tasks += [(needs, lambda batch=batch: self.try_batch(batch)) for batch in batches]
+            chunks, others = edit_copies.chunks_of([edit for edit in edits if edit.crate == crate])
+            tasks += [(needs, lambda chunk=chunk: self.try_copies(chunk)) for chunk in chunks]
+            tasks += [(needs, lambda batch=batch: self.try_batch(batch)) for batch in batches_of(crate, others)]
         print(f"{len(edits)} wrong bodies of {len(crates)} crates, in {len(tasks)} batches", flush=True)
         self.tell(tasks, open_edits)
         if open_edits:
@@ -269,6 +307,29 @@ class Tries:
                 if is_refused:
                     self.kept.keep(edit, said)
                 print(f"{edit.label}: {said}", flush=True)
+
+
+def prove_copies(edits, places):
+    """Has the right body proved, as a copy, of each function that an edit changes so, and prints those of which it is not."""
+    LOG.parent.mkdir(exist_ok=True)
+    LOG.write_text("")
+    passed, failed = 0, []
+    with places({edit.crate.name for edit in edits}) as place:
+        open_crates, said = place.prove()
+        if open_crates:
+            print(said[-3000:], f"not proved as they stand: {' '.join(open_crates)}", sep="\n")
+            return len(edits)
+        tasks = []
+        for crate in sorted({edit.crate for edit in edits}):
+            chunks, _ = edit_copies.chunks_of([edit for edit in edits if edit.crate == crate], is_right=True)
+            tasks += [(place.needs(crate.name), lambda chunk=chunk: (chunk, open_copies(place, chunk))) for chunk in chunks]
+        for chunk, left in side_by_side(sorted(tasks, key=lambda it: -it[0])):
+            passed += len(chunk) - len(left)
+            failed += left
+            for it in left:
+                print(f"{it.function.printed(it.edit.crate)}: NOT PROVED as a copy", flush=True)
+    print(f"{passed} passed, {len(failed)} failed")
+    return len(failed)
 
 
 def try_all(edits, places, is_anew=False, seconds=float("inf")):

@@ -71,6 +71,7 @@ class Libraries:
             for part in PARTS:
                 copy_if_there(crate / part, top / part, shutil.copyfile)
             for path, text in texts.items():
+                (top / path).parent.mkdir(parents=True, exist_ok=True)
                 (top / path).write_text(text)
             root = "src/main.rt" if (top / "src/main.rt").exists() else "src/lib.rt"
             ran = run([f"{self.kit}/bin/rattle", "check", "--crate-name", name, root, *self.words(name), *words], top)

@@ -1,0 +1,107 @@
+"""Plants wrong bodies beside the right ones: a copy of a function, of a name of its own, has the wrong body, and a copy of the answers
+of its proof.
+
+So what calls the function, and the copy where it calls itself, calls the right one, and one check tells of as many wrong bodies as one
+likes. What changes a function of a trait, one whose answers are about its recursion, several functions or a table is planted in its place.
+"""
+
+import re
+from dataclasses import dataclass
+
+from wrong_bodies import Function, changed_functions, is_of_a_goal
+
+# How many copies one check has at most.
+COPIES = 12
+
+
+@dataclass
+class Copy:
+    """A wrong body in a function of a name of its own."""
+
+    edit: object
+    function: Function
+    name: str
+    lines: list
+
+    def printed(self):
+        """The end of its name as the check prints it."""
+        return self.function.printed(self.edit.crate).removesuffix(self.function.name) + self.name
+
+
+def edited_text(edit, is_right):
+    """The text of the edit's file with its new texts, or as it is, and the lines on which they stand; None where it has several files."""
+    paths = {pair.file for pair in edit.pairs}
+    if len(paths) != 1:
+        return None
+    text, places = (edit.crate / paths.pop()).read_text(), []
+    for pair in edit.pairs:
+        places.append(text.count("\n", 0, text.index(pair.old)))
+        text = text if is_right else text.replace(pair.old, pair.new)
+    return text, places
+
+
+def answers_of(function, crate):
+    """The folder of the answers of a function's proof, and its path as answers name it."""
+    place = function.file.relative_to(crate / "src").with_suffix("")
+    parts = [] if place.parts in (("lib",), ("main",)) else [*place.parts]
+    parts += [function.owner] if function.owner else []
+    return crate.joinpath("proofs", *parts), ".".join(["proofs", *parts])
+
+
+def copy_of(edit, number, is_right=False):
+    """The edit as a copy with this number, or None where it has to stand in its place."""
+    changed, edited = changed_functions(edit), edited_text(edit, is_right)
+    if len(changed) != 1 or edited is None:
+        return None
+    it, (text, places) = changed[0], edited
+    folder, _ = answers_of(it, edit.crate)
+    if it.trait or (folder / f"+{it.name}").exists() or not all(it.top <= place <= it.last for place in places):
+        return None
+    name = f"{it.name}_copy_{number}"
+    whole = "\n".join(text.split("\n")[it.top : it.last + 1])
+    return Copy(edit, it, name, re.sub(rf"\bfn {it.name}\b", f"fn {name}", whole, count=1).split("\n"))
+
+
+def chunks_of(edits, is_right=False):
+    """These edits of one crate as copies, in as few lists of about the same length as one check may have, and those that are none. Of
+    right bodies each function has one copy."""
+    made = [(edit, copy_of(edit, number, is_right)) for number, edit in enumerate(edits, 1)]
+    copies = {copy.function.key if is_right else number: copy for number, (_, copy) in enumerate(made) if copy}
+    count = -(-len(copies) // COPIES)
+    return [[*copies.values()][at::count] for at in range(count)], [edit for edit, copy in made if copy is None]
+
+
+def copied_answers(copy):
+    """The answers of the copy, by their paths in the crate."""
+    folder, path = answers_of(copy.function, copy.edit.crate)
+    texts = {}
+    for file in sorted((folder / copy.function.name).glob("*.antt")):
+        text = file.read_text().replace(f"{path}.{copy.function.name}.", f"{path}.{copy.name}.")
+        texts[(folder / copy.name / file.name)] = text
+    return texts
+
+
+def planted(copies):
+    """The texts with these copies of one crate, by their paths, and of each copy the lines on which it stands, counted from 1."""
+    texts, spans, moved = {}, {}, {}
+    for copy in sorted(copies, key=lambda it: (it.function.file, it.function.last)):
+        path = copy.function.file
+        lines = (texts.get(path) or path.read_text()).split("\n")
+        at = copy.function.last + 1 + moved.get(path, 0)
+        texts[path] = "\n".join([*lines[:at], *copy.lines, *lines[at:]])
+        moved[path] = moved.get(path, 0) + len(copy.lines)
+        spans[copy.name] = path, at + 1, at + len(copy.lines)
+        texts |= copied_answers(copy)
+    return texts, spans
+
+
+def is_refused(copy, span, lines):
+    """Whether a check says of a goal of this copy that it is not proved."""
+    path, first, last = span
+    folder = "/" + copy.printed().removeprefix(f"{copy.edit.crate.name}::").replace("::", "/")
+    for line in filter(is_of_a_goal, lines):
+        said = re.match(r"(?:note: )?(?:\./)?((?:src|proofs)/\S+?):(\d+):\d+: ", line)
+        place = said and copy.edit.crate / said[1]
+        if said and (place == path and first <= int(said[2]) <= last or f"/{place.parent}".endswith(folder)):
+            return True
+    return False
