@@ -141,42 +141,69 @@ fn context_would<'a>(
     budget: &mut Budget,
 ) -> bool {
     debug_assert!(!glyphs.is_empty());
-    let table = subtable.table;
     match subtable.format {
-        1 => {
-            let match_functions = same_match_function(MatchFunction::Glyphs);
-            let set = covered_index(&subtable.coverage, glyphs[0])
-                .and_then(|index| set_at(table, 4, index));
-            set_would(
-                set,
-                &match_functions,
-                is_chained,
-                glyphs,
-                wants_no_context,
-                budget,
-            )
-        }
-        2 => {
-            let class = class_of(&subtable.classes, glyphs[0]);
-            let at = if is_chained { 10 } else { 6 };
-            let set = set_at(table, at, u32::from(class));
-            let match_functions = class_meanings(subtable);
-            set_would(
-                set,
-                &match_functions,
-                is_chained,
-                glyphs,
-                wants_no_context,
-                budget,
-            )
-        }
+        1 => glyph_context_would(subtable, is_chained, glyphs, wants_no_context, budget),
+        2 => class_context_would(subtable, is_chained, glyphs, wants_no_context, budget),
         3 => {
             let coverages = list.coverages_from(subtable, 0);
-            coverage_rule(table, coverages, is_chained)
+            coverage_rule(subtable.table, coverages, is_chained)
                 .is_some_and(|rule| is_for(&rule, glyphs, wants_no_context))
         }
         _ => false,
     }
+}
+
+/// Whether a context of glyphs has a rule for these.
+///
+/// # Requires
+///
+/// - `0 < length glyphs.now`
+fn glyph_context_would<'a>(
+    subtable: &Subtable<'a>,
+    is_chained: bool,
+    glyphs: &[u32],
+    wants_no_context: bool,
+    budget: &mut Budget,
+) -> bool {
+    debug_assert!(!glyphs.is_empty());
+    let set = covered_index(&subtable.coverage, glyphs[0])
+        .and_then(|index| set_at(subtable.table, 4, index));
+    let match_functions = same_match_function(MatchFunction::Glyphs);
+    set_would(
+        set,
+        &match_functions,
+        is_chained,
+        glyphs,
+        wants_no_context,
+        budget,
+    )
+}
+
+/// Whether a context of classes has a rule for these glyphs.
+///
+/// # Requires
+///
+/// - `0 < length glyphs.now`
+fn class_context_would<'a>(
+    subtable: &Subtable<'a>,
+    is_chained: bool,
+    glyphs: &[u32],
+    wants_no_context: bool,
+    budget: &mut Budget,
+) -> bool {
+    debug_assert!(!glyphs.is_empty());
+    let class = class_of(&subtable.classes, glyphs[0]);
+    let at = if is_chained { 10 } else { 6 };
+    let set = set_at(subtable.table, at, u32::from(class));
+    let match_functions = class_meanings(subtable);
+    set_would(
+        set,
+        &match_functions,
+        is_chained,
+        glyphs,
+        wants_no_context,
+        budget,
+    )
 }
 
 /// Whether a set has a rule for these glyphs.
