@@ -61,9 +61,18 @@ impl Summary for FirstGlyphs {
     }
 
     fn add_glyph(&mut self, glyph: u32) {
-        if glyph < COUNT {
-            let word = glyph as usize / 64;
-            self.words[word] = with_row(self.words[word], glyph);
+        if glyph < 128 {
+            if glyph < 64 {
+                self.words[0] = with_row(self.words[0], glyph);
+            } else {
+                self.words[1] = with_row(self.words[1], glyph);
+            }
+        } else if glyph < COUNT {
+            if glyph < 192 {
+                self.words[2] = with_row(self.words[2], glyph);
+            } else {
+                self.words[3] = with_row(self.words[3], glyph);
+            }
         }
     }
 
