@@ -230,6 +230,15 @@ covered_ranges table glyph format some =
       | inr low ↦ rw (low, format) at some
     ]
 
+-- a glyph of a buffer that is covered is one of a font
+pub covered_glyph : (table : List ℕ) (glyph : ℕ) → is_some (covered_index table glyph) ≡ true
+    → is_some (coverage_index table glyph) ≡ true
+covered_glyph table glyph some =
+    elim (cases_Bool (nat_lt 65535 glyph)) [
+      | inl past ↦ absurd (let none = rw past at some in grind (arith, common_steps))
+      | inr low ↦ rw low at some
+    ]
+
 pub covered_nowhere : (table : List ℕ) (glyph : ℕ) → (unwrap_or (number_16 table 0) 0 ≡ 1 → ⊥)
     → (unwrap_or (number_16 table 0) 0 ≡ 2 → ⊥) → is_some (covered_index table glyph) ≡ true → ⊥
 unfolding coverage_index

@@ -49,6 +49,15 @@ impl Digest {
         }
     }
 
+    /// The digest of the glyphs up to this one.
+    pub(crate) fn up_to(last: u32) -> Self
+        ensures { HasAll (λ glyph. glyph ≤ last) result }
+    {
+        let mut digest = Digest::new();
+        digest.add_range(0, last);
+        digest
+    }
+
     /// Whether the glyph may have been added. One that was added always may.
     #[tactic(auto, unfolding(crate::specs::Digest::may_have))]
     pub fn may_have(&self, glyph: u32) -> bool

@@ -49,6 +49,13 @@ impl Digest {
         }
     }
 
+    /// The digest of the glyphs up to this one.
+    pub(crate) fn up_to(last: u32) -> Self {
+        let mut digest = Digest::new();
+        digest.add_range(0, last);
+        digest
+    }
+
     /// Whether the glyph may have been added. One that was added always may.
     ///
     /// # Proved

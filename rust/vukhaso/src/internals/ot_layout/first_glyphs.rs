@@ -134,9 +134,15 @@ impl Summary for Summaries {
     }
 }
 
-/// Both summaries of the glyphs that a coverage covers.
+/// Both summaries of the glyphs that a coverage covers. Many rows leave hardly a row of a digest out.
 pub(crate) fn summaries_of(coverage: &Coverage) -> Summaries {
-    summary_of(coverage)
+    match coverage.highest() {
+        Some(highest) => Summaries {
+            digest: Digest::up_to(u32::from(highest)),
+            firsts: summary_of(coverage),
+        },
+        None => summary_of(coverage),
+    }
 }
 
 /// A word with the bits of the rows from one to another, the last one too, where the word has the 64
