@@ -1,7 +1,7 @@
 //! Coverage tables: the glyphs that a lookup is for, each with an index (OpenType specification, "OpenType Layout Common
 //! Table Formats", "Coverage table").
 
-ghost use Rattle.std.specs.Prelude.{◌≡◌, ◌<◌, ◌+◌, ◌*◌, ◌-◌, ℕ, IsTrue, IfSome, unwrap_or};
+ghost use Rattle.std.specs.Prelude.{◌≡◌, ◌<◌, ◌≤◌, ◌+◌, ◌*◌, ◌-◌, ℕ, IsTrue, IfSome, Some, is_some, true, unwrap_or};
 ghost use Rattle.font_tables.specs.Bytes.{number_16};
 ghost use Rattle.font_tables.specs.Rows.{Rises, first_row};
 ghost use Rattle.font_tables.specs.Coverage.{listed_glyph, listed_count, listed_index, ranged_index};
@@ -11,6 +11,9 @@ use crate::bytes::{part, tail, u16_at};
 use crate::glyph_ranges::{range_count, range_of, ranges_rise};
 use crate::rows::{FEW_ROWS, Numbers16, SHORT, first_row, rows_within};
 use rb_common::GlyphId;
+
+/// Of more rows the highest glyph is told.
+const MANY_ROWS: u16 = 128;
 
 /// A coverage table.
 ///
@@ -65,6 +68,22 @@ impl<'a> Coverage<'a> {
             → Rises (range_last self.now.table.now) (range_count self.now.table.now) }
     {
         self.count <= FEW_ROWS || self.are_rising
+    }
+
+    /// A glyph above which none is covered, where many rows rise; `None` where there are few rows, or they do not rise.
+    pub fn highest(&self) -> Option<u16>
+        ensures { (highest glyph : ℕ) → result ≡ Some highest → is_some (coverage_index self.now.table.now glyph) ≡ true
+            → glyph ≤ highest }
+    {
+        if self.count <= MANY_ROWS || !self.are_rising {
+            return None;
+        }
+        let row = usize::from(self.count) - 1;
+        match self.format {
+            1 => u16_at(self.table, 4 + 2 * row),
+            2 => u16_at(self.table, 6 + 6 * row),
+            _ => None,
+        }
     }
 
     /// The coverage index of a glyph; `None` where the table does not cover it.

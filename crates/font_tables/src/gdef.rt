@@ -1,14 +1,16 @@
 //! Classes of glyphs and sets of marks (OpenType specification, "GDEF - Glyph Definition Table").
 
-ghost use Rattle.std.specs.Prelude.{◌≡◌, ◌<◌, ◌+◌, ◌*◌, ℕ, slice_index, unwrap_or};
+ghost use Rattle.std.specs.Prelude.{◌≡◌, ◌≢◌, ◌<◌, ◌≤◌, ◌+◌, ◌*◌, ℕ, slice_index, unwrap_or};
 ghost use Rattle.font_tables.specs.Bytes.{number_16};
 ghost use Rattle.font_tables.specs.Gdef.{subtable, glyph_classes, mark_attachment_classes, mark_glyph_sets, set_in, props};
 ghost use Rattle.font_tables.specs.Gdef.{glyph_props};
 ghost use Rattle.font_tables.specs.ClassDefinition.{class_of};
+ghost use Rattle.font_tables.specs.Run.{value_in};
 
 use crate::bytes::{table_at_16, table_at_32, u16_at};
 use crate::class_definition::ClassDefinition;
 use crate::coverage::Coverage;
+use crate::glyph_ranges::Run;
 use rb_common::GlyphId;
 
 /// The glyphs whose properties are found at once.
@@ -124,15 +126,57 @@ fn first_props(
         ≡ props (class_of classes.now.table.now glyph) (class_of attachments.now.table.now glyph) }
 {
     let mut props = [0; FIRST_COUNT];
-    let mut run = classes.run_from(GlyphId(0));
-    for glyph in 0..FIRST_COUNT {
-        if run.end <= glyph as u32 {
-            run = classes.run_from(GlyphId(glyph as u16));
+    let mut glyph = 0;
+    while glyph < FIRST_COUNT {
+        let run = classes.run_from(GlyphId(glyph as u16));
+        let end = FIRST_COUNT.min(run.end as usize);
+        if run.value == 3 {
+            put_marks(&mut props, glyph, end, &run, attachments);
+        } else {
+            put_same(&mut props, glyph, end, &run);
         }
+        glyph = end;
+    }
+    props
+}
+
+/// Puts the properties of the glyphs of a run of marks, from one glyph to before another, in their places.
+#[inline]
+fn put_marks(
+    props: &mut [u16; FIRST_COUNT],
+    start: usize,
+    end: usize,
+    run: &Run,
+    attachments: &ClassDefinition<'_>,
+)
+    requires { end ≤ 256 }
+    ensures before { (glyph : ℕ) → glyph < start → slice_index props.new glyph ≡ slice_index props.old glyph }
+    ensures put { (glyph : ℕ) → start ≤ glyph → glyph < end → slice_index props.new glyph
+        ≡ Rattle.font_tables.specs.Gdef.props (value_in run.now glyph) (class_of attachments.now.table.now glyph) }
+{
+    for glyph in start..end {
         let class = run.value_of(glyph as u32);
         props[glyph] = props_for(class, attachments, GlyphId(glyph as u16));
     }
-    props
+}
+
+/// The same for a run of other glyphs, whose properties do not depend on an attachment class.
+#[inline]
+fn put_same(props: &mut [u16; FIRST_COUNT], start: usize, end: usize, run: &Run)
+    requires within { end ≤ 256 }
+    requires unmarked { run.now.value ≢ 3 }
+    ensures before { (glyph : ℕ) → glyph < start → slice_index props.new glyph ≡ slice_index props.old glyph }
+    ensures put { (glyph attachment : ℕ) → start ≤ glyph → glyph < end → slice_index props.new glyph
+        ≡ Rattle.font_tables.specs.Gdef.props (value_in run.now glyph) attachment }
+{
+    let same = match run.value {
+        1 => 2,
+        2 => 4,
+        _ => 0,
+    };
+    for glyph in start..end {
+        props[glyph] = if run.first <= glyph as u32 { same } else { 0 };
+    }
 }
 
 /// The subtable that the offset at a place leads to.

@@ -1,12 +1,13 @@
 -- The rows of a word, and the glyphs of a coverage.
-use Rattle.std.proofs.Common.{◌≡◌, ℕ, zero, suc, ◌+◌, ◌-◌, ◌*◌, ◌/◌, ◌%◌, ◌^◌, ◌<◌, ◌≤◌, Bool, true, false, Option, Some, None, List, get_or, length, refl, arith, subst, inl, inr, eq-eqb}
+use Rattle.std.proofs.Common.{◌≡◌, ℕ, zero, suc, ◌+◌, ◌-◌, ◌*◌, ◌/◌, ◌%◌, ◌^◌, ◌<◌, ◌≤◌, Bool, true, false, Option, Some, None, List, get_or, length, refl, arith, ap, sym, ◌∙◌, subst, inl, inr, eq-eqb}
 use Rattle.std.proofs.lemmas.Bool.{cases_lt, cases_Bool}
 use Rattle.std.proofs.lemmas.Grind.{common_steps}
 use Rattle.std.proofs.lemmas.Option.{slice_get-get_or}
-use Rattle.std.proofs.lemmas.Nat.Bits.{bit_at_or, bit_at_and, bit_at-lt, bit_at-zero, bit_at_ones, bit_at_mask_inside, bit_at_set_same, ones_shr, ones_shl}
+use Rattle.std.proofs.lemmas.Nat.{pow_pos, shr-shr}
+use Rattle.std.proofs.lemmas.Nat.Bits.{bit_at_or, bit_at_and, bit_at-lt, bit_at-zero, bit_at_ones, bit_at_cat_low, bit_at_cat_high, bit_at_set_same, ones_shr}
 use Rattle.std.specs.Prelude.{is_some, IsTrue, bit_and, bit_or, nat_eq, nat_lt, unwrap_or, if◌then◌else◌, option_and_then, option_map, slice_get}
 use Rattle.std.specs.Option.{option_or}
-use Rattle.std.specs.Int.{bit_at, w64}
+use Rattle.std.specs.Int.{bit_at, rotate_left, w64}
 use Rattle.font_tables.specs.Rows.{first_below, first_row, is_within, is_at_most, reaches}
 use Rattle.font_tables.specs.Bytes.{number_16}
 use Rattle.font_tables.specs.Coverage.{listed_glyph, listed_count, listed_index, ranged_index, coverage_index}
@@ -69,52 +70,42 @@ all_rows row =
     let within : row % 64 < 64 = omega arith in
     row_of 18446744073709551615 row (bit_at_ones 64 (row % 64) within)
 
-bit_at-from_first : (first i : ℕ) → first ≤ i → i < 64
-    → bit_at (18446744073709551615 * 2 ^ first % 18446744073709551616) i ≡ 1
-bit_at-from_first first i least most =
-    let within : first ≤ 64 = omega arith in
-    rw (ones_shl 64 first within) (bit_at_mask_inside first 64 i least most)
-
 bit_at-to_last : (last i : ℕ) → last < 64 → i ≤ last → bit_at (18446744073709551615 / 2 ^ (63 - last)) i ≡ 1
 bit_at-to_last last i below most =
     let within : 63 - last ≤ 64 = omega arith in
     let lower : i < 64 - (63 - last) = omega arith in
     rw (ones_shr 64 (63 - last) within) (bit_at_ones (64 - (63 - last)) i lower)
 
--- the bits of rows between two, where the last one is not lower, and where it is
-pub bit_at-rows_inside : (first last i : ℕ) → last < 64 → first ≤ i → i ≤ last
-    → bit_at (bit_and (18446744073709551615 * 2 ^ first % 18446744073709551616) (18446744073709551615 / 2 ^ (63 - last))) i ≡ 1
-bit_at-rows_inside first last i below least most =
-    let within : i < 64 = omega arith in
-    bit_at-and _ _ i (bit_at-from_first first i least within) (bit_at-to_last last i below most)
+bit_at-low : (n i : ℕ) → i < 64 → bit_at (n % 18446744073709551616) i ≡ bit_at n i
+bit_at-low n i within =
+    let whole : n / 18446744073709551616 * 18446744073709551616 + n % 18446744073709551616 ≡ n = omega arith in
+    sym (bit_at_cat_low (n / 18446744073709551616) 64 (n % 18446744073709551616) i within) ∙ ap (λ x. bit_at x i) whole
 
-pub bit_at-rows_behind : (first last i : ℕ) → first ≤ i → i < 64
-    → bit_at (bit_or (18446744073709551615 * 2 ^ first % 18446744073709551616) (18446744073709551615 / 2 ^ (63 - last))) i ≡ 1
-bit_at-rows_behind first last i least within = bit_at-or_left _ _ i (bit_at-from_first first i least within)
+bit_at-shl : (n by i d : ℕ) → i < 64 → by + d ≡ i → bit_at (n * 2 ^ by % 18446744073709551616) i ≡ bit_at n d
+bit_at-shl n by i d within is =
+    let none : n * 2 ^ by ≡ n * 2 ^ by + 0 = omega arith in
+    let behind : i - by ≡ d = omega arith in
+    bit_at-low (n * 2 ^ by) i within ∙ ap (λ x. bit_at x i) none
+    ∙ bit_at_cat_high n by 0 i (pow_pos by) (omega arith) ∙ ap (bit_at n) behind
 
-pub bit_at-rows_before : (first last i : ℕ) → last < 64 → i ≤ last
-    → bit_at (bit_or (18446744073709551615 * 2 ^ first % 18446744073709551616) (18446744073709551615 / 2 ^ (63 - last))) i ≡ 1
-bit_at-rows_before first last i below most = bit_at-or_right _ _ i (bit_at-to_last last i below most)
+bit_at-shr : (n by i d : ℕ) → by + i ≡ d → bit_at (n / 2 ^ by) i ≡ bit_at n d
+bit_at-shr n by i d is = ap (λ x. x % 2) (shr-shr n by i) ∙ ap (bit_at n) is
 
--- a row between two, counted round
-pub row_between : (word first last row : ℕ) → first ≤ row → row ≤ last → last - first < 63
-    → ((i : ℕ) → first % 64 ≤ i → i ≤ last % 64 → bit_at word i ≡ 1)
-    → (last % 64 < first % 64 → (i : ℕ) → first % 64 ≤ i → i < 64 → bit_at word i ≡ 1)
-    → (last % 64 < first % 64 → (i : ℕ) → i ≤ last % 64 → bit_at word i ≡ 1)
-    → has_row word row ≡ true
-row_between word first last row least most near inside behind before =
+-- the rows from one on, counted round
+pub has_row-rotated : (first more row : ℕ) → more < 64 → first ≤ row → row ≤ first + more
+    → has_row (rotate_left w64 (18446744073709551615 / 2 ^ (63 - more)) first) row ≡ true
+has_row-rotated first more row few least most =
     let within : row % 64 < 64 = omega arith in
-    elim (cases_lt (last % 64) (first % 64)) [
-      | inl lower ↦ elim (cases_lt (row % 64) (first % 64)) [
-        | inl under ↦
-            let up : row % 64 ≤ last % 64 = omega arith in
-            row_of word row (before lower (row % 64) up)
-        | inr over ↦ row_of word row (behind lower (row % 64) over within)
-      ]
-      | inr higher ↦
-          let over : first % 64 ≤ row % 64 = omega arith in
-          let under : row % 64 ≤ last % 64 = omega arith in
-          row_of word row (inside (row % 64) over under)
+    let there : bit_at (18446744073709551615 / 2 ^ (63 - more)) (row - first) ≡ 1 =
+    bit_at-to_last more (row - first) few (omega arith) in
+    elim (cases_lt (first % 64 + (row - first)) 64) [
+      | inl low ↦
+          let up : first % 64 + (row - first) ≡ row % 64 = omega (arith, low) in
+          row_of _ row (bit_at-or_left _ _ (row % 64) (bit_at-shl _ (first % 64) (row % 64) (row - first) within up ∙ there))
+      | inr round ↦
+          let down : (64 - first % 64) % 64 + row % 64 ≡ row - first = omega (arith, round) in
+          row_of _ row
+          (bit_at-or_right _ _ (row % 64) (bit_at-shr _ ((64 - first % 64) % 64) (row % 64) (row - first) down ∙ there))
     ]
 
 -- the row that is found is one of so many, and passes the test
@@ -237,6 +228,15 @@ covered_ranges table glyph format some =
     elim (cases_Bool (nat_lt 65535 glyph)) [
       | inl past ↦ absurd (let none = rw past at some in grind (arith, common_steps))
       | inr low ↦ rw (low, format) at some
+    ]
+
+-- a glyph of a buffer that is covered is one of a font
+pub covered_glyph : (table : List ℕ) (glyph : ℕ) → is_some (covered_index table glyph) ≡ true
+    → is_some (coverage_index table glyph) ≡ true
+covered_glyph table glyph some =
+    elim (cases_Bool (nat_lt 65535 glyph)) [
+      | inl past ↦ absurd (let none = rw past at some in grind (arith, common_steps))
+      | inr low ↦ rw low at some
     ]
 
 pub covered_nowhere : (table : List ℕ) (glyph : ℕ) → (unwrap_or (number_16 table 0) 0 ≡ 1 → ⊥)

@@ -3,8 +3,7 @@
 //! A digest may have glyphs that were never added, and has each glyph that was. So a lookup whose digest does not have a
 //! glyph does nothing to it, and its coverage need not be asked (HarfBuzz, `hb_set_digest_t`).
 
-ghost use Rattle.std.specs.Prelude.{ℕ, ◌≡◌, ◌<◌, ◌≤◌, IsTrue, is_some, true};
-ghost use Rattle.std.specs.Int.{bit_at};
+ghost use Rattle.std.specs.Prelude.{ℕ, ◌≡◌, ◌<◌, ◌≤◌, ◌+◌, IsTrue, is_some, true};
 ghost use Rattle.ot_layout.specs.Digest.{HasAll, HasGlyphs, HasMore, has_row, may_have};
 ghost use Rattle.ot_layout.specs.SkippingIterator.{covered_index};
 
@@ -48,6 +47,15 @@ impl Digest {
             sixteens: u64::MAX,
             blocks: u64::MAX,
         }
+    }
+
+    /// The digest of the glyphs up to this one.
+    pub(crate) fn up_to(last: u32) -> Self
+        ensures { HasAll (λ glyph. glyph ≤ last) result }
+    {
+        let mut digest = Digest::new();
+        digest.add_range(0, last);
+        digest
     }
 
     /// Whether the glyph may have been added. One that was added always may.
@@ -175,23 +183,18 @@ pub(crate) fn with_rows(word: u64, first: u32, last: u32) -> u64
     ensures added { (row : ℕ) → first ≤ row → row ≤ last → has_row result row ≡ true }
     ensures kept { (other : ℕ) → has_row word other ≡ true → has_row result other ≡ true }
 {
-    if last.saturating_sub(first) >= ROWS - 1 {
+    let more = last.saturating_sub(first);
+    if more >= ROWS - 1 {
         u64::MAX
     } else {
-        word | rows_between(first % ROWS, last % ROWS)
+        word | rows_from(first, more)
     }
 }
 
-/// The bits from one to another, the last one too; where the last one is lower, the bits from the first one on, and those up to
-/// the last.
-fn rows_between(first: u32, last: u32) -> u64
-    requires first { first < 64 }
-    requires last { last < 64 }
-    ensures inside { (i : ℕ) → first ≤ i → i ≤ last → bit_at result i ≡ 1 }
-    ensures behind { last < first → (i : ℕ) → first ≤ i → i < 64 → bit_at result i ≡ 1 }
-    ensures before { last < first → (i : ℕ) → i ≤ last → bit_at result i ≡ 1 }
+/// The bit of a row and those of so many rows behind it.
+fn rows_from(first: u32, more: u32) -> u64
+    requires { more < 64 }
+    ensures { (row : ℕ) → first ≤ row → row ≤ first + more → has_row result row ≡ true }
 {
-    let from = u64::MAX << first;
-    let to = u64::MAX >> (ROWS - 1 - last);
-    if first <= last { from & to } else { from | to }
+    (u64::MAX >> (ROWS - 1 - more)).rotate_left(first)
 }

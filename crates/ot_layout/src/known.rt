@@ -7,6 +7,7 @@ ghost use Rattle.ot_layout.specs.SkippingIterator.{covered_index};
 
 use crate::first_glyphs::{Summaries, summaries_of};
 use crate::reading::count_at;
+use crate::subtable::Subtable;
 use font_tables::bytes::u16_at;
 use font_tables::coverage::Coverage;
 use std::alloc::AllocError;
@@ -38,6 +39,17 @@ impl<'a> Summed<'a> {
         }
     }
 
+    /// The coverage of a subtable, and what sums it up.
+    fn of_subtable(subtable: &Subtable<'a>) -> Self {
+        Summed {
+            coverage: subtable.coverage,
+            summaries: Summaries {
+                digest: subtable.digest,
+                firsts: subtable.firsts,
+            },
+        }
+    }
+
     /// A coverage that covers nothing.
     pub(crate) fn none() -> Self {
         Summed::new(Coverage::new(&[]))
@@ -62,8 +74,8 @@ pub(crate) struct Known<'a> {
     /// How many bytes it has itself.
     pub(crate) size: usize,
     pub(crate) coverage: Coverage<'a>,
-    /// The same with its summaries, once they were asked for.
-    summed: Option<Summed<'a>>,
+    /// The number of a subtable that has the coverage with its summaries, or one past all of them.
+    subtable: usize,
 }
 
 impl<'a> Known<'a> {
@@ -73,7 +85,7 @@ impl<'a> Known<'a> {
             len: table.len(),
             size: size_of(table),
             coverage: quick_coverage(table),
-            summed: None,
+            subtable: usize::MAX,
         }
     }
 }
@@ -133,19 +145,25 @@ pub(crate) fn read_coverage<'a>(known: &mut [Known<'a>], table: &'a [u8]) -> Cov
     read.coverage
 }
 
-/// The coverage in these bytes with its summaries, which is read where it is not among those that are remembered.
-pub(crate) fn summed_of<'a>(known: &mut [Known<'a>], table: &'a [u8]) -> Summed<'a> {
+/// The coverage in these bytes, of which there are so many, with its summaries. It is read where no subtable among those that are
+/// remembered has it, and then it is for the next subtable.
+pub(crate) fn summed_of<'a>(
+    known: &mut [Known<'a>],
+    subtables: &[Subtable<'a>],
+    table: &'a [u8],
+    size: usize,
+) -> Summed<'a> {
     if let Some(found) = known_at(known, table)
-        && let Some(summed) = &found.summed
+        && let Some(subtable) = subtables.get(found.subtable)
     {
-        return *summed;
+        return Summed::of_subtable(subtable);
     }
     let summed = Summed::new(quick_coverage(table));
     let read = Known {
         len: table.len(),
-        size: size_of(table),
+        size,
         coverage: summed.coverage,
-        summed: Some(summed),
+        subtable: subtables.len(),
     };
     remember(known, read);
     summed

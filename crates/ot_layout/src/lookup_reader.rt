@@ -150,17 +150,22 @@ impl<'a> LookupReader<'a> {
             return Ok(());
         }
         match self.form_of(lookup_type, format) {
-            Form::Plain => self.read_plain(lookup_type, format, table),
+            Form::Plain => self.read_plain(lookup_type, format, table, Coverage::new(&[])),
+            Form::Marks => {
+                let bases = self.bases(table);
+                self.read_plain(lookup_type, format, table, bases)
+            }
             form => self.read_formed(form, lookup_type, format, table),
         }
     }
 
-    /// Reads a subtable of which nothing is parsed but its coverage, and the second glyphs of its ligatures.
+    /// Reads a subtable of which nothing is parsed but its coverages, and the second glyphs of its ligatures.
     fn read_plain(
         &mut self,
         lookup_type: u16,
         format: u16,
         table: &'a [u8],
+        bases: Coverage<'a>,
     ) -> Result<(), AllocError> {
         let first = self.summed(table_or_empty(table, 2));
         let subtable = Subtable {
@@ -170,7 +175,7 @@ impl<'a> LookupReader<'a> {
             coverage: first.coverage,
             digest: first.summaries.digest,
             firsts: first.summaries.firsts,
-            bases: Coverage::new(&[]),
+            bases,
             classes: ClassDefinition::new(&[]),
             backtrack_classes: ClassDefinition::new(&[]),
             lookahead_classes: ClassDefinition::new(&[]),
@@ -201,7 +206,7 @@ impl<'a> LookupReader<'a> {
             coverage: first.coverage,
             digest: first.summaries.digest,
             firsts: first.summaries.firsts,
-            bases: self.coverage_if(form == Form::Marks, table, 4),
+            bases: Coverage::new(&[]),
             classes: self.input_classes(form, table),
             backtrack_classes: self.classes_if(form == Form::ChainedClasses, table, 4),
             lookahead_classes: self.ahead_classes(form, table),
@@ -305,7 +310,8 @@ impl<'a> LookupReader<'a> {
             Some(coverage) => *coverage,
             None => Coverage::new(&[]),
         };
-        summed_of(&mut self.known, coverage.table)
+        let table = coverage.table;
+        summed_of(&mut self.known, &self.subtables, table, size_of(table))
     }
 
     /// What a context by coverages asks of the glyph after the one at the cursor: the second coverage of the input, or where the
@@ -353,16 +359,14 @@ impl<'a> LookupReader<'a> {
         }
     }
 
-    /// The coverage that the offset at a place leads to, if there is one in this form. It is not remembered: hardly any other
-    /// subtable shares it.
-    fn coverage_if(&mut self, is_there: bool, table: &'a [u8], at: usize) -> Coverage<'a> {
-        if is_there {
-            let table = table_or_empty(table, at);
-            if self.pay(size_of(table)) {
-                return quick_coverage(table);
-            }
+    /// What marks are attached to. It is not remembered: hardly any other subtable shares it.
+    fn bases(&mut self, table: &'a [u8]) -> Coverage<'a> {
+        let table = table_or_empty(table, 4);
+        if self.pay(size_of(table)) {
+            quick_coverage(table)
+        } else {
+            Coverage::new(&[])
         }
-        Coverage::new(&[])
     }
 
     /// The classes that the offset at a place leads to, if there are any in this form.
@@ -398,8 +402,9 @@ impl<'a> LookupReader<'a> {
 
     /// The same coverage, with the summaries of its glyphs.
     fn summed(&mut self, table: &'a [u8]) -> Summed<'a> {
-        if self.pay(size_of(table)) {
-            summed_of(&mut self.known, table)
+        let size = size_of(table);
+        if self.pay(size) {
+            summed_of(&mut self.known, &self.subtables, table, size)
         } else {
             Summed::none()
         }
@@ -441,6 +446,7 @@ fn behind_offset(table: &[u8], offset: [u8; 2]) -> &[u8] {
 }
 
 /// What a lookup passes over.
+#[inline]
 fn props_of<'a>(table: &[u8], gdef: &Gdef<'a>) -> LookupProps<'a>
     ensures flags { result.flags ≡ lookup_flag table.now }
     ensures marks { result.marks.table.now ≡ mark_filtering_set gdef.now.table.now table.now }
@@ -455,6 +461,7 @@ fn props_of<'a>(table: &[u8], gdef: &Gdef<'a>) -> LookupProps<'a>
 }
 
 /// The mark filtering set of a lookup that has one: its number stands after the offsets of the subtables.
+#[inline(never)]
 fn marks_of<'a>(table: &[u8], gdef: &Gdef<'a>) -> Coverage<'a>
     ensures { result.table.now ≡ marks_at gdef.now.table.now table.now }
 {

@@ -10,7 +10,7 @@ ghost use Rattle.ot_layout.specs.SkippingIterator.{covered_index};
 
 use crate::digest::Digest;
 use crate::first_glyphs::FirstGlyphs;
-use font_tables::bytes::{table_at_16, table_at_32, u16_at};
+use font_tables::bytes::{table_at_32, tail, u16_at};
 use font_tables::class_definition::ClassDefinition;
 use font_tables::coverage::Coverage;
 
@@ -173,10 +173,14 @@ pub fn behind_list(table: &[u8], at: usize) -> usize
 }
 
 /// The table that the offset at a place leads to, or an empty one.
+#[tactic(auto, unfolding(font_tables::specs::Bytes::table_at_16))]
 pub fn table_or_empty(table: &[u8], at: usize) -> &[u8]
     ensures { result.now ≡ unwrap_or (table_at_16 table.now at) [] }
 {
-    table_at_16(table, at).unwrap_or(&[])
+    match u16_at(table, at) {
+        None | Some(0) => &[],
+        Some(offset) => tail(table, usize::from(offset)),
+    }
 }
 
 /// The kind and the subtable after an extension.

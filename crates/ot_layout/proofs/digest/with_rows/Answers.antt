@@ -1,18 +1,17 @@
-use Rattle.std.proofs.Common.{◌<◌, ◌-◌, arith}
-use Rattle.ot_layout.proofs.DigestLemmas.{all_rows, or_left, or_right, row_between}
+use Rattle.std.proofs.Common.{◌≤◌, ◌+◌, ◌-◌, arith}
+use Rattle.ot_layout.proofs.DigestLemmas.{all_rows, or_left, or_right}
 use Rattle.ot_layout.proofs.digest.with_rows.Goals as goal
 
-pub returns-then-saturating_sub-clause-added : goal.returns-then-saturating_sub-clause-added
-returns-then-saturating_sub-clause-added c = λ row least most. all_rows row
+pub returns-then-more-clause-added : goal.returns-then-more-clause-added
+returns-then-more-clause-added c = λ row least most. all_rows row
 
-pub returns-then-saturating_sub-clause-kept : goal.returns-then-saturating_sub-clause-kept
-returns-then-saturating_sub-clause-kept c = λ row has. all_rows row
+pub returns-then-more-clause-kept : goal.returns-then-more-clause-kept
+returns-then-more-clause-kept c = λ row has. all_rows row
 
-pub returns-else-saturating_sub-clause-added : goal.returns-else-saturating_sub-clause-added
-returns-else-saturating_sub-clause-added c = λ row least most.
-    let near : c.args.last - c.args.first < 63 = omega arith in
-    let rows = c.rows_between.ensures in
-    or_right c.args.word _ row (row_between c.rows_between.result c.args.first c.args.last row least most near rows.inside rows.behind rows.before)
+pub returns-else-more-clause-added : goal.returns-else-more-clause-added
+returns-else-more-clause-added c = λ row least most.
+    let near : row ≤ c.args.first + (c.args.last - c.args.first) = omega arith in
+    or_right c.args.word _ row (c.rows_from.ensures row least (omega (arith, near)))
 
-pub returns-else-saturating_sub-clause-kept : goal.returns-else-saturating_sub-clause-kept
-returns-else-saturating_sub-clause-kept c = λ row has. or_left c.args.word _ row has
+pub returns-else-more-clause-kept : goal.returns-else-more-clause-kept
+returns-else-more-clause-kept c = λ row has. or_left c.args.word _ row has

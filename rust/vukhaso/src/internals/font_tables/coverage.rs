@@ -9,6 +9,9 @@ use crate::font_tables::glyph_ranges::{range_count, range_of, ranges_rise};
 use crate::font_tables::rows::{FEW_ROWS, Numbers16, SHORT, first_row, rows_within};
 use crate::numbers::Chunks;
 
+/// Of more rows the highest glyph is told.
+const MANY_ROWS: u16 = 128;
+
 /// A coverage table.
 ///
 /// By the specification the glyphs of a list rise, and so do ranges: an index is then found by bisection. Where they do
@@ -76,6 +79,28 @@ impl<'a> Coverage<'a> {
     #[inline]
     pub fn is_quick(&self) -> bool {
         self.count <= FEW_ROWS || self.are_rising
+    }
+
+    /// A glyph above which none is covered, where many rows rise; `None` where there are few rows, or they
+    /// do not rise.
+    ///
+    /// # Proved
+    ///
+    /// ```text
+    /// ensures { (highest glyph : ℕ) → result ≡ Some highest → is_some (coverage_index self.now.table.now glyph) ≡ true
+    ///     → glyph ≤ highest }
+    /// ```
+    #[inline]
+    pub fn highest(&self) -> Option<u16> {
+        if self.count <= MANY_ROWS || !self.are_rising {
+            return None;
+        }
+        let row = usize::from(self.count) - 1;
+        match self.format {
+            1 => u16_at(self.table, 4 + 2 * row),
+            2 => u16_at(self.table, 6 + 6 * row),
+            _ => None,
+        }
     }
 
     /// The coverage index of a glyph; `None` where the table does not cover it.

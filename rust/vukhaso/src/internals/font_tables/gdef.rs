@@ -6,6 +6,7 @@ use crate::common::GlyphId;
 use crate::font_tables::bytes::{table_at_16, table_at_32, u16_at};
 use crate::font_tables::class_definition::ClassDefinition;
 use crate::font_tables::coverage::Coverage;
+use crate::font_tables::glyph_ranges::Run;
 
 /// The glyphs whose properties are found at once.
 const FIRST_COUNT: usize = 256;
@@ -146,15 +147,58 @@ fn first_props(
     attachments: &ClassDefinition<'_>,
 ) -> [u16; FIRST_COUNT] {
     let mut props = [0; FIRST_COUNT];
-    let mut run = classes.run_from(GlyphId(0));
-    for glyph in 0..FIRST_COUNT {
-        if run.end <= glyph as u32 {
-            run = classes.run_from(GlyphId(glyph as u16));
+    let mut glyph = 0;
+    while glyph < FIRST_COUNT {
+        let run = classes.run_from(GlyphId(glyph as u16));
+        let end = FIRST_COUNT.min(run.end as usize);
+        if run.value == 3 {
+            put_marks(&mut props, glyph, end, &run, attachments);
+        } else {
+            put_same(&mut props, glyph, end, &run);
         }
+        glyph = end;
+    }
+    props
+}
+
+/// Puts the properties of the glyphs of a run of marks, from one glyph to before another, in their
+/// places.
+///
+/// # Requires
+///
+/// - `end ≤ 256`
+#[inline(always)]
+fn put_marks(
+    props: &mut [u16; FIRST_COUNT],
+    start: usize,
+    end: usize,
+    run: &Run,
+    attachments: &ClassDefinition<'_>,
+) {
+    debug_assert!(end <= 256);
+    for glyph in start..end {
         let class = run.value_of(glyph as u32);
         props[glyph] = props_for(class, attachments, GlyphId(glyph as u16));
     }
-    props
+}
+
+/// The same for a run of other glyphs, whose properties do not depend on an attachment class.
+///
+/// # Requires
+///
+/// - `within: end ≤ 256`
+/// - `unmarked: run.now.value ≢ 3`
+#[inline(always)]
+fn put_same(props: &mut [u16; FIRST_COUNT], start: usize, end: usize, run: &Run) {
+    debug_assert!(end <= 256);
+    let same = match run.value {
+        1 => 2,
+        2 => 4,
+        _ => 0,
+    };
+    for glyph in start..end {
+        props[glyph] = if run.first <= glyph as u32 { same } else { 0 };
+    }
 }
 
 /// The subtable that the offset at a place leads to.

@@ -49,6 +49,13 @@ impl Digest {
         }
     }
 
+    /// The digest of the glyphs up to this one.
+    pub(crate) fn up_to(last: u32) -> Self {
+        let mut digest = Digest::new();
+        digest.add_range(0, last);
+        digest
+    }
+
     /// Whether the glyph may have been added. One that was added always may.
     ///
     /// # Proved
@@ -190,24 +197,20 @@ pub(crate) fn with_row(word: u64, row: u32) -> u64 {
 
 /// A word with the bits of the rows from one to another, the last one too.
 pub(crate) fn with_rows(word: u64, first: u32, last: u32) -> u64 {
-    if last.saturating_sub(first) >= ROWS - 1 {
+    let more = last.saturating_sub(first);
+    if more >= ROWS - 1 {
         u64::MAX
     } else {
-        word | rows_between(first % ROWS, last % ROWS)
+        word | rows_from(first, more)
     }
 }
 
-/// The bits from one to another, the last one too; where the last one is lower, the bits from the first
-/// one on, and those up to the last.
+/// The bit of a row and those of so many rows behind it.
 ///
 /// # Requires
 ///
-/// - `first: first < 64`
-/// - `last: last < 64`
-fn rows_between(first: u32, last: u32) -> u64 {
-    debug_assert!(first < 64);
-    debug_assert!(last < 64);
-    let from = u64::MAX << first;
-    let to = u64::MAX >> (ROWS - 1 - last);
-    if first <= last { from & to } else { from | to }
+/// - `more < 64`
+fn rows_from(first: u32, more: u32) -> u64 {
+    debug_assert!(more < 64);
+    (u64::MAX >> (ROWS - 1 - more)).rotate_left(first)
 }

@@ -61,9 +61,18 @@ impl Summary for FirstGlyphs {
     }
 
     fn add_glyph(&mut self, glyph: u32) {
-        if glyph < COUNT {
-            let word = glyph as usize / 64;
-            self.words[word] = with_row(self.words[word], glyph);
+        if glyph < 128 {
+            if glyph < 64 {
+                self.words[0] = with_row(self.words[0], glyph);
+            } else {
+                self.words[1] = with_row(self.words[1], glyph);
+            }
+        } else if glyph < COUNT {
+            if glyph < 192 {
+                self.words[2] = with_row(self.words[2], glyph);
+            } else {
+                self.words[3] = with_row(self.words[3], glyph);
+            }
         }
     }
 
@@ -125,9 +134,15 @@ impl Summary for Summaries {
     }
 }
 
-/// Both summaries of the glyphs that a coverage covers.
+/// Both summaries of the glyphs that a coverage covers. Many rows leave hardly a row of a digest out.
 pub(crate) fn summaries_of(coverage: &Coverage) -> Summaries {
-    summary_of(coverage)
+    match coverage.highest() {
+        Some(highest) => Summaries {
+            digest: Digest::up_to(u32::from(highest)),
+            firsts: summary_of(coverage),
+        },
+        None => summary_of(coverage),
+    }
 }
 
 /// A word with the bits of the rows from one to another, the last one too, where the word has the 64

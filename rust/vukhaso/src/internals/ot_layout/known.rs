@@ -7,6 +7,7 @@ use crate::font_tables::coverage::Coverage;
 use crate::memory::{AllocError, Vec};
 use crate::ot_layout::first_glyphs::{Summaries, summaries_of};
 use crate::ot_layout::reading::count_at;
+use crate::ot_layout::subtable::Subtable;
 
 /// So many coverages are remembered at a time, or fewer.
 const MOST: usize = 128;
@@ -29,6 +30,17 @@ impl<'a> Summed<'a> {
         Summed {
             coverage,
             summaries: summaries_of(&coverage),
+        }
+    }
+
+    /// The coverage of a subtable, and what sums it up.
+    fn of_subtable(subtable: &Subtable<'a>) -> Self {
+        Summed {
+            coverage: subtable.coverage,
+            summaries: Summaries {
+                digest: subtable.digest,
+                firsts: subtable.firsts,
+            },
         }
     }
 
@@ -56,8 +68,8 @@ pub(crate) struct Known<'a> {
     /// How many bytes it has itself.
     pub(crate) size: usize,
     pub(crate) coverage: Coverage<'a>,
-    /// The same with its summaries, once they were asked for.
-    summed: Option<Summed<'a>>,
+    /// The number of a subtable that has the coverage with its summaries, or one past all of them.
+    subtable: usize,
 }
 
 impl<'a> Known<'a> {
@@ -67,7 +79,7 @@ impl<'a> Known<'a> {
             len: table.len(),
             size: size_of(table),
             coverage: quick_coverage(table),
-            summed: None,
+            subtable: usize::MAX,
         }
     }
 }
@@ -128,20 +140,25 @@ pub(crate) fn read_coverage<'a>(known: &mut [Known<'a>], table: &'a [u8]) -> Cov
     read.coverage
 }
 
-/// The coverage in these bytes with its summaries, which is read where it is not among those that are
-/// remembered.
-pub(crate) fn summed_of<'a>(known: &mut [Known<'a>], table: &'a [u8]) -> Summed<'a> {
+/// The coverage in these bytes, of which there are so many, with its summaries. It is read where no
+/// subtable among those that are remembered has it, and then it is for the next subtable.
+pub(crate) fn summed_of<'a>(
+    known: &mut [Known<'a>],
+    subtables: &[Subtable<'a>],
+    table: &'a [u8],
+    size: usize,
+) -> Summed<'a> {
     if let Some(found) = known_at(known, table) {
-        if let Some(summed) = &found.summed {
-            return *summed;
+        if let Some(subtable) = subtables.get(found.subtable) {
+            return Summed::of_subtable(subtable);
         }
     }
     let summed = Summed::new(quick_coverage(table));
     let read = Known {
         len: table.len(),
-        size: size_of(table),
+        size,
         coverage: summed.coverage,
-        summed: Some(summed),
+        subtable: subtables.len(),
     };
     remember(known, read);
     summed

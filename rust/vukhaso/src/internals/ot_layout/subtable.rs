@@ -2,7 +2,7 @@
 
 //! The subtables of lookups, with what several kinds have in common parsed once.
 
-use crate::font_tables::bytes::{table_at_16, table_at_32, u16_at};
+use crate::font_tables::bytes::{table_at_32, tail, u16_at};
 use crate::font_tables::class_definition::ClassDefinition;
 use crate::font_tables::coverage::Coverage;
 use crate::ot_layout::digest::Digest;
@@ -203,7 +203,10 @@ pub fn behind_list(table: &[u8], at: usize) -> usize {
 /// ```
 #[inline]
 pub fn table_or_empty(table: &[u8], at: usize) -> &[u8] {
-    table_at_16(table, at).unwrap_or(&[])
+    match u16_at(table, at) {
+        None | Some(0) => &[],
+        Some(offset) => tail(table, usize::from(offset)),
+    }
 }
 
 /// The kind and the subtable after an extension.
