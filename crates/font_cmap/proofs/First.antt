@@ -1,13 +1,14 @@
 -- The first subtable that there is of a list of encodings, one after the other, and the first characters, of which each encoding
 -- has the own numbers as codes.
-use Rattle.std.proofs.Common.{◌≡◌, ℕ, ◌+◌, ◌<◌, ◌≤◌, List, length, drop, get_or, Some, None, true, refl, ap, ◌∙◌, arith}
+use Rattle.std.proofs.Common.{◌≡◌, ℕ, ◌+◌, ◌<◌, ◌≤◌, List, length, drop, get_or, Option, Some, None, true, refl, ap, ◌∙◌, arith}
 use Rattle.std.proofs.lemmas.Bool.Decides.{nat_tests}
 use Rattle.std.specs.Prelude.{nat_lt}
 use Rattle.std.specs.Option.{option_or}
 use Rattle.std.proofs.Math.Seq.{drop-cons}
 use Rattle.std.proofs.Common.{add-one, drop_of_length-le}
 use Rattle.font_cmap.specs.Choice.{subtable_of, first_subtable}
-use Rattle.font_cmap.specs.Codes.{own_code}
+use Rattle.font_cmap.specs.Codes.{glyph_index, other_code, own_code}
+use Rattle.font_cmap.specs.Subtables.{subtable_glyph}
 use Rattle.font_cmap.specs.declared.codes.Encoding.{Encoding}
 use Rattle.font_cmap.specs.declared.codes.Encoding.TheVariants.{Unicode, Symbol, SimplifiedArabic}
 use Rattle.font_cmap.specs.declared.codes.Encoding.TheVariants.{TraditionalArabic}
@@ -21,6 +22,15 @@ own_code_first Unicode character less = refl
 own_code_first Symbol character less = refl
 own_code_first SimplifiedArabic character less = refl
 own_code_first TraditionalArabic character less = refl
+
+glyph-or_none : (glyph : Option ℕ) → option_or glyph None ≡ glyph
+glyph-or_none None = refl
+glyph-or_none (Some g) = refl
+
+-- a character of Unicode has no other code than its number
+pub glyph_index-unicode : (table : List ℕ) (character : ℕ) → glyph_index table Unicode character ≡ subtable_glyph table character
+unfolding glyph_index own_code other_code
+glyph_index-unicode table character = glyph-or_none (subtable_glyph table character)
 
 module _ (bs : List ℕ) (es : List (ℕ × ℕ)) (i : ℕ) where
   abbrev here : ℕ × ℕ

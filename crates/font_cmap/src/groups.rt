@@ -150,15 +150,34 @@ pub(crate) fn first_groups_glyphs(table: &[u8], format: u16) -> [Option<u16>; FI
     ensures { (code : ℕ) → code < 128 → get_or result code None ≡ groups_glyph table.now format code }
 {
     let mut glyphs = [None; FIRST_COUNT];
-    let mut run = group_run(table, 0);
-    for code in 0..FIRST_COUNT {
-        if run.last < code as u32 {
-            run = group_run(table, code as u32);
-        }
+    let mut code = 0;
+    while code < FIRST_COUNT {
+        let run = group_run(table, code as u32);
+        let end = FIRST_COUNT.min((run.last as usize).saturating_add(1));
+        put_glyphs(&mut glyphs, code, end, format, &run);
+        code = end;
+    }
+    glyphs
+}
+
+/// Puts the glyphs of codes that have one group, from one code to before another, in their places.
+#[inline]
+fn put_glyphs(
+    glyphs: &mut [Option<u16>; FIRST_COUNT],
+    start: usize,
+    end: usize,
+    format: u16,
+    run: &GroupRun,
+)
+    requires { end ≤ 128 }
+    ensures before { (code : ℕ) → code < start → get_or glyphs.new code None ≡ get_or glyphs.old code None }
+    ensures put { (code : ℕ) → start ≤ code → code < end
+        → get_or glyphs.new code None ≡ glyph_of_group format code run.now.group }
+{
+    for code in start..end {
         glyphs[code] = match &run.group {
             Some(group) => glyph_in_group(format, code as u32, group.start, group.glyph),
             None => None,
         };
     }
-    glyphs
 }

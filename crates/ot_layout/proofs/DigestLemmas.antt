@@ -139,7 +139,7 @@ found_below test zero i found = absurd (grind (arith, common_steps))
 found_below test (suc n) i found = found_step test n i (first_below test n) (λ j is. found_below test n j is) found
 
 -- a glyph of a list stands in one of its rows
-list_row : (table : List ℕ) (glyph row : ℕ) (listed : Option ℕ) (set : ℕ → Type 0)
+pub list_row : (table : List ℕ) (glyph row : ℕ) (listed : Option ℕ) (set : ℕ → Type 0)
     → ((g : ℕ) → listed ≡ Some g → set g)
     → is_at_most glyph listed ≡ true → is_within listed glyph ≡ true → set glyph
 list_row table glyph row None set here least most = absurd (grind (arith, common_steps))

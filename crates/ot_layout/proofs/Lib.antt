@@ -11,6 +11,7 @@ pub mod AroundLemmas
 pub mod AskedLemmas
 pub mod ContextLemmas
 pub mod DigestLemmas
+pub mod EarlyLemmas
 pub mod EditLemmas
 pub mod FirstGlyphsLemmas
 pub mod LookupTablesLemmas

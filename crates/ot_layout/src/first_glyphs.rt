@@ -1,12 +1,14 @@
 //! The first 256 glyphs of a font, told apart, which a digest does not do.
 
 ghost use Rattle.std.specs.Prelude.{ℕ, ◌≡◌, ◌<◌, ◌≤◌, ◌+◌, is_some, true};
+ghost use Rattle.font_tables.specs.Coverage.{listed_index};
 ghost use Rattle.ot_layout.specs.Digest.{HasAll, has_row};
 ghost use Rattle.ot_layout.specs.FirstGlyphs.{HasMoreFirst, may_have_both, may_have_first};
 ghost use Rattle.ot_layout.specs.SkippingIterator.{covered_index};
 
 use crate::digest::{Digest, has_row, with_all, with_row, with_rows};
-use crate::summary::{Summary, summary_of};
+use crate::summary::{Summary, format_of, row_count, summary_of};
+use font_tables::bytes::{part, u16_at};
 use font_tables::coverage::Coverage;
 
 /// How many glyphs are told apart.
@@ -129,10 +131,40 @@ pub(crate) fn summaries_of(coverage: &Coverage) -> Summaries
     match coverage.highest() {
         Some(highest) => Summaries {
             digest: Digest::up_to(u32::from(highest)),
-            firsts: summary_of(coverage),
+            firsts: firsts_of(coverage),
         },
         None => summary_of(coverage),
     }
+}
+
+/// Those of the first 256 glyphs that a coverage covers.
+fn firsts_of(coverage: &Coverage) -> FirstGlyphs
+    ensures { (glyph : ℕ) → is_some (covered_index coverage.now.table.now glyph) ≡ true → may_have_first result glyph ≡ true }
+{
+    if format_of(coverage.table) == 1 {
+        firsts_of_list(coverage.table)
+    } else {
+        summary_of(coverage)
+    }
+}
+
+/// The same of a coverage that lists its glyphs. A glyph is looked for up to the first that is not below it, so none of the first 256
+/// is found behind one of the others.
+fn firsts_of_list(table: &[u8]) -> FirstGlyphs
+    ensures { (glyph : ℕ) → is_some (listed_index table.now glyph) ≡ true → may_have_first result glyph ≡ true }
+{
+    let mut firsts = FirstGlyphs::none();
+    let (glyphs, _) = part(table, 4, 2 * row_count(table, 2)).as_chunks::<2>();
+    for glyph in glyphs {
+        if let Some(glyph) = u16_at(glyph, 0) {
+            let glyph = u32::from(glyph);
+            if glyph >= COUNT {
+                return firsts;
+            }
+            firsts.add_glyph(glyph);
+        }
+    }
+    firsts
 }
 
 /// A word with the bits of the rows from one to another, the last one too, where the word has the 64 rows from this one on.

@@ -6,7 +6,7 @@ ghost use Rattle.ot_layout.specs.Seconds.{HasSecond, HasSecondAt, HasSecondOfEac
 
 use crate::digest::Digest;
 use crate::substitution::set_at;
-use font_tables::bytes::{table_at_16, tail, u16_at};
+use font_tables::bytes::{tail, u16_at};
 
 /// The digest of the second glyphs of all ligatures of a subtable; `None` where one has no second glyph, or there are more sets and
 /// ligatures than may be read, which is then none.
@@ -42,14 +42,15 @@ fn add_seconds(digest: &mut Digest, set: &[u8], room: &mut usize) -> bool
 }
 
 /// Adds the second glyph of the ligature of this number in a set; false where it has none.
+#[tactic(auto, unfolding(font_tables::specs::Bytes::table_at_16))]
 fn add_second_at(digest: &mut Digest, set: &[u8], index: usize) -> bool
     requires { index < 65536 }
     ensures kept { HasMore digest.old digest.new }
     ensures added { IsTrue result → HasSecondAt set.now index digest.new }
 {
-    match table_at_16(set, 2 + 2 * index) {
-        Some(ligature) => add_second(digest, ligature),
-        None => true,
+    match u16_at(set, 2 + 2 * index) {
+        None | Some(0) => true,
+        Some(offset) => add_second(digest, tail(set, usize::from(offset))),
     }
 }
 

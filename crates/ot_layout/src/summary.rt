@@ -46,14 +46,14 @@ pub fn summary_of<S: Summary>(coverage: &Coverage) -> S
 }
 
 /// The format of a table.
-fn format_of(table: &[u8]) -> u16
+pub(crate) fn format_of(table: &[u8]) -> u16
     ensures { result ≡ unwrap_or (number_16 table.now 0) 0 }
 {
     u16_at(table, 0).unwrap_or(0)
 }
 
 /// How many rows of this size the table has.
-fn row_count(table: &[u8], size: usize) -> usize
+pub(crate) fn row_count(table: &[u8], size: usize) -> usize
     requires { 0 < size }
     ensures is { result ≡ rows_within table.now 4 size (unwrap_or (number_16 table.now 2) 0) }
     ensures few { result < 65536 }

@@ -1,12 +1,13 @@
-use Rattle.std.proofs.Common.{◌≡◌, ◌<◌, ℕ, None, get_or, length}
+use Rattle.std.proofs.Common.{◌≡◌, ◌<◌, ◌-◌, ℕ, None, get_or, length}
 use Rattle.font_cmap.specs.Subtables.{groups_glyph}
-use Rattle.font_cmap.specs.Runs.{IsGroupRun}
 use Rattle.font_cmap.proofs.groups.first_groups_glyphs.Given as goal
 
--- the glyphs so far are those of their codes, and the run goes on from the next one
+-- the glyphs so far are those of their codes
 abbrev pub invariant-loop-code : goal.invariant-loop-code
 invariant-loop-code l = record {
   long : length l.glyphs ≡ 128;
   found : (code : ℕ) → code < l.code → get_or l.glyphs code None ≡ groups_glyph l.table l.format code;
-  run : IsGroupRun l.table l.run l.code;
 }
+
+abbrev pub decreases-loop-code : goal.decreases-loop-code
+decreases-loop-code l = 128 - l.code

@@ -130,15 +130,34 @@ fn group_run(table: &[u8], code: u32) -> GroupRun {
 /// The glyphs of the first codes by format 12 or 13.
 pub(crate) fn first_groups_glyphs(table: &[u8], format: u16) -> [Option<u16>; FIRST_COUNT] {
     let mut glyphs = [None; FIRST_COUNT];
-    let mut run = group_run(table, 0);
-    for code in 0..FIRST_COUNT {
-        if run.last < code as u32 {
-            run = group_run(table, code as u32);
-        }
+    let mut code = 0;
+    while code < FIRST_COUNT {
+        let run = group_run(table, code as u32);
+        let end = FIRST_COUNT.min((run.last as usize).saturating_add(1));
+        put_glyphs(&mut glyphs, code, end, format, &run);
+        code = end;
+    }
+    glyphs
+}
+
+/// Puts the glyphs of codes that have one group, from one code to before another, in their places.
+///
+/// # Requires
+///
+/// - `end ≤ 128`
+#[inline(always)]
+fn put_glyphs(
+    glyphs: &mut [Option<u16>; FIRST_COUNT],
+    start: usize,
+    end: usize,
+    format: u16,
+    run: &GroupRun,
+) {
+    debug_assert!(end <= 128);
+    for code in start..end {
         glyphs[code] = match &run.group {
             Some(group) => glyph_in_group(format, code as u32, group.start, group.glyph),
             None => None,
         };
     }
-    glyphs
 }

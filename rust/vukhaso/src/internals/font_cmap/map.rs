@@ -50,6 +50,21 @@ impl Codes<'_> {
 /// The glyphs of the first characters.
 fn first_glyphs(codes: &Codes<'_>) -> [Option<u16>; FIRST_COUNT] {
     let own = first_subtable_glyphs(codes.subtable);
+    match codes.encoding {
+        Encoding::Unicode => own,
+        _ => glyphs_or_others(codes, &own),
+    }
+}
+
+/// The glyphs of the first characters, by those of their own numbers.
+///
+/// # Requires
+///
+/// - `(character : ℕ) → character < 128 → get_or own.now character None ≡ subtable_glyph codes.now.subtable.now character`
+fn glyphs_or_others(
+    codes: &Codes<'_>,
+    own: &[Option<u16>; FIRST_COUNT],
+) -> [Option<u16>; FIRST_COUNT] {
     let mut glyphs = [None; FIRST_COUNT];
     for character in 0..FIRST_COUNT {
         glyphs[character] = codes.glyph_or_other(own[character], character as u32);

@@ -182,15 +182,35 @@ fn segment_run(table: &[u8], code: u32) -> SegmentRun {
 /// The glyphs of the first codes by format 4.
 pub(crate) fn first_segments_glyphs(table: &[u8]) -> [Option<u16>; FIRST_COUNT] {
     let mut glyphs = [None; FIRST_COUNT];
-    let mut run = segment_run(table, 0);
-    for code in 0..FIRST_COUNT {
-        if run.last < code as u32 {
-            run = segment_run(table, code as u32);
-        }
+    let mut code = 0;
+    while code < FIRST_COUNT {
+        let run = segment_run(table, code as u32);
+        let end = FIRST_COUNT.min((run.last as usize).saturating_add(1));
+        put_glyphs(&mut glyphs, code, end, table, &run);
+        code = end;
+    }
+    glyphs
+}
+
+/// Puts the glyphs of codes that have one segment, from one code to before another, in their places.
+///
+/// # Requires
+///
+/// - `within: end ≤ 128`
+/// - `small: IfSome run.now.segment (λ segment. segment.row < 2 ^ 62)`
+#[inline(always)]
+fn put_glyphs(
+    glyphs: &mut [Option<u16>; FIRST_COUNT],
+    start: usize,
+    end: usize,
+    table: &[u8],
+    run: &SegmentRun,
+) {
+    debug_assert!(end <= 128);
+    for code in start..end {
         glyphs[code] = match &run.segment {
             Some(segment) => glyph_in_segment(table, code as u32, segment),
             None => None,
         };
     }
-    glyphs
 }

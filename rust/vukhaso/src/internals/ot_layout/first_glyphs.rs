@@ -2,9 +2,11 @@
 
 //! The first 256 glyphs of a font, told apart, which a digest does not do.
 
+use crate::font_tables::bytes::{part, u16_at};
 use crate::font_tables::coverage::Coverage;
+use crate::numbers::Chunks;
 use crate::ot_layout::digest::{Digest, has_row, with_all, with_row, with_rows};
-use crate::ot_layout::summary::{Summary, summary_of};
+use crate::ot_layout::summary::{Summary, format_of, row_count, summary_of};
 
 /// How many glyphs are told apart.
 const COUNT: u32 = 256;
@@ -139,10 +141,36 @@ pub(crate) fn summaries_of(coverage: &Coverage) -> Summaries {
     match coverage.highest() {
         Some(highest) => Summaries {
             digest: Digest::up_to(u32::from(highest)),
-            firsts: summary_of(coverage),
+            firsts: firsts_of(coverage),
         },
         None => summary_of(coverage),
     }
+}
+
+/// Those of the first 256 glyphs that a coverage covers.
+fn firsts_of(coverage: &Coverage) -> FirstGlyphs {
+    if format_of(coverage.table) == 1 {
+        firsts_of_list(coverage.table)
+    } else {
+        summary_of(coverage)
+    }
+}
+
+/// The same of a coverage that lists its glyphs. A glyph is looked for up to the first that is not
+/// below it, so none of the first 256 is found behind one of the others.
+fn firsts_of_list(table: &[u8]) -> FirstGlyphs {
+    let mut firsts = FirstGlyphs::none();
+    let (glyphs, _) = Chunks::<2>::split(part(table, 4, 2 * row_count(table, 2)));
+    for glyph in glyphs {
+        if let Some(glyph) = u16_at(glyph, 0) {
+            let glyph = u32::from(glyph);
+            if glyph >= COUNT {
+                return firsts;
+            }
+            firsts.add_glyph(glyph);
+        }
+    }
+    firsts
 }
 
 /// A word with the bits of the rows from one to another, the last one too, where the word has the 64

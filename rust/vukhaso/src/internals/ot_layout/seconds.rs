@@ -2,7 +2,7 @@
 
 //! The second glyphs of ligatures: where none of them is the next glyph, no ligature stands at the cursor.
 
-use crate::font_tables::bytes::{table_at_16, tail, u16_at};
+use crate::font_tables::bytes::{tail, u16_at};
 use crate::ot_layout::digest::Digest;
 use crate::ot_layout::substitution::set_at;
 
@@ -41,9 +41,9 @@ fn add_seconds(digest: &mut Digest, set: &[u8], room: &mut usize) -> bool {
 /// - `index < 65536`
 fn add_second_at(digest: &mut Digest, set: &[u8], index: usize) -> bool {
     debug_assert!(index < 65536);
-    match table_at_16(set, 2 + 2 * index) {
-        Some(ligature) => add_second(digest, ligature),
-        None => true,
+    match u16_at(set, 2 + 2 * index) {
+        None | Some(0) => true,
+        Some(offset) => add_second(digest, tail(set, usize::from(offset))),
     }
 }
 

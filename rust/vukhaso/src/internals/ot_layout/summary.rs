@@ -63,7 +63,7 @@ pub fn summary_of<S: Summary>(coverage: &Coverage) -> S {
 }
 
 /// The format of a table.
-fn format_of(table: &[u8]) -> u16 {
+pub(crate) fn format_of(table: &[u8]) -> u16 {
     u16_at(table, 0).unwrap_or(0)
 }
 
@@ -72,7 +72,7 @@ fn format_of(table: &[u8]) -> u16 {
 /// # Requires
 ///
 /// - `0 < size`
-fn row_count(table: &[u8], size: usize) -> usize {
+pub(crate) fn row_count(table: &[u8], size: usize) -> usize {
     debug_assert!(0 < size);
     let declared = u16_at(table, 2).unwrap_or(0);
     rows_within(table, 4, size, usize::from(declared))

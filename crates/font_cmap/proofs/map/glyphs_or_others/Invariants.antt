@@ -1,6 +1,6 @@
 use Rattle.std.proofs.Common.{◌≡◌, ◌<◌, ℕ, None, get_or, length}
 use Rattle.font_cmap.specs.Codes.{glyph_index}
-use Rattle.font_cmap.proofs.map.first_glyphs.Given as goal
+use Rattle.font_cmap.proofs.map.glyphs_or_others.Given as goal
 
 -- the glyphs so far are those of their characters
 abbrev pub invariant-loop-character : goal.invariant-loop-character
