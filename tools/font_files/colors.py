@@ -1,4 +1,5 @@
-"""`colors.ttf`, with a paint of each kind in `COLR`, and `colors.otf`, with layers that are charstrings. U+E000 and on have the paints."""
+"""`colors.ttf`, with a paint of each kind in `COLR`, `colors.otf`, with layers that are charstrings, and `bitmaps.ttf`, with bitmaps and no
+outlines. U+E000 and on have the paints."""
 
 from . import cff
 from . import opentype as ot
@@ -180,4 +181,34 @@ def charstrings():
     }, b"OTTO")
 
 
-FONTS = {"colors.ttf": colors, "colors.otf": charstrings}
+def picture(x, y, width, height):
+    """A PNG of `sbix`, moved, of which no more than the first chunk is there."""
+    return ot.numbers(x, y) + b"png \x89PNG\r\n\x1a\n" + ot.long_numbers(13) + b"IHDR" + ot.long_numbers(width, height) + bytes([8, 6]) + bytes(7)
+
+
+def strike(pixels, only):
+    """A strike of `sbix` at 72 dots an inch, with the second of four glyphs. A glyph ends where the next begins."""
+    first = 4 + 4 * 5
+    last = first + len(only)
+    return ot.numbers(pixels, 72) + ot.long_numbers(first, first, last, last, last) + only
+
+
+def bitmaps():
+    """A glyph that is clipped to a box, a with a PNG in each of two strikes, of 16 and of 40 pixels, b with a bitmap, and c, of which nothing
+    is said."""
+    box = bytes([1]) + ot.numbers(10, -20, 300, 400)
+    clips = ot.table(bytes([1]), ot.long_numbers(1), 0, 0, ot.Offset(box, 3))
+    one = ot.numbers(1, 17) + ot.long_numbers(4, 0, 9)
+    sizes = ot.long_numbers(56, 24, 1, 0) + bytes(24) + ot.numbers(0, 3) + bytes([20, 24, 32, 1])
+    return ot.font({
+        "head": ot.head(1000, (0, 0, 1, 1)), "maxp": ot.maxp(4, outlines=False),
+        "cmap": ot.cmap({(0, 3): ot.trimmed_mapping({0x61: 1, 0x62: 2, 0x63: 3})}),
+        "COLR": ot.table(1, 0, ot.long_numbers(0, 0), 0, ot.long_numbers(0, 0), ot.Offset(clips, 4), ot.long_numbers(0, 0)),
+        "CBDT": ot.numbers(3, 0) + bytes([20, 22, 1, 18, 30]) + ot.long_numbers(0),
+        "CBLC": ot.numbers(3, 0) + ot.long_numbers(1) + sizes + ot.numbers(2, 2) + ot.long_numbers(8) + one,
+        "sbix": ot.table(1, 1, ot.long_numbers(2), *(ot.Offset(it, 4) for it in (
+            strike(16, picture(3, -4, 20, 24)), strike(40, picture(-7, 9, 37, 41))))),
+    })
+
+
+FONTS = {"colors.ttf": colors, "colors.otf": charstrings, "bitmaps.ttf": bitmaps}

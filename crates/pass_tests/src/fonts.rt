@@ -1,9 +1,8 @@
 //! Texts taken apart with fonts that lack a character, as HarfBuzz's `decompose` takes them apart: a second part has to be
 //! there, and a first part that is not is taken apart too.
 
-ghost use Rattle.std.specs.Prelude.{◌≡◌, false};
-
-use shaping_buffer::{Decompositions, UnicodeBuffer, hb_buffer_t};
+use crate::texts::{assert_characters, buffer_of};
+use shaping_buffer::Decompositions;
 use shaping_passes::normalization::{
     FontCharacters, Parts, add_font_parts, decompose_all, full_with_every_glyph,
 };
@@ -113,13 +112,11 @@ static CASES: [Case; 8] = [
     },
 ];
 
-/// A buffer over a text, with no output open.
-fn buffer_of(rt: &impl Abort, alloc: Global, text: &str) -> hb_buffer_t
-    ensures { result.have_output ≡ false }
-{
-    let mut characters = UnicodeBuffer::new(alloc);
-    assert!(rt; characters.push_str(text) == Ok(true));
-    characters.into_buffer()
+/// Asserts what stands for the first character.
+fn assert_is_taken_apart(rt: &impl Abort, alloc: Global, font: &LacksOne<'_>, case: &Case) {
+    let mut buffer = buffer_of(rt, alloc, case.text);
+    assert!(rt; decompose_all(&mut buffer, font) == Ok(true));
+    assert_characters(rt, alloc, buffer.info(), case.want, case.want);
 }
 
 #[test]
@@ -131,20 +128,7 @@ fn characters_are_taken_apart_as_the_font_has_them(rt: HostRuntime) -> Result<()
             lacked: case.lacked as u32,
             takes_fewest: case.takes_fewest,
         };
-        let mut buffer = buffer_of(&rt, rt.alloc(), case.text);
-        assert!(rt;
-            decompose_all(&mut buffer, &font) == Ok(true),
-            "{}",
-            case.want
-        );
-        assert!(rt;
-            buffer.info().len() == case.want.chars().count(),
-            "{}",
-            case.want
-        );
-        for (glyph, c) in buffer.info().iter().zip(case.want.chars()) {
-            assert!(rt; glyph.glyph_id == c as u32, "{}", case.want);
-        }
+        assert_is_taken_apart(&rt, rt.alloc(), &font, case);
     }
     Ok(())
 }

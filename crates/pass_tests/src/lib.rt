@@ -14,6 +14,8 @@ mod rules;
 #[cfg(test)]
 mod runs;
 #[cfg(test)]
+mod texts;
+#[cfg(test)]
 mod turns;
 #[cfg(test)]
 mod visible;

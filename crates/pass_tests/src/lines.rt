@@ -3,7 +3,6 @@ use shaping_passes::line_ends;
 use shaping_passes::lines::cuts_of_monotone_clusters;
 use std::alloc::{AllocError, Global};
 use std::process::Abort;
-use std::test::Fail;
 
 /// The cluster, the mask and the advance of each glyph, the widths of the lines, and where the lines end.
 struct Case {
@@ -118,50 +117,74 @@ static BY_FLAGS: [Case; 5] = [
     },
 ];
 
-#[test]
-fn lines_end_by_their_widths(rt: HostRuntime) -> Result<(), Fail> {
-    for case in &BY_WIDTH {
+/// The glyphs of a case.
+fn glyphs_of(alloc: Global, case: &Case) -> Result<Vec<hb_glyph_info_t>, AllocError> {
+    let mut glyphs = Vec::new(alloc);
+    for (cluster, mask, _) in case.glyphs {
+        glyphs.push(hb_glyph_info_t {
+            cluster: *cluster,
+            mask: *mask,
+            ..hb_glyph_info_t::default()
+        })?;
+    }
+    Ok(glyphs)
+}
+
+/// Their positions.
+fn positions_of(alloc: Global, case: &Case) -> Result<Vec<GlyphPosition>, AllocError> {
+    let mut positions = Vec::new(alloc);
+    for (_, _, x_advance) in case.glyphs {
+        positions.push(GlyphPosition {
+            x_advance: *x_advance,
+            ..GlyphPosition::default()
+        })?;
+    }
+    Ok(positions)
+}
+
+/// Where lines end.
+fn ends_of(
+    rt: &impl Abort,
+    alloc: Global,
+    glyphs: &[hb_glyph_info_t],
+    positions: &[GlyphPosition],
+    widths: &[i64],
+) -> Result<Vec<usize>, AllocError> {
+    assert!(rt; glyphs.len() == positions.len());
+    line_ends(alloc, glyphs, positions, widths)
+}
+
+/// Whether the lines of a case end where they should.
+fn ends_as_it_should(rt: &impl Abort, alloc: Global, case: &Case) -> Result<bool, AllocError> {
+    let glyphs = glyphs_of(alloc, case)?;
+    let positions = positions_of(alloc, case)?;
+    let ends = ends_of(rt, alloc, &glyphs, &positions, case.widths)?;
+    Ok(ends.as_slice() == case.ends)
+}
+
+/// Asserts where lines end.
+fn assert_ends(rt: &impl Abort, alloc: Global, cases: &[Case]) {
+    for case in cases {
         assert!(rt;
-            ends_of(&rt, rt.alloc(), case)?.as_slice() == case.ends,
+            ends_as_it_should(rt, alloc, case) == Ok(true),
             "{:?}",
             case.ends
         );
     }
-    Ok(())
 }
 
 #[test]
-fn lines_end_where_the_text_may_be_cut(rt: HostRuntime) -> Result<(), Fail> {
-    for case in &BY_FLAGS {
-        assert!(rt;
-            ends_of(&rt, rt.alloc(), case)?.as_slice() == case.ends,
-            "{:?}",
-            case.ends
-        );
-    }
-    Ok(())
+fn lines_end_by_their_widths(rt: HostRuntime) {
+    assert_ends(&rt, rt.alloc(), &BY_WIDTH);
+}
+
+#[test]
+fn lines_end_where_the_text_may_be_cut(rt: HostRuntime) {
+    assert_ends(&rt, rt.alloc(), &BY_FLAGS);
 }
 
 /// The law is a function with nothing to do.
 #[test]
 fn laws_may_be_cited() {
     cuts_of_monotone_clusters();
-}
-
-fn ends_of(rt: &impl Abort, alloc: Global, case: &Case) -> Result<Vec<usize>, AllocError> {
-    let mut glyphs = Vec::new(alloc);
-    let mut positions = Vec::new(alloc);
-    for (cluster, mask, x_advance) in case.glyphs {
-        glyphs.push(hb_glyph_info_t {
-            cluster: *cluster,
-            mask: *mask,
-            ..hb_glyph_info_t::default()
-        })?;
-        positions.push(GlyphPosition {
-            x_advance: *x_advance,
-            ..GlyphPosition::default()
-        })?;
-    }
-    assert!(rt; glyphs.len() == positions.len());
-    line_ends(alloc, &glyphs, &positions, case.widths)
 }

@@ -3,7 +3,8 @@
 
 ghost use Rattle.std.specs.Prelude.{◌≡◌, false};
 
-use shaping_buffer::{CombiningClasses, UnicodeBuffer, hb_buffer_t};
+use crate::texts::buffer_of;
+use shaping_buffer::{CombiningClasses, hb_buffer_t, hb_glyph_info_t};
 use shaping_passes::order_marks;
 use std::alloc::Global;
 use std::process::Abort;
@@ -123,32 +124,58 @@ static ROWS: [Row; 6] = [
 ];
 
 /// The buffer of a row, before the pass.
-fn buffer_of(rt: &impl Abort, alloc: Global, row: &Row) -> hb_buffer_t
+fn buffer_before(rt: &impl Abort, alloc: Global, row: &Row) -> hb_buffer_t
     ensures { result.have_output ≡ false }
 {
-    let mut characters = UnicodeBuffer::new(alloc);
-    assert!(rt; characters.push_str(row.text) == Ok(true));
-    let mut buffer = characters.into_buffer();
+    let mut buffer = buffer_of(rt, alloc, row.text);
     buffer.reset_masks(row.mask);
     buffer.cluster_level = row.level;
     buffer.scratch_flags = row.scratch_flags;
     buffer
 }
 
+/// The buffer of a row, behind the pass.
+fn buffer_after(
+    rt: &impl Abort,
+    alloc: Global,
+    row: &Row,
+    classes: &CombiningClasses<'_>,
+) -> hb_buffer_t {
+    let mut buffer = buffer_before(rt, alloc, row);
+    order_marks(&mut buffer, classes);
+    buffer
+}
+
+/// The number, the cluster and the mask of the glyph at a place.
+fn seen_at(glyphs: &[hb_glyph_info_t], place: usize) -> Option<(u32, u32, u32)> {
+    let glyph = glyphs.get(place)?;
+    Some((glyph.glyph_id, glyph.cluster, glyph.mask))
+}
+
+/// Asserts the glyphs of a row.
+fn assert_glyphs(rt: &impl Abort, glyphs: &[hb_glyph_info_t], row: &Row) {
+    assert!(rt; glyphs.len() == row.want.len(), "{}", row.name);
+    for place in 0..row.want.len() {
+        let (c, cluster, mask) = row.want[place];
+        assert!(rt;
+            seen_at(glyphs, place) == Some((c as u32, cluster, mask)),
+            "{}",
+            row.name
+        );
+    }
+}
+
 #[test]
 fn marks_in_order_are_whole_glyphs(rt: HostRuntime) -> Result<(), Fail> {
     let classes = CombiningClasses::new(&CLASSES).ok_or("rows that rise")?;
     for row in &ROWS {
-        let mut buffer = buffer_of(&rt, rt.alloc(), row);
-        let name = row.name;
-        order_marks(&mut buffer, &classes);
-        assert!(rt; buffer.info().len() == row.want.len(), "{name}");
-        for (glyph, (c, cluster, mask)) in buffer.info().iter().zip(&row.want) {
-            assert!(rt; glyph.glyph_id == *c as u32, "{name}");
-            assert!(rt; glyph.cluster == *cluster, "{name}");
-            assert!(rt; glyph.mask == *mask, "{name}");
-        }
-        assert!(rt; buffer.scratch_flags == row.want_scratch_flags, "{name}");
+        let buffer = buffer_after(&rt, rt.alloc(), row, &classes);
+        assert_glyphs(&rt, buffer.info(), row);
+        assert!(rt;
+            buffer.scratch_flags == row.want_scratch_flags,
+            "{}",
+            row.name
+        );
     }
     Ok(())
 }

@@ -1,8 +1,7 @@
 //! The rows are those of the Unicode Character Database, and the texts those of its `NormalizationTest.txt`.
 
-ghost use Rattle.std.specs.Prelude.{◌≡◌, false};
-
-use shaping_buffer::{CombiningClasses, Compositions, Decompositions, UnicodeBuffer, hb_buffer_t};
+use crate::texts::{assert_characters, assert_clusters, buffer_of};
+use shaping_buffer::{CombiningClasses, Compositions, Decompositions, hb_buffer_t};
 use shaping_passes::{compose_marks, decompose_all, order_marks};
 use std::alloc::Global;
 use std::process::Abort;
@@ -56,21 +55,9 @@ static TEXTS: [(&str, &str, &str); 7] = [
     ("D\u{301}\u{307}", "D\u{301}\u{307}", "D\u{301}\u{307}"),
 ];
 
-/// A buffer over a text, with no output open.
-fn buffer_of(rt: &impl Abort, alloc: Global, text: &str) -> hb_buffer_t
-    ensures { result.have_output ≡ false }
-{
-    let mut characters = UnicodeBuffer::new(alloc);
-    assert!(rt; characters.push_str(text) == Ok(true));
-    characters.into_buffer()
-}
-
-/// Asserts which characters stand in the list.
-fn assert_characters(rt: &impl Abort, buffer: &hb_buffer_t, want: &str) {
-    assert!(rt; buffer.info().len() == want.chars().count());
-    for (glyph, c) in buffer.info().iter().zip(want.chars()) {
-        assert!(rt; glyph.glyph_id == c as u32, "{want}");
-    }
+/// Asserts which characters stand in a buffer.
+fn assert_text(rt: &impl Abort, alloc: Global, buffer: &hb_buffer_t, want: &str) {
+    assert_characters(rt, alloc, buffer.info(), want, want);
 }
 
 /// Takes a text apart.
@@ -105,9 +92,9 @@ fn texts_are_normalized(rt: HostRuntime) -> Result<(), Fail> {
         let mut buffer = buffer_of(&rt, rt.alloc(), text);
         decompose(&rt, &mut buffer, &decompositions);
         order(&rt, &mut buffer, &classes);
-        assert_characters(&rt, &buffer, apart);
+        assert_text(&rt, rt.alloc(), &buffer, apart);
         compose(&rt, &mut buffer, &compositions, &classes);
-        assert_characters(&rt, &buffer, composed);
+        assert_text(&rt, rt.alloc(), &buffer, composed);
     }
     Ok(())
 }
@@ -119,7 +106,7 @@ fn circles_end(rt: HostRuntime) -> Result<(), Fail> {
     let decompositions = Decompositions::new(&rows).ok_or("rows that rise")?;
     let mut buffer = buffer_of(&rt, rt.alloc(), "a");
     decompose(&rt, &mut buffer, &decompositions);
-    assert_characters(&rt, &buffer, "ayxyxyxyx");
+    assert_text(&rt, rt.alloc(), &buffer, "ayxyxyxyx");
     Ok(())
 }
 
@@ -129,10 +116,8 @@ fn clusters_merge(rt: HostRuntime) -> Result<(), Fail> {
     let classes = CombiningClasses::new(&CLASSES).ok_or("rows that rise")?;
     let mut buffer = buffer_of(&rt, rt.alloc(), "s\u{307}\u{323}s\u{323}");
     order(&rt, &mut buffer, &classes);
-    assert_characters(&rt, &buffer, "s\u{323}\u{307}s\u{323}");
-    for (glyph, cluster) in buffer.info().iter().zip(&[0, 1, 1, 5, 6]) {
-        assert!(rt; glyph.cluster == *cluster);
-    }
+    assert_text(&rt, rt.alloc(), &buffer, "s\u{323}\u{307}s\u{323}");
+    assert_clusters(&rt, buffer.info(), &[0, 1, 1, 5, 6]);
     Ok(())
 }
 
@@ -143,9 +128,7 @@ fn clusters_of_pairs_merge(rt: HostRuntime) -> Result<(), Fail> {
     let classes = CombiningClasses::new(&CLASSES).ok_or("rows that rise")?;
     let mut buffer = buffer_of(&rt, rt.alloc(), "ba\u{5ae}\u{300}b");
     compose(&rt, &mut buffer, &compositions, &classes);
-    assert_characters(&rt, &buffer, "b\u{e0}\u{5ae}b");
-    for (glyph, cluster) in buffer.info().iter().zip(&[0, 1, 1, 6]) {
-        assert!(rt; glyph.cluster == *cluster);
-    }
+    assert_text(&rt, rt.alloc(), &buffer, "b\u{e0}\u{5ae}b");
+    assert_clusters(&rt, buffer.info(), &[0, 1, 1, 6]);
     Ok(())
 }

@@ -1,8 +1,7 @@
 //! Runs of marks: where one ends, and what one becomes whose marks are put in order (the Unicode Standard, section 3.11).
 
-ghost use Rattle.std.specs.Prelude.{◌≡◌, false};
-
-use shaping_buffer::{CombiningClasses, UnicodeBuffer, hb_buffer_t, hb_glyph_info_t};
+use crate::texts::{assert_characters, buffer_of};
+use shaping_buffer::{CombiningClasses, hb_buffer_t, hb_glyph_info_t};
 use shaping_passes::normalization::{MOST_MARKS, MarkClasses, order_run, run_end};
 use shaping_passes::order_marks;
 use std::alloc::Global;
@@ -81,23 +80,6 @@ impl MarkClasses for First<'_> {
     }
 }
 
-/// A buffer over a text, with no output open.
-fn buffer_of(rt: &impl Abort, alloc: Global, text: &str) -> hb_buffer_t
-    ensures { result.have_output ≡ false }
-{
-    let mut characters = UnicodeBuffer::new(alloc);
-    assert!(rt; characters.push_str(text) == Ok(true));
-    characters.into_buffer()
-}
-
-/// Asserts which characters stand in the list.
-fn assert_characters(rt: &impl Abort, buffer: &hb_buffer_t, want: &str, name: &str) {
-    assert!(rt; buffer.info().len() == want.chars().count(), "{name}");
-    for (glyph, c) in buffer.info().iter().zip(want.chars()) {
-        assert!(rt; glyph.glyph_id == c as u32, "{name}");
-    }
-}
-
 /// Puts the run from one place to another in order.
 fn order<C: MarkClasses>(
     rt: &impl Abort,
@@ -131,7 +113,7 @@ fn runs_are_put_in_order(rt: HostRuntime) -> Result<(), Fail> {
     for row in &ROWS {
         let mut buffer = buffer_of(&rt, rt.alloc(), row.text);
         order(&rt, &mut buffer, &classes, row.start, row.end);
-        assert_characters(&rt, &buffer, row.want, row.name);
+        assert_characters(&rt, rt.alloc(), buffer.info(), row.want, row.name);
     }
     Ok(())
 }
@@ -146,24 +128,44 @@ fn a_shaper_may_have_its_own_classes(rt: HostRuntime) -> Result<(), Fail> {
     };
     let mut buffer = buffer_of(&rt, rt.alloc(), "a\u{323}\u{301}\u{315}");
     order(&rt, &mut buffer, &first, 1, 4);
-    assert_characters(&rt, &buffer, "a\u{315}\u{323}\u{301}", "the last mark");
+    let wanted = "a\u{315}\u{323}\u{301}";
+    assert_characters(&rt, rt.alloc(), buffer.info(), wanted, "the last mark");
     Ok(())
+}
+
+/// Eight marks.
+const ACUTES: &str = "\u{301}\u{301}\u{301}\u{301}\u{301}\u{301}\u{301}\u{301}";
+
+const BELOW: &str = "\u{323}";
+
+/// Asserts that `order_marks` leaves a run as it is.
+fn assert_stays(rt: &impl Abort, alloc: Global, classes: &CombiningClasses<'_>, long: &str) {
+    let mut buffer = buffer_of(rt, alloc, long);
+    assert!(rt; buffer.info().len() == MOST_MARKS + 1);
+    order_marks(&mut buffer, classes);
+    assert_characters(rt, alloc, buffer.info(), long, "a long run");
+}
+
+/// Asserts that `order_run` puts a run of 33 marks in order.
+fn assert_is_put_in_order(
+    rt: &impl Abort,
+    alloc: Global,
+    classes: &CombiningClasses<'_>,
+    long: &str,
+    want: &str,
+) {
+    let mut buffer = buffer_of(rt, alloc, long);
+    order(rt, &mut buffer, classes, 0, 33);
+    assert_characters(rt, alloc, buffer.info(), want, "one that is put in order");
 }
 
 /// A run of 33 marks is put in order by `order_run`, and stays as it is in a text that `order_marks` puts in order.
 #[test]
 fn long_runs_stay_as_they_are(rt: HostRuntime) -> Result<(), Fail> {
-    const ACUTES: &str = "\u{301}\u{301}\u{301}\u{301}\u{301}\u{301}\u{301}\u{301}";
     let classes = CombiningClasses::new(&CLASSES).ok_or("rows that rise")?;
-    let below = "\u{323}";
-    let long = format!(in rt.alloc(); "{ACUTES}{ACUTES}{ACUTES}{ACUTES}{below}")?;
-    let in_order = format!(in rt.alloc(); "{below}{ACUTES}{ACUTES}{ACUTES}{ACUTES}")?;
-    let mut buffer = buffer_of(&rt, rt.alloc(), &long);
-    assert!(rt; buffer.info().len() == MOST_MARKS + 1);
-    assert!(rt; !buffer.have_output());
-    order_marks(&mut buffer, &classes);
-    assert_characters(&rt, &buffer, &long, "a long run");
-    order(&rt, &mut buffer, &classes, 0, 33);
-    assert_characters(&rt, &buffer, &in_order, "one that is put in order");
+    let long = format!(in rt.alloc(); "{ACUTES}{ACUTES}{ACUTES}{ACUTES}{BELOW}")?;
+    let in_order = format!(in rt.alloc(); "{BELOW}{ACUTES}{ACUTES}{ACUTES}{ACUTES}")?;
+    assert_stays(&rt, rt.alloc(), &classes, &long);
+    assert_is_put_in_order(&rt, rt.alloc(), &classes, &long, &in_order);
     Ok(())
 }

@@ -4,7 +4,8 @@
 ghost use Rattle.std.specs.Prelude.{◌≡◌, IsTrue, true};
 ghost use Rattle.shaping_passes.specs.NormalizationComposition.{IsPlace};
 
-use shaping_buffer::{CombiningClasses, Compositions, UnicodeBuffer, hb_buffer_t};
+use crate::texts::{assert_characters, buffer_of};
+use shaping_buffer::{CombiningClasses, Compositions, hb_buffer_t};
 use shaping_passes::normalization::{CharacterPairs, MarkClasses, next_turn};
 use std::alloc::Global;
 use std::process::Abort;
@@ -109,14 +110,28 @@ fn turn<P: CharacterPairs, C: MarkClasses>(
 }
 
 /// A buffer over a text, with an output open.
-fn buffer_of(rt: &impl Abort, alloc: Global, text: &str) -> hb_buffer_t
-    ensures { result.have_output ≡ true }
-{
-    let mut characters = UnicodeBuffer::new(alloc);
-    assert!(rt; characters.push_str(text) == Ok(true));
-    let mut buffer = characters.into_buffer();
+fn opened(rt: &impl Abort, alloc: Global, text: &str) -> hb_buffer_t {
+    let mut buffer = buffer_of(rt, alloc, text);
     buffer.clear_output();
     buffer
+}
+
+/// Asserts what each character of a row gives.
+fn assert_turns(
+    rt: &impl Abort,
+    alloc: Global,
+    row: &Row,
+    compositions: &Compositions<'_>,
+    classes: &CombiningClasses<'_>,
+) {
+    let mut buffer = opened(rt, alloc, row.text);
+    let mut starter = None;
+    for (place, want) in row.turns {
+        starter = turn(rt, &mut buffer, compositions, classes, starter);
+        assert!(rt; starter == *place, "{}", row.name);
+        assert_characters(rt, alloc, buffer.out_info(), want, row.name);
+    }
+    assert!(rt; buffer.lookahead_len() == 0, "{}", row.name);
 }
 
 #[test]
@@ -124,18 +139,7 @@ fn characters_are_composed_one_after_the_other(rt: HostRuntime) -> Result<(), Fa
     let compositions = Compositions::new(&COMPOSITIONS).ok_or("rows that rise")?;
     let classes = CombiningClasses::new(&CLASSES).ok_or("rows that rise")?;
     for row in &ROWS {
-        let name = row.name;
-        let mut buffer = buffer_of(&rt, rt.alloc(), row.text);
-        let mut starter = None;
-        for (place, want) in row.turns {
-            starter = turn(&rt, &mut buffer, &compositions, &classes, starter);
-            assert!(rt; starter == *place, "{name}");
-            assert!(rt; buffer.out_info().len() == want.chars().count(), "{name}");
-            for (glyph, c) in buffer.out_info().iter().zip(want.chars()) {
-                assert!(rt; glyph.glyph_id == c as u32, "{name}");
-            }
-        }
-        assert!(rt; buffer.lookahead_len() == 0, "{name}");
+        assert_turns(&rt, rt.alloc(), row, &compositions, &classes);
     }
     Ok(())
 }

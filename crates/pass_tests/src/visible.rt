@@ -1,51 +1,59 @@
 ghost use Rattle.std.specs.Prelude.{◌≡◌, false};
 
-use shaping_buffer::{BufferFlags, Flags, GlyphId, UnicodeBuffer, UnicodeProps, hb_buffer_t};
+use crate::texts::{assert_characters, buffer_of};
+use shaping_buffer::{BufferFlags, Flags, GlyphId, UnicodeProps, hb_buffer_t, hb_glyph_info_t};
 use shaping_passes::hide_default_ignorables;
 use std::alloc::Global;
 use std::process::Abort;
 
-/// The buffer's flags, its invisible glyph, and the ids that are left of a, U+200D ZERO WIDTH JOINER and b.
-static CASES: [(BufferFlags, Option<GlyphId>, &[u32]); 4] = [
-    (BufferFlags::DEFINED, Some(GlyphId(3)), &[97, 0x200D, 98]),
-    (
-        BufferFlags::BEGINNING_OF_TEXT,
-        Some(GlyphId(3)),
-        &[97, 3, 98],
-    ),
-    (BufferFlags::BEGINNING_OF_TEXT, None, &[97, 98]),
+/// The buffer's flags, its invisible glyph, and what is left of a, U+200D ZERO WIDTH JOINER and b.
+static CASES: [(BufferFlags, Option<GlyphId>, &str); 4] = [
+    (BufferFlags::DEFINED, Some(GlyphId(3)), "a\u{200d}b"),
+    (BufferFlags::BEGINNING_OF_TEXT, Some(GlyphId(3)), "a\u{3}b"),
+    (BufferFlags::BEGINNING_OF_TEXT, None, "ab"),
     (
         BufferFlags::REMOVE_DEFAULT_IGNORABLES,
         Some(GlyphId(3)),
-        &[97, 98],
+        "ab",
     ),
 ];
 
 #[test]
 fn ignorables_are_hidden(rt: HostRuntime) {
-    for (flags, invisible, ids) in &CASES {
-        let mut buffer = joined_letters(&rt, rt.alloc());
-        buffer.flags = *flags;
-        buffer.invisible = *invisible;
-        hide_default_ignorables(&mut buffer);
-        assert!(rt; buffer.info().len() == ids.len(), "{ids:?}");
-        for (glyph, id) in buffer.info().iter().zip(*ids) {
-            assert!(rt; glyph.glyph_id == *id, "{ids:?}");
-        }
+    for (flags, invisible, want) in &CASES {
+        let buffer = hidden(&rt, rt.alloc(), *flags, *invisible);
+        assert_characters(&rt, rt.alloc(), buffer.info(), want, want);
     }
+}
+
+/// The letters once ignorables are hidden.
+fn hidden(
+    rt: &impl Abort,
+    alloc: Global,
+    flags: BufferFlags,
+    invisible: Option<GlyphId>,
+) -> hb_buffer_t {
+    let mut buffer = joined_letters(rt, alloc);
+    buffer.flags = flags;
+    buffer.invisible = invisible;
+    hide_default_ignorables(&mut buffer);
+    buffer
 }
 
 /// The two letters with a joiner between them, which is marked as ignorable.
 fn joined_letters(rt: &impl Abort, alloc: Global) -> hb_buffer_t
     ensures { result.have_output ≡ false }
 {
-    let mut characters = UnicodeBuffer::new(alloc);
-    assert!(rt; characters.push_str("a\u{200D}b") == Ok(true));
-    let mut buffer = characters.into_buffer();
-    for glyph in buffer.info_slice_mut().iter_mut() {
+    let mut buffer = buffer_of(rt, alloc, "a\u{200D}b");
+    mark_joiners(buffer.info_slice_mut());
+    buffer
+}
+
+/// Marks joiners as ignorable.
+fn mark_joiners(glyphs: &mut [hb_glyph_info_t]) {
+    for glyph in glyphs.iter_mut() {
         if glyph.glyph_id == 0x200D {
             glyph.set_unicode_props(UnicodeProps::IGNORABLE.bits());
         }
     }
-    buffer
 }

@@ -2,7 +2,9 @@
 
 use crate::texts::{TestFont, assert_characters, buffer_of, plan_of};
 use script_shapers::ScriptShaper;
-use std::test::Fail;
+use shaping_buffer::hb_buffer_t;
+use std::alloc::Global;
+use std::process::Abort;
 
 /// A font with jamo, syllables and tone marks, of which one has no width.
 const FONT: TestFont = TestFont {
@@ -11,21 +13,27 @@ const FONT: TestFont = TestFont {
     without_width: 0x302F,
 };
 
+/// Characters and their clusters.
+static WANTED: [(u32, u32); 6] = [
+    (0xAC00, 0),
+    (0x302F, 3),
+    (0x302E, 6),
+    (0x25CC, 6),
+    (0x25CC, 9),
+    (0x302F, 9),
+];
+
+/// The text as it is prepared for shaping.
+fn prepared(rt: &impl Abort, alloc: Global, text: &str) -> hb_buffer_t {
+    let mut buffer = buffer_of(rt, alloc, text);
+    let done = plan_of(ScriptShaper::Hangul).preprocess_text(&mut buffer, &FONT);
+    assert!(rt; done == Ok(true));
+    buffer
+}
+
 /// A tone mark with no width stays behind its syllable, and without one behind the dotted circle that it stands on.
 #[test]
-fn tone_marks_without_width(rt: HostRuntime) -> Result<(), Fail> {
-    let mut buffer = buffer_of(&rt, rt.alloc(), "\u{ac00}\u{302f}\u{302e}\u{302f}");
-    assert!(rt; !buffer.have_output());
-    let done = plan_of(ScriptShaper::Hangul).preprocess_text(&mut buffer, &FONT)?;
-    assert!(rt; done);
-    let want = [
-        (0xAC00, 0),
-        (0x302F, 3),
-        (0x302E, 6),
-        (0x25CC, 6),
-        (0x25CC, 9),
-        (0x302F, 9),
-    ];
-    assert_characters(&rt, &buffer, &want);
-    Ok(())
+fn tone_marks_without_width(rt: HostRuntime) {
+    let buffer = prepared(&rt, rt.alloc(), "\u{ac00}\u{302f}\u{302e}\u{302f}");
+    assert_characters(&rt, buffer.info(), &WANTED);
 }

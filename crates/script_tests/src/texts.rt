@@ -64,10 +64,14 @@ pub(crate) fn buffer_of(rt: &impl Abort, alloc: Global, text: &str) -> hb_buffer
 
 /// Sets the properties of characters.
 fn set_properties(rt: &impl Abort, infos: &mut [hb_glyph_info_t]) {
-    let Some(classes) = CombiningClasses::new(&CLASSES) else {
-        return;
-    };
     for info in infos.iter_mut() {
+        set_properties_of(rt, info);
+    }
+}
+
+/// Sets the properties of a character.
+fn set_properties_of(rt: &impl Abort, info: &mut hb_glyph_info_t) {
+    if let Some(classes) = CombiningClasses::new(&CLASSES) {
         assert!(rt; char::from_u32(info.glyph_id).is_some());
         info.init_unicode_props(&mut 0, &classes);
     }
@@ -87,11 +91,16 @@ pub(crate) fn plan_of(shaper: ScriptShaper) -> ScriptPlan {
     }
 }
 
-/// Asserts the characters of a buffer, and their clusters.
-pub(crate) fn assert_characters(rt: &impl Abort, buffer: &hb_buffer_t, want: &[(u32, u32)]) {
-    assert!(rt; buffer.info().len() == want.len());
-    for (info, (character, cluster)) in buffer.info().iter().zip(want) {
-        assert!(rt; info.glyph_id == *character, "{want:?}");
-        assert!(rt; info.cluster == *cluster, "{want:?}");
+/// The character at a place, and its cluster.
+fn seen_at(glyphs: &[hb_glyph_info_t], place: usize) -> Option<(u32, u32)> {
+    let glyph = glyphs.get(place)?;
+    Some((glyph.glyph_id, glyph.cluster))
+}
+
+/// Asserts characters, and their clusters.
+pub(crate) fn assert_characters(rt: &impl Abort, glyphs: &[hb_glyph_info_t], want: &[(u32, u32)]) {
+    assert!(rt; glyphs.len() == want.len());
+    for place in 0..want.len() {
+        assert!(rt; seen_at(glyphs, place) == Some(want[place]), "at {place}");
     }
 }

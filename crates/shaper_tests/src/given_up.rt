@@ -27,15 +27,20 @@ fn is_unsafe(buffer: &hb_buffer_t, place: usize) -> bool {
     }
 }
 
+/// Which of the three characters a line may not be broken before.
+fn unsafe_in(alloc: Global, is_given_up: bool) -> Result<[bool; 3], AllocError> {
+    let mut buffer = line_of(alloc, is_given_up)?;
+    mark_given_up(&mut buffer);
+    Ok([
+        is_unsafe(&buffer, 0),
+        is_unsafe(&buffer, 1),
+        is_unsafe(&buffer, 2),
+    ])
+}
+
 /// All clusters but the first are unsafe to break.
 #[test]
-fn a_text_that_is_given_up(rt: HostRuntime) -> Result<(), AllocError> {
-    for is_given_up in [false, true] {
-        let mut buffer = line_of(rt.alloc(), is_given_up)?;
-        mark_given_up(&mut buffer);
-        assert!(rt; !is_unsafe(&buffer, 0));
-        assert!(rt; is_unsafe(&buffer, 1) == is_given_up);
-        assert!(rt; is_unsafe(&buffer, 2) == is_given_up);
-    }
-    Ok(())
+fn a_text_that_is_given_up(rt: HostRuntime) {
+    assert!(rt; unsafe_in(rt.alloc(), false) == Ok([false; 3]));
+    assert!(rt; unsafe_in(rt.alloc(), true) == Ok([false, true, true]));
 }

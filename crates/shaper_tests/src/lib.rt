@@ -3,8 +3,6 @@
 #![tactic(auto)]
 
 #[cfg(test)]
-mod color;
-#[cfg(test)]
 mod face;
 #[cfg(test)]
 mod given_up;

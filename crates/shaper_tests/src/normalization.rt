@@ -1,8 +1,8 @@
 //! What is kept of characters that are normalized with a font.
 
-ghost use Rattle.std.specs.Prelude.{◌≡◌, true, false, IfOk};
+ghost use Rattle.std.specs.Prelude.{◌≡◌, false};
 
-use crate::upright::UPRIGHT;
+use crate::upright::upright;
 use ot_normalization::glyph_info::{
     clear_variation_selector, general_category, is_continuation, is_nonspacing_mark,
     is_unicode_mark, is_unicode_space, is_variation_selector, modified_combining_class,
@@ -13,7 +13,7 @@ use ot_shape::{Face, OwnFunctions};
 use rb_common::GlyphId;
 use script_shapers::{ScriptPlan, ScriptShaper};
 use shaping_buffer::{BufferClusterLevel, UnicodeBuffer, hb_buffer_t, hb_glyph_info_t};
-use std::alloc::{AllocError, Global};
+use std::alloc::Global;
 use std::process::Abort;
 use std::test::Fail;
 
@@ -52,6 +52,25 @@ fn plan() -> ScriptPlan {
     }
 }
 
+/// The general category, the combining class, and whether it is a mark, one without width, and one that continues what stands before it.
+fn mark_of(info: &hb_glyph_info_t) -> (u32, u16, [bool; 3]) {
+    let marks = [
+        is_unicode_mark(info),
+        is_nonspacing_mark(info),
+        is_continuation(info),
+    ];
+    (
+        general_category(info),
+        modified_combining_class(info),
+        marks,
+    )
+}
+
+/// Whether it is a space, and of which width.
+fn space_of(info: &hb_glyph_info_t) -> (bool, u8) {
+    (is_unicode_space(info), space_fallback(info))
+}
+
 /// Asserts what is kept of a letter, a mark and a space.
 fn assert_kept(
     rt: &impl Abort,
@@ -59,37 +78,16 @@ fn assert_kept(
     mark: &hb_glyph_info_t,
     space: &hb_glyph_info_t,
 ) {
-    assert_eq!(rt; (general_category(letter), general_category(mark)), (5, 12));
-    assert!(rt; is_unicode_mark(mark) && is_nonspacing_mark(mark) && is_continuation(mark));
-    assert!(rt;
-        !is_unicode_mark(letter) && !is_nonspacing_mark(letter) && !is_continuation(letter)
-    );
-    assert_eq!(rt;
-        (
-            modified_combining_class(letter),
-            modified_combining_class(mark)
-        ),
-        (0, 230)
-    );
-    assert!(rt; is_unicode_space(space) && !is_unicode_space(letter));
-    assert_eq!(rt; (space_fallback(space), space_fallback(letter)), (1, 0));
+    assert!(rt; mark_of(letter) == (5, 0, [false; 3]));
+    assert!(rt; mark_of(mark) == (12, 230, [true; 3]));
+    assert!(rt; space_of(letter) == (false, 0));
+    assert!(rt; space_of(space) == (true, 1));
 }
 
-/// Sets the combining class of a letter and of a mark: a letter has none.
-fn assert_classes_are_set(
-    rt: &impl Abort,
-    letter: &mut hb_glyph_info_t,
-    mark: &mut hb_glyph_info_t,
-) {
-    set_modified_combining_class(letter, 220);
-    set_modified_combining_class(mark, 220);
-    assert_eq!(rt;
-        (
-            modified_combining_class(letter),
-            modified_combining_class(mark)
-        ),
-        (0, 220)
-    );
+/// The combining class after it was set.
+fn class_set(info: &mut hb_glyph_info_t, class: u16) -> u16 {
+    set_modified_combining_class(info, class);
+    modified_combining_class(info)
 }
 
 /// A variation selector becomes a mark.
@@ -101,43 +99,49 @@ fn assert_selector_is_cleared(rt: &impl Abort, selector: &mut hb_glyph_info_t) {
 
 /// Asserts what is kept of the five characters of a text, and what may be set.
 fn assert_properties(rt: &impl Abort, infos: &mut [hb_glyph_info_t]) {
-    assert_eq!(rt; infos.len(), 5);
+    assert!(rt; infos.len() == 5);
     if let [letter, mark, space, _, selector] = infos {
         assert_kept(rt, letter, mark, space);
-        assert_classes_are_set(rt, letter, mark);
+        assert!(rt; class_set(letter, 220) == 0, "a letter has no class");
+        assert!(rt; class_set(mark, 220) == 220);
         assert_selector_is_cleared(rt, selector);
     }
 }
 
-/// Normalizes characters with the font's own functions.
-fn normalize_by(face: &Face, buffer: &mut hb_buffer_t) -> Result<bool, AllocError>
-    requires { buffer.old.have_output ≡ false }
-    ensures { IfOk result (λ done. done ≡ true → buffer.new.have_output ≡ false) }
-{
-    normalize(buffer, &OwnFunctions { face }, &plan())
+/// A text that is normalized with the font's own functions.
+fn normalized(rt: &impl Abort, alloc: Global, face: &Face, text: &str) -> hb_buffer_t {
+    let mut buffer = buffer_of(rt, alloc, text);
+    assert!(rt; normalize(&mut buffer, &OwnFunctions { face }, &plan()) == Ok(true));
+    buffer
 }
 
 /// A mark, a space, and a variation selector that the font does not know.
 #[test]
 fn properties_are_kept(rt: HostRuntime) -> Result<(), Fail> {
-    let face = Face::parse(rt.alloc(), UPRIGHT, 0)?.ok_or("no font")?;
-    let mut buffer = buffer_of(&rt, rt.alloc(), "a\u{301}\u{2003}b\u{fe01}");
-    assert!(rt; normalize_by(&face, &mut buffer)?);
+    let face = upright(rt.alloc())?;
+    let mut buffer = normalized(&rt, rt.alloc(), &face, "a\u{301}\u{2003}b\u{fe01}");
+    assert!(rt; !buffer.have_output());
     assert_properties(&rt, buffer.info_slice_mut());
     Ok(())
 }
 
-/// The levels at which clusters stay in order.
+/// The levels at which clusters stay in order, and the one at which they need not.
+static LEVELS: [(BufferClusterLevel, bool); 3] = [
+    (BufferClusterLevel::MonotoneGraphemes, false),
+    (BufferClusterLevel::MonotoneCharacters, false),
+    (BufferClusterLevel::Characters, true),
+];
+
+/// Whether clusters may stand in any order at a level.
+fn is_any_order(alloc: Global, level: BufferClusterLevel) -> bool {
+    let mut text = UnicodeBuffer::new(alloc);
+    text.set_cluster_level(level);
+    allows_any_order(&text.into_buffer())
+}
+
 #[test]
-fn clusters_may_stand_in_any_order(rt: HostRuntime) -> Result<(), Fail> {
-    for (level, wanted) in [
-        (BufferClusterLevel::MonotoneGraphemes, false),
-        (BufferClusterLevel::MonotoneCharacters, false),
-        (BufferClusterLevel::Characters, true),
-    ] {
-        let mut text = UnicodeBuffer::new(rt.alloc());
-        text.set_cluster_level(level);
-        assert_eq!(rt; allows_any_order(&text.into_buffer()), wanted, "{wanted}");
+fn clusters_may_stand_in_any_order(rt: HostRuntime) {
+    for (level, wanted) in &LEVELS {
+        assert!(rt; is_any_order(rt.alloc(), *level) == *wanted, "{wanted}");
     }
-    Ok(())
 }

@@ -1,7 +1,16 @@
 //! The bytes of `fonts/upright.otf`, which `tools/make_fonts` writes: a, b and c with advances of 410, 420 and 430, vertical
 //! advances, vertical origins and charstrings.
 
-pub(crate) static UPRIGHT: &[u8] = b"\
+use ot_shape::Face;
+use std::alloc::Global;
+use std::test::Fail;
+
+/// The font.
+pub(crate) fn upright(alloc: Global) -> Result<Face<'static>, Fail> {
+    Ok(Face::parse(alloc, UPRIGHT, 0)?.ok_or("no font")?)
+}
+
+static UPRIGHT: &[u8] = b"\
     \x4f\x54\x54\x4f\x00\x0d\x00\x80\x00\x03\x00\x50\x43\x46\x46\x20\x00\x2a\x05\x4f\x00\x00\x00\xdc\x00\x00\x01\
     \x04\x47\x53\x55\x42\xba\xfc\xbf\x06\x00\x00\x01\xe0\x00\x00\x00\x46\x4f\x53\x2f\x32\x5b\x4b\x62\x23\x00\x00\
     \x02\x28\x00\x00\x00\x60\x56\x4f\x52\x47\x03\x57\x03\x71\x00\x00\x02\x88\x00\x00\x00\x0c\x63\x6d\x61\x70\x00\

@@ -1,18 +1,18 @@
 //! Glyphs that are verified.
 
-use crate::upright::UPRIGHT;
-use ot_shape::{Face, ShapeError, VerifyError, shape};
+use crate::upright::upright;
+use ot_shape::{ShapeError, VerifyError, shape};
 use shaping_buffer::{BufferFlags, Direction, Flags, GlyphBuffer, UnicodeBuffer, hb_buffer_t};
 use shaping_verification::{Original, ShapesParts, verify};
-use std::alloc::Global;
+use std::alloc::{AllocError, Global};
 use std::test::Fail;
 
-/// A text that runs in a direction.
-fn text_of(alloc: Global, text: &str, direction: Direction) -> Result<UnicodeBuffer, Fail> {
+/// A text that runs to the right.
+fn text_of(alloc: Global, text: &str) -> Result<UnicodeBuffer, AllocError> {
     let mut buffer = UnicodeBuffer::new(alloc);
     let _ = buffer.push_str(text)?;
     buffer.reset_clusters();
-    buffer.set_direction(direction);
+    buffer.set_direction(Direction::LeftToRight);
     Ok(buffer)
 }
 
@@ -33,18 +33,19 @@ impl ShapesParts for Unshaped {
     }
 }
 
+/// What is told of the glyphs of a text by parts of it that are not shaped.
+fn told(alloc: Global, glyphs: &GlyphBuffer, text: UnicodeBuffer) -> Result<(), ShapeError> {
+    let original = Original::of(alloc, &text.into_buffer())?;
+    verify(alloc, &Unshaped, &original, glyphs)
+}
+
 /// Parts of a text that have other glyphs than the whole, which is not marked.
 #[test]
 fn a_text_that_is_not_safe_to_cut_is_told(rt: HostRuntime) -> Result<(), Fail> {
-    let face = Face::parse(rt.alloc(), UPRIGHT, 0)?.ok_or("no font")?;
-    let whole = text_of(rt.alloc(), "ab", Direction::LeftToRight)?;
-    let glyphs = shape(&face, &[], whole)?;
-    let buffer = text_of(rt.alloc(), "ab", Direction::LeftToRight)?.into_buffer();
-    let original = Original::of(rt.alloc(), &buffer)?;
-    let error = verify(rt.alloc(), &Unshaped, &original, &glyphs)
-        .err()
-        .ok_or("verified")?;
-    assert!(rt; error == ShapeError::Unverified(VerifyError::UnsafeToBreak));
+    let face = upright(rt.alloc())?;
+    let glyphs = shape(&face, &[], text_of(rt.alloc(), "ab")?)?;
+    let error = told(rt.alloc(), &glyphs, text_of(rt.alloc(), "ab")?).err();
+    assert!(rt; error == Some(ShapeError::Unverified(VerifyError::UnsafeToBreak)));
     Ok(())
 }
 
@@ -52,10 +53,10 @@ fn a_text_that_is_not_safe_to_cut_is_told(rt: HostRuntime) -> Result<(), Fail> {
 /// concatenate.
 #[test]
 fn a_text_that_is_not_safe_to_put_together_is_told(rt: HostRuntime) -> Result<(), Fail> {
-    let face = Face::parse(rt.alloc(), UPRIGHT, 0)?.ok_or("no font")?;
-    let mut buffer = text_of(rt.alloc(), "\u{1100}a\u{1161}", Direction::LeftToRight)?;
-    buffer.set_flags(verified());
-    let error = shape(&face, &[], buffer).err().ok_or("verified")?;
-    assert!(rt; error == ShapeError::Unverified(VerifyError::UnsafeToConcat));
+    let face = upright(rt.alloc())?;
+    let mut text = text_of(rt.alloc(), "\u{1100}a\u{1161}")?;
+    text.set_flags(verified());
+    let error = shape(&face, &[], text).err();
+    assert!(rt; error == Some(ShapeError::Unverified(VerifyError::UnsafeToConcat)));
     Ok(())
 }

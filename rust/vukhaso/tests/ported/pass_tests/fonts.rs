@@ -4,7 +4,8 @@
 //! there, and a first part that is not is taken apart too.
 
 use crate::Fail;
-use vukhaso::internals::buffer::{Decompositions, UnicodeBuffer, hb_buffer_t};
+use crate::pass_tests::texts::{assert_characters, buffer_of};
+use vukhaso::internals::buffer::Decompositions;
 use vukhaso::internals::passes::normalization::{
     FontCharacters, Parts, add_font_parts, decompose_all,
 };
@@ -111,11 +112,11 @@ static CASES: [Case; 8] = [
     },
 ];
 
-/// A buffer over a text, with no output open.
-fn buffer_of(text: &str) -> hb_buffer_t {
-    let mut characters = UnicodeBuffer::new();
-    assert!(characters.push_str(text) == Ok(true));
-    characters.into_buffer()
+/// Asserts what stands for the first character.
+fn assert_is_taken_apart(font: &LacksOne<'_>, case: &Case) {
+    let mut buffer = buffer_of(case.text);
+    assert!(decompose_all(&mut buffer, font) == Ok(true));
+    assert_characters(buffer.info(), case.want, case.want);
 }
 
 #[test]
@@ -127,20 +128,7 @@ fn characters_are_taken_apart_as_the_font_has_them() -> Result<(), Fail> {
             lacked: case.lacked as u32,
             takes_fewest: case.takes_fewest,
         };
-        let mut buffer = buffer_of(case.text);
-        assert!(
-            decompose_all(&mut buffer, &font) == Ok(true),
-            "{}",
-            case.want
-        );
-        assert!(
-            buffer.info().len() == case.want.chars().count(),
-            "{}",
-            case.want
-        );
-        for (glyph, c) in buffer.info().iter().zip(case.want.chars()) {
-            assert!(glyph.glyph_id == c as u32, "{}", case.want);
-        }
+        assert_is_taken_apart(&font, case);
     }
     Ok(())
 }

@@ -1,6 +1,5 @@
 // Written by tools/plain_rust from crates/pass_tests. Do not edit.
 
-use crate::Fail;
 use vukhaso::internals::buffer::{GlyphPosition, hb_glyph_info_t};
 use vukhaso::internals::passes::line_ends;
 use vukhaso::memory::{AllocError, Vec};
@@ -118,40 +117,66 @@ static BY_FLAGS: [Case; 5] = [
     },
 ];
 
-#[test]
-fn lines_end_by_their_widths() -> Result<(), Fail> {
-    for case in &BY_WIDTH {
-        assert!(ends_of(case)?.as_slice() == case.ends, "{:?}", case.ends);
-    }
-    Ok(())
-}
-
-#[test]
-fn lines_end_where_the_text_may_be_cut() -> Result<(), Fail> {
-    for case in &BY_FLAGS {
-        assert!(ends_of(case)?.as_slice() == case.ends, "{:?}", case.ends);
-    }
-    Ok(())
-}
-
-/// The law is a function with nothing to do.
-#[test]
-fn laws_may_be_cited() {}
-
-fn ends_of(case: &Case) -> Result<Vec<usize>, AllocError> {
+/// The glyphs of a case.
+fn glyphs_of(case: &Case) -> Result<Vec<hb_glyph_info_t>, AllocError> {
     let mut glyphs = Vec::new();
-    let mut positions = Vec::new();
-    for (cluster, mask, x_advance) in case.glyphs {
+    for (cluster, mask, _) in case.glyphs {
         glyphs.push(hb_glyph_info_t {
             cluster: *cluster,
             mask: *mask,
             ..hb_glyph_info_t::default()
         })?;
+    }
+    Ok(glyphs)
+}
+
+/// Their positions.
+fn positions_of(case: &Case) -> Result<Vec<GlyphPosition>, AllocError> {
+    let mut positions = Vec::new();
+    for (_, _, x_advance) in case.glyphs {
         positions.push(GlyphPosition {
             x_advance: *x_advance,
             ..GlyphPosition::default()
         })?;
     }
-    assert!(glyphs.len() == positions.len());
-    line_ends(&glyphs, &positions, case.widths)
+    Ok(positions)
 }
+
+/// Where lines end.
+fn ends_of(
+    glyphs: &[hb_glyph_info_t],
+    positions: &[GlyphPosition],
+    widths: &[i64],
+) -> Result<Vec<usize>, AllocError> {
+    assert!(glyphs.len() == positions.len());
+    line_ends(glyphs, positions, widths)
+}
+
+/// Whether the lines of a case end where they should.
+fn ends_as_it_should(case: &Case) -> Result<bool, AllocError> {
+    let glyphs = glyphs_of(case)?;
+    let positions = positions_of(case)?;
+    let ends = ends_of(&glyphs, &positions, case.widths)?;
+    Ok(ends.as_slice() == case.ends)
+}
+
+/// Asserts where lines end.
+fn assert_ends(cases: &[Case]) {
+    for case in cases {
+        assert!(ends_as_it_should(case) == Ok(true), "{:?}", case.ends);
+    }
+}
+
+#[test]
+fn lines_end_by_their_widths() {
+    assert_ends(&BY_WIDTH);
+}
+
+#[test]
+fn lines_end_where_the_text_may_be_cut() {
+    assert_ends(&BY_FLAGS);
+}
+
+/// The law is a function with nothing to do.
+#[test]
+fn laws_may_be_cited() {}

@@ -4,7 +4,8 @@
 //! back merges the clusters from its new place up to itself, or at levels 2 and 3 marks the glyphs outside their least one.
 
 use crate::Fail;
-use vukhaso::internals::buffer::{CombiningClasses, UnicodeBuffer, hb_buffer_t};
+use crate::pass_tests::texts::buffer_of;
+use vukhaso::internals::buffer::{CombiningClasses, hb_buffer_t, hb_glyph_info_t};
 use vukhaso::internals::passes::order_marks;
 
 static CLASSES: [(char, u8); 3] = [('\u{301}', 230), ('\u{315}', 232), ('\u{323}', 220)];
@@ -121,30 +122,51 @@ static ROWS: [Row; 6] = [
 ];
 
 /// The buffer of a row, before the pass.
-fn buffer_of(row: &Row) -> hb_buffer_t {
-    let mut characters = UnicodeBuffer::new();
-    assert!(characters.push_str(row.text) == Ok(true));
-    let mut buffer = characters.into_buffer();
+fn buffer_before(row: &Row) -> hb_buffer_t {
+    let mut buffer = buffer_of(row.text);
     buffer.reset_masks(row.mask);
     buffer.cluster_level = row.level;
     buffer.scratch_flags = row.scratch_flags;
     buffer
 }
 
+/// The buffer of a row, behind the pass.
+fn buffer_after(row: &Row, classes: &CombiningClasses<'_>) -> hb_buffer_t {
+    let mut buffer = buffer_before(row);
+    order_marks(&mut buffer, classes);
+    buffer
+}
+
+/// The number, the cluster and the mask of the glyph at a place.
+fn seen_at(glyphs: &[hb_glyph_info_t], place: usize) -> Option<(u32, u32, u32)> {
+    let glyph = glyphs.get(place)?;
+    Some((glyph.glyph_id, glyph.cluster, glyph.mask))
+}
+
+/// Asserts the glyphs of a row.
+fn assert_glyphs(glyphs: &[hb_glyph_info_t], row: &Row) {
+    assert!(glyphs.len() == row.want.len(), "{}", row.name);
+    for place in 0..row.want.len() {
+        let (c, cluster, mask) = row.want[place];
+        assert!(
+            seen_at(glyphs, place) == Some((c as u32, cluster, mask)),
+            "{}",
+            row.name
+        );
+    }
+}
+
 #[test]
 fn marks_in_order_are_whole_glyphs() -> Result<(), Fail> {
     let classes = CombiningClasses::new(&CLASSES).ok_or("rows that rise")?;
     for row in &ROWS {
-        let mut buffer = buffer_of(row);
-        let name = row.name;
-        order_marks(&mut buffer, &classes);
-        assert!(buffer.info().len() == row.want.len(), "{name}");
-        for (glyph, (c, cluster, mask)) in buffer.info().iter().zip(&row.want) {
-            assert!(glyph.glyph_id == *c as u32, "{name}");
-            assert!(glyph.cluster == *cluster, "{name}");
-            assert!(glyph.mask == *mask, "{name}");
-        }
-        assert!(buffer.scratch_flags == row.want_scratch_flags, "{name}");
+        let buffer = buffer_after(row, &classes);
+        assert_glyphs(buffer.info(), row);
+        assert!(
+            buffer.scratch_flags == row.want_scratch_flags,
+            "{}",
+            row.name
+        );
     }
     Ok(())
 }

@@ -3,9 +3,8 @@
 //! The rows are those of the Unicode Character Database, and the texts those of its `NormalizationTest.txt`.
 
 use crate::Fail;
-use vukhaso::internals::buffer::{
-    CombiningClasses, Compositions, Decompositions, UnicodeBuffer, hb_buffer_t,
-};
+use crate::pass_tests::texts::{assert_characters, assert_clusters, buffer_of};
+use vukhaso::internals::buffer::{CombiningClasses, Compositions, Decompositions, hb_buffer_t};
 use vukhaso::internals::passes::{compose_marks, decompose_all, order_marks};
 
 static DECOMPOSITIONS: [(char, char, Option<char>); 7] = [
@@ -56,19 +55,9 @@ static TEXTS: [(&str, &str, &str); 7] = [
     ("D\u{301}\u{307}", "D\u{301}\u{307}", "D\u{301}\u{307}"),
 ];
 
-/// A buffer over a text, with no output open.
-fn buffer_of(text: &str) -> hb_buffer_t {
-    let mut characters = UnicodeBuffer::new();
-    assert!(characters.push_str(text) == Ok(true));
-    characters.into_buffer()
-}
-
-/// Asserts which characters stand in the list.
-fn assert_characters(buffer: &hb_buffer_t, want: &str) {
-    assert!(buffer.info().len() == want.chars().count());
-    for (glyph, c) in buffer.info().iter().zip(want.chars()) {
-        assert!(glyph.glyph_id == c as u32, "{want}");
-    }
+/// Asserts which characters stand in a buffer.
+fn assert_text(buffer: &hb_buffer_t, want: &str) {
+    assert_characters(buffer.info(), want, want);
 }
 
 /// Takes a text apart.
@@ -98,9 +87,9 @@ fn texts_are_normalized() -> Result<(), Fail> {
         let mut buffer = buffer_of(text);
         decompose(&mut buffer, &decompositions);
         order(&mut buffer, &classes);
-        assert_characters(&buffer, apart);
+        assert_text(&buffer, apart);
         compose(&mut buffer, &compositions, &classes);
-        assert_characters(&buffer, composed);
+        assert_text(&buffer, composed);
     }
     Ok(())
 }
@@ -112,7 +101,7 @@ fn circles_end() -> Result<(), Fail> {
     let decompositions = Decompositions::new(&rows).ok_or("rows that rise")?;
     let mut buffer = buffer_of("a");
     decompose(&mut buffer, &decompositions);
-    assert_characters(&buffer, "ayxyxyxyx");
+    assert_text(&buffer, "ayxyxyxyx");
     Ok(())
 }
 
@@ -122,10 +111,8 @@ fn clusters_merge() -> Result<(), Fail> {
     let classes = CombiningClasses::new(&CLASSES).ok_or("rows that rise")?;
     let mut buffer = buffer_of("s\u{307}\u{323}s\u{323}");
     order(&mut buffer, &classes);
-    assert_characters(&buffer, "s\u{323}\u{307}s\u{323}");
-    for (glyph, cluster) in buffer.info().iter().zip(&[0, 1, 1, 5, 6]) {
-        assert!(glyph.cluster == *cluster);
-    }
+    assert_text(&buffer, "s\u{323}\u{307}s\u{323}");
+    assert_clusters(buffer.info(), &[0, 1, 1, 5, 6]);
     Ok(())
 }
 
@@ -136,9 +123,7 @@ fn clusters_of_pairs_merge() -> Result<(), Fail> {
     let classes = CombiningClasses::new(&CLASSES).ok_or("rows that rise")?;
     let mut buffer = buffer_of("ba\u{5ae}\u{300}b");
     compose(&mut buffer, &compositions, &classes);
-    assert_characters(&buffer, "b\u{e0}\u{5ae}b");
-    for (glyph, cluster) in buffer.info().iter().zip(&[0, 1, 1, 6]) {
-        assert!(glyph.cluster == *cluster);
-    }
+    assert_text(&buffer, "b\u{e0}\u{5ae}b");
+    assert_clusters(buffer.info(), &[0, 1, 1, 6]);
     Ok(())
 }

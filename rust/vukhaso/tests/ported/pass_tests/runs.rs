@@ -3,7 +3,8 @@
 //! Runs of marks: where one ends, and what one becomes whose marks are put in order (the Unicode Standard, section 3.11).
 
 use crate::Fail;
-use vukhaso::internals::buffer::{CombiningClasses, UnicodeBuffer, hb_buffer_t, hb_glyph_info_t};
+use crate::pass_tests::texts::{assert_characters, buffer_of};
+use vukhaso::internals::buffer::{CombiningClasses, hb_buffer_t, hb_glyph_info_t};
 use vukhaso::internals::passes::normalization::{MOST_MARKS, MarkClasses, order_run, run_end};
 use vukhaso::internals::passes::order_marks;
 use vukhaso::memory::String;
@@ -79,21 +80,6 @@ impl MarkClasses for First<'_> {
     }
 }
 
-/// A buffer over a text, with no output open.
-fn buffer_of(text: &str) -> hb_buffer_t {
-    let mut characters = UnicodeBuffer::new();
-    assert!(characters.push_str(text) == Ok(true));
-    characters.into_buffer()
-}
-
-/// Asserts which characters stand in the list.
-fn assert_characters(buffer: &hb_buffer_t, want: &str, name: &str) {
-    assert!(buffer.info().len() == want.chars().count(), "{name}");
-    for (glyph, c) in buffer.info().iter().zip(want.chars()) {
-        assert!(glyph.glyph_id == c as u32, "{name}");
-    }
-}
-
 /// Puts the run from one place to another in order.
 fn order<C: MarkClasses>(buffer: &mut hb_buffer_t, classes: &C, start: usize, end: usize) {
     assert!(!buffer.have_output());
@@ -121,7 +107,7 @@ fn runs_are_put_in_order() -> Result<(), Fail> {
     for row in &ROWS {
         let mut buffer = buffer_of(row.text);
         order(&mut buffer, &classes, row.start, row.end);
-        assert_characters(&buffer, row.want, row.name);
+        assert_characters(buffer.info(), row.want, row.name);
     }
     Ok(())
 }
@@ -136,25 +122,39 @@ fn a_shaper_may_have_its_own_classes() -> Result<(), Fail> {
     };
     let mut buffer = buffer_of("a\u{323}\u{301}\u{315}");
     order(&mut buffer, &first, 1, 4);
-    assert_characters(&buffer, "a\u{315}\u{323}\u{301}", "the last mark");
+    let wanted = "a\u{315}\u{323}\u{301}";
+    assert_characters(buffer.info(), wanted, "the last mark");
     Ok(())
+}
+
+/// Eight marks.
+const ACUTES: &str = "\u{301}\u{301}\u{301}\u{301}\u{301}\u{301}\u{301}\u{301}";
+
+const BELOW: &str = "\u{323}";
+
+/// Asserts that `order_marks` leaves a run as it is.
+fn assert_stays(classes: &CombiningClasses<'_>, long: &str) {
+    let mut buffer = buffer_of(long);
+    assert!(buffer.info().len() == MOST_MARKS + 1);
+    order_marks(&mut buffer, classes);
+    assert_characters(buffer.info(), long, "a long run");
+}
+
+/// Asserts that `order_run` puts a run of 33 marks in order.
+fn assert_is_put_in_order(classes: &CombiningClasses<'_>, long: &str, want: &str) {
+    let mut buffer = buffer_of(long);
+    order(&mut buffer, classes, 0, 33);
+    assert_characters(buffer.info(), want, "one that is put in order");
 }
 
 /// A run of 33 marks is put in order by `order_run`, and stays as it is in a text that `order_marks`
 /// puts in order.
 #[test]
 fn long_runs_stay_as_they_are() -> Result<(), Fail> {
-    const ACUTES: &str = "\u{301}\u{301}\u{301}\u{301}\u{301}\u{301}\u{301}\u{301}";
     let classes = CombiningClasses::new(&CLASSES).ok_or("rows that rise")?;
-    let below = "\u{323}";
-    let long = String::format(format_args!("{ACUTES}{ACUTES}{ACUTES}{ACUTES}{below}"))?;
-    let in_order = String::format(format_args!("{below}{ACUTES}{ACUTES}{ACUTES}{ACUTES}"))?;
-    let mut buffer = buffer_of(&long);
-    assert!(buffer.info().len() == MOST_MARKS + 1);
-    assert!(!buffer.have_output());
-    order_marks(&mut buffer, &classes);
-    assert_characters(&buffer, &long, "a long run");
-    order(&mut buffer, &classes, 0, 33);
-    assert_characters(&buffer, &in_order, "one that is put in order");
+    let long = String::format(format_args!("{ACUTES}{ACUTES}{ACUTES}{ACUTES}{BELOW}"))?;
+    let in_order = String::format(format_args!("{BELOW}{ACUTES}{ACUTES}{ACUTES}{ACUTES}"))?;
+    assert_stays(&classes, &long);
+    assert_is_put_in_order(&classes, &long, &in_order);
     Ok(())
 }

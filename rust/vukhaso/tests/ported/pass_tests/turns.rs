@@ -4,7 +4,8 @@
 //! the last starter is.
 
 use crate::Fail;
-use vukhaso::internals::buffer::{CombiningClasses, Compositions, UnicodeBuffer, hb_buffer_t};
+use crate::pass_tests::texts::{assert_characters, buffer_of};
+use vukhaso::internals::buffer::{CombiningClasses, Compositions, hb_buffer_t};
 use vukhaso::internals::passes::normalization::{CharacterPairs, MarkClasses, next_turn};
 
 static COMPOSITIONS: [((char, char), char); 2] =
@@ -101,12 +102,22 @@ fn turn<P: CharacterPairs, C: MarkClasses>(
 }
 
 /// A buffer over a text, with an output open.
-fn buffer_of(text: &str) -> hb_buffer_t {
-    let mut characters = UnicodeBuffer::new();
-    assert!(characters.push_str(text) == Ok(true));
-    let mut buffer = characters.into_buffer();
+fn opened(text: &str) -> hb_buffer_t {
+    let mut buffer = buffer_of(text);
     buffer.clear_output();
     buffer
+}
+
+/// Asserts what each character of a row gives.
+fn assert_turns(row: &Row, compositions: &Compositions<'_>, classes: &CombiningClasses<'_>) {
+    let mut buffer = opened(row.text);
+    let mut starter = None;
+    for (place, want) in row.turns {
+        starter = turn(&mut buffer, compositions, classes, starter);
+        assert!(starter == *place, "{}", row.name);
+        assert_characters(buffer.out_info(), want, row.name);
+    }
+    assert!(buffer.lookahead_len() == 0, "{}", row.name);
 }
 
 #[test]
@@ -114,18 +125,7 @@ fn characters_are_composed_one_after_the_other() -> Result<(), Fail> {
     let compositions = Compositions::new(&COMPOSITIONS).ok_or("rows that rise")?;
     let classes = CombiningClasses::new(&CLASSES).ok_or("rows that rise")?;
     for row in &ROWS {
-        let name = row.name;
-        let mut buffer = buffer_of(row.text);
-        let mut starter = None;
-        for (place, want) in row.turns {
-            starter = turn(&mut buffer, &compositions, &classes, starter);
-            assert!(starter == *place, "{name}");
-            assert!(buffer.out_info().len() == want.chars().count(), "{name}");
-            for (glyph, c) in buffer.out_info().iter().zip(want.chars()) {
-                assert!(glyph.glyph_id == c as u32, "{name}");
-            }
-        }
-        assert!(buffer.lookahead_len() == 0, "{name}");
+        assert_turns(row, &compositions, &classes);
     }
     Ok(())
 }

@@ -3,132 +3,168 @@
 //! Which shaper a text has, and what each says of itself, as HarfBuzz's `hb_ot_shaper_categorize` and its shapers have it; and how
 //! characters join, by Unicode's ArabicShaping.txt.
 
-use crate::Fail;
 use vukhaso::internals::common::{Direction, Script, Tag, script};
 use vukhaso::internals::script_joining::{JoiningType, joining_type};
 use vukhaso::internals::script_shapers::{NormalizationMode, ScriptShaper, ZeroWidthMarks};
 
-/// The shaper of a text in a script that the font has.
-fn shaper_of(script: Script, direction: Direction) -> ScriptShaper {
-    ScriptShaper::of(Some(script), direction, Tag::from_bytes(b"some"))
+const LEFT: Direction = Direction::RightToLeft;
+
+const RIGHT: Direction = Direction::LeftToRight;
+
+const DOWN: Direction = Direction::TopToBottom;
+
+/// A script, the direction of a text in it, the tag that the font has it under, and its shaper.
+type Row = (Option<Script>, Direction, &'static [u8; 4], ScriptShaper);
+
+/// Asserts the shapers of scripts.
+fn assert_shapers(rows: &[Row]) {
+    for (script, direction, tag, shaper) in rows {
+        let found = ScriptShaper::of(*script, *direction, Tag::from_bytes(tag));
+        assert!(found == *shaper, "{shaper:?} of {tag:?}");
+    }
 }
 
 /// Each script has its shaper. Vertical Arabic does not join, nor does Syriac of a font that has only
 /// the default script.
 #[test]
-fn scripts_have_shapers() -> Result<(), Fail> {
-    let left = Direction::RightToLeft;
-    let right = Direction::LeftToRight;
-    assert_eq!(shaper_of(script::ARABIC, left), ScriptShaper::Arabic);
-    assert_eq!(shaper_of(script::SYRIAC, left), ScriptShaper::Arabic);
-    assert_eq!(shaper_of(script::HEBREW, left), ScriptShaper::Hebrew);
-    assert_eq!(shaper_of(script::HANGUL, right), ScriptShaper::Hangul);
-    assert_eq!(shaper_of(script::THAI, right), ScriptShaper::Thai);
-    assert_eq!(shaper_of(script::LAO, right), ScriptShaper::Thai);
-    assert_eq!(shaper_of(script::LATIN, right), ScriptShaper::Default);
-    let down = Direction::TopToBottom;
-    assert_eq!(shaper_of(script::ARABIC, down), ScriptShaper::Default);
-    assert_eq!(shaper_of(script::HANGUL, down), ScriptShaper::Hangul);
-    let default = Tag::from_bytes(b"DFLT");
-    let syriac = ScriptShaper::of(Some(script::SYRIAC), left, default);
-    assert_eq!(syriac, ScriptShaper::Default);
-    let arabic = ScriptShaper::of(Some(script::ARABIC), left, default);
-    assert_eq!(arabic, ScriptShaper::Arabic);
-    let none = ScriptShaper::of(None, left, default);
-    assert_eq!(none, ScriptShaper::Default);
-    Ok(())
+fn scripts_have_shapers() {
+    let rows: [Row; 12] = [
+        (Some(script::ARABIC), LEFT, b"some", ScriptShaper::Arabic),
+        (Some(script::SYRIAC), LEFT, b"some", ScriptShaper::Arabic),
+        (Some(script::HEBREW), LEFT, b"some", ScriptShaper::Hebrew),
+        (Some(script::HANGUL), RIGHT, b"some", ScriptShaper::Hangul),
+        (Some(script::THAI), RIGHT, b"some", ScriptShaper::Thai),
+        (Some(script::LAO), RIGHT, b"some", ScriptShaper::Thai),
+        (Some(script::LATIN), RIGHT, b"some", ScriptShaper::Default),
+        (Some(script::ARABIC), DOWN, b"some", ScriptShaper::Default),
+        (Some(script::HANGUL), DOWN, b"some", ScriptShaper::Hangul),
+        (Some(script::SYRIAC), LEFT, b"DFLT", ScriptShaper::Default),
+        (Some(script::ARABIC), LEFT, b"DFLT", ScriptShaper::Arabic),
+        (None, LEFT, b"DFLT", ScriptShaper::Default),
+    ];
+    assert_shapers(&rows);
 }
 
 /// Scripts that are written in syllables have their shapers, by the tag that the font has them under.
 #[test]
-fn scripts_in_syllables_have_shapers() -> Result<(), Fail> {
-    let rows: [(Script, &[u8; 4], ScriptShaper); 12] = [
-        (script::DEVANAGARI, b"deva", ScriptShaper::Indic),
-        (script::MALAYALAM, b"mlm2", ScriptShaper::Indic),
-        (script::TAMIL, b"tml3", ScriptShaper::Universal),
-        (script::BENGALI, b"latn", ScriptShaper::Default),
-        (script::KHMER, b"khmr", ScriptShaper::Khmer),
-        (script::MYANMAR, b"mym2", ScriptShaper::Myanmar),
-        (script::MYANMAR, b"mymr", ScriptShaper::Default),
-        (script::MYANMAR_ZAWGYI, b"mymr", ScriptShaper::Zawgyi),
-        (script::SINHALA, b"sinh", ScriptShaper::Universal),
-        (script::TIBETAN, b"DFLT", ScriptShaper::Default),
-        (script::MONGOLIAN, b"mong", ScriptShaper::UniversalJoining),
-        (script::NKO, b"nko ", ScriptShaper::UniversalJoining),
+fn scripts_in_syllables_have_shapers() {
+    let rows: [Row; 12] = [
+        (
+            Some(script::DEVANAGARI),
+            RIGHT,
+            b"deva",
+            ScriptShaper::Indic,
+        ),
+        (Some(script::MALAYALAM), RIGHT, b"mlm2", ScriptShaper::Indic),
+        (Some(script::TAMIL), RIGHT, b"tml3", ScriptShaper::Universal),
+        (Some(script::BENGALI), RIGHT, b"latn", ScriptShaper::Default),
+        (Some(script::KHMER), RIGHT, b"khmr", ScriptShaper::Khmer),
+        (Some(script::MYANMAR), RIGHT, b"mym2", ScriptShaper::Myanmar),
+        (Some(script::MYANMAR), RIGHT, b"mymr", ScriptShaper::Default),
+        (
+            Some(script::MYANMAR_ZAWGYI),
+            RIGHT,
+            b"mymr",
+            ScriptShaper::Zawgyi,
+        ),
+        (
+            Some(script::SINHALA),
+            RIGHT,
+            b"sinh",
+            ScriptShaper::Universal,
+        ),
+        (Some(script::TIBETAN), RIGHT, b"DFLT", ScriptShaper::Default),
+        (
+            Some(script::MONGOLIAN),
+            RIGHT,
+            b"mong",
+            ScriptShaper::UniversalJoining,
+        ),
+        (
+            Some(script::NKO),
+            RIGHT,
+            b"nko ",
+            ScriptShaper::UniversalJoining,
+        ),
     ];
-    for (script, tag, shaper) in rows {
-        let found = ScriptShaper::of(Some(script), Direction::LeftToRight, Tag::from_bytes(tag));
-        assert_eq!(found, shaper);
-    }
-    Ok(())
+    assert_shapers(&rows);
 }
 
-/// Hebrew wants a script of its own in `GPOS`; Hangul composes nothing, and its marks keep their width;
-/// marks of Hangul and Thai are not placed without a font's help.
+/// Hebrew wants a script of its own in `GPOS`, and marks of Hangul and Thai are not placed without a
+/// font's help.
 #[test]
-fn shapers_differ() -> Result<(), Fail> {
+fn shapers_differ_in_positions() {
     let hebrew = Some(Tag::from_bytes(b"hebr"));
-    assert_eq!(ScriptShaper::Hebrew.gpos_script(), hebrew);
-    assert_eq!(ScriptShaper::Arabic.gpos_script(), None);
-    let nothing = NormalizationMode::Nothing;
-    assert_eq!(ScriptShaper::Hangul.normalization_mode(), nothing);
-    let auto = NormalizationMode::Auto;
-    assert_eq!(ScriptShaper::Thai.normalization_mode(), auto);
-    let never = ZeroWidthMarks::Never;
-    assert_eq!(ScriptShaper::Hangul.zero_width_marks(), never);
-    let late = ZeroWidthMarks::Late;
-    assert_eq!(ScriptShaper::Hebrew.zero_width_marks(), late);
-    assert_eq!(ScriptShaper::Plain.zero_width_marks(), never);
-    assert_eq!(ScriptShaper::Plain.normalization_mode(), auto);
-    assert_eq!(ScriptShaper::Myanmar.with_morx(true), ScriptShaper::Plain);
-    assert_eq!(
-        ScriptShaper::Myanmar.with_morx(false),
-        ScriptShaper::Myanmar
-    );
-    assert_eq!(ScriptShaper::Default.with_morx(true), ScriptShaper::Default);
+    assert!(ScriptShaper::Hebrew.gpos_script() == hebrew);
+    assert!(ScriptShaper::Arabic.gpos_script().is_none());
     assert!(ScriptShaper::Arabic.fallback_position());
     assert!(!ScriptShaper::Hangul.fallback_position());
     assert!(!ScriptShaper::Thai.fallback_position());
-    Ok(())
+}
+
+/// Hangul composes nothing, and its marks keep their width.
+#[test]
+fn shapers_differ_in_marks() {
+    let (nothing, auto) = (NormalizationMode::Nothing, NormalizationMode::Auto);
+    assert!(ScriptShaper::Hangul.normalization_mode() == nothing);
+    assert!(ScriptShaper::Thai.normalization_mode() == auto);
+    assert!(ScriptShaper::Plain.normalization_mode() == auto);
+    let (never, late) = (ZeroWidthMarks::Never, ZeroWidthMarks::Late);
+    assert!(ScriptShaper::Hangul.zero_width_marks() == never);
+    assert!(ScriptShaper::Hebrew.zero_width_marks() == late);
+    assert!(ScriptShaper::Plain.zero_width_marks() == never);
+}
+
+/// Where Apple's `morx` substitutes glyphs the shaper is the plain one, but for the default one.
+#[test]
+fn shapers_give_way_to_morx() {
+    let (myanmar, default) = (ScriptShaper::Myanmar, ScriptShaper::Default);
+    assert!(myanmar.with_morx(true) == ScriptShaper::Plain);
+    assert!(myanmar.with_morx(false) == myanmar);
+    assert!(default.with_morx(true) == default);
 }
 
 /// A character decomposes as Unicode says: an alef with a madda above, and a Hangul syllable.
 #[test]
-fn characters_decompose() -> Result<(), Fail> {
+fn characters_decompose() {
     let alef = ScriptShaper::Arabic.decompose('\u{622}');
-    assert_eq!(alef, Some(('\u{627}', Some('\u{653}'))));
+    assert!(alef == Some(('\u{627}', Some('\u{653}'))));
     let syllable = ScriptShaper::Default.decompose('\u{ac01}');
-    assert_eq!(syllable, Some(('\u{ac00}', Some('\u{11a8}'))));
-    assert_eq!(ScriptShaper::Hebrew.decompose('\u{5d0}'), None);
-    Ok(())
+    assert!(syllable == Some(('\u{ac00}', Some('\u{11a8}'))));
+    assert!(ScriptShaper::Hebrew.decompose('\u{5d0}').is_none());
 }
 
-/// A letter of each type: hamza, Manichaean heth, alef, beh, and Syriac alaph and dalath. A fatha is a
-/// mark, a zero width joiner makes its neighbours join, and a non-joiner does not.
+/// Characters, whether each is a mark or a format character, and how it joins: hamza, Manichaean heth, alef, beh, and Syriac alaph and
+/// dalath. A fatha is a mark, a zero width joiner makes its neighbours join, and a non-joiner does not.
+static TYPES: [(u32, bool, JoiningType); 10] = [
+    (0x621, false, JoiningType::NonJoining),
+    (0x10AD7, false, JoiningType::Left),
+    (0x627, false, JoiningType::Right),
+    (0x628, false, JoiningType::Dual),
+    (0x710, false, JoiningType::Alaph),
+    (0x715, false, JoiningType::DalathRish),
+    (0x64E, true, JoiningType::Transparent),
+    (0x200D, true, JoiningType::Dual),
+    (0x200C, true, JoiningType::NonJoining),
+    (0x41, false, JoiningType::NonJoining),
+];
+
+/// A letter of each type.
 #[test]
-fn letters_have_types() -> Result<(), Fail> {
-    assert_eq!(joining_type(0x621, false), JoiningType::NonJoining);
-    assert_eq!(joining_type(0x10AD7, false), JoiningType::Left);
-    assert_eq!(joining_type(0x627, false), JoiningType::Right);
-    assert_eq!(joining_type(0x628, false), JoiningType::Dual);
-    assert_eq!(joining_type(0x710, false), JoiningType::Alaph);
-    assert_eq!(joining_type(0x715, false), JoiningType::DalathRish);
-    assert_eq!(joining_type(0x64E, true), JoiningType::Transparent);
-    assert_eq!(joining_type(0x200D, true), JoiningType::Dual);
-    assert_eq!(joining_type(0x200C, true), JoiningType::NonJoining);
-    assert_eq!(joining_type(0x41, false), JoiningType::NonJoining);
-    Ok(())
+fn letters_have_types() {
+    for (character, is_mark, wanted) in &TYPES {
+        assert!(joining_type(*character, *is_mark) == *wanted, "{character}");
+    }
 }
 
 /// On which sides letters join, and that what is transparent gives way to what stands beyond.
 #[test]
-fn types_join() -> Result<(), Fail> {
+fn types_join() {
     let dual = JoiningType::Dual;
     assert!(dual.joins_next() && dual.joins_previous());
     assert!(JoiningType::Left.joins_next() && !JoiningType::Left.joins_previous());
     assert!(!JoiningType::Right.joins_next() && JoiningType::Right.joins_previous());
     assert!(!JoiningType::NonJoining.joins_next());
-    assert_eq!(JoiningType::Transparent.or_beyond(dual), dual);
-    assert_eq!(JoiningType::Right.or_beyond(dual), JoiningType::Right);
-    Ok(())
+    assert!(JoiningType::Transparent.or_beyond(dual) == dual);
+    assert!(JoiningType::Right.or_beyond(dual) == JoiningType::Right);
 }

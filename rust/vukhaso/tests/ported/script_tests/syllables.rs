@@ -2,7 +2,6 @@
 
 //! Tables of syllables. What is expected is what OpenType's documents and HarfBuzz's tables have.
 
-use crate::Fail;
 use vukhaso::internals::script_indic::machine::indic_machine;
 use vukhaso::internals::script_syllables::{Category, Machine, Position, category_of, third_vowel};
 use vukhaso::internals::script_universal::khmer::machine::khmer_machine;
@@ -10,38 +9,48 @@ use vukhaso::internals::script_universal::myanmar::machine::myanmar_machine;
 use vukhaso::internals::script_universal::universal::machine::universal_machine;
 use vukhaso::internals::script_universal::{UniversalCategory, universal_category_of};
 
-/// The letter KA, the vowel sign I on its left, the Khmer sign of a subjoined letter, and a Latin
-/// letter.
+/// The letter KA, the vowel sign I on its left, the Khmer sign of a subjoined letter, and a Latin letter.
+static CHARACTERS: [(u32, Category, Position); 4] = [
+    (0x915, Category::Consonant, Position::Base),
+    (0x93F, Category::Matra, Position::PreMatra),
+    (0x17D2, Category::Halant, Position::End),
+    (0x41, Category::Other, Position::End),
+];
+
+/// A character and its category for the universal shaper.
+static UNIVERSAL: [(u32, UniversalCategory); 4] = [
+    (0x1B13, UniversalCategory::Base),
+    (0x1B44, UniversalCategory::Halant),
+    (0x200C, UniversalCategory::NonJoiner),
+    (0x41, UniversalCategory::Other),
+];
+
 #[test]
-fn characters_have_categories() -> Result<(), Fail> {
-    for (character, category, position) in [
-        (0x915, Category::Consonant, Position::Base),
-        (0x93F, Category::Matra, Position::PreMatra),
-        (0x17D2, Category::Halant, Position::End),
-        (0x41, Category::Other, Position::End),
-    ] {
-        let found = category_of(character);
-        assert!(found == (category, position), "{character}");
-        assert!(
-            Category::numbered(category as u8) == category,
-            "{character}"
-        );
-        assert!(
-            Position::numbered(position as u8) == position,
-            "{character}"
-        );
+fn characters_have_categories() {
+    for (character, category, position) in &CHARACTERS {
+        let found = category_of(*character);
+        assert!(found == (*category, *position), "{character}");
+    }
+}
+
+#[test]
+fn categories_have_numbers() {
+    for (_, category, position) in &CHARACTERS {
+        assert!(Category::numbered(*category as u8) == *category);
+        assert!(Position::numbered(*position as u8) == *position);
     }
     assert!(Category::numbered(99) == Category::Other);
     assert!(Position::numbered(99) == Position::End);
-    for (character, category) in [
-        (0x1B13, UniversalCategory::Base),
-        (0x1B44, UniversalCategory::Halant),
-        (0x200C, UniversalCategory::NonJoiner),
-        (0x41, UniversalCategory::Other),
-    ] {
-        assert!(universal_category_of(character) == category, "{character}");
+}
+
+#[test]
+fn characters_have_universal_categories() {
+    for (character, category) in &UNIVERSAL {
+        assert!(
+            universal_category_of(*character) == *category,
+            "{character}"
+        );
     }
-    Ok(())
 }
 
 /// The kind of the syllable that a machine has read of these categories.
@@ -53,38 +62,35 @@ fn kind_of(machine: &Machine, categories: &[u8]) -> Option<u8> {
     machine.kind_read(state)
 }
 
-/// A consonant with a halant and another consonant is one syllable of the first kind; a Latin letter is
-/// one of the last, and two are none.
+/// Asserts that a consonant with a halant and another consonant is one syllable of the first kind; that
+/// a Latin letter is one of the last, and that two are none.
+fn assert_reads(machine: &Machine, last: u8) {
+    let (consonant, halant) = (Category::Consonant as u8, Category::Halant as u8);
+    let other = Category::Other as u8;
+    assert!(
+        kind_of(machine, &[consonant, halant, consonant]) == Some(0),
+        "{last}"
+    );
+    assert!(kind_of(machine, &[other]) == Some(last), "{last}");
+    assert!(kind_of(machine, &[other, other]).is_none(), "{last}");
+    assert!(kind_of(machine, &[]).is_none(), "{last}");
+}
+
 #[test]
-fn machines_read_syllables() -> Result<(), Fail> {
-    let [consonant, halant, other] = [
-        Category::Consonant as u8,
-        Category::Halant as u8,
-        Category::Other as u8,
-    ];
-    for (machine, last) in [
-        (indic_machine(), 5),
-        (khmer_machine(), 2),
-        (myanmar_machine(), 2),
-    ] {
-        let joined = kind_of(&machine, &[consonant, halant, consonant]);
-        assert!(joined == Some(0), "{last}");
-        assert!(kind_of(&machine, &[other]) == Some(last), "{last}");
-        assert!(kind_of(&machine, &[other, other]).is_none(), "{last}");
-        assert!(kind_of(&machine, &[]).is_none(), "{last}");
-    }
+fn machines_read_syllables() {
+    assert_reads(&indic_machine(), 5);
+    assert_reads(&khmer_machine(), 2);
+    assert_reads(&myanmar_machine(), 2);
     let base = UniversalCategory::Base as u8;
     let joined = [base, UniversalCategory::Halant as u8, base];
     assert!(kind_of(&universal_machine(), &joined) == Some(2));
-    Ok(())
 }
 
 /// The letter A and the vowel sign OE look like another vowel, and so do RA, a halant and the vowel I;
 /// A and A do not.
 #[test]
-fn vowels_look_like_others() -> Result<(), Fail> {
+fn vowels_look_like_others() {
     assert!(third_vowel('\u{905}', 0x93A) == Some(None));
     assert!(third_vowel('\u{930}', 0x94D) == Some(Some('\u{907}')));
     assert!(third_vowel('\u{905}', 0x905).is_none());
-    Ok(())
 }

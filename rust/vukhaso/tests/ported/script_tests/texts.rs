@@ -62,10 +62,14 @@ pub(crate) fn buffer_of(text: &str) -> hb_buffer_t {
 
 /// Sets the properties of characters.
 fn set_properties(infos: &mut [hb_glyph_info_t]) {
-    let Some(classes) = CombiningClasses::new(&CLASSES) else {
-        return;
-    };
     for info in infos.iter_mut() {
+        set_properties_of(info);
+    }
+}
+
+/// Sets the properties of a character.
+fn set_properties_of(info: &mut hb_glyph_info_t) {
+    if let Some(classes) = CombiningClasses::new(&CLASSES) {
         assert!(char::from_u32(info.glyph_id).is_some());
         info.init_unicode_props(&mut 0, &classes);
     }
@@ -85,11 +89,16 @@ pub(crate) fn plan_of(shaper: ScriptShaper) -> ScriptPlan {
     }
 }
 
-/// Asserts the characters of a buffer, and their clusters.
-pub(crate) fn assert_characters(buffer: &hb_buffer_t, want: &[(u32, u32)]) {
-    assert!(buffer.info().len() == want.len());
-    for (info, (character, cluster)) in buffer.info().iter().zip(want) {
-        assert!(info.glyph_id == *character, "{want:?}");
-        assert!(info.cluster == *cluster, "{want:?}");
+/// The character at a place, and its cluster.
+fn seen_at(glyphs: &[hb_glyph_info_t], place: usize) -> Option<(u32, u32)> {
+    let glyph = glyphs.get(place)?;
+    Some((glyph.glyph_id, glyph.cluster))
+}
+
+/// Asserts characters, and their clusters.
+pub(crate) fn assert_characters(glyphs: &[hb_glyph_info_t], want: &[(u32, u32)]) {
+    assert!(glyphs.len() == want.len());
+    for place in 0..want.len() {
+        assert!(seen_at(glyphs, place) == Some(want[place]), "at {place}");
     }
 }

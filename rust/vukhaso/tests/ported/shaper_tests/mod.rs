@@ -4,8 +4,6 @@
 //! rows of shaping (`rows/shaping`) cannot say. What is expected comes from HarfBuzz's `hb-shape` over the same fonts.
 
 #[cfg(test)]
-mod color;
-#[cfg(test)]
 mod face;
 #[cfg(test)]
 mod given_up;

@@ -3,7 +3,7 @@
 //! What is kept of characters that are normalized with a font.
 
 use crate::Fail;
-use crate::shaper_tests::upright::UPRIGHT;
+use crate::shaper_tests::upright::upright;
 use vukhaso::internals::buffer::{BufferClusterLevel, UnicodeBuffer, hb_buffer_t, hb_glyph_info_t};
 use vukhaso::internals::common::GlyphId;
 use vukhaso::internals::ot_normalization::glyph_info::{
@@ -14,7 +14,6 @@ use vukhaso::internals::ot_normalization::glyph_info::{
 use vukhaso::internals::ot_normalization::{allows_any_order, normalize};
 use vukhaso::internals::ot_shape::{Face, OwnFunctions};
 use vukhaso::internals::script_shapers::{ScriptPlan, ScriptShaper};
-use vukhaso::memory::AllocError;
 
 /// The characters of a text with their properties, in a buffer whose invisible glyph is 1.
 fn buffer_of(text: &str) -> hb_buffer_t {
@@ -49,33 +48,38 @@ fn plan() -> ScriptPlan {
     }
 }
 
-/// Asserts what is kept of a letter, a mark and a space.
-fn assert_kept(letter: &hb_glyph_info_t, mark: &hb_glyph_info_t, space: &hb_glyph_info_t) {
-    assert_eq!((general_category(letter), general_category(mark)), (5, 12));
-    assert!(is_unicode_mark(mark) && is_nonspacing_mark(mark) && is_continuation(mark));
-    assert!(!is_unicode_mark(letter) && !is_nonspacing_mark(letter) && !is_continuation(letter));
-    assert_eq!(
-        (
-            modified_combining_class(letter),
-            modified_combining_class(mark)
-        ),
-        (0, 230)
-    );
-    assert!(is_unicode_space(space) && !is_unicode_space(letter));
-    assert_eq!((space_fallback(space), space_fallback(letter)), (1, 0));
+/// The general category, the combining class, and whether it is a mark, one without width, and one that
+/// continues what stands before it.
+fn mark_of(info: &hb_glyph_info_t) -> (u32, u16, [bool; 3]) {
+    let marks = [
+        is_unicode_mark(info),
+        is_nonspacing_mark(info),
+        is_continuation(info),
+    ];
+    (
+        general_category(info),
+        modified_combining_class(info),
+        marks,
+    )
 }
 
-/// Sets the combining class of a letter and of a mark: a letter has none.
-fn assert_classes_are_set(letter: &mut hb_glyph_info_t, mark: &mut hb_glyph_info_t) {
-    set_modified_combining_class(letter, 220);
-    set_modified_combining_class(mark, 220);
-    assert_eq!(
-        (
-            modified_combining_class(letter),
-            modified_combining_class(mark)
-        ),
-        (0, 220)
-    );
+/// Whether it is a space, and of which width.
+fn space_of(info: &hb_glyph_info_t) -> (bool, u8) {
+    (is_unicode_space(info), space_fallback(info))
+}
+
+/// Asserts what is kept of a letter, a mark and a space.
+fn assert_kept(letter: &hb_glyph_info_t, mark: &hb_glyph_info_t, space: &hb_glyph_info_t) {
+    assert!(mark_of(letter) == (5, 0, [false; 3]));
+    assert!(mark_of(mark) == (12, 230, [true; 3]));
+    assert!(space_of(letter) == (false, 0));
+    assert!(space_of(space) == (true, 1));
+}
+
+/// The combining class after it was set.
+fn class_set(info: &mut hb_glyph_info_t, class: u16) -> u16 {
+    set_modified_combining_class(info, class);
+    modified_combining_class(info)
 }
 
 /// A variation selector becomes a mark.
@@ -87,45 +91,49 @@ fn assert_selector_is_cleared(selector: &mut hb_glyph_info_t) {
 
 /// Asserts what is kept of the five characters of a text, and what may be set.
 fn assert_properties(infos: &mut [hb_glyph_info_t]) {
-    assert_eq!(infos.len(), 5);
+    assert!(infos.len() == 5);
     if let [letter, mark, space, _, selector] = infos {
         assert_kept(letter, mark, space);
-        assert_classes_are_set(letter, mark);
+        assert!(class_set(letter, 220) == 0, "a letter has no class");
+        assert!(class_set(mark, 220) == 220);
         assert_selector_is_cleared(selector);
     }
 }
 
-/// Normalizes characters with the font's own functions.
-///
-/// # Requires
-///
-/// - `buffer.old.have_output ≡ false`
-fn normalize_by(face: &Face, buffer: &mut hb_buffer_t) -> Result<bool, AllocError> {
-    debug_assert!(!buffer.have_output());
-    normalize(buffer, &OwnFunctions { face }, &plan())
+/// A text that is normalized with the font's own functions.
+fn normalized(face: &Face, text: &str) -> hb_buffer_t {
+    let mut buffer = buffer_of(text);
+    assert!(normalize(&mut buffer, &OwnFunctions { face }, &plan()) == Ok(true));
+    buffer
 }
 
 /// A mark, a space, and a variation selector that the font does not know.
 #[test]
 fn properties_are_kept() -> Result<(), Fail> {
-    let face = Face::parse_if_there(UPRIGHT, 0)?.ok_or("no font")?;
-    let mut buffer = buffer_of("a\u{301}\u{2003}b\u{fe01}");
-    assert!(normalize_by(&face, &mut buffer)?);
+    let face = upright()?;
+    let mut buffer = normalized(&face, "a\u{301}\u{2003}b\u{fe01}");
+    assert!(!buffer.have_output());
     assert_properties(buffer.info_slice_mut());
     Ok(())
 }
 
-/// The levels at which clusters stay in order.
+/// The levels at which clusters stay in order, and the one at which they need not.
+static LEVELS: [(BufferClusterLevel, bool); 3] = [
+    (BufferClusterLevel::MonotoneGraphemes, false),
+    (BufferClusterLevel::MonotoneCharacters, false),
+    (BufferClusterLevel::Characters, true),
+];
+
+/// Whether clusters may stand in any order at a level.
+fn is_any_order(level: BufferClusterLevel) -> bool {
+    let mut text = UnicodeBuffer::new();
+    text.set_cluster_level(level);
+    allows_any_order(&text.into_buffer())
+}
+
 #[test]
-fn clusters_may_stand_in_any_order() -> Result<(), Fail> {
-    for (level, wanted) in [
-        (BufferClusterLevel::MonotoneGraphemes, false),
-        (BufferClusterLevel::MonotoneCharacters, false),
-        (BufferClusterLevel::Characters, true),
-    ] {
-        let mut text = UnicodeBuffer::new();
-        text.set_cluster_level(level);
-        assert_eq!(allows_any_order(&text.into_buffer()), wanted, "{wanted}");
+fn clusters_may_stand_in_any_order() {
+    for (level, wanted) in &LEVELS {
+        assert!(is_any_order(*level) == *wanted, "{wanted}");
     }
-    Ok(())
 }

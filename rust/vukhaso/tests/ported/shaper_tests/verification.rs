@@ -3,17 +3,18 @@
 //! Glyphs that are verified.
 
 use crate::Fail;
-use crate::shaper_tests::upright::UPRIGHT;
+use crate::shaper_tests::upright::upright;
 use vukhaso::internals::buffer::{BufferFlags, Direction, GlyphBuffer, UnicodeBuffer, hb_buffer_t};
-use vukhaso::internals::ot_shape::{Face, ShapeError, VerifyError, shape};
+use vukhaso::internals::ot_shape::{ShapeError, VerifyError, shape};
 use vukhaso::internals::verification::{Original, ShapesParts, verify};
+use vukhaso::memory::AllocError;
 
-/// A text that runs in a direction.
-fn text_of(text: &str, direction: Direction) -> Result<UnicodeBuffer, Fail> {
+/// A text that runs to the right.
+fn text_of(text: &str) -> Result<UnicodeBuffer, AllocError> {
     let mut buffer = UnicodeBuffer::new();
     let _ = buffer.push_str(text)?;
     buffer.reset_clusters();
-    buffer.set_direction(direction);
+    buffer.set_direction(Direction::LeftToRight);
     Ok(buffer)
 }
 
@@ -34,18 +35,19 @@ impl ShapesParts for Unshaped {
     }
 }
 
+/// What is told of the glyphs of a text by parts of it that are not shaped.
+fn told(glyphs: &GlyphBuffer, text: UnicodeBuffer) -> Result<(), ShapeError> {
+    let original = Original::of(&text.into_buffer())?;
+    verify(&Unshaped, &original, glyphs)
+}
+
 /// Parts of a text that have other glyphs than the whole, which is not marked.
 #[test]
 fn a_text_that_is_not_safe_to_cut_is_told() -> Result<(), Fail> {
-    let face = Face::parse_if_there(UPRIGHT, 0)?.ok_or("no font")?;
-    let whole = text_of("ab", Direction::LeftToRight)?;
-    let glyphs = shape(&face, &[], whole)?;
-    let buffer = text_of("ab", Direction::LeftToRight)?.into_buffer();
-    let original = Original::of(&buffer)?;
-    let error = verify(&Unshaped, &original, &glyphs)
-        .err()
-        .ok_or("verified")?;
-    assert!(error == ShapeError::Unverified(VerifyError::UnsafeToBreak));
+    let face = upright()?;
+    let glyphs = shape(&face, &[], text_of("ab")?)?;
+    let error = told(&glyphs, text_of("ab")?).err();
+    assert!(error == Some(ShapeError::Unverified(VerifyError::UnsafeToBreak)));
     Ok(())
 }
 
@@ -53,10 +55,10 @@ fn a_text_that_is_not_safe_to_cut_is_told() -> Result<(), Fail> {
 /// are not marked as unsafe to concatenate.
 #[test]
 fn a_text_that_is_not_safe_to_put_together_is_told() -> Result<(), Fail> {
-    let face = Face::parse_if_there(UPRIGHT, 0)?.ok_or("no font")?;
-    let mut buffer = text_of("\u{1100}a\u{1161}", Direction::LeftToRight)?;
-    buffer.set_flags(verified());
-    let error = shape(&face, &[], buffer).err().ok_or("verified")?;
-    assert!(error == ShapeError::Unverified(VerifyError::UnsafeToConcat));
+    let face = upright()?;
+    let mut text = text_of("\u{1100}a\u{1161}")?;
+    text.set_flags(verified());
+    let error = shape(&face, &[], text).err();
+    assert!(error == Some(ShapeError::Unverified(VerifyError::UnsafeToConcat)));
     Ok(())
 }
