@@ -51,6 +51,8 @@ mod row_search;
 #[cfg(test)]
 mod serialize;
 #[cfg(test)]
+mod side_steps;
+#[cfg(test)]
 mod sides;
 #[cfg(test)]
 mod tables;

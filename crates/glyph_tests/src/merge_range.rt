@@ -2,16 +2,18 @@ use crate::lists::glyphs;
 use glyph_lists::cluster_reads::ClusterReads;
 use glyph_lists::merge_range::{PairChange, merge_range, pair_change};
 
+/// How many were put out, clusters, a range and a floor, and the least cluster and the range that is merged.
+static RANGES: [(usize, [u32; 4], usize, usize, usize, (u32, usize, usize)); 5] = [
+    (0, [4, 3, 3, 1], 0, 2, 0, (3, 0, 2)),
+    (0, [4, 3, 3, 1], 1, 4, 0, (1, 1, 4)),
+    (2, [3, 2, 2, 1], 2, 4, 0, (1, 1, 4)),
+    (2, [3, 2, 2, 1], 2, 4, 2, (1, 2, 4)),
+    (2, [0, 1, 1, 2], 0, 2, 0, (0, 0, 3)),
+];
+
 #[test]
 fn a_range_is_widened_through_the_runs_at_its_ends(rt: HostRuntime) {
-    let rows = [
-        (0, [4, 3, 3, 1], 0, 2, 0, (3, 0, 2)),
-        (0, [4, 3, 3, 1], 1, 4, 0, (1, 1, 4)),
-        (2, [3, 2, 2, 1], 2, 4, 0, (1, 1, 4)),
-        (2, [3, 2, 2, 1], 2, 4, 2, (1, 2, 4)),
-        (2, [0, 1, 1, 2], 0, 2, 0, (0, 0, 3)),
-    ];
-    for (cut, clusters, start, end, floor, want) in rows {
+    for &(cut, clusters, start, end, floor, want) in &RANGES {
         let list = glyphs(clusters);
         assert!(rt;
             cut <= 4 && start + 2 <= end && end <= 4,
@@ -25,18 +27,20 @@ fn a_range_is_widened_through_the_runs_at_its_ends(rt: HostRuntime) {
     }
 }
 
+/// How many were put out, clusters, the first of two glyphs, a floor, and what changes.
+static PAIRS: [(usize, [u32; 4], usize, usize, PairChange); 7] = [
+    (0, [4, 3, 3, 1], 0, 0, PairChange::First(3)),
+    (0, [1, 2, 2, 2], 0, 0, PairChange::Run),
+    (0, [1, 2, 3, 3], 0, 0, PairChange::Second(1)),
+    (2, [3, 2, 2, 1], 2, 0, PairChange::Run),
+    (2, [3, 2, 2, 1], 2, 2, PairChange::First(1)),
+    (2, [0, 1, 2, 3], 2, 0, PairChange::Second(2)),
+    (1, [1, 1, 2, 3], 0, 0, PairChange::Nothing),
+];
+
 #[test]
 fn of_two_glyphs_the_higher_one_changes(rt: HostRuntime) {
-    let rows = [
-        (0, [4, 3, 3, 1], 0, 0, PairChange::First(3)),
-        (0, [1, 2, 2, 2], 0, 0, PairChange::Run),
-        (0, [1, 2, 3, 3], 0, 0, PairChange::Second(1)),
-        (2, [3, 2, 2, 1], 2, 0, PairChange::Run),
-        (2, [3, 2, 2, 1], 2, 2, PairChange::First(1)),
-        (2, [0, 1, 2, 3], 2, 0, PairChange::Second(2)),
-        (1, [1, 1, 2, 3], 0, 0, PairChange::Nothing),
-    ];
-    for (cut, clusters, start, floor, want) in rows {
+    for &(cut, clusters, start, floor, want) in &PAIRS {
         let list = glyphs(clusters);
         assert!(rt;
             cut <= 4 && start <= 2,

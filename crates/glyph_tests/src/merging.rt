@@ -62,19 +62,35 @@ fn flags_go_where_the_cluster_changes(rt: HostRuntime) {
     assert_glyphs(&rt, &info, &[(0, 0), (1, 3), (1, 0)]);
 }
 
+/// How many were put out, clusters, a range, and the clusters and masks of both sides after the merge.
+static MARKS: [(usize, [u32; 4], usize, usize, &[(u32, u32)], &[(u32, u32)]); 3] = [
+    (
+        0,
+        [0, 1, 2, 3],
+        0,
+        2,
+        &[],
+        &[(0, 0), (1, 3), (2, 0), (3, 0)],
+    ),
+    (1, [2, 0, 1, 2], 2, 4, &[(2, 0)], &[(0, 0), (1, 0), (2, 3)]),
+    (
+        0,
+        [1, 0, 2, 2],
+        0,
+        1,
+        &[],
+        &[(1, 0), (0, 0), (2, 0), (2, 0)],
+    ),
+];
+
 #[test]
 fn a_merge_in_any_order_marks(rt: HostRuntime) {
-    let rows = [
-        (0, [0, 1, 2, 3], 0, 2, [(0, 0), (1, 3), (2, 0), (3, 0)]),
-        (1, [2, 0, 1, 2], 2, 4, [(2, 0), (0, 0), (1, 0), (2, 3)]),
-        (0, [1, 0, 2, 2], 0, 1, [(1, 0), (0, 0), (2, 0), (2, 0)]),
-    ];
-    for (cut, before, start, end, after) in rows {
+    for &(cut, before, start, end, out_after, input_after) in &MARKS {
         let mut list = glyphs(before);
         assert!(rt; cut <= start && start <= end && end <= 4);
         let (out, input) = list.split_at_mut(cut);
         merge_input(out, input, start - cut, end - cut, ClusterOrder::Any);
-        assert_glyphs(&rt, out, &after[..cut]);
-        assert_glyphs(&rt, input, &after[cut..]);
+        assert_glyphs(&rt, out, out_after);
+        assert_glyphs(&rt, input, input_after);
     }
 }

@@ -1,219 +1,310 @@
-use crate::lists::{assert_clusters, assert_masks, glyph};
-use glyph_lists::cluster_order::ClusterOrder;
+//! Tests of both sides of a buffer: runs of steps, and what they leave.
+use crate::lists::{assert_clusters, assert_glyphs};
+use crate::side_steps::{Step, list, made, make};
+use glyph_lists::cluster_order::ClusterOrder::{Any, Monotone};
 use glyph_lists::glyph_flags::BREAK_BITS;
 use glyph_lists::range_change::RangeChange;
 use glyph_sides::Sides;
 use std::alloc::Global;
 use std::process::Abort;
 
-/// A list of glyphs in these clusters.
-fn list(rt: &impl Abort, alloc: Global, clusters: &[u32]) -> Sides {
-    let mut sides = Sides::new(alloc);
-    for cluster in clusters {
-        assert!(rt; !sides.is_open());
-        assert!(rt; sides.push(glyph(*cluster, 0)).is_ok());
+/// Steps, and what they leave: the clusters and masks of both sides, and whether the output is separate.
+struct Stage<'a> {
+    steps: &'a [Step<'a>],
+    out: &'a [(u32, u32)],
+    input: &'a [(u32, u32)],
+    is_separate: bool,
+}
+
+fn make_all(rt: &impl Abort, sides: &mut Sides, stage: &Stage<'_>) {
+    for step in stage.steps {
+        make(rt, sides, step);
     }
-    sides
+    assert_glyphs(rt, sides.out(), stage.out);
+    assert_glyphs(rt, sides.input(), stage.input);
+    assert!(rt; sides.out_len() == stage.out.len());
+    assert!(rt; sides.is_separate() == stage.is_separate);
 }
 
-/// The same, with an output open.
-fn opened(rt: &impl Abort, alloc: Global, clusters: &[u32]) -> Sides {
-    let mut sides = list(rt, alloc, clusters);
-    assert!(rt; !sides.is_open());
-    sides.open();
-    sides
+/// The clusters of a list, and the stages of a run over it.
+type Run<'a> = (&'a [u32], &'a [Stage<'a>]);
+
+fn assert_runs(rt: &impl Abort, alloc: Global, runs: &[Run<'_>]) {
+    for (clusters, stages) in runs {
+        let mut sides = list(rt, alloc, clusters);
+        for stage in *stages {
+            make_all(rt, &mut sides, stage);
+        }
+    }
 }
 
-fn next(rt: &impl Abort, sides: &mut Sides, n: usize) {
-    assert!(rt; n <= sides.lookahead_len());
-    assert!(rt; sides.next(n).is_ok());
-}
+const IN_PLACE: &[Step<'static>] = &[
+    Step::Open,
+    Step::NextOne,
+    Step::Skip(1),
+    Step::Put(9, 0),
+    Step::Next(2),
+];
 
-fn skip(rt: &impl Abort, sides: &mut Sides, n: usize) {
-    assert!(rt; n <= sides.lookahead_len());
-    sides.skip(n);
-}
+const SEPARATE: &[Step<'static>] = &[Step::Open, Step::Put(7, 0), Step::Put(8, 1), Step::Next(1)];
 
-fn put(rt: &impl Abort, sides: &mut Sides, cluster: u32, read: usize) {
-    assert!(rt; sides.is_open());
-    assert!(rt; read <= sides.input().len());
-    assert!(rt; sides.put(glyph(cluster, 0), read).is_ok());
-}
-
-fn close(rt: &impl Abort, sides: &mut Sides) {
-    assert!(rt; sides.is_open());
-    assert!(rt; sides.close().is_ok());
-}
-
-/// What was put out, what is left to read, and whether the output is separate.
-fn assert_sides(rt: &impl Abort, sides: &Sides, out: &[u32], input: &[u32], is_separate: bool) {
-    assert_clusters(rt, sides.out(), out);
-    assert_clusters(rt, sides.input(), input);
-    assert!(rt; sides.out_len() == out.len());
-    assert!(rt; sides.is_separate() == is_separate);
-}
+static CURSOR: [Run<'static>; 2] = [
+    (
+        &[0, 1, 2, 3, 4],
+        &[
+            Stage {
+                steps: IN_PLACE,
+                out: &[(0, 0), (9, 0), (2, 0), (3, 0)],
+                input: &[(4, 0)],
+                is_separate: false,
+            },
+            Stage {
+                steps: &[Step::Close],
+                out: &[],
+                input: &[(0, 0), (9, 0), (2, 0), (3, 0), (4, 0)],
+                is_separate: false,
+            },
+        ],
+    ),
+    (
+        &[0, 1, 2],
+        &[
+            Stage {
+                steps: SEPARATE,
+                out: &[(7, 0), (8, 0), (1, 0)],
+                input: &[(2, 0)],
+                is_separate: true,
+            },
+            Stage {
+                steps: &[Step::Rewind(1)],
+                out: &[(7, 0)],
+                input: &[(8, 0), (1, 0), (2, 0)],
+                is_separate: true,
+            },
+            Stage {
+                steps: &[Step::Close],
+                out: &[],
+                input: &[(7, 0), (8, 0), (1, 0), (2, 0)],
+                is_separate: false,
+            },
+        ],
+    ),
+];
 
 #[test]
-fn glyphs_are_put_out_in_place(rt: HostRuntime) {
-    let mut sides = opened(&rt, rt.alloc(), &[0, 1, 2, 3, 4]);
-    assert!(rt; sides.lookahead_len() > 0);
-    assert!(rt; sides.next_one().is_ok());
-    skip(&rt, &mut sides, 1);
-    put(&rt, &mut sides, 9, 0);
-    next(&rt, &mut sides, 2);
-    assert_sides(&rt, &sides, &[0, 9, 2, 3], &[4], false);
-    assert!(rt; sides.idx() == 4);
-    assert!(rt; sides.len() == 5);
-    assert!(rt; !sides.is_separate());
-    assert_clusters(&rt, sides.storage(), &[0, 9, 2, 3, 4]);
-    close(&rt, &mut sides);
-    assert_sides(&rt, &sides, &[], &[0, 9, 2, 3, 4], false);
-    assert!(rt; sides.idx() == 0);
-}
-
-#[test]
-fn more_than_was_read_is_separate(rt: HostRuntime) {
-    let mut sides = opened(&rt, rt.alloc(), &[0, 1, 2]);
-    put(&rt, &mut sides, 7, 0);
-    put(&rt, &mut sides, 8, 1);
-    next(&rt, &mut sides, 1);
-    assert_sides(&rt, &sides, &[7, 8, 1], &[2], true);
-    assert!(rt; sides.lookahead_len() > 0);
-    assert!(rt; sides.len() <= 3);
-    assert!(rt; sides.out_len() <= 3);
-    assert!(rt; sides.next_exceeds(1, 3));
-    assert!(rt; sides.out_len() > 1);
-    assert!(rt; sides.rewind(1).is_ok());
-    assert_sides(&rt, &sides, &[7], &[8, 1, 2], true);
-    close(&rt, &mut sides);
-    assert_sides(&rt, &sides, &[], &[7, 8, 1, 2], false);
+fn glyphs_are_put_out_and_taken_back(rt: HostRuntime) {
+    assert_runs(&rt, rt.alloc(), &CURSOR);
 }
 
 /// Two glyphs in one cluster keep the first; a falling one is merged.
+const COPIED: &[Step<'static>] = &[
+    Step::Open,
+    Step::ReplaceKept(2, &[50]),
+    Step::Replace(2, &[51, 52, 53]),
+];
+
 #[test]
 fn glyphs_give_way_to_copies(rt: HostRuntime) {
-    let mut sides = opened(&rt, rt.alloc(), &[0, 0, 3, 2, 5]);
-    assert!(rt; sides.is_open());
-    assert!(rt; sides.input().len() >= 2);
-    assert!(rt; sides.out_len() <= 9 && sides.len() <= 9);
-    assert!(rt; sides.replace_kept(2, &[50], ClusterOrder::Monotone, 9));
-    assert!(rt; sides.is_open());
-    assert!(rt; sides.input().len() >= 2);
-    assert!(rt;
-        sides
-            .replace(2, &[51, 52, 53], ClusterOrder::Monotone)
-            .is_ok()
-    );
-    assert_sides(&rt, &sides, &[0, 2, 2, 2], &[5], false);
-    assert!(rt; sides.out()[3].glyph_id == 53);
+    let sides = made(&rt, rt.alloc(), &[0, 0, 3, 2, 5], COPIED);
+    assert_clusters(&rt, sides.out(), &[0, 2, 2, 2]);
+    assert_clusters(&rt, sides.input(), &[5]);
+    assert!(rt; !sides.is_separate());
+    let last = sides.out().last().map(|glyph| glyph.glyph_id);
+    assert!(rt; last == Some(53));
+}
+
+/// Merges, marks and scans of both sides as one list.
+static CHANGES: [Run<'static>; 2] = [
+    (
+        &[3, 9, 3, 2, 1],
+        &[
+            Stage {
+                steps: &[
+                    Step::Open,
+                    Step::Next(1),
+                    Step::Skip(1),
+                    Step::MergeInput(2, 4, Monotone),
+                ],
+                out: &[(2, 0)],
+                input: &[(2, 0), (2, 0), (1, 0)],
+                is_separate: false,
+            },
+            Stage {
+                steps: &[Step::MergeInput(3, 5, Any)],
+                out: &[(2, 0)],
+                input: &[(2, 0), (2, 3), (1, 0)],
+                is_separate: false,
+            },
+            Stage {
+                steps: &[Step::ChangeRange(0, 2, RangeChange::Mark { bits: 4 })],
+                out: &[(2, 4)],
+                input: &[(2, 4), (2, 3), (1, 0)],
+                is_separate: false,
+            },
+            Stage {
+                steps: &[Step::DeleteHead],
+                out: &[(2, 4)],
+                input: &[(2, 3), (1, 0)],
+                is_separate: false,
+            },
+        ],
+    ),
+    (
+        &[4, 3, 3, 1],
+        &[
+            Stage {
+                steps: &[Step::Open, Step::Next(1), Step::ScanInput(1, 3)],
+                out: &[(4, 0)],
+                input: &[(3, 0), (3, 0), (1, 0)],
+                is_separate: false,
+            },
+            Stage {
+                steps: &[Step::ChangeRange(0, 4, SCAN)],
+                out: &[(4, 3)],
+                input: &[(3, 3), (3, 3), (1, 0)],
+                is_separate: false,
+            },
+        ],
+    ),
+];
+
+const SCAN: RangeChange = RangeChange::Scan {
+    bits: BREAK_BITS,
+    order: Monotone,
+};
+
+#[test]
+fn both_sides_are_changed_as_one_list(rt: HostRuntime) {
+    assert_runs(&rt, rt.alloc(), &CHANGES);
+}
+
+/// Lists that are written, cut and merged, and an output that is written.
+static WRITES: [Run<'static>; 3] = [
+    (
+        &[0, 1, 2],
+        &[
+            Stage {
+                steps: &[
+                    Step::Open,
+                    Step::Next(1),
+                    Step::WriteAhead(1, 7),
+                    Step::WriteLast(8),
+                ],
+                out: &[(8, 0)],
+                input: &[(1, 0), (7, 0)],
+                is_separate: false,
+            },
+            Stage {
+                steps: &[Step::WriteOut(5)],
+                out: &[(5, 0)],
+                input: &[(1, 0), (7, 0)],
+                is_separate: false,
+            },
+        ],
+    ),
+    (
+        &[3, 3, 2, 1],
+        &[
+            Stage {
+                steps: &[Step::Reserve(5), Step::ReserveMore(9)],
+                out: &[],
+                input: &[(3, 0), (3, 0), (2, 0), (1, 0)],
+                is_separate: false,
+            },
+            Stage {
+                steps: &[Step::GoTo(1), Step::MergeInput(1, 3, Monotone)],
+                out: &[],
+                input: &[(3, 0), (2, 0), (2, 0), (1, 0)],
+                is_separate: false,
+            },
+            Stage {
+                steps: &[Step::WriteList(6), Step::Truncate(2)],
+                out: &[],
+                input: &[(6, 0), (6, 0)],
+                is_separate: false,
+            },
+            Stage {
+                steps: &[Step::Clear],
+                out: &[],
+                input: &[],
+                is_separate: false,
+            },
+        ],
+    ),
+    (
+        &[9],
+        &[Stage {
+            steps: &[Step::Append("aéb")],
+            out: &[],
+            input: &[(9, 0), (0, 0), (1, 0), (3, 0)],
+            is_separate: false,
+        }],
+    ),
+];
+
+#[test]
+fn what_is_written_stands_at_its_place(rt: HostRuntime) {
+    assert_runs(&rt, rt.alloc(), &WRITES);
+}
+
+/// Asserts where the cursor is, how many glyphs there are, and how many are left to read.
+fn assert_lens(rt: &impl Abort, sides: &Sides, idx: usize, len: usize, left: usize) {
+    assert!(rt; [sides.idx(), sides.len(), sides.lookahead_len()] == [idx, len, left]);
+}
+
+fn assert_storage(rt: &impl Abort, sides: &Sides, clusters: &[u32]) {
+    assert!(rt; !sides.is_separate());
+    assert_clusters(rt, sides.storage(), clusters);
 }
 
 #[test]
-fn both_sides_are_merged_and_marked_as_one_list(rt: HostRuntime) {
-    let mut sides = opened(&rt, rt.alloc(), &[3, 9, 3, 2, 1]);
-    next(&rt, &mut sides, 1);
-    skip(&rt, &mut sides, 1);
-    assert!(rt; sides.idx() <= 2);
-    assert!(rt; sides.len() >= 4);
-    sides.merge_input(2, 4, ClusterOrder::Monotone);
-    assert_sides(&rt, &sides, &[2], &[2, 2, 1], false);
-    assert!(rt; sides.idx() <= 3);
-    assert!(rt; sides.len() >= 5);
-    sides.merge_input(3, 5, ClusterOrder::Any);
-    assert_masks(&rt, sides.input(), &[0, 3, 0]);
-    assert!(rt; sides.out().len() <= 2);
-    assert!(rt; sides.out().len() + sides.input().len() >= 4);
-    sides.change_range(0, 2, RangeChange::Mark { bits: 4 });
-    assert_masks(&rt, sides.out(), &[4]);
-    assert_masks(&rt, sides.input(), &[4, 3, 0]);
-    assert!(rt; sides.is_open());
-    assert!(rt; !sides.input().is_empty());
-    sides.delete_head(ClusterOrder::Monotone);
-    assert!(rt; sides.out_len() == 1);
-    assert!(rt; sides.lookahead_len() == 2);
+fn glyphs_in_place_are_stored_as_they_stand(rt: HostRuntime) {
+    let mut sides = made(&rt, rt.alloc(), &[0, 1, 2, 3, 4], IN_PLACE);
+    assert_lens(&rt, &sides, 4, 5, 1);
+    assert_storage(&rt, &sides, &[0, 9, 2, 3, 4]);
+    make(&rt, &mut sides, &Step::Close);
+    assert_lens(&rt, &sides, 0, 5, 5);
 }
 
-#[test]
-fn scans_mark_outside_the_least_cluster(rt: HostRuntime) {
-    let mut sides = opened(&rt, rt.alloc(), &[4, 3, 3, 1]);
-    next(&rt, &mut sides, 1);
-    assert!(rt; sides.len() >= 4);
-    assert!(rt; sides.idx() <= 1);
-    sides.scan_input(1, 3, BREAK_BITS, ClusterOrder::Monotone);
-    assert_masks(&rt, sides.input(), &[0, 0, 0]);
-    assert!(rt; sides.out().len() <= 4);
-    assert!(rt; sides.out().len() + sides.input().len() >= 4);
-    let scan = RangeChange::Scan {
-        bits: BREAK_BITS,
-        order: ClusterOrder::Monotone,
-    };
-    sides.change_range(0, 4, scan);
-    assert_masks(&rt, sides.out(), &[3]);
-    assert_masks(&rt, sides.input(), &[3, 3, 0]);
-}
-
-#[test]
-fn single_glyphs_are_read_and_written(rt: HostRuntime) {
-    let mut sides = opened(&rt, rt.alloc(), &[0, 1, 2]);
-    next(&rt, &mut sides, 1);
+/// Asserts the cluster of the current glyph, of the one behind it, and where the last place of both is.
+fn assert_heads(rt: &impl Abort, sides: &Sides, head: u32, next: u32) {
+    assert!(rt; sides.is_open() && !sides.input().is_empty());
+    assert!(rt; sides.head().cluster == head);
     assert!(rt; sides.lookahead_len() > 1);
-    assert!(rt; sides.cur(1).cluster == 2);
-    sides.cur_mut(1).cluster = 7;
-    assert!(rt; sides.out_len() > 0);
-    sides.last_mut().cluster = 8;
-    assert!(rt; sides.is_open());
-    assert!(rt; !sides.input().is_empty());
-    assert!(rt; sides.head().cluster == 1);
-    assert_sides(&rt, &sides, &[8], &[1, 7], false);
-    for glyph in sides.out_mut() {
-        glyph.cluster = 5;
-    }
-    assert_sides(&rt, &sides, &[5], &[1, 7], false);
-    assert!(rt; sides.idx() <= 2);
-    assert!(rt; sides.len() >= 2);
-    assert!(rt; sides.place(2) == 2);
+    assert!(rt; sides.cur(1).cluster == next);
+}
+
+fn assert_place(rt: &impl Abort, sides: &Sides, k: usize, place: usize) {
+    assert!(rt; sides.idx() <= k && k <= sides.len());
+    assert!(rt; sides.place(k) == place);
+}
+
+fn assert_exceeds(rt: &impl Abort, sides: &Sides, more: usize, max_len: usize) {
+    assert!(rt; more <= sides.lookahead_len());
+    assert!(rt; sides.out_len() <= max_len && sides.len() <= max_len);
+    assert!(rt; sides.next_exceeds(more, max_len));
 }
 
 #[test]
-fn a_list_is_cut_and_merged(rt: HostRuntime) {
+fn single_glyphs_and_places_are_read(rt: HostRuntime) {
+    let sides = made(&rt, rt.alloc(), &[0, 1, 2], &[Step::Open, Step::Next(1)]);
+    assert_heads(&rt, &sides, 1, 2);
+    assert_place(&rt, &sides, 2, 2);
+    let sides = made(&rt, rt.alloc(), &[0, 1, 2], SEPARATE);
+    assert_exceeds(&rt, &sides, 1, 3);
+}
+
+/// Room is never taken away, and only what was asked for by its size is room.
+#[test]
+fn room_is_made(rt: HostRuntime) {
     let mut sides = list(&rt, rt.alloc(), &[3, 3, 2, 1]);
     assert!(rt; sides.room() == 0);
-    assert!(rt; sides.reserve(5).is_ok());
-    assert!(rt; sides.room() == 5);
-    assert!(rt; sides.reserve(3).is_ok());
-    assert!(rt; sides.room() == 5);
-    assert!(rt; !sides.is_open());
-    assert!(rt; sides.reserve_more(9).is_ok());
-    assert!(rt; sides.room() == 5);
-    assert_clusters(&rt, sides.input(), &[3, 3, 2, 1]);
-    assert!(rt; !sides.is_open());
-    assert!(rt; sides.input().len() >= 3);
-    sides.go_to(1);
-    assert!(rt; !sides.is_open());
-    assert!(rt; sides.len() >= 3);
-    sides.merge_input(1, 3, ClusterOrder::Monotone);
-    assert_clusters(&rt, sides.input(), &[3, 2, 2, 1]);
-    assert!(rt; !sides.is_open());
-    for glyph in sides.list_mut() {
-        glyph.cluster = 6;
+    for (step, room) in [
+        (Step::Reserve(5), 5),
+        (Step::Reserve(3), 5),
+        (Step::ReserveMore(9), 5),
+    ] {
+        make(&rt, &mut sides, &step);
+        assert!(rt; sides.room() == room);
     }
-    assert!(rt; !sides.is_open());
-    sides.truncate(2);
-    assert_sides(&rt, &sides, &[], &[6, 6], false);
-    sides.clear();
-    assert_sides(&rt, &sides, &[], &[], false);
-}
-
-#[tactic(auto, using(std::proofs::lemmas::Str::chars_from_encodes))]
-fn append(rt: &impl Abort, sides: &mut Sides, text: &str) {
-    assert!(rt; !sides.is_open());
-    let count = text.chars().count();
-    assert!(rt; sides.append(text, count).is_ok());
-}
-
-#[test]
-fn a_text_stands_in_clusters_of_its_bytes(rt: HostRuntime) {
-    let mut sides = list(&rt, rt.alloc(), &[9]);
-    append(&rt, &mut sides, "aéb");
-    assert_clusters(&rt, sides.input(), &[9, 0, 1, 3]);
 }

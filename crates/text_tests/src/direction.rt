@@ -51,13 +51,22 @@ static DIRECTIONS: [Row<'static>; 5] = [
 fn each_direction_has_its_line_and_its_opposite(rt: HostRuntime) {
     for row in &DIRECTIONS {
         let (text, direction) = (row.text, row.direction);
-        assert!(rt; direction.is_horizontal() == row.is_horizontal, "`{text}`");
-        assert!(rt; direction.is_vertical() != row.is_horizontal, "`{text}`");
-        assert!(rt; direction.is_forward() == row.is_forward, "`{text}`");
-        assert!(rt; direction.is_backward() != row.is_forward, "`{text}`");
-        assert!(rt; direction.reverse() == row.reverse, "`{text}`");
+        let lines = [
+            direction.is_horizontal(),
+            !direction.is_vertical(),
+            direction.is_forward(),
+            !direction.is_backward(),
+        ];
+        let (is_horizontal, is_forward) = (row.is_horizontal, row.is_forward);
+        assert!(rt;
+            lines == [is_horizontal, is_horizontal, is_forward, is_forward],
+            "`{text}`"
+        );
         let named = text.parse::<Direction>().unwrap_or_default();
-        assert!(rt; named == direction, "`{text}`");
+        assert!(rt;
+            [named, direction.reverse()] == [direction, row.reverse],
+            "`{text}`"
+        );
     }
     assert!(rt; Direction::default() == Direction::Invalid);
     assert!(rt; " ltr".parse::<Direction>() == Err("invalid direction"));

@@ -1,37 +1,41 @@
 //! Tests of tags: tables, and complex cases. `rows/calls/tags.calls` has scripts and languages of every form.
 use rb_text::{
-    ComplexLanguages, Language, LanguageTable, NoComplexLanguages, Script, SmallVecExt, Tag,
-    TagExt, ThreeTags, tags_from_script_and_language,
+    ComplexLanguages, Language, LanguageTable, NoComplexLanguages, SmallVecExt, Tag, ThreeTags,
+    tags_from_script_and_language,
 };
 use std::alloc::Global;
 use std::process::Abort;
 use std::test::Fail;
 
-/// Languages, with no script and over [`TABLE`], and their tags.
-static ROWS_OF_TABLE: [[&str; 4]; 20] = [
-    ["-", "a", "", "A   "],
-    ["-", "aa", "", "AA1 "],
-    ["-", "aaa", "", ""],
-    ["-", "aab", "", "AAB "],
-    ["-", "ab", "", "AB1 AB2 "],
-    ["-", "ab-x-hbsc", "", "AB1 AB2 "],
-    ["-", "ab-x-hbotabc", "", "ABC "],
-    ["-", "abc", "", "ABC1"],
-    ["-", "abc-de", "", "ABC1"],
-    ["-", "ar-ary", "", "MOR "],
-    ["-", "ar-ary-x-y", "", "MOR "],
-    ["-", "ar-ary1", "", ""],
-    ["-", "ar-1ry", "", ""],
-    ["-", "a-ary", "", "A   "],
-    ["-", "-a-ary", "", ""],
-    ["-", "en-x-hbscdflt", "DFLT", "ENG "],
-    ["-", "en-ary1-a-foo", "", "ENG "],
-    ["-", "xy-ml", "", ""],
-    ["-", "zz", "", "ZZ1 ZZ2 ZZ3 "],
-    ["-", "zzz", "", "ZZZ "],
+/// Languages, and the tags of scripts and of languages that they have with no script and over [`TABLE`].
+static ROWS_OF_TABLE: [(&str, &[Tag], &[Tag]); 20] = [
+    ("a", &[], &[Tag(0x41202020)]),
+    ("aa", &[], &[Tag(0x41413120)]),
+    ("aaa", &[], &[]),
+    ("aab", &[], &[Tag(0x41414220)]),
+    ("ab", &[], &[Tag(0x41423120), Tag(0x41423220)]),
+    ("ab-x-hbsc", &[], &[Tag(0x41423120), Tag(0x41423220)]),
+    ("ab-x-hbotabc", &[], &[Tag(0x41424320)]),
+    ("abc", &[], &[Tag(0x41424331)]),
+    ("abc-de", &[], &[Tag(0x41424331)]),
+    ("ar-ary", &[], &[Tag(0x4d4f5220)]),
+    ("ar-ary-x-y", &[], &[Tag(0x4d4f5220)]),
+    ("ar-ary1", &[], &[]),
+    ("ar-1ry", &[], &[]),
+    ("a-ary", &[], &[Tag(0x41202020)]),
+    ("-a-ary", &[], &[]),
+    ("en-x-hbscdflt", &[Tag(0x44464c54)], &[Tag(0x454e4720)]),
+    ("en-ary1-a-foo", &[], &[Tag(0x454e4720)]),
+    ("xy-ml", &[], &[]),
+    (
+        "zz",
+        &[],
+        &[Tag(0x5a5a3120), Tag(0x5a5a3220), Tag(0x5a5a3320)],
+    ),
+    ("zzz", &[], &[Tag(0x5a5a5a20)]),
 ];
 
-const TABLE: [(&str, Tag); 17] = [
+static TABLE: [(&str, Tag); 17] = [
     ("a", Tag(0x41202020)),
     ("aa", Tag(0x41413120)),
     ("aa", Tag(0)),
@@ -77,64 +81,67 @@ impl ComplexLanguages for OneTwoThree {
     }
 }
 
-/// The tags are those of the text, four bytes each.
-fn are(rt: &impl Abort, tags: &ThreeTags, text: &str) {
-    assert!(rt; tags.len() * 4 == text.len());
-    for (tag, bytes) in tags.iter().zip(text.as_bytes().chunks(4)) {
-        assert!(rt; *tag == Tag::from_bytes_lossy(bytes), "{text}");
-    }
-}
-
-/// The language of a text, if it is one.
-fn language_of(alloc: Global, text: &str) -> Option<Language> {
-    if text == "-" {
-        return None;
-    }
-    Language::from_str(alloc, text).ok()
-}
-
-fn rows_hold(rt: &impl Abort, alloc: Global, table: &LanguageTable<'_>, rows: &[[&str; 4]]) {
-    for [script, language, script_tags, language_tags] in rows {
-        let script = script.parse::<Script>().ok().filter(|_| *script != "-");
-        let language = language_of(alloc, language);
-        let (scripts, languages) = tags_from_script_and_language(
-            script,
-            language.as_ref(),
-            table,
-            &NoComplexLanguages,
-        );
-        are(rt, &scripts, script_tags);
-        are(rt, &languages, language_tags);
-    }
-}
-
-#[test]
-fn rows_of_a_table(rt: HostRuntime) -> Result<(), Fail> {
-    let many_rows = LanguageTable::new(&TABLE).ok_or("no table")?;
-    rows_hold(&rt, rt.alloc(), &many_rows, &ROWS_OF_TABLE);
+fn assert_tags(
+    rt: &impl Abort,
+    alloc: Global,
+    table: &LanguageTable<'_>,
+    (text, scripts, languages): &(&str, &[Tag], &[Tag]),
+) -> Result<(), Fail> {
+    let language = Language::from_str(alloc, text)?;
+    let (found_scripts, found_languages) = tags_from_script_and_language(
+        None,
+        Some(&language),
+        table,
+        &NoComplexLanguages,
+    );
+    assert!(rt; found_scripts.as_slice() == *scripts, "{text}");
+    assert!(rt; found_languages.as_slice() == *languages, "{text}");
     Ok(())
 }
 
 #[test]
-fn complex_cases_come_before_the_table(rt: HostRuntime) -> Result<(), Fail> {
+fn rows_of_a_table(rt: HostRuntime) -> Result<(), Fail> {
     let table = LanguageTable::new(&TABLE).ok_or("no table")?;
-    let language = Language::from_str(rt.alloc(), "zz")?;
-    let (_, none) = tags_from_script_and_language(None, Some(&language), &table, &NoTags);
-    assert!(rt; none.left() == 3);
-    let (_, three) = tags_from_script_and_language(None, Some(&language), &table, &OneTwoThree);
+    for row in &ROWS_OF_TABLE {
+        assert_tags(&rt, rt.alloc(), &table, row)?;
+    }
+    Ok(())
+}
+
+/// The tags of `zz`, which has some in the table.
+fn language_tags(alloc: Global, complex: &impl ComplexLanguages) -> Result<ThreeTags, Fail> {
+    let table = LanguageTable::new(&TABLE).ok_or("no table")?;
+    let language = Language::from_str(alloc, "zz")?;
+    let (_, tags) = tags_from_script_and_language(None, Some(&language), &table, complex);
+    Ok(tags)
+}
+
+#[test]
+fn complex_cases_come_before_the_table(rt: HostRuntime) -> Result<(), Fail> {
+    assert!(rt; language_tags(rt.alloc(), &NoTags)?.left() == 3);
+    let three = language_tags(rt.alloc(), &OneTwoThree)?;
     assert!(rt; three.as_slice() == [Tag(1), Tag(2), Tag(3)].as_slice());
     assert!(rt; SmallVecExt::is_full(&three));
     Ok(())
 }
 
+const ONE: Tag = Tag(1);
+
+/// Rows, and whether they are a table.
+static TABLES: [(&[(&str, Tag)], bool); 8] = [
+    (&[], true),
+    (&[("a", ONE), ("a", ONE), ("b", ONE)], true),
+    (&[("b", ONE), ("a", ONE)], false),
+    (&[("a", ONE), ("b", ONE), ("a", ONE)], false),
+    (&[("", ONE)], false),
+    (&[("A", ONE)], false),
+    (&[("\u{e9}", ONE)], false),
+    (&[("a-b", ONE)], false),
+];
+
 #[test]
 fn keys_of_a_table_never_fall(rt: HostRuntime) {
-    let tag = Tag(1);
-    assert!(rt; LanguageTable::new(&[]).is_some());
-    assert!(rt; LanguageTable::new(&[("a", tag), ("a", tag), ("b", tag)]).is_some());
-    assert!(rt; LanguageTable::new(&[("b", tag), ("a", tag)]).is_none());
-    assert!(rt; LanguageTable::new(&[("a", tag), ("b", tag), ("a", tag)]).is_none());
-    for key in ["", "A", "\u{e9}", "a-b"] {
-        assert!(rt; LanguageTable::new(&[(key, tag)]).is_none(), "{key}");
+    for (rows, is_table) in &TABLES {
+        assert!(rt; LanguageTable::new(rows).is_some() == *is_table, "{rows:?}");
     }
 }

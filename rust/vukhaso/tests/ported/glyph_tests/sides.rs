@@ -1,218 +1,310 @@
 // Written by tools/plain_rust from crates/glyph_tests. Do not edit.
 
-use crate::glyph_tests::lists::{assert_clusters, assert_masks, glyph};
-use vukhaso::internals::glyph_lists::cluster_order::ClusterOrder;
+//! Tests of both sides of a buffer: runs of steps, and what they leave.
+use crate::glyph_tests::lists::{assert_clusters, assert_glyphs};
+use crate::glyph_tests::side_steps::{Step, list, made, make};
+use vukhaso::internals::glyph_lists::cluster_order::ClusterOrder::{Any, Monotone};
 use vukhaso::internals::glyph_lists::glyph_flags::BREAK_BITS;
 use vukhaso::internals::glyph_lists::range_change::RangeChange;
 use vukhaso::internals::glyph_sides::Sides;
 
-/// A list of glyphs in these clusters.
-fn list(clusters: &[u32]) -> Sides {
-    let mut sides = Sides::new();
-    for cluster in clusters {
-        assert!(!sides.is_open());
-        assert!(sides.push(glyph(*cluster, 0)).is_ok());
+/// Steps, and what they leave: the clusters and masks of both sides, and whether the output is separate.
+struct Stage<'a> {
+    steps: &'a [Step<'a>],
+    out: &'a [(u32, u32)],
+    input: &'a [(u32, u32)],
+    is_separate: bool,
+}
+
+fn make_all(sides: &mut Sides, stage: &Stage<'_>) {
+    for step in stage.steps {
+        make(sides, step);
     }
-    sides
+    assert_glyphs(sides.out(), stage.out);
+    assert_glyphs(sides.input(), stage.input);
+    assert!(sides.out_len() == stage.out.len());
+    assert!(sides.is_separate() == stage.is_separate);
 }
 
-/// The same, with an output open.
-fn opened(clusters: &[u32]) -> Sides {
-    let mut sides = list(clusters);
-    assert!(!sides.is_open());
-    sides.open();
-    sides
+/// The clusters of a list, and the stages of a run over it.
+type Run<'a> = (&'a [u32], &'a [Stage<'a>]);
+
+fn assert_runs(runs: &[Run<'_>]) {
+    for (clusters, stages) in runs {
+        let mut sides = list(clusters);
+        for stage in *stages {
+            make_all(&mut sides, stage);
+        }
+    }
 }
 
-fn next(sides: &mut Sides, n: usize) {
-    assert!(n <= sides.lookahead_len());
-    assert!(sides.next(n).is_ok());
-}
+const IN_PLACE: &[Step<'static>] = &[
+    Step::Open,
+    Step::NextOne,
+    Step::Skip(1),
+    Step::Put(9, 0),
+    Step::Next(2),
+];
 
-fn skip(sides: &mut Sides, n: usize) {
-    assert!(n <= sides.lookahead_len());
-    sides.skip(n);
-}
+const SEPARATE: &[Step<'static>] = &[Step::Open, Step::Put(7, 0), Step::Put(8, 1), Step::Next(1)];
 
-fn put(sides: &mut Sides, cluster: u32, read: usize) {
-    assert!(sides.is_open());
-    assert!(read <= sides.input().len());
-    assert!(sides.put(glyph(cluster, 0), read).is_ok());
-}
-
-fn close(sides: &mut Sides) {
-    assert!(sides.is_open());
-    assert!(sides.close().is_ok());
-}
-
-/// What was put out, what is left to read, and whether the output is separate.
-fn assert_sides(sides: &Sides, out: &[u32], input: &[u32], is_separate: bool) {
-    assert_clusters(sides.out(), out);
-    assert_clusters(sides.input(), input);
-    assert!(sides.out_len() == out.len());
-    assert!(sides.is_separate() == is_separate);
-}
+static CURSOR: [Run<'static>; 2] = [
+    (
+        &[0, 1, 2, 3, 4],
+        &[
+            Stage {
+                steps: IN_PLACE,
+                out: &[(0, 0), (9, 0), (2, 0), (3, 0)],
+                input: &[(4, 0)],
+                is_separate: false,
+            },
+            Stage {
+                steps: &[Step::Close],
+                out: &[],
+                input: &[(0, 0), (9, 0), (2, 0), (3, 0), (4, 0)],
+                is_separate: false,
+            },
+        ],
+    ),
+    (
+        &[0, 1, 2],
+        &[
+            Stage {
+                steps: SEPARATE,
+                out: &[(7, 0), (8, 0), (1, 0)],
+                input: &[(2, 0)],
+                is_separate: true,
+            },
+            Stage {
+                steps: &[Step::Rewind(1)],
+                out: &[(7, 0)],
+                input: &[(8, 0), (1, 0), (2, 0)],
+                is_separate: true,
+            },
+            Stage {
+                steps: &[Step::Close],
+                out: &[],
+                input: &[(7, 0), (8, 0), (1, 0), (2, 0)],
+                is_separate: false,
+            },
+        ],
+    ),
+];
 
 #[test]
-fn glyphs_are_put_out_in_place() {
-    let mut sides = opened(&[0, 1, 2, 3, 4]);
-    assert!(sides.lookahead_len() > 0);
-    assert!(sides.next_one().is_ok());
-    skip(&mut sides, 1);
-    put(&mut sides, 9, 0);
-    next(&mut sides, 2);
-    assert_sides(&sides, &[0, 9, 2, 3], &[4], false);
-    assert!(sides.idx() == 4);
-    assert!(sides.len() == 5);
-    assert!(!sides.is_separate());
-    assert_clusters(sides.storage(), &[0, 9, 2, 3, 4]);
-    close(&mut sides);
-    assert_sides(&sides, &[], &[0, 9, 2, 3, 4], false);
-    assert!(sides.idx() == 0);
-}
-
-#[test]
-fn more_than_was_read_is_separate() {
-    let mut sides = opened(&[0, 1, 2]);
-    put(&mut sides, 7, 0);
-    put(&mut sides, 8, 1);
-    next(&mut sides, 1);
-    assert_sides(&sides, &[7, 8, 1], &[2], true);
-    assert!(sides.lookahead_len() > 0);
-    assert!(sides.len() <= 3);
-    assert!(sides.out_len() <= 3);
-    assert!(sides.next_exceeds(1, 3));
-    assert!(sides.out_len() > 1);
-    assert!(sides.rewind(1).is_ok());
-    assert_sides(&sides, &[7], &[8, 1, 2], true);
-    close(&mut sides);
-    assert_sides(&sides, &[], &[7, 8, 1, 2], false);
+fn glyphs_are_put_out_and_taken_back() {
+    assert_runs(&CURSOR);
 }
 
 /// Two glyphs in one cluster keep the first; a falling one is merged.
+const COPIED: &[Step<'static>] = &[
+    Step::Open,
+    Step::ReplaceKept(2, &[50]),
+    Step::Replace(2, &[51, 52, 53]),
+];
+
 #[test]
 fn glyphs_give_way_to_copies() {
-    let mut sides = opened(&[0, 0, 3, 2, 5]);
-    assert!(sides.is_open());
-    assert!(sides.input().len() >= 2);
-    assert!(sides.out_len() <= 9 && sides.len() <= 9);
-    assert!(sides.replace_kept(2, &[50], ClusterOrder::Monotone, 9));
-    assert!(sides.is_open());
-    assert!(sides.input().len() >= 2);
-    assert!(
-        sides
-            .replace(2, &[51, 52, 53], ClusterOrder::Monotone)
-            .is_ok()
-    );
-    assert_sides(&sides, &[0, 2, 2, 2], &[5], false);
-    assert!(sides.out()[3].glyph_id == 53);
+    let sides = made(&[0, 0, 3, 2, 5], COPIED);
+    assert_clusters(sides.out(), &[0, 2, 2, 2]);
+    assert_clusters(sides.input(), &[5]);
+    assert!(!sides.is_separate());
+    let last = sides.out().last().map(|glyph| glyph.glyph_id);
+    assert!(last == Some(53));
+}
+
+/// Merges, marks and scans of both sides as one list.
+static CHANGES: [Run<'static>; 2] = [
+    (
+        &[3, 9, 3, 2, 1],
+        &[
+            Stage {
+                steps: &[
+                    Step::Open,
+                    Step::Next(1),
+                    Step::Skip(1),
+                    Step::MergeInput(2, 4, Monotone),
+                ],
+                out: &[(2, 0)],
+                input: &[(2, 0), (2, 0), (1, 0)],
+                is_separate: false,
+            },
+            Stage {
+                steps: &[Step::MergeInput(3, 5, Any)],
+                out: &[(2, 0)],
+                input: &[(2, 0), (2, 3), (1, 0)],
+                is_separate: false,
+            },
+            Stage {
+                steps: &[Step::ChangeRange(0, 2, RangeChange::Mark { bits: 4 })],
+                out: &[(2, 4)],
+                input: &[(2, 4), (2, 3), (1, 0)],
+                is_separate: false,
+            },
+            Stage {
+                steps: &[Step::DeleteHead],
+                out: &[(2, 4)],
+                input: &[(2, 3), (1, 0)],
+                is_separate: false,
+            },
+        ],
+    ),
+    (
+        &[4, 3, 3, 1],
+        &[
+            Stage {
+                steps: &[Step::Open, Step::Next(1), Step::ScanInput(1, 3)],
+                out: &[(4, 0)],
+                input: &[(3, 0), (3, 0), (1, 0)],
+                is_separate: false,
+            },
+            Stage {
+                steps: &[Step::ChangeRange(0, 4, SCAN)],
+                out: &[(4, 3)],
+                input: &[(3, 3), (3, 3), (1, 0)],
+                is_separate: false,
+            },
+        ],
+    ),
+];
+
+const SCAN: RangeChange = RangeChange::Scan {
+    bits: BREAK_BITS,
+    order: Monotone,
+};
+
+#[test]
+fn both_sides_are_changed_as_one_list() {
+    assert_runs(&CHANGES);
+}
+
+/// Lists that are written, cut and merged, and an output that is written.
+static WRITES: [Run<'static>; 3] = [
+    (
+        &[0, 1, 2],
+        &[
+            Stage {
+                steps: &[
+                    Step::Open,
+                    Step::Next(1),
+                    Step::WriteAhead(1, 7),
+                    Step::WriteLast(8),
+                ],
+                out: &[(8, 0)],
+                input: &[(1, 0), (7, 0)],
+                is_separate: false,
+            },
+            Stage {
+                steps: &[Step::WriteOut(5)],
+                out: &[(5, 0)],
+                input: &[(1, 0), (7, 0)],
+                is_separate: false,
+            },
+        ],
+    ),
+    (
+        &[3, 3, 2, 1],
+        &[
+            Stage {
+                steps: &[Step::Reserve(5), Step::ReserveMore(9)],
+                out: &[],
+                input: &[(3, 0), (3, 0), (2, 0), (1, 0)],
+                is_separate: false,
+            },
+            Stage {
+                steps: &[Step::GoTo(1), Step::MergeInput(1, 3, Monotone)],
+                out: &[],
+                input: &[(3, 0), (2, 0), (2, 0), (1, 0)],
+                is_separate: false,
+            },
+            Stage {
+                steps: &[Step::WriteList(6), Step::Truncate(2)],
+                out: &[],
+                input: &[(6, 0), (6, 0)],
+                is_separate: false,
+            },
+            Stage {
+                steps: &[Step::Clear],
+                out: &[],
+                input: &[],
+                is_separate: false,
+            },
+        ],
+    ),
+    (
+        &[9],
+        &[Stage {
+            steps: &[Step::Append("aéb")],
+            out: &[],
+            input: &[(9, 0), (0, 0), (1, 0), (3, 0)],
+            is_separate: false,
+        }],
+    ),
+];
+
+#[test]
+fn what_is_written_stands_at_its_place() {
+    assert_runs(&WRITES);
+}
+
+/// Asserts where the cursor is, how many glyphs there are, and how many are left to read.
+fn assert_lens(sides: &Sides, idx: usize, len: usize, left: usize) {
+    assert!([sides.idx(), sides.len(), sides.lookahead_len()] == [idx, len, left]);
+}
+
+fn assert_storage(sides: &Sides, clusters: &[u32]) {
+    assert!(!sides.is_separate());
+    assert_clusters(sides.storage(), clusters);
 }
 
 #[test]
-fn both_sides_are_merged_and_marked_as_one_list() {
-    let mut sides = opened(&[3, 9, 3, 2, 1]);
-    next(&mut sides, 1);
-    skip(&mut sides, 1);
-    assert!(sides.idx() <= 2);
-    assert!(sides.len() >= 4);
-    sides.merge_input(2, 4, ClusterOrder::Monotone);
-    assert_sides(&sides, &[2], &[2, 2, 1], false);
-    assert!(sides.idx() <= 3);
-    assert!(sides.len() >= 5);
-    sides.merge_input(3, 5, ClusterOrder::Any);
-    assert_masks(sides.input(), &[0, 3, 0]);
-    assert!(sides.out().len() <= 2);
-    assert!(sides.out().len() + sides.input().len() >= 4);
-    sides.change_range(0, 2, RangeChange::Mark { bits: 4 });
-    assert_masks(sides.out(), &[4]);
-    assert_masks(sides.input(), &[4, 3, 0]);
-    assert!(sides.is_open());
-    assert!(!sides.input().is_empty());
-    sides.delete_head(ClusterOrder::Monotone);
-    assert!(sides.out_len() == 1);
-    assert!(sides.lookahead_len() == 2);
+fn glyphs_in_place_are_stored_as_they_stand() {
+    let mut sides = made(&[0, 1, 2, 3, 4], IN_PLACE);
+    assert_lens(&sides, 4, 5, 1);
+    assert_storage(&sides, &[0, 9, 2, 3, 4]);
+    make(&mut sides, &Step::Close);
+    assert_lens(&sides, 0, 5, 5);
 }
 
-#[test]
-fn scans_mark_outside_the_least_cluster() {
-    let mut sides = opened(&[4, 3, 3, 1]);
-    next(&mut sides, 1);
-    assert!(sides.len() >= 4);
-    assert!(sides.idx() <= 1);
-    sides.scan_input(1, 3, BREAK_BITS, ClusterOrder::Monotone);
-    assert_masks(sides.input(), &[0, 0, 0]);
-    assert!(sides.out().len() <= 4);
-    assert!(sides.out().len() + sides.input().len() >= 4);
-    let scan = RangeChange::Scan {
-        bits: BREAK_BITS,
-        order: ClusterOrder::Monotone,
-    };
-    sides.change_range(0, 4, scan);
-    assert_masks(sides.out(), &[3]);
-    assert_masks(sides.input(), &[3, 3, 0]);
-}
-
-#[test]
-fn single_glyphs_are_read_and_written() {
-    let mut sides = opened(&[0, 1, 2]);
-    next(&mut sides, 1);
+/// Asserts the cluster of the current glyph, of the one behind it, and where the last place of both is.
+fn assert_heads(sides: &Sides, head: u32, next: u32) {
+    assert!(sides.is_open() && !sides.input().is_empty());
+    assert!(sides.head().cluster == head);
     assert!(sides.lookahead_len() > 1);
-    assert!(sides.cur(1).cluster == 2);
-    sides.cur_mut(1).cluster = 7;
-    assert!(sides.out_len() > 0);
-    sides.last_mut().cluster = 8;
-    assert!(sides.is_open());
-    assert!(!sides.input().is_empty());
-    assert!(sides.head().cluster == 1);
-    assert_sides(&sides, &[8], &[1, 7], false);
-    for glyph in sides.out_mut() {
-        glyph.cluster = 5;
-    }
-    assert_sides(&sides, &[5], &[1, 7], false);
-    assert!(sides.idx() <= 2);
-    assert!(sides.len() >= 2);
-    assert!(sides.place(2) == 2);
+    assert!(sides.cur(1).cluster == next);
+}
+
+fn assert_place(sides: &Sides, k: usize, place: usize) {
+    assert!(sides.idx() <= k && k <= sides.len());
+    assert!(sides.place(k) == place);
+}
+
+fn assert_exceeds(sides: &Sides, more: usize, max_len: usize) {
+    assert!(more <= sides.lookahead_len());
+    assert!(sides.out_len() <= max_len && sides.len() <= max_len);
+    assert!(sides.next_exceeds(more, max_len));
 }
 
 #[test]
-fn a_list_is_cut_and_merged() {
+fn single_glyphs_and_places_are_read() {
+    let sides = made(&[0, 1, 2], &[Step::Open, Step::Next(1)]);
+    assert_heads(&sides, 1, 2);
+    assert_place(&sides, 2, 2);
+    let sides = made(&[0, 1, 2], SEPARATE);
+    assert_exceeds(&sides, 1, 3);
+}
+
+/// Room is never taken away, and only what was asked for by its size is room.
+#[test]
+fn room_is_made() {
     let mut sides = list(&[3, 3, 2, 1]);
     assert!(sides.room() == 0);
-    assert!(sides.reserve(5).is_ok());
-    assert!(sides.room() == 5);
-    assert!(sides.reserve(3).is_ok());
-    assert!(sides.room() == 5);
-    assert!(!sides.is_open());
-    assert!(sides.reserve_more(9).is_ok());
-    assert!(sides.room() == 5);
-    assert_clusters(sides.input(), &[3, 3, 2, 1]);
-    assert!(!sides.is_open());
-    assert!(sides.input().len() >= 3);
-    sides.go_to(1);
-    assert!(!sides.is_open());
-    assert!(sides.len() >= 3);
-    sides.merge_input(1, 3, ClusterOrder::Monotone);
-    assert_clusters(sides.input(), &[3, 2, 2, 1]);
-    assert!(!sides.is_open());
-    for glyph in sides.list_mut() {
-        glyph.cluster = 6;
+    for (step, room) in [
+        (Step::Reserve(5), 5),
+        (Step::Reserve(3), 5),
+        (Step::ReserveMore(9), 5),
+    ] {
+        make(&mut sides, &step);
+        assert!(sides.room() == room);
     }
-    assert!(!sides.is_open());
-    sides.truncate(2);
-    assert_sides(&sides, &[], &[6, 6], false);
-    sides.clear();
-    assert_sides(&sides, &[], &[], false);
-}
-
-fn append(sides: &mut Sides, text: &str) {
-    assert!(!sides.is_open());
-    let count = text.chars().count();
-    assert!(sides.append(text, count).is_ok());
-}
-
-#[test]
-fn a_text_stands_in_clusters_of_its_bytes() {
-    let mut sides = list(&[9]);
-    append(&mut sides, "aéb");
-    assert_clusters(sides.input(), &[9, 0, 1, 3]);
 }

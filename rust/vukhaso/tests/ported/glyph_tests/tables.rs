@@ -1,56 +1,93 @@
 // Written by tools/plain_rust from crates/glyph_tests. Do not edit.
 
+//! Tests of what is a table: keys that rise. A function makes one table, whose contract ends with it.
 use vukhaso::internals::glyph::{CombiningClasses, Compositions, Decompositions, Mirrors};
 
-#[test]
-fn a_table_has_rising_rows() {
-    let (grave, acute) = ('\u{300}', '\u{301}');
-    let made = [
-        CombiningClasses::new(&[(grave, 230), (acute, 230)]).is_some(),
-        Mirrors::new(&[('(', ')'), (')', '(')]).is_some(),
-        Compositions::new(&[(('a', grave), 'à'), (('a', acute), 'á')]).is_some(),
-        Decompositions::new(&[('Å', 'A', Some('\u{30a}')), ('\u{212b}', 'Å', None)]).is_some(),
-    ];
-    assert!(made == [true, true, true, true]);
-    let refused = [
-        CombiningClasses::new(&[(acute, 230), (grave, 230)]).is_none(),
-        Mirrors::new(&[('(', ')'), ('(', ')')]).is_none(),
-        Compositions::new(&[(('a', acute), 'á'), (('a', grave), 'à')]).is_none(),
-        Decompositions::new(&[('\u{212b}', 'Å', None), ('Å', 'A', Some('\u{30a}'))]).is_none(),
-    ];
-    assert!(refused == [true, true, true, true]);
+fn are_classes(rows: &[(char, u8)]) -> bool {
+    CombiningClasses::new(rows).is_some()
 }
 
-#[test]
-fn a_table_may_have_no_rows() {
-    assert!(CombiningClasses::new(&[]).is_some());
-    assert!(Mirrors::new(&[]).is_some());
-    assert!(Compositions::new(&[]).is_some());
-    assert!(Decompositions::new(&[]).is_some());
+fn are_mirrors(rows: &[(char, char)]) -> bool {
+    Mirrors::new(rows).is_some()
 }
 
+fn are_compositions(rows: &[((char, char), char)]) -> bool {
+    Compositions::new(rows).is_some()
+}
+
+fn are_decompositions(rows: &[(char, char, Option<char>)]) -> bool {
+    Decompositions::new(rows).is_some()
+}
+
+const GRAVE: char = '\u{300}';
+
+const ACUTE: char = '\u{301}';
+
+/// Rows, and whether they are a table.
+static CLASSES: [(&[(char, u8)], bool); 5] = [
+    (&[], true),
+    (&[(GRAVE, 230), (ACUTE, 230)], true),
+    (&[(ACUTE, 230), (GRAVE, 230)], false),
+    (&[('b', 1), ('b', 2)], false),
+    (&[('b', 1), ('a', 2)], false),
+];
+
 #[test]
-fn keys_of_a_table_are_not_repeated_and_never_fall() {
-    for (first, second) in [('b', 'b'), ('b', 'a')] {
-        assert!(
-            CombiningClasses::new(&[(first, 1), (second, 2)]).is_none(),
-            "{first}, {second}"
-        );
-        assert!(
-            Mirrors::new(&[(first, 'x'), (second, 'y')]).is_none(),
-            "{first}, {second}"
-        );
-        assert!(
-            Compositions::new(&[((first, 'c'), 'x'), ((second, 'c'), 'y')]).is_none(),
-            "{first}, {second}"
-        );
-        assert!(
-            Compositions::new(&[(('c', first), 'x'), (('c', second), 'y')]).is_none(),
-            "{first}, {second}"
-        );
-        assert!(
-            Decompositions::new(&[(first, 'x', None), (second, 'y', None)]).is_none(),
-            "{first}, {second}"
-        );
+fn classes_have_rising_rows() {
+    for (rows, is_table) in &CLASSES {
+        assert!(are_classes(rows) == *is_table, "{rows:?}");
+    }
+}
+
+static MIRRORS: [(&[(char, char)], bool); 5] = [
+    (&[], true),
+    (&[('(', ')'), (')', '(')], true),
+    (&[('(', ')'), ('(', ')')], false),
+    (&[('b', 'x'), ('b', 'y')], false),
+    (&[('b', 'x'), ('a', 'y')], false),
+];
+
+#[test]
+fn mirrors_have_rising_rows() {
+    for (rows, is_table) in &MIRRORS {
+        assert!(are_mirrors(rows) == *is_table, "{rows:?}");
+    }
+}
+
+static COMPOSITIONS: [(&[((char, char), char)], bool); 7] = [
+    (&[], true),
+    (&[(('a', GRAVE), 'à'), (('a', ACUTE), 'á')], true),
+    (&[(('a', ACUTE), 'á'), (('a', GRAVE), 'à')], false),
+    (&[(('b', 'c'), 'x'), (('b', 'c'), 'y')], false),
+    (&[(('b', 'c'), 'x'), (('a', 'c'), 'y')], false),
+    (&[(('c', 'b'), 'x'), (('c', 'b'), 'y')], false),
+    (&[(('c', 'b'), 'x'), (('c', 'a'), 'y')], false),
+];
+
+#[test]
+fn compositions_have_rising_rows() {
+    for (rows, is_table) in &COMPOSITIONS {
+        assert!(are_compositions(rows) == *is_table, "{rows:?}");
+    }
+}
+
+static DECOMPOSITIONS: [(&[(char, char, Option<char>)], bool); 5] = [
+    (&[], true),
+    (
+        &[('Å', 'A', Some('\u{30a}')), ('\u{212b}', 'Å', None)],
+        true,
+    ),
+    (
+        &[('\u{212b}', 'Å', None), ('Å', 'A', Some('\u{30a}'))],
+        false,
+    ),
+    (&[('b', 'x', None), ('b', 'y', None)], false),
+    (&[('b', 'x', None), ('a', 'y', None)], false),
+];
+
+#[test]
+fn decompositions_have_rising_rows() {
+    for (rows, is_table) in &DECOMPOSITIONS {
+        assert!(are_decompositions(rows) == *is_table, "{rows:?}");
     }
 }

@@ -53,13 +53,22 @@ static DIRECTIONS: [Row<'static>; 5] = [
 fn each_direction_has_its_line_and_its_opposite() {
     for row in &DIRECTIONS {
         let (text, direction) = (row.text, row.direction);
-        assert!(direction.is_horizontal() == row.is_horizontal, "`{text}`");
-        assert!(direction.is_vertical() != row.is_horizontal, "`{text}`");
-        assert!(direction.is_forward() == row.is_forward, "`{text}`");
-        assert!(direction.is_backward() != row.is_forward, "`{text}`");
-        assert!(direction.reverse() == row.reverse, "`{text}`");
+        let lines = [
+            direction.is_horizontal(),
+            !direction.is_vertical(),
+            direction.is_forward(),
+            !direction.is_backward(),
+        ];
+        let (is_horizontal, is_forward) = (row.is_horizontal, row.is_forward);
+        assert!(
+            lines == [is_horizontal, is_horizontal, is_forward, is_forward],
+            "`{text}`"
+        );
         let named = text.parse::<Direction>().unwrap_or_default();
-        assert!(named == direction, "`{text}`");
+        assert!(
+            [named, direction.reverse()] == [direction, row.reverse],
+            "`{text}`"
+        );
     }
     assert!(Direction::default() == Direction::Invalid);
     assert!(" ltr".parse::<Direction>() == Err("invalid direction"));

@@ -39,17 +39,15 @@ static BOUNDS: [(Bound<usize>, Bound<usize>, u32, u32); 5] = [
 fn a_new_feature_has_its_bounds() {
     for &(from, to, start, end) in &BOUNDS {
         let feature = Feature::new(Tag(9), 7, from, to);
-        assert!(
-            (feature.tag, feature.value) == (Tag(9), 7),
-            "{start} to {end}"
-        );
-        assert!(
-            (feature.start, feature.end) == (start, end),
-            "{start} to {end}"
-        );
-        assert!(
-            feature.is_global() == (start == 0 && end == u32::MAX),
-            "{start} to {end}"
-        );
+        let is_global = start == 0 && end == u32::MAX;
+        assert!(feature.is_global() == is_global, "{start} to {end}");
+        let (tag, value) = (Tag(9), 7);
+        let wanted = Feature {
+            tag,
+            value,
+            start,
+            end,
+        };
+        assert!(feature == wanted, "{start} to {end}");
     }
 }
