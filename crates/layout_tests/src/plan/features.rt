@@ -162,10 +162,15 @@ static ROWS: [Row; 5] = [
     },
 ];
 
+/// The mask of a feature.
+fn mask_of(plan: &LayoutPlan, tag: &[u8; 4]) -> u32 {
+    plan.mask(Tag::from_bytes(tag))
+}
+
 /// Whether features have these masks.
 fn has_masks(plan: &LayoutPlan, masks: &[(&[u8; 4], u32)]) -> bool {
     for (tag, mask) in masks {
-        if plan.mask(Tag::from_bytes(tag)) != *mask {
+        if mask_of(plan, tag) != *mask {
             return false;
         }
     }
@@ -191,22 +196,37 @@ fn features_are_planned(rt: HostRuntime) -> Result<(), Fail> {
     Ok(())
 }
 
-/// A plan tells of its features and of the scripts that were chosen.
-#[test]
-fn plans_tell_of_their_features(rt: HostRuntime) -> Result<(), Fail> {
-    let plan = planned(rt.alloc(), &[], &[], ASKED)?;
-    assert_eq!(rt; plan.one_mask(Tag::from_bytes(b"frac")), 0x10);
-    assert!(rt; plan.feature(Tag::from_bytes(b"abcd")).is_none());
-    assert!(rt; !plan.needs_fallback(Tag::from_bytes(b"frac")));
-    assert_eq!(rt; plan.gsub_script, Tag::from_bytes(b"latn"));
-    assert!(rt; plan.gpos_script.is_null());
-    Ok(())
+/// The mask of a feature's value 1, whether there is the feature, and whether a fallback has to make it.
+fn told(plan: &LayoutPlan, tag: &[u8; 4]) -> (u32, bool, bool) {
+    let tag = Tag::from_bytes(tag);
+    let is_there = plan.feature(tag).is_some();
+    (plan.one_mask(tag), is_there, plan.needs_fallback(tag))
+}
+
+/// What the plan of what is asked for tells of a feature.
+fn told_of(alloc: Global, asks: &[Ask], tag: &[u8; 4]) -> Result<(u32, bool, bool), AllocError> {
+    let plan = planned(alloc, &[], &[], asks)?;
+    Ok(told(&plan, tag))
 }
 
 #[test]
-fn fallbacks_are_needed(rt: HostRuntime) -> Result<(), Fail> {
-    let plan = planned(rt.alloc(), &[], &[], FALLBACK)?;
-    assert!(rt; plan.needs_fallback(Tag::from_bytes(b"kern")));
+fn plans_tell_of_features(rt: HostRuntime) -> Result<(), AllocError> {
+    assert!(rt; told_of(rt.alloc(), ASKED, b"frac")? == (0x10, true, false));
+    assert!(rt; told_of(rt.alloc(), ASKED, b"abcd")? == (0, false, false));
+    assert!(rt; told_of(rt.alloc(), FALLBACK, b"kern")? == (0x10, true, true));
+    Ok(())
+}
+
+/// The scripts that a plan chooses of `GSUB` and of `GPOS`.
+fn scripts_of(alloc: Global) -> Result<(Tag, Tag), AllocError> {
+    let plan = planned(alloc, &[], &[], ASKED)?;
+    Ok((plan.gsub_script, plan.gpos_script))
+}
+
+#[test]
+fn plans_have_scripts(rt: HostRuntime) -> Result<(), AllocError> {
+    let (gsub, gpos) = scripts_of(rt.alloc())?;
+    assert!(rt; gsub == Tag::from_bytes(b"latn") && gpos.is_null());
     Ok(())
 }
 
@@ -221,24 +241,39 @@ fn stage_of(plan: &LayoutPlan, tag: &[u8; 4]) -> (usize, Option<u16>) {
     let places = plan.stage_places(Tag::from_bytes(tag));
     let end = places.end;
     let lookups = plan.gsub_lookups.as_slice().get(places).unwrap_or(&[]);
-    (end, lookups.first().map(|lookup| lookup.index))
+    match lookups.first() {
+        Some(first) => (end, Some(first.index)),
+        None => (end, None),
+    }
+}
+
+/// Where the lookups of two stages end, and what is done after each.
+fn stages_of(plan: &LayoutPlan) -> Option<[(usize, Pause); 2]> {
+    match plan.stages.as_slice() {
+        [first, second] => Some([(first.end, first.pause), (second.end, second.pause)]),
+        _ => None,
+    }
+}
+
+/// The stages of a plan, and those of the features `frac`, `liga` and `smcp`.
+type Stages = (Option<[(usize, Pause); 2]>, [(usize, Option<u16>); 3]);
+
+/// The stages of a plan of two stages.
+fn two_stages(alloc: Global) -> Result<Stages, AllocError> {
+    let plan = planned(alloc, &[], &[], STAGES)?;
+    let places = [
+        stage_of(&plan, b"frac"),
+        stage_of(&plan, b"liga"),
+        stage_of(&plan, b"smcp"),
+    ];
+    Ok((stages_of(&plan), places))
 }
 
 #[test]
-fn stages_part_lookups(rt: HostRuntime) -> Result<(), Fail> {
-    let plan = planned(rt.alloc(), &[], &[], STAGES)?;
-    let [first, second] = plan.stages.as_slice() else {
-        return Err(Fail::from("not two stages"));
-    };
-    assert_eq!(rt; (first.end, first.pause), (1, Pause::SetUpSyllables));
-    assert_eq!(rt; (second.end, second.pause), (2, Pause::Nothing));
-    for (tag, stage) in [
-        (b"frac", (1, Some(2))),
-        (b"liga", (2, Some(1))),
-        (b"smcp", (0, None)),
-    ] {
-        assert_eq!(rt; stage_of(&plan, tag), stage);
-    }
+fn stages_part_lookups(rt: HostRuntime) -> Result<(), AllocError> {
+    let (stages, places) = two_stages(rt.alloc())?;
+    assert!(rt; stages == Some([(1, Pause::SetUpSyllables), (2, Pause::Nothing)]));
+    assert!(rt; places == [(1, Some(2)), (2, Some(1)), (0, None)]);
     Ok(())
 }
 
@@ -294,13 +329,11 @@ fn the_default_shaper_plans(rt: HostRuntime) -> Result<(), Fail> {
     let small_capitals = Tag::from_bytes(b"smcp");
     let feature = Feature::new(small_capitals, 1, Bound::Included(1), Bound::Excluded(3));
     let plan = ShapePlan::new(rt.alloc(), &FONT, &text, &[feature])?;
-    assert_eq!(rt; plan.frac_mask, 0x10);
-    assert!(rt; plan.has_frac);
-    assert_eq!(rt; plan.kern_mask, 0x8000_0000);
+    assert!(rt; plan.has_frac && plan.frac_mask == 0x10 && plan.kern_mask == 0x8000_0000);
     assert!(rt; plan.requested_kerning && plan.apply_fallback_kern);
     assert!(rt; !plan.apply_gpos && !plan.apply_kern && !plan.has_gpos_mark && !plan.has_vert);
     assert!(rt; plan.zero_marks && plan.fallback_mark_positioning);
-    assert_eq!(rt; plan.layout.stages.len(), 2);
+    assert!(rt; plan.layout.stages.len() == 2);
     assert!(rt; has_lookups(&plan.layout, &[(0, 0x20), (1, 0x8000_0020), (2, 0x10)]));
     Ok(())
 }

@@ -166,10 +166,15 @@ static ROWS: [Row; 5] = [
     },
 ];
 
+/// The mask of a feature.
+fn mask_of(plan: &LayoutPlan, tag: &[u8; 4]) -> u32 {
+    plan.mask(Tag::from_bytes(tag))
+}
+
 /// Whether features have these masks.
 fn has_masks(plan: &LayoutPlan, masks: &[(&[u8; 4], u32)]) -> bool {
     for (tag, mask) in masks {
-        if plan.mask(Tag::from_bytes(tag)) != *mask {
+        if mask_of(plan, tag) != *mask {
             return false;
         }
     }
@@ -193,22 +198,38 @@ fn features_are_planned() -> Result<(), Fail> {
     Ok(())
 }
 
-/// A plan tells of its features and of the scripts that were chosen.
-#[test]
-fn plans_tell_of_their_features() -> Result<(), Fail> {
-    let plan = planned(&[], &[], ASKED)?;
-    assert_eq!(plan.one_mask(Tag::from_bytes(b"frac")), 0x10);
-    assert!(plan.feature(Tag::from_bytes(b"abcd")).is_none());
-    assert!(!plan.needs_fallback(Tag::from_bytes(b"frac")));
-    assert_eq!(plan.gsub_script, Tag::from_bytes(b"latn"));
-    assert!(plan.gpos_script.is_null());
-    Ok(())
+/// The mask of a feature's value 1, whether there is the feature, and whether a fallback has to make
+/// it.
+fn told(plan: &LayoutPlan, tag: &[u8; 4]) -> (u32, bool, bool) {
+    let tag = Tag::from_bytes(tag);
+    let is_there = plan.feature(tag).is_some();
+    (plan.one_mask(tag), is_there, plan.needs_fallback(tag))
+}
+
+/// What the plan of what is asked for tells of a feature.
+fn told_of(asks: &[Ask], tag: &[u8; 4]) -> Result<(u32, bool, bool), AllocError> {
+    let plan = planned(&[], &[], asks)?;
+    Ok(told(&plan, tag))
 }
 
 #[test]
-fn fallbacks_are_needed() -> Result<(), Fail> {
-    let plan = planned(&[], &[], FALLBACK)?;
-    assert!(plan.needs_fallback(Tag::from_bytes(b"kern")));
+fn plans_tell_of_features() -> Result<(), AllocError> {
+    assert!(told_of(ASKED, b"frac")? == (0x10, true, false));
+    assert!(told_of(ASKED, b"abcd")? == (0, false, false));
+    assert!(told_of(FALLBACK, b"kern")? == (0x10, true, true));
+    Ok(())
+}
+
+/// The scripts that a plan chooses of `GSUB` and of `GPOS`.
+fn scripts_of() -> Result<(Tag, Tag), AllocError> {
+    let plan = planned(&[], &[], ASKED)?;
+    Ok((plan.gsub_script, plan.gpos_script))
+}
+
+#[test]
+fn plans_have_scripts() -> Result<(), AllocError> {
+    let (gsub, gpos) = scripts_of()?;
+    assert!(gsub == Tag::from_bytes(b"latn") && gpos.is_null());
     Ok(())
 }
 
@@ -223,24 +244,39 @@ fn stage_of(plan: &LayoutPlan, tag: &[u8; 4]) -> (usize, Option<u16>) {
     let places = plan.stage_places(Tag::from_bytes(tag));
     let end = places.end;
     let lookups = plan.gsub_lookups.as_slice().get(places).unwrap_or(&[]);
-    (end, lookups.first().map(|lookup| lookup.index))
+    match lookups.first() {
+        Some(first) => (end, Some(first.index)),
+        None => (end, None),
+    }
+}
+
+/// Where the lookups of two stages end, and what is done after each.
+fn stages_of(plan: &LayoutPlan) -> Option<[(usize, Pause); 2]> {
+    match plan.stages.as_slice() {
+        [first, second] => Some([(first.end, first.pause), (second.end, second.pause)]),
+        _ => None,
+    }
+}
+
+/// The stages of a plan, and those of the features `frac`, `liga` and `smcp`.
+type Stages = (Option<[(usize, Pause); 2]>, [(usize, Option<u16>); 3]);
+
+/// The stages of a plan of two stages.
+fn two_stages() -> Result<Stages, AllocError> {
+    let plan = planned(&[], &[], STAGES)?;
+    let places = [
+        stage_of(&plan, b"frac"),
+        stage_of(&plan, b"liga"),
+        stage_of(&plan, b"smcp"),
+    ];
+    Ok((stages_of(&plan), places))
 }
 
 #[test]
-fn stages_part_lookups() -> Result<(), Fail> {
-    let plan = planned(&[], &[], STAGES)?;
-    let [first, second] = plan.stages.as_slice() else {
-        return Err(Fail::from("not two stages"));
-    };
-    assert_eq!((first.end, first.pause), (1, Pause::SetUpSyllables));
-    assert_eq!((second.end, second.pause), (2, Pause::Nothing));
-    for (tag, stage) in [
-        (b"frac", (1, Some(2))),
-        (b"liga", (2, Some(1))),
-        (b"smcp", (0, None)),
-    ] {
-        assert_eq!(stage_of(&plan, tag), stage);
-    }
+fn stages_part_lookups() -> Result<(), AllocError> {
+    let (stages, places) = two_stages()?;
+    assert!(stages == Some([(1, Pause::SetUpSyllables), (2, Pause::Nothing)]));
+    assert!(places == [(1, Some(2)), (2, Some(1)), (0, None)]);
     Ok(())
 }
 
@@ -295,13 +331,11 @@ fn the_default_shaper_plans() -> Result<(), Fail> {
     let small_capitals = Tag::from_bytes(b"smcp");
     let feature = Feature::new(small_capitals, 1, Bound::Included(1), Bound::Excluded(3));
     let plan = ShapePlan::new(&FONT, &text, &[feature])?;
-    assert_eq!(plan.frac_mask, 0x10);
-    assert!(plan.has_frac);
-    assert_eq!(plan.kern_mask, 0x8000_0000);
+    assert!(plan.has_frac && plan.frac_mask == 0x10 && plan.kern_mask == 0x8000_0000);
     assert!(plan.requested_kerning && plan.apply_fallback_kern);
     assert!(!plan.apply_gpos && !plan.apply_kern && !plan.has_gpos_mark && !plan.has_vert);
     assert!(plan.zero_marks && plan.fallback_mark_positioning);
-    assert_eq!(plan.layout.stages.len(), 2);
+    assert!(plan.layout.stages.len() == 2);
     assert!(has_lookups(
         &plan.layout,
         &[(0, 0x20), (1, 0x8000_0020), (2, 0x10)]
