@@ -8,7 +8,7 @@ use ot_gpos_tables::anchors::{
 };
 use ot_gpos_tables::contour_points::{ContourPoint, ContourPoints, NoPoints};
 use ot_gpos_tables::instance::Instance;
-use std::alloc::AllocError;
+use std::alloc::{AllocError, Global};
 
 /// Where an anchor is: across and up, and how far it is moved.
 type Place = (i16, i16, i32, i32);
@@ -120,18 +120,18 @@ static NAMED: [(&[u16], u16, Option<u16>); 3] = [
 ];
 
 /// The point that a table names.
-fn point_of(table: &[u8], y_ppem: u16) -> Option<u16> {
+fn point_of(alloc: Global, words: &[u16], y_ppem: u16) -> Result<Option<u16>, AllocError> {
+    let table = bytes_of(alloc, words)?;
     let mut scale = Scale::of_em(1000);
     scale.y_ppem = y_ppem;
-    named_point(table, &scale)
+    Ok(named_point(&table, &scale))
 }
 
 /// A point is named at a size in pixels alone.
 #[test]
 fn points_are_named(rt: HostRuntime) -> Result<(), AllocError> {
-    for &(words, y_ppem, point) in &NAMED {
-        let table = bytes_of(rt.alloc(), words)?;
-        assert!(rt; point_of(&table, y_ppem) == point, "{y_ppem}");
+    for (number, &(words, y_ppem, point)) in NAMED.iter().enumerate() {
+        assert!(rt; point_of(rt.alloc(), words, y_ppem)? == point, "{number}");
     }
     Ok(())
 }
@@ -183,10 +183,8 @@ const MATRIX: &[u16] = &[2, 10, 16, 22, 0, 1, 1, 2, 1, 3, 4, 1, 5, 6];
 
 /// The first number of the table at which an array's offset leads.
 fn format_and_x(table: &[u8]) -> Option<(u8, u8)> {
-    match (table.get(1), table.get(3)) {
-        (Some(format), Some(x)) => Some((*format, *x)),
-        _ => None,
-    }
+    let format = table.get(1)?;
+    Some((*format, *table.get(3)?))
 }
 
 /// Marks, their classes, and the first numbers of their anchors.
@@ -197,18 +195,16 @@ static CLASSES: [(u32, u16, Option<(u8, u8)>); 3] = [
 ];
 
 /// The class of a mark and the first numbers of its anchor.
-fn mark_of(marks: &[u8], index: u32) -> (u16, Option<(u8, u8)>) {
-    (
-        mark_class(marks, index),
-        format_and_x(mark_anchor(marks, index)),
-    )
+fn mark_of(alloc: Global, index: u32) -> Result<(u16, Option<(u8, u8)>), AllocError> {
+    let marks = bytes_of(alloc, MARKS)?;
+    let anchor = format_and_x(mark_anchor(&marks, index));
+    Ok((mark_class(&marks, index), anchor))
 }
 
 #[test]
 fn marks_have_classes_and_anchors(rt: HostRuntime) -> Result<(), AllocError> {
-    let marks = bytes_of(rt.alloc(), MARKS)?;
     for &(index, class, anchor) in &CLASSES {
-        assert!(rt; mark_of(&marks, index) == (class, anchor), "{index}");
+        assert!(rt; mark_of(rt.alloc(), index)? == (class, anchor), "{index}");
     }
     Ok(())
 }

@@ -2,7 +2,7 @@
 
 use crate::bytes::bytes_of;
 use ot_gpos_tables::kern_table::{KernTable, classed_value, pair_row, pair_value};
-use std::alloc::AllocError;
+use std::alloc::{AllocError, Global};
 
 /// A subtable of pairs with the header of Windows, for horizontal lines: 10 and 11 by -51, and 10 and 12 by 30.
 const PAIRS: &[u16] = &[0, 26, 1, 2, 0, 0, 0, 10, 11, 0xFFCD, 10, 12, 30];
@@ -30,36 +30,37 @@ static CLASSED: [(u16, u16, i16); 6] = [
     (11, 19, 0),
 ];
 
-/// The row of a pair, and its value.
-fn pair_of(subtable: &[u8], left: u16, right: u16) -> (Option<usize>, Option<i16>) {
-    (
-        pair_row(subtable, 6, left, right),
-        pair_value(subtable, 6, left, right),
-    )
+/// The row of a pair in a subtable of pairs.
+fn row_of(alloc: Global, left: u16, right: u16) -> Result<Option<usize>, AllocError> {
+    let subtable = bytes_of(alloc, PAIRS)?;
+    Ok(pair_row(&subtable, 6, left, right))
+}
+
+/// The value of a pair in a subtable of pairs.
+fn value_of(alloc: Global, left: u16, right: u16) -> Result<Option<i16>, AllocError> {
+    let subtable = bytes_of(alloc, PAIRS)?;
+    Ok(pair_value(&subtable, 6, left, right))
 }
 
 #[test]
 fn pairs_have_values(rt: HostRuntime) -> Result<(), AllocError> {
-    let subtable = bytes_of(rt.alloc(), PAIRS)?;
-    for &(left, right, row, value) in &LISTED {
-        assert!(rt;
-            pair_of(&subtable, left, right) == (row, value),
-            "{left} {right}"
-        );
+    for (number, &(left, right, row, value)) in LISTED.iter().enumerate() {
+        assert!(rt; row_of(rt.alloc(), left, right)? == row, "{number}");
+        assert!(rt; value_of(rt.alloc(), left, right)? == value, "{number}");
     }
     Ok(())
 }
 
 /// The value of a pair of classes.
-fn classed(subtable: &[u8], left: u16, right: u16) -> i16 {
-    classed_value(subtable, 6, left, right)
+fn classed(alloc: Global, left: u16, right: u16) -> Result<i16, AllocError> {
+    let subtable = bytes_of(alloc, CLASSES)?;
+    Ok(classed_value(&subtable, 6, left, right))
 }
 
 #[test]
 fn classes_have_values(rt: HostRuntime) -> Result<(), AllocError> {
-    let subtable = bytes_of(rt.alloc(), CLASSES)?;
-    for &(left, right, value) in &CLASSED {
-        assert!(rt; classed(&subtable, left, right) == value, "{left} {right}");
+    for (number, &(left, right, value)) in CLASSED.iter().enumerate() {
+        assert!(rt; classed(rt.alloc(), left, right)? == value, "{number}");
     }
     Ok(())
 }
@@ -128,22 +129,23 @@ static ROWS: [Row; 7] = [
 ];
 
 /// How many subtables a table has, and whether it has any, a state machine, and one for kerning across the line.
-fn summary_of(table: &[u8]) -> (u32, [bool; 3]) {
-    let table = KernTable::new(table);
+fn summary_of(alloc: Global, words: &[u16]) -> Result<(u32, [bool; 3]), AllocError> {
+    let bytes = bytes_of(alloc, words)?;
+    let table = KernTable::new(&bytes);
     let has = [
         table.has_kerning(),
         table.has_machine_kerning(),
         table.has_cross_kerning(),
     ];
-    (table.count, has)
+    Ok((table.count, has))
 }
 
 #[test]
 fn tables_have_subtables(rt: HostRuntime) -> Result<(), AllocError> {
     for row in &ROWS {
-        let table = bytes_of(rt.alloc(), row.words)?;
+        let found = summary_of(rt.alloc(), row.words)?;
         let has = [row.count != 0, row.is_machine, row.is_cross];
-        assert!(rt; summary_of(&table) == (row.count, has), "{}", row.name);
+        assert!(rt; found == (row.count, has), "{}", row.name);
     }
     Ok(())
 }
@@ -225,19 +227,14 @@ fn subtables_stand_one_behind_the_other(rt: HostRuntime) -> Result<(), AllocErro
     Ok(())
 }
 
-/// Tables, and where the first subtable of each begins.
-static STARTS: [(&[u16], usize); 2] = [(TWO, 8), (LAST, 4)];
-
 /// Where the first subtable of a table begins.
-fn start_of(table: &[u8]) -> usize {
-    KernTable::new(table).start()
+fn start_of(alloc: Global, words: &[u16]) -> Result<usize, AllocError> {
+    let table = bytes_of(alloc, words)?;
+    Ok(KernTable::new(&table).start())
 }
 
 #[test]
 fn tables_begin_with_headers(rt: HostRuntime) -> Result<(), AllocError> {
-    for &(words, start) in &STARTS {
-        let table = bytes_of(rt.alloc(), words)?;
-        assert!(rt; start_of(&table) == start, "{start}");
-    }
+    assert!(rt; start_of(rt.alloc(), TWO)? == 8 && start_of(rt.alloc(), LAST)? == 4);
     Ok(())
 }

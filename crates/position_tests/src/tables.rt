@@ -10,7 +10,7 @@ use ot_gpos_tables::pairs::{
 };
 use ot_gpos_tables::values::{ValueRecord, record_size};
 use rb_glyph::GlyphPosition;
-use std::alloc::AllocError;
+use std::alloc::{AllocError, Global};
 
 /// A device table, and by how many pixels a number is corrected at sizes in pixels.
 struct Device {
@@ -47,16 +47,18 @@ static DEVICES: [Device; 5] = [
     },
 ];
 
+/// By how many pixels a table corrects a number at a size.
+fn pixels_at(alloc: Global, words: &[u16], size: u16) -> Result<i32, AllocError> {
+    let table = bytes_of(alloc, words)?;
+    Ok(delta_pixels(&table, size))
+}
+
 #[test]
 fn device_tables_are_for_sizes(rt: HostRuntime) -> Result<(), AllocError> {
     for device in &DEVICES {
-        let table = bytes_of(rt.alloc(), device.words)?;
         for (size, pixels) in device.pixels {
-            assert!(rt;
-                delta_pixels(&table, *size) == *pixels,
-                "{} at {size}",
-                device.name
-            );
+            let found = pixels_at(rt.alloc(), device.words, *size)?;
+            assert!(rt; found == *pixels, "{}", device.name);
         }
     }
     Ok(())
@@ -102,20 +104,21 @@ static CORRECTIONS: [(&[u16], u16, (i32, i32)); 3] = [
 ];
 
 /// The corrections by a table at an offset.
-fn corrections(table: &[u8], offset: u16) -> (i32, i32) {
+fn corrections(alloc: Global, words: &[u16], offset: u16) -> Result<(i32, i32), AllocError> {
+    let table = bytes_of(alloc, words)?;
     let instance = instance_of(12, 10);
-    (
-        x_correction(table, offset, &instance),
-        y_correction(table, offset, &instance),
-    )
+    let across = x_correction(&table, offset, &instance);
+    Ok((across, y_correction(&table, offset, &instance)))
 }
 
 /// Where no variations are chosen, a table of variations corrects nothing.
 #[test]
 fn numbers_are_corrected(rt: HostRuntime) -> Result<(), AllocError> {
     for &(words, offset, found) in &CORRECTIONS {
-        let table = bytes_of(rt.alloc(), words)?;
-        assert!(rt; corrections(&table, offset) == found, "{offset}");
+        assert!(rt;
+            corrections(rt.alloc(), words, offset)? == found,
+            "{offset}"
+        );
     }
     let instance = instance_of(12, 10);
     assert!(rt; (instance.x_delta(0), instance.y_delta(0)) == (0, 0));

@@ -122,18 +122,18 @@ static NAMED: [(&[u16], u16, Option<u16>); 3] = [
 ];
 
 /// The point that a table names.
-fn point_of(table: &[u8], y_ppem: u16) -> Option<u16> {
+fn point_of(words: &[u16], y_ppem: u16) -> Result<Option<u16>, AllocError> {
+    let table = bytes_of(words)?;
     let mut scale = Scale::of_em(1000);
     scale.y_ppem = y_ppem;
-    named_point(table, &scale)
+    Ok(named_point(&table, &scale))
 }
 
 /// A point is named at a size in pixels alone.
 #[test]
 fn points_are_named() -> Result<(), AllocError> {
-    for &(words, y_ppem, point) in &NAMED {
-        let table = bytes_of(words)?;
-        assert!(point_of(&table, y_ppem) == point, "{y_ppem}");
+    for (number, &(words, y_ppem, point)) in NAMED.iter().enumerate() {
+        assert!(point_of(words, y_ppem)? == point, "{number}");
     }
     Ok(())
 }
@@ -185,10 +185,8 @@ const MATRIX: &[u16] = &[2, 10, 16, 22, 0, 1, 1, 2, 1, 3, 4, 1, 5, 6];
 
 /// The first number of the table at which an array's offset leads.
 fn format_and_x(table: &[u8]) -> Option<(u8, u8)> {
-    match (table.get(1), table.get(3)) {
-        (Some(format), Some(x)) => Some((*format, *x)),
-        _ => None,
-    }
+    let format = table.get(1)?;
+    Some((*format, *table.get(3)?))
 }
 
 /// Marks, their classes, and the first numbers of their anchors.
@@ -196,18 +194,16 @@ static CLASSES: [(u32, u16, Option<(u8, u8)>); 3] =
     [(0, 2, Some((1, 11))), (1, 0, Some((1, 21))), (2, 0, None)];
 
 /// The class of a mark and the first numbers of its anchor.
-fn mark_of(marks: &[u8], index: u32) -> (u16, Option<(u8, u8)>) {
-    (
-        mark_class(marks, index),
-        format_and_x(mark_anchor(marks, index)),
-    )
+fn mark_of(index: u32) -> Result<(u16, Option<(u8, u8)>), AllocError> {
+    let marks = bytes_of(MARKS)?;
+    let anchor = format_and_x(mark_anchor(&marks, index));
+    Ok((mark_class(&marks, index), anchor))
 }
 
 #[test]
 fn marks_have_classes_and_anchors() -> Result<(), AllocError> {
-    let marks = bytes_of(MARKS)?;
     for &(index, class, anchor) in &CLASSES {
-        assert!(mark_of(&marks, index) == (class, anchor), "{index}");
+        assert!(mark_of(index)? == (class, anchor), "{index}");
     }
     Ok(())
 }

@@ -34,36 +34,37 @@ static CLASSED: [(u16, u16, i16); 6] = [
     (11, 19, 0),
 ];
 
-/// The row of a pair, and its value.
-fn pair_of(subtable: &[u8], left: u16, right: u16) -> (Option<usize>, Option<i16>) {
-    (
-        pair_row(subtable, 6, left, right),
-        pair_value(subtable, 6, left, right),
-    )
+/// The row of a pair in a subtable of pairs.
+fn row_of(left: u16, right: u16) -> Result<Option<usize>, AllocError> {
+    let subtable = bytes_of(PAIRS)?;
+    Ok(pair_row(&subtable, 6, left, right))
+}
+
+/// The value of a pair in a subtable of pairs.
+fn value_of(left: u16, right: u16) -> Result<Option<i16>, AllocError> {
+    let subtable = bytes_of(PAIRS)?;
+    Ok(pair_value(&subtable, 6, left, right))
 }
 
 #[test]
 fn pairs_have_values() -> Result<(), AllocError> {
-    let subtable = bytes_of(PAIRS)?;
-    for &(left, right, row, value) in &LISTED {
-        assert!(
-            pair_of(&subtable, left, right) == (row, value),
-            "{left} {right}"
-        );
+    for (number, &(left, right, row, value)) in LISTED.iter().enumerate() {
+        assert!(row_of(left, right)? == row, "{number}");
+        assert!(value_of(left, right)? == value, "{number}");
     }
     Ok(())
 }
 
 /// The value of a pair of classes.
-fn classed(subtable: &[u8], left: u16, right: u16) -> i16 {
-    classed_value(subtable, 6, left, right)
+fn classed(left: u16, right: u16) -> Result<i16, AllocError> {
+    let subtable = bytes_of(CLASSES)?;
+    Ok(classed_value(&subtable, 6, left, right))
 }
 
 #[test]
 fn classes_have_values() -> Result<(), AllocError> {
-    let subtable = bytes_of(CLASSES)?;
-    for &(left, right, value) in &CLASSED {
-        assert!(classed(&subtable, left, right) == value, "{left} {right}");
+    for (number, &(left, right, value)) in CLASSED.iter().enumerate() {
+        assert!(classed(left, right)? == value, "{number}");
     }
     Ok(())
 }
@@ -133,22 +134,23 @@ static ROWS: [Row; 7] = [
 
 /// How many subtables a table has, and whether it has any, a state machine, and one for kerning across
 /// the line.
-fn summary_of(table: &[u8]) -> (u32, [bool; 3]) {
-    let table = KernTable::new(table);
+fn summary_of(words: &[u16]) -> Result<(u32, [bool; 3]), AllocError> {
+    let bytes = bytes_of(words)?;
+    let table = KernTable::new(&bytes);
     let has = [
         table.has_kerning(),
         table.has_machine_kerning(),
         table.has_cross_kerning(),
     ];
-    (table.count, has)
+    Ok((table.count, has))
 }
 
 #[test]
 fn tables_have_subtables() -> Result<(), AllocError> {
     for row in &ROWS {
-        let table = bytes_of(row.words)?;
+        let found = summary_of(row.words)?;
         let has = [row.count != 0, row.is_machine, row.is_cross];
-        assert!(summary_of(&table) == (row.count, has), "{}", row.name);
+        assert!(found == (row.count, has), "{}", row.name);
     }
     Ok(())
 }
@@ -230,19 +232,14 @@ fn subtables_stand_one_behind_the_other() -> Result<(), AllocError> {
     Ok(())
 }
 
-/// Tables, and where the first subtable of each begins.
-static STARTS: [(&[u16], usize); 2] = [(TWO, 8), (LAST, 4)];
-
 /// Where the first subtable of a table begins.
-fn start_of(table: &[u8]) -> usize {
-    KernTable::new(table).start()
+fn start_of(words: &[u16]) -> Result<usize, AllocError> {
+    let table = bytes_of(words)?;
+    Ok(KernTable::new(&table).start())
 }
 
 #[test]
 fn tables_begin_with_headers() -> Result<(), AllocError> {
-    for &(words, start) in &STARTS {
-        let table = bytes_of(words)?;
-        assert!(start_of(&table) == start, "{start}");
-    }
+    assert!(start_of(TWO)? == 8 && start_of(LAST)? == 4);
     Ok(())
 }

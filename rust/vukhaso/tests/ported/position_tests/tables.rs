@@ -51,16 +51,18 @@ static DEVICES: [Device; 5] = [
     },
 ];
 
+/// By how many pixels a table corrects a number at a size.
+fn pixels_at(words: &[u16], size: u16) -> Result<i32, AllocError> {
+    let table = bytes_of(words)?;
+    Ok(delta_pixels(&table, size))
+}
+
 #[test]
 fn device_tables_are_for_sizes() -> Result<(), AllocError> {
     for device in &DEVICES {
-        let table = bytes_of(device.words)?;
         for (size, pixels) in device.pixels {
-            assert!(
-                delta_pixels(&table, *size) == *pixels,
-                "{} at {size}",
-                device.name
-            );
+            let found = pixels_at(device.words, *size)?;
+            assert!(found == *pixels, "{}", device.name);
         }
     }
     Ok(())
@@ -106,20 +108,18 @@ static CORRECTIONS: [(&[u16], u16, (i32, i32)); 3] = [
 ];
 
 /// The corrections by a table at an offset.
-fn corrections(table: &[u8], offset: u16) -> (i32, i32) {
+fn corrections(words: &[u16], offset: u16) -> Result<(i32, i32), AllocError> {
+    let table = bytes_of(words)?;
     let instance = instance_of(12, 10);
-    (
-        x_correction(table, offset, &instance),
-        y_correction(table, offset, &instance),
-    )
+    let across = x_correction(&table, offset, &instance);
+    Ok((across, y_correction(&table, offset, &instance)))
 }
 
 /// Where no variations are chosen, a table of variations corrects nothing.
 #[test]
 fn numbers_are_corrected() -> Result<(), AllocError> {
     for &(words, offset, found) in &CORRECTIONS {
-        let table = bytes_of(words)?;
-        assert!(corrections(&table, offset) == found, "{offset}");
+        assert!(corrections(words, offset)? == found, "{offset}");
     }
     let instance = instance_of(12, 10);
     assert!((instance.x_delta(0), instance.y_delta(0)) == (0, 0));
