@@ -97,8 +97,7 @@ impl Run<'_> {
 
     /// Makes the calls, undisturbed.
     fn make_all(&self, buffer: &mut hb_buffer_t, answers: &mut [Answer; MOST]) -> Result<(), Lost> {
-        make_rooms(buffer, self.rooms)?;
-        make(buffer, self.calls, answers)?;
+        make_both(buffer, self.rooms, self.calls, answers)?;
         self.set_positions(buffer);
         Ok(())
     }
@@ -106,11 +105,30 @@ impl Run<'_> {
     /// The buffer before the calls.
     fn buffer_at(&self, alloc: Global, level: u32) -> Result<hb_buffer_t, Lost> {
         let mut buffer = begun_buffer(alloc, self.text, level)?;
-        let mut answers = [NONE_YET; MOST];
-        limit(&mut buffer, self.max_len)?;
-        make_rooms(&mut buffer, &[self.ensured])?;
-        make(&mut buffer, self.before, &mut answers)?;
+        self.make_ready(&mut buffer)?;
         Ok(buffer)
+    }
+
+    /// Makes room, and the calls before those that are watched.
+    fn make_ready(&self, buffer: &mut hb_buffer_t) -> Result<(), Lost> {
+        let mut answers = [NONE_YET; MOST];
+        limit(buffer, self.max_len)?;
+        make_rooms(buffer, &[self.ensured])?;
+        make(buffer, self.before, &mut answers)
+    }
+
+    /// The buffer after some of the steps that make room, and after some calls, whose answers are kept.
+    fn twin_at(
+        &self,
+        alloc: Global,
+        level: u32,
+        rooms: &[usize],
+        calls: &[Call<'_>],
+        answers: &mut [Answer; MOST],
+    ) -> Result<hb_buffer_t, Lost> {
+        let mut twin = self.buffer_at(alloc, level)?;
+        make_both(&mut twin, rooms, calls, answers)?;
+        Ok(twin)
     }
 
     /// Turns positions on where that is part of the run.
@@ -142,8 +160,8 @@ impl Run<'_> {
                 Ok(done) if done == fits => {}
                 Ok(_) => return Err(Lost::Refusal),
                 Err(_) => {
-                    let mut twin = self.buffer_at(alloc, level)?;
-                    make_rooms(&mut twin, &self.rooms[..i])?;
+                    let mut none = [NONE_YET; MOST];
+                    let twin = self.twin_at(alloc, level, &self.rooms[..i], &[], &mut none)?;
                     self.is_kept(buffer, &twin)?;
                     make_rooms(buffer, &[*size])?;
                 }
@@ -160,29 +178,34 @@ impl Run<'_> {
         buffer: &mut hb_buffer_t,
     ) -> Result<[Answer; MOST], Lost> {
         let mut answers = [NONE_YET; MOST];
-        let count = self.calls.len();
-        if count > MOST {
-            return Err(Lost::Answers);
-        }
-        let Err(stopped) = replay(buffer, self.calls, &mut answers[..count]) else {
+        let Some(at) = make_from(buffer, self.calls, 0, &mut answers)? else {
             return Ok(answers);
         };
-        let at = stopped.at;
-        if at >= count {
-            return Err(Lost::EarlierAnswers);
+        self.watch_stop(alloc, level, at, buffer, &answers)?;
+        match make_from(buffer, self.calls, at, &mut answers)? {
+            None => Ok(answers),
+            Some(_) => Err(Lost::Memory),
         }
-        let mut twin = self.buffer_at(alloc, level)?;
+    }
+
+    /// After a call that ran out of memory: whether the calls before it have their answers, and no call after them.
+    fn watch_stop(
+        &self,
+        alloc: Global,
+        level: u32,
+        at: usize,
+        buffer: &hb_buffer_t,
+        answers: &[Answer; MOST],
+    ) -> Result<(), Lost> {
+        let Some(calls) = self.calls.get(..at) else {
+            return Err(Lost::EarlierAnswers);
+        };
         let mut earlier = [NONE_YET; MOST];
-        make_rooms(&mut twin, self.rooms)?;
-        make(&mut twin, &self.calls[..at], &mut earlier)?;
-        if answers != earlier {
+        let twin = self.twin_at(alloc, level, self.rooms, calls, &mut earlier)?;
+        if *answers != earlier {
             return Err(Lost::EarlierAnswers);
         }
-        self.is_kept(buffer, &twin)?;
-        match replay(buffer, &self.calls[at..], &mut answers[at..count]) {
-            Ok(()) => Ok(answers),
-            Err(_) => Err(Lost::Memory),
-        }
+        self.is_kept(buffer, &twin)
     }
 
     /// After a call that ran out of memory: whether it may ask for any, and the buffer stands as the calls before it
@@ -214,21 +237,45 @@ fn make_rooms(buffer: &mut hb_buffer_t, rooms: &[usize]) -> Result<(), AllocErro
     Ok(())
 }
 
+/// Makes room, step by step, and then all calls.
+fn make_both(
+    buffer: &mut hb_buffer_t,
+    rooms: &[usize],
+    calls: &[Call<'_>],
+    answers: &mut [Answer; MOST],
+) -> Result<(), Lost> {
+    make_rooms(buffer, rooms)?;
+    make(buffer, calls, answers)
+}
+
 /// Makes all calls, and keeps their answers. None may be outside its condition.
 fn make(
     buffer: &mut hb_buffer_t,
     calls: &[Call<'_>],
     answers: &mut [Answer; MOST],
 ) -> Result<(), Lost> {
-    let count = calls.len();
-    if count > MOST {
-        return Err(Lost::Answers);
-    }
-    if replay(buffer, calls, &mut answers[..count]).is_err() {
+    if make_from(buffer, calls, 0, answers)?.is_some() {
         return Err(Lost::Memory);
     }
-    if answers[..count].contains(&NONE_YET) {
-        return Err(Lost::Refusal);
+    match answers.get(..calls.len()) {
+        Some(answers) if !answers.contains(&NONE_YET) => Ok(()),
+        _ => Err(Lost::Refusal),
     }
-    Ok(())
+}
+
+/// Makes the calls from a place on, and keeps their answers. The place of the call that runs out of memory, if one does.
+fn make_from(
+    buffer: &mut hb_buffer_t,
+    calls: &[Call<'_>],
+    from: usize,
+    answers: &mut [Answer; MOST],
+) -> Result<Option<usize>, Lost> {
+    let count = calls.len();
+    if count > MOST || from > count {
+        return Err(Lost::Answers);
+    }
+    match replay(buffer, &calls[from..], &mut answers[from..count]) {
+        Ok(()) => Ok(None),
+        Err(stopped) => Ok(Some(stopped.at.saturating_add(from))),
+    }
 }

@@ -1,9 +1,9 @@
 //! Characters and their glyphs, by the table `cmap`. What is expected comes from the OpenType specification, from the
 //! tests of Annotated OpenType Specification that HarfBuzz has, or from HarfBuzz itself over the same table.
 
+use crate::bytes::bytes_of;
 use font_cmap::{CharacterMap, Encoding, GlyphVariant};
 use rb_common::GlyphId;
-use std::alloc::{AllocError, Global};
 use std::test::Fail;
 
 /// A table in numbers of 16 bits, the font page of `OS/2`, and the glyphs of characters, 0 where there is none.
@@ -262,28 +262,24 @@ static CASES: [Case; 17] = [
     },
 ];
 
-/// The bytes of numbers of 16 bits.
-fn bytes_of(alloc: Global, numbers: &[u16]) -> Result<Vec<u8>, AllocError> {
-    let mut bytes = Vec::new(alloc);
-    for number in numbers {
-        bytes.extend_from_slice(&number.to_be_bytes())?;
-    }
-    Ok(bytes)
-}
-
 /// The number of a character's glyph, or 0.
 fn glyph_of(map: &CharacterMap, character: u32) -> u16 {
     map.glyph_index(character).map_or(0, |glyph| glyph.0)
+}
+
+/// The characters of a table.
+fn map_of(cmap: &[u8], font_page: u16) -> CharacterMap<'_> {
+    CharacterMap::parse(cmap, font_page)
 }
 
 #[test]
 fn glyphs_of_characters(rt: HostRuntime) -> Result<(), Fail> {
     for case in &CASES {
         let bytes = bytes_of(rt.alloc(), case.cmap)?;
-        let map = CharacterMap::parse(&bytes, case.font_page);
+        let map = map_of(&bytes, case.font_page);
         for &(character, glyph) in case.glyphs {
             let found = glyph_of(&map, character);
-            assert_eq!(rt; found, glyph, "{}: U+{:04X}", case.name, character);
+            assert!(rt; found == glyph, "{}: U+{:04X}", case.name, character);
         }
     }
     Ok(())
@@ -369,8 +365,8 @@ fn one_of_two_subtables(rt: HostRuntime) -> Result<(), Fail> {
             0, 2, a.0, a.1, 0, 20, b.0, b.1, 0, 32, 6, 12, 0, 65, 1, 1, 6, 12, 0, 65, 1, 2,
         ];
         let bytes = bytes_of(rt.alloc(), &cmap)?;
-        let map = CharacterMap::parse(&bytes, 0);
-        assert_eq!(rt; glyph_of(&map, 65), row.used, "{}", row.name);
+        let used = glyph_of(&map_of(&bytes, 0), 65);
+        assert!(rt; used == row.used, "{}", row.name);
     }
     Ok(())
 }
@@ -381,12 +377,11 @@ fn a_byte_for_each_code(rt: HostRuntime) {
     let mut cmap = [0; 274];
     cmap[..18].copy_from_slice(&[0, 0, 0, 1, 0, 3, 0, 1, 0, 0, 0, 12, 0, 0, 1, 6, 0, 0]);
     cmap[18 + 0x34..18 + 0x37].copy_from_slice(&[17, 56, 12]);
-    let map = CharacterMap::parse(&cmap, 0);
-    assert_eq!(rt; map.encoding, Encoding::Unicode);
-    assert_eq!(rt; glyph_of(&map, 0x33), 0);
-    assert_eq!(rt; glyph_of(&map, 0x34), 17);
-    assert_eq!(rt; glyph_of(&map, 0x36), 12);
-    assert_eq!(rt; glyph_of(&map, 0x134), 0);
+    let map = map_of(&cmap, 0);
+    assert!(rt; map.encoding == Encoding::Unicode);
+    for (character, glyph) in [(0x33, 0), (0x34, 17), (0x36, 12), (0x134, 0)] {
+        assert!(rt; glyph_of(&map, character) == glyph, "U+{character:04X}");
+    }
 }
 
 /// The table of `cmap14_font1.otf`: a selector with two default ranges, one of four characters and one of one, and two
@@ -398,31 +393,48 @@ static VARIATIONS: [u8; 99] = [
     0x10, 0, 0x19, 0, 0x4E, 0x11, 0, 0x1A, 0, 0, 0, 2, 0, 0x4E, 0, 0, 0, 0x4E, 3, 3,
 ];
 
+/// Characters, selectors, and what the table says of the two.
+static VARIANTS: [(u32, u32, GlyphVariant); 4] = [
+    (0x4E00, 0xE0100, GlyphVariant::UseDefault),
+    (0x4E10, 0xE0100, GlyphVariant::Found(GlyphId(25))),
+    (0x4E01, 0xE0100, GlyphVariant::NotFound),
+    (0x4E00, 0xE0101, GlyphVariant::NotFound),
+];
+
+/// What a table says of a character and a selector.
+fn variant_of(map: &CharacterMap, character: u32, selector: u32) -> GlyphVariant {
+    map.glyph_variant(character, selector)
+}
+
+/// Characters, selectors, and the glyph of the two.
+static SEQUENCES: [(u32, u32, Option<u16>); 3] = [
+    (0x4E03, 0xE0100, Some(13)),
+    (0x4E11, 0xE0100, Some(26)),
+    (0x4E01, 0xE0100, None),
+];
+
+/// The glyph of a character and a selector.
+fn sequence_of(map: &CharacterMap, character: u32, selector: u32) -> Option<u16> {
+    map.glyph_variation_index(character, selector)
+        .map(|glyph| glyph.0)
+}
+
 #[test]
 fn variation_sequences(rt: HostRuntime) {
-    let map = CharacterMap::parse(&VARIATIONS, 0);
-    let own = GlyphVariant::Found(GlyphId(25));
-    assert_eq!(rt;
-        map.glyph_variant(0x4E00, 0xE0100),
-        GlyphVariant::UseDefault
-    );
-    assert_eq!(rt; map.glyph_variant(0x4E10, 0xE0100), own);
-    assert_eq!(rt; map.glyph_variant(0x4E01, 0xE0100), GlyphVariant::NotFound);
-    assert_eq!(rt; map.glyph_variant(0x4E00, 0xE0101), GlyphVariant::NotFound);
-    assert_eq!(rt;
-        map.glyph_variation_index(0x4E03, 0xE0100),
-        Some(GlyphId(13))
-    );
-    assert_eq!(rt;
-        map.glyph_variation_index(0x4E11, 0xE0100),
-        Some(GlyphId(26))
-    );
-    assert_eq!(rt; map.glyph_variation_index(0x4E01, 0xE0100), None);
+    let map = map_of(&VARIATIONS, 0);
+    for &(character, selector, variant) in &VARIANTS {
+        let found = variant_of(&map, character, selector);
+        assert!(rt; found == variant, "U+{character:04X} U+{selector:04X}");
+    }
+    for &(character, selector, glyph) in &SEQUENCES {
+        let found = sequence_of(&map, character, selector);
+        assert!(rt; found == glyph, "U+{character:04X} U+{selector:04X}");
+    }
 }
 
 #[test]
 fn no_table(rt: HostRuntime) {
-    let map = CharacterMap::parse(&[], 0);
-    assert_eq!(rt; map.glyph_index(65), None);
-    assert_eq!(rt; map.glyph_variation_index(65, 0xFE00), None);
+    let map = map_of(&[], 0);
+    assert!(rt; glyph_of(&map, 65) == 0);
+    assert!(rt; sequence_of(&map, 65, 0xFE00) == None);
 }

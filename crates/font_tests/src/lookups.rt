@@ -13,16 +13,6 @@ use ot_layout::{LookupList, LookupOptions};
 use rb_glyph::hb_glyph_info_t;
 use std::alloc::{AllocError, Global};
 
-/// A table in numbers of 16 bits.
-pub(crate) fn bytes_of(alloc: Global, words: &[u16]) -> Result<Vec<u8>, AllocError> {
-    let mut bytes = Vec::new(alloc);
-    for word in words {
-        bytes.push((*word / 256) as u8)?;
-        bytes.push((*word % 256) as u8)?;
-    }
-    Ok(bytes)
-}
-
 /// The bits of the only feature.
 pub(crate) const OPTIONS: LookupOptions = LookupOptions {
     mask: 8,

@@ -22,10 +22,10 @@ static GLYF: [u8; 34] = [
 ];
 
 /// Their places, as halves.
-static LOCA: [u8; 10] = [0, 0, 0, 6, 0, 11, 0, 16, 0, 17];
+const LOCA: &[u8] = &[0, 0, 0, 6, 0, 11, 0, 16, 0, 17];
 
 /// The same places in 32 bits.
-static LONG_LOCA: [u8; 20] = [
+const LONG_LOCA: &[u8] = &[
     0, 0, 0, 0, 0, 0, 0, 12, 0, 0, 0, 22, 0, 0, 0, 32, 0, 0, 0, 34,
 ];
 
@@ -38,33 +38,49 @@ static BOXES: [(Option<i16>, Option<[i32; 4]>); 5] = [
     (Some(15), None),
 ];
 
+/// The box of a glyph by the tables of outlines, and by all outlines of a font that has these alone.
+fn boxes_of(
+    loca: &[u8],
+    has_long_offsets: bool,
+    glyph: u16,
+    bearing: Option<i16>,
+) -> [Option<[i32; 4]>; 2] {
+    let glyf = GlyfTables {
+        glyf: &GLYF,
+        loca,
+        has_long_offsets,
+        glyph_count: 5,
+    };
+    let outlines = Outlines::new(glyf, &[]);
+    let glyph = GlyphId(glyph);
+    [
+        box_of(glyf.glyph_extents(glyph, bearing)),
+        box_of(outlines.glyph_extents(glyph, bearing)),
+    ]
+}
+
 #[test]
 fn the_header_of_an_outline_names_its_box(rt: HostRuntime) {
-    for (loca, has_long_offsets) in [(LOCA.as_slice(), false), (LONG_LOCA.as_slice(), true)] {
-        let glyf = GlyfTables {
-            glyf: &GLYF,
-            loca,
-            has_long_offsets,
-            glyph_count: 5,
-        };
-        let outlines = Outlines::new(glyf, &[]);
+    for (loca, is_long) in [(LOCA, false), (LONG_LOCA, true)] {
         for (number, &(bearing, found)) in (0..5).zip(&BOXES) {
-            let glyph = GlyphId(number);
             assert!(rt;
-                box_of(glyf.glyph_extents(glyph, bearing)) == found,
-                "{number}, long {has_long_offsets}"
-            );
-            assert!(rt;
-                box_of(outlines.glyph_extents(glyph, bearing)) == found,
-                "{number}, long {has_long_offsets}"
-            );
-            assert!(rt;
-                outlines.glyph_name(glyph) == None,
-                "{number}, long {has_long_offsets}"
+                boxes_of(loca, is_long, number, bearing) == [found, found],
+                "{number}, long {is_long}"
             );
         }
     }
-    assert!(rt; outline(&GLYF, &LOCA, false, GlyphId(3)) == Some([0, 1].as_slice()));
+    assert!(rt; outline(&GLYF, LOCA, false, GlyphId(3)) == Some([0, 1].as_slice()));
+}
+
+#[test]
+fn outlines_of_glyf_have_no_names(rt: HostRuntime) {
+    let glyf = GlyfTables {
+        glyf: &GLYF,
+        loca: LOCA,
+        has_long_offsets: false,
+        glyph_count: 5,
+    };
+    assert!(rt; Outlines::new(glyf, &[]).glyph_name(GlyphId(0)) == None);
 }
 
 /// The example font of The Compact Font Format Specification (Appendix D).
@@ -78,23 +94,49 @@ static EXAMPLE: [u8; 147] = [
     147, 247, 16, 139, 9, 167, 10, 223, 11, 247, 142, 20,
 ];
 
+/// The example font, where it has so many glyphs.
+fn example(glyph_count: u16) -> Option<CffTable<'static>> {
+    CffTable::parse(&EXAMPLE, glyph_count)
+}
+
+/// The strings of the example font.
+fn example_strings() -> &'static [u8] {
+    example(2).map_or(&[], |cff| cff.strings)
+}
+
+/// The name of a glyph of the example font.
+fn example_name(glyph: u16) -> Option<&'static [u8]> {
+    example(2)?.glyph_name(GlyphId(glyph))
+}
+
+/// The box of a glyph of the example font.
+fn example_box(glyph: u16) -> Option<[i32; 4]> {
+    box_of(example(2)?.glyph_extents(GlyphId(glyph)))
+}
+
 #[test]
 fn the_example_of_the_specification_is_read(rt: HostRuntime) {
-    let cff = CffTable::parse(&EXAMPLE, 2);
-    assert!(rt; cff.is_some());
-    if let Some(cff) = cff {
-        assert!(rt; cff.glyph_name(GlyphId(0)) == Some(b".notdef".as_slice()));
-        assert!(rt; cff.glyph_name(GlyphId(1)) == Some(b"space".as_slice()));
-        assert!(rt; cff.glyph_name(GlyphId(2)) == None);
-        assert!(rt; box_of(cff.glyph_extents(GlyphId(1))) == Some([0; 4]));
-        assert!(rt; cff.path_bounds(GlyphId(2)).is_none());
-        assert!(rt; index_count(cff.strings) == 3);
-        assert!(rt; index_size(cff.strings) == Some(30));
-        assert!(rt; index_item(cff.strings, 1) == Some(b"Times Roman".as_slice()));
-        assert!(rt; index_item(cff.strings, 3) == None);
-        assert!(rt; string_of(cff.strings, 393) == Some(b"Times".as_slice()));
+    for (glyph_count, is_whole) in [(2, true), (3, false)] {
+        assert!(rt; example(glyph_count).is_some() == is_whole, "{glyph_count}");
     }
-    assert!(rt; CffTable::parse(&EXAMPLE, 3).is_none());
+    for (glyph, name, found) in [
+        (0, Some(b".notdef".as_slice()), Some([0; 4])),
+        (1, Some(b"space".as_slice()), Some([0; 4])),
+        (2, None, None),
+    ] {
+        assert!(rt; example_name(glyph) == name, "{glyph}");
+        assert!(rt; example_box(glyph) == found, "{glyph}");
+    }
+}
+
+#[test]
+fn the_example_has_strings(rt: HostRuntime) {
+    let strings = example_strings();
+    assert!(rt; index_count(strings) == 3 && index_size(strings) == Some(30));
+    for (place, item) in [(1, Some(b"Times Roman".as_slice())), (3, None)] {
+        assert!(rt; index_item(strings, place) == item, "{place}");
+    }
+    assert!(rt; string_of(strings, 393) == Some(b"Times".as_slice()));
 }
 
 /// A CFF font whose charstrings have every operator that draws, subroutines, a mask, fractions, and one that never ends.
@@ -130,29 +172,48 @@ static DRAWINGS: [(&str, Option<[i32; 4]>); 10] = [
     ("own_name", Some([-300, 0, 16131, -17531])),
 ];
 
-#[test]
-fn a_charstring_is_run_for_its_box(rt: HostRuntime) {
+/// The outlines of the font.
+fn drawn() -> Outlines<'static> {
     let glyf = GlyfTables {
         glyf: &[],
         loca: &[],
         has_long_offsets: false,
         glyph_count: 10,
     };
-    let outlines = Outlines::new(glyf, &DRAWN);
+    Outlines::new(glyf, &DRAWN)
+}
+
+/// The name and the box of a glyph.
+fn drawing_of(
+    outlines: &Outlines<'static>,
+    glyph: u16,
+) -> (Option<&'static [u8]>, Option<[i32; 4]>) {
+    let glyph = GlyphId(glyph);
+    let found = box_of(outlines.glyph_extents(glyph, Some(15)));
+    (outlines.glyph_name(glyph), found)
+}
+
+#[test]
+fn a_charstring_is_run_for_its_box(rt: HostRuntime) {
+    let outlines = drawn();
     for (glyph, &(name, found)) in (0..10).zip(&DRAWINGS) {
-        let glyph = GlyphId(glyph);
         assert!(rt;
-            outlines.glyph_name(glyph) == Some(name.as_bytes()),
-            "{name}"
-        );
-        assert!(rt;
-            box_of(outlines.glyph_extents(glyph, Some(15))) == found,
+            drawing_of(&outlines, glyph) == (Some(name.as_bytes()), found),
             "{name}"
         );
     }
-    let bounds = outlines.cff.and_then(|cff| cff.path_bounds(GlyphId(1)));
-    assert!(rt; bounds.map(|bounds| bounds.min.x) == Some(32112640));
-    assert!(rt; bounds.map(|bounds| bounds.max.y) == Some(14811136));
+}
+
+/// The left side and the top of a path, in 65,536ths.
+fn corner_of(outlines: &Outlines<'_>, glyph: u16) -> Option<(i64, i64)> {
+    let bounds = outlines.cff?.path_bounds(GlyphId(glyph))?;
+    Some((bounds.min.x, bounds.max.y))
+}
+
+#[test]
+fn paths_have_bounds(rt: HostRuntime) {
+    let outlines = drawn();
+    assert!(rt; corner_of(&outlines, 1) == Some((32112640, 14811136)));
 }
 
 /// Predefined charsets, glyphs, and the names that they have by The Compact Font Format Specification (Appendix C).

@@ -1,7 +1,7 @@
 //! The OpenType tags of languages, as OpenType's registry of language systems and HarfBuzz have them.
 
 use ot_tags::LanguageTags;
-use rb_text::{Language, LanguageTable, Tag, tags_from_script_and_language};
+use rb_text::{Language, LanguageTable, Tag, ThreeTags, tags_from_script_and_language};
 use std::test::Fail;
 
 /// Languages, and their tags of four bytes each.
@@ -76,27 +76,42 @@ static LANGUAGES: [(&str, &str); 68] = [
     ("zyp", "QIN "),
 ];
 
-#[test]
-fn languages_have_their_tags(rt: HostRuntime) -> Result<(), Fail> {
-    let table = LanguageTable::new(&[]).ok_or("no table")?;
-    for &(name, expected) in &LANGUAGES {
-        let language = Language::from_str(rt.alloc(), name)?;
-        let found = LanguageTags::of(Some(&language));
-        let (_, tags) = tags_from_script_and_language(None, Some(&language), &table, &found);
-        assert!(rt; tags.len() * 4 == expected.len(), "{name}");
-        for (tag, bytes) in tags.iter().zip(expected.as_bytes().chunks(4)) {
-            assert!(rt; *tag == Tag::from_bytes_lossy(bytes), "{name}");
+/// The tags of a language.
+fn tags_of(language: Option<&Language>) -> Option<ThreeTags> {
+    let table = LanguageTable::new(&[])?;
+    let found = LanguageTags::of(language);
+    let (_, tags) = tags_from_script_and_language(None, language, &table, &found);
+    Some(tags)
+}
+
+/// Whether tags have these bytes.
+fn have_bytes(tags: &ThreeTags, bytes: &[u8]) -> bool {
+    if tags.len() != bytes.len() / 4 {
+        return false;
+    }
+    for (tag, letters) in tags.iter().zip(bytes.chunks(4)) {
+        if *tag != Tag::from_bytes_lossy(letters) {
+            return false;
         }
     }
-    Ok(())
+    true
+}
+
+/// Whether a language has the tags of these bytes.
+fn has_tags(language: Option<&Language>, bytes: &str) -> bool {
+    match tags_of(language) {
+        Some(tags) => have_bytes(&tags, bytes.as_bytes()),
+        None => false,
+    }
 }
 
 /// No language has no tags.
 #[test]
-fn no_language_has_no_tags(rt: HostRuntime) -> Result<(), Fail> {
-    let table = LanguageTable::new(&[]).ok_or("no table")?;
-    let none = LanguageTags::of(None);
-    let (_, tags) = tags_from_script_and_language(None, None, &table, &none);
-    assert!(rt; tags.is_empty());
+fn languages_have_their_tags(rt: HostRuntime) -> Result<(), Fail> {
+    for &(name, expected) in &LANGUAGES {
+        let language = Language::from_str(rt.alloc(), name)?;
+        assert!(rt; has_tags(Some(&language), expected), "{name}");
+    }
+    assert!(rt; has_tags(None, ""));
     Ok(())
 }

@@ -8,142 +8,171 @@ use ot_gpos_tables::anchors::{
 };
 use ot_gpos_tables::contour_points::{ContourPoint, ContourPoints, NoPoints};
 use ot_gpos_tables::instance::Instance;
-use std::alloc::AllocError;
+use std::alloc::{AllocError, Global};
 
 /// Where an anchor is: across and up, and how far it is moved.
 type Place = (i16, i16, i32, i32);
 
-/// An anchor in numbers of 16 bits, where an em of 1,000 units has 12 pixels across and 10 up, a point of an outline, and where it is.
+/// An anchor in numbers of 16 bits, where an em of 1,000 units has so many pixels across and 10 up, a point of an outline, and where it
+/// is.
 struct Row {
     name: &'static str,
     words: &'static [u16],
+    x_ppem: u16,
     point: Option<ContourPoint>,
     place: Option<Place>,
 }
 
-static ROWS: [Row; 8] = [
+static ROWS: [Row; 9] = [
     Row {
         name: "format 1 is two numbers",
         words: &[1, 189, 0xFF99],
+        x_ppem: 12,
         point: None,
         place: Some((189, -103, 0, 0)),
     },
     Row {
         name: "format 2 is two numbers where the font does not know its point",
         words: &[2, 322, 900, 13],
+        x_ppem: 12,
         point: None,
         place: Some((322, 900, 0, 0)),
     },
     Row {
         name: "format 2 is its point",
         words: &[2, 322, 900, 13],
+        x_ppem: 12,
         point: Some(ContourPoint { x: 190, y: -45 }),
         place: Some((0, 0, 190, -45)),
     },
     Row {
+        name: "it is its point only in the direction that has pixels",
+        words: &[2, 322, 900, 13],
+        x_ppem: 0,
+        point: Some(ContourPoint { x: 190, y: -45 }),
+        place: Some((322, 0, 0, -45)),
+    },
+    Row {
         name: "format 1 is no point",
         words: &[1, 189, 0xFF99],
+        x_ppem: 12,
         point: Some(ContourPoint { x: 190, y: -45 }),
         place: Some((189, -103, 0, 0)),
     },
     Row {
         name: "format 3 has a device table for each number: one pixel across, and three down",
         words: &[3, 279, 1301, 10, 18, 11, 15, 1, 0x5540, 9, 11, 2, 0x0D00],
+        x_ppem: 12,
         point: None,
         place: Some((279, 1301, 83, -300)),
     },
     Row {
         name: "an offset of 0 is no device table",
         words: &[3, 279, 1301, 0, 10, 9, 11, 2, 0x0D00],
+        x_ppem: 12,
         point: None,
         place: Some((279, 1301, 0, -300)),
     },
     Row {
         name: "one of an unknown format is the origin",
         words: &[4, 7, 7],
+        x_ppem: 12,
         point: None,
         place: Some((0, 0, 0, 0)),
     },
     Row {
         name: "one that is cut short is none",
         words: &[3, 279, 1301, 0],
+        x_ppem: 12,
         point: None,
         place: None,
     },
 ];
 
-/// A font in pixels, 12 across and 10 up.
-fn in_pixels<'a>() -> Instance<'a> {
+/// Where an anchor is in a font of so many pixels across and 10 up.
+fn place_of(table: &[u8], x_ppem: u16, point: Option<ContourPoint>) -> Option<Place> {
     let mut scale = Scale::of_em(1000);
-    scale.x_ppem = 12;
+    scale.x_ppem = x_ppem;
     scale.y_ppem = 10;
-    Instance {
+    let instance = Instance {
         scale,
         deltas: Deltas::NONE,
-    }
+    };
+    let anchor = Anchor::read(table, &instance, point)?;
+    Some((anchor.x, anchor.y, anchor.x_delta, anchor.y_delta))
 }
 
 #[test]
 fn anchors_are_read(rt: HostRuntime) -> Result<(), AllocError> {
-    let instance = in_pixels();
     for row in &ROWS {
         let table = bytes_of(rt.alloc(), row.words)?;
-        let place = match Anchor::read(&table, &instance, row.point) {
-            Some(anchor) => Some((anchor.x, anchor.y, anchor.x_delta, anchor.y_delta)),
-            None => None,
-        };
+        let place = place_of(&table, row.x_ppem, row.point);
         assert!(rt; place == row.place, "{}", row.name);
     }
     Ok(())
 }
 
-/// The point that a table names, at a size in pixels and at others.
+/// Anchors, pixels up, and the point that each names.
+static NAMED: [(&[u16], u16, Option<u16>); 3] = [
+    (&[2, 322, 900, 13], 0, None),
+    (&[2, 322, 900, 13], 10, Some(13)),
+    (&[1, 322, 900, 13], 10, None),
+];
+
+/// The point that a table names.
+fn point_of(alloc: Global, words: &[u16], y_ppem: u16) -> Result<Option<u16>, AllocError> {
+    let table = bytes_of(alloc, words)?;
+    let mut scale = Scale::of_em(1000);
+    scale.y_ppem = y_ppem;
+    Ok(named_point(&table, &scale))
+}
+
+/// A point is named at a size in pixels alone.
 #[test]
 fn points_are_named(rt: HostRuntime) -> Result<(), AllocError> {
-    let named = bytes_of(rt.alloc(), &[2, 322, 900, 13])?;
-    let other = bytes_of(rt.alloc(), &[1, 322, 900, 13])?;
-    let mut scale = Scale::of_em(1000);
-    assert!(rt; named_point(&named, &scale).is_none());
-    scale.y_ppem = 10;
-    assert!(rt; named_point(&named, &scale) == Some(13));
-    assert!(rt; named_point(&other, &scale).is_none());
-    assert!(rt; NoPoints.contour_point(7, 13).is_none());
+    for (number, &(words, y_ppem, point)) in NAMED.iter().enumerate() {
+        assert!(rt; point_of(rt.alloc(), words, y_ppem)? == point, "{number}");
+    }
     Ok(())
 }
 
-/// An anchor is at its point only in the direction that has pixels.
 #[test]
-fn points_are_of_directions_with_pixels(rt: HostRuntime) -> Result<(), AllocError> {
-    let named = bytes_of(rt.alloc(), &[2, 322, 900, 13])?;
-    let mut instance = in_pixels();
-    instance.scale.x_ppem = 0;
-    let point = ContourPoint { x: 190, y: -45 };
-    let place = Anchor::read(&named, &instance, Some(point));
-    assert!(rt; place.is_some_and(|anchor| anchor.x == 322 && anchor.x_delta == 0));
-    assert!(rt; place.is_some_and(|anchor| anchor.y == 0 && anchor.y_delta == -45));
-    Ok(())
+fn a_font_may_have_no_points(rt: HostRuntime) {
+    assert!(rt; NoPoints.contour_point(7, 13).is_none());
 }
 
-/// From a mark's anchor to that of its base, where an em is twice as long across as it has font units, and half as long up.
+/// The anchor of a mark.
+const MARK: Anchor = Anchor {
+    x: 100,
+    y: 200,
+    x_delta: 3,
+    y_delta: -4,
+};
+
+/// The anchor of its base.
+const BASE: Anchor = Anchor {
+    x: 300,
+    y: 500,
+    x_delta: 10,
+    y_delta: 20,
+};
+
+/// Where an anchor is, and how far it is from there to another one, where an em is twice as long across as it has font units, and half
+/// as long up.
+fn way_of(anchor: &Anchor, other: &Anchor) -> [i32; 4] {
+    let scale = Scale::new(1000, 2000, 500);
+    [
+        anchor.x_at(&scale),
+        anchor.y_at(&scale),
+        anchor.x_to(other, &scale),
+        anchor.y_to(other, &scale),
+    ]
+}
+
 #[test]
 fn anchors_are_apart(rt: HostRuntime) {
-    let mark = Anchor {
-        x: 100,
-        y: 200,
-        x_delta: 3,
-        y_delta: -4,
-    };
-    let base = Anchor {
-        x: 300,
-        y: 500,
-        x_delta: 10,
-        y_delta: 20,
-    };
-    let scale = Scale::new(1000, 2000, 500);
-    assert!(rt; (mark.x_at(&scale), mark.y_at(&scale)) == (203, 96));
-    assert!(rt; (base.x_at(&scale), base.y_at(&scale)) == (610, 270));
-    assert!(rt; (mark.x_to(&base, &scale), mark.y_to(&base, &scale)) == (407, 174));
-    assert!(rt; (base.x_to(&mark, &scale), base.y_to(&mark, &scale)) == (-407, -174));
+    assert!(rt; way_of(&MARK, &BASE) == [203, 96, 407, 174]);
+    assert!(rt; way_of(&BASE, &MARK) == [610, 270, -407, -174]);
 }
 
 /// Two marks, of the classes 2 and 0, each with its anchor.
@@ -154,54 +183,72 @@ const MATRIX: &[u16] = &[2, 10, 16, 22, 0, 1, 1, 2, 1, 3, 4, 1, 5, 6];
 
 /// The first number of the table at which an array's offset leads.
 fn format_and_x(table: &[u8]) -> Option<(u8, u8)> {
-    match (table.get(1), table.get(3)) {
-        (Some(format), Some(x)) => Some((*format, *x)),
-        _ => None,
-    }
+    let format = table.get(1)?;
+    Some((*format, *table.get(3)?))
+}
+
+/// Marks, their classes, and the first numbers of their anchors.
+static CLASSES: [(u32, u16, Option<(u8, u8)>); 3] = [
+    (0, 2, Some((1, 11))),
+    (1, 0, Some((1, 21))),
+    (2, 0, None),
+];
+
+/// The class of a mark and the first numbers of its anchor.
+fn mark_of(alloc: Global, index: u32) -> Result<(u16, Option<(u8, u8)>), AllocError> {
+    let marks = bytes_of(alloc, MARKS)?;
+    let anchor = format_and_x(mark_anchor(&marks, index));
+    Ok((mark_class(&marks, index), anchor))
 }
 
 #[test]
 fn marks_have_classes_and_anchors(rt: HostRuntime) -> Result<(), AllocError> {
-    let marks = bytes_of(rt.alloc(), MARKS)?;
-    assert!(rt;
-        (
-            mark_class(&marks, 0),
-            mark_class(&marks, 1),
-            mark_class(&marks, 2)
-        ) == (2, 0, 0)
-    );
-    assert!(rt; format_and_x(mark_anchor(&marks, 0)) == Some((1, 11)));
-    assert!(rt; format_and_x(mark_anchor(&marks, 1)) == Some((1, 21)));
-    assert!(rt; mark_anchor(&marks, 2).is_empty());
+    for &(index, class, anchor) in &CLASSES {
+        assert!(rt; mark_of(rt.alloc(), index)? == (class, anchor), "{index}");
+    }
     Ok(())
+}
+
+/// Rows, columns, and the first numbers of the anchors there.
+static PLACES: [(u32, u16, Option<(u8, u8)>); 6] = [
+    (0, 0, Some((1, 1))),
+    (0, 1, Some((1, 3))),
+    (1, 0, Some((1, 5))),
+    (1, 1, None),
+    (0, 2, None),
+    (2, 0, None),
+];
+
+/// The first numbers of the anchor in a row and a column.
+fn numbers_in(matrix: &[u8], row: u32, column: u16) -> Option<(u8, u8)> {
+    format_and_x(anchor_in(matrix, row, column, 2)?)
 }
 
 #[test]
 fn anchors_stand_in_rows_and_columns(rt: HostRuntime) -> Result<(), AllocError> {
     let matrix = bytes_of(rt.alloc(), MATRIX)?;
-    for ((row, column), x) in [((0, 0), 1), ((0, 1), 3), ((1, 0), 5)] {
-        let anchor = anchor_in(&matrix, row, column, 2);
+    for &(row, column, numbers) in &PLACES {
         assert!(rt;
-            anchor.is_some_and(|table| format_and_x(table) == Some((1, x))),
-            "{row} {column}"
-        );
-    }
-    for (row, column) in [(1, 1), (0, 2), (2, 0)] {
-        assert!(rt;
-            anchor_in(&matrix, row, column, 2).is_none(),
+            numbers_in(&matrix, row, column) == numbers,
             "{row} {column}"
         );
     }
     Ok(())
 }
 
+/// Ligatures, and the first numbers of their matrices.
+static LIGATURES: [(u32, Option<(u8, u8)>); 3] = [(0, None), (1, Some((3, 7))), (2, None)];
+
+/// The first numbers of the matrix of a ligature.
+fn matrix_of(ligatures: &[u8], index: u32) -> Option<(u8, u8)> {
+    format_and_x(ligature_matrix(ligatures, index)?)
+}
+
 #[test]
 fn ligatures_have_matrices(rt: HostRuntime) -> Result<(), AllocError> {
     let ligatures = bytes_of(rt.alloc(), &[2, 0, 6, 3, 7])?;
-    assert!(rt; ligature_matrix(&ligatures, 0).is_none());
-    assert!(rt;
-        ligature_matrix(&ligatures, 1).is_some_and(|matrix| format_and_x(matrix) == Some((3, 7)))
-    );
-    assert!(rt; ligature_matrix(&ligatures, 2).is_none());
+    for &(index, numbers) in &LIGATURES {
+        assert!(rt; matrix_of(&ligatures, index) == numbers, "{index}");
+    }
     Ok(())
 }

@@ -6,8 +6,7 @@ use std::alloc::{AllocError, Global};
 pub(crate) fn bytes_of(alloc: Global, words: &[u16]) -> Result<Vec<u8>, AllocError> {
     let mut bytes = Vec::new(alloc);
     for word in words {
-        bytes.push((*word / 256) as u8)?;
-        bytes.push((*word % 256) as u8)?;
+        bytes.extend_from_slice(&word.to_be_bytes())?;
     }
     Ok(bytes)
 }

@@ -2,7 +2,7 @@
 
 use crate::bytes::bytes_of;
 use ot_gpos_tables::kern_table::{KernTable, classed_value, pair_row, pair_value};
-use std::alloc::AllocError;
+use std::alloc::{AllocError, Global};
 
 /// A subtable of pairs with the header of Windows, for horizontal lines: 10 and 11 by -51, and 10 and 12 by 30.
 const PAIRS: &[u16] = &[0, 26, 1, 2, 0, 0, 0, 10, 11, 0xFFCD, 10, 12, 30];
@@ -30,30 +30,37 @@ static CLASSED: [(u16, u16, i16); 6] = [
     (11, 19, 0),
 ];
 
+/// The row of a pair in a subtable of pairs.
+fn row_of(alloc: Global, left: u16, right: u16) -> Result<Option<usize>, AllocError> {
+    let subtable = bytes_of(alloc, PAIRS)?;
+    Ok(pair_row(&subtable, 6, left, right))
+}
+
+/// The value of a pair in a subtable of pairs.
+fn value_of(alloc: Global, left: u16, right: u16) -> Result<Option<i16>, AllocError> {
+    let subtable = bytes_of(alloc, PAIRS)?;
+    Ok(pair_value(&subtable, 6, left, right))
+}
+
 #[test]
 fn pairs_have_values(rt: HostRuntime) -> Result<(), AllocError> {
-    let subtable = bytes_of(rt.alloc(), PAIRS)?;
-    for (left, right, row, value) in &LISTED {
-        assert!(rt;
-            pair_row(&subtable, 6, *left, *right) == *row,
-            "{left} {right}"
-        );
-        assert!(rt;
-            pair_value(&subtable, 6, *left, *right) == *value,
-            "{left} {right}"
-        );
+    for (number, &(left, right, row, value)) in LISTED.iter().enumerate() {
+        assert!(rt; row_of(rt.alloc(), left, right)? == row, "{number}");
+        assert!(rt; value_of(rt.alloc(), left, right)? == value, "{number}");
     }
     Ok(())
 }
 
+/// The value of a pair of classes.
+fn classed(alloc: Global, left: u16, right: u16) -> Result<i16, AllocError> {
+    let subtable = bytes_of(alloc, CLASSES)?;
+    Ok(classed_value(&subtable, 6, left, right))
+}
+
 #[test]
 fn classes_have_values(rt: HostRuntime) -> Result<(), AllocError> {
-    let subtable = bytes_of(rt.alloc(), CLASSES)?;
-    for (left, right, value) in &CLASSED {
-        assert!(rt;
-            classed_value(&subtable, 6, *left, *right) == *value,
-            "{left} {right}"
-        );
+    for (number, &(left, right, value)) in CLASSED.iter().enumerate() {
+        assert!(rt; classed(rt.alloc(), left, right)? == value, "{number}");
     }
     Ok(())
 }
@@ -121,62 +128,113 @@ static ROWS: [Row; 7] = [
     },
 ];
 
+/// How many subtables a table has, and whether it has any, a state machine, and one for kerning across the line.
+fn summary_of(alloc: Global, words: &[u16]) -> Result<(u32, [bool; 3]), AllocError> {
+    let bytes = bytes_of(alloc, words)?;
+    let table = KernTable::new(&bytes);
+    let has = [
+        table.has_kerning(),
+        table.has_machine_kerning(),
+        table.has_cross_kerning(),
+    ];
+    Ok((table.count, has))
+}
+
 #[test]
 fn tables_have_subtables(rt: HostRuntime) -> Result<(), AllocError> {
     for row in &ROWS {
-        let bytes = bytes_of(rt.alloc(), row.words)?;
-        let table = KernTable::new(&bytes);
-        assert!(rt; table.count == row.count, "{}", row.name);
-        assert!(rt; table.has_kerning() == (row.count != 0), "{}", row.name);
-        assert!(rt;
-            table.has_machine_kerning() == row.is_machine,
-            "{}",
-            row.name
-        );
-        assert!(rt; table.has_cross_kerning() == row.is_cross, "{}", row.name);
+        let found = summary_of(rt.alloc(), row.words)?;
+        let has = [row.count != 0, row.is_machine, row.is_cross];
+        assert!(rt; found == (row.count, has), "{}", row.name);
     }
     Ok(())
 }
 
-/// The second subtable of a table with Apple's headers begins behind the first, and its values are for vertical lines.
+/// A subtable's format, the sizes of its header and of the whole, how many bytes there are of it, whether it is for horizontal lines,
+/// for kerning across the line and for variations, and the values of the pair 10 and 11 and of that pair turned round.
+type Subtable = (u8, u8, usize, usize, [bool; 3], [i16; 2]);
+
+/// A table, a place and a number of a subtable, and the subtable there.
+struct Place {
+    words: &'static [u16],
+    at: usize,
+    number: u32,
+    subtable: Option<Subtable>,
+}
+
+/// Two subtables with Apple's headers, of which the second one's values are for vertical lines.
+const TWO: &[u16] = &[
+    1, 0, 0, 2, 0, 8, 1, 0, 0, 22, 0x8000, 0, 1, 0, 0, 0, 10, 11, 0xFFCD,
+];
+
+/// One subtable, which goes up to the end of the table, whatever length it says that it has.
+const LAST: &[u16] = &[0, 1, 0, 20, 1, 1, 0, 0, 0, 10, 11, 0xFFCD, 7];
+
+static PLACES: [Place; 4] = [
+    Place {
+        words: TWO,
+        at: 8,
+        number: 0,
+        subtable: Some((1, 8, 8, 8, [true, false, false], [0, 0])),
+    },
+    Place {
+        words: TWO,
+        at: 16,
+        number: 1,
+        subtable: Some((0, 8, 22, 22, [false, false, false], [-51, 0])),
+    },
+    Place {
+        words: TWO,
+        at: 17,
+        number: 1,
+        subtable: None,
+    },
+    Place {
+        words: LAST,
+        at: 4,
+        number: 0,
+        subtable: Some((0, 6, 20, 22, [true, false, false], [-51, 0])),
+    },
+];
+
+/// The subtable of a table at a place.
+fn subtable_at(table: &[u8], at: usize, number: u32) -> Option<Subtable> {
+    let found = KernTable::new(table).subtable_at(at, number)?;
+    let coverage = [
+        found.coverage.is_horizontal,
+        found.coverage.is_cross_stream,
+        found.coverage.is_variation,
+    ];
+    let values = [found.kerning(10, 11), found.kerning(11, 10)];
+    Some((
+        found.format,
+        found.header,
+        found.length,
+        found.table.len(),
+        coverage,
+        values,
+    ))
+}
+
+/// The next subtable begins behind the one before it.
 #[test]
 fn subtables_stand_one_behind_the_other(rt: HostRuntime) -> Result<(), AllocError> {
-    let words = [
-        1, 0, 0, 2, 0, 8, 1, 0, 0, 22, 0x8000, 0, 1, 0, 0, 0, 10, 11, 0xFFCD,
-    ];
-    let bytes = bytes_of(rt.alloc(), &words)?;
-    let table = KernTable::new(&bytes);
-    assert!(rt; table.start() == 8);
-    let Some(first) = table.subtable_at(8, 0) else {
-        assert!(rt; false);
-        return Ok(());
-    };
-    assert!(rt; (first.format, first.header, first.length, first.table.len()) == (1, 8, 8, 8));
-    assert!(rt; first.kerning(10, 11) == 0);
-    let Some(second) = table.subtable_at(16, 1) else {
-        assert!(rt; false);
-        return Ok(());
-    };
-    assert!(rt; (second.format, second.length) == (0, 22));
-    assert!(rt; !second.coverage.is_horizontal && !second.coverage.is_cross_stream);
-    assert!(rt; (second.kerning(10, 11), second.kerning(11, 10)) == (-51, 0));
-    assert!(rt; table.subtable_at(17, 1).is_none());
+    for place in &PLACES {
+        let table = bytes_of(rt.alloc(), place.words)?;
+        let found = subtable_at(&table, place.at, place.number);
+        assert!(rt; found == place.subtable, "{}", place.at);
+    }
     Ok(())
 }
 
-/// The last subtable of a table goes up to its end, whatever length it says that it has.
+/// Where the first subtable of a table begins.
+fn start_of(alloc: Global, words: &[u16]) -> Result<usize, AllocError> {
+    let table = bytes_of(alloc, words)?;
+    Ok(KernTable::new(&table).start())
+}
+
 #[test]
-fn subtables_of_windows_begin_at_the_byte_4(rt: HostRuntime) -> Result<(), AllocError> {
-    let words = [0, 1, 0, 20, 1, 1, 0, 0, 0, 10, 11, 0xFFCD, 7];
-    let bytes = bytes_of(rt.alloc(), &words)?;
-    let table = KernTable::new(&bytes);
-    assert!(rt; table.start() == 4);
-    let Some(only) = table.subtable_at(4, 0) else {
-        assert!(rt; false);
-        return Ok(());
-    };
-    assert!(rt; (only.format, only.header, only.length, only.table.len()) == (0, 6, 20, 22));
-    assert!(rt; only.coverage.is_horizontal && !only.coverage.is_variation);
-    assert!(rt; only.kerning(10, 11) == -51);
+fn tables_begin_with_headers(rt: HostRuntime) -> Result<(), AllocError> {
+    assert!(rt; start_of(rt.alloc(), TWO)? == 8 && start_of(rt.alloc(), LAST)? == 4);
     Ok(())
 }

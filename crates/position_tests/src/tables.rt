@@ -47,56 +47,80 @@ static DEVICES: [Device; 5] = [
     },
 ];
 
+/// By how many pixels a table corrects a number at a size.
+fn pixels_at(alloc: Global, words: &[u16], size: u16) -> Result<i32, AllocError> {
+    let table = bytes_of(alloc, words)?;
+    Ok(delta_pixels(&table, size))
+}
+
 #[test]
 fn device_tables_are_for_sizes(rt: HostRuntime) -> Result<(), AllocError> {
     for device in &DEVICES {
-        let table = bytes_of(rt.alloc(), device.words)?;
         for (size, pixels) in device.pixels {
-            assert!(rt;
-                delta_pixels(&table, *size) == *pixels,
-                "{} at {size}",
-                device.name
-            );
+            let found = pixels_at(rt.alloc(), device.words, *size)?;
+            assert!(rt; found == *pixels, "{}", device.name);
         }
     }
     Ok(())
 }
 
+/// Two device tables: one pixel from 11 pixels an em to 15, and three down at 10.
+const TWO_DEVICES: &[u16] = &[0, 11, 15, 1, 0x5540, 9, 11, 2, 0x0D00];
+
+/// A table of variations in the place of a device table.
+const VARIATION_INDEX: &[u16] = &[0, 0, 0, 0x8000];
+
+/// Offsets of device tables, pixels of an em, its units, and the correction.
+static DELTAS: [(u16, u16, i32, i32); 4] = [
+    (2, 12, 1000, 83),
+    (2, 12, -1000, -83),
+    (0, 12, 1000, 0),
+    (2, 0, 1000, 0),
+];
+
+/// The correction by a device table at an offset.
+fn delta_of(table: &[u8], offset: u16, pixels: u16, em: i32) -> i32 {
+    device_delta(table, offset, pixels, em)
+}
+
 /// A pixel of an em of 1,000 units that has 12 pixels is 83 units, and a third of one less.
 #[test]
 fn pixels_are_counted_in_font_units(rt: HostRuntime) -> Result<(), AllocError> {
-    let table = bytes_of(rt.alloc(), &[0, 11, 15, 1, 0x5540, 9, 11, 2, 0x0D00])?;
-    assert!(rt; device_delta(&table, 2, 12, 1000) == 83);
-    assert!(rt; device_delta(&table, 2, 12, -1000) == -83);
-    assert!(rt; device_delta(&table, 0, 12, 1000) == 0);
-    assert!(rt; device_delta(&table, 2, 0, 1000) == 0);
-    let instance = instance_of(12, 10);
-    assert!(rt;
-        (
-            x_correction(&table, 2, &instance),
-            y_correction(&table, 2, &instance)
-        ) == (83, 0)
-    );
-    assert!(rt;
-        (
-            x_correction(&table, 10, &instance),
-            y_correction(&table, 10, &instance)
-        ) == (0, -300)
-    );
+    let table = bytes_of(rt.alloc(), TWO_DEVICES)?;
+    for &(offset, pixels, em, delta) in &DELTAS {
+        assert!(rt;
+            delta_of(&table, offset, pixels, em) == delta,
+            "{offset} {pixels} {em}"
+        );
+    }
     Ok(())
 }
 
-/// A table of variations in the place of a device table corrects nothing where no variations are chosen.
-#[test]
-fn variations_are_not_pixels(rt: HostRuntime) -> Result<(), AllocError> {
-    let table = bytes_of(rt.alloc(), &[0, 0, 0, 0x8000])?;
+/// Tables, offsets in them, and the corrections across and up.
+static CORRECTIONS: [(&[u16], u16, (i32, i32)); 3] = [
+    (TWO_DEVICES, 2, (83, 0)),
+    (TWO_DEVICES, 10, (0, -300)),
+    (VARIATION_INDEX, 2, (0, 0)),
+];
+
+/// The corrections by a table at an offset.
+fn corrections(alloc: Global, words: &[u16], offset: u16) -> Result<(i32, i32), AllocError> {
+    let table = bytes_of(alloc, words)?;
     let instance = instance_of(12, 10);
-    assert!(rt;
-        (
-            x_correction(&table, 2, &instance),
-            y_correction(&table, 2, &instance)
-        ) == (0, 0)
-    );
+    let across = x_correction(&table, offset, &instance);
+    Ok((across, y_correction(&table, offset, &instance)))
+}
+
+/// Where no variations are chosen, a table of variations corrects nothing.
+#[test]
+fn numbers_are_corrected(rt: HostRuntime) -> Result<(), AllocError> {
+    for &(words, offset, found) in &CORRECTIONS {
+        assert!(rt;
+            corrections(rt.alloc(), words, offset)? == found,
+            "{offset}"
+        );
+    }
+    let instance = instance_of(12, 10);
     assert!(rt; (instance.x_delta(0), instance.y_delta(0)) == (0, 0));
     Ok(())
 }
@@ -130,28 +154,38 @@ fn fields_of(record: &ValueRecord) -> ([i16; 4], [u16; 4]) {
     )
 }
 
-/// Formats, how many bytes their records have, and the record from the second of the numbers 1 to 9 on, the second being -2.
-static FORMATS: [(u16, usize, [i16; 4], [u16; 4]); 5] = [
-    (0, 0, [0, 0, 0, 0], [0, 0, 0, 0]),
-    (0x04, 2, [0, 0, -2, 0], [0, 0, 0, 0]),
-    (0x05, 4, [-2, 0, 3, 0], [0, 0, 0, 0]),
-    (0xA2, 6, [0, -2, 0, 0], [0, 3, 0, 4]),
-    (0xFF, 16, [-2, 3, 4, 5], [6, 7, 8, 9]),
+/// Formats, and how many bytes their records have.
+static SIZES: [(u16, usize); 5] = [(0, 0), (0x04, 2), (0x05, 4), (0xA2, 6), (0xFF, 16)];
+
+#[test]
+fn records_have_sizes(rt: HostRuntime) {
+    for &(format, size) in &SIZES {
+        assert!(rt; record_size(format) == size, "{format}");
+    }
+}
+
+/// Formats, places, and the record there among the numbers 1 to 9, the second being -2.
+static FORMATS: [(u16, usize, Option<([i16; 4], [u16; 4])>); 7] = [
+    (0, 2, Some(([0, 0, 0, 0], [0, 0, 0, 0]))),
+    (0x04, 2, Some(([0, 0, -2, 0], [0, 0, 0, 0]))),
+    (0x05, 2, Some(([-2, 0, 3, 0], [0, 0, 0, 0]))),
+    (0xA2, 2, Some(([0, -2, 0, 0], [0, 3, 0, 4]))),
+    (0xFF, 2, Some(([-2, 3, 4, 5], [6, 7, 8, 9]))),
+    (0xFF, 4, None),
+    (0, 19, None),
 ];
+
+/// The fields of a record of a format at a place.
+fn fields_at(table: &[u8], format: u16, at: usize) -> Option<([i16; 4], [u16; 4])> {
+    Some(fields_of(&ValueRecord::read(table, format, at)?))
+}
 
 #[test]
 fn records_have_the_fields_of_their_format(rt: HostRuntime) -> Result<(), AllocError> {
     let table = bytes_of(rt.alloc(), &[1, 0xFFFE, 3, 4, 5, 6, 7, 8, 9])?;
-    for (format, size, numbers, offsets) in &FORMATS {
-        assert!(rt; record_size(*format) == *size, "{format}");
-        let record = ValueRecord::read(&table, *format, 2);
-        assert!(rt;
-            record.is_some_and(|record| fields_of(&record) == (*numbers, *offsets)),
-            "{format}"
-        );
+    for &(format, at, fields) in &FORMATS {
+        assert!(rt; fields_at(&table, format, at) == fields, "{format} at {at}");
     }
-    assert!(rt; ValueRecord::read(&table, 0xFF, 4).is_none());
-    assert!(rt; ValueRecord::read(&table, 0, 19).is_none());
     Ok(())
 }
 
@@ -169,26 +203,35 @@ fn record_of(numbers: [i16; 4], x_advance_device: u16) -> ValueRecord {
     }
 }
 
-/// An advance grows along the line, and one that goes down grows downwards.
-#[test]
-fn records_move_glyphs(rt: HostRuntime) -> Result<(), AllocError> {
-    let base = bytes_of(rt.alloc(), &[0, 11, 15, 1, 0x5540])?;
-    let record = record_of([10, -20, 30, 40], 2);
-    let before = GlyphPosition {
+/// The advance and the offset of a glyph that a record moves along a line.
+fn moved(base: &[u8], is_horizontal: bool) -> [i32; 4] {
+    let mut glyph = GlyphPosition {
         x_advance: 600,
         y_advance: -1000,
         x_offset: 1,
         y_offset: 2,
         ..GlyphPosition::default()
     };
-    let mut across = before;
-    record.move_glyph(&base, &instance_of(12, 10), true, &mut across);
-    assert!(rt; (across.x_advance, across.y_advance) == (713, -1000));
-    assert!(rt; (across.x_offset, across.y_offset) == (11, -18));
-    let mut down = before;
-    record.move_glyph(&base, &instance_of(12, 10), false, &mut down);
-    assert!(rt; (down.x_advance, down.y_advance) == (600, -1040));
-    assert!(rt; (down.x_offset, down.y_offset) == (11, -18));
+    let record = record_of([10, -20, 30, 40], 2);
+    record.move_glyph(base, &instance_of(12, 10), is_horizontal, &mut glyph);
+    [
+        glyph.x_advance,
+        glyph.y_advance,
+        glyph.x_offset,
+        glyph.y_offset,
+    ]
+}
+
+/// An advance grows along the line, and one that goes down grows downwards.
+#[test]
+fn records_move_glyphs(rt: HostRuntime) -> Result<(), AllocError> {
+    let base = bytes_of(rt.alloc(), &[0, 11, 15, 1, 0x5540])?;
+    for (is_horizontal, found) in [
+        (true, [713, -1000, 11, -18]),
+        (false, [600, -1040, 11, -18]),
+    ] {
+        assert!(rt; moved(&base, is_horizontal) == found, "{is_horizontal}");
+    }
     Ok(())
 }
 
@@ -204,35 +247,45 @@ static EFFECTS: [([i16; 4], u16, u16, bool, bool); 7] = [
     ([0, 0, 0, 0], 2, 12, true, false),
 ];
 
+/// Whether a record has an effect in a horizontal and in a vertical line.
+fn effects(numbers: [i16; 4], device: u16, ppem: u16) -> (bool, bool) {
+    let record = record_of(numbers, device);
+    let instance = instance_of(ppem, 0);
+    (
+        record.has_effect(&instance, true),
+        record.has_effect(&instance, false),
+    )
+}
+
 #[test]
 fn records_have_an_effect_along_the_line(rt: HostRuntime) {
-    for (numbers, device, ppem, across, down) in &EFFECTS {
-        let record = record_of(*numbers, *device);
-        let instance = instance_of(*ppem, 0);
-        let effects = (
-            record.has_effect(&instance, true),
-            record.has_effect(&instance, false),
-        );
+    for (row, (numbers, device, ppem, across, down)) in EFFECTS.iter().enumerate() {
         assert!(rt;
-            effects == (*across, *down),
-            "{} {} {} {}",
-            numbers[0],
-            numbers[1],
-            numbers[2],
-            numbers[3]
+            effects(*numbers, *device, *ppem) == (*across, *down),
+            "{row}"
         );
     }
 }
 
+/// Subtables, indexes of glyphs, and the advance of each.
+static SINGLES: [(&[u16], u32, Option<i16>); 4] = [
+    (&[1, 0, 4, 50], 7, Some(50)),
+    (&[2, 0, 4, 2, 50, 60], 1, Some(60)),
+    (&[2, 0, 4, 2, 50, 60], 2, None),
+    (&[3, 0, 4, 50], 0, None),
+];
+
+/// The advance of a glyph of a subtable.
+fn single_advance(subtable: &[u8], index: u32) -> Option<i16> {
+    Some(single_values(subtable, index)?.x_advance)
+}
+
 #[test]
 fn single_glyphs_have_one_record_or_each_its_own(rt: HostRuntime) -> Result<(), AllocError> {
-    let one = bytes_of(rt.alloc(), &[1, 0, 4, 50])?;
-    assert!(rt; single_values(&one, 7).is_some_and(|record| record.x_advance == 50));
-    let each = bytes_of(rt.alloc(), &[2, 0, 4, 2, 50, 60])?;
-    assert!(rt; single_values(&each, 1).is_some_and(|record| record.x_advance == 60));
-    assert!(rt; single_values(&each, 2).is_none());
-    let unknown = bytes_of(rt.alloc(), &[3, 0, 4, 50])?;
-    assert!(rt; single_values(&unknown, 0).is_none());
+    for (row, &(words, index, advance)) in SINGLES.iter().enumerate() {
+        let subtable = bytes_of(rt.alloc(), words)?;
+        assert!(rt; single_advance(&subtable, index) == advance, "{row}");
+    }
     Ok(())
 }
 
@@ -245,29 +298,60 @@ fn values_of(pair: Option<PairValues>) -> Option<(i16, i16)> {
 }
 
 /// Pairs of two first glyphs; the set of the second one has rows for the glyphs 11 and 12.
-fn pairs(alloc: Global) -> Result<Vec<u8>, AllocError> {
-    bytes_of(alloc, &[1, 0, 4, 1, 2, 0, 14, 2, 11, 50, 7, 12, 60, 8])
+const PAIRS: &[u16] = &[1, 0, 4, 1, 2, 0, 14, 2, 11, 50, 7, 12, 60, 8];
+
+/// Second glyphs, the row of each in the set, and its values.
+static LISTED: [(u16, Option<usize>, Option<(i16, i16)>); 3] = [
+    (11, Some(0), Some((50, 7))),
+    (12, Some(1), Some((60, 8))),
+    (13, None, None),
+];
+
+/// Whether a first glyph has a set of second ones.
+fn has_set(subtable: &[u8], first: u32) -> bool {
+    pair_set(subtable, first).is_some()
+}
+
+/// The row of a second glyph in the set.
+fn row_of(subtable: &[u8], second: u16) -> Option<usize> {
+    second_row(pair_set(subtable, 1)?, 6, second)
+}
+
+/// The values of a second glyph in the set.
+fn listed(subtable: &[u8], second: u16) -> Option<(i16, i16)> {
+    let set = pair_set(subtable, 1)?;
+    values_of(listed_pair(set, pair_formats(subtable), second))
+}
+
+/// The formats of the records of both glyphs.
+fn formats_of(subtable: &[u8]) -> (u16, u16) {
+    pair_formats(subtable)
 }
 
 #[test]
 fn pairs_are_found_by_their_second_glyph(rt: HostRuntime) -> Result<(), AllocError> {
-    let subtable = pairs(rt.alloc())?;
-    let formats = pair_formats(&subtable);
-    assert!(rt; formats == (4, 1));
-    assert!(rt; pair_set(&subtable, 0).is_none());
-    assert!(rt; pair_set(&subtable, 2).is_none());
-    let set = pair_set(&subtable, 1).unwrap_or(&[]);
-    assert!(rt;
-        (
-            second_row(set, 6, 11),
-            second_row(set, 6, 12),
-            second_row(set, 6, 13)
-        ) == (Some(0), Some(1), None)
-    );
-    assert!(rt; values_of(listed_pair(set, formats, 11)) == Some((50, 7)));
-    assert!(rt; values_of(listed_pair(set, formats, 12)) == Some((60, 8)));
-    assert!(rt; values_of(listed_pair(set, formats, 13)) == None);
+    let subtable = bytes_of(rt.alloc(), PAIRS)?;
+    assert!(rt; formats_of(&subtable) == (4, 1));
+    assert!(rt; !has_set(&subtable, 0) && has_set(&subtable, 1) && !has_set(&subtable, 2));
+    for &(second, row, values) in &LISTED {
+        assert!(rt; row_of(&subtable, second) == row, "{second}");
+        assert!(rt; listed(&subtable, second) == values, "{second}");
+    }
     Ok(())
+}
+
+/// Classes of first glyphs, of second ones, and their values.
+static CLASSED: [(u16, u16, Option<(i16, i16)>); 5] = [
+    (0, 0, Some((10, 1))),
+    (0, 2, Some((30, 3))),
+    (1, 1, Some((50, 5))),
+    (2, 0, None),
+    (0, 3, None),
+];
+
+/// The values of a pair of classes.
+fn classed(subtable: &[u8], first: u16, second: u16) -> Option<(i16, i16)> {
+    values_of(classed_pair(subtable, first, second))
 }
 
 /// Two classes of first glyphs, and three of second ones.
@@ -277,10 +361,11 @@ fn pairs_of_classes_stand_in_rows(rt: HostRuntime) -> Result<(), AllocError> {
         2, 0, 4, 1, 0, 0, 2, 3, 10, 1, 20, 2, 30, 3, 40, 4, 50, 5, 60, 6,
     ];
     let subtable = bytes_of(rt.alloc(), &words)?;
-    assert!(rt; values_of(classed_pair(&subtable, 0, 0)) == Some((10, 1)));
-    assert!(rt; values_of(classed_pair(&subtable, 0, 2)) == Some((30, 3)));
-    assert!(rt; values_of(classed_pair(&subtable, 1, 1)) == Some((50, 5)));
-    assert!(rt; values_of(classed_pair(&subtable, 2, 0)) == None);
-    assert!(rt; values_of(classed_pair(&subtable, 0, 3)) == None);
+    for &(first, second, values) in &CLASSED {
+        assert!(rt;
+            classed(&subtable, first, second) == values,
+            "{first} {second}"
+        );
+    }
     Ok(())
 }

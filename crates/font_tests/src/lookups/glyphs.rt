@@ -1,6 +1,6 @@
 //! Sets of glyphs, what a lookup passes over, and the parts of ligatures.
 
-use crate::lookups::bytes_of;
+use crate::bytes::bytes_of;
 use font_tables::coverage::Coverage;
 use ot_layout::first_glyphs::FirstGlyphs;
 use ot_layout::glyph_table::Glyphs;
@@ -12,7 +12,7 @@ use ot_layout::subtable::{behind_list, table_or_empty};
 use ot_layout::summary::{Summary, summary_of};
 use ot_layout::{Budget, Digest, LookupOptions, LookupProps, Reach, SkippingIterator};
 use rb_glyph::hb_glyph_info_t;
-use std::alloc::AllocError;
+use std::alloc::{AllocError, Global};
 
 /// A glyph with these glyph properties and ligature properties.
 fn glyph_of(id: u32, properties: u16, ligature: u8) -> hb_glyph_info_t {
@@ -23,121 +23,205 @@ fn glyph_of(id: u32, properties: u16, ligature: u8) -> hb_glyph_info_t {
     }
 }
 
-/// Of a glyph, its neighbour and one 64 glyphs on, a digest has the one that was added.
+/// The digest of glyphs and of a range.
+fn digest_of(glyphs: &[u32], ranges: &[(u32, u32)]) -> Digest {
+    let mut digest = Digest::new();
+    for glyph in glyphs {
+        digest.add(*glyph);
+    }
+    for (first, last) in ranges {
+        digest.add_range(*first, *last);
+    }
+    digest
+}
+
+/// Whether a digest may have a glyph.
+fn digest_has(digest: &Digest, glyph: u32) -> bool {
+    digest.may_have(glyph)
+}
+
+/// Glyphs that are added to a digest, a range that is, a glyph, and whether the digest may have it. Of a glyph, its neighbour and one
+/// 64 glyphs on, it has the one that was added.
+static DIGESTS: [(&[u32], &[(u32, u32)], u32, bool); 10] = [
+    (&[], &[], 5, false),
+    (&[5], &[], 5, true),
+    (&[5], &[], 6, false),
+    (&[5], &[], 69, false),
+    (&[], &[(600, 602)], 599, false),
+    (&[], &[(600, 602)], 600, true),
+    (&[], &[(600, 602)], 601, true),
+    (&[], &[(600, 602)], 602, true),
+    (&[], &[(600, 602)], 603, false),
+    (&[5], &[(600, 602)], 600, true),
+];
+
 #[test]
 fn digests_have_what_was_added(rt: HostRuntime) {
-    let mut one = Digest::new();
-    assert!(rt; !one.may_have(5));
-    one.add(5);
-    assert!(rt; (one.may_have(5), one.may_have(6), one.may_have(69)) == (true, false, false));
-    let mut others = Digest::new();
-    others.add_range(600, 602);
-    assert!(rt; others.may_have(600) && others.may_have(601) && others.may_have(602));
-    assert!(rt; !others.may_have(599) && !others.may_have(603));
+    for (glyphs, ranges, glyph, is_there) in &DIGESTS {
+        let digest = digest_of(glyphs, ranges);
+        assert!(rt; digest_has(&digest, *glyph) == *is_there, "{glyph}");
+    }
+}
+
+#[test]
+fn digests_are_put_together(rt: HostRuntime) {
+    let one = digest_of(&[5], &[]);
+    let mut others = digest_of(&[], &[(600, 602)]);
     assert!(rt; !one.meets(&others));
     others.add_all(&one);
-    assert!(rt; others.may_have(5) && one.meets(&others));
+    assert!(rt; digest_has(&others, 5) && one.meets(&others));
 }
 
+/// The digest of a coverage in numbers of 16 bits, and the glyphs among the first 256 that it has.
+fn summaries_of(alloc: Global, words: &[u16]) -> Result<(Digest, FirstGlyphs), AllocError> {
+    let table = bytes_of(alloc, words)?;
+    let coverage = Coverage::new(&table);
+    Ok((Digest::of_coverage(&coverage), summary_of(&coverage)))
+}
+
+/// Coverages, a glyph, and whether it is covered.
+static COVERAGES: [(&[u16], u32, bool); 10] = [
+    (&[1, 2, 5, 9], 5, true),
+    (&[1, 2, 5, 9], 7, false),
+    (&[1, 2, 5, 9], 9, true),
+    (&[2, 1, 5, 9, 0], 4, false),
+    (&[2, 1, 5, 9, 0], 5, true),
+    (&[2, 1, 5, 9, 0], 7, true),
+    (&[2, 1, 5, 9, 0], 9, true),
+    (&[2, 1, 5, 9, 0], 10, false),
+    (&[1, 0], 5, false),
+    (&[], 5, false),
+];
+
 #[test]
-fn digests_are_of_coverages_and_texts(rt: HostRuntime) -> Result<(), AllocError> {
-    let listed = bytes_of(rt.alloc(), &[1, 2, 5, 9])?;
-    let ranged = bytes_of(rt.alloc(), &[2, 1, 5, 9, 0])?;
-    let text = Digest::of_glyphs(&[glyph_of(5, 0, 0), glyph_of(9, 0, 0)]);
-    for (list, digest) in [
-        ("coverage", Digest::of_coverage(&Coverage::new(&listed))),
-        ("text", text),
-    ] {
-        assert!(rt;
-            (digest.may_have(5), digest.may_have(7), digest.may_have(9)) == (true, false, true),
-            "of a {list}"
-        );
+fn summaries_are_of_coverages(rt: HostRuntime) -> Result<(), AllocError> {
+    for (words, glyph, is_there) in &COVERAGES {
+        let (digest, firsts) = summaries_of(rt.alloc(), words)?;
+        assert!(rt; digest_has(&digest, *glyph) == *is_there, "{glyph}");
+        assert!(rt; are_first(&firsts, *glyph) == *is_there, "{glyph}");
     }
-    let range = Digest::of_coverage(&Coverage::new(&ranged));
-    assert!(rt; (range.may_have(4), range.may_have(7), range.may_have(9)) == (false, true, true));
-    assert!(rt; covered_index(&Coverage::new(&listed), 9) == Some(1));
-    assert!(rt; covered_index(&Coverage::new(&listed), 65536 + 9) == None);
     Ok(())
 }
 
-/// Of the first 256 glyphs those that were added are there, and no other; a glyph behind them may always be.
+#[test]
+fn digests_are_of_texts(rt: HostRuntime) {
+    let digest = Digest::of_glyphs(&[glyph_of(5, 0, 0), glyph_of(9, 0, 0)]);
+    for (glyph, is_there) in [(5, true), (7, false), (9, true)] {
+        assert!(rt; digest_has(&digest, glyph) == is_there, "{glyph}");
+    }
+}
+
+#[test]
+fn glyphs_beyond_16_bits_are_not_covered(rt: HostRuntime) -> Result<(), AllocError> {
+    let listed = bytes_of(rt.alloc(), &[1, 2, 5, 9])?;
+    for (glyph, index) in [(9, Some(1)), (65536 + 9, None)] {
+        let found = covered_index(&Coverage::new(&listed), glyph);
+        assert!(rt; found == index, "{glyph}");
+    }
+    Ok(())
+}
+
+/// The glyphs of ranges.
+fn firsts_of(ranges: &[(u32, u32)]) -> FirstGlyphs {
+    let mut firsts = FirstGlyphs::none();
+    for (first, last) in ranges {
+        firsts.add_range(*first, *last);
+    }
+    firsts
+}
+
+/// Whether a glyph may be among the first ones that were added.
+fn are_first(firsts: &FirstGlyphs, glyph: u32) -> bool {
+    firsts.may_have(glyph)
+}
+
+/// Ranges, a glyph, and whether it may be in them: of the first 256 those that were added are there, and no other; a glyph behind them
+/// may always be.
+static FIRSTS: [(&[(u32, u32)], u32, bool); 14] = [
+    (&[], 0, false),
+    (&[], 255, false),
+    (&[], 256, true),
+    (&[(60, 70), (250, 300)], 59, false),
+    (&[(60, 70), (250, 300)], 60, true),
+    (&[(60, 70), (250, 300)], 63, true),
+    (&[(60, 70), (250, 300)], 64, true),
+    (&[(60, 70), (250, 300)], 70, true),
+    (&[(60, 70), (250, 300)], 71, false),
+    (&[(60, 70), (250, 300)], 249, false),
+    (&[(60, 70), (250, 300)], 250, true),
+    (&[(60, 70), (250, 300)], 255, true),
+    (&[(60, 70), (250, 300)], 256, true),
+    (&[(60, 70), (250, 300)], 301, true),
+];
+
 #[test]
 fn first_glyphs_are_told_apart(rt: HostRuntime) {
-    let mut firsts = FirstGlyphs::none();
-    assert!(rt; !firsts.may_have(0) && !firsts.may_have(255) && firsts.may_have(256));
-    firsts.add_range(60, 70);
-    firsts.add_range(250, 300);
-    for (glyph, is_there) in [
-        (59, false),
-        (60, true),
-        (63, true),
-        (64, true),
-        (70, true),
-        (71, false),
-        (249, false),
-        (250, true),
-        (255, true),
-        (256, true),
-        (301, true),
-    ] {
-        assert!(rt; firsts.may_have(glyph) == is_there, "the glyph {glyph}");
+    for (ranges, glyph, is_there) in &FIRSTS {
+        assert!(rt;
+            are_first(&firsts_of(ranges), *glyph) == *is_there,
+            "{glyph}"
+        );
     }
-    let mut others = FirstGlyphs::none();
-    others.add_range(128, 128);
-    others.add_all(&firsts);
-    assert!(rt; others.may_have(128) && others.may_have(60) && others.may_have(255));
-    assert!(rt; !others.may_have(127) && !others.may_have(129) && !others.may_have(192));
 }
 
 #[test]
-fn first_glyphs_are_of_coverages(rt: HostRuntime) -> Result<(), AllocError> {
-    let listed = bytes_of(rt.alloc(), &[1, 2, 5, 9])?;
-    let ranged = bytes_of(rt.alloc(), &[2, 1, 5, 9, 0])?;
-    let list: FirstGlyphs = summary_of(&Coverage::new(&listed));
-    assert!(rt; (list.may_have(5), list.may_have(7), list.may_have(9)) == (true, false, true));
-    let range: FirstGlyphs = summary_of(&Coverage::new(&ranged));
-    assert!(rt; (range.may_have(4), range.may_have(7), range.may_have(10)) == (false, true, false));
-    let none: FirstGlyphs = summary_of(&Coverage::new(&[]));
-    assert!(rt; !none.may_have(5));
-    Ok(())
+fn first_glyphs_are_put_together(rt: HostRuntime) {
+    let mut others = firsts_of(&[(128, 128)]);
+    others.add_all(&firsts_of(&[(60, 70), (250, 300)]));
+    for (glyph, is_there) in [
+        (128, true),
+        (60, true),
+        (255, true),
+        (127, false),
+        (129, false),
+        (192, false),
+    ] {
+        assert!(rt; are_first(&others, glyph) == is_there, "{glyph}");
+    }
 }
 
-/// The flag of a lookup, the properties of a glyph of the number 9, and whether the glyph is passed over. The set of marks has
-/// the glyph 5 alone.
-static PASSED: [(u16, u16, bool); 9] = [
-    (0x0000, 0x0008, false),
+/// The flag of a lookup, a glyph and its properties, and whether it is passed over. The set of marks has the glyph 5 alone.
+static PASSED: [(u16, u32, u16, bool); 10] = [
+    (0x0000, 9, 0x0008, false),
     // bases, ligatures and marks
-    (0x0002, 0x0002, true),
-    (0x0004, 0x0002, false),
-    (0x0004, 0x0004, true),
-    (0x0008, 0x0008, true),
+    (0x0002, 9, 0x0002, true),
+    (0x0004, 9, 0x0002, false),
+    (0x0004, 9, 0x0004, true),
+    (0x0008, 9, 0x0008, true),
     // marks of another class, and those that are not in the set
-    (0x0100, 0x0108, false),
-    (0x0100, 0x0208, true),
-    (0x0100, 0x0002, false),
-    (0x0010, 0x0008, true),
+    (0x0100, 9, 0x0108, false),
+    (0x0100, 9, 0x0208, true),
+    (0x0100, 9, 0x0002, false),
+    (0x0010, 9, 0x0008, true),
+    (0x0010, 5, 0x0008, false),
 ];
+
+/// Whether a lookup with a flag and a set of marks passes over a glyph.
+fn is_passed(flags: u16, marks: &[u8], glyph: &hb_glyph_info_t) -> bool {
+    let lookup_props = LookupProps {
+        flags,
+        marks: Coverage::new(marks),
+    };
+    lookup_props.passes_over(glyph)
+}
 
 #[test]
 fn flags_say_what_is_passed_over(rt: HostRuntime) -> Result<(), AllocError> {
     let marks = bytes_of(rt.alloc(), &[1, 1, 5])?;
-    for (flags, properties, is_passed) in &PASSED {
-        let lookup_props = LookupProps {
-            flags: *flags,
-            marks: Coverage::new(&marks),
-        };
-        let glyph = glyph_of(9, *properties, 0);
-        assert!(rt;
-            lookup_props.passes_over(&glyph) == *is_passed,
-            "{flags} {properties}"
-        );
+    for (flags, number, properties, matcher) in &PASSED {
+        let found = is_passed(*flags, &marks, &glyph_of(*number, *properties, 0));
+        assert!(rt; found == *matcher, "{flags} {properties}");
     }
-    let of_set = LookupProps {
-        flags: 0x0010,
-        marks: Coverage::new(&marks),
-    };
-    assert!(rt; !of_set.passes_over(&glyph_of(5, 0x0008, 0)));
     Ok(())
+}
+
+/// The number of a glyph's ligature, its component, and how many components it has.
+fn parts_of(glyph: &hb_glyph_info_t) -> (u8, u8, u8) {
+    (
+        ligature_id(glyph),
+        ligature_component(glyph),
+        component_count(glyph),
+    )
 }
 
 /// The ligature of the number 3 has two components, and a mark belongs to the first of them.
@@ -146,27 +230,13 @@ fn glyphs_are_parts_of_ligatures(rt: HostRuntime) {
     let ligature = glyph_of(9, 0x0004, ligature_properties(3, 2));
     let mark = glyph_of(10, 0x0008, mark_properties(3, 1));
     let letter = glyph_of(11, 0x0002, 0);
-    assert!(rt;
-        (
-            ligature_id(&ligature),
-            ligature_component(&ligature),
-            component_count(&ligature)
-        ) == (3, 0, 2)
-    );
-    assert!(rt;
-        (
-            ligature_id(&mark),
-            ligature_component(&mark),
-            component_count(&mark)
-        ) == (3, 1, 1)
-    );
-    assert!(rt;
-        (
-            ligature_id(&letter),
-            ligature_component(&letter),
-            component_count(&letter)
-        ) == (0, 0, 1)
-    );
+    for (glyph, parts) in [
+        (ligature, (3, 0, 2)),
+        (mark, (3, 1, 1)),
+        (letter, (0, 0, 1)),
+    ] {
+        assert!(rt; parts_of(&glyph) == parts, "{}", glyph.glyph_id);
+    }
 }
 
 /// Glyphs that do not all lie in their table are none.
@@ -180,26 +250,37 @@ fn tables_list_glyphs(rt: HostRuntime) -> Result<(), AllocError> {
     Ok(())
 }
 
-/// What is left of a budget, once some was paid and then too much was asked for.
-#[test]
-fn budgets_are_spent(rt: HostRuntime) {
-    let mut budget = Budget::new(1, 10);
-    let steps = budget.steps;
-    assert!(rt; steps == 425_984);
-    assert!(rt; budget.pay(24) && budget.pay_for(10));
-    assert!(rt; budget.steps.saturating_add(34) == steps);
-    assert!(rt; (budget.nest(), budget.nest()) == (true, false));
-    assert!(rt; !budget.is_spent());
-    assert!(rt; !budget.pay(u64::MAX));
-    assert!(rt; budget.is_spent());
-    let mut long = Budget::new(1, 1_000_000);
-    assert!(rt; long.steps == 16_384_262_144);
-    assert!(rt; long.pay(16_384_262_144) && long.is_spent());
+/// Whether a payment is met, what is left then, and whether all is spent.
+fn paid(steps: u64, payment: u64) -> (bool, u64, bool) {
+    let mut budget = Budget { nested: 1, steps };
+    let is_met = budget.pay(payment);
+    (is_met, budget.steps, budget.is_spent())
 }
 
-/// What a walk passes over, by the options of its feature.
 #[test]
-fn walks_go_by_their_options(rt: HostRuntime) {
+fn budgets_are_spent(rt: HostRuntime) {
+    let rows = [
+        (425_984, 24, (true, 425_960, false)),
+        (425_984, u64::MAX, (false, 0, true)),
+        (16_384_262_144, 16_384_262_144, (true, 0, true)),
+    ];
+    for (steps, payment, left) in rows {
+        assert!(rt; paid(steps, payment) == left, "{payment} of {steps}");
+    }
+}
+
+#[test]
+fn budgets_are_for_glyphs(rt: HostRuntime) {
+    let mut budget = Budget::new(1, 10);
+    assert!(rt; (budget.nested, budget.steps) == (1, 425_984));
+    assert!(rt; budget.pay_for(10) && budget.steps == 425_974);
+    assert!(rt; (budget.nest(), budget.nest()) == (true, false));
+    assert!(rt; Budget::new(1, 1_000_000).steps == 16_384_262_144);
+}
+
+/// What a walk over an input or a context is confined to by the options of its feature, a mask and a syllable, and whether it
+/// passes over non-joiners, joiners and hidden glyphs.
+fn walk_of(is_input: bool, is_positioning: bool) -> (u32, u8, [bool; 3]) {
     let lookup_props = LookupProps {
         flags: 0,
         marks: Coverage::new(&[]),
@@ -211,15 +292,28 @@ fn walks_go_by_their_options(rt: HostRuntime) {
         per_syllable: false,
         random: false,
     };
-    let input = SkippingIterator::over_input(lookup_props, &options, false);
-    assert!(rt; (input.mask, input.syllable) == (8, 0));
-    assert!(rt; !input.ignores_zwnj && !input.ignores_zwj && !input.ignores_hidden);
-    let context = SkippingIterator::over_context(lookup_props, &options, false);
-    assert!(rt; (context.mask, context.syllable) == (u32::MAX, 0));
-    assert!(rt; context.ignores_zwnj && context.ignores_zwj && !context.ignores_hidden);
-    let positioning = SkippingIterator::over_input(lookup_props, &options, true);
-    assert!(rt; positioning.ignores_zwnj && !positioning.ignores_zwj);
-    assert!(rt; positioning.ignores_hidden);
+    let walk = if is_input {
+        SkippingIterator::over_input(lookup_props, &options, is_positioning)
+    } else {
+        SkippingIterator::over_context(lookup_props, &options, is_positioning)
+    };
+    let ignored = [walk.ignores_zwnj, walk.ignores_zwj, walk.ignores_hidden];
+    (walk.mask, walk.syllable, ignored)
+}
+
+#[test]
+fn walks_go_by_their_options(rt: HostRuntime) {
+    let rows = [
+        (true, false, (8, 0, [false, false, false])),
+        (false, false, (u32::MAX, 0, [true, true, false])),
+        (true, true, (8, 0, [true, false, true])),
+    ];
+    for (is_input, is_positioning, walk) in rows {
+        assert!(rt;
+            walk_of(is_input, is_positioning) == walk,
+            "{is_input} {is_positioning}"
+        );
+    }
 }
 
 #[test]

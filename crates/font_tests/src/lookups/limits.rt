@@ -2,7 +2,8 @@
 
 ghost use Rattle.std.specs.Prelude.{◌<◌};
 
-use crate::lookups::{bytes_of, list_of};
+use crate::bytes::bytes_of;
+use crate::lookups::list_of;
 use ot_layout::subtable_limit::is_refused;
 use std::alloc::{AllocError, Global};
 

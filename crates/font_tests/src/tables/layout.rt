@@ -69,19 +69,23 @@ fn ranges_with_last(last: u8) -> [u8; 394] {
     table
 }
 
+/// Whether the first bytes of a table are quick to search as a coverage, and as classes.
+fn are_quick(table: &[u8], size: usize) -> (bool, bool) {
+    let table = part(table, 0, size);
+    (
+        Coverage::new(table).is_quick(),
+        ClassDefinition::new(table).is_quick(),
+    )
+}
+
 #[test]
 fn rows_that_rise_or_are_few_are_quick(rt: HostRuntime) {
-    let (rising, falling) = (coverage_with_last(64), coverage_with_last(62));
-    assert!(rt; Coverage::new(&rising).is_quick());
-    assert!(rt; !Coverage::new(&falling).is_quick());
-    assert!(rt; Coverage::new(part(&falling, 0, 132)).is_quick());
-    let (rising, falling) = (ranges_with_last(64), ranges_with_last(62));
-    assert!(rt; Coverage::new(&rising).is_quick() && ClassDefinition::new(&rising).is_quick());
-    assert!(rt; !Coverage::new(&falling).is_quick() && !ClassDefinition::new(&falling).is_quick());
-    assert!(rt;
-        ClassDefinition::new(part(&falling, 0, 388)).is_quick()
-            && ClassDefinition::new(CLASSES).is_quick()
-    );
+    assert!(rt; are_quick(&coverage_with_last(64), 134).0);
+    assert!(rt; !are_quick(&coverage_with_last(62), 134).0);
+    assert!(rt; are_quick(&coverage_with_last(62), 132).0);
+    assert!(rt; are_quick(&ranges_with_last(64), 394) == (true, true));
+    assert!(rt; are_quick(&ranges_with_last(62), 394) == (false, false));
+    assert!(rt; are_quick(&ranges_with_last(62), 388).1 && are_quick(CLASSES, 14).1);
 }
 
 /// The head of the specification's example of a class definition table of format 1: the glyphs from 0x32 on.
@@ -132,19 +136,27 @@ static GLYPHS: [(u16, [u16; 3]); 4] = [
     (4, [0, 0, 0]),
 ];
 
+/// The class of a glyph, its attachment class and its properties.
+fn classes_of(glyph: GlyphId) -> [u16; 3] {
+    let gdef = Gdef::new(&GDEF);
+    [
+        gdef.glyph_class(glyph),
+        gdef.mark_attachment_class(glyph),
+        gdef.glyph_props(glyph),
+    ]
+}
+
+/// Whether a table has classes of glyphs.
+fn has_classes(gdef: &[u8]) -> bool {
+    Gdef::new(gdef).has_glyph_classes()
+}
+
 #[test]
 fn gdef_has_classes(rt: HostRuntime) {
-    let gdef = Gdef::new(&GDEF);
     for &(number, expected) in &GLYPHS {
-        let glyph = GlyphId(number);
-        let classes = [
-            gdef.glyph_class(glyph),
-            gdef.mark_attachment_class(glyph),
-            gdef.glyph_props(glyph),
-        ];
-        assert!(rt; classes == expected, "{number}");
+        assert!(rt; classes_of(GlyphId(number)) == expected, "{number}");
     }
-    assert!(rt; gdef.has_glyph_classes() && !Gdef::new(&[]).has_glyph_classes());
+    assert!(rt; has_classes(&GDEF) && !has_classes(&[]));
 }
 
 #[test]

@@ -1,5 +1,6 @@
 use font_tables::glyph_names::PostNames;
 use rb_common::GlyphId;
+use std::alloc::Global;
 use std::test::Fail;
 
 /// A table `post` with names of its own for the glyphs 1 and 2, and a number that it has no name for.
@@ -26,11 +27,19 @@ static NAMES: [(&[u8], u16, Option<&[u8]>); 13] = [
     (&[], 3, None),
 ];
 
+/// Whether a glyph has a name in a table, or none.
+fn has_name(alloc: Global, post: &[u8], glyph: u16, name: Option<&[u8]>) -> Result<bool, Fail> {
+    let names = PostNames::new(alloc, post)?;
+    Ok(names.name(GlyphId(glyph)) == name)
+}
+
 #[test]
 fn post_names_glyphs(rt: HostRuntime) -> Result<(), Fail> {
     for &(post, glyph, name) in &NAMES {
-        let names = PostNames::new(rt.alloc(), post)?;
-        assert!(rt; names.name(GlyphId(glyph)) == name, "{glyph} in {post:?}");
+        assert!(rt;
+            has_name(rt.alloc(), post, glyph, name)?,
+            "{glyph} in {post:?}"
+        );
     }
     Ok(())
 }

@@ -8,16 +8,50 @@ use ot_map::{
 };
 use rb_common::{Direction, Tag};
 use rb_text::Feature;
-use std::alloc::Global;
+use std::alloc::{AllocError, Global};
 use std::ops::Bound;
 use std::test::Fail;
 
-/// A builder for Latin text in a language.
-fn builder(alloc: Global, languages: &[Tag]) -> PlanBuilder<'static> {
+/// What is asked of a builder, of a feature by its tag.
+enum Ask {
+    Enable(&'static [u8; 4], FeatureFlags),
+    Add(&'static [u8; 4], u32),
+    Disable(&'static [u8; 4]),
+    Pause(Pause),
+}
+
+/// Asks for a feature or a pause.
+fn request(builder: &mut PlanBuilder, what: &Ask) -> Result<(), AllocError> {
+    match what {
+        Ask::Enable(tag, flags) => builder.enable_feature(Tag::from_bytes(tag), *flags),
+        Ask::Add(tag, value) => {
+            builder.add_feature(Tag::from_bytes(tag), FeatureFlags::NONE, *value)
+        }
+        Ask::Disable(tag) => builder.disable_feature(Tag::from_bytes(tag)),
+        Ask::Pause(pause) => builder.add_gsub_pause(*pause),
+    }
+}
+
+/// A builder for Latin text in a language, where variations choose these tables of features.
+fn builder(alloc: Global, languages: &[Tag], substitutions: &'static [u8]) -> PlanBuilder<'static> {
     let scripts = [Tag::from_bytes(b"latn")];
-    let gsub = ChosenTable::new(TABLE, &scripts, languages);
+    let gsub = ChosenTable::new(TABLE, &scripts, languages).with_substitutions(substitutions);
     let gpos = ChosenTable::new(&[], &scripts, languages);
     PlanBuilder::new(alloc, gsub, gpos)
+}
+
+/// The plan of what is asked for.
+fn planned(
+    alloc: Global,
+    languages: &[Tag],
+    substitutions: &'static [u8],
+    asks: &[Ask],
+) -> Result<LayoutPlan, AllocError> {
+    let mut builder = builder(alloc, languages, substitutions);
+    for what in asks {
+        request(&mut builder, what)?;
+    }
+    builder.compile(alloc)
 }
 
 /// The numbers and the masks of the lookups of substitution.
@@ -27,101 +61,219 @@ fn has_lookups(plan: &LayoutPlan, expected: &[(u16, u32)]) -> bool {
             && lookup.mask == row.1)
 }
 
-/// Each feature that the font has gets its bits, in the order of the tags; a lookup of two features has the masks of both.
-#[test]
-fn features_get_bits_and_lookups(rt: HostRuntime) -> Result<(), Fail> {
-    let mut builder = builder(rt.alloc(), &[]);
-    let fraction = Tag::from_bytes(b"frac");
-    let small_capitals = Tag::from_bytes(b"smcp");
-    assert!(rt; builder.has_feature(small_capitals));
-    builder.enable_feature(Tag::from_bytes(b"liga"), FeatureFlags::NONE)?;
-    builder.add_feature(small_capitals, FeatureFlags::NONE, 1)?;
-    builder.add_feature(fraction, FeatureFlags::NONE, 5)?;
-    builder.enable_feature(Tag::from_bytes(b"abcd"), FeatureFlags::NONE)?;
-    let plan = builder.compile(rt.alloc())?;
-    assert_eq!(rt; plan.features.len(), 3);
-    assert_eq!(rt; plan.global_mask, 0x8000_0000);
-    assert_eq!(rt; plan.mask(fraction), 0x70);
-    assert_eq!(rt; plan.one_mask(fraction), 0x10);
-    assert_eq!(rt; plan.mask(small_capitals), 0x80);
-    assert!(rt; plan.feature(Tag::from_bytes(b"abcd")).is_none());
-    assert!(rt; has_lookups(&plan, &[(0, 0x80), (1, 0x8000_0080), (2, 0x70)]));
-    assert_eq!(rt; plan.gsub_script, Tag::from_bytes(b"latn"));
-    assert!(rt; plan.gpos_script.is_null());
-    Ok(())
-}
-
-/// A feature that the font lacks stays where there is a fallback, with its default in the mask of every glyph.
-#[test]
-fn fallbacks_are_planned(rt: HostRuntime) -> Result<(), Fail> {
-    let mut builder = builder(rt.alloc(), &[]);
-    let kern = Tag::from_bytes(b"kern");
-    let fallback = FeatureFlags {
-        has_fallback: true,
-        ..FeatureFlags::NONE
-    };
-    builder.enable_feature(kern, fallback)?;
-    builder.add_feature(kern, FeatureFlags::NONE, 3)?;
-    let plan = builder.compile(rt.alloc())?;
-    assert!(rt; plan.needs_fallback(kern));
-    assert_eq!(rt; plan.mask(kern), 0x30);
-    assert_eq!(rt; plan.global_mask, 0x8000_0010);
-    assert!(rt; plan.gsub_lookups.is_empty());
-    Ok(())
-}
-
-/// A feature that is turned off is not there, and one that the language requires is, without being asked for.
-#[test]
-fn required_features_are_there(rt: HostRuntime) -> Result<(), Fail> {
-    let mut builder = builder(rt.alloc(), &[Tag::from_bytes(b"TRK ")]);
-    let small_capitals = Tag::from_bytes(b"smcp");
-    builder.enable_feature(small_capitals, FeatureFlags::NONE)?;
-    builder.disable_feature(small_capitals)?;
-    let plan = builder.compile(rt.alloc())?;
-    assert!(rt; plan.features.is_empty());
-    assert!(rt; has_lookups(&plan, &[(2, 0x8000_0000)]));
-    Ok(())
-}
-
-/// Lookups of a later stage come behind those of an earlier one.
-#[test]
-fn stages_part_lookups(rt: HostRuntime) -> Result<(), Fail> {
-    let mut builder = builder(rt.alloc(), &[]);
-    builder.enable_feature(Tag::from_bytes(b"frac"), FeatureFlags::NONE)?;
-    builder.add_gsub_pause(Pause::SetUpSyllables)?;
-    builder.enable_feature(Tag::from_bytes(b"liga"), FeatureFlags::NONE)?;
-    let plan = builder.compile(rt.alloc())?;
-    assert!(rt; has_lookups(&plan, &[(2, 0x8000_0000), (1, 0x8000_0000)]));
-    let [first, second] = plan.stages.as_slice() else {
-        return Err(Fail::from("not two stages"));
-    };
-    assert_eq!(rt; (first.end, first.pause), (1, Pause::SetUpSyllables));
-    assert_eq!(rt; (second.end, second.pause), (2, Pause::Nothing));
-    for (tag, index) in [(b"frac", 2), (b"liga", 1)] {
-        let places = plan.stage_places(Tag::from_bytes(tag));
-        let lookups = plan.gsub_lookups.as_slice().get(places).unwrap_or(&[]);
-        assert!(rt;
-            lookups.len() == 1 && lookups.iter().all(|lookup| lookup.index == index),
-            "{index}"
-        );
-    }
-    assert!(rt; plan.stage_places(Tag::from_bytes(b"smcp")).end == 0);
-    Ok(())
+/// What is asked for, and what a plan of it has: how many features, the mask of every glyph, the masks of features, and lookups.
+struct Row {
+    name: &'static str,
+    languages: &'static [Tag],
+    substitutions: &'static [u8],
+    asks: &'static [Ask],
+    count: usize,
+    global_mask: u32,
+    masks: &'static [(&'static [u8; 4], u32)],
+    lookups: &'static [(u16, u32)],
 }
 
 /// The table of a feature, as variations of a font choose it: `liga` has the lookup 0 in the place of the lookup 1.
 const SUBSTITUTIONS: &[u8] = &[0, 1, 0, 0, 0, 1, 0, 0, 0, 0, 0, 12, 0, 0, 0, 1, 0, 0];
 
+/// Turkish.
+const TURKISH: Tag = Tag(0x54524B20);
+
+/// Of every glyph, and with a fallback.
+const WITH_FALLBACK: FeatureFlags = FeatureFlags {
+    has_fallback: true,
+    ..FeatureFlags::NONE
+};
+
+/// Features of which the font lacks one.
+const ASKED: &[Ask] = &[
+    Ask::Enable(b"liga", FeatureFlags::NONE),
+    Ask::Add(b"smcp", 1),
+    Ask::Add(b"frac", 5),
+    Ask::Enable(b"abcd", FeatureFlags::NONE),
+];
+
+/// Two stages.
+const STAGES: &[Ask] = &[
+    Ask::Enable(b"frac", FeatureFlags::NONE),
+    Ask::Pause(Pause::SetUpSyllables),
+    Ask::Enable(b"liga", FeatureFlags::NONE),
+];
+
+/// A feature that the font lacks.
+const FALLBACK: &[Ask] = &[Ask::Enable(b"kern", WITH_FALLBACK), Ask::Add(b"kern", 3)];
+
+static ROWS: [Row; 5] = [
+    Row {
+        name: "features get bits in the order of tags, and a lookup of two features the masks of both",
+        languages: &[],
+        substitutions: &[],
+        asks: ASKED,
+        count: 3,
+        global_mask: 0x8000_0000,
+        masks: &[(b"frac", 0x70), (b"smcp", 0x80), (b"abcd", 0)],
+        lookups: &[(0, 0x80), (1, 0x8000_0080), (2, 0x70)],
+    },
+    Row {
+        name: "a feature that the font lacks stays where there is a fallback, its default in the mask of every glyph",
+        languages: &[],
+        substitutions: &[],
+        asks: FALLBACK,
+        count: 1,
+        global_mask: 0x8000_0010,
+        masks: &[(b"kern", 0x30)],
+        lookups: &[],
+    },
+    Row {
+        name: "a feature that is turned off is not there, and one that the language requires is",
+        languages: &[TURKISH],
+        substitutions: &[],
+        asks: &[
+            Ask::Enable(b"smcp", FeatureFlags::NONE),
+            Ask::Disable(b"smcp"),
+        ],
+        count: 0,
+        global_mask: 0x8000_0000,
+        masks: &[],
+        lookups: &[(2, 0x8000_0000)],
+    },
+    Row {
+        name: "lookups of a later stage come behind those of an earlier one",
+        languages: &[],
+        substitutions: &[],
+        asks: STAGES,
+        count: 2,
+        global_mask: 0x8000_0000,
+        masks: &[],
+        lookups: &[(2, 0x8000_0000), (1, 0x8000_0000)],
+    },
+    Row {
+        name: "features vary",
+        languages: &[],
+        substitutions: SUBSTITUTIONS,
+        asks: &[
+            Ask::Enable(b"frac", FeatureFlags::NONE),
+            Ask::Enable(b"liga", FeatureFlags::NONE),
+        ],
+        count: 2,
+        global_mask: 0x8000_0000,
+        masks: &[],
+        lookups: &[(0, 0x8000_0000), (2, 0x8000_0000)],
+    },
+];
+
+/// The mask of a feature.
+fn mask_of(plan: &LayoutPlan, tag: &[u8; 4]) -> u32 {
+    plan.mask(Tag::from_bytes(tag))
+}
+
+/// Whether features have these masks.
+fn has_masks(plan: &LayoutPlan, masks: &[(&[u8; 4], u32)]) -> bool {
+    for (tag, mask) in masks {
+        if mask_of(plan, tag) != *mask {
+            return false;
+        }
+    }
+    true
+}
+
+/// Whether the plan of a row has what the row says.
+fn is_met(alloc: Global, row: &Row) -> Result<bool, AllocError> {
+    let plan = planned(alloc, row.languages, row.substitutions, row.asks)?;
+    Ok(
+        plan.features.len() == row.count
+            && plan.global_mask == row.global_mask
+            && has_masks(&plan, row.masks)
+            && has_lookups(&plan, row.lookups),
+    )
+}
+
 #[test]
-fn features_vary(rt: HostRuntime) -> Result<(), Fail> {
-    let scripts = [Tag::from_bytes(b"latn")];
-    let gsub = ChosenTable::new(TABLE, &scripts, &[]).with_substitutions(SUBSTITUTIONS);
-    let gpos = ChosenTable::new(&[], &scripts, &[]);
-    let mut builder = PlanBuilder::new(rt.alloc(), gsub, gpos);
-    builder.enable_feature(Tag::from_bytes(b"frac"), FeatureFlags::NONE)?;
-    builder.enable_feature(Tag::from_bytes(b"liga"), FeatureFlags::NONE)?;
-    let plan = builder.compile(rt.alloc())?;
-    assert!(rt; has_lookups(&plan, &[(0, 0x8000_0000), (2, 0x8000_0000)]));
+fn features_are_planned(rt: HostRuntime) -> Result<(), Fail> {
+    for row in &ROWS {
+        assert!(rt; is_met(rt.alloc(), row)?, "{}", row.name);
+    }
+    Ok(())
+}
+
+/// The mask of a feature's value 1, whether there is the feature, and whether a fallback has to make it.
+fn told(plan: &LayoutPlan, tag: &[u8; 4]) -> (u32, bool, bool) {
+    let tag = Tag::from_bytes(tag);
+    let is_there = plan.feature(tag).is_some();
+    (plan.one_mask(tag), is_there, plan.needs_fallback(tag))
+}
+
+/// What the plan of what is asked for tells of a feature.
+fn told_of(alloc: Global, asks: &[Ask], tag: &[u8; 4]) -> Result<(u32, bool, bool), AllocError> {
+    let plan = planned(alloc, &[], &[], asks)?;
+    Ok(told(&plan, tag))
+}
+
+#[test]
+fn plans_tell_of_features(rt: HostRuntime) -> Result<(), AllocError> {
+    assert!(rt; told_of(rt.alloc(), ASKED, b"frac")? == (0x10, true, false));
+    assert!(rt; told_of(rt.alloc(), ASKED, b"abcd")? == (0, false, false));
+    assert!(rt; told_of(rt.alloc(), FALLBACK, b"kern")? == (0x10, true, true));
+    Ok(())
+}
+
+/// The scripts that a plan chooses of `GSUB` and of `GPOS`.
+fn scripts_of(alloc: Global) -> Result<(Tag, Tag), AllocError> {
+    let plan = planned(alloc, &[], &[], ASKED)?;
+    Ok((plan.gsub_script, plan.gpos_script))
+}
+
+#[test]
+fn plans_have_scripts(rt: HostRuntime) -> Result<(), AllocError> {
+    let (gsub, gpos) = scripts_of(rt.alloc())?;
+    assert!(rt; gsub == Tag::from_bytes(b"latn") && gpos.is_null());
+    Ok(())
+}
+
+#[test]
+fn builders_know_features(rt: HostRuntime) {
+    let builder = builder(rt.alloc(), &[], &[]);
+    assert!(rt; builder.has_feature(Tag::from_bytes(b"smcp")));
+}
+
+/// Where the lookups of a feature's stage end, and which one stands first there.
+fn stage_of(plan: &LayoutPlan, tag: &[u8; 4]) -> (usize, Option<u16>) {
+    let places = plan.stage_places(Tag::from_bytes(tag));
+    let end = places.end;
+    let lookups = plan.gsub_lookups.as_slice().get(places).unwrap_or(&[]);
+    match lookups.first() {
+        Some(first) => (end, Some(first.index)),
+        None => (end, None),
+    }
+}
+
+/// Where the lookups of two stages end, and what is done after each.
+fn stages_of(plan: &LayoutPlan) -> Option<[(usize, Pause); 2]> {
+    match plan.stages.as_slice() {
+        [first, second] => Some([(first.end, first.pause), (second.end, second.pause)]),
+        _ => None,
+    }
+}
+
+/// The stages of a plan, and those of the features `frac`, `liga` and `smcp`.
+type Stages = (Option<[(usize, Pause); 2]>, [(usize, Option<u16>); 3]);
+
+/// The stages of a plan of two stages.
+fn two_stages(alloc: Global) -> Result<Stages, AllocError> {
+    let plan = planned(alloc, &[], &[], STAGES)?;
+    let places = [
+        stage_of(&plan, b"frac"),
+        stage_of(&plan, b"liga"),
+        stage_of(&plan, b"smcp"),
+    ];
+    Ok((stages_of(&plan), places))
+}
+
+#[test]
+fn stages_part_lookups(rt: HostRuntime) -> Result<(), AllocError> {
+    let (stages, places) = two_stages(rt.alloc())?;
+    assert!(rt; stages == Some([(1, Pause::SetUpSyllables), (2, Pause::Nothing)]));
+    assert!(rt; places == [(1, Some(2)), (2, Some(1)), (0, None)]);
     Ok(())
 }
 
@@ -177,13 +329,11 @@ fn the_default_shaper_plans(rt: HostRuntime) -> Result<(), Fail> {
     let small_capitals = Tag::from_bytes(b"smcp");
     let feature = Feature::new(small_capitals, 1, Bound::Included(1), Bound::Excluded(3));
     let plan = ShapePlan::new(rt.alloc(), &FONT, &text, &[feature])?;
-    assert_eq!(rt; plan.frac_mask, 0x10);
-    assert!(rt; plan.has_frac);
-    assert_eq!(rt; plan.kern_mask, 0x8000_0000);
+    assert!(rt; plan.has_frac && plan.frac_mask == 0x10 && plan.kern_mask == 0x8000_0000);
     assert!(rt; plan.requested_kerning && plan.apply_fallback_kern);
     assert!(rt; !plan.apply_gpos && !plan.apply_kern && !plan.has_gpos_mark && !plan.has_vert);
     assert!(rt; plan.zero_marks && plan.fallback_mark_positioning);
-    assert_eq!(rt; plan.layout.stages.len(), 2);
+    assert!(rt; plan.layout.stages.len() == 2);
     assert!(rt; has_lookups(&plan.layout, &[(0, 0x20), (1, 0x8000_0020), (2, 0x10)]));
     Ok(())
 }

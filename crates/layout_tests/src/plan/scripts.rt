@@ -3,75 +3,97 @@
 use crate::plan::TABLE;
 use ot_map::LayoutTable;
 use ot_map::builder::ChosenTable;
-use ot_map::choice::{feature_count, required_feature, select_language, select_script};
+use ot_map::choice::{
+    ChosenScript, feature_count, required_feature, select_language, select_script,
+};
 use rb_common::Tag;
-use std::test::Fail;
 
-/// The lists of the table.
+/// The lists of a table.
+fn lists_of(table: &[u8]) -> LayoutTable<'_> {
+    LayoutTable::new(table)
+}
+
+/// The tag of a feature of the list.
+fn tag_of(feature: u16) -> Option<Tag> {
+    lists_of(TABLE).feature_tag(feature)
+}
+
+/// The first feature with a tag.
+fn first_with(tag: &[u8; 4]) -> Option<u16> {
+    lists_of(TABLE).first_feature(Tag::from_bytes(tag))
+}
+
+/// The table of a feature of the list.
+fn feature_table(feature: u16) -> &'static [u8] {
+    lists_of(TABLE).feature_table(feature)
+}
+
 #[test]
-fn lists_are_found(rt: HostRuntime) -> Result<(), Fail> {
-    let table = LayoutTable::new(TABLE);
-    assert_eq!(rt; table.lookup_count, 3);
-    assert_eq!(rt; table.feature_tag(0), Some(Tag::from_bytes(b"liga")));
-    assert_eq!(rt; table.feature_tag(3), Some(Tag::from_bytes(b"smcp")));
-    assert_eq!(rt; table.feature_tag(4), None);
-    assert_eq!(rt; table.first_feature(Tag::from_bytes(b"frac")), Some(2));
-    assert_eq!(rt; table.first_feature(Tag::from_bytes(b"kern")), None);
-    assert_eq!(rt; table.feature_table(2), &TABLE[108..]);
-    assert!(rt; table.feature_table(4).is_empty());
-    Ok(())
+fn features_are_listed(rt: HostRuntime) {
+    assert!(rt; tag_of(0) == Some(Tag::from_bytes(b"liga")));
+    assert!(rt; tag_of(3) == Some(Tag::from_bytes(b"smcp")));
+    assert!(rt; tag_of(4) == None);
+    assert!(rt; first_with(b"frac") == Some(2) && first_with(b"kern") == None);
+    assert!(rt; feature_table(2) == &TABLE[108..] && feature_table(4).is_empty());
+}
+
+/// Whether a table has lists of scripts and of features, and how many lookups it has.
+fn summary_of(table: &[u8]) -> (bool, bool, u16) {
+    let lists = lists_of(table);
+    let has_scripts = !lists.scripts.is_empty();
+    (has_scripts, !lists.features.is_empty(), lists.lookup_count)
 }
 
 /// A table of another version has nothing.
 #[test]
-fn other_versions_have_nothing(rt: HostRuntime) -> Result<(), Fail> {
-    let table = LayoutTable::new(&[0, 2, 0, 0, 0, 10]);
-    assert!(rt; table.scripts.is_empty());
-    assert!(rt; table.features.is_empty());
-    assert_eq!(rt; table.lookup_count, 0);
-    Ok(())
+fn other_versions_have_nothing(rt: HostRuntime) {
+    assert!(rt; summary_of(TABLE) == (true, true, 3));
+    assert!(rt; summary_of(&[0, 2, 0, 0, 0, 10]) == (false, false, 0));
+}
+
+/// The script that is chosen of a table.
+fn chosen<'a>(table: &'a [u8], scripts: &[Tag]) -> ChosenScript<'a> {
+    select_script(lists_of(table).scripts, scripts)
+}
+
+/// Its tag, and whether it is one of those that were asked for.
+fn choice(table: &[u8], scripts: &[Tag]) -> (Tag, bool) {
+    let script = chosen(table, scripts);
+    (script.tag, script.is_found)
 }
 
 /// The first of a text's scripts that the table has, or else its default one.
 #[test]
-fn scripts_are_chosen(rt: HostRuntime) -> Result<(), Fail> {
-    let scripts = LayoutTable::new(TABLE).scripts;
-    let latin = Tag::from_bytes(b"latn");
-    let own = select_script(scripts, &[Tag::from_bytes(b"cyrl"), latin]);
-    assert_eq!(rt; own.tag, latin);
-    assert!(rt; own.is_found);
-    let default = select_script(scripts, &[Tag::from_bytes(b"cyrl")]);
-    assert_eq!(rt; default.tag, Tag::from_bytes(b"DFLT"));
-    assert!(rt; !default.is_found);
-    let none = select_script(&[], &[latin]);
-    assert!(rt; none.tag.is_null());
-    assert!(rt; none.table.is_empty());
-    Ok(())
+fn scripts_are_chosen(rt: HostRuntime) {
+    let (latin, cyrillic) = (Tag::from_bytes(b"latn"), Tag::from_bytes(b"cyrl"));
+    assert!(rt; choice(TABLE, &[cyrillic, latin]) == (latin, true));
+    assert!(rt; choice(TABLE, &[cyrillic]) == (Tag::from_bytes(b"DFLT"), false));
+    let none = chosen(&[], &[latin]);
+    assert!(rt; none.tag.is_null() && none.table.is_empty());
+}
+
+/// The required feature of a script's language system, and how many others it has.
+fn system_of(script: &[u8], language: &[u8; 4]) -> (Option<u16>, usize) {
+    let system = select_language(script, &[Tag::from_bytes(language)]);
+    (required_feature(system), feature_count(system))
 }
 
 /// The language system of a language, or else the default one.
 #[test]
-fn languages_are_chosen(rt: HostRuntime) -> Result<(), Fail> {
-    let scripts = LayoutTable::new(TABLE).scripts;
-    let latin = select_script(scripts, &[Tag::from_bytes(b"latn")]).table;
-    let turkish = select_language(latin, &[Tag::from_bytes(b"TRK ")]);
-    assert_eq!(rt; required_feature(turkish), Some(1));
-    assert_eq!(rt; feature_count(turkish), 1);
-    let default = select_language(latin, &[Tag::from_bytes(b"ROM ")]);
-    assert_eq!(rt; required_feature(default), None);
-    assert_eq!(rt; feature_count(default), 4);
-    assert_eq!(rt; feature_count(select_language(&[], &[])), 0);
-    Ok(())
+fn languages_are_chosen(rt: HostRuntime) {
+    let latin = chosen(TABLE, &[Tag::from_bytes(b"latn")]).table;
+    assert!(rt; system_of(latin, b"TRK ") == (Some(1), 1));
+    assert!(rt; system_of(latin, b"ROM ") == (None, 4));
+    assert!(rt; system_of(&[], b"ROM ") == (None, 0));
 }
 
-/// Which features the chosen language system has.
+/// Whether the chosen language system of a script has a feature.
+fn has_feature(script: &[u8; 4], feature: &[u8; 4]) -> bool {
+    ChosenTable::new(TABLE, &[Tag::from_bytes(script)], &[]).has_feature(Tag::from_bytes(feature))
+}
+
 #[test]
-fn features_are_of_the_language_system(rt: HostRuntime) -> Result<(), Fail> {
-    let small_capitals = Tag::from_bytes(b"smcp");
-    let latin = ChosenTable::new(TABLE, &[Tag::from_bytes(b"latn")], &[]);
-    assert!(rt; latin.has_feature(small_capitals));
-    let greek = ChosenTable::new(TABLE, &[Tag::from_bytes(b"grek")], &[]);
-    assert!(rt; !greek.has_feature(small_capitals));
-    assert!(rt; greek.has_feature(Tag::from_bytes(b"liga")));
-    Ok(())
+fn features_are_of_the_language_system(rt: HostRuntime) {
+    assert!(rt; has_feature(b"latn", b"smcp"));
+    assert!(rt; !has_feature(b"grek", b"smcp") && has_feature(b"grek", b"liga"));
 }

@@ -41,29 +41,32 @@ impl Strikes for Sizes {
     }
 }
 
+/// The strike that is best of so many.
+fn strike_of(count: u32, wanted: u32) -> u32 {
+    best_strike(&Sizes([20, 128, 40, 128]), count, wanted)
+}
+
 #[test]
 fn the_strike_is_the_smallest_that_is_large_enough() {
-    let sizes = Sizes([20, 128, 40, 128]);
-    for (matcher, strike) in [
-        (1, 0),
-        (20, 0),
-        (21, 2),
-        (40, 2),
-        (41, 1),
-        (128, 1),
-        (129, 1),
+    for (count, wanted, strike) in [
+        (4, 1, 0),
+        (4, 20, 0),
+        (4, 21, 2),
+        (4, 40, 2),
+        (4, 41, 1),
+        (4, 128, 1),
+        (4, 129, 1),
+        (4, wanted_size(0, 0), 1),
+        (0, 20, 0),
     ] {
-        assert_eq!(best_strike(&sizes, 4, matcher), strike, "{matcher}");
+        assert!(strike_of(count, wanted) == strike, "{wanted} of {count}");
     }
-    assert_eq!(best_strike(&sizes, 4, wanted_size(0, 0)), 1);
-    assert_eq!(best_strike(&sizes, 0, 20), 0);
-    assert_eq!(wanted_size(12, 0), 12);
-    assert_eq!(wanted_size(12, 13), 13);
+    assert!(wanted_size(12, 0) == 12 && wanted_size(12, 13) == 13);
 }
 
 /// Strikes of 20 and 40 pixels: a PNG, a glyph that has the same, a JPEG, a PNG whose header is cut short, and a glyph that
 /// has what it has itself.
-static SBIX: [u8; 232] = [
+const SBIX: &[u8] = &[
     0, 1, 0, 1, 0, 0, 0, 2, 0, 0, 0, 16, 0, 0, 0, 159, 0, 20, 0, 72, 0, 0, 0, 32, 0, 0, 0, 73, 0,
     0, 0, 83, 0, 0, 0, 124, 0, 0, 0, 133, 0, 0, 0, 143, 0, 0, 0, 143, 0, 3, 255, 252, 112, 110,
     103, 32, 137, 80, 78, 71, 13, 10, 26, 10, 0, 0, 0, 13, 73, 72, 68, 82, 0, 0, 0, 20, 0, 0, 0,
@@ -75,35 +78,36 @@ static SBIX: [u8; 232] = [
     73, 72, 68, 82, 0, 0, 0, 37, 0, 0, 0, 41, 8, 6, 0, 0, 0, 0, 0, 0, 0,
 ];
 
-/// The boxes of its glyphs in the strike of 20 pixels.
-static GRAPHICS: [Option<Numbers>; 6] = [
-    Some([150, 1000, 1000, -1200]),
-    Some([150, 1000, 1000, -1200]),
-    None,
-    Some([50, 100, 0, 0]),
-    None,
-    None,
+/// The box of a glyph in the strike for a size.
+fn sbix_box(table: &[u8], size: u32, glyph: u16) -> Option<PixelBox> {
+    SbixTable::new(table, 6, size).glyph_box(GlyphId(glyph))
+}
+
+/// Tables, sizes, glyphs, and their boxes in font units.
+static GRAPHICS: [(&[u8], u32, u16, Option<Numbers>); 10] = [
+    (SBIX, 20, 0, Some([150, 1000, 1000, -1200])),
+    (SBIX, 20, 1, Some([150, 1000, 1000, -1200])),
+    (SBIX, 20, 2, None),
+    (SBIX, 20, 3, Some([50, 100, 0, 0])),
+    (SBIX, 20, 4, None),
+    (SBIX, 20, 5, None),
+    (SBIX, 20, 6, None),
+    (SBIX, 21, 0, Some([-175, 1250, 925, -1025])),
+    (SBIX, 21, 1, None),
+    (&[], 20, 0, None),
 ];
 
 #[test]
 fn a_png_of_sbix_says_its_box() {
-    let small = SbixTable::new(&SBIX, 6, 20);
-    for (glyph, &found) in (0..6).zip(&GRAPHICS) {
-        assert!(
-            in_units(small.glyph_box(GlyphId(glyph))) == found,
-            "{glyph}"
-        );
+    for &(table, size, glyph, numbers) in &GRAPHICS {
+        let found = in_units(sbix_box(table, size, glyph));
+        assert!(found == numbers, "{glyph} at {size}");
     }
-    assert!(small.glyph_box(GlyphId(6)).is_none());
-    let large = SbixTable::new(&SBIX, 6, 21);
-    let found = large.glyph_box(GlyphId(0));
+    let found = sbix_box(SBIX, 21, 0);
     assert!(
         found.map(|found| (found.x_ppem, numbers_of(found.extents)))
             == Some((40, [-7, 50, 37, -41]))
     );
-    assert!(in_units(found) == Some([-175, 1250, 925, -1025]));
-    assert!(large.glyph_box(GlyphId(1)).is_none());
-    assert!(SbixTable::new(&[], 6, 20).glyph_box(GlyphId(0)).is_none());
 }
 
 /// Strikes of 20 by 24 and of 60 by 50 pixels: glyphs 1 and 2 with small metrics, 3 with big ones, 4 with no image, 5 with no metrics
@@ -119,45 +123,42 @@ static CBLC: [u8; 204] = [
 ];
 
 /// Their images.
-static CBDT: [u8; 61] = [
+const CBDT: &[u8] = &[
     0, 3, 0, 0, 20, 22, 1, 18, 30, 0, 0, 0, 1, 97, 25, 27, 253, 251, 30, 0, 0, 0, 1, 97, 30, 31, 2,
     29, 30, 1, 2, 3, 0, 0, 0, 1, 98, 97, 98, 99, 100, 101, 102, 103, 104, 105, 106, 107, 108, 109,
     110, 40, 44, 2, 36, 30, 0, 0, 0, 1, 97,
 ];
 
-/// The boxes of the glyphs from 1 on in the strike of 20 by 24 pixels.
-static IMAGES: [Option<Numbers>; 5] = [
-    Some([50, 750, 1100, -833]),
-    Some([-150, -208, 1350, -1042]),
-    Some([100, 1208, 1550, -1250]),
-    None,
-    None,
+/// The box of a glyph in the strike for a size, with images.
+fn cbdt_box(images: &[u8], size: u32, glyph: u16) -> Option<PixelBox> {
+    CbdtTables::new(&CBLC, images, size).glyph_box(GlyphId(glyph))
+}
+
+/// Images, sizes, glyphs, and their boxes in font units.
+static IMAGES: [(&[u8], u32, u16, Option<Numbers>); 9] = [
+    (CBDT, 24, 0, None),
+    (CBDT, 24, 1, Some([50, 750, 1100, -833])),
+    (CBDT, 24, 2, Some([-150, -208, 1350, -1042])),
+    (CBDT, 24, 3, Some([100, 1208, 1550, -1250])),
+    (CBDT, 24, 4, None),
+    (CBDT, 24, 5, None),
+    (CBDT, 25, 0, Some([33, 720, 733, -800])),
+    (CBDT, 25, 1, None),
+    (&[], 25, 0, None),
 ];
 
 #[test]
 fn the_metrics_of_an_image_say_its_box() {
-    let small = CbdtTables::new(&CBLC, &CBDT, 24);
-    for (glyph, &found) in (1..6).zip(&IMAGES) {
-        assert!(
-            in_units(small.glyph_box(GlyphId(glyph))) == found,
-            "{glyph}"
-        );
+    for &(images, size, glyph, numbers) in &IMAGES {
+        let found = in_units(cbdt_box(images, size, glyph));
+        assert!(found == numbers, "{glyph} at {size}");
     }
-    assert!(small.glyph_box(GlyphId(0)).is_none());
-    let large = CbdtTables::new(&CBLC, &CBDT, 25);
-    let found = large.glyph_box(GlyphId(0));
+    let found = cbdt_box(CBDT, 25, 0);
     assert!(found.map(|found| (found.x_ppem, found.y_ppem)) == Some((60, 50)));
-    assert!(in_units(found) == Some([33, 720, 733, -800]));
-    assert!(large.glyph_box(GlyphId(1)).is_none());
-    assert!(
-        CbdtTables::new(&CBLC, &[], 25)
-            .glyph_box(GlyphId(0))
-            .is_none()
-    );
 }
 
 /// Boxes that glyphs are clipped to: one for the glyphs 0 and 1, one that varies for 2, and one that is nowhere for 4.
-static COLR: [u8; 144] = [
+const COLR: &[u8] = &[
     0, 1, 0, 0, 0, 0, 0, 0, 0, 0, 0, 0, 0, 0, 0, 0, 0, 0, 0, 0, 0, 0, 0, 0, 0, 34, 0, 0, 0, 82, 0,
     0, 0, 106, 1, 0, 0, 0, 3, 0, 0, 0, 1, 0, 0, 26, 0, 2, 0, 2, 0, 0, 35, 0, 4, 0, 4, 0, 0, 0, 1,
     0, 10, 255, 236, 1, 44, 1, 144, 2, 0, 10, 255, 236, 1, 44, 1, 144, 0, 0, 0, 16, 0, 1, 0, 20, 0,
@@ -165,33 +166,32 @@ static COLR: [u8; 144] = [
     0, 1, 0, 1, 0, 0, 64, 0, 64, 0, 0, 4, 0, 1, 0, 1, 0, 0, 0, 8, 255, 251, 0, 30, 0, 41,
 ];
 
-/// Coordinates, and the box of glyph 2 there.
-static CLIPS: [(i32, Numbers); 3] = [
-    (16384, [18, 441, 312, -466]),
-    (8192, [14, 421, 301, -443]),
-    (-10923, [10, 400, 290, -420]),
-];
-
 /// The numbers of the box of a glyph at these coordinates.
-fn box_at(glyph: u16, coordinates: &[i32]) -> Option<Numbers> {
-    let found = ColrTable::new(&COLR).clip_box(GlyphId(glyph), coordinates)?;
+fn box_at(colr: &[u8], glyph: u16, coordinates: &[i32]) -> Option<Numbers> {
+    let found = ColrTable::new(colr).clip_box(GlyphId(glyph), coordinates)?;
     Some(numbers_of(found))
 }
 
+/// Tables, glyphs, coordinates, and the box of each there.
+static CLIPS: [(&[u8], u16, &[i32], Option<Numbers>); 13] = [
+    (COLR, 0, &[], Some([10, 400, 290, -420])),
+    (COLR, 0, &[16384], Some([10, 400, 290, -420])),
+    (COLR, 0, &[8192], Some([10, 400, 290, -420])),
+    (COLR, 0, &[-10923], Some([10, 400, 290, -420])),
+    (COLR, 1, &[], Some([10, 400, 290, -420])),
+    (COLR, 2, &[], Some([10, 400, 290, -420])),
+    (COLR, 2, &[16384], Some([18, 441, 312, -466])),
+    (COLR, 2, &[8192], Some([14, 421, 301, -443])),
+    (COLR, 2, &[-10923], Some([10, 400, 290, -420])),
+    (COLR, 3, &[], None),
+    (COLR, 4, &[], Some([0, 0, 0, 0])),
+    (COLR, 5, &[], None),
+    (&[], 0, &[], None),
+];
+
 #[test]
 fn a_glyph_is_clipped_to_its_box() {
-    for glyph in 0..3 {
-        assert!(box_at(glyph, &[]) == Some([10, 400, 290, -420]), "{glyph}");
+    for (row, &(colr, glyph, coordinates, numbers)) in CLIPS.iter().enumerate() {
+        assert!(box_at(colr, glyph, coordinates) == numbers, "{row}");
     }
-    for &(coordinate, found) in &CLIPS {
-        assert!(
-            box_at(0, &[coordinate]) == Some([10, 400, 290, -420]),
-            "{coordinate}"
-        );
-        assert!(box_at(2, &[coordinate]) == Some(found), "{coordinate}");
-    }
-    assert!(box_at(3, &[]) == None);
-    assert!(box_at(4, &[]) == Some([0; 4]));
-    assert!(box_at(5, &[]) == None);
-    assert!(ColrTable::new(&[]).clip_box(GlyphId(0), &[]).is_none());
 }

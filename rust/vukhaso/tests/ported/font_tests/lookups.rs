@@ -13,17 +13,7 @@ use vukhaso::internals::font_tables::gdef::Gdef;
 use vukhaso::internals::glyph::hb_glyph_info_t;
 use vukhaso::internals::ot_layout::lookup_list::SUBSTITUTION_EXTENSION;
 use vukhaso::internals::ot_layout::{LookupList, LookupOptions};
-use vukhaso::memory::{AllocError, Vec};
-
-/// A table in numbers of 16 bits.
-pub(crate) fn bytes_of(words: &[u16]) -> Result<Vec<u8>, AllocError> {
-    let mut bytes = Vec::new();
-    for word in words {
-        bytes.push((*word / 256) as u8)?;
-        bytes.push((*word % 256) as u8)?;
-    }
-    Ok(bytes)
-}
+use vukhaso::memory::AllocError;
 
 /// The bits of the only feature.
 pub(crate) const OPTIONS: LookupOptions = LookupOptions {

@@ -3,6 +3,8 @@
 //! Tests of the crates that read fonts, over what they make public, as in the `tests/` folder of a Rust crate.
 
 #[cfg(test)]
+mod bytes;
+#[cfg(test)]
 mod characters;
 #[cfg(test)]
 mod color;

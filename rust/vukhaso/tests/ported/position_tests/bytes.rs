@@ -8,8 +8,7 @@ use vukhaso::memory::{AllocError, Vec};
 pub(crate) fn bytes_of(words: &[u16]) -> Result<Vec<u8>, AllocError> {
     let mut bytes = Vec::new();
     for word in words {
-        bytes.push((*word / 256) as u8)?;
-        bytes.push((*word % 256) as u8)?;
+        bytes.extend_from_slice(&word.to_be_bytes())?;
     }
     Ok(bytes)
 }

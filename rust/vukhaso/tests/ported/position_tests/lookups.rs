@@ -118,15 +118,17 @@ fn position_all(buffer: &mut hb_buffer_t, list: &LookupList, budget: Budget) {
     position_finish_offsets(buffer);
 }
 
-/// Kerns a line.
-fn kerned(
-    table: &KernTable,
+/// The advance of a glyph, and how far it is moved across and up.
+type Placing = (i32, i32, i32);
+
+/// A line, and what becomes of its glyphs.
+struct Line {
     direction: Direction,
-    glyphs: &[u32],
-) -> Result<hb_buffer_t, AllocError> {
-    let mut buffer = line_of(direction, glyphs)?;
-    kern(&mut buffer, table, &Scale::of_em(1000), &OPTIONS);
-    Ok(buffer)
+    glyphs: &'static [u32],
+    /// Places, and the glyphs there.
+    placings: &'static [(usize, Placing)],
+    /// Places, and whether the line may not be broken before the glyph there.
+    breaks: &'static [(usize, bool)],
 }
 
 /// The advance and the offsets at a place.
@@ -134,7 +136,7 @@ fn kerned(
 /// # Requires
 ///
 /// - `IsSome buffer.now.positions`
-fn at(buffer: &hb_buffer_t, place: usize) -> (i32, i32, i32) {
+fn at(buffer: &hb_buffer_t, place: usize) -> Placing {
     debug_assert!(buffer.have_positions());
     match buffer.pos().get(place) {
         Some(position) => (position.x_advance, position.x_offset, position.y_offset),
@@ -150,112 +152,232 @@ fn is_unsafe(buffer: &hb_buffer_t, place: usize) -> bool {
     }
 }
 
+/// Whether the glyphs of a line stand as it says.
+///
+/// # Requires
+///
+/// - `IsSome buffer.now.positions`
+fn is_placed(buffer: &hb_buffer_t, line: &Line) -> bool {
+    debug_assert!(buffer.have_positions());
+    for (place, placing) in line.placings {
+        if at(buffer, *place) != *placing {
+            return false;
+        }
+    }
+    for (place, is_there) in line.breaks {
+        if is_unsafe(buffer, *place) != *is_there {
+            return false;
+        }
+    }
+    true
+}
+
+/// A lookup with one subtable, and a line that it places.
+struct Row {
+    name: &'static str,
+    kind: u16,
+    flag: u16,
+    subtable: &'static [u16],
+    line: Line,
+}
+
+/// Pairs of glyphs, of which both are changed.
+const BOTH_OF_PAIRS: &[u16] = &[
+    1, 12, 4, 1, 1, 18, 1, 1, 10, 2, 11, 0xFFCE, 7, 12, 0xFFC4, 8,
+];
+
+/// Pairs of glyphs, of which the first is changed.
+const PAIRS: &[u16] = &[1, 12, 4, 0, 1, 18, 1, 1, 10, 2, 11, 0xFFCE, 12, 20];
+
+/// Pairs of classes.
+const CLASSES: &[u16] = &[
+    2, 20, 4, 0, 26, 32, 1, 2, 0, 0xFFCE, 1, 1, 10, 1, 0, 0, 1, 11, 1, 1,
+];
+
+/// A mark and its base.
+const MARKS: &[u16] = &[
+    1, 12, 18, 1, 24, 36, 1, 1, 20, 1, 1, 10, 1, 0, 6, 1, 100, 200, 1, 4, 1, 300, 500,
+];
+
+/// An exit and an entry.
+const CURSIVE: &[u16] = &[1, 14, 2, 0, 22, 28, 0, 1, 2, 10, 11, 1, 500, 100, 1, 50, 20];
+
+static ROWS: [Row; 8] = [
+    Row {
+        name: "the second glyph of a pair",
+        kind: 2,
+        flag: 0,
+        subtable: BOTH_OF_PAIRS,
+        line: Line {
+            direction: Direction::LeftToRight,
+            glyphs: &[10, 12, 10, 11],
+            placings: &[
+                (0, (540, 0, 0)),
+                (1, (600, 8, 0)),
+                (2, (550, 0, 0)),
+                (3, (600, 7, 0)),
+            ],
+            breaks: &[(0, false), (1, true), (3, true)],
+        },
+    },
+    Row {
+        name: "kerning by classes, where marks are passed over",
+        kind: 2,
+        flag: 8,
+        subtable: CLASSES,
+        line: Line {
+            direction: Direction::LeftToRight,
+            glyphs: &[10, 11, 10, 12, 10, 20, 11],
+            placings: &[
+                (0, (550, 0, 0)),
+                (1, (600, 0, 0)),
+                (2, (600, 0, 0)),
+                (4, (550, 0, 0)),
+            ],
+            breaks: &[(1, true), (3, false), (6, true)],
+        },
+    },
+    Row {
+        name: "an advance across changes nothing in a vertical line",
+        kind: 2,
+        flag: 8,
+        subtable: CLASSES,
+        line: Line {
+            direction: Direction::TopToBottom,
+            glyphs: &[10, 11],
+            placings: &[(0, (600, 0, 0))],
+            breaks: &[(1, false)],
+        },
+    },
+    Row {
+        name: "kerning by glyphs",
+        kind: 2,
+        flag: 0,
+        subtable: PAIRS,
+        line: Line {
+            direction: Direction::LeftToRight,
+            glyphs: &[10, 12, 10, 11, 10, 13],
+            placings: &[(0, (620, 0, 0)), (2, (550, 0, 0)), (4, (600, 0, 0))],
+            breaks: &[(3, true), (5, false)],
+        },
+    },
+    Row {
+        name: "marks on their base",
+        kind: 4,
+        flag: 0,
+        subtable: MARKS,
+        line: Line {
+            direction: Direction::LeftToRight,
+            glyphs: &[10, 20, 20],
+            placings: &[(1, (0, -400, 300)), (2, (0, -400, 300))],
+            breaks: &[],
+        },
+    },
+    Row {
+        name: "a mark on its base, from right to left",
+        kind: 4,
+        flag: 0,
+        subtable: MARKS,
+        line: Line {
+            direction: Direction::RightToLeft,
+            glyphs: &[10, 20],
+            placings: &[(1, (0, 200, 300))],
+            breaks: &[],
+        },
+    },
+    Row {
+        name: "an exit meets an entry",
+        kind: 3,
+        flag: 0,
+        subtable: CURSIVE,
+        line: Line {
+            direction: Direction::LeftToRight,
+            glyphs: &[10, 11],
+            placings: &[(0, (500, 0, 0)), (1, (550, -50, 80))],
+            breaks: &[],
+        },
+    },
+    Row {
+        name: "an exit meets an entry, from right to left",
+        kind: 3,
+        flag: 1,
+        subtable: CURSIVE,
+        line: Line {
+            direction: Direction::RightToLeft,
+            glyphs: &[10, 11],
+            placings: &[(0, (100, -500, -80)), (1, (50, 0, 0))],
+            breaks: &[],
+        },
+    },
+];
+
+/// Whether a row's lookup places its line as it says.
+fn is_met(row: &Row) -> Result<bool, AllocError> {
+    let gpos = gpos_of(row.kind, row.flag, row.subtable)?;
+    let buffer = positioned(&gpos, row.line.direction, row.line.glyphs)?;
+    Ok(is_placed(&buffer, &row.line))
+}
+
 #[test]
-fn the_second_glyph_of_a_pair() -> Result<(), AllocError> {
-    let pairs = [
-        1, 12, 4, 1, 1, 18, 1, 1, 10, 2, 11, 0xFFCE, 7, 12, 0xFFC4, 8,
-    ];
-    let gpos = gpos_of(2, 0, &pairs)?;
-    let buffer = positioned(&gpos, Direction::LeftToRight, &[10, 12, 10, 11])?;
-    assert_eq!(at(&buffer, 0), (540, 0, 0));
-    assert_eq!(at(&buffer, 1), (600, 8, 0));
-    assert_eq!(at(&buffer, 2), (550, 0, 0));
-    assert_eq!(at(&buffer, 3), (600, 7, 0));
-    assert!(!is_unsafe(&buffer, 0));
-    assert!(is_unsafe(&buffer, 1));
-    assert!(is_unsafe(&buffer, 3));
+fn lookups_place_glyphs() -> Result<(), AllocError> {
+    for row in &ROWS {
+        assert!(is_met(row)?, "{}", row.name);
+    }
     Ok(())
+}
+
+/// The advance of the first glyph of a pair after some steps, and whether it is told that they were not
+/// enough.
+fn within(steps: u64) -> Result<(i32, bool), AllocError> {
+    let gpos = gpos_of(2, 0, PAIRS)?;
+    let gdef = no_definitions(&gpos);
+    let list = LookupList::new(&gpos, 9, &gdef)?;
+    let mut buffer = line_of(Direction::LeftToRight, &[10, 11])?;
+    position_all(&mut buffer, &list, Budget { nested: 1, steps });
+    Ok((at(&buffer, 0).0, buffer.shaping_failed))
 }
 
 /// Where the budget is spent, glyphs stay as they are, and it is told.
 #[test]
 fn a_spent_budget_is_told() -> Result<(), AllocError> {
-    let pairs = [1, 12, 4, 0, 1, 18, 1, 1, 10, 2, 11, 0xFFCE, 12, 20];
-    let gpos = gpos_of(2, 0, &pairs)?;
-    let gdef = no_definitions(&gpos);
-    let list = LookupList::new(&gpos, 9, &gdef)?;
     for (steps, matcher) in [(3, (600, true)), (1000, (550, false))] {
-        let mut buffer = line_of(Direction::LeftToRight, &[10, 11])?;
-        position_all(&mut buffer, &list, Budget { nested: 1, steps });
-        assert_eq!((at(&buffer, 0).0, buffer.shaping_failed), matcher);
+        assert!(within(steps)? == matcher, "{steps}");
     }
     Ok(())
 }
 
-#[test]
-fn kerning_by_classes() -> Result<(), AllocError> {
-    let pairs = [
-        2, 20, 4, 0, 26, 32, 1, 2, 0, 0xFFCE, 1, 1, 10, 1, 0, 0, 1, 11, 1, 1,
-    ];
-    let gpos = gpos_of(2, 8, &pairs)?;
-    let glyphs = [10, 11, 10, 12, 10, 20, 11];
-    let buffer = positioned(&gpos, Direction::LeftToRight, &glyphs)?;
-    assert_eq!(at(&buffer, 0), (550, 0, 0));
-    assert_eq!(at(&buffer, 1), (600, 0, 0));
-    assert_eq!(at(&buffer, 2), (600, 0, 0));
-    assert_eq!(at(&buffer, 4), (550, 0, 0));
-    assert!(is_unsafe(&buffer, 1));
-    assert!(!is_unsafe(&buffer, 3));
-    assert!(is_unsafe(&buffer, 6));
-    let downward = positioned(&gpos, Direction::TopToBottom, &[10, 11])?;
-    assert_eq!(at(&downward, 0), (600, 0, 0));
-    assert!(!is_unsafe(&downward, 1));
-    Ok(())
+/// A table `kern` with one pair.
+const KERN: &[u16] = &[0, 1, 0, 20, 1, 1, 0, 0, 0, 10, 11, 0xFFCD];
+
+static KERNED: [Line; 2] = [
+    Line {
+        direction: Direction::LeftToRight,
+        glyphs: &[10, 20, 11],
+        placings: &[(0, (574, 0, 0)), (2, (575, -25, 0))],
+        breaks: &[],
+    },
+    Line {
+        direction: Direction::RightToLeft,
+        glyphs: &[11, 10],
+        placings: &[(0, (575, -25, 0)), (1, (574, 0, 0))],
+        breaks: &[],
+    },
+];
+
+/// Whether a table `kern` places a line as it says.
+fn is_kerned(line: &Line) -> Result<bool, AllocError> {
+    let bytes = bytes_of(KERN)?;
+    let table = KernTable::new(&bytes);
+    let mut buffer = line_of(line.direction, line.glyphs)?;
+    kern(&mut buffer, &table, &Scale::of_em(1000), &OPTIONS);
+    Ok(table.has_kerning() && is_placed(&buffer, line))
 }
 
-#[test]
-fn kerning_by_glyphs() -> Result<(), AllocError> {
-    let pairs = [1, 12, 4, 0, 1, 18, 1, 1, 10, 2, 11, 0xFFCE, 12, 20];
-    let gpos = gpos_of(2, 0, &pairs)?;
-    let glyphs = [10, 12, 10, 11, 10, 13];
-    let buffer = positioned(&gpos, Direction::LeftToRight, &glyphs)?;
-    assert_eq!(at(&buffer, 0), (620, 0, 0));
-    assert_eq!(at(&buffer, 2), (550, 0, 0));
-    assert_eq!(at(&buffer, 4), (600, 0, 0));
-    assert!(is_unsafe(&buffer, 3));
-    assert!(!is_unsafe(&buffer, 5));
-    Ok(())
-}
-
-#[test]
-fn a_mark_on_its_base() -> Result<(), AllocError> {
-    let marks = [
-        1, 12, 18, 1, 24, 36, 1, 1, 20, 1, 1, 10, 1, 0, 6, 1, 100, 200, 1, 4, 1, 300, 500,
-    ];
-    let gpos = gpos_of(4, 0, &marks)?;
-    let forward = positioned(&gpos, Direction::LeftToRight, &[10, 20, 20])?;
-    assert_eq!(at(&forward, 1), (0, -400, 300));
-    assert_eq!(at(&forward, 2), (0, -400, 300));
-    let backward = positioned(&gpos, Direction::RightToLeft, &[10, 20])?;
-    assert_eq!(at(&backward, 1), (0, 200, 300));
-    Ok(())
-}
-
-#[test]
-fn an_exit_meets_an_entry() -> Result<(), AllocError> {
-    let anchors = [1, 14, 2, 0, 22, 28, 0, 1, 2, 10, 11, 1, 500, 100, 1, 50, 20];
-    let gpos = gpos_of(3, 0, &anchors)?;
-    let buffer = positioned(&gpos, Direction::LeftToRight, &[10, 11])?;
-    assert_eq!(at(&buffer, 0), (500, 0, 0));
-    assert_eq!(at(&buffer, 1), (550, -50, 80));
-    let hanging = gpos_of(3, 1, &anchors)?;
-    let buffer = positioned(&hanging, Direction::RightToLeft, &[10, 11])?;
-    assert_eq!(at(&buffer, 0), (100, -500, -80));
-    assert_eq!(at(&buffer, 1), (50, 0, 0));
-    Ok(())
-}
-
+/// Half of a value is taken on each side.
 #[test]
 fn half_of_a_kerning_value() -> Result<(), AllocError> {
-    let words = [0, 1, 0, 20, 1, 1, 0, 0, 0, 10, 11, 0xFFCD];
-    let bytes = bytes_of(&words)?;
-    let table = KernTable::new(&bytes);
-    assert!(table.has_kerning());
-    let forward = kerned(&table, Direction::LeftToRight, &[10, 20, 11])?;
-    assert_eq!(at(&forward, 0), (574, 0, 0));
-    assert_eq!(at(&forward, 2), (575, -25, 0));
-    let backward = kerned(&table, Direction::RightToLeft, &[11, 10])?;
-    assert_eq!(at(&backward, 0), (575, -25, 0));
-    assert_eq!(at(&backward, 1), (574, 0, 0));
+    for (number, line) in KERNED.iter().enumerate() {
+        assert!(is_kerned(line)?, "{number}");
+    }
     Ok(())
 }

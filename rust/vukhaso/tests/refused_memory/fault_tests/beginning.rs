@@ -34,15 +34,26 @@ pub fn begun_text() -> Result<UnicodeBuffer, Lost> {
 /// That it returns.
 #[inline]
 pub fn begun_text_with_room(room: usize) -> Result<UnicodeBuffer, Lost> {
+    let language = Language::from_str("he-IL")?;
     let mut text = empty_text(room)?;
-    text.set_language(Language::from_str("he-IL")?);
+    text.set_language(language);
+    set_segment(&mut text);
+    set_surroundings(&mut text);
+    Ok(text)
+}
+
+/// Says of a text how it is to be shaped.
+fn set_segment(text: &mut UnicodeBuffer) {
     text.set_script(script::HEBREW);
     text.set_direction(Direction::RightToLeft);
     text.set_flags(BufferFlags::from_bits_retain(FLAGS));
+    text.set_not_found_variation_selector_glyph(4);
+}
+
+/// Says what stands before and behind a text.
+fn set_surroundings(text: &mut UnicodeBuffer) {
     text.set_pre_context("before");
     text.set_post_context("after");
-    text.set_not_found_variation_selector_glyph(4);
-    Ok(text)
 }
 
 /// An empty text with room for so many glyphs.

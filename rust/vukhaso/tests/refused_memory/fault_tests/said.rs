@@ -87,21 +87,26 @@ impl Scenario for Tags {
     }
 
     fn watch(&self, ready: Language) -> Result<(), Lost> {
-        let rows = [("ml", Tag::from_bytes(b"MAL "))];
-        let Some(table) = LanguageTable::new(&rows) else {
+        let Some((scripts, languages)) = tags_of(&ready) else {
             return Err(Lost::Refusal);
         };
-        let (scripts, languages) = tags_from_script_and_language(
-            Some(script::MALAYALAM),
-            Some(&ready),
-            &table,
-            &NoComplexLanguages,
-        );
         if are_tags(&scripts, &["mlm3", "mlm2", "mlym"]) && are_tags(&languages, &["MAL "]) {
             return Ok(());
         }
         Err(Lost::State)
     }
+}
+
+/// The tags of Malayalam's script and of a language.
+fn tags_of(language: &Language) -> Option<(ThreeTags, ThreeTags)> {
+    let rows = [("ml", Tag::from_bytes(b"MAL "))];
+    let table = LanguageTable::new(&rows)?;
+    Some(tags_from_script_and_language(
+        Some(script::MALAYALAM),
+        Some(language),
+        &table,
+        &NoComplexLanguages,
+    ))
 }
 
 /// Whether these are the tags of these letters.

@@ -22,11 +22,29 @@ pub fn same_buffers(a: &hb_buffer_t, b: &hb_buffer_t) -> bool {
 }
 
 fn same_places(a: &hb_buffer_t, b: &hb_buffer_t) -> bool {
-    (a.idx(), a.len(), a.out_len()) == (b.idx(), b.len(), b.out_len())
-        && (a.max_len(), a.room(), a.successful()) == (b.max_len(), b.room(), b.successful())
-        && a.have_output() == b.have_output()
-        && a.have_separate_output() == b.have_separate_output()
-        && (a.backtrack_len(), a.lookahead_len()) == (b.backtrack_len(), b.lookahead_len())
+    lengths_of(a) == lengths_of(b) && sides_of(a) == sides_of(b)
+}
+
+/// How many glyphs there are, or may be, on each side of a place.
+fn lengths_of(buffer: &hb_buffer_t) -> [usize; 7] {
+    [
+        buffer.idx(),
+        buffer.len(),
+        buffer.out_len(),
+        buffer.max_len(),
+        buffer.room(),
+        buffer.backtrack_len(),
+        buffer.lookahead_len(),
+    ]
+}
+
+/// Whether all calls were done, an output is open, and it has storage of its own.
+fn sides_of(buffer: &hb_buffer_t) -> [bool; 3] {
+    [
+        buffer.successful(),
+        buffer.have_output(),
+        buffer.have_separate_output(),
+    ]
 }
 
 fn same_positions(a: &hb_buffer_t, b: &hb_buffer_t) -> bool {

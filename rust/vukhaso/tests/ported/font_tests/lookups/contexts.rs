@@ -2,7 +2,8 @@
 
 //! Which rule of a chained context is taken at a glyph.
 
-use crate::font_tests::lookups::{JOINER, NON_JOINER, OPTIONS, bytes_of, fill, list_of};
+use crate::font_tests::bytes::bytes_of;
+use crate::font_tests::lookups::{JOINER, NON_JOINER, OPTIONS, fill, list_of};
 use vukhaso::internals::glyph::hb_glyph_info_t;
 use vukhaso::internals::ot_layout::context::fitting_rule;
 use vukhaso::internals::ot_layout::{ApplyContext, Budget, LookupList, Search, SkippingIterator};
@@ -50,84 +51,155 @@ fn rule_at(list: &LookupList, ids: &[u32]) -> Option<u16> {
     Some(fit.record(0)?.lookup)
 }
 
-/// Glyphs, and the rule that is taken at the first of them, of four rules and of five.
+/// A table, glyphs, and the rule that is taken at the first of them.
 struct Row {
     name: &'static str,
+    table: &'static [u16],
     glyphs: &'static [u32],
-    of_four: Option<u16>,
-    of_five: Option<u16>,
+    rule: Option<u16>,
 }
 
-static ROWS: [Row; 8] = [
+static ROWS: [Row; 21] = [
     Row {
-        name: "the first rule that fits",
+        name: "the first rule that fits, of four",
+        table: FOUR_RULES,
         glyphs: &[10, 11],
-        of_four: Some(1),
-        of_five: Some(1),
+        rule: Some(1),
     },
     Row {
-        name: "a later one",
+        name: "the first rule that fits, of five",
+        table: FIVE_RULES,
+        glyphs: &[10, 11],
+        rule: Some(1),
+    },
+    Row {
+        name: "a later one, of four",
+        table: FOUR_RULES,
         glyphs: &[10, 12],
-        of_four: Some(2),
-        of_five: Some(2),
+        rule: Some(2),
     },
     Row {
-        name: "one with a second glyph",
+        name: "a later one, of five",
+        table: FIVE_RULES,
+        glyphs: &[10, 12],
+        rule: Some(2),
+    },
+    Row {
+        name: "one with a second glyph, of four",
+        table: FOUR_RULES,
         glyphs: &[10, 13],
-        of_four: Some(3),
-        of_five: Some(3),
+        rule: Some(3),
     },
     Row {
-        name: "the fifth",
+        name: "one with a second glyph, of five",
+        table: FIVE_RULES,
+        glyphs: &[10, 13],
+        rule: Some(3),
+    },
+    Row {
+        name: "the fifth, of four",
+        table: FOUR_RULES,
         glyphs: &[10, 14],
-        of_four: None,
-        of_five: Some(5),
+        rule: None,
     },
     Row {
-        name: "none",
+        name: "the fifth, of five",
+        table: FIVE_RULES,
+        glyphs: &[10, 14],
+        rule: Some(5),
+    },
+    Row {
+        name: "none, of four",
+        table: FOUR_RULES,
         glyphs: &[10, 15, 11],
-        of_four: None,
-        of_five: None,
+        rule: None,
     },
     Row {
-        name: "nothing stands behind the glyph",
+        name: "none, of five",
+        table: FIVE_RULES,
+        glyphs: &[10, 15, 11],
+        rule: None,
+    },
+    Row {
+        name: "nothing stands behind the glyph, of four",
+        table: FOUR_RULES,
         glyphs: &[10],
-        of_four: None,
-        of_five: None,
+        rule: None,
     },
     Row {
-        name: "a joiner is passed over",
+        name: "nothing stands behind the glyph, of five",
+        table: FIVE_RULES,
+        glyphs: &[10],
+        rule: None,
+    },
+    Row {
+        name: "a joiner is passed over, of four",
+        table: FOUR_RULES,
         glyphs: &[10, JOINER, 12],
-        of_four: Some(2),
-        of_five: Some(2),
+        rule: Some(2),
     },
     Row {
-        name: "a non-joiner ends the look ahead in a large set",
+        name: "a joiner is passed over, of five",
+        table: FIVE_RULES,
+        glyphs: &[10, JOINER, 12],
+        rule: Some(2),
+    },
+    Row {
+        name: "a non-joiner ends the look ahead in a large set, of four",
+        table: FOUR_RULES,
         glyphs: &[10, NON_JOINER, 12],
-        of_four: Some(2),
-        of_five: None,
+        rule: Some(2),
+    },
+    Row {
+        name: "a non-joiner ends the look ahead in a large set, of five",
+        table: FIVE_RULES,
+        glyphs: &[10, NON_JOINER, 12],
+        rule: None,
+    },
+    Row {
+        name: "the first class",
+        table: CLASSES,
+        glyphs: &[10, 12],
+        rule: Some(1),
+    },
+    Row {
+        name: "a later class",
+        table: CLASSES,
+        glyphs: &[10, 11],
+        rule: Some(2),
+    },
+    Row {
+        name: "another glyph of that class",
+        table: CLASSES,
+        glyphs: &[10, 13],
+        rule: Some(2),
+    },
+    Row {
+        name: "a glyph of no class",
+        table: CLASSES,
+        glyphs: &[10, 14],
+        rule: None,
+    },
+    Row {
+        name: "no glyph behind it",
+        table: CLASSES,
+        glyphs: &[10],
+        rule: None,
     },
 ];
 
-#[test]
-fn the_first_rule_that_fits_is_taken() -> Result<(), AllocError> {
-    let four = bytes_of(FOUR_RULES)?;
-    let of_four = list_of(&four)?;
-    let five = bytes_of(FIVE_RULES)?;
-    let of_five = list_of(&five)?;
-    for row in &ROWS {
-        assert!(rule_at(&of_four, row.glyphs) == row.of_four, "{}", row.name);
-        assert!(rule_at(&of_five, row.glyphs) == row.of_five, "{}", row.name);
-    }
-    Ok(())
+/// The rule of a table that is taken at the first glyph.
+fn rule_in(words: &[u16], glyphs: &[u32]) -> Result<Option<u16>, AllocError> {
+    let table = bytes_of(words)?;
+    let list = list_of(&table)?;
+    Ok(rule_at(&list, glyphs))
 }
 
 #[test]
-fn rules_ask_for_classes() -> Result<(), AllocError> {
-    let table = bytes_of(CLASSES)?;
-    let list = list_of(&table)?;
-    assert!(rule_at(&list, &[10, 12]) == Some(1));
-    assert!(rule_at(&list, &[10, 11]) == Some(2) && rule_at(&list, &[10, 13]) == Some(2));
-    assert!(rule_at(&list, &[10, 14]).is_none() && rule_at(&list, &[10]).is_none());
+fn the_first_rule_that_fits_is_taken() -> Result<(), AllocError> {
+    for row in &ROWS {
+        let found = rule_in(row.table, row.glyphs)?;
+        assert!(found == row.rule, "{}", row.name);
+    }
     Ok(())
 }

@@ -2,7 +2,8 @@
 
 //! What a lookup of ligatures does, and for which glyphs it has a rule.
 
-use crate::font_tests::lookups::{JOINER, OPTIONS, bytes_of, fill, list_of};
+use crate::font_tests::bytes::bytes_of;
+use crate::font_tests::lookups::{JOINER, OPTIONS, fill, list_of};
 use vukhaso::internals::glyph::hb_glyph_info_t;
 use vukhaso::internals::ot_layout::substitution::{Edit, edit_at};
 use vukhaso::internals::ot_layout::subtable::{Form, positioning_form, substitution_form};
@@ -42,91 +43,152 @@ fn ligature_at(list: &LookupList, ids: &[u32]) -> Option<(u16, usize)> {
     }
 }
 
-/// Glyphs, and the ligature at the first of them by each of the two tables.
+/// A table, glyphs, and the ligature at the first of them.
 struct Row {
     name: &'static str,
+    table: &'static [u16],
     glyphs: &'static [u32],
     ligature: Option<(u16, usize)>,
-    with_single: Option<(u16, usize)>,
 }
 
-static ROWS: [Row; 6] = [
+static ROWS: [Row; 12] = [
     Row {
         name: "the first ligature",
+        table: LIGATURES,
         glyphs: &[10, 11, 12],
         ligature: Some((20, 3)),
-        with_single: Some((20, 3)),
+    },
+    Row {
+        name: "the first ligature, beside a single one",
+        table: WITH_SINGLE,
+        glyphs: &[10, 11, 12],
+        ligature: Some((20, 3)),
     },
     Row {
         name: "a later one",
+        table: LIGATURES,
         glyphs: &[10, 13],
         ligature: Some((21, 2)),
-        with_single: Some((21, 1)),
+    },
+    Row {
+        name: "a later one, beside a single one",
+        table: WITH_SINGLE,
+        glyphs: &[10, 13],
+        ligature: Some((21, 1)),
     },
     Row {
         name: "a joiner is passed over",
+        table: LIGATURES,
         glyphs: &[10, JOINER, 11, 12],
         ligature: Some((20, 4)),
-        with_single: Some((20, 4)),
+    },
+    Row {
+        name: "a joiner is passed over, beside a single one",
+        table: WITH_SINGLE,
+        glyphs: &[10, JOINER, 11, 12],
+        ligature: Some((20, 4)),
     },
     Row {
         name: "the next glyph is the second one of no ligature",
+        table: LIGATURES,
         glyphs: &[10, 14, 12],
         ligature: None,
-        with_single: Some((21, 1)),
+    },
+    Row {
+        name: "the next glyph is the second one of no ligature, beside a single one",
+        table: WITH_SINGLE,
+        glyphs: &[10, 14, 12],
+        ligature: Some((21, 1)),
     },
     Row {
         name: "the last component is missing",
+        table: LIGATURES,
         glyphs: &[10, 11],
         ligature: None,
-        with_single: Some((21, 1)),
+    },
+    Row {
+        name: "the last component is missing, beside a single one",
+        table: WITH_SINGLE,
+        glyphs: &[10, 11],
+        ligature: Some((21, 1)),
     },
     Row {
         name: "a glyph that is not covered",
+        table: LIGATURES,
         glyphs: &[11, 12],
         ligature: None,
-        with_single: None,
+    },
+    Row {
+        name: "a glyph that is not covered, beside a single one",
+        table: WITH_SINGLE,
+        glyphs: &[11, 12],
+        ligature: None,
     },
 ];
 
+/// The ligature at the first of these glyphs by the first lookup of a table.
+fn ligature_in(words: &[u16], glyphs: &[u32]) -> Result<Option<(u16, usize)>, AllocError> {
+    let table = bytes_of(words)?;
+    let list = list_of(&table)?;
+    Ok(ligature_at(&list, glyphs))
+}
+
 #[test]
 fn the_first_ligature_that_fits_is_taken() -> Result<(), AllocError> {
-    let table = bytes_of(LIGATURES)?;
-    let list = list_of(&table)?;
-    let other = bytes_of(WITH_SINGLE)?;
-    let with_single = list_of(&other)?;
     for row in &ROWS {
-        assert!(
-            ligature_at(&list, row.glyphs) == row.ligature,
-            "{}",
-            row.name
-        );
-        assert!(
-            ligature_at(&with_single, row.glyphs) == row.with_single,
-            "{}",
-            row.name
-        );
+        let found = ligature_in(row.table, row.glyphs)?;
+        assert!(found == row.ligature, "{}", row.name);
     }
     Ok(())
 }
 
-/// Whether the first lookup has a rule for just these glyphs.
-fn would(list: &LookupList, glyphs: &[u32]) -> bool {
+/// Whether the first lookup of the ligatures has a rule for just these glyphs.
+fn would(glyphs: &[u32]) -> Result<bool, AllocError> {
+    let table = bytes_of(LIGATURES)?;
+    let list = list_of(&table)?;
     let mut budget = Budget::new(1000, glyphs.len());
     match list.lookup(0) {
-        Some(lookup) => would_substitute(&*list, lookup, glyphs, false, &mut budget),
-        None => false,
+        Some(lookup) => Ok(would_substitute(&list, lookup, glyphs, false, &mut budget)),
+        None => Ok(false),
     }
 }
+
+/// Glyphs, and whether the table of ligatures has a rule for just these.
+static RULES: [(&[u32], bool); 7] = [
+    (&[10, 11, 12], true),
+    (&[10, 13], true),
+    (&[10, 11], false),
+    (&[10, 11, 12, 12], false),
+    (&[10], false),
+    (&[11, 12], false),
+    (&[], false),
+];
 
 #[test]
 fn rules_are_for_all_of_their_glyphs() -> Result<(), AllocError> {
-    let table = bytes_of(LIGATURES)?;
-    let list = list_of(&table)?;
-    assert!(would(&list, &[10, 11, 12]) && would(&list, &[10, 13]));
-    assert!(!would(&list, &[10, 11]) && !would(&list, &[10, 11, 12, 12]));
-    assert!(!would(&list, &[10]) && !would(&list, &[11, 12]) && !would(&list, &[]));
+    for (number, (glyphs, is_there)) in RULES.iter().enumerate() {
+        assert!(would(glyphs)? == *is_there, "{number}");
+    }
     Ok(())
+}
+
+/// Whether a lookup may do something to a text.
+fn may_apply(list: &LookupList, lookup: u16, glyphs: &[u32]) -> bool {
+    let mut text = Digest::new();
+    for glyph in glyphs {
+        text.add(*glyph);
+    }
+    list.may_apply(lookup, &text)
+}
+
+/// The first of four glyphs from a place on that the first lookup is for.
+fn place_from(list: &LookupList, mask: u32, start: usize) -> Option<usize> {
+    let mut glyphs = [hb_glyph_info_t::default(); 4];
+    fill(&mut glyphs, &[14, 10, 11, 10]);
+    if start > glyphs.len() {
+        return None;
+    }
+    Some(list.lookup(0)?.first_place(mask, &glyphs, start))
 }
 
 /// A lookup is for the glyphs that it covers, in a feature's bits.
@@ -135,20 +197,19 @@ fn lookups_are_for_glyphs() -> Result<(), AllocError> {
     let table = bytes_of(LIGATURES)?;
     let list = list_of(&table)?;
     assert!(!list.is_positioning() && list.lookup(1).is_none());
-    let mut text = Digest::new();
-    text.add(14);
-    assert!(!list.may_apply(0, &text));
-    text.add(10);
-    assert!(list.may_apply(0, &text) && !list.may_apply(1, &text));
-    let Some(lookup) = list.lookup(0) else {
-        assert!(false);
-        return Ok(());
-    };
-    let mut glyphs = [hb_glyph_info_t::default(); 4];
-    fill(&mut glyphs, &[14, 10, 11, 10]);
-    assert!(lookup.first_place(8, &glyphs, 0) == 1);
-    assert!(lookup.first_place(8, &glyphs, 2) == 3);
-    assert!(lookup.first_place(4, &glyphs, 0) == 4);
+    for (lookup, glyphs, may) in [
+        (0, [14, 14], false),
+        (0, [14, 10], true),
+        (1, [14, 10], false),
+    ] {
+        assert!(may_apply(&list, lookup, &glyphs) == may, "{lookup}");
+    }
+    for (mask, start, place) in [(8, 0, 1), (8, 2, 3), (4, 0, 4)] {
+        assert!(
+            place_from(&list, mask, start) == Some(place),
+            "{mask} {start}"
+        );
+    }
     Ok(())
 }
 

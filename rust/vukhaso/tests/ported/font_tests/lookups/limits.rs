@@ -2,7 +2,8 @@
 
 //! Tables with as many subtables as HarfBuzz reads, and with more.
 
-use crate::font_tests::lookups::{bytes_of, list_of};
+use crate::font_tests::bytes::bytes_of;
+use crate::font_tests::lookups::list_of;
 use vukhaso::internals::ot_layout::subtable_limit::is_refused;
 use vukhaso::memory::{AllocError, Vec};
 

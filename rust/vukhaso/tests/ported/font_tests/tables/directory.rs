@@ -1,6 +1,5 @@
 // Written by tools/plain_rust from crates/font_tests. Do not edit.
 
-use crate::Fail;
 use vukhaso::internals::common::Tag;
 use vukhaso::internals::font_tables::directory::{Tables, face_count};
 
@@ -15,13 +14,16 @@ const FONT: &[u8] = &[
 /// Tags, and the bytes of their tables.
 static TABLES: [(&[u8; 4], &[u8]); 3] = [(b"abcd", &[1, 2, 3]), (b"efgh", &[4, 5]), (b"ijkl", &[])];
 
+/// The table of a font of a file.
+fn table_of(file: &'static [u8], font: u32, tag: &[u8; 4]) -> Option<&'static [u8]> {
+    Some(Tables::new(file, font)?.table(Tag::from_bytes(tag)))
+}
+
 #[test]
-fn a_table_has_the_bytes_that_its_record_says() -> Result<(), Fail> {
-    let tables = Tables::new(FONT, 7).ok_or("a font")?;
+fn a_table_has_the_bytes_that_its_record_says() {
     for &(tag, bytes) in &TABLES {
-        assert!(tables.table(Tag::from_bytes(tag)) == bytes, "{bytes:?}");
+        assert!(table_of(FONT, 7, tag) == Some(bytes), "{bytes:?}");
     }
-    Ok(())
 }
 
 /// A collection of two fonts: the first lies nowhere, the second at 20, with one table, `abcd`, of the two bytes behind it.
@@ -33,11 +35,10 @@ const COLLECTION: &[u8] = &[
 ];
 
 #[test]
-fn a_collection_has_fonts_by_index() -> Result<(), Fail> {
-    let tables = Tables::new(COLLECTION, 1).ok_or("the second font")?;
-    assert!(tables.table(Tag::from_bytes(b"abcd")) == [8, 9].as_slice());
-    assert!(Tables::new(COLLECTION, 0).is_none() && Tables::new(COLLECTION, 2).is_none());
-    Ok(())
+fn a_collection_has_fonts_by_index() {
+    assert!(table_of(COLLECTION, 1, b"abcd") == Some([8, 9].as_slice()));
+    assert!(table_of(COLLECTION, 0, b"abcd") == None);
+    assert!(table_of(COLLECTION, 2, b"abcd") == None);
 }
 
 /// The heads of files, and how many fonts they have.

@@ -20,15 +20,23 @@ static ADVANCES: [(usize, u16, u16, Option<i16>); 8] = [
     (0, 3, 512, None),
 ];
 
+/// The advance of a glyph and its side bearing in the first bytes of the table, and whether it has an
+/// advance there.
+fn measures_of(size: usize, glyph: GlyphId) -> (u16, Option<i16>, bool) {
+    let metrics = Metrics::new(part(&HMTX, 0, size), 2, 4, 512);
+    (
+        metrics.advance(glyph),
+        metrics.side_bearing(glyph),
+        metrics.has_advance(glyph),
+    )
+}
+
 #[test]
 fn the_last_advance_goes_on() {
     for &(size, number, advance, bearing) in &ADVANCES {
-        let metrics = Metrics::new(part(&HMTX, 0, size), 2, 4, 512);
-        let glyph = GlyphId(number);
-        assert!(metrics.advance(glyph) == advance, "{number} in {size}");
-        assert!(metrics.side_bearing(glyph) == bearing, "{number} in {size}");
+        let found = measures_of(size, GlyphId(number));
         assert!(
-            metrics.has_advance(glyph) == bearing.is_some(),
+            found == (advance, bearing, bearing.is_some()),
             "{number} in {size}"
         );
     }

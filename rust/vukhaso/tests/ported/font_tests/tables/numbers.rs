@@ -42,12 +42,21 @@ fn a_number_past_32_bits_is_the_nearest() {
     assert!(numbers == (i32::MAX, i32::MIN, -7));
 }
 
+/// The tables that offsets of 16 and of 32 bits lead to.
+fn tables_at(table: &[u8], at: usize) -> [Option<&[u8]>; 2] {
+    [table_at_16(table, at), table_at_32(table, at)]
+}
+
 #[test]
 fn an_offset_of_0_leads_nowhere() {
-    assert!(table_at_16(&TABLE, 6) == None);
-    assert!(table_at_16(&[0, 3, 7, 8], 0) == Some([8].as_slice()));
-    assert!(table_at_32(&[0, 0, 0, 4, 9], 0) == Some([9].as_slice()));
-    assert!(table_at_32(&TABLE, 4) == Some([].as_slice()));
+    assert!(tables_at(&TABLE, 6) == [None, None]);
+    assert!(tables_at(&[0, 3, 7, 8], 0)[0] == Some([8].as_slice()));
+    assert!(tables_at(&[0, 0, 0, 4, 9], 0) == [None, Some([9].as_slice())]);
+    assert!(tables_at(&TABLE, 4)[1] == Some([].as_slice()));
+}
+
+#[test]
+fn parts_end_with_their_table() {
     assert!((tail(&TABLE, 6), part(&TABLE, 5, 9)) == ([0, 0].as_slice(), [0xFE, 0, 0].as_slice()));
 }
 
@@ -60,21 +69,46 @@ static REACHED: [(u32, Option<usize>); 5] = [
     (10, None),
 ];
 
+/// The rows of a table.
+const ROWS: Keys16<'static> = Keys16 {
+    table: &[0, 2, 0, 4, 0, 4, 0, 9],
+    start: 0,
+    size: 2,
+};
+
+/// The same numbers in a list.
+fn numbers() -> Numbers16<'static> {
+    Numbers16(Chunks::from(&[[0, 2], [0, 4], [0, 4], [0, 9]]))
+}
+
+/// The first row that reaches a key, of rows that are known to rise, of rows that are not, and of
+/// numbers.
+fn reached(key: u32) -> [Option<usize>; 3] {
+    let numbers = numbers();
+    [
+        first_row(&ROWS, 4, key, rises(&ROWS, 4)),
+        first_row(&ROWS, 4, key, false),
+        first_row(&numbers, 4, key, rises(&numbers, 4)),
+    ]
+}
+
 #[test]
 fn the_first_row_reaches_a_key() {
-    let rows = Keys16 {
-        table: &[0, 2, 0, 4, 0, 4, 0, 9],
-        start: 0,
-        size: 2,
-    };
-    let numbers = Numbers16(Chunks::from(&[[0, 2], [0, 4], [0, 4], [0, 9]]));
-    let (are_rising, do_rise) = (rises(&rows, 4), rises(&numbers, 4));
-    assert!(are_rising && do_rise && numbers.last(3) == Some(9) && numbers.last(4).is_none());
     for &(key, row) in &REACHED {
-        assert!(first_row(&rows, 4, key, are_rising) == row, "{key}");
-        assert!(first_row(&rows, 4, key, false) == row, "{key}");
-        assert!(first_row(&numbers, 4, key, do_rise) == row, "{key}");
+        assert!(reached(key) == [row, row, row], "{key}");
     }
+}
+
+/// Whether rows and numbers rise, and the last key of two rows.
+fn rows_told() -> (bool, bool, [Option<u32>; 2]) {
+    let numbers = numbers();
+    let lasts = [numbers.last(3), numbers.last(4)];
+    (rises(&ROWS, 4), rises(&numbers, 4), lasts)
+}
+
+#[test]
+fn rows_rise() {
+    assert!(rows_told() == (true, true, [Some(9), None]));
     assert!(rows_within(&TABLE, 2, 4, 9) == 1);
 }
 
@@ -88,16 +122,32 @@ static FOUND: [(u32, Option<usize>); 6] = [
     (10, None),
 ];
 
+/// Rows of which the last one does not rise.
+const UNSORTED: Keys16<'static> = Keys16 {
+    table: &[0, 2, 0, 4, 0, 4, 0, 9, 0, 6],
+    start: 0,
+    size: 2,
+};
+
+/// The row of a key.
+fn found(key: u32) -> Option<usize> {
+    row_with(&UNSORTED, 5, key)
+}
+
 #[test]
 fn bisection_finds_the_row_of_a_key() {
-    let rows = Keys16 {
-        table: &[0, 2, 0, 4, 0, 4, 0, 9, 0, 6],
-        start: 0,
-        size: 2,
-    };
     for &(key, row) in &FOUND {
-        assert!(row_with(&rows, 5, key) == row, "{key}");
+        assert!(found(key) == row, "{key}");
     }
-    assert!(rows.beside(3, 1) == Some(Ordering::Less) && rows.beside(3, 5).is_none());
+}
+
+/// On which side of a row a key lies.
+fn side_of(key: u32, row: usize) -> Option<Ordering> {
+    UNSORTED.beside(key, row)
+}
+
+#[test]
+fn keys_lie_beside_rows() {
+    assert!(side_of(3, 1) == Some(Ordering::Less) && side_of(3, 5).is_none());
     assert!(beside_key(Some(3), 4) == Some(Ordering::Greater) && beside_key(None, 4).is_none());
 }

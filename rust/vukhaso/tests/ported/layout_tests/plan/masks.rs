@@ -2,49 +2,78 @@
 
 //! The bits of features, and what is asked of one tag.
 
-use crate::Fail;
 use vukhaso::internals::common::Tag;
 use vukhaso::internals::ot_map::bits::{FeatureBits, bits_needed};
 use vukhaso::internals::ot_map::{FeatureFlags, FeatureRequest};
 
-/// The mask of bits, and values in them.
-#[test]
-fn values_stand_in_their_bits() -> Result<(), Fail> {
-    let bits = FeatureBits { shift: 4, count: 3 };
-    assert_eq!(bits.mask(), 0x70);
-    assert_eq!(bits.of_value(5), 0x50);
-    assert_eq!(bits.of_value(9), 0x10);
-    assert_eq!(FeatureBits::global().mask(), 0x8000_0000);
-    assert_eq!(FeatureBits::global().of_value(1), 0x8000_0000);
-    Ok(())
+/// The mask of bits, and two values in them.
+fn masks_of(bits: FeatureBits, values: [u32; 2]) -> [u32; 3] {
+    [
+        bits.mask(),
+        bits.of_value(values[0]),
+        bits.of_value(values[1]),
+    ]
 }
 
-/// How many bits values need: eight at most.
 #[test]
-fn values_need_bits() -> Result<(), Fail> {
-    assert_eq!(bits_needed(0), 0);
-    assert_eq!(bits_needed(1), 1);
-    assert_eq!(bits_needed(5), 3);
-    assert_eq!(bits_needed(255), 8);
-    assert_eq!(bits_needed(100_000), 8);
-    Ok(())
+fn values_stand_in_their_bits() {
+    let bits = FeatureBits { shift: 4, count: 3 };
+    assert!(masks_of(bits, [5, 9]) == [0x70, 0x50, 0x10]);
+    let global = [0x8000_0000, 0x8000_0000, 0];
+    assert!(masks_of(FeatureBits::global(), [1, 0]) == global);
+}
+
+/// How many bits a value needs.
+fn needed(value: u32) -> u32 {
+    bits_needed(value)
+}
+
+/// Eight bits are the most.
+#[test]
+fn values_need_bits() {
+    for (value, bits) in [(0, 0), (1, 1), (5, 3), (255, 8), (100_000, 8)] {
+        assert!(needed(value) == bits, "{value}");
+    }
+}
+
+/// A request of `kern` in a stage.
+fn kerning(flags: FeatureFlags, value: u32, stage: usize) -> FeatureRequest {
+    FeatureRequest::new(Tag::from_bytes(b"kern"), flags, value, stage)
+}
+
+/// What two requests ask for together.
+fn merged(before: FeatureRequest, later: &FeatureRequest) -> FeatureRequest {
+    let mut request = before;
+    request.merge(later);
+    request
+}
+
+/// Whether all glyphs have a feature, its greatest value and its default one, and its stage.
+fn asked(request: &FeatureRequest) -> (bool, u32, u32, usize) {
+    (
+        request.flags.is_global,
+        request.max_value,
+        request.default_value,
+        request.stage,
+    )
 }
 
 /// A later request of a part of the text leaves the default, and one of all glyphs does not.
 #[test]
-fn requests_of_a_tag_are_merged() -> Result<(), Fail> {
-    let kern = Tag::from_bytes(b"kern");
-    let mut request = FeatureRequest::new(kern, FeatureFlags::GLOBAL, 1, 2);
-    assert!(!request.is_found());
-    request.merge(&FeatureRequest::new(kern, FeatureFlags::NONE, 3, 1));
-    assert!(!request.flags.is_global);
-    assert_eq!(request.max_value, 3);
-    assert_eq!(request.default_value, 1);
-    assert_eq!(request.stage, 1);
-    request.merge(&FeatureRequest::new(kern, FeatureFlags::GLOBAL, 0, 4));
-    assert!(request.flags.is_global);
-    assert_eq!(request.max_value, 0);
-    assert_eq!(request.default_value, 0);
-    assert_eq!(request.stage, 1);
-    Ok(())
+fn requests_of_a_tag_are_merged() {
+    let first = kerning(FeatureFlags::GLOBAL, 1, 2);
+    let of_part = merged(first, &kerning(FeatureFlags::NONE, 3, 1));
+    assert!(asked(&of_part) == (false, 3, 1, 1));
+    let of_all = merged(of_part, &kerning(FeatureFlags::GLOBAL, 0, 4));
+    assert!(asked(&of_all) == (true, 0, 0, 1));
+}
+
+/// Whether a request that was not looked for is found.
+fn is_found() -> bool {
+    kerning(FeatureFlags::GLOBAL, 1, 2).is_found()
+}
+
+#[test]
+fn features_are_looked_for() {
+    assert!(!is_found());
 }

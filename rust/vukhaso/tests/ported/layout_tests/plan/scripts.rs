@@ -2,80 +2,100 @@
 
 //! Which script and which language system is chosen.
 
-use crate::Fail;
 use crate::layout_tests::plan::TABLE;
 use vukhaso::internals::common::Tag;
 use vukhaso::internals::ot_map::LayoutTable;
 use vukhaso::internals::ot_map::builder::ChosenTable;
 use vukhaso::internals::ot_map::choice::{
-    feature_count, required_feature, select_language, select_script,
+    ChosenScript, feature_count, required_feature, select_language, select_script,
 };
 
-/// The lists of the table.
+/// The lists of a table.
+fn lists_of(table: &[u8]) -> LayoutTable<'_> {
+    LayoutTable::new(table)
+}
+
+/// The tag of a feature of the list.
+fn tag_of(feature: u16) -> Option<Tag> {
+    lists_of(TABLE).feature_tag(feature)
+}
+
+/// The first feature with a tag.
+fn first_with(tag: &[u8; 4]) -> Option<u16> {
+    lists_of(TABLE).first_feature(Tag::from_bytes(tag))
+}
+
+/// The table of a feature of the list.
+fn feature_table(feature: u16) -> &'static [u8] {
+    lists_of(TABLE).feature_table(feature)
+}
+
 #[test]
-fn lists_are_found() -> Result<(), Fail> {
-    let table = LayoutTable::new(TABLE);
-    assert_eq!(table.lookup_count, 3);
-    assert_eq!(table.feature_tag(0), Some(Tag::from_bytes(b"liga")));
-    assert_eq!(table.feature_tag(3), Some(Tag::from_bytes(b"smcp")));
-    assert_eq!(table.feature_tag(4), None);
-    assert_eq!(table.first_feature(Tag::from_bytes(b"frac")), Some(2));
-    assert_eq!(table.first_feature(Tag::from_bytes(b"kern")), None);
-    assert_eq!(table.feature_table(2), &TABLE[108..]);
-    assert!(table.feature_table(4).is_empty());
-    Ok(())
+fn features_are_listed() {
+    assert!(tag_of(0) == Some(Tag::from_bytes(b"liga")));
+    assert!(tag_of(3) == Some(Tag::from_bytes(b"smcp")));
+    assert!(tag_of(4) == None);
+    assert!(first_with(b"frac") == Some(2) && first_with(b"kern") == None);
+    assert!(feature_table(2) == &TABLE[108..] && feature_table(4).is_empty());
+}
+
+/// Whether a table has lists of scripts and of features, and how many lookups it has.
+fn summary_of(table: &[u8]) -> (bool, bool, u16) {
+    let lists = lists_of(table);
+    let has_scripts = !lists.scripts.is_empty();
+    (has_scripts, !lists.features.is_empty(), lists.lookup_count)
 }
 
 /// A table of another version has nothing.
 #[test]
-fn other_versions_have_nothing() -> Result<(), Fail> {
-    let table = LayoutTable::new(&[0, 2, 0, 0, 0, 10]);
-    assert!(table.scripts.is_empty());
-    assert!(table.features.is_empty());
-    assert_eq!(table.lookup_count, 0);
-    Ok(())
+fn other_versions_have_nothing() {
+    assert!(summary_of(TABLE) == (true, true, 3));
+    assert!(summary_of(&[0, 2, 0, 0, 0, 10]) == (false, false, 0));
+}
+
+/// The script that is chosen of a table.
+fn chosen<'a>(table: &'a [u8], scripts: &[Tag]) -> ChosenScript<'a> {
+    select_script(lists_of(table).scripts, scripts)
+}
+
+/// Its tag, and whether it is one of those that were asked for.
+fn choice(table: &[u8], scripts: &[Tag]) -> (Tag, bool) {
+    let script = chosen(table, scripts);
+    (script.tag, script.is_found)
 }
 
 /// The first of a text's scripts that the table has, or else its default one.
 #[test]
-fn scripts_are_chosen() -> Result<(), Fail> {
-    let scripts = LayoutTable::new(TABLE).scripts;
-    let latin = Tag::from_bytes(b"latn");
-    let own = select_script(scripts, &[Tag::from_bytes(b"cyrl"), latin]);
-    assert_eq!(own.tag, latin);
-    assert!(own.is_found);
-    let default = select_script(scripts, &[Tag::from_bytes(b"cyrl")]);
-    assert_eq!(default.tag, Tag::from_bytes(b"DFLT"));
-    assert!(!default.is_found);
-    let none = select_script(&[], &[latin]);
-    assert!(none.tag.is_null());
-    assert!(none.table.is_empty());
-    Ok(())
+fn scripts_are_chosen() {
+    let (latin, cyrillic) = (Tag::from_bytes(b"latn"), Tag::from_bytes(b"cyrl"));
+    assert!(choice(TABLE, &[cyrillic, latin]) == (latin, true));
+    assert!(choice(TABLE, &[cyrillic]) == (Tag::from_bytes(b"DFLT"), false));
+    let none = chosen(&[], &[latin]);
+    assert!(none.tag.is_null() && none.table.is_empty());
+}
+
+/// The required feature of a script's language system, and how many others it has.
+fn system_of(script: &[u8], language: &[u8; 4]) -> (Option<u16>, usize) {
+    let system = select_language(script, &[Tag::from_bytes(language)]);
+    (required_feature(system), feature_count(system))
 }
 
 /// The language system of a language, or else the default one.
 #[test]
-fn languages_are_chosen() -> Result<(), Fail> {
-    let scripts = LayoutTable::new(TABLE).scripts;
-    let latin = select_script(scripts, &[Tag::from_bytes(b"latn")]).table;
-    let turkish = select_language(latin, &[Tag::from_bytes(b"TRK ")]);
-    assert_eq!(required_feature(turkish), Some(1));
-    assert_eq!(feature_count(turkish), 1);
-    let default = select_language(latin, &[Tag::from_bytes(b"ROM ")]);
-    assert_eq!(required_feature(default), None);
-    assert_eq!(feature_count(default), 4);
-    assert_eq!(feature_count(select_language(&[], &[])), 0);
-    Ok(())
+fn languages_are_chosen() {
+    let latin = chosen(TABLE, &[Tag::from_bytes(b"latn")]).table;
+    assert!(system_of(latin, b"TRK ") == (Some(1), 1));
+    assert!(system_of(latin, b"ROM ") == (None, 4));
+    assert!(system_of(&[], b"ROM ") == (None, 0));
 }
 
-/// Which features the chosen language system has.
+/// Whether the chosen language system of a script has a feature.
+fn has_feature(script: &[u8; 4], feature: &[u8; 4]) -> bool {
+    ChosenTable::new(TABLE, &[Tag::from_bytes(script)], &[]).has_feature(Tag::from_bytes(feature))
+}
+
 #[test]
-fn features_are_of_the_language_system() -> Result<(), Fail> {
-    let small_capitals = Tag::from_bytes(b"smcp");
-    let latin = ChosenTable::new(TABLE, &[Tag::from_bytes(b"latn")], &[]);
-    assert!(latin.has_feature(small_capitals));
-    let greek = ChosenTable::new(TABLE, &[Tag::from_bytes(b"grek")], &[]);
-    assert!(!greek.has_feature(small_capitals));
-    assert!(greek.has_feature(Tag::from_bytes(b"liga")));
-    Ok(())
+fn features_are_of_the_language_system() {
+    assert!(has_feature(b"latn", b"smcp"));
+    assert!(!has_feature(b"grek", b"smcp") && has_feature(b"grek", b"liga"));
 }
