@@ -11,9 +11,9 @@ use Rattle.font_tables.specs.Coverage.{listed_glyph, listed_count, listed_index}
 use Rattle.ot_layout.proofs.DigestLemmas.{list_row}
 
 -- the number of a row that is read
-pub read_row : (chunks : List (List ℕ)) (at : ℕ) (d : List ℕ) → at < length chunks
+pub option_and_then-read : (chunks : List (List ℕ)) (at : ℕ) (d : List ℕ) → at < length chunks
     → option_and_then (λ chunk. number_16 chunk 0) (slice_get chunks at) ≡ number_16 (get_or chunks at d) 0
-read_row chunks at d inside = rw (slice_get-get_or chunks at d inside) refl
+option_and_then-read chunks at d inside = rw (slice_get-get_or chunks at d inside) refl
 
 early_found : (table : List ℕ) (glyph index value : ℕ) (found : Option ℕ) (set : ℕ → Type 0)
     → listed_glyph table index ≡ Some value → 256 ≤ value → glyph < 256

@@ -4,7 +4,7 @@ use Rattle.std.proofs.lemmas.Grind.{common_steps}
 use Rattle.font_tables.proofs.ChunkLemmas.{length-cut, rows_cut_16}
 use Rattle.ot_layout.specs.FirstGlyphs.{may_have_first}
 use Rattle.ot_layout.proofs.DigestLemmas.{list_has, number_16-read}
-use Rattle.ot_layout.proofs.EarlyLemmas.{early, read_row}
+use Rattle.ot_layout.proofs.EarlyLemmas.{early, option_and_then-read}
 use Rattle.ot_layout.proofs.FirstGlyphsLemmas.{may_have_first-past}
 use Rattle.ot_layout.proofs.first_glyphs.firsts_of_list.Goals.{in-Some+else-glyph-ge-COUNT, in_default}
 use Rattle.ot_layout.proofs.first_glyphs.firsts_of_list.Goals as goal
@@ -42,7 +42,7 @@ returns-then-glyph-ge-COUNT c = λ glyph some.
     let inside : c.loop-glyph.glyph-index < length c.as_chunks.result.0.now = omega arith in
     let listed : c.loop-glyph.glyph-index < c.row_count.result = omega (arith, long) in
     let there =
-    sym (rows.same c.loop-glyph.glyph-index listed) ∙ read_row _ c.loop-glyph.glyph-index _ inside ∙ sym c.u16_at.ensures ∙ c.in-Some.is in
+    sym (rows.same c.loop-glyph.glyph-index listed) ∙ option_and_then-read _ c.loop-glyph.glyph-index _ inside ∙ sym c.u16_at.ensures ∙ c.in-Some.is in
     elim (cases_lt glyph 256) [
       | inl low ↦
           early c.args.table.now glyph c.loop-glyph.glyph-index c.in-Some.glyph (λ x. may_have_first c.loop-glyph.firsts x ≡ true) there
