@@ -23,14 +23,14 @@ own_code_first Symbol character less = refl
 own_code_first SimplifiedArabic character less = refl
 own_code_first TraditionalArabic character less = refl
 
-glyph-or_none : (glyph : Option ℕ) → option_or glyph None ≡ glyph
-glyph-or_none None = refl
-glyph-or_none (Some g) = refl
+option_or-none : (glyph : Option ℕ) → option_or glyph None ≡ glyph
+option_or-none None = refl
+option_or-none (Some g) = refl
 
 -- a character of Unicode has no other code than its number
 pub glyph_index-unicode : (table : List ℕ) (character : ℕ) → glyph_index table Unicode character ≡ subtable_glyph table character
 unfolding glyph_index own_code other_code
-glyph_index-unicode table character = glyph-or_none (subtable_glyph table character)
+glyph_index-unicode table character = option_or-none (subtable_glyph table character)
 
 module _ (bs : List ℕ) (es : List (ℕ × ℕ)) (i : ℕ) where
   abbrev here : ℕ × ℕ
