@@ -5,21 +5,6 @@ use font_outlines::GlyfTables;
 use font_tables::metrics::Metrics;
 use font_tables::scale::Scale;
 use rb_common::GlyphId;
-use rb_glyph::GlyphExtents;
-use std::alloc::{AllocError, Global};
-
-/// The numbers of a box: its left side, its top, its width and its height.
-type Numbers = [i32; 4];
-
-/// The numbers of a box.
-fn numbers_of(extents: GlyphExtents) -> Numbers {
-    [
-        extents.x_bearing,
-        extents.y_bearing,
-        extents.width,
-        extents.height,
-    ]
-}
 
 /// A triangle from the origin to 100 across and 100 up.
 static GLYF: [u8; 20] = [
@@ -57,73 +42,44 @@ fn sources(gvar: &[u8]) -> GlyphSources<'_> {
 /// Coordinates, and where the advance ends.
 static ADVANCES: [(i32, f32); 4] = [(0, 120.0), (8192, 130.0), (16384, 140.0), (-8192, 120.0)];
 
-/// The phantom points of a glyph.
-fn phantoms_of(gvar: &[u8], glyph: u16, at: i32) -> Option<[Point; 4]> {
-    let found = varied_phantoms(&sources(gvar), GlyphId(glyph), &[at])?;
-    Some([found.left, found.right, found.top, found.bottom])
-}
-
-/// The phantom points of the triangle where its advance ends at a place.
-fn phantoms_with(right: f32) -> [Point; 4] {
-    [
-        Point { x: 0.0, y: 0.0 },
-        Point { x: right, y: 0.0 },
-        Point { x: 0.0, y: 100.0 },
-        Point { x: 0.0, y: -900.0 },
-    ]
-}
-
 #[test]
 fn the_advance_moves(rt: HostRuntime) {
     for &(at, right) in &ADVANCES {
-        assert!(rt;
-            phantoms_of(&GVAR, 0, at) == Some(phantoms_with(right)),
-            "at {at}"
-        );
+        let Some(phantoms) = varied_phantoms(&sources(&GVAR), GlyphId(0), &[at]) else {
+            panic!(rt; "the font has the glyph")
+        };
+        assert!(rt; phantoms.left == Point { x: 0.0, y: 0.0 }, "at {at}");
+        assert!(rt; phantoms.right == Point { x: right, y: 0.0 }, "at {at}");
+        assert!(rt; phantoms.top == Point { x: 0.0, y: 100.0 }, "at {at}");
+        assert!(rt; phantoms.bottom == Point { x: 0.0, y: -900.0 }, "at {at}");
     }
-    assert!(rt; phantoms_of(&GVAR, 1, 0) == None);
-    assert!(rt; phantoms_of(&[], 0, 16384) == Some(phantoms_with(120.0)));
-}
-
-/// The box of the triangle at a coordinate, the corners of its points, and where its advance ends.
-fn outline_at(alloc: Global, at: i32) -> Result<Option<(Numbers, [Point; 3])>, AllocError> {
-    let Some(outline) = varied_outline(alloc, &sources(&GVAR), GlyphId(0), &[at])? else {
-        return Ok(None);
-    };
-    let points = [
-        outline.bounds.min,
-        outline.bounds.max,
-        outline.phantoms.right,
-    ];
-    Ok(Some((numbers_of(outline.extents), points)))
+    assert!(rt; varied_phantoms(&sources(&GVAR), GlyphId(1), &[0]) == None);
+    let still = varied_phantoms(&sources(&[]), GlyphId(0), &[16384]);
+    assert!(rt; still.map(|phantoms| phantoms.right.x) == Some(120.0));
 }
 
 #[test]
-fn the_box_grows(rt: HostRuntime) -> Result<(), AllocError> {
-    let points = [
-        Point { x: 0.0, y: 0.0 },
-        Point { x: 110.0, y: 100.0 },
-        Point { x: 140.0, y: 0.0 },
-    ];
-    let found = outline_at(rt.alloc(), 16384)?;
-    assert!(rt; found == Some(([0, 100, 110, -100], points)));
-    Ok(())
-}
-
-/// A point that is moved, one that lies further from the origin, and how far it is from another one.
-fn moves_of(point: Point, by: Point) -> [Point; 3] {
-    [point.moved(by), point.times(2.0), point.from(by)]
+fn the_box_grows(rt: HostRuntime) {
+    let found = varied_outline(rt.alloc(), &sources(&GVAR), GlyphId(0), &[16384]);
+    let Ok(Some(outline)) = found else {
+        panic!(rt; "the font has the glyph")
+    };
+    assert!(rt; outline.extents.x_bearing == 0);
+    assert!(rt; outline.extents.y_bearing == 100);
+    assert!(rt; outline.extents.width == 110);
+    assert!(rt; outline.extents.height == -100);
+    assert!(rt; outline.bounds.min == Point { x: 0.0, y: 0.0 });
+    assert!(rt; outline.bounds.max == Point { x: 110.0, y: 100.0 });
+    assert!(rt; outline.phantoms.right == Point { x: 140.0, y: 0.0 });
 }
 
 #[test]
 fn points_move(rt: HostRuntime) {
-    let found = moves_of(Point { x: 3.0, y: 5.0 }, Point { x: 1.0, y: 2.0 });
-    let moves = [
-        Point { x: 4.0, y: 7.0 },
-        Point { x: 6.0, y: 10.0 },
-        Point { x: 2.0, y: 3.0 },
-    ];
-    assert!(rt; found == moves);
+    let point = Point { x: 3.0, y: 5.0 };
+    let by = Point { x: 1.0, y: 2.0 };
+    assert!(rt; point.moved(by) == Point { x: 4.0, y: 7.0 });
+    assert!(rt; point.times(2.0) == Point { x: 6.0, y: 10.0 });
+    assert!(rt; point.from(by) == Point { x: 2.0, y: 3.0 });
 }
 
 /// A paint of glyph 1: the triangle, 10 to the right and 5 down.
@@ -136,33 +92,32 @@ static COLR: [u8; 63] = [
 ];
 
 /// Coordinates, how long an em is, and the box of the paint there.
-static PAINTED: [(i32, i32, Numbers); 4] = [
+static PAINTED: [(i32, i32, [i32; 4]); 4] = [
     (0, 1000, [10, 95, 100, -100]),
     (8192, 1000, [10, 95, 105, -100]),
     (16384, 1000, [10, 95, 110, -100]),
     (16384, 2000, [20, 190, 220, -200]),
 ];
 
-/// The box of the paint of a glyph, where it has one.
-fn painted(alloc: Global, glyph: u16, at: i32, em: i32) -> Result<Option<Numbers>, AllocError> {
-    let outlines = DrawnOutlines {
-        sources: sources(&GVAR),
-        cff_2: None,
-        cff: None,
-        scale: Scale::new(1000, em, em),
-    };
-    let colr = ColrTable::new(&COLR);
-    match colr.painted_extents(alloc, GlyphId(glyph), &outlines, &[at])? {
-        Some(extents) => Ok(Some(numbers_of(extents))),
-        None => Ok(None),
-    }
-}
-
 #[test]
-fn a_paint_reaches_as_far_as_what_it_fills(rt: HostRuntime) -> Result<(), AllocError> {
-    for &(at, em, numbers) in &PAINTED {
-        assert!(rt; painted(rt.alloc(), 1, at, em)? == Some(numbers), "at {at}");
-        assert!(rt; painted(rt.alloc(), 0, at, em)? == None, "at {at}");
+fn a_paint_reaches_as_far_as_what_it_fills(rt: HostRuntime) {
+    let colr = ColrTable::new(&COLR);
+    for &(at, em, [left, top, width, height]) in &PAINTED {
+        let outlines = DrawnOutlines {
+            sources: sources(&GVAR),
+            cff_2: None,
+            cff: None,
+            scale: Scale::new(1000, em, em),
+        };
+        let found = colr.painted_extents(rt.alloc(), GlyphId(1), &outlines, &[at]);
+        let Ok(Some(extents)) = found else {
+            panic!(rt; "the glyph has a paint")
+        };
+        assert!(rt; extents.x_bearing == left, "at {at}");
+        assert!(rt; extents.y_bearing == top, "at {at}");
+        assert!(rt; extents.width == width, "at {at}");
+        assert!(rt; extents.height == height, "at {at}");
+        let none = colr.painted_extents(rt.alloc(), GlyphId(0), &outlines, &[at]);
+        assert!(rt; matches!(none, Ok(None)), "at {at}");
     }
-    Ok(())
 }
