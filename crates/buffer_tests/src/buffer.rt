@@ -1,20 +1,30 @@
-use crate::lists::assert_glyphs;
+use crate::lists::{add, assert_glyphs};
 use shaping_buffer::{UnicodeBuffer, hb_buffer_t, hb_glyph_info_t};
-use std::test::Fail;
+use std::process::Abort;
+
+fn reset(rt: &impl Abort, buffer: &mut hb_buffer_t, mask: u32) {
+    assert!(rt; !buffer.have_output());
+    buffer.reset_masks(mask);
+}
+
+/// Sets the bit 8 from a cluster to the largest.
+fn set(rt: &impl Abort, buffer: &mut hb_buffer_t, start: u32) {
+    assert!(rt; !buffer.have_output());
+    buffer.set_masks(8, 8, start, u32::MAX);
+}
 
 #[test]
-fn the_largest_cluster_is_in_the_range_of_all(rt: HostRuntime) -> Result<(), Fail> {
+fn the_largest_cluster_is_in_the_range_of_all(rt: HostRuntime) {
     let mut text = UnicodeBuffer::new(rt.alloc());
-    assert!(rt; text.add('a', u32::MAX) == Ok(true));
+    add(&rt, &mut text, 'a', u32::MAX);
     let mut buffer = text.into_buffer();
-    buffer.reset_masks(5);
+    reset(&rt, &mut buffer, 5);
     assert_glyphs(&rt, buffer.info(), &[(u32::MAX, 5)]);
-    buffer.reset_masks(0);
-    buffer.set_masks(8, 8, 1, u32::MAX);
-    assert_glyphs(&rt, buffer.info(), &[(u32::MAX, 0)]);
-    buffer.set_masks(8, 8, 0, u32::MAX);
-    assert_glyphs(&rt, buffer.info(), &[(u32::MAX, 8)]);
-    Ok(())
+    reset(&rt, &mut buffer, 0);
+    for (start, mask) in [(1, 0), (0, 8)] {
+        set(&rt, &mut buffer, start);
+        assert_glyphs(&rt, buffer.info(), &[(u32::MAX, mask)]);
+    }
 }
 
 #[test]

@@ -9,9 +9,8 @@ use std::process::Abort;
 /// Asserts the clusters and the masks of the glyphs.
 pub(crate) fn assert_glyphs(rt: &impl Abort, glyphs: &[hb_glyph_info_t], want: &[(u32, u32)]) {
     assert!(rt; glyphs.len() == want.len());
-    for (glyph, (cluster, mask)) in glyphs.iter().zip(want) {
-        assert!(rt; glyph.cluster == *cluster, "{want:?}");
-        assert!(rt; glyph.mask == *mask, "{want:?}");
+    for (glyph, pair) in glyphs.iter().zip(want) {
+        assert!(rt; (glyph.cluster, glyph.mask) == *pair, "{want:?}");
     }
 }
 
@@ -20,8 +19,16 @@ pub(crate) fn buffer_of(rt: &impl Abort, alloc: Global, text: &str) -> hb_buffer
     ensures { result.have_output ≡ false }
 {
     let mut characters = UnicodeBuffer::new(alloc);
-    assert!(rt; characters.push_str(text) == Ok(true));
+    push(rt, &mut characters, text);
     characters.into_buffer()
+}
+
+pub(crate) fn push(rt: &impl Abort, text: &mut UnicodeBuffer, part: &str) {
+    assert!(rt; text.push_str(part) == Ok(true));
+}
+
+pub(crate) fn add(rt: &impl Abort, text: &mut UnicodeBuffer, character: char, cluster: u32) {
+    assert!(rt; text.add(character, cluster) == Ok(true));
 }
 
 /// Asserts the ids of the glyphs.
@@ -32,10 +39,19 @@ pub(crate) fn assert_ids(rt: &impl Abort, glyphs: &[hb_glyph_info_t], want: &[u3
     }
 }
 
-/// Opens an output, and reads a glyph.
-pub(crate) fn read_one(rt: &impl Abort, buffer: &mut hb_buffer_t) {
+pub(crate) fn clear_output(rt: &impl Abort, buffer: &mut hb_buffer_t) {
     assert!(rt; !buffer.have_output());
     buffer.clear_output();
+}
+
+pub(crate) fn clear_positions(rt: &impl Abort, buffer: &mut hb_buffer_t) {
+    assert!(rt; !buffer.have_output());
+    buffer.clear_positions();
+}
+
+/// Opens an output, and reads a glyph.
+pub(crate) fn read_one(rt: &impl Abort, buffer: &mut hb_buffer_t) {
+    clear_output(rt, buffer);
     assert!(rt; buffer.lookahead_len() > 0);
     assert!(rt; buffer.next_glyph() == Ok(true));
 }

@@ -8,29 +8,54 @@ fn set_max_len(buffer: &mut hb_buffer_t, len: usize) {
     buffer.set_max_len(len);
 }
 
+fn assert_ensured(buffer: &mut hb_buffer_t, size: usize, done: bool) {
+    assert!(buffer.ensure(size) == Ok(done), "{size}");
+}
+
+fn assert_room(buffer: &hb_buffer_t, len: usize, room: usize) {
+    assert!((buffer.len(), buffer.room()) == (len, room));
+}
+
 #[test]
 fn room_is_made_up_to_the_limit() {
     let mut buffer = hb_buffer_t::new();
     set_max_len(&mut buffer, 8);
-    assert!(buffer.ensure(8) == Ok(true));
-    assert!(buffer.ensure(9) == Ok(false));
-    assert!((buffer.room(), buffer.successful()) == (8, false));
+    for (size, done) in [(8, true), (9, false)] {
+        assert_ensured(&mut buffer, size, done);
+    }
+    assert_room(&buffer, 0, 8);
+    assert!(!buffer.successful());
+}
+
+#[test]
+fn room_is_never_taken_away() {
     let mut buffer = buffer_of("abc");
-    assert!(buffer.room() == 0);
-    assert!((buffer.ensure(5), buffer.ensure(2)) == (Ok(true), Ok(true)));
-    assert!((buffer.len(), buffer.room()) == (3, 5));
+    assert_room(&buffer, 3, 0);
+    for size in [5, 2] {
+        assert_ensured(&mut buffer, size, true);
+        assert_room(&buffer, 3, 5);
+    }
     buffer.clear();
-    assert!((buffer.len(), buffer.room()) == (0, 5));
+    assert_room(&buffer, 0, 5);
 }
 
 /// The limits after `enter` over a text, and that `leave` puts them back.
 fn assert_limits(text: &str, max_len: usize, max_ops: i32) {
     let mut buffer = buffer_of(text);
-    buffer.enter();
+    enter(&mut buffer);
     assert!((buffer.max_len(), buffer.max_ops) == (max_len, max_ops));
+    leave(&mut buffer);
+    assert!((buffer.max_len(), buffer.max_ops) == (1_073_741_823, 536_870_911));
+}
+
+fn enter(buffer: &mut hb_buffer_t) {
+    assert!(!buffer.have_output());
+    buffer.enter();
+}
+
+fn leave(buffer: &mut hb_buffer_t) {
     assert!(!buffer.have_output());
     buffer.leave();
-    assert!((buffer.max_len(), buffer.max_ops) == (1_073_741_823, 536_870_911));
 }
 
 #[test]
@@ -48,9 +73,8 @@ fn limits_follow_the_length() {
 #[test]
 fn ligatures_have_numbers_from_one_to_seven() {
     let mut buffer = hb_buffer_t::new();
-    buffer.serial = 7;
-    assert!((buffer.allocate_lig_id(), buffer.serial) == (1, 9));
-    buffer.serial = 254;
-    assert!((buffer.allocate_lig_id(), buffer.serial) == (7, 255));
-    assert!((buffer.allocate_lig_id(), buffer.serial) == (1, 1));
+    for (serial, number, next) in [(7, 1, 9), (254, 7, 255), (255, 1, 1)] {
+        buffer.serial = serial;
+        assert!((buffer.allocate_lig_id(), buffer.serial) == (number, next));
+    }
 }
