@@ -1,7 +1,7 @@
-use shaping_buffer::{BufferClusterLevel, Feature, GlyphBuffer, Tag};
+use shaping_buffer::{BufferClusterLevel, Feature, GlyphBuffer, GlyphInfo, Tag};
 use shaping_runs::{Answer, Call, RenderFault, render, render_at};
+use std::alloc::Global;
 use std::process::Abort;
-use std::test::Fail;
 
 fn kern(value: u32, start: u32, end: u32) -> Feature {
     Feature {
@@ -24,8 +24,19 @@ fn assert_masks(rt: &impl Abort, glyphs: &GlyphBuffer, want: &[u32]) {
     }
 }
 
+/// Asserts the masks of the text "ab" rendered with features.
+fn assert_masked(rt: &impl Abort, alloc: Global, features: &[Feature], masks: &[u32]) {
+    let mut answers = [Answer::Outside; 3];
+    let calls = [Call::ClearOutput, Call::NextGlyph, Call::Sync];
+    match render(alloc, "ab", features, &calls, &mut answers) {
+        Ok(glyphs) => assert_masks(rt, &glyphs, masks),
+        Err(_) => panic!(rt; "not rendered"),
+    }
+    assert!(rt; answers == [Answer::Done; 3]);
+}
+
 #[test]
-fn features_set_the_bits_of_their_places(rt: HostRuntime) -> Result<(), Fail> {
+fn features_set_the_bits_of_their_places(rt: HostRuntime) {
     let all = u32::MAX;
     let off_then_on = [kern(0, 0, all), kern(5, 0, 1)];
     let on_and_off = [kern(1, 0, all), kern(0, 0, all), kern(7, 1, 9)];
@@ -37,33 +48,8 @@ fn features_set_the_bits_of_their_places(rt: HostRuntime) -> Result<(), Fail> {
         (&[kern(1, 0, all); 24], [0xFFFF_FF00, 0xFFFF_FF00]),
     ];
     for (features, masks) in &rows {
-        let mut answers = [Answer::Outside; 3];
-        let calls = [Call::ClearOutput, Call::NextGlyph, Call::Sync];
-        match render(rt.alloc(), "ab", features, &calls, &mut answers) {
-            Ok(glyphs) => assert_masks(&rt, &glyphs, masks),
-            Err(_) => panic!(rt; "not rendered"),
-        }
-        assert!(rt; answers == [Answer::Done; 3], "{masks:?}");
+        assert_masked(&rt, rt.alloc(), features, masks);
     }
-    Ok(())
-}
-
-#[test]
-fn faults_say_where(rt: HostRuntime) -> Result<(), Fail> {
-    let mut answers = [Answer::Outside];
-    match render(rt.alloc(), "ab", &[], &[Call::ClearOutput], &mut answers) {
-        Ok(_) => panic!(rt; "rendered"),
-        Err(fault) => assert!(rt; fault == RenderFault::OutputLeftOpen),
-    }
-    assert!(rt; answers == [Answer::Done]);
-    let mut answers = [Answer::Outside];
-    let many = [kern(1, 0, 1); 25];
-    match render(rt.alloc(), "ab", &many, &[Call::ClearOutput], &mut answers) {
-        Ok(_) => panic!(rt; "rendered"),
-        Err(fault) => assert!(rt; fault == RenderFault::TooManyFeatures),
-    }
-    assert!(rt; answers == [Answer::Outside]);
-    Ok(())
 }
 
 const LEVELS: [BufferClusterLevel; 4] = [
@@ -73,20 +59,42 @@ const LEVELS: [BufferClusterLevel; 4] = [
     BufferClusterLevel::Graphemes,
 ];
 
-/// Asserts the clusters and the glyph flags of a text that was rendered.
-fn assert_rendered(
+/// What a text with features is after one call, at a level or at none that is said, and the answer to the call.
+fn rendered(
+    alloc: Global,
+    level: Option<BufferClusterLevel>,
+    text: &str,
+    features: &[Feature],
+    call: Call<'_>,
+) -> (Result<GlyphBuffer, RenderFault>, Answer) {
+    let mut answers = [Answer::Outside];
+    let glyphs = match level {
+        Some(level) => render_at(alloc, level, text, features, &[call], &mut answers),
+        None => render(alloc, text, features, &[call], &mut answers),
+    };
+    (glyphs, answers[0])
+}
+
+/// Asserts the clusters and the glyph flags of "abc" after a call.
+fn assert_called(
     rt: &impl Abort,
-    rendered: Result<GlyphBuffer, RenderFault>,
+    alloc: Global,
+    level: Option<BufferClusterLevel>,
+    call: Call<'_>,
     want: &[(u32, u32)],
 ) {
+    let (rendered, answer) = rendered(alloc, level, "abc", &[], call);
+    assert!(rt; answer == Answer::Done);
     match rendered {
-        Ok(glyphs) => {
-            assert!(rt; glyphs.len() == want.len());
-            for (glyph, want) in glyphs.glyph_infos().iter().zip(want) {
-                assert!(rt; (glyph.cluster, glyph.mask & 7) == *want, "{want:?}");
-            }
-        }
+        Ok(glyphs) => assert_flagged(rt, glyphs.glyph_infos(), want),
         Err(_) => panic!(rt; "not rendered"),
+    }
+}
+
+fn assert_flagged(rt: &impl Abort, glyphs: &[GlyphInfo], want: &[(u32, u32)]) {
+    assert!(rt; glyphs.len() == want.len());
+    for (glyph, want) in glyphs.iter().zip(want) {
+        assert!(rt; (glyph.cluster, glyph.mask & 7) == *want, "{want:?}");
     }
 }
 
@@ -101,45 +109,44 @@ fn a_text_is_rendered_at_its_level(rt: HostRuntime) {
         (marked, marked),
         (marked, merged),
     ];
+    let (merge, merge_graphemes) = (Call::MergeClusters(0, 2), Call::MergeGraphemeClusters(0, 2));
     for (level, (clusters, graphemes)) in LEVELS.iter().zip(rows) {
-        let mut answers = [Answer::Outside];
-        let calls = [Call::MergeClusters(0, 2)];
-        let rendered = render_at(rt.alloc(), *level, "abc", &[], &calls, &mut answers);
-        assert_rendered(&rt, rendered, clusters);
-        let calls = [Call::MergeGraphemeClusters(0, 2)];
-        let rendered = render_at(rt.alloc(), *level, "abc", &[], &calls, &mut answers);
-        assert_rendered(&rt, rendered, graphemes);
-        assert!(rt; answers == [Answer::Done], "{level:?}");
+        assert_called(&rt, rt.alloc(), Some(*level), merge, clusters);
+        assert_called(&rt, rt.alloc(), Some(*level), merge_graphemes, graphemes);
     }
-    let mut answers = [Answer::Outside];
-    let calls = [Call::MergeGraphemeClusters(0, 2)];
-    assert_rendered(
-        &rt,
-        render(rt.alloc(), "abc", &[], &calls, &mut answers),
-        merged,
-    );
+    assert_called(&rt, rt.alloc(), None, merge_graphemes, merged);
 }
 
-/// Asserts the fault of a text that was not rendered.
-fn assert_fault(rt: &impl Abort, rendered: Result<GlyphBuffer, RenderFault>, want: RenderFault) {
+/// Asserts the fault of "ab" with features, whose output is opened and not closed, and the answer to that call.
+fn assert_fault(
+    rt: &impl Abort,
+    alloc: Global,
+    level: Option<BufferClusterLevel>,
+    features: &[Feature],
+    want: (RenderFault, Answer),
+) {
+    let (rendered, answer) = rendered(alloc, level, "ab", features, Call::ClearOutput);
     match rendered {
         Ok(_) => panic!(rt; "rendered"),
-        Err(fault) => assert!(rt; fault == want),
+        Err(fault) => assert!(rt; (fault, answer) == want),
     }
+}
+
+fn assert_faults(rt: &impl Abort, alloc: Global, level: Option<BufferClusterLevel>) {
+    let left_open = (RenderFault::OutputLeftOpen, Answer::Done);
+    assert_fault(rt, alloc, level, &[], left_open);
+    let too_many = (RenderFault::TooManyFeatures, Answer::Outside);
+    assert_fault(rt, alloc, level, &[kern(1, 0, 1); 25], too_many);
+}
+
+#[test]
+fn faults_say_where(rt: HostRuntime) {
+    assert_faults(&rt, rt.alloc(), None);
 }
 
 #[test]
 fn faults_come_at_each_level(rt: HostRuntime) {
     for level in LEVELS {
-        let mut answers = [Answer::Outside];
-        let calls = [Call::ClearOutput];
-        let rendered = render_at(rt.alloc(), level, "ab", &[], &calls, &mut answers);
-        assert_fault(&rt, rendered, RenderFault::OutputLeftOpen);
-        assert!(rt; answers == [Answer::Done], "{level:?}");
-        let mut answers = [Answer::Outside];
-        let many = [kern(1, 0, 1); 25];
-        let rendered = render_at(rt.alloc(), level, "ab", &many, &calls, &mut answers);
-        assert_fault(&rt, rendered, RenderFault::TooManyFeatures);
-        assert!(rt; answers == [Answer::Outside], "{level:?}");
+        assert_faults(&rt, rt.alloc(), Some(level));
     }
 }

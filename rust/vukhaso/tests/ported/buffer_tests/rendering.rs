@@ -1,7 +1,6 @@
 // Written by tools/plain_rust from crates/buffer_tests. Do not edit.
 
-use crate::Fail;
-use vukhaso::internals::buffer::{BufferClusterLevel, Feature, GlyphBuffer, Tag};
+use vukhaso::internals::buffer::{BufferClusterLevel, Feature, GlyphBuffer, GlyphInfo, Tag};
 use vukhaso::internals::runs::{Answer, Call, RenderFault, render, render_at};
 
 fn kern(value: u32, start: u32, end: u32) -> Feature {
@@ -25,8 +24,19 @@ fn assert_masks(glyphs: &GlyphBuffer, want: &[u32]) {
     }
 }
 
+/// Asserts the masks of the text "ab" rendered with features.
+fn assert_masked(features: &[Feature], masks: &[u32]) {
+    let mut answers = [Answer::Outside; 3];
+    let calls = [Call::ClearOutput, Call::NextGlyph, Call::Sync];
+    match render("ab", features, &calls, &mut answers) {
+        Ok(glyphs) => assert_masks(&glyphs, masks),
+        Err(_) => panic!("not rendered"),
+    }
+    assert!(answers == [Answer::Done; 3]);
+}
+
 #[test]
-fn features_set_the_bits_of_their_places() -> Result<(), Fail> {
+fn features_set_the_bits_of_their_places() {
     let all = u32::MAX;
     let off_then_on = [kern(0, 0, all), kern(5, 0, 1)];
     let on_and_off = [kern(1, 0, all), kern(0, 0, all), kern(7, 1, 9)];
@@ -38,33 +48,8 @@ fn features_set_the_bits_of_their_places() -> Result<(), Fail> {
         (&[kern(1, 0, all); 24], [0xFFFF_FF00, 0xFFFF_FF00]),
     ];
     for (features, masks) in &rows {
-        let mut answers = [Answer::Outside; 3];
-        let calls = [Call::ClearOutput, Call::NextGlyph, Call::Sync];
-        match render("ab", features, &calls, &mut answers) {
-            Ok(glyphs) => assert_masks(&glyphs, masks),
-            Err(_) => panic!("not rendered"),
-        }
-        assert!(answers == [Answer::Done; 3], "{masks:?}");
+        assert_masked(features, masks);
     }
-    Ok(())
-}
-
-#[test]
-fn faults_say_where() -> Result<(), Fail> {
-    let mut answers = [Answer::Outside];
-    match render("ab", &[], &[Call::ClearOutput], &mut answers) {
-        Ok(_) => panic!("rendered"),
-        Err(fault) => assert!(fault == RenderFault::OutputLeftOpen),
-    }
-    assert!(answers == [Answer::Done]);
-    let mut answers = [Answer::Outside];
-    let many = [kern(1, 0, 1); 25];
-    match render("ab", &many, &[Call::ClearOutput], &mut answers) {
-        Ok(_) => panic!("rendered"),
-        Err(fault) => assert!(fault == RenderFault::TooManyFeatures),
-    }
-    assert!(answers == [Answer::Outside]);
-    Ok(())
 }
 
 const LEVELS: [BufferClusterLevel; 4] = [
@@ -74,16 +59,36 @@ const LEVELS: [BufferClusterLevel; 4] = [
     BufferClusterLevel::Graphemes,
 ];
 
-/// Asserts the clusters and the glyph flags of a text that was rendered.
-fn assert_rendered(rendered: Result<GlyphBuffer, RenderFault>, want: &[(u32, u32)]) {
+/// What a text with features is after one call, at a level or at none that is said, and the answer to
+/// the call.
+fn rendered(
+    level: Option<BufferClusterLevel>,
+    text: &str,
+    features: &[Feature],
+    call: Call<'_>,
+) -> (Result<GlyphBuffer, RenderFault>, Answer) {
+    let mut answers = [Answer::Outside];
+    let glyphs = match level {
+        Some(level) => render_at(level, text, features, &[call], &mut answers),
+        None => render(text, features, &[call], &mut answers),
+    };
+    (glyphs, answers[0])
+}
+
+/// Asserts the clusters and the glyph flags of "abc" after a call.
+fn assert_called(level: Option<BufferClusterLevel>, call: Call<'_>, want: &[(u32, u32)]) {
+    let (rendered, answer) = rendered(level, "abc", &[], call);
+    assert!(answer == Answer::Done);
     match rendered {
-        Ok(glyphs) => {
-            assert!(glyphs.len() == want.len());
-            for (glyph, want) in glyphs.glyph_infos().iter().zip(want) {
-                assert!((glyph.cluster, glyph.mask & 7) == *want, "{want:?}");
-            }
-        }
+        Ok(glyphs) => assert_flagged(glyphs.glyph_infos(), want),
         Err(_) => panic!("not rendered"),
+    }
+}
+
+fn assert_flagged(glyphs: &[GlyphInfo], want: &[(u32, u32)]) {
+    assert!(glyphs.len() == want.len());
+    for (glyph, want) in glyphs.iter().zip(want) {
+        assert!((glyph.cluster, glyph.mask & 7) == *want, "{want:?}");
     }
 }
 
@@ -98,41 +103,43 @@ fn a_text_is_rendered_at_its_level() {
         (marked, marked),
         (marked, merged),
     ];
+    let (merge, merge_graphemes) = (Call::MergeClusters(0, 2), Call::MergeGraphemeClusters(0, 2));
     for (level, (clusters, graphemes)) in LEVELS.iter().zip(rows) {
-        let mut answers = [Answer::Outside];
-        let calls = [Call::MergeClusters(0, 2)];
-        let rendered = render_at(*level, "abc", &[], &calls, &mut answers);
-        assert_rendered(rendered, clusters);
-        let calls = [Call::MergeGraphemeClusters(0, 2)];
-        let rendered = render_at(*level, "abc", &[], &calls, &mut answers);
-        assert_rendered(rendered, graphemes);
-        assert!(answers == [Answer::Done], "{level:?}");
+        assert_called(Some(*level), merge, clusters);
+        assert_called(Some(*level), merge_graphemes, graphemes);
     }
-    let mut answers = [Answer::Outside];
-    let calls = [Call::MergeGraphemeClusters(0, 2)];
-    assert_rendered(render("abc", &[], &calls, &mut answers), merged);
+    assert_called(None, merge_graphemes, merged);
 }
 
-/// Asserts the fault of a text that was not rendered.
-fn assert_fault(rendered: Result<GlyphBuffer, RenderFault>, want: RenderFault) {
+/// Asserts the fault of "ab" with features, whose output is opened and not closed, and the answer to
+/// that call.
+fn assert_fault(
+    level: Option<BufferClusterLevel>,
+    features: &[Feature],
+    want: (RenderFault, Answer),
+) {
+    let (rendered, answer) = rendered(level, "ab", features, Call::ClearOutput);
     match rendered {
         Ok(_) => panic!("rendered"),
-        Err(fault) => assert!(fault == want),
+        Err(fault) => assert!((fault, answer) == want),
     }
+}
+
+fn assert_faults(level: Option<BufferClusterLevel>) {
+    let left_open = (RenderFault::OutputLeftOpen, Answer::Done);
+    assert_fault(level, &[], left_open);
+    let too_many = (RenderFault::TooManyFeatures, Answer::Outside);
+    assert_fault(level, &[kern(1, 0, 1); 25], too_many);
+}
+
+#[test]
+fn faults_say_where() {
+    assert_faults(None);
 }
 
 #[test]
 fn faults_come_at_each_level() {
     for level in LEVELS {
-        let mut answers = [Answer::Outside];
-        let calls = [Call::ClearOutput];
-        let rendered = render_at(level, "ab", &[], &calls, &mut answers);
-        assert_fault(rendered, RenderFault::OutputLeftOpen);
-        assert!(answers == [Answer::Done], "{level:?}");
-        let mut answers = [Answer::Outside];
-        let many = [kern(1, 0, 1); 25];
-        let rendered = render_at(level, "ab", &many, &calls, &mut answers);
-        assert_fault(rendered, RenderFault::TooManyFeatures);
-        assert!(answers == [Answer::Outside], "{level:?}");
+        assert_faults(Some(level));
     }
 }
