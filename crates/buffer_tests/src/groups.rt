@@ -1,3 +1,4 @@
+use crate::lists::{add, clear_positions};
 use shaping_buffer::{_cluster_group_func, UnicodeBuffer, hb_buffer_t, hb_glyph_info_t};
 use std::alloc::Global;
 use std::cell::Cell;
@@ -7,19 +8,24 @@ use std::process::Abort;
 fn buffer_of(rt: &impl Abort, alloc: Global, glyphs: &[(u32, u32)]) -> hb_buffer_t {
     let mut characters = UnicodeBuffer::new(alloc);
     for (character, (cluster, _)) in "abcde".chars().zip(glyphs) {
-        assert!(rt; characters.add(character, *cluster) == Ok(true));
+        add(rt, &mut characters, character, *cluster);
     }
     let mut buffer = characters.into_buffer();
-    for (glyph, (_, mask)) in buffer.info_slice_mut().iter_mut().zip(glyphs) {
-        glyph.mask = *mask;
-    }
+    set_masks(rt, &mut buffer, glyphs);
+    clear_positions(rt, &mut buffer);
     set_advances(rt, &mut buffer);
     buffer
 }
 
-fn set_advances(rt: &impl Abort, buffer: &mut hb_buffer_t) {
+fn set_masks(rt: &impl Abort, buffer: &mut hb_buffer_t, glyphs: &[(u32, u32)]) {
     assert!(rt; !buffer.have_output());
-    buffer.clear_positions();
+    for (glyph, (_, mask)) in buffer.info_slice_mut().iter_mut().zip(glyphs) {
+        glyph.mask = *mask;
+    }
+}
+
+fn set_advances(rt: &impl Abort, buffer: &mut hb_buffer_t) {
+    assert!(rt; buffer.have_positions());
     for (pos, advance) in buffer.pos_mut().iter_mut().zip([10, 20, 30, 40, 50]) {
         pos.x_advance = advance;
     }
@@ -27,19 +33,11 @@ fn set_advances(rt: &impl Abort, buffer: &mut hb_buffer_t) {
 
 /// Asserts the id, the cluster, the mask and the advance of each glyph, and where the cursor is.
 fn assert_list(rt: &impl Abort, name: &str, buffer: &hb_buffer_t, want: &[(u32, u32, u32, i32)]) {
-    assert!(rt; buffer.idx() == 0, "{name}");
     assert!(rt; buffer.have_positions(), "{name}");
-    assert!(rt; buffer.len() == want.len(), "{name}");
-    for ((glyph, pos), (id, cluster, mask, advance)) in buffer
-        .info()
-        .iter()
-        .zip(buffer.pos())
-        .zip(want)
-    {
-        assert!(rt; glyph.glyph_id == *id, "{name}");
-        assert!(rt; glyph.cluster == *cluster, "{name}");
-        assert!(rt; glyph.mask == *mask, "{name}");
-        assert!(rt; pos.x_advance == *advance, "{name}");
+    assert!(rt; (buffer.idx(), buffer.len()) == (0, want.len()), "{name}");
+    for ((glyph, pos), want) in buffer.info().iter().zip(buffer.pos()).zip(want) {
+        let found = (glyph.glyph_id, glyph.cluster, glyph.mask, pos.x_advance);
+        assert!(rt; found == *want, "{name}");
     }
 }
 

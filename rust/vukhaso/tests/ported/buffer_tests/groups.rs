@@ -1,5 +1,6 @@
 // Written by tools/plain_rust from crates/buffer_tests. Do not edit.
 
+use crate::buffer_tests::lists::{add, clear_positions};
 use std::cell::Cell;
 use vukhaso::internals::buffer::{
     _cluster_group_func, UnicodeBuffer, hb_buffer_t, hb_glyph_info_t,
@@ -9,19 +10,24 @@ use vukhaso::internals::buffer::{
 fn buffer_of(glyphs: &[(u32, u32)]) -> hb_buffer_t {
     let mut characters = UnicodeBuffer::new();
     for (character, (cluster, _)) in "abcde".chars().zip(glyphs) {
-        assert!(characters.add(character, *cluster) == Ok(true));
+        add(&mut characters, character, *cluster);
     }
     let mut buffer = characters.into_buffer();
-    for (glyph, (_, mask)) in buffer.info_slice_mut().iter_mut().zip(glyphs) {
-        glyph.mask = *mask;
-    }
+    set_masks(&mut buffer, glyphs);
+    clear_positions(&mut buffer);
     set_advances(&mut buffer);
     buffer
 }
 
-fn set_advances(buffer: &mut hb_buffer_t) {
+fn set_masks(buffer: &mut hb_buffer_t, glyphs: &[(u32, u32)]) {
     assert!(!buffer.have_output());
-    buffer.clear_positions();
+    for (glyph, (_, mask)) in buffer.info_slice_mut().iter_mut().zip(glyphs) {
+        glyph.mask = *mask;
+    }
+}
+
+fn set_advances(buffer: &mut hb_buffer_t) {
+    assert!(buffer.have_positions());
     for (pos, advance) in buffer.pos_mut().iter_mut().zip([10, 20, 30, 40, 50]) {
         pos.x_advance = advance;
     }
@@ -29,16 +35,11 @@ fn set_advances(buffer: &mut hb_buffer_t) {
 
 /// Asserts the id, the cluster, the mask and the advance of each glyph, and where the cursor is.
 fn assert_list(name: &str, buffer: &hb_buffer_t, want: &[(u32, u32, u32, i32)]) {
-    assert!(buffer.idx() == 0, "{name}");
     assert!(buffer.have_positions(), "{name}");
-    assert!(buffer.len() == want.len(), "{name}");
-    for ((glyph, pos), (id, cluster, mask, advance)) in
-        buffer.info().iter().zip(buffer.pos()).zip(want)
-    {
-        assert!(glyph.glyph_id == *id, "{name}");
-        assert!(glyph.cluster == *cluster, "{name}");
-        assert!(glyph.mask == *mask, "{name}");
-        assert!(pos.x_advance == *advance, "{name}");
+    assert!((buffer.idx(), buffer.len()) == (0, want.len()), "{name}");
+    for ((glyph, pos), want) in buffer.info().iter().zip(buffer.pos()).zip(want) {
+        let found = (glyph.glyph_id, glyph.cluster, glyph.mask, pos.x_advance);
+        assert!(found == *want, "{name}");
     }
 }
 

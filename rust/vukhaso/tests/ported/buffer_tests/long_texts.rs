@@ -3,8 +3,10 @@
 //! Texts of 200,000 bytes, and what they are when they are serialized, over two million bytes; and empty texts.
 
 use crate::Fail;
-use crate::buffer_tests::lists::long_text;
-use vukhaso::internals::buffer::{GlyphBuffer, NoGlyphNames, SerializeFlags, UnicodeBuffer};
+use crate::buffer_tests::lists::{long_text, push};
+use vukhaso::internals::buffer::{
+    GlyphBuffer, NoGlyphNames, SerializeFlags, UnicodeBuffer, hb_buffer_t,
+};
 use vukhaso::internals::runs::{Answer, Call, RenderFault, render};
 use vukhaso::memory::String;
 
@@ -21,13 +23,20 @@ fn a_long_text_is_pushed() -> Result<(), Fail> {
     let text = letters()?;
     assert!(text.len() == COUNT);
     let mut characters = UnicodeBuffer::new();
-    assert!(characters.push_str(&text) == Ok(true));
-    assert!(characters.push_str(&text) == Ok(true));
-    let buffer = characters.into_buffer();
-    assert!(buffer.info().len() == 2 * COUNT);
-    let last = buffer.info().last().ok_or("no glyph")?;
-    assert!((last.glyph_id, last.cluster) == (106, 199_999));
+    for _ in 0..2 {
+        push(&mut characters, &text);
+    }
+    assert_last(characters.into_buffer());
     Ok(())
+}
+
+fn assert_last(buffer: hb_buffer_t) {
+    assert!(buffer.info().len() == 2 * COUNT);
+    let last = buffer
+        .info()
+        .last()
+        .map(|glyph| (glyph.glyph_id, glyph.cluster));
+    assert!(last == Some((106, 199_999)));
 }
 
 fn rendered(text: &str) -> Result<GlyphBuffer, RenderFault> {
@@ -38,34 +47,29 @@ fn rendered(text: &str) -> Result<GlyphBuffer, RenderFault> {
     glyphs
 }
 
+/// The text of the glyphs by their numbers.
+fn written(text: &str) -> Result<String, Fail> {
+    match rendered(text) {
+        Ok(glyphs) => Ok(glyphs.serialize(&NoGlyphNames, SerializeFlags::NO_GLYPH_NAMES)?),
+        Err(_) => panic!("not rendered"),
+    }
+}
+
 /// The lengths are those of the ids (27 digits of ten glyphs), of the clusters (as many digits as the
 /// numbers below 200,000 have), of `=` and `+0`, and of the bars.
 #[test]
 fn a_long_text_is_serialized() -> Result<(), Fail> {
     let text = letters()?;
-    match rendered(&text) {
-        Ok(glyphs) => {
-            let flags = SerializeFlags::NO_GLYPH_NAMES;
-            let written = glyphs.serialize(&NoGlyphNames, flags)?;
-            assert!(written.len() == 540_000 + 1_088_890 + 600_000 + 199_999);
-            assert!(written.starts_with("97=0+0|98=1+0|"));
-            assert!(written.ends_with("|106=199999+0"));
-        }
-        Err(_) => panic!("not rendered"),
-    }
+    let written = written(&text)?;
+    assert!(written.len() == 540_000 + 1_088_890 + 600_000 + 199_999);
+    assert!(written.starts_with("97=0+0|98=1+0|"));
+    assert!(written.ends_with("|106=199999+0"));
     Ok(())
 }
 
 #[test]
 fn an_empty_text_is_rendered() -> Result<(), Fail> {
-    match rendered("") {
-        Ok(glyphs) => {
-            assert!(glyphs.is_empty());
-            let flags = SerializeFlags::NO_GLYPH_NAMES;
-            let written = glyphs.serialize(&NoGlyphNames, flags)?;
-            assert!(written.as_str() == "");
-        }
-        Err(_) => panic!("not rendered"),
-    }
+    let written = written("")?;
+    assert!(written.as_str() == "");
     Ok(())
 }
