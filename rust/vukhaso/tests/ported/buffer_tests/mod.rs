@@ -27,4 +27,6 @@ mod rendering;
 #[cfg(test)]
 mod unicode_buffer;
 #[cfg(test)]
+mod use_steps;
+#[cfg(test)]
 mod uses;

@@ -1,24 +1,21 @@
 // Written by tools/plain_rust from crates/buffer_tests. Do not edit.
 
 use crate::Fail;
-use crate::buffer_tests::lists::{assert_ids, buffer_of, read_one};
+use crate::buffer_tests::lists::{assert_ids, buffer_of, clear_output, clear_positions, read_one};
 use crate::buffer_tests::probes::accessors::*;
-use crate::buffer_tests::probes::references::*;
-use crate::shaping_uses::deletion::delete_every_second;
+use crate::buffer_tests::use_steps::{Step, make_all};
 use crate::shaping_uses::groups::{count_clusters, reverse_clusters, reverse_with_marks};
-use crate::shaping_uses::in_place::*;
-use crate::shaping_uses::ligature::ligate;
+use crate::shaping_uses::in_place::rewind_in_place;
 use crate::shaping_uses::merging::{cluster_numbers, clusters_of_merged};
 use crate::shaping_uses::printing::print_characters;
 use crate::shaping_uses::rendering::render_with_ligature;
-use crate::shaping_uses::room::{put_marks, put_marks_within_room};
 use crate::shaping_uses::runs::{first_two_as_one, ligate_first_two};
-use std::str::FromStr;
 use vukhaso::internals::buffer::{
     Feature, SerializeFlags, UnicodeBuffer, hb_buffer_t, hb_glyph_info_t,
 };
 use vukhaso::internals::glyph::NoGlyphNames;
 use vukhaso::internals::runs::Answer;
+use vukhaso::internals::text::{Tag, TagExt};
 
 fn assert_masks(glyphs: &[hb_glyph_info_t], want: &[u32]) {
     assert!(glyphs.len() == want.len());
@@ -45,7 +42,12 @@ fn assert_rendered(
     masks: &[u32],
     answers: [Answer; 3],
 ) -> Result<(), Fail> {
-    let kern = Feature::from_str("kern[2:]").map_err(|_| "no feature")?;
+    let kern = Feature {
+        tag: Tag::from_bytes(b"kern"),
+        value: 1,
+        start: 2,
+        end: u32::MAX,
+    };
     match render_with_ligature(text, kern, 9) {
         Ok(rendered) => {
             let glyphs = &rendered.0;
@@ -59,20 +61,51 @@ fn assert_rendered(
     Ok(())
 }
 
-#[test]
-fn texts_are_printed_and_merged() -> Result<(), Fail> {
-    let line = print_characters("éa")?.ok_or("short")?;
-    assert!(line.as_str() == "233=0+0|97=2+0");
-    let empty = print_characters("")?.ok_or("short")?;
-    assert!(empty.as_str() == "");
-    let numbers = clusters_of_merged("abc")?.ok_or("two characters")?;
-    assert!(numbers.as_slice() == [0, 0, 2].as_slice());
-    assert!(clusters_of_merged("a")?.is_none());
-    let numbers = cluster_numbers(buffer_of("éa").info())?;
-    assert!(numbers.as_slice() == [0, 2].as_slice());
-    assert!(first_two_as_one("ab") == Ok(true));
-    assert!(first_two_as_one("a") == Ok(false));
+fn assert_printed(text: &str, want: &str) -> Result<(), Fail> {
+    let line = print_characters(text)?.ok_or("short")?;
+    assert!(line.as_str() == want);
     Ok(())
+}
+
+#[test]
+fn texts_are_printed() -> Result<(), Fail> {
+    for (text, line) in [("éa", "233=0+0|97=2+0"), ("", "")] {
+        assert_printed(text, line)?;
+    }
+    Ok(())
+}
+
+/// The cluster numbers of a text whose first two characters are merged.
+fn assert_merged(text: &str, want: &[u32]) -> Result<(), Fail> {
+    let numbers = clusters_of_merged(text)?.ok_or("two characters")?;
+    assert!(numbers.as_slice() == want);
+    Ok(())
+}
+
+fn assert_not_merged(text: &str) -> Result<(), Fail> {
+    assert!(clusters_of_merged(text)?.is_none());
+    Ok(())
+}
+
+fn assert_numbers(text: &str, want: &[u32]) -> Result<(), Fail> {
+    let numbers = cluster_numbers(buffer_of(text).info())?;
+    assert!(numbers.as_slice() == want);
+    Ok(())
+}
+
+#[test]
+fn texts_are_merged() -> Result<(), Fail> {
+    assert_merged("abc", &[0, 0, 2])?;
+    assert_not_merged("a")?;
+    assert_numbers("éa", &[0, 2])?;
+    Ok(())
+}
+
+#[test]
+fn the_first_two_become_one() {
+    for (text, done) in [("ab", true), ("a", false)] {
+        assert!(first_two_as_one(text) == Ok(done), "{text}");
+    }
 }
 
 /// A ligature has the lower cluster. With one glyph there is none; and in an output that is open it is
@@ -102,26 +135,28 @@ fn assert_ligated(buffer: &mut hb_buffer_t, answers: [Answer; 3], ids: &[u32], c
 fn a_refused_ligature_stays_open() {
     let mut buffer = refused("abc");
     let refused = [Answer::Done, Answer::Done, Answer::Refused];
-    assert!(ligate_first_two(&mut buffer, 7) == Ok(refused));
+    assert_ligated(&mut buffer, refused, &[99], &[2]);
     assert!(buffer.have_output() && !buffer.successful());
     assert_ids(buffer.out_info(), &[7]);
-    assert_ids(buffer.info(), &[99]);
 }
 
 /// A text of which a call was refused: it may not become longer.
 fn refused(text: &str) -> hb_buffer_t {
     let mut buffer = buffer_of(text);
-    let len = buffer.len();
-    assert!(buffer.out_len() <= len);
-    buffer.set_max_len(len);
-    assert!(len < 9 && buffer.ensure(9) == Ok(false));
+    limit(&mut buffer, text.len());
+    assert!(buffer.max_len() < 9 && buffer.ensure(9) == Ok(false));
     buffer
+}
+
+fn limit(buffer: &mut hb_buffer_t, len: usize) {
+    assert!(buffer.len() <= len && buffer.out_len() <= len);
+    buffer.set_max_len(len);
 }
 
 /// Advances of 10, 20 and so on.
 fn set_advances(buffer: &mut hb_buffer_t) {
-    assert!(!buffer.have_output());
-    buffer.clear_positions();
+    clear_positions(buffer);
+    assert!(buffer.have_positions());
     for (position, advance) in buffer.pos_mut().iter_mut().zip([10, 20, 30, 40, 50]) {
         position.x_advance = advance;
     }
@@ -134,12 +169,16 @@ fn clusters_change_places() {
     merge_middle(&mut buffer);
     set_advances(&mut buffer);
     assert_cluster_count(&buffer, 3);
-    assert!(!buffer.have_output());
-    reverse_clusters(&mut buffer);
+    reverse(&mut buffer);
     assert_ids(buffer.info(), &[100, 98, 99, 97]);
     assert_clusters(buffer.info(), &[3, 1, 1, 0]);
     assert_advances(&buffer, &[40, 20, 30, 10]);
     assert_cluster_count(&hb_buffer_t::new(), 0);
+}
+
+fn reverse(buffer: &mut hb_buffer_t) {
+    assert!(!buffer.have_output());
+    reverse_clusters(buffer);
 }
 
 fn merge_middle(buffer: &mut hb_buffer_t) {
@@ -163,11 +202,15 @@ fn marks_stay_behind_their_bases() {
 fn assert_reversed(merge: bool, clusters: &[u32]) {
     let mut buffer = buffer_of("ae\u{301}b");
     set_advances(&mut buffer);
-    assert!(!buffer.have_output());
-    reverse_with_marks(&mut buffer, &[0x300, 0x301], merge);
+    reverse_marked(&mut buffer, merge);
     assert_ids(buffer.info(), &[98, 101, 0x301, 97]);
     assert_clusters(buffer.info(), clusters);
     assert_advances(&buffer, &[40, 20, 30, 10]);
+}
+
+fn reverse_marked(buffer: &mut hb_buffer_t, merge: bool) {
+    assert!(!buffer.have_output());
+    reverse_with_marks(buffer, &[0x300, 0x301], merge);
 }
 
 fn assert_clusters(glyphs: &[hb_glyph_info_t], want: &[u32]) {
@@ -185,128 +228,126 @@ fn assert_advances(buffer: &hb_buffer_t, want: &[i32]) {
     }
 }
 
+const WRITES_IN_LIST: &[Step] = &[
+    Step::WriteMaskInList(2),
+    Step::SetLevel,
+    Step::ForgetWhatWasSaid,
+    Step::ClearPositions,
+    Step::AdvanceHere,
+    Step::AdvanceAt(1),
+];
+
+const WRITES_IN_OUTPUT: &[Step] = &[
+    Step::ClearOutput,
+    Step::MaskNext(1),
+    Step::NextInPlace,
+    Step::MaskOut(0),
+    Step::MaskTwoOut(0, 0),
+    Step::MaskLast,
+];
+
 #[test]
 fn writes_land_at_their_places() {
     let mut buffer = buffer_of("abc");
-    assert!(buffer.info().len() == 3);
-    write_mask_in_list(&mut buffer, 2);
-    set_level(&mut buffer);
-    forget_what_was_said(&mut buffer);
-    buffer.clear_positions();
-    assert!(buffer.have_positions());
-    assert!(buffer.lookahead_len() > 0);
-    advance_here(&mut buffer);
-    assert!(buffer.have_positions());
-    assert!(buffer.len() > 1);
-    advance_at(&mut buffer, 1);
-    assert!(buffer.have_positions());
-    for (position, advance) in buffer.pos().iter().zip(&[5, 5, 0]) {
-        assert!(position.x_advance == *advance);
-    }
-    assert!(!buffer.have_output());
-    buffer.clear_output();
-    assert!(buffer.lookahead_len() > 1);
-    mask_next(&mut buffer, 1);
-    assert!(buffer.lookahead_len() > 0);
-    assert!(buffer.next_glyph() == Ok(true));
-    assert!(buffer.out_len() > 0);
-    mask_out(&mut buffer, 0);
-    assert!(buffer.out_len() > 0);
-    mask_two_out(&mut buffer, 0, 0);
-    assert!(buffer.out_len() > 0);
-    mask_last(&mut buffer);
+    make_all(&mut buffer, WRITES_IN_LIST);
+    assert_advances(&buffer, &[5, 5, 0]);
+    make_all(&mut buffer, WRITES_IN_OUTPUT);
     assert_masks(buffer.out_info(), &[5]);
     assert_masks(buffer.info(), &[5, 5]);
     assert!(buffer.cluster_level == 2);
 }
 
 #[test]
-fn accessors_say_what_stands() {
+fn a_new_buffer_has_limits() {
     assert!(default_glyph_limit() == 0x3FFF_FFFF);
     assert!(default_operation_limit() == 0x1FFF_FFFF);
+}
+
+fn buffer_with_context() -> hb_buffer_t {
     let mut text = UnicodeBuffer::new();
     text.set_pre_context("abcdefg");
     text.set_post_context("ab");
-    let mut buffer = text.into_buffer();
-    assert!(context_len(&buffer) == 7);
+    text.into_buffer()
+}
+
+fn assert_nothing_out(buffer: &hb_buffer_t) {
     assert!(!buffer.have_output());
-    assert!(out_len_while_closed(&buffer) == 0);
-    assert!(!buffer.have_output());
-    buffer.clear_output();
+    assert!(out_len_while_closed(buffer) == 0);
+}
+
+fn assert_no_positions(buffer: &hb_buffer_t) {
     assert!(buffer.have_output());
-    assert!(!have_positions_while_open(&buffer));
+    assert!(!have_positions_while_open(buffer));
 }
 
-/// One is dropped, four are put out, two of them taken back, and the output is closed.
 #[test]
-fn calls_in_place_are_done() {
-    let mut buffer = buffer_of("abcde");
-    buffer.clear_output();
-    assert!(buffer.lookahead_len() > 0);
-    buffer.skip_glyph();
-    assert!(buffer.lookahead_len() > 0 && !buffer.have_separate_output());
-    assert!(next_in_place(&mut buffer) == Ok(true));
-    assert!(buffer.have_output() && buffer.lookahead_len() > 0 && !buffer.have_separate_output());
-    assert!(replace_in_place(&mut buffer, 7) == Ok(true));
-    assert!(buffer.lookahead_len() >= 2 && !buffer.have_separate_output());
-    assert!(next_glyphs_in_place(&mut buffer, 2) == Ok(true));
-    assert!(buffer.have_output() && buffer.out_len() >= 2);
-    assert!(buffer.successful() && !buffer.have_separate_output());
-    assert!(move_in_place(&mut buffer, 2) == Ok(true));
-    assert!(buffer.have_output() && buffer.successful() && !buffer.have_separate_output());
-    assert!(sync_in_place(&mut buffer) == Ok(true));
-    assert!(buffer.info().len() == 4);
+fn accessors_say_what_stands() {
+    let mut buffer = buffer_with_context();
+    assert!(context_len(&buffer) == 7);
+    assert_nothing_out(&buffer);
+    clear_output(&mut buffer);
+    assert_no_positions(&buffer);
 }
 
-/// One is dropped, three are put out and taken back, and the output is closed.
+/// A text, steps over it, and the ids that they leave.
+static RUNS: [(&str, &[Step], &[u32]); 3] = [
+    // one is dropped, four are put out, two of them taken back, and the output is closed
+    (
+        "abcde",
+        &[
+            Step::ClearOutput,
+            Step::SkipGlyph,
+            Step::NextInPlace,
+            Step::ReplaceInPlace(7),
+            Step::NextGlyphsInPlace(2),
+            Step::MoveInPlace(2),
+            Step::SyncInPlace,
+        ],
+        &[98, 7, 100, 101],
+    ),
+    // each f and the i behind it give way to one glyph, and no others
+    ("fifaif", &[Step::Ligate], &[0xFB01, 102, 97, 105, 102]),
+    // the second glyph goes, and the fourth, and no others
+    ("abcde", &[Step::DeleteEverySecond], &[97, 99, 101]),
+];
+
+/// The clusters of what the runs leave.
+static CLUSTERS: [&[u32]; 3] = [&[1, 2, 3, 4], &[0, 2, 3, 4, 5], &[0, 2, 4]];
+
+#[test]
+fn runs_leave_glyphs_in_their_clusters() {
+    for ((text, steps, ids), clusters) in RUNS.iter().zip(&CLUSTERS) {
+        let mut buffer = buffer_of(text);
+        make_all(&mut buffer, steps);
+        assert_ids(buffer.info(), ids);
+        assert_clusters(buffer.info(), clusters);
+    }
+}
+
+/// Of a list of four glyphs or more one is dropped, three are put out and taken back, and the output is
+/// closed. Of three glyphs none is touched.
+fn rewind(buffer: &mut hb_buffer_t, answers: Option<[Answer; 7]>) {
+    assert!(!buffer.have_output() && buffer.successful());
+    assert!(rewind_in_place(buffer) == answers);
+}
+
 #[test]
 fn a_list_in_place_is_done() {
     let mut buffer = buffer_of("abcde");
-    assert!(!buffer.have_output() && buffer.successful());
-    assert!(rewind_in_place(&mut buffer) == Some([Answer::Done; 7]));
+    rewind(&mut buffer, Some([Answer::Done; 7]));
     assert!(!buffer.have_output() && buffer.idx() == 0);
     assert_ids(buffer.info(), &[98, 99, 100, 101]);
-}
-
-/// Of three glyphs none is touched.
-#[test]
-fn a_short_list_stays() {
     let mut buffer = buffer_of("abc");
-    assert!(!buffer.have_output() && buffer.successful());
-    assert!(rewind_in_place(&mut buffer).is_none());
+    rewind(&mut buffer, None);
     assert_ids(buffer.info(), &[97, 98, 99]);
 }
 
 #[test]
 fn marks_are_put_in() {
     let mut buffer = buffer_of("ab");
-    assert!(!buffer.have_output() && buffer.successful());
-    assert!(put_marks(&mut buffer, 9) == Ok(true));
+    make_all(&mut buffer, &[Step::PutMarks(9)]);
     assert!(buffer.room() == 4);
     assert_ids(buffer.info(), &[9, 97, 9, 98]);
-    assert!(buffer.ensure(8) == Ok(true));
-    assert!(!buffer.have_output() && buffer.successful());
-    assert!(buffer.info().len() == 4 && buffer.room() >= 8 && buffer.max_len() >= 8);
-    assert!(put_marks_within_room(&mut buffer, 8) == Ok(true));
+    make_all(&mut buffer, &[Step::Ensure(8), Step::PutMarksWithinRoom(8)]);
     assert_ids(buffer.info(), &[8, 9, 8, 97, 8, 9, 8, 98]);
-}
-
-/// Each f and the i behind it give way to one glyph, and no others.
-#[test]
-fn f_and_i_are_ligated() {
-    let mut buffer = buffer_of("fifaif");
-    assert!(!buffer.have_output() && buffer.successful());
-    assert!(ligate(&mut buffer) == Ok(true));
-    assert_ids(buffer.info(), &[0xFB01, 102, 97, 105, 102]);
-    assert_clusters(buffer.info(), &[0, 2, 3, 4, 5]);
-}
-
-/// The second glyph goes, and the fourth, and no others.
-#[test]
-fn every_second_glyph_is_deleted() {
-    let mut buffer = buffer_of("abcde");
-    assert!(!buffer.have_output() && buffer.successful());
-    assert!(delete_every_second(&mut buffer) == Ok(true));
-    assert_ids(buffer.info(), &[97, 99, 101]);
-    assert_clusters(buffer.info(), &[0, 2, 4]);
 }
