@@ -1,7 +1,7 @@
 //! The constants of scripts by name.
 
 use vukhaso::script::*;
-use vukhaso::{Script, Tag, TagExt};
+use vukhaso::{Script, Tag};
 
 /// Each constant, beside the ISO 15924 code that its name has in Unicode Standard Annex 24.
 const NAMED: [(Script, &str); 173] = [
@@ -183,7 +183,11 @@ const NAMED: [(Script, &str); 173] = [
 #[test]
 fn constants_have_the_codes_of_their_names() {
     for (script, code) in NAMED {
-        assert_eq!(script.tag(), Tag::from_bytes_lossy(code.as_bytes()), "{code}");
+        assert_eq!(
+            script.tag(),
+            Tag::from_bytes_lossy(code.as_bytes()),
+            "{code}"
+        );
         assert_eq!(code.parse::<Script>(), Ok(script), "{code}");
     }
 }
