@@ -7,6 +7,7 @@
     clippy::get_first,
     clippy::len_zero,
     clippy::manual_map,
+    clippy::needless_range_loop,
     clippy::partialeq_to_none,
     clippy::type_complexity,
     reason = "written in the forms that a prover reads best"
