@@ -116,7 +116,7 @@ def programs(named=None):
     found = [PROVED] if PROVED.is_file() else []
     if any((PACKAGE / "src" / main).exists() for main in ("main.rs", "bin")) and shutil.which("cargo"):
         subprocess.run(["cargo", "build", "--release", "--offline", "--quiet", "--bins"], cwd=PACKAGE, check=True)
-        found += sorted(path for path in (PACKAGE / "target/release").iterdir() if path.is_file() and path.name == OF_PACKAGE)
+        found += sorted(path for path in (PACKAGE.parent / "target/release").iterdir() if path.is_file() and path.name == OF_PACKAGE)
     return found
 
 

@@ -4,6 +4,8 @@ All is kept in the folder `vukhaso-harfbuzz` for temporary files, and fetched wh
 package lists of their own and unpacked there: the machine's lists stay as they are, and nothing is installed.
 """
 
+import contextlib
+import fcntl
 import functools
 import os
 import subprocess
@@ -52,6 +54,15 @@ def with_lists(lists, *more):
     return words
 
 
+@contextlib.contextmanager
+def alone():
+    """Held by the run that fetches or builds: one beside it waits, and then finds what was made."""
+    FETCHED.mkdir(parents=True, exist_ok=True)
+    with (FETCHED / "lock").open("w") as held:
+        fcntl.flock(held, fcntl.LOCK_EX)
+        yield
+
+
 def source_of(suite, folder, pattern):
     """The folder of HarfBuzz's sources of a suite of Debian, which are fetched where they are missing."""
     found = sorted(folder.glob(f"harfbuzz-{pattern}/src"))
@@ -69,7 +80,8 @@ def source_of(suite, folder, pattern):
 
 def fetched_sources():
     """The folder of HarfBuzz 10's sources."""
-    return source_of("trixie", FETCHED, "10*")
+    with alone():
+        return source_of("trixie", FETCHED, "10*")
 
 
 def newest_sources():
@@ -125,12 +137,17 @@ def configured():
 def reference():
     """HarfBuzz's own `hb-shape`."""
     program = FETCHED / "hb-shape"
-    return program if program.exists() else built("hb-shape", reference_words())
+    if not program.exists():
+        words = reference_words()
+        with alone():
+            built("hb-shape", words)
+    return program
 
 
 def reference_words():
     source = fetched_sources()
-    glib, regular = (folder / "usr" for folder in unpacked(GLIB, FETCHED / "packages"))
+    with alone():
+        glib, regular = (folder / "usr" for folder in unpacked(GLIB, FETCHED / "packages"))
     includes = [configured(), source, source.parent / "util", glib / "include/glib-2.0",
                 *glib.glob("lib/*/glib-2.0/include")]
     libraries = [*glib.glob("lib/*/libglib-2.0.a"), *regular.glob("lib/*/libpcre2-8.a")]

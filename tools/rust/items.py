@@ -11,7 +11,7 @@ PACKAGE = Path(__file__).resolve().parent.parent.parent / "rust/vukhaso"
 LIST = PACKAGE / "public-items.txt"
 
 # Where what is read is built, so that it waits for no other build of the package.
-BUILT = PACKAGE / "target/read"
+BUILT = PACKAGE.parent / "target/read"
 
 HEAD = "# Written by tools/plain_rust items: what users of the package can name, with default features. Do not edit.\n"
 
