@@ -8,7 +8,9 @@ none, and none is missed.
 
 import hashlib
 import json
+import queue
 import re
+import threading
 import time
 from collections import defaultdict
 from dataclasses import dataclass, field
@@ -16,7 +18,7 @@ from functools import lru_cache
 
 import edit_copies
 from rattle_source import every
-from scratch import PARTS, ROOT, libraries, run, side_by_side, with_below
+from scratch import PARTS, ROOT, Waiting, libraries, run, side_by_side, with_below
 from wrong_bodies import changed_functions, functions_of, is_named, is_of_a_goal, left_open, readers_of, speaks_of, texts_with
 
 # What the checks said.
@@ -235,6 +237,32 @@ class Kept:
         self.file.with_suffix(".new").replace(self.file)
 
 
+class AsProved(Waiting):
+    """The batches of each crate, once its name is read: another command says which crates it has proved, a line each. Meanwhile what is tried
+    here gives way to it."""
+
+    GIVES_WAY = ["nice", "-n", "10"]
+
+    def __init__(self, place, batches, names):
+        self.place, self.batches, self.names, self.read, self.is_open = place, batches, names, queue.SimpleQueue(), True
+        place.before = self.GIVES_WAY
+        threading.Thread(target=self.listen, daemon=True).start()
+
+    def listen(self):
+        for line in self.names:
+            self.read.put(line.strip())
+        self.place.before, self.is_open = [], False
+
+    def taken(self):
+        ready = []
+        while not self.read.empty():
+            name = self.read.get()
+            if name in self.batches:
+                self.place.prove([name])
+                ready += self.batches.pop(name)
+        return ready
+
+
 class Tries:
     """The tries of edits: those of a batch at once, and alone those of which that says nothing. What is refused is kept, and
     where the time is over no other try begins."""
@@ -274,30 +302,43 @@ class Tries:
         said = verdict_alone(edit, tried(self.place, [edit], texts, functions)) if functions else (False, "")
         return [(edit, *(said if said[0] or changed else verdict_alone(edit, tried(self.place, [edit], texts, []))))]
 
-    def run(self, edits):
+    def batches_of(self, edits):
+        """The batches of each crate, each with the memory that it takes."""
+        found = {}
+        for crate in sorted({edit.crate for edit in edits}):
+            needs = self.place.needs(crate.name)
+            chunks, others = edit_copies.chunks_of([edit for edit in edits if edit.crate == crate])
+            found[crate.name] = [(needs, lambda chunk=chunk: self.try_copies(chunk)) for chunk in chunks]
+            found[crate.name] += [(needs, lambda batch=batch: self.try_batch(batch)) for batch in batches_of(crate, others)]
+        return found
+
+    def run(self, edits, names=None):
+        """Tries these edits: all at once, or those of a crate from when its name is read."""
         self.passed = sum(self.kept.key(edit) in self.kept.said for edit in edits)
         if self.passed:
             print(f"{self.passed} of {len(edits)} were refused in an earlier run, and nothing that they stand on has changed", flush=True)
         edits = [edit for edit in edits if self.kept.key(edit) not in self.kept.said]
-        tasks, open_edits = [], []
-        crates = sorted({edit.crate for edit in edits})
-        for crate in crates:
-            needs = self.place.needs(crate.name)
-            chunks, others = edit_copies.chunks_of([edit for edit in edits if edit.crate == crate])
-            tasks += [(needs, lambda chunk=chunk: self.try_copies(chunk)) for chunk in chunks]
-            tasks += [(needs, lambda batch=batch: self.try_batch(batch)) for batch in batches_of(crate, others)]
-        print(f"{len(edits)} wrong bodies of {len(crates)} crates, in {len(tasks)} batches", flush=True)
-        self.tell(tasks, open_edits)
+        open_edits, batches = [], self.batches_of(edits)
+        count = sum(map(len, batches.values()))
+        print(f"{len(edits)} wrong bodies of {len(batches)} crates, in {count} batches", flush=True)
+        if names is None:
+            self.tell([it for tasks in batches.values() for it in tasks], count, open_edits)
+        else:
+            self.tell([], count, open_edits, AsProved(self.place, batches, names))
+            for edit in edits:
+                if edit.crate.name in batches:
+                    self.failed += 1
+                    print(f"{edit.label}: NOT TRIED: its crate is not proved", flush=True)
         if open_edits:
             print(f"alone: {len(open_edits)} of which their batch does not tell", flush=True)
             alone = [(self.place.needs(edit.crate.name), lambda edit=edit: self.try_alone(edit)) for edit in open_edits]
-            self.tell(alone, [])
+            self.tell(alone, len(alone), [])
 
-    def tell(self, tasks, open_edits):
+    def tell(self, tasks, count, open_edits, waiting=Waiting()):
         """Runs the tasks, the largest first, and prints what each edit came to as they end."""
-        for number, found in enumerate(side_by_side(sorted(tasks, key=lambda it: -it[0])), 1):
+        for number, found in enumerate(side_by_side(tasks, waiting), 1):
             if found:
-                print(f"[{time.monotonic() - self.begun:.0f} s, {number} of {len(tasks)}]", flush=True)
+                print(f"[{time.monotonic() - self.begun:.0f} s, {number} of {count}]", flush=True)
             for edit, is_refused, said in found:
                 if is_refused is None:
                     open_edits.append(edit)
@@ -323,7 +364,7 @@ def prove_copies(edits, places):
         for crate in sorted({edit.crate for edit in edits}):
             chunks, _ = edit_copies.chunks_of([edit for edit in edits if edit.crate == crate], is_right=True)
             tasks += [(place.needs(crate.name), lambda chunk=chunk: (chunk, open_copies(place, chunk))) for chunk in chunks]
-        for chunk, left in side_by_side(sorted(tasks, key=lambda it: -it[0])):
+        for chunk, left in side_by_side(tasks):
             passed += len(chunk) - len(left)
             failed += left
             for it in left:
@@ -332,18 +373,18 @@ def prove_copies(edits, places):
     return len(failed)
 
 
-def try_all(edits, places, is_anew=False, seconds=float("inf")):
+def try_all(edits, places, is_anew=False, seconds=float("inf"), names=None):
     """Plants all these edits in a place of this kind, and prints how many are refused. Returns how many are not. What the checks said
-    stands in `LOG`."""
+    stands in `LOG`. With names the edits of a crate are tried once its name is read from them."""
     LOG.parent.mkdir(exist_ok=True)
     LOG.write_text("")
     with places({edit.crate.name for edit in edits}) as place:
-        open_crates, said = place.prove()
+        open_crates, said = place.prove() if names is None else ([], "")
         if open_crates:
             print(said[-3000:], f"not proved as they stand: {' '.join(open_crates)}", f"0 passed, {len(edits)} failed", sep="\n")
             return len(edits)
         tries = Tries(place, Kept(is_anew), seconds)
-        tries.run(edits)
+        tries.run(edits, names)
     if tries.left:
         print(f"the time is over, and {tries.left} are left for another run")
     print(f"in {time.monotonic() - tries.begun:.0f} seconds", f"{tries.passed} passed, {tries.failed} failed", sep="\n")

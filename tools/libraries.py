@@ -20,6 +20,8 @@ class Libraries:
         self.crates = libraries()
         self.names = sorted(set(names) & self.crates.keys())
         self.below = {name: sorted(with_below([name], self.crates) - {name}) for name in self.names}
+        # What goes before a check's own words.
+        self.before = []
 
     def __enter__(self):
         self.room = Path(tempfile.mkdtemp(prefix="vukhaso-bodies-"))
@@ -41,10 +43,10 @@ class Libraries:
         is_there = all((it / f"{it.parent.parent.name}.rlib").is_dir() for it in folders)
         return is_there and len({(it / "stamp").exists() for it in folders}) < 2
 
-    def prove(self):
-        """Has the libraries built that lack. Returns the crates for which that fails, and what was said."""
+    def prove(self, names=None):
+        """Has the libraries built that lack, of some crates or of all. Returns the crates for which that fails, and what was said."""
         open_crates, said = [], ""
-        for name in self.names:
+        for name in self.names if names is None else names:
             if not self.is_ready(name):
                 print(f"the libraries below {name}, by rt check", flush=True)
                 said += run(["rt", "check", "--only", ""], ROOT / "crates" / name).stdout
@@ -74,7 +76,7 @@ class Libraries:
                 (top / path).parent.mkdir(parents=True, exist_ok=True)
                 (top / path).write_text(text)
             root = "src/main.rt" if (top / "src/main.rt").exists() else "src/lib.rt"
-            ran = run([f"{self.kit}/bin/rattle", "check", "--crate-name", name, root, *self.words(name), *words], top)
+            ran = run([*self.before, f"{self.kit}/bin/rattle", "check", "--crate-name", name, root, *self.words(name), *words], top)
             return ran.returncode == 0, ran.stdout.splitlines()
         finally:
             shutil.rmtree(top, ignore_errors=True)

@@ -184,19 +184,41 @@ def processors():
     return int(asked) if asked.isdigit() and int(asked) else len(os.sched_getaffinity(0))
 
 
-def side_by_side(tasks):
+class Waiting:
+    """Tasks that wait for what another command does. While it runs, few of them run beside it."""
+
+    # How many run at once.
+    FEW = 2
+
+    is_open = False
+
+    def taken(self):
+        """The tasks that need wait no longer."""
+        return []
+
+
+def side_by_side(tasks, waiting=Waiting()):
     """Runs calls, each beside as many others as there are processors and memory for, and gives what each returned as it ends.
-    A task is the memory in bytes that it takes, and a call. The first ones begin first."""
+    A task is the memory in bytes that it takes, and a call. The largest ones begin first, also among those that had to wait."""
     left, running, memory = [*tasks], {}, MEMORY * free_memory()
     with ThreadPoolExecutor(processors()) as pool:
         try:
-            while left or running:
+            while True:
+                # (asked before what waits is taken, so nothing that still comes is lost)
+                is_beside = waiting.is_open
+                left = sorted([*left, *waiting.taken()], key=lambda task: -task[0])
+                if not (left or running or is_beside):
+                    return
+                lanes = min(Waiting.FEW, processors()) if is_beside else processors()
                 for task in [*left]:
                     taken = sum(running.values())
-                    if not running or len(running) < processors() and taken + task[0] <= memory:
+                    if not running or len(running) < lanes and taken + task[0] <= memory:
                         left.remove(task)
                         running[pool.submit(task[1])] = task[0]
-                for done in wait(running, return_when=FIRST_COMPLETED).done:
+                if not running:
+                    time.sleep(1)
+                    continue
+                for done in wait(running, timeout=1 if is_beside else None, return_when=FIRST_COMPLETED).done:
                     del running[done]
                     yield done.result()
         finally:
