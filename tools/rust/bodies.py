@@ -188,14 +188,12 @@ class Bodies(Edited):
 
     def name_older_calls(self):
         places = self.bare()
-        for before, at, behind in zip(places, places[1:], places[2:]):
+        for before, at in zip(places, places[1:]):
             if self.texts[before] == "." and self.texts[at] in NEWER:
                 trait, self.texts[at] = NEWER[self.texts[at]]
                 self.of_numbers.add(trait)
             elif self.texts[before] == "." and self.texts[at] == "as_chunks":
                 self.hold_chunks(at)
-            elif self.texts[before] == "&" and self.texts[at] == self.texts[behind] == "[":
-                self.name_chunks(before, at)
 
     def hold_chunks(self, at):
         """`X.as_chunks::<N>()`, of which the first part alone is taken."""
@@ -208,14 +206,6 @@ class Bodies(Edited):
         self.put(self.behind(start + 1), f"Chunks{size}::split(" + self.texts[self.behind(start + 1)])
         self.cut(self.before(at), opening)
         self.put(opening, "")
-
-    def name_chunks(self, before, at):
-        """A list of chunks that is written out, in one of the types that hold chunks."""
-        opening = self.before(before)
-        if self.texts[opening] == "(" and self.texts[self.before(opening)] in CHUNKED:
-            self.of_numbers.add("Chunks")
-            self.put(before, "Chunks::from(&")
-            self.put(self.source.closing(at), "])")
 
     def hold_chunk_types(self, item):
         """The type `&'a [[u8; N]]` of a struct."""

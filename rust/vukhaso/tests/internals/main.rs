@@ -1,0 +1,13 @@
+//! Tests of the modules above the buffer, over what `internals` makes public: of each call, its answers.
+#![allow(clippy::type_complexity, reason = "rows of a table are tuples")]
+
+type Fail = Box<dyn std::error::Error>;
+
+mod aat;
+mod fonts;
+mod layout;
+mod passes;
+mod positions;
+mod scripts;
+mod shapers;
+mod variations;
