@@ -1,31 +1,5 @@
-use crate::lists::{add, assert_glyphs};
-use shaping_buffer::{UnicodeBuffer, hb_buffer_t, hb_glyph_info_t};
-use std::process::Abort;
-
-fn reset(rt: &impl Abort, buffer: &mut hb_buffer_t, mask: u32) {
-    assert!(rt; !buffer.have_output());
-    buffer.reset_masks(mask);
-}
-
-/// Sets the bit 8 from a cluster to the largest.
-fn set(rt: &impl Abort, buffer: &mut hb_buffer_t, start: u32) {
-    assert!(rt; !buffer.have_output());
-    buffer.set_masks(8, 8, start, u32::MAX);
-}
-
-#[test]
-fn the_largest_cluster_is_in_the_range_of_all(rt: HostRuntime) {
-    let mut text = UnicodeBuffer::new(rt.alloc());
-    add(&rt, &mut text, 'a', u32::MAX);
-    let mut buffer = text.into_buffer();
-    reset(&rt, &mut buffer, 5);
-    assert_glyphs(&rt, buffer.info(), &[(u32::MAX, 5)]);
-    reset(&rt, &mut buffer, 0);
-    for (start, mask) in [(1, 0), (0, 8)] {
-        set(&rt, &mut buffer, start);
-        assert_glyphs(&rt, buffer.info(), &[(u32::MAX, mask)]);
-    }
-}
+use crate::lists::assert_glyphs;
+use shaping_buffer::{hb_buffer_t, hb_glyph_info_t};
 
 #[test]
 fn a_glyph_is_put_into_a_cluster(rt: HostRuntime) {

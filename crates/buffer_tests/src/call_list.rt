@@ -1,9 +1,8 @@
-//! Lists of calls, where lines of the program do not say all: what a caller alone can hand in, and how a buffer stores its glyphs.
+//! Lists of calls, where lines of the program do not say all: what a caller alone can hand in.
 
 use crate::lists::buffer_of;
 use shaping_buffer::{hb_buffer_t, hb_glyph_info_t};
 use shaping_runs::{Answer, Call, Stopped, replay};
-use std::alloc::Global;
 use std::process::Abort;
 use std::test::Fail;
 
@@ -11,8 +10,6 @@ use std::test::Fail;
 type Seen = (u32, u32, u32);
 
 const DONE: Answer = Answer::Done;
-
-const REFUSED: Answer = Answer::Refused;
 
 const OUTSIDE: Answer = Answer::Outside;
 
@@ -69,152 +66,6 @@ fn a_glyph_of_the_callers_is_put_out(rt: HostRuntime) {
     make_all(&rt, &mut buffer, CALLERS);
     assert_glyphs(&rt, buffer.out_info(), &[(5, 6, 1), (97, 0, 0)]);
     assert!(rt; buffer.scratch_flags == 0);
-}
-
-/// A limit of so many glyphs on each side of AB.
-fn set_limit(rt: &impl Abort, buffer: &mut hb_buffer_t, limit: usize) {
-    assert!(rt; buffer.len() <= limit && buffer.out_len() <= limit);
-    buffer.set_max_len(limit);
-}
-
-const BELOW_LIMIT: &[(Call<'static>, Answer, bool)] = &[
-    (Call::ClearOutput, DONE, false),
-    (Call::NextGlyphs(2), DONE, false),
-];
-
-const AT_LIMIT: &[(Call<'static>, Answer, bool)] = &[
-    (Call::OutputInfo(GLYPH), DONE, true),
-    (Call::OutputInfo(GLYPH), REFUSED, true),
-];
-
-/// One glyph of the caller's more than the limit is refused, at any level; levels above 3 act as 0.
-#[test]
-fn a_glyph_of_the_callers_keeps_to_the_limit(rt: HostRuntime) {
-    for level in [0, 1, 2, 3, 4, 4_294_967_295] {
-        let mut buffer = buffer_of(&rt, rt.alloc(), "AB");
-        buffer.cluster_level = level;
-        make_all(&rt, &mut buffer, BELOW_LIMIT);
-        set_limit(&rt, &mut buffer, 3);
-        make_all(&rt, &mut buffer, AT_LIMIT);
-        assert!(rt;
-            (buffer.out_len(), buffer.successful()) == (3, false),
-            "{level}"
-        );
-    }
-}
-
-/// Ids are taken as many as are asked for: with fewer nothing is done, and of more the first ones.
-const IDS: &[(Call<'static>, Answer, bool)] = &[
-    (Call::ClearOutput, DONE, false),
-    (Call::ReplaceGlyphs(0, 2, &[7, 8]), DONE, true),
-    (Call::ReplaceGlyphs(3, 1, &[9]), OUTSIDE, true),
-    (Call::ReplaceGlyphs(1, 2, &[9]), OUTSIDE, true),
-    (Call::ReplaceGlyphs(1, 1, &[5, 6]), DONE, true),
-];
-
-#[test]
-fn ids_are_as_many_as_are_asked_for(rt: HostRuntime) {
-    let mut buffer = buffer_of(&rt, rt.alloc(), "ab");
-    make_all(&rt, &mut buffer, IDS);
-    assert_glyphs(&rt, buffer.out_info(), &[(7, 0, 0), (8, 0, 0), (5, 0, 0)]);
-    assert_glyphs(&rt, buffer.info(), &[(98, 1, 0)]);
-}
-
-/// Calls on three glyphs at a level that has no name, what they leave, and the scratch flags.
-static UNNAMED: [(Call<'static>, &[Seen], u32); 3] = [
-    (
-        Call::MergeClusters(0, 2),
-        &[(97, 0, 0), (98, 0, 0), (99, 2, 0)],
-        0,
-    ),
-    (
-        Call::MergeGraphemeClusters(1, 3),
-        &[(97, 0, 0), (98, 1, 0), (99, 1, 0)],
-        0,
-    ),
-    (
-        Call::UnsafeToBreak(None, None),
-        &[(97, 0, 0), (98, 1, 3), (99, 2, 3)],
-        0x20,
-    ),
-];
-
-/// Asserts what a call leaves of "abc" at a level.
-fn assert_left(
-    rt: &impl Abort,
-    alloc: Global,
-    level: u32,
-    (call, want, scratch_flags): &(Call<'_>, &[Seen], u32),
-) {
-    let mut buffer = buffer_of(rt, alloc, "abc");
-    buffer.cluster_level = level;
-    make_one(rt, &mut buffer, *call, DONE, false);
-    assert_glyphs(rt, buffer.info(), want);
-    let found = (buffer.scratch_flags, buffer.cluster_level);
-    assert!(rt; found == (*scratch_flags, level), "{call:?}");
-}
-
-/// They act as level 0.
-#[test]
-fn levels_may_have_no_name(rt: HostRuntime) {
-    for level in [4, 4_294_967_295] {
-        for row in &UNNAMED {
-            assert_left(&rt, rt.alloc(), level, row);
-        }
-    }
-}
-
-/// Asserts that the storage has five glyphs, and these at their places.
-fn assert_places(rt: &impl Abort, buffer: &hb_buffer_t, want: &[(usize, u32)]) {
-    assert!(rt; !buffer.have_separate_output());
-    let storage = buffer.storage();
-    assert!(rt; storage.len() == 5);
-    for (place, id) in want {
-        assert!(rt; *place < storage.len(), "{id} at {place}");
-        assert!(rt; storage[*place].glyph_id == *id, "{id} at {place}");
-    }
-}
-
-const SKIPPED: &[(Call<'static>, Answer, bool)] = &[
-    (Call::ClearOutput, DONE, false),
-    (Call::SkipGlyph, DONE, false),
-    (Call::NextGlyph, DONE, false),
-    (Call::NextGlyph, DONE, false),
-    (Call::NextGlyph, DONE, false),
-];
-
-#[test]
-fn a_rewind_moves_glyphs_up_in_the_vector(rt: HostRuntime) {
-    let mut buffer = buffer_of(&rt, rt.alloc(), "ZABCD");
-    make_all(&rt, &mut buffer, SKIPPED);
-    assert_places(&rt, &buffer, &[(0, 65), (1, 66), (2, 67), (4, 68)]);
-    make_one(&rt, &mut buffer, Call::MoveTo(0), DONE, false);
-    assert!(rt; (buffer.idx(), buffer.out_len()) == (1, 0));
-    assert_places(&rt, &buffer, &[(1, 65), (2, 66), (3, 67), (4, 68)]);
-}
-
-const REPLACED: &[(Call<'static>, Answer, bool)] = &[
-    (Call::ClearOutput, DONE, false),
-    (Call::ReplaceGlyphs(2, 1, &[9]), DONE, false),
-    (Call::OutputGlyph(7), DONE, false),
-    (Call::OutputGlyph(8), DONE, true),
-    (Call::Sync, DONE, false),
-];
-
-const COPIED: &[(Call<'static>, Answer, bool)] = &[
-    (Call::ClearOutput, DONE, false),
-    (Call::NextGlyph, DONE, false),
-    (Call::CopyGlyph, DONE, true),
-    (Call::SkipGlyph, DONE, true),
-];
-
-#[test]
-fn an_output_is_separate_once_it_is_the_longer(rt: HostRuntime) {
-    for (calls, len) in [(REPLACED, 3), (COPIED, 2)] {
-        let mut buffer = buffer_of(&rt, rt.alloc(), "AB");
-        make_all(&rt, &mut buffer, calls);
-        assert!(rt; buffer.len() == len, "the run of {len}");
-    }
 }
 
 #[test]

@@ -31,16 +31,6 @@ fn set_advances(rt: &impl Abort, buffer: &mut hb_buffer_t) {
     }
 }
 
-/// Asserts the id, the cluster, the mask and the advance of each glyph, and where the cursor is.
-fn assert_list(rt: &impl Abort, name: &str, buffer: &hb_buffer_t, want: &[(u32, u32, u32, i32)]) {
-    assert!(rt; buffer.have_positions(), "{name}");
-    assert!(rt; (buffer.idx(), buffer.len()) == (0, want.len()), "{name}");
-    for ((glyph, pos), want) in buffer.info().iter().zip(buffer.pos()).zip(want) {
-        let found = (glyph.glyph_id, glyph.cluster, glyph.mask, pos.x_advance);
-        assert!(rt; found == *want, "{name}");
-    }
-}
-
 fn reverse_range(rt: &impl Abort, buffer: &mut hb_buffer_t, start: usize, end: usize) {
     assert!(rt; !buffer.have_output() && start <= end && end <= buffer.len());
     buffer.reverse_range(start, end);
@@ -49,12 +39,6 @@ fn reverse_range(rt: &impl Abort, buffer: &mut hb_buffer_t, start: usize, end: u
 fn reverse_clusters(rt: &impl Abort, buffer: &mut hb_buffer_t) {
     assert!(rt; !buffer.have_output());
     buffer.reverse_groups(_cluster_group_func, false);
-}
-
-/// Reverses groups that go on at the glyph `id`, and nowhere else, merged.
-fn reverse_merged(rt: &impl Abort, buffer: &mut hb_buffer_t, id: u32) {
-    assert!(rt; !buffer.have_output());
-    buffer.reverse_groups(|_, next| next.glyph_id == id, true);
 }
 
 /// Deletes the glyphs with these ids.
@@ -68,40 +52,11 @@ fn reverse(rt: &impl Abort, buffer: &mut hb_buffer_t) {
     buffer.reverse();
 }
 
-fn skip(rt: &impl Abort, buffer: &mut hb_buffer_t) {
-    assert!(rt; buffer.lookahead_len() > 0);
-    buffer.skip_glyph();
-}
-
 /// The text at a cluster level.
 fn buffer_at(rt: &impl Abort, alloc: Global, level: u32, glyphs: &[(u32, u32)]) -> hb_buffer_t {
     let mut buffer = buffer_of(rt, alloc, glyphs);
     buffer.cluster_level = level;
     buffer
-}
-
-/// Asserts whether the scratch flag says that there are glyph flags.
-fn assert_told(rt: &impl Abort, buffer: &hb_buffer_t, told: bool) {
-    assert!(rt; buffer.scratch_flags == (if told { 32 } else { 0 }));
-}
-
-#[test]
-fn positions_follow_reversals(rt: HostRuntime) {
-    let mut buffer = buffer_of(&rt, rt.alloc(), &[(0, 1), (1, 2), (2, 3)]);
-    reverse(&rt, &mut buffer);
-    assert_list(
-        &rt,
-        "the whole list",
-        &buffer,
-        &[(99, 2, 3, 30), (98, 1, 2, 20), (97, 0, 1, 10)],
-    );
-    reverse_range(&rt, &mut buffer, 1, 3);
-    assert_list(
-        &rt,
-        "a range",
-        &buffer,
-        &[(99, 2, 3, 30), (97, 0, 1, 10), (98, 1, 2, 20)],
-    );
 }
 
 #[test]
@@ -113,149 +68,6 @@ fn an_empty_list_stays_empty(rt: HostRuntime) {
     delete(&rt, &mut plain, &[97]);
     assert!(rt; !plain.have_positions());
     assert!(rt; plain.len() == 0);
-}
-
-#[test]
-fn groups_change_places(rt: HostRuntime) {
-    let mut buffer = buffer_of(&rt, rt.alloc(), &[(0, 0), (0, 0), (1, 0), (2, 0), (2, 0)]);
-    reverse_clusters(&rt, &mut buffer);
-    let reversed = [
-        (100, 2, 0, 40),
-        (101, 2, 0, 50),
-        (99, 1, 0, 30),
-        (97, 0, 0, 10),
-        (98, 0, 0, 20),
-    ];
-    assert_list(&rt, "clusters", &buffer, &reversed);
-    reverse_merged(&rt, &mut buffer, 0);
-    let as_before = [
-        (98, 0, 0, 20),
-        (97, 0, 0, 10),
-        (99, 1, 0, 30),
-        (101, 2, 0, 50),
-        (100, 2, 0, 40),
-    ];
-    assert_list(&rt, "glyph by glyph", &buffer, &as_before);
-}
-
-/// Glyphs at a cluster level, and what a call leaves of them.
-struct Row<'a> {
-    name: &'a str,
-    level: u32,
-    glyphs: &'a [(u32, u32)],
-    want: &'a [(u32, u32, u32, i32)],
-}
-
-const RISING: &[(u32, u32)] = &[(0, 0), (1, 0), (2, 0)];
-
-/// Groups that go on at `b`, merged.
-static MERGED: [Row<'static>; 3] = [
-    Row {
-        name: "two clusters become one",
-        level: 0,
-        glyphs: RISING,
-        want: &[(99, 2, 0, 30), (97, 0, 0, 10), (98, 0, 0, 20)],
-    },
-    Row {
-        name: "the run of the last goes along",
-        level: 0,
-        glyphs: &[(0, 0), (1, 0), (1, 0)],
-        want: &[(99, 0, 0, 30), (97, 0, 0, 10), (98, 0, 0, 20)],
-    },
-    Row {
-        name: "at level 2 they are marked",
-        level: 2,
-        glyphs: RISING,
-        want: &[(99, 2, 0, 30), (97, 0, 0, 10), (98, 1, 3, 20)],
-    },
-];
-
-#[test]
-fn groups_are_merged(rt: HostRuntime) {
-    for row in &MERGED {
-        let mut buffer = buffer_at(&rt, rt.alloc(), row.level, row.glyphs);
-        reverse_merged(&rt, &mut buffer, 98);
-        assert_list(&rt, row.name, &buffer, row.want);
-        assert_told(&rt, &buffer, row.level == 2);
-    }
-}
-
-/// What deletion of one glyph leaves, after the cursor was moved; then none is deleted, and then all.
-fn assert_deleted(rt: &impl Abort, alloc: Global, id: u32, row: &Row<'_>) {
-    let mut buffer = buffer_at(rt, alloc, row.level, row.glyphs);
-    skip(rt, &mut buffer);
-    delete(rt, &mut buffer, &[id]);
-    assert_list(rt, row.name, &buffer, row.want);
-    assert_told(rt, &buffer, row.level == 2);
-    delete(rt, &mut buffer, &[]);
-    assert_list(rt, row.name, &buffer, row.want);
-    delete(rt, &mut buffer, &[97, 98, 99]);
-    assert_list(rt, row.name, &buffer, &[]);
-}
-
-static FIRST_DELETED: [Row<'static>; 2] = [
-    Row {
-        name: "the next glyph takes the lower cluster",
-        level: 0,
-        glyphs: RISING,
-        want: &[(98, 0, 0, 20), (99, 2, 0, 30)],
-    },
-    Row {
-        name: "at level 2 the next glyph is marked",
-        level: 2,
-        glyphs: RISING,
-        want: &[(98, 1, 3, 20), (99, 2, 0, 30)],
-    },
-];
-
-static SECOND_DELETED: [Row<'static>; 2] = [
-    Row {
-        name: "the glyph before takes the lower cluster",
-        level: 0,
-        glyphs: &[(2, 0), (1, 0), (0, 0)],
-        want: &[(97, 1, 0, 10), (99, 0, 0, 30)],
-    },
-    Row {
-        name: "and the flags of the deleted glyph",
-        level: 0,
-        glyphs: &[(2, 8), (1, 3), (0, 0)],
-        want: &[(97, 1, 11, 10), (99, 0, 0, 30)],
-    },
-];
-
-#[test]
-fn glyphs_are_deleted_in_place(rt: HostRuntime) {
-    for row in &FIRST_DELETED {
-        assert_deleted(&rt, rt.alloc(), 97, row);
-    }
-    for row in &SECOND_DELETED {
-        assert_deleted(&rt, rt.alloc(), 98, row);
-    }
-}
-
-/// Where the group and the syllable of a glyph end.
-fn assert_ends(rt: &impl Abort, buffer: &hb_buffer_t, start: usize, group: usize, syllable: usize) {
-    assert!(rt; !buffer.have_output() && start < buffer.len());
-    let end = buffer.group_end(start, _cluster_group_func);
-    assert!(rt; (end, buffer.next_syllable(start)) == (group, syllable));
-}
-
-fn set_syllables(rt: &impl Abort, buffer: &mut hb_buffer_t, syllables: &[u8]) {
-    assert!(rt; !buffer.have_output());
-    for (glyph, syllable) in buffer.info_slice_mut().iter_mut().zip(syllables) {
-        glyph.set_syllable(*syllable);
-    }
-}
-
-#[test]
-fn groups_and_syllables_end(rt: HostRuntime) {
-    let mut buffer = buffer_of(&rt, rt.alloc(), &[(0, 0), (0, 0), (1, 0)]);
-    set_syllables(&rt, &mut buffer, &[1, 2, 2]);
-    assert_ends(&rt, &buffer, 0, 2, 1);
-    assert_ends(&rt, &buffer, 1, 2, 3);
-    assert_ends(&rt, &buffer, 2, 3, 3);
-    assert!(rt; !buffer.have_output());
-    assert!(rt; buffer.next_syllable(5) == 5);
 }
 
 /// Counts its calls, and answers true but at each of so many.

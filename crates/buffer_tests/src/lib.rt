@@ -1,5 +1,5 @@
-//! Tests of `shaping_buffer`, `shaping_runs` and `shaping_uses`, over what they make public, as in the `tests/` folder
-//! of a Rust crate. Most calls are tested by lines of the program, in `rows/calls`; here is what these do not say.
+//! Tests of `shaping_buffer`, `shaping_runs` and `shaping_uses`: what Rattle alone shows, and of each module a call. Values are tested by
+//! lines of the program, in `rows/calls`, and in `tests/internals/buffer` of the package `rust/vukhaso`.
 #![tactic(auto)]
 
 #[cfg(test)]
@@ -12,8 +12,6 @@ mod call_list;
 mod glyph_buffer;
 #[cfg(test)]
 mod groups;
-#[cfg(test)]
-mod levels;
 #[cfg(test)]
 mod limits;
 #[cfg(test)]

@@ -1,6 +1,5 @@
 use crate::lists::buffer_of;
 use shaping_buffer::hb_buffer_t;
-use std::alloc::Global;
 use std::process::Abort;
 
 fn set_max_len(rt: &impl Abort, buffer: &mut hb_buffer_t, len: usize) {
@@ -37,44 +36,4 @@ fn room_is_never_taken_away(rt: HostRuntime) {
     }
     buffer.clear();
     assert_room(&rt, &buffer, 0, 5);
-}
-
-/// The limits after `enter` over a text, and that `leave` puts them back.
-fn assert_limits(rt: &impl Abort, alloc: Global, text: &str, max_len: usize, max_ops: i32) {
-    let mut buffer = buffer_of(rt, alloc, text);
-    enter(rt, &mut buffer);
-    assert!(rt; (buffer.max_len(), buffer.max_ops) == (max_len, max_ops));
-    leave(rt, &mut buffer);
-    assert!(rt; (buffer.max_len(), buffer.max_ops) == (1_073_741_823, 536_870_911));
-}
-
-fn enter(rt: &impl Abort, buffer: &mut hb_buffer_t) {
-    assert!(rt; !buffer.have_output());
-    buffer.enter();
-}
-
-fn leave(rt: &impl Abort, buffer: &mut hb_buffer_t) {
-    assert!(rt; !buffer.have_output());
-    buffer.leave();
-}
-
-#[test]
-fn limits_follow_the_length(rt: HostRuntime) {
-    assert_limits(&rt, rt.alloc(), "abc", 16_384, 16_384);
-    let long = "abcdefghijabcdefghijabcdefghijabcdefghijabcdefghij\
-        abcdefghijabcdefghijabcdefghijabcdefghijabcdefghij\
-        abcdefghijabcdefghijabcdefghijabcdefghijabcdefghij\
-        abcdefghijabcdefghijabcdefghijabcdefghijabcdefghij\
-        abcdefghijabcdefghijabcdefghijabcdefghijabcdefghij\
-        abcdefghijabcdefghijabcdefghijabcdefghijabcdefghij";
-    assert_limits(&rt, rt.alloc(), long, 19_200, 307_200);
-}
-
-#[test]
-fn ligatures_have_numbers_from_one_to_seven(rt: HostRuntime) {
-    let mut buffer = hb_buffer_t::new(rt.alloc());
-    for (serial, number, next) in [(7, 1, 9), (254, 7, 255), (255, 1, 1)] {
-        buffer.serial = serial;
-        assert!(rt; (buffer.allocate_lig_id(), buffer.serial) == (number, next));
-    }
 }

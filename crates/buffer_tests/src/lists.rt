@@ -31,14 +31,6 @@ pub(crate) fn add(rt: &impl Abort, text: &mut UnicodeBuffer, character: char, cl
     assert!(rt; text.add(character, cluster) == Ok(true));
 }
 
-/// Asserts the ids of the glyphs.
-pub(crate) fn assert_ids(rt: &impl Abort, glyphs: &[hb_glyph_info_t], want: &[u32]) {
-    assert!(rt; glyphs.len() == want.len());
-    for (glyph, id) in glyphs.iter().zip(want.iter()) {
-        assert!(rt; glyph.glyph_id == *id, "{want:?}");
-    }
-}
-
 pub(crate) fn clear_output(rt: &impl Abort, buffer: &mut hb_buffer_t) {
     assert!(rt; !buffer.have_output());
     buffer.clear_output();
@@ -47,13 +39,6 @@ pub(crate) fn clear_output(rt: &impl Abort, buffer: &mut hb_buffer_t) {
 pub(crate) fn clear_positions(rt: &impl Abort, buffer: &mut hb_buffer_t) {
     assert!(rt; !buffer.have_output());
     buffer.clear_positions();
-}
-
-/// Opens an output, and reads a glyph.
-pub(crate) fn read_one(rt: &impl Abort, buffer: &mut hb_buffer_t) {
-    clear_output(rt, buffer);
-    assert!(rt; buffer.lookahead_len() > 0);
-    assert!(rt; buffer.next_glyph() == Ok(true));
 }
 
 /// A text so many times.

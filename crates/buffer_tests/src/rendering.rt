@@ -1,5 +1,5 @@
-use shaping_buffer::{BufferClusterLevel, Feature, GlyphBuffer, GlyphInfo, Tag};
-use shaping_runs::{Answer, Call, RenderFault, render, render_at};
+use shaping_buffer::{BufferClusterLevel, Feature, GlyphBuffer, Tag};
+use shaping_runs::{Answer, Call, RenderFault, render_at};
 use std::alloc::Global;
 use std::process::Abort;
 
@@ -12,46 +12,6 @@ fn kern(value: u32, start: u32, end: u32) -> Feature {
     }
 }
 
-fn assert_masks(rt: &impl Abort, glyphs: &GlyphBuffer, want: &[u32]) {
-    assert!(rt; glyphs.len() == want.len());
-    for (glyph, want) in glyphs.glyph_infos().iter().zip(want) {
-        assert!(rt; glyph.mask == *want, "{want}");
-    }
-    assert!(rt; glyphs.glyph_positions().len() == want.len());
-    for position in glyphs.glyph_positions() {
-        assert!(rt; (position.x_advance, position.y_advance) == (0, 0));
-        assert!(rt; (position.x_offset, position.y_offset) == (0, 0));
-    }
-}
-
-/// Asserts the masks of the text "ab" rendered with features.
-fn assert_masked(rt: &impl Abort, alloc: Global, features: &[Feature], masks: &[u32]) {
-    let mut answers = [Answer::Outside; 3];
-    let calls = [Call::ClearOutput, Call::NextGlyph, Call::Sync];
-    match render(alloc, "ab", features, &calls, &mut answers) {
-        Ok(glyphs) => assert_masks(rt, &glyphs, masks),
-        Err(_) => panic!(rt; "not rendered"),
-    }
-    assert!(rt; answers == [Answer::Done; 3]);
-}
-
-#[test]
-fn features_set_the_bits_of_their_places(rt: HostRuntime) {
-    let all = u32::MAX;
-    let off_then_on = [kern(0, 0, all), kern(5, 0, 1)];
-    let on_and_off = [kern(1, 0, all), kern(0, 0, all), kern(7, 1, 9)];
-    let rows: [(&[Feature], [u32; 2]); 5] = [
-        (&[kern(1, 1, 2)], [0, 256]),
-        (&[kern(0, 0, all)], [0, 0]),
-        (&off_then_on, [512, 0]),
-        (&on_and_off, [256, 1280]),
-        (&[kern(1, 0, all); 24], [0xFFFF_FF00, 0xFFFF_FF00]),
-    ];
-    for (features, masks) in &rows {
-        assert_masked(&rt, rt.alloc(), features, masks);
-    }
-}
-
 const LEVELS: [BufferClusterLevel; 4] = [
     BufferClusterLevel::MonotoneGraphemes,
     BufferClusterLevel::MonotoneCharacters,
@@ -59,69 +19,24 @@ const LEVELS: [BufferClusterLevel; 4] = [
     BufferClusterLevel::Graphemes,
 ];
 
-/// What a text with features is after one call, at a level or at none that is said, and the answer to the call.
+/// What a text with features is after one call, at a level, and the answer to the call.
 fn rendered(
     alloc: Global,
-    level: Option<BufferClusterLevel>,
+    level: BufferClusterLevel,
     text: &str,
     features: &[Feature],
     call: Call<'_>,
 ) -> (Result<GlyphBuffer, RenderFault>, Answer) {
     let mut answers = [Answer::Outside];
-    let glyphs = match level {
-        Some(level) => render_at(alloc, level, text, features, &[call], &mut answers),
-        None => render(alloc, text, features, &[call], &mut answers),
-    };
+    let glyphs = render_at(alloc, level, text, features, &[call], &mut answers);
     (glyphs, answers[0])
-}
-
-/// Asserts the clusters and the glyph flags of "abc" after a call.
-fn assert_called(
-    rt: &impl Abort,
-    alloc: Global,
-    level: Option<BufferClusterLevel>,
-    call: Call<'_>,
-    want: &[(u32, u32)],
-) {
-    let (rendered, answer) = rendered(alloc, level, "abc", &[], call);
-    assert!(rt; answer == Answer::Done);
-    match rendered {
-        Ok(glyphs) => assert_flagged(rt, glyphs.glyph_infos(), want),
-        Err(_) => panic!(rt; "not rendered"),
-    }
-}
-
-fn assert_flagged(rt: &impl Abort, glyphs: &[GlyphInfo], want: &[(u32, u32)]) {
-    assert!(rt; glyphs.len() == want.len());
-    for (glyph, want) in glyphs.iter().zip(want) {
-        assert!(rt; (glyph.cluster, glyph.mask & 7) == *want, "{want:?}");
-    }
-}
-
-#[test]
-fn a_text_is_rendered_at_its_level(rt: HostRuntime) {
-    let marked: &[(u32, u32)] = &[(0, 0), (1, 3), (2, 0)];
-    let merged: &[(u32, u32)] = &[(0, 0), (0, 0), (2, 0)];
-    // what `merge_clusters` leaves, and what `merge_grapheme_clusters` leaves
-    let rows = [
-        (merged, merged),
-        (merged, marked),
-        (marked, marked),
-        (marked, merged),
-    ];
-    let (merge, merge_graphemes) = (Call::MergeClusters(0, 2), Call::MergeGraphemeClusters(0, 2));
-    for (level, (clusters, graphemes)) in LEVELS.iter().zip(rows) {
-        assert_called(&rt, rt.alloc(), Some(*level), merge, clusters);
-        assert_called(&rt, rt.alloc(), Some(*level), merge_graphemes, graphemes);
-    }
-    assert_called(&rt, rt.alloc(), None, merge_graphemes, merged);
 }
 
 /// Asserts the fault of "ab" with features, whose output is opened and not closed, and the answer to that call.
 fn assert_fault(
     rt: &impl Abort,
     alloc: Global,
-    level: Option<BufferClusterLevel>,
+    level: BufferClusterLevel,
     features: &[Feature],
     want: (RenderFault, Answer),
 ) {
@@ -132,7 +47,7 @@ fn assert_fault(
     }
 }
 
-fn assert_faults(rt: &impl Abort, alloc: Global, level: Option<BufferClusterLevel>) {
+fn assert_faults(rt: &impl Abort, alloc: Global, level: BufferClusterLevel) {
     let left_open = (RenderFault::OutputLeftOpen, Answer::Done);
     assert_fault(rt, alloc, level, &[], left_open);
     let too_many = (RenderFault::TooManyFeatures, Answer::Outside);
@@ -140,13 +55,8 @@ fn assert_faults(rt: &impl Abort, alloc: Global, level: Option<BufferClusterLeve
 }
 
 #[test]
-fn faults_say_where(rt: HostRuntime) {
-    assert_faults(&rt, rt.alloc(), None);
-}
-
-#[test]
 fn faults_come_at_each_level(rt: HostRuntime) {
     for level in LEVELS {
-        assert_faults(&rt, rt.alloc(), Some(level));
+        assert_faults(&rt, rt.alloc(), level);
     }
 }

@@ -1,13 +1,10 @@
-//! Steps of runs over a buffer: calls of `shaping_uses` and of the probes. A function has one of them, whose contract ends
+//! Steps of runs over a buffer: calls of the probes, and of `shaping_uses`. A function has one of them, whose contract ends
 //! with it; what it requires is tested, and one that may be refused has to be done.
 
 use crate::lists::{clear_output, clear_positions};
 use crate::probes::references::*;
 use shaping_buffer::hb_buffer_t;
-use shaping_uses::deletion::delete_every_second;
-use shaping_uses::in_place::*;
-use shaping_uses::ligature::ligate;
-use shaping_uses::room::{put_marks, put_marks_within_room};
+use shaping_uses::in_place::next_in_place;
 use std::process::Abort;
 
 /// A step of a run.
@@ -26,18 +23,8 @@ pub(crate) enum Step {
     // calls of the buffer
     ClearPositions,
     ClearOutput,
-    SkipGlyph,
-    Ensure(usize),
-    // uses
+    // a use
     NextInPlace,
-    ReplaceInPlace(u32),
-    NextGlyphsInPlace(usize),
-    MoveInPlace(usize),
-    SyncInPlace,
-    PutMarks(u32),
-    PutMarksWithinRoom(u32),
-    Ligate,
-    DeleteEverySecond,
 }
 
 pub(crate) fn make_all(rt: &impl Abort, buffer: &mut hb_buffer_t, steps: &[Step]) {
@@ -59,17 +46,7 @@ fn make(rt: &impl Abort, buffer: &mut hb_buffer_t, step: &Step) {
         Step::MaskLast => mask_end(rt, buffer),
         Step::ClearPositions => clear_positions(rt, buffer),
         Step::ClearOutput => clear_output(rt, buffer),
-        Step::SkipGlyph => skip_glyph(rt, buffer),
-        Step::Ensure(size) => ensure(rt, buffer, size),
         Step::NextInPlace => next(rt, buffer),
-        Step::ReplaceInPlace(id) => replace(rt, buffer, id),
-        Step::NextGlyphsInPlace(n) => next_glyphs(rt, buffer, n),
-        Step::MoveInPlace(place) => move_to(rt, buffer, place),
-        Step::SyncInPlace => sync(rt, buffer),
-        Step::PutMarks(mark) => put(rt, buffer, mark),
-        Step::PutMarksWithinRoom(mark) => put_within_room(rt, buffer, mark),
-        Step::Ligate => ligate_all(rt, buffer),
-        Step::DeleteEverySecond => delete_half(rt, buffer),
     }
 }
 
@@ -108,60 +85,7 @@ fn mask_end(rt: &impl Abort, buffer: &mut hb_buffer_t) {
     mask_last(buffer);
 }
 
-fn skip_glyph(rt: &impl Abort, buffer: &mut hb_buffer_t) {
-    assert!(rt; buffer.lookahead_len() > 0);
-    buffer.skip_glyph();
-}
-
-fn ensure(rt: &impl Abort, buffer: &mut hb_buffer_t, size: usize) {
-    assert!(rt; buffer.ensure(size) == Ok(true));
-}
-
 fn next(rt: &impl Abort, buffer: &mut hb_buffer_t) {
     assert!(rt; buffer.lookahead_len() > 0 && !buffer.have_separate_output());
     assert!(rt; next_in_place(buffer) == Ok(true));
-}
-
-fn replace(rt: &impl Abort, buffer: &mut hb_buffer_t, id: u32) {
-    assert!(rt; buffer.have_output() && buffer.lookahead_len() > 0);
-    assert!(rt; !buffer.have_separate_output());
-    assert!(rt; replace_in_place(buffer, id) == Ok(true));
-}
-
-fn next_glyphs(rt: &impl Abort, buffer: &mut hb_buffer_t, n: usize) {
-    assert!(rt; n <= buffer.lookahead_len() && !buffer.have_separate_output());
-    assert!(rt; next_glyphs_in_place(buffer, n) == Ok(true));
-}
-
-fn move_to(rt: &impl Abort, buffer: &mut hb_buffer_t, place: usize) {
-    assert!(rt; buffer.have_output() && place <= buffer.out_len());
-    assert!(rt; buffer.successful() && !buffer.have_separate_output());
-    assert!(rt; move_in_place(buffer, place) == Ok(true));
-}
-
-fn sync(rt: &impl Abort, buffer: &mut hb_buffer_t) {
-    assert!(rt; buffer.have_output() && buffer.successful());
-    assert!(rt; !buffer.have_separate_output());
-    assert!(rt; sync_in_place(buffer) == Ok(true));
-}
-
-fn put(rt: &impl Abort, buffer: &mut hb_buffer_t, mark: u32) {
-    assert!(rt; !buffer.have_output() && buffer.successful());
-    assert!(rt; put_marks(buffer, mark) == Ok(true));
-}
-
-fn put_within_room(rt: &impl Abort, buffer: &mut hb_buffer_t, mark: u32) {
-    assert!(rt; !buffer.have_output() && buffer.successful());
-    assert!(rt; buffer.info().len() == 4 && buffer.room() >= 8 && buffer.max_len() >= 8);
-    assert!(rt; put_marks_within_room(buffer, mark) == Ok(true));
-}
-
-fn ligate_all(rt: &impl Abort, buffer: &mut hb_buffer_t) {
-    assert!(rt; !buffer.have_output() && buffer.successful());
-    assert!(rt; ligate(buffer) == Ok(true));
-}
-
-fn delete_half(rt: &impl Abort, buffer: &mut hb_buffer_t) {
-    assert!(rt; !buffer.have_output() && buffer.successful());
-    assert!(rt; delete_every_second(buffer) == Ok(true));
 }

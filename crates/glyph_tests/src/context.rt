@@ -1,4 +1,4 @@
-use glyph_lists::context::{Context, keep_after, keep_before};
+use glyph_lists::context::{Context, keep_before};
 use std::test::Fail;
 
 #[test]
@@ -6,36 +6,5 @@ fn the_last_five_characters_before_a_text_are_kept_outward(rt: HostRuntime) -> R
     let mut context = Context::new();
     keep_before(&mut context, "abcdefg");
     assert!(rt; context.as_slice() == ['g', 'f', 'e', 'd', 'c'].as_slice());
-    Ok(())
-}
-
-#[test]
-fn the_first_five_characters_after_a_text_are_kept(rt: HostRuntime) -> Result<(), Fail> {
-    let mut context = Context::new();
-    keep_after(&mut context, "abcdefg");
-    assert!(rt; context.as_slice() == ['a', 'b', 'c', 'd', 'e'].as_slice());
-    Ok(())
-}
-
-#[test]
-fn what_was_kept_before_is_gone(rt: HostRuntime) -> Result<(), Fail> {
-    let mut context = Context::new();
-    keep_before(&mut context, "abcdefg");
-    keep_before(&mut context, "xy");
-    assert!(rt; context.as_slice() == ['y', 'x'].as_slice());
-    keep_after(&mut context, "ab");
-    assert!(rt; context.as_slice() == ['a', 'b'].as_slice());
-    keep_after(&mut context, "");
-    assert!(rt; context.is_empty());
-    Ok(())
-}
-
-#[test]
-fn characters_of_every_length_are_read_from_both_ends(rt: HostRuntime) -> Result<(), Fail> {
-    let mut context = Context::new();
-    keep_before(&mut context, "aé€𐌀z");
-    assert!(rt; context.as_slice() == ['z', '𐌀', '€', 'é', 'a'].as_slice());
-    keep_after(&mut context, "aé€𐌀z");
-    assert!(rt; context.as_slice() == ['a', 'é', '€', '𐌀', 'z'].as_slice());
     Ok(())
 }

@@ -1,24 +1,5 @@
-use rb_glyph::{GlyphInfo, glyph_flag, hb_glyph_info_t};
+use rb_glyph::{glyph_flag, hb_glyph_info_t};
 use rb_text::GlyphId;
-
-#[test]
-fn properties_share_words(rt: HostRuntime) {
-    let mut info = GlyphInfo::default();
-    info.set_glyph_props(0x1234);
-    info.set_lig_props(0x56);
-    info.set_syllable(0x78);
-    assert!(rt; info.glyph_index() == 0x7856_1234);
-    assert!(rt; info.glyph_props() == 0x1234);
-    assert!(rt; info.lig_props() == 0x56);
-    assert!(rt; info.syllable() == 0x78);
-    info.set_glyph_index(0xFFFF_FFFF);
-    assert!(rt; info.var1 == 0xFFFF_FFFF);
-    info.var2 = 0xABCD_0000;
-    info.set_unicode_props(0xEC);
-    assert!(rt; info.unicode_props() == 0xEC);
-    info.unhide();
-    assert!(rt; info.var2 == 0xABCD_00AC);
-}
 
 #[test]
 fn an_item_is_a_character_or_a_glyph(rt: HostRuntime) {

@@ -1,5 +1,5 @@
-//! Tests of `rb_glyph`, `glyph_lists`, `glyph_sides`, `glyph_laws` and `glyph_text`, over what they make public, as in the `tests/`
-//! folder of a Rust crate.
+//! Tests of `rb_glyph`, `glyph_lists`, `glyph_sides`, `glyph_laws` and `glyph_text`: what Rattle alone shows, and of most modules a call.
+//! Values are tested in `tests/internals/glyphs` of the package `rust/vukhaso`.
 #![tactic(auto)]
 
 #[cfg(test)]
@@ -10,8 +10,6 @@ mod category;
 mod characters;
 #[cfg(test)]
 mod cluster_numbers;
-#[cfg(test)]
-mod cluster_reads;
 #[cfg(test)]
 mod clusters;
 #[cfg(test)]
@@ -32,8 +30,6 @@ mod info;
 mod lists;
 #[cfg(test)]
 mod masks;
-#[cfg(test)]
-mod merge_range;
 #[cfg(test)]
 mod merged_head;
 #[cfg(test)]
@@ -56,7 +52,5 @@ mod side_steps;
 mod sides;
 #[cfg(test)]
 mod tables;
-#[cfg(test)]
-mod unicode_props;
 #[cfg(test)]
 mod wording;

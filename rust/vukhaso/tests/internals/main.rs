@@ -1,10 +1,12 @@
-//! Tests of the modules above the buffer, over what `internals` makes public: of each call, its answers.
+//! Tests of what `internals` makes public: of each call, its answers.
 #![allow(clippy::type_complexity, reason = "rows of a table are tuples")]
 
 type Fail = Box<dyn std::error::Error>;
 
 mod aat;
+mod buffer;
 mod fonts;
+mod glyphs;
 mod layout;
 mod passes;
 mod positions;

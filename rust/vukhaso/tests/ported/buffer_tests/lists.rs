@@ -28,14 +28,6 @@ pub(crate) fn add(text: &mut UnicodeBuffer, character: char, cluster: u32) {
     assert!(text.add(character, cluster) == Ok(true));
 }
 
-/// Asserts the ids of the glyphs.
-pub(crate) fn assert_ids(glyphs: &[hb_glyph_info_t], want: &[u32]) {
-    assert!(glyphs.len() == want.len());
-    for (glyph, id) in glyphs.iter().zip(want.iter()) {
-        assert!(glyph.glyph_id == *id, "{want:?}");
-    }
-}
-
 pub(crate) fn clear_output(buffer: &mut hb_buffer_t) {
     assert!(!buffer.have_output());
     buffer.clear_output();
@@ -44,13 +36,6 @@ pub(crate) fn clear_output(buffer: &mut hb_buffer_t) {
 pub(crate) fn clear_positions(buffer: &mut hb_buffer_t) {
     assert!(!buffer.have_output());
     buffer.clear_positions();
-}
-
-/// Opens an output, and reads a glyph.
-pub(crate) fn read_one(buffer: &mut hb_buffer_t) {
-    clear_output(buffer);
-    assert!(buffer.lookahead_len() > 0);
-    assert!(buffer.next_glyph() == Ok(true));
 }
 
 /// A text so many times.

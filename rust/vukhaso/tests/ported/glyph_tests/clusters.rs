@@ -1,16 +1,7 @@
 // Written by tools/plain_rust from crates/glyph_tests. Do not edit.
 
-use crate::glyph_tests::lists::{assert_clusters, assert_glyphs, glyph, glyphs};
-use vukhaso::internals::glyph_lists::clusters::{set_cluster, set_sides};
-
-#[test]
-fn a_change_of_cluster_takes_the_flags() {
-    let mut info = glyph(3, 31);
-    set_cluster(&mut info, 3, 0);
-    assert_glyphs(&[info], &[(3, 31)]);
-    set_cluster(&mut info, 1, 10);
-    assert_glyphs(&[info], &[(1, 26)]);
-}
+use crate::glyph_tests::lists::{assert_clusters, glyphs};
+use vukhaso::internals::glyph_lists::clusters::set_sides;
 
 #[test]
 fn a_range_lies_on_both_sides() {

@@ -1,7 +1,7 @@
 // Written by tools/plain_rust from crates/glyph_tests. Do not edit.
 
-//! Tests of `rb_glyph`, `glyph_lists`, `glyph_sides`, `glyph_laws` and `glyph_text`, over what they make public, as in the `tests/`
-//! folder of a Rust crate.
+//! Tests of `rb_glyph`, `glyph_lists`, `glyph_sides`, `glyph_laws` and `glyph_text`: what Rattle alone shows, and of most modules a call.
+//! Values are tested in `tests/internals/glyphs` of the package `rust/vukhaso`.
 
 #[cfg(test)]
 mod algs;
@@ -11,8 +11,6 @@ mod category;
 mod characters;
 #[cfg(test)]
 mod cluster_numbers;
-#[cfg(test)]
-mod cluster_reads;
 #[cfg(test)]
 mod clusters;
 #[cfg(test)]
@@ -33,8 +31,6 @@ mod info;
 mod lists;
 #[cfg(test)]
 mod masks;
-#[cfg(test)]
-mod merge_range;
 #[cfg(test)]
 mod merged_head;
 #[cfg(test)]
@@ -57,7 +53,5 @@ mod side_steps;
 mod sides;
 #[cfg(test)]
 mod tables;
-#[cfg(test)]
-mod unicode_props;
 #[cfg(test)]
 mod wording;

@@ -1,5 +1,3 @@
-// Written by tools/plain_rust from crates/glyph_tests. Do not edit.
-
 use crate::Fail;
 use vukhaso::internals::glyph::{CombiningClasses, hb_buffer_scratch_flags_t, hb_glyph_info_t};
 

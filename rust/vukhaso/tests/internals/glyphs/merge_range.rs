@@ -1,6 +1,4 @@
-// Written by tools/plain_rust from crates/glyph_tests. Do not edit.
-
-use crate::glyph_tests::lists::glyphs;
+use crate::glyphs::lists::glyphs;
 use vukhaso::internals::glyph_lists::cluster_reads::ClusterReads;
 use vukhaso::internals::glyph_lists::merge_range::{PairChange, merge_range, pair_change};
 

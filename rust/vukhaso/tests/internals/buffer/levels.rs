@@ -1,5 +1,3 @@
-// Written by tools/plain_rust from crates/buffer_tests. Do not edit.
-
 //! The cluster levels by their names and by their numbers.
 
 use vukhaso::internals::buffer::{BufferClusterLevel, UnicodeBuffer};

@@ -1,0 +1,25 @@
+//! A font for tests.
+
+use vukhaso::internals::glyph::{GlyphExtents, GlyphNames};
+use vukhaso::internals::text::GlyphId;
+
+/// A font that knows glyph 5 by name and extents, and nothing else.
+pub(crate) struct Five;
+
+impl GlyphNames for Five {
+    fn glyph_name(&self, glyph: GlyphId) -> Option<&str> {
+        if glyph.0 == 5 { Some("five") } else { None }
+    }
+
+    fn glyph_extents(&self, glyph: GlyphId) -> Option<GlyphExtents> {
+        if glyph.0 != 5 {
+            return None;
+        }
+        Some(GlyphExtents {
+            x_bearing: 1,
+            y_bearing: -2,
+            width: 3,
+            height: -4,
+        })
+    }
+}
