@@ -6,7 +6,7 @@
     clippy::type_complexity,
     reason = "written in the forms that a prover reads best"
 )]
-#![allow(unused_imports, unused_variables)] // of some modules only a part is a test here
+#![allow(unused_imports, dead_code, unused_variables)] // of some modules only a part is a test here
 
 type Fail = Box<dyn std::error::Error>;
 
