@@ -53,7 +53,7 @@ class Items:
     def text(self, item):
         """The declaration as it stands in its file: a function without its body. One that a macro writes is its name."""
         span = item["span"]
-        file = self.files.setdefault(span["filename"], (PACKAGE / span["filename"]).read_text().splitlines())
+        file = self.files.setdefault(span["filename"], (PACKAGE.parent / span["filename"]).read_text().splitlines())
         (first, start), (last, end) = span["begin"], span["end"]
         lines = [*file[first - 1 : last - 1], file[last - 1][: end - 1]] if last > first else [file[first - 1][: end - 1]]
         text = re.sub(r"^(\s*(///[^\n]*|#\[[^\n]*\])\n)*", "", "\n".join([lines[0][start - 1 :], *lines[1:]]))
