@@ -270,7 +270,7 @@ class Tries:
     def __init__(self, place, kept, seconds):
         self.place, self.kept, self.begun = place, kept, time.monotonic()
         self.ends = self.begun + seconds
-        self.passed, self.failed, self.left = 0, 0, 0
+        self.passed, self.failed, self.left, self.number = 0, 0, 0, 0
 
     def try_batch(self, batch):
         """The edits of a batch, each with whether it is refused, or None where that is not known, and the words for it. What
@@ -322,7 +322,9 @@ class Tries:
         count = sum(map(len, batches.values()))
         print(f"{len(edits)} wrong bodies of {len(batches)} crates, in {count} batches", flush=True)
         if names is None:
-            self.tell([it for tasks in batches.values() for it in tasks], count, open_edits)
+            # What the first batch of a crate proves, the others may take.
+            self.tell([tasks[0] for tasks in batches.values()], count, open_edits)
+            self.tell([it for tasks in batches.values() for it in tasks[1:]], count, open_edits)
         else:
             self.tell([], count, open_edits, AsProved(self.place, batches, names))
             for edit in edits:
@@ -332,13 +334,14 @@ class Tries:
         if open_edits:
             print(f"alone: {len(open_edits)} of which their batch does not tell", flush=True)
             alone = [(self.place.needs(edit.crate.name), lambda edit=edit: self.try_alone(edit)) for edit in open_edits]
-            self.tell(alone, len(alone), [])
+            self.tell(alone, count + len(alone), [])
 
     def tell(self, tasks, count, open_edits, waiting=Waiting()):
         """Runs the tasks, the largest first, and prints what each edit came to as they end."""
-        for number, found in enumerate(side_by_side(tasks, waiting), 1):
+        for found in side_by_side(tasks, waiting):
+            self.number += 1
             if found:
-                print(f"[{time.monotonic() - self.begun:.0f} s, {number} of {count}]", flush=True)
+                print(f"[{time.monotonic() - self.begun:.0f} s, {self.number} of {count}]", flush=True)
             for edit, is_refused, said in found:
                 if is_refused is None:
                     open_edits.append(edit)
