@@ -2,7 +2,7 @@
 of its proof.
 
 So what calls the function, and the copy where it calls itself, calls the right one, and one check tells of as many wrong bodies as one
-likes. What changes a function of a trait, one whose answers are about its recursion, several functions or a table is planted in its place.
+likes. What changes a function of a trait, one of a cycle of calls, several functions or a table is planted in its place.
 """
 
 import re
@@ -59,6 +59,8 @@ def copy_of(edit, number, is_right=False):
         return None
     name = f"{it.name}_copy_{number}"
     whole = "\n".join(text.split("\n")[it.top : it.last + 1])
+    if "#[cycle(" in whole:
+        return None
     return Copy(edit, it, name, re.sub(rf"\bfn {it.name}\b", f"fn {name}", whole, count=1).split("\n"))
 
 
