@@ -188,7 +188,7 @@ class Waiting:
     """Tasks that wait for what another command does. While it runs, few of them run beside it."""
 
     # How many run at once.
-    FEW = 2
+    FEW = 3
 
     is_open = False
 

@@ -241,7 +241,7 @@ pub(crate) enum ErrorKind {
 
 /// Why the words of a command line say nothing that can be done, or the text that they ask for.
 #[derive(Debug)]
-pub(crate) struct Error {
+pub struct Error {
     kind: ErrorKind,
     message: String,
 }

@@ -66,7 +66,7 @@ pub(crate) trait Eprint {
 pub(crate) trait AllocGlobal {}
 
 /// A text, held or lent.
-pub(crate) trait AsStr {
+pub trait AsStr {
     /// The text.
     fn as_str(&self) -> &str;
 }

@@ -47,7 +47,7 @@ pub mod unicode_tables;
 pub mod verification;
 
 #[cfg(feature = "std")]
-pub(crate) mod options;
+pub mod options;
 
 #[cfg(feature = "std")]
 pub(crate) mod fonts;

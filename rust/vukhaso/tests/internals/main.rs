@@ -8,6 +8,8 @@ mod buffer;
 mod fonts;
 mod glyphs;
 mod layout;
+#[cfg(feature = "std")]
+mod options;
 mod passes;
 mod positions;
 mod scripts;

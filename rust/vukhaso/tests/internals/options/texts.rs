@@ -1,11 +1,12 @@
 //! Lists of characters, of features, of variations and of words. Characters and replacements are those that HarfBuzz's
 //! `hb-shape` shows.
 
-use shape_options::batch::words_of_line;
-use shape_options::code_points::{CodePointsError, code_points, text_of_code_points};
-use shape_options::features::features;
-use shape_options::variations::variations;
-use std::test::Fail;
+use crate::Fail;
+use vukhaso::internals::options::batch::words_of_line;
+use vukhaso::internals::options::code_points::{CodePointsError, code_points, text_of_code_points};
+use vukhaso::internals::options::features::features;
+use vukhaso::internals::options::variations::variations;
+use vukhaso::memory::{TryIterator, Vec};
 
 /// A list of characters, and its text.
 static CHARACTERS: [(&str, &str); 9] = [
@@ -24,15 +25,15 @@ static CHARACTERS: [(&str, &str); 9] = [
 ];
 
 #[test]
-fn characters_are_read(rt: HostRuntime) -> Result<(), Fail> {
+fn characters_are_read() -> Result<(), Fail> {
     for (list, text) in &CHARACTERS {
-        let numbers = code_points(rt.alloc(), list)?;
-        let read = text_of_code_points(rt.alloc(), numbers.as_slice())?;
-        assert_eq!(rt; read.as_str(), *text, "{list}");
+        let numbers = code_points(list)?;
+        let read = text_of_code_points(numbers.as_slice())?;
+        assert_eq!(read.as_str(), *text, "{list}");
     }
     for list in ["g", "41 zz", "0041.0042", "10000000000000000"] {
-        let refused = code_points(rt.alloc(), list).err();
-        assert!(rt; refused == Some(CodePointsError::Number), "{list}");
+        let refused = code_points(list).err();
+        assert!(refused == Some(CodePointsError::Number), "{list}");
     }
     Ok(())
 }
@@ -46,15 +47,15 @@ static FEATURES: [(&str, &[(u32, u32, u32)]); 4] = [
 ];
 
 #[test]
-fn features_are_read(rt: HostRuntime) -> Result<(), Fail> {
+fn features_are_read() -> Result<(), Fail> {
     for (list, wanted) in &FEATURES {
-        let read = features(rt.alloc(), list)?;
+        let read = features(list)?;
         let read: Vec<(u32, u32, u32)> = read
             .as_slice()
             .iter()
             .map(|feature| (feature.value, feature.start, feature.end))
-            .collect(rt.alloc())?;
-        assert!(rt; read.as_slice() == *wanted, "{list}");
+            .try_into_vec()?;
+        assert!(read.as_slice() == *wanted, "{list}");
     }
     Ok(())
 }
@@ -69,10 +70,10 @@ static WORDS: [(&str, &[&str]); 5] = [
 ];
 
 #[test]
-fn words_are_parted(rt: HostRuntime) -> Result<(), Fail> {
+fn words_are_parted() -> Result<(), Fail> {
     for (line, words) in &WORDS {
-        let parted = words_of_line(rt.alloc(), "name", line)?;
-        assert!(rt; parted.as_slice() == *words, "{line}");
+        let parted = words_of_line("name", line)?;
+        assert!(parted.as_slice() == *words, "{line}");
     }
     Ok(())
 }
@@ -94,19 +95,19 @@ static VARIATIONS: [(&str, &[(&[u8; 4], f32)]); 9] = [
 ];
 
 #[test]
-fn variations_are_read(rt: HostRuntime) -> Result<(), Fail> {
+fn variations_are_read() -> Result<(), Fail> {
     for (list, wanted) in &VARIATIONS {
-        let read = variations(rt.alloc(), list)?;
+        let read = variations(list)?;
         let read: Vec<([u8; 4], f32)> = read
             .as_slice()
             .iter()
             .map(|variation| (variation.tag.to_bytes(), variation.value))
-            .collect(rt.alloc())?;
+            .try_into_vec()?;
         let wanted: Vec<([u8; 4], f32)> = wanted
             .iter()
             .map(|(tag, value)| (**tag, *value))
-            .collect(rt.alloc())?;
-        assert!(rt; read.as_slice() == wanted.as_slice(), "{list}");
+            .try_into_vec()?;
+        assert!(read.as_slice() == wanted.as_slice(), "{list}");
     }
     Ok(())
 }

@@ -1,13 +1,14 @@
 //! What a command line asks for.
 
-use shape_options::options::{Shaper, TextSource};
-use shape_options::output::OutputFormat;
-use shape_options::words::options_of;
-use shaping_buffer::{BufferClusterLevel, Direction, Flags, GlyphId, SerializeFlags};
-use std::test::Fail;
+use crate::Fail;
+use vukhaso::internals::buffer::{BufferClusterLevel, Direction, GlyphId, SerializeFlags};
+use vukhaso::internals::options::options::{Shaper, TextSource};
+use vukhaso::internals::options::output::OutputFormat;
+use vukhaso::internals::options::words::options_of;
+use vukhaso::memory::TryDisplay;
 
 #[test]
-fn options_are_read(rt: HostRuntime) -> Result<(), Fail> {
+fn options_are_read() -> Result<(), Fail> {
     let words = [
         "program",
         "font.ttf",
@@ -25,41 +26,41 @@ fn options_are_read(rt: HostRuntime) -> Result<(), Fail> {
         "x",
         "text",
     ];
-    let options = options_of(rt.alloc(), &words).ok().ok_or("read")?;
-    assert_eq!(rt; options.font_file, "font.ttf");
-    assert_eq!(rt; options.font.index, 2);
-    assert!(rt; options.font.size == Some((20, 30)));
-    assert!(rt; options.font.pixels == Some((9, 9)));
-    assert!(rt; matches!(&options.text, TextSource::Given("text")));
+    let options = options_of(&words).ok().ok_or("read")?;
+    assert_eq!(options.font_file, "font.ttf");
+    assert_eq!(options.font.index, 2);
+    assert!(options.font.size == Some((20, 30)));
+    assert!(options.font.pixels == Some((9, 9)));
+    assert!(matches!(&options.text, TextSource::Given("text")));
     let ned = SerializeFlags::NO_CLUSTERS.union(SerializeFlags::NO_ADVANCES);
-    assert_eq!(rt; options.output.flags.bits(), ned.bits());
-    assert!(rt; options.output.format == OutputFormat::Text);
-    assert!(rt; !options.output.trace);
-    assert_eq!(rt; options.iterations, 1);
-    assert!(rt; options.line.direction == Direction::TopToBottom);
-    assert!(rt; options.line.cluster_level == BufferClusterLevel::MonotoneCharacters);
-    assert_eq!(rt; options.line.before.as_str(), "\u{627}");
-    assert_eq!(rt; options.line.after.as_str(), "x");
-    assert_eq!(rt; options.line.features.len(), 1);
+    assert_eq!(options.output.flags.bits(), ned.bits());
+    assert!(options.output.format == OutputFormat::Text);
+    assert!(!options.output.trace);
+    assert_eq!(options.iterations, 1);
+    assert!(options.line.direction == Direction::TopToBottom);
+    assert!(options.line.cluster_level == BufferClusterLevel::MonotoneCharacters);
+    assert_eq!(options.line.before.as_str(), "\u{627}");
+    assert_eq!(options.line.after.as_str(), "x");
+    assert_eq!(options.line.features.len(), 1);
     Ok(())
 }
 
 #[test]
-fn options_of_one_letter_are_read(rt: HostRuntime) -> Result<(), Fail> {
+fn options_of_one_letter_are_read() -> Result<(), Fail> {
     let words = [
         "program", "font", "-y", "2", "-n3", "-u", "41", "-v", "-V", "-o", "a.json",
     ];
-    let options = options_of(rt.alloc(), &words).ok().ok_or("read")?;
+    let options = options_of(&words).ok().ok_or("read")?;
     let shown = options.output.shown;
-    assert_eq!(rt; options.font.index, 2);
-    assert_eq!(rt; options.iterations, 3);
-    assert!(rt; matches!(&options.text, TextSource::CodePoints(_)));
-    assert!(rt; shown.text && shown.characters && shown.number);
-    assert!(rt; options.output.trace);
+    assert_eq!(options.font.index, 2);
+    assert_eq!(options.iterations, 3);
+    assert!(matches!(&options.text, TextSource::CodePoints(_)));
+    assert!(shown.text && shown.characters && shown.number);
+    assert!(options.output.trace);
     let ned = SerializeFlags::NO_CLUSTERS.union(SerializeFlags::NO_ADVANCES);
-    assert_eq!(rt; options.output.flags.bits(), ned.bits());
-    assert!(rt; options.output_file == Some("a.json"));
-    assert!(rt; options.output.format == OutputFormat::Json);
+    assert_eq!(options.output.flags.bits(), ned.bits());
+    assert!(options.output_file == Some("a.json"));
+    assert!(options.output.format == OutputFormat::Json);
     Ok(())
 }
 
@@ -77,10 +78,10 @@ static FORMATS: [(&[&str], OutputFormat); 6] = [
 ];
 
 #[test]
-fn formats_are_read(rt: HostRuntime) -> Result<(), Fail> {
+fn formats_are_read() -> Result<(), Fail> {
     for (words, format) in &FORMATS {
-        let options = options_of(rt.alloc(), words).ok().ok_or("read")?;
-        assert!(rt; options.output.format == *format, "{words:?}");
+        let options = options_of(words).ok().ok_or("read")?;
+        assert!(options.output.format == *format, "{words:?}");
     }
     Ok(())
 }
@@ -94,11 +95,11 @@ static ASKED: [(&[&str], &str); 4] = [
 ];
 
 #[test]
-fn texts_are_told(rt: HostRuntime) -> Result<(), Fail> {
+fn texts_are_told() -> Result<(), Fail> {
     for (words, beginning) in &ASKED {
-        let told = options_of(rt.alloc(), words).err().ok_or("told")?;
-        assert!(rt;
-            told.to_string(rt.alloc())?.as_str().starts_with(*beginning),
+        let told = options_of(words).err().ok_or("told")?;
+        assert!(
+            told.try_to_string()?.as_str().starts_with(*beginning),
             "{words:?}"
         );
     }
@@ -175,33 +176,33 @@ static REFUSED: [(&[&str], &str); 17] = [
 ];
 
 #[test]
-fn mistakes_are_told(rt: HostRuntime) -> Result<(), Fail> {
+fn mistakes_are_told() -> Result<(), Fail> {
     for (words, message) in &REFUSED {
-        let error = options_of(rt.alloc(), words).err().ok_or("refused")?;
-        assert_eq!(rt; error.to_string(rt.alloc())?.as_str(), *message);
+        let error = options_of(words).err().ok_or("refused")?;
+        assert_eq!(error.try_to_string()?.as_str(), *message);
     }
     Ok(())
 }
 
 #[test]
-fn ways_to_draw_glyphs_are_read(rt: HostRuntime) -> Result<(), Fail> {
+fn ways_to_draw_glyphs_are_read() -> Result<(), Fail> {
     let plain = ["program", "font"];
     let bold = ["program", "font", "--font-bold=.5 1e1", "--font-slant=-.25"];
     let grade = ["program", "font", "--font-grade=2"];
-    let options = options_of(rt.alloc(), &plain).ok().ok_or("read")?;
+    let options = options_of(&plain).ok().ok_or("read")?;
     let drawn = options.font.synthetic;
-    assert!(rt; drawn.bold == (0.0, 0.0) && !drawn.in_place && drawn.slant == 0.0);
-    let options = options_of(rt.alloc(), &bold).ok().ok_or("read")?;
+    assert!(drawn.bold == (0.0, 0.0) && !drawn.in_place && drawn.slant == 0.0);
+    let options = options_of(&bold).ok().ok_or("read")?;
     let drawn = options.font.synthetic;
-    assert!(rt; drawn.bold == (0.5, 10.0) && !drawn.in_place && drawn.slant == -0.25);
-    let options = options_of(rt.alloc(), &grade).ok().ok_or("read")?;
+    assert!(drawn.bold == (0.5, 10.0) && !drawn.in_place && drawn.slant == -0.25);
+    let options = options_of(&grade).ok().ok_or("read")?;
     let drawn = options.font.synthetic;
-    assert!(rt; drawn.bold == (2.0, 2.0) && drawn.in_place);
+    assert!(drawn.bold == (2.0, 2.0) && drawn.in_place);
     Ok(())
 }
 
 #[test]
-fn the_first_shaper_is_read(rt: HostRuntime) -> Result<(), Fail> {
+fn the_first_shaper_is_read() -> Result<(), Fail> {
     let words = [
         "program",
         "font",
@@ -209,13 +210,13 @@ fn the_first_shaper_is_read(rt: HostRuntime) -> Result<(), Fail> {
         "--not-found-glyph=3",
         "--normalize-glyphs",
     ];
-    let options = options_of(rt.alloc(), &words).ok().ok_or("read")?;
-    assert!(rt; options.line.shaper == Shaper::Fallback);
-    assert!(rt; options.line.not_found_glyph == GlyphId(3) && options.line.normalize_glyphs);
+    let options = options_of(&words).ok().ok_or("read")?;
+    assert!(options.line.shaper == Shaper::Fallback);
+    assert!(options.line.not_found_glyph == GlyphId(3) && options.line.normalize_glyphs);
     let words = ["program", "font"];
-    let options = options_of(rt.alloc(), &words).ok().ok_or("read")?;
-    assert!(rt; options.line.shaper == Shaper::OpenType);
-    assert!(rt; options.line.not_found_glyph == GlyphId(0) && !options.line.normalize_glyphs);
+    let options = options_of(&words).ok().ok_or("read")?;
+    assert!(options.line.shaper == Shaper::OpenType);
+    assert!(options.line.not_found_glyph == GlyphId(0) && !options.line.normalize_glyphs);
     Ok(())
 }
 
@@ -234,14 +235,14 @@ static SIZES: [(&str, Option<(i32, i32)>); 10] = [
 ];
 
 #[test]
-fn sizes_are_read(rt: HostRuntime) -> Result<(), Fail> {
+fn sizes_are_read() -> Result<(), Fail> {
     for (text, size) in &SIZES {
         let words = ["program", "font", "--font-size", *text];
-        let read = match options_of(rt.alloc(), &words) {
+        let read = match options_of(&words) {
             Ok(options) => options.font.size,
             Err(_) => None,
         };
-        assert!(rt; read == *size, "{text}");
+        assert!(read == *size, "{text}");
     }
     Ok(())
 }
