@@ -16,6 +16,7 @@ from collections import defaultdict
 from dataclasses import dataclass, field
 from functools import lru_cache
 
+import edit_contracts
 import edit_copies
 from rattle_source import every
 from scratch import PARTS, ROOT, Waiting, libraries, run, side_by_side, with_below
@@ -171,16 +172,21 @@ def verdict_of_copy(copy, span, lines):
     named = lambda path: is_named(path, copy.printed())
     if any(map(named, left_open(lines))) and edit_copies.is_refused(copy, span, lines):
         return True, f"refused in {copy.function.printed(copy.edit.crate)}"
-    if any(named(found[1]) for line in lines if (found := re.match(r"fn (\S+): proved", line))):
+    if any(map(named, proved_in(lines))):
         return False, PROVED
     return None, ""
+
+
+def proved_in(lines):
+    """The functions that a check proves, given what those promise that go by their contracts."""
+    return [found[1] for line in lines if (found := re.match(r"fn (\S+): (?:no holes|depends on a hole)", line))]
 
 
 def open_copies(place, copies):
     """The functions whose right body is not proved as a copy."""
     texts, _ = edit_copies.planted(copies)
-    lines = tried(place, [it.edit for it in copies], texts, [it.printed() for it in copies])
-    proved = [found[1] for line in lines if (found := re.match(r"fn (\S+): proved", line))]
+    lines = tried(place, [it.edit for it in copies], texts, [it.printed() for it in copies], edit_contracts.WORDS)
+    proved = proved_in(lines)
     return [it for it in copies if not any(is_named(path, it.printed()) for path in proved)]
 
 
@@ -198,12 +204,12 @@ def printed(functions, crate):
     return [it.printed(crate) for it in functions]
 
 
-def tried(place, edits, texts, names):
+def tried(place, edits, texts, names, words=()):
     """The lines of a check with these texts: of the functions with these names, or of the whole crate where there are none."""
     crate = edits[0].crate
     own = {path.relative_to(crate): text for path, text in texts.items()}
     only = [word for name in names for word in ("--only", name)]
-    lines = place.tried(crate.name, own, ["--jobs", "1", *only])[1]
+    lines = place.tried(crate.name, own, ["--jobs", "1", *words, *only])[1]
     with LOG.open("a") as log:
         log.write("".join(f"{line}\n" for line in (f"== {' '.join(edit.label for edit in edits)}", *lines)))
     return lines
@@ -274,7 +280,7 @@ class Tries:
 
     def try_batch(self, batch):
         """The edits of a batch, each with whether it is refused, or None where that is not known, and the words for it. What
-        calls the functions that are changed is not checked."""
+        calls the functions that are changed is not checked, and what they call goes by its contract."""
         if time.monotonic() > self.ends:
             self.left += len(batch.edits)
             return []
@@ -282,7 +288,8 @@ class Tries:
             return self.try_alone(batch.edits[0])
         crate = batch.edits[0].crate
         changed = [it for edit in batch.edits for it in changed_functions(edit)]
-        lines = tried(self.place, batch.edits, batch.texts, printed(changed, crate))
+        texts = edit_contracts.by_contract(crate, batch.texts, {it.key for it in changed})
+        lines = tried(self.place, batch.edits, texts, printed(changed, crate), edit_contracts.WORDS)
         names = [(edit, refused_in(edit, lines)) for edit in batch.edits]
         return [(edit, True, f"refused in {name}") if name else (edit, None, "") for edit, name in names]
 
@@ -292,7 +299,7 @@ class Tries:
             self.left += len(copies)
             return []
         texts, spans = edit_copies.planted(copies)
-        lines = tried(self.place, [it.edit for it in copies], texts, [it.printed() for it in copies])
+        lines = tried(self.place, [it.edit for it in copies], texts, [it.printed() for it in copies], edit_contracts.WORDS)
         return [(it.edit, *verdict_of_copy(it, spans[it.name], lines)) for it in copies]
 
     def try_alone(self, edit):
@@ -322,9 +329,7 @@ class Tries:
         count = sum(map(len, batches.values()))
         print(f"{len(edits)} wrong bodies of {len(batches)} crates, in {count} batches", flush=True)
         if names is None:
-            # What the first batch of a crate proves, the others may take.
-            self.tell([tasks[0] for tasks in batches.values()], count, open_edits)
-            self.tell([it for tasks in batches.values() for it in tasks[1:]], count, open_edits)
+            self.tell([it for tasks in batches.values() for it in tasks], count, open_edits)
         else:
             self.tell([], count, open_edits, AsProved(self.place, batches, names))
             for edit in edits:

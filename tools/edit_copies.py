@@ -1,13 +1,14 @@
 """Plants wrong bodies beside the right ones: a copy of a function, of a name of its own, has the wrong body, and a copy of the answers
 of its proof.
 
-So what calls the function, and the copy where it calls itself, calls the right one, and one check tells of as many wrong bodies as one
+So what calls the function, and the copy where it calls itself, calls the right one, by its contract, and one check tells of as many wrong bodies as one
 likes. What changes a function of a trait, one of a cycle of calls, several functions or a table is planted in its place.
 """
 
 import re
 from dataclasses import dataclass
 
+from edit_contracts import answers_of, by_contract, is_of_a_cycle
 from wrong_bodies import Function, changed_functions, is_of_a_goal
 
 # How many copies one check has at most.
@@ -40,14 +41,6 @@ def edited_text(edit, is_right):
     return text, places
 
 
-def answers_of(function, crate):
-    """The folder of the answers of a function's proof, and its path as answers name it."""
-    place = function.file.relative_to(crate / "src").with_suffix("")
-    parts = [] if place.parts in (("lib",), ("main",)) else [*place.parts]
-    parts += [function.owner] if function.owner else []
-    return crate.joinpath("proofs", *parts), ".".join(["proofs", *parts])
-
-
 def copy_of(edit, number, is_right=False):
     """The edit as a copy with this number, or None where it has to stand in its place."""
     changed, edited = changed_functions(edit), edited_text(edit, is_right)
@@ -55,12 +48,10 @@ def copy_of(edit, number, is_right=False):
         return None
     it, (text, places) = changed[0], edited
     folder, _ = answers_of(it, edit.crate)
-    if it.trait or (folder / f"+{it.name}").exists() or not all(it.top <= place <= it.last for place in places):
+    lines = text.split("\n")
+    if it.trait or is_of_a_cycle(it, lines, folder) or not all(it.top <= place <= it.last for place in places):
         return None
-    name = f"{it.name}_copy_{number}"
-    whole = "\n".join(text.split("\n")[it.top : it.last + 1])
-    if "#[cycle(" in whole:
-        return None
+    name, whole = f"{it.name}_copy_{number}", "\n".join(lines[it.top : it.last + 1])
     return Copy(edit, it, name, re.sub(rf"\bfn {it.name}\b", f"fn {name}", whole, count=1).split("\n"))
 
 
@@ -84,11 +75,12 @@ def copied_answers(copy):
 
 
 def planted(copies):
-    """The texts with these copies of one crate, by their paths, and of each copy the lines on which it stands, counted from 1."""
-    texts, spans, moved = {}, {}, {}
+    """The texts with these copies of one crate, where all other functions go by their contracts, by their paths, and of each copy the lines on
+    which it stands, counted from 1."""
+    texts, spans, moved = by_contract(copies[0].edit.crate, {}, set()), {}, {}
     for copy in sorted(copies, key=lambda it: (it.function.file, it.function.last)):
         path = copy.function.file
-        lines = (texts.get(path) or path.read_text()).split("\n")
+        lines = texts[path].split("\n")
         at = copy.function.last + 1 + moved.get(path, 0)
         texts[path] = "\n".join([*lines[:at], *copy.lines, *lines[at:]])
         moved[path] = moved.get(path, 0) + len(copy.lines)

@@ -10,7 +10,7 @@ import tempfile
 from functools import cached_property
 from pathlib import Path
 
-from scratch import PARTS, ROOT, copy_if_there, copy_kept, likely_need, libraries, link_if_replaced, run, with_below
+from scratch import PARTS, ROOT, copy_if_there, likely_need, libraries, run, with_below
 
 
 class Libraries:
@@ -67,46 +67,21 @@ class Libraries:
         return [*words, "--antt-project", f"{self.kit}/rattle/logic/antt-project.json", "--logic-built", f"{self.kit}/logic_built"]
 
     def tried(self, name, texts, words):
-        """Whether these functions of a crate, or all, are proved with these texts in it, by their paths in the crate, and what is printed."""
+        """Whether these functions of a crate, or all, are proved with these texts in it, by their paths in the crate, and what is printed. None
+        stands for a file that is to go."""
         crate, top = ROOT / "crates" / name, Path(tempfile.mkdtemp(prefix=f"{name}-", dir=self.room))
         try:
             for part in PARTS:
                 copy_if_there(crate / part, top / part, shutil.copyfile)
             for path, text in texts.items():
+                if text is None:
+                    (top / path).unlink()
+                    continue
                 (top / path).parent.mkdir(parents=True, exist_ok=True)
                 (top / path).write_text(text)
             root = "src/main.rt" if (top / "src/main.rt").exists() else "src/lib.rt"
-            words = [*self.words(name), *self.more_words(name, top), *words]
+            words = [*self.words(name), *words]
             ran = run([*self.before, f"{self.kit}/bin/rattle", "check", "--crate-name", name, root, *words], top)
-            self.keep(name, top)
             return ran.returncode == 0, ran.stdout.splitlines()
         finally:
             shutil.rmtree(top, ignore_errors=True)
-
-    def more_words(self, name, top):
-        """What a check in this folder is called with besides."""
-        return []
-
-    def keep(self, name, top):
-        """What is kept of a check in this folder."""
-
-
-class KeptLibraries(Libraries):
-    """The same, where the first check of a crate leaves what it proved to the later ones: so what the functions of many batches call is proved
-    once."""
-
-    def kept(self, name):
-        return self.room / "kept" / name
-
-    def more_words(self, name, top):
-        copy_kept(self.kept(name), top / "incremental", link_if_replaced)
-        return ["--incremental", "incremental"]
-
-    def keep(self, name, top):
-        if not self.kept(name).exists():
-            self.kept(name).parent.mkdir(exist_ok=True)
-            try:
-                (top / "incremental").rename(self.kept(name))
-            except OSError:
-                # (another check was first)
-                pass
