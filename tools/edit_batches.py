@@ -1,7 +1,8 @@
 """Plants many wrong bodies of a crate at once, so that one check tells of all of them.
 
-Most are planted as copies (`edit_copies`). The others are planted in their place, in batches: a batch has wrong bodies of functions of which none calls another, by itself or through others, so what is refused of a
-function is refused for its own body. Calls are read from the text: by a name and where it stands, of all functions that it may
+Most are planted as copies (`edit_copies`). The others are planted in their place, in batches: a batch has wrong bodies of functions of which none calls
+another, by itself or through others, so what is refused of a function is refused for its own body. What they call goes by its contract
+(`edit_contracts`). Calls are read from the text: by a name and where it stands, of all functions that it may
 be, and an operator or a loop as a call of each that a type of the crate has for one. So some count as calls that are
 none, and none is missed.
 """
