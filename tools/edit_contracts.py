@@ -5,8 +5,9 @@ contract. That its own body meets it `rt ci` shows. A function of a trait, of a 
 """
 
 import re
+from functools import lru_cache
 
-from wrong_bodies import functions_of
+from wrong_bodies import functions_of, sources_of
 
 # What the check is called with besides.
 WORDS = ["--allow-holes"]
@@ -22,9 +23,21 @@ pub {name}_spec : {{M : Type 1}} → statement M
 """
 
 
+@lru_cache(maxsize=None)
+def files_of_types(crate):
+    """The source files in which the types of a crate are declared, by their names."""
+    found = {}
+    for file in sources_of(crate):
+        for name in re.findall(r"^ *(?:pub(?:\(\w+\))? )?(?:struct|enum) (\w+)", file.read_text(), re.M):
+            found.setdefault(name, []).append(file)
+    return found
+
+
 def answers_of(function, crate):
-    """The folder of the answers of a function's proof, and its path as answers name it."""
-    place = function.file.relative_to(crate / "src").with_suffix("")
+    """The folder of the answers of a function's proof, and its path as answers name it: a method's stands where its type is declared."""
+    files = files_of_types(crate).get(function.owner, [function.file])
+    file = function.file if function.file in files else files[0]
+    place = file.relative_to(crate / "src").with_suffix("")
     parts = [] if place.parts in (("lib",), ("main",)) else [*place.parts]
     parts += [function.owner] if function.owner else []
     return crate.joinpath("proofs", *parts), ".".join(["proofs", *parts])
