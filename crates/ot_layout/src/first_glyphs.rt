@@ -43,6 +43,30 @@ impl FirstGlyphs {
             with_all(words[3], others[3]),
         ];
     }
+
+    /// The set with the glyphs from one of the first 256 to another one, the last one too. It takes and gives the set whole, so that a
+    /// loop over ranges behind the first 256 keeps its words in registers.
+    #[inline(never)]
+    fn with_range(self, first: u32, last: u32) -> FirstGlyphs
+        requires { first < 256 }
+        ensures added { (glyph : ℕ) → first ≤ glyph → glyph ≤ last → may_have_first result glyph ≡ true }
+        ensures kept { HasMoreFirst self result }
+    {
+        let mut words = self.words;
+        if first / 64 == last / 64 {
+            let word = first as usize / 64;
+            words[word] = with_rows(words[word], first, last);
+            return FirstGlyphs { words };
+        }
+        FirstGlyphs {
+            words: [
+                with_rows_from(words[0], 0, first, last),
+                with_rows_from(words[1], 64, first, last),
+                with_rows_from(words[2], 128, first, last),
+                with_rows_from(words[3], 192, first, last),
+            ],
+        }
+    }
 }
 
 impl Summary for FirstGlyphs {
@@ -52,37 +76,29 @@ impl Summary for FirstGlyphs {
         FirstGlyphs { words: [0; 4] }
     }
 
+    #[inline]
     fn add_glyph(&mut self, glyph: u32) {
+        if glyph >= COUNT {
+            return;
+        }
         if glyph < 128 {
             if glyph < 64 {
                 self.words[0] = with_row(self.words[0], glyph);
             } else {
                 self.words[1] = with_row(self.words[1], glyph);
             }
-        } else if glyph < COUNT {
-            if glyph < 192 {
-                self.words[2] = with_row(self.words[2], glyph);
-            } else {
-                self.words[3] = with_row(self.words[3], glyph);
-            }
+        } else if glyph < 192 {
+            self.words[2] = with_row(self.words[2], glyph);
+        } else {
+            self.words[3] = with_row(self.words[3], glyph);
         }
     }
 
+    #[inline]
     fn add_range(&mut self, first: u32, last: u32) {
-        if first >= COUNT {
-            return;
+        if first < COUNT {
+            *self = self.with_range(first, last);
         }
-        if first / 64 == last / 64 {
-            let word = first as usize / 64;
-            self.words[word] = with_rows(self.words[word], first, last);
-            return;
-        }
-        self.words = [
-            with_rows_from(self.words[0], 0, first, last),
-            with_rows_from(self.words[1], 64, first, last),
-            with_rows_from(self.words[2], 128, first, last),
-            with_rows_from(self.words[3], 192, first, last),
-        ];
     }
 }
 
@@ -123,17 +139,29 @@ impl Summary for Summaries {
 }
 
 /// Both summaries of the glyphs that a coverage covers. Many rows leave hardly a row of a digest out.
+#[inline]
 pub(crate) fn summaries_of(coverage: &Coverage) -> Summaries
     ensures digest { HasAll (λ glyph. is_some (covered_index coverage.now.table.now glyph) ≡ true) result.digest }
     ensures firsts { (glyph : ℕ) → is_some (covered_index coverage.now.table.now glyph) ≡ true
         → may_have_first result.firsts glyph ≡ true }
 {
     match coverage.highest() {
-        Some(highest) => Summaries {
-            digest: Digest::up_to(u32::from(highest)),
-            firsts: firsts_of(coverage),
-        },
+        Some(highest) => summaries_up_to(coverage, highest),
         None => summary_of(coverage),
+    }
+}
+
+/// The same of a coverage of many rows, which covers no glyph above this one.
+#[inline(never)]
+fn summaries_up_to(coverage: &Coverage, highest: u16) -> Summaries
+    requires { (glyph : ℕ) → is_some (covered_index coverage.now.table.now glyph) ≡ true → glyph ≤ highest }
+    ensures digest { HasAll (λ glyph. is_some (covered_index coverage.now.table.now glyph) ≡ true) result.digest }
+    ensures firsts { (glyph : ℕ) → is_some (covered_index coverage.now.table.now glyph) ≡ true
+        → may_have_first result.firsts glyph ≡ true }
+{
+    Summaries {
+        digest: Digest::up_to(u32::from(highest)),
+        firsts: firsts_of(coverage),
     }
 }
 

@@ -32,6 +32,7 @@ pub(crate) struct Summed<'a> {
 
 impl<'a> Summed<'a> {
     /// A coverage, and what sums it up.
+    #[inline]
     fn new(coverage: Coverage<'a>) -> Self {
         Summed {
             coverage,
@@ -51,12 +52,14 @@ impl<'a> Summed<'a> {
     }
 
     /// A coverage that covers nothing.
+    #[inline(never)]
     pub(crate) fn none() -> Self {
         Summed::new(Coverage::new(&[]))
     }
 }
 
 /// The coverage in these bytes, or one that covers nothing where it is slow to ask.
+#[inline]
 pub(crate) fn quick_coverage(table: &[u8]) -> Coverage<'_> {
     let coverage = Coverage::new(table);
     if coverage.is_quick() {
@@ -105,12 +108,7 @@ pub(crate) fn make_room(known: &mut Vec<Known>, subtables: usize) -> Result<(), 
     } else {
         MOST
     };
-    known.reserve(count)?;
-    let nothing = Known::read(&[]);
-    for _slot in 0..count {
-        known.push(nothing)?;
-    }
-    Ok(())
+    known.resize(count, Known::read(&[]))
 }
 
 /// Where a coverage is remembered, the number of slots being a power of two. Each stands in the bytes from its place to the end of the

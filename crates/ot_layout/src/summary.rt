@@ -32,6 +32,7 @@ pub trait Summary: Sized {
 }
 
 /// The summary of the glyphs that a coverage covers.
+#[inline]
 pub fn summary_of<S: Summary>(coverage: &Coverage) -> S
     ensures { (glyph : ℕ) → is_some (covered_index coverage.now.table.now glyph) ≡ true → S.has result glyph ≡ true }
 {
@@ -63,6 +64,7 @@ pub(crate) fn row_count(table: &[u8], size: usize) -> usize
 }
 
 /// The summary of the glyphs of a coverage that lists them.
+#[inline]
 fn of_list<S: Summary>(table: &[u8]) -> S
     ensures { (glyph : ℕ) → is_some (listed_index table.now glyph) ≡ true → S.has result glyph ≡ true }
 {
@@ -77,6 +79,7 @@ fn of_list<S: Summary>(table: &[u8]) -> S
 }
 
 /// The summary of the glyphs of a coverage of ranges.
+#[inline]
 fn of_ranges<S: Summary>(table: &[u8]) -> S
     ensures { (glyph : ℕ) → is_some (ranged_index table.now glyph) ≡ true → S.has result glyph ≡ true }
 {

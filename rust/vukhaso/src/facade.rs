@@ -73,7 +73,10 @@ impl<'a> Face<'a> {
     /// The font of this number in a file, as rustybuzz finds it: `None` also where memory runs out, which
     /// [`Face::parse`] says.
     pub fn from_slice(data: &'a [u8], index: u32) -> Option<Face<'a>> {
-        Face::parse(data, index).ok()
+        // by `parse` the face would be moved twice more
+        let mut face = Face::parse_if_there(data, index).ok()??;
+        face.lookups = face.lookups.counted();
+        Some(face)
     }
 }
 

@@ -9,7 +9,7 @@ use crate::numbers::Chunks;
 pub(crate) const FEW_ROWS: u16 = 64;
 
 /// So many are looked through as soon as by bisection, so that nobody asks whether they rise.
-pub(crate) const SHORT: u16 = 8;
+pub(crate) const SHORT: u16 = 16;
 
 /// Rows of a font's table. A row reaches a key where its last key is not below it.
 ///

@@ -49,6 +49,31 @@ impl FirstGlyphs {
             with_all(words[3], others[3]),
         ];
     }
+
+    /// The set with the glyphs from one of the first 256 to another one, the last one too. It takes and
+    /// gives the set whole, so that a loop over ranges behind the first 256 keeps its words in registers.
+    ///
+    /// # Requires
+    ///
+    /// - `first < 256`
+    #[inline(never)]
+    fn with_range(self, first: u32, last: u32) -> FirstGlyphs {
+        debug_assert!(first < 256);
+        let mut words = self.words;
+        if first / 64 == last / 64 {
+            let word = first as usize / 64;
+            words[word] = with_rows(words[word], first, last);
+            return FirstGlyphs { words };
+        }
+        FirstGlyphs {
+            words: [
+                with_rows_from(words[0], 0, first, last),
+                with_rows_from(words[1], 64, first, last),
+                with_rows_from(words[2], 128, first, last),
+                with_rows_from(words[3], 192, first, last),
+            ],
+        }
+    }
 }
 
 ///
@@ -62,37 +87,29 @@ impl Summary for FirstGlyphs {
         FirstGlyphs { words: [0; 4] }
     }
 
+    #[inline(always)]
     fn add_glyph(&mut self, glyph: u32) {
+        if glyph >= COUNT {
+            return;
+        }
         if glyph < 128 {
             if glyph < 64 {
                 self.words[0] = with_row(self.words[0], glyph);
             } else {
                 self.words[1] = with_row(self.words[1], glyph);
             }
-        } else if glyph < COUNT {
-            if glyph < 192 {
-                self.words[2] = with_row(self.words[2], glyph);
-            } else {
-                self.words[3] = with_row(self.words[3], glyph);
-            }
+        } else if glyph < 192 {
+            self.words[2] = with_row(self.words[2], glyph);
+        } else {
+            self.words[3] = with_row(self.words[3], glyph);
         }
     }
 
+    #[inline(always)]
     fn add_range(&mut self, first: u32, last: u32) {
-        if first >= COUNT {
-            return;
+        if first < COUNT {
+            *self = self.with_range(first, last);
         }
-        if first / 64 == last / 64 {
-            let word = first as usize / 64;
-            self.words[word] = with_rows(self.words[word], first, last);
-            return;
-        }
-        self.words = [
-            with_rows_from(self.words[0], 0, first, last),
-            with_rows_from(self.words[1], 64, first, last),
-            with_rows_from(self.words[2], 128, first, last),
-            with_rows_from(self.words[3], 192, first, last),
-        ];
     }
 }
 
@@ -137,13 +154,24 @@ impl Summary for Summaries {
 }
 
 /// Both summaries of the glyphs that a coverage covers. Many rows leave hardly a row of a digest out.
+#[inline(always)]
 pub(crate) fn summaries_of(coverage: &Coverage) -> Summaries {
     match coverage.highest() {
-        Some(highest) => Summaries {
-            digest: Digest::up_to(u32::from(highest)),
-            firsts: firsts_of(coverage),
-        },
+        Some(highest) => summaries_up_to(coverage, highest),
         None => summary_of(coverage),
+    }
+}
+
+/// The same of a coverage of many rows, which covers no glyph above this one.
+///
+/// # Requires
+///
+/// - `(glyph : ℕ) → is_some (covered_index coverage.now.table.now glyph) ≡ true → glyph ≤ highest`
+#[inline(never)]
+fn summaries_up_to(coverage: &Coverage, highest: u16) -> Summaries {
+    Summaries {
+        digest: Digest::up_to(u32::from(highest)),
+        firsts: firsts_of(coverage),
     }
 }
 

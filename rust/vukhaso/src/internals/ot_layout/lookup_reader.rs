@@ -138,6 +138,7 @@ impl<'a> LookupReader<'a> {
     }
 
     /// Reads a subtable, or that behind an extension, if its type has its format.
+    #[inline(always)]
     fn read_subtable(&mut self, lookup_type: u16, table: &'a [u8]) -> Result<(), AllocError> {
         let (lookup_type, table) = if lookup_type == self.extension {
             behind_extension(table)
@@ -148,25 +149,24 @@ impl<'a> LookupReader<'a> {
         if !has_format(self.is_positioning(), lookup_type, format) {
             return Ok(());
         }
-        match self.form_of(lookup_type, format) {
-            Form::Plain => self.read_plain(lookup_type, format, table, Coverage::new(&[])),
-            Form::Marks => {
-                let bases = self.bases(table);
-                self.read_plain(lookup_type, format, table, bases)
-            }
-            form => self.read_formed(form, lookup_type, format, table),
+        let form = self.form_of(lookup_type, format);
+        match form {
+            Form::Plain | Form::Marks => self.read_plain(form, lookup_type, format, table),
+            _ => self.read_formed(form, lookup_type, format, table),
         }
     }
 
     /// Reads a subtable of which nothing is parsed but its coverages, and the second glyphs of its
     /// ligatures.
+    #[inline(always)]
     fn read_plain(
         &mut self,
+        form: Form,
         lookup_type: u16,
         format: u16,
         table: &'a [u8],
-        bases: Coverage<'a>,
     ) -> Result<(), AllocError> {
+        let bases = self.bases_if(form == Form::Marks, table);
         let first = self.summed(table_or_empty(table, 2));
         let subtable = Subtable {
             lookup_type,
@@ -355,8 +355,12 @@ impl<'a> LookupReader<'a> {
         }
     }
 
-    /// What marks are attached to. It is not remembered: hardly any other subtable shares it.
-    fn bases(&mut self, table: &'a [u8]) -> Coverage<'a> {
+    /// What marks are attached to, if there are any. It is not remembered: hardly any other subtable shares
+    /// it.
+    fn bases_if(&mut self, are_there: bool, table: &'a [u8]) -> Coverage<'a> {
+        if !are_there {
+            return Coverage::new(&[]);
+        }
         let table = table_or_empty(table, 4);
         if self.pay(size_of(table)) {
             quick_coverage(table)

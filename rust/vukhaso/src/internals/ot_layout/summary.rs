@@ -50,7 +50,7 @@ pub trait Summary: Sized {
 /// ```text
 /// ensures { (glyph : ℕ) → is_some (covered_index coverage.now.table.now glyph) ≡ true → S.has result glyph ≡ true }
 /// ```
-#[inline]
+#[inline(always)]
 pub fn summary_of<S: Summary>(coverage: &Coverage) -> S {
     let format = format_of(coverage.table);
     if format == 1 {
@@ -79,6 +79,7 @@ pub(crate) fn row_count(table: &[u8], size: usize) -> usize {
 }
 
 /// The summary of the glyphs of a coverage that lists them.
+#[inline(always)]
 fn of_list<S: Summary>(table: &[u8]) -> S {
     let mut summary = S::none();
     let (glyphs, _) = Chunks::<2>::split(part(table, 4, 2 * row_count(table, 2)));
@@ -91,6 +92,7 @@ fn of_list<S: Summary>(table: &[u8]) -> S {
 }
 
 /// The summary of the glyphs of a coverage of ranges.
+#[inline(always)]
 fn of_ranges<S: Summary>(table: &[u8]) -> S {
     let mut summary = S::none();
     let (ranges, _) = Chunks::<6>::split(part(table, 4, 6 * row_count(table, 6)));

@@ -42,5 +42,5 @@ returns-else-glyph-lt192-clause-kept c = λ other.
     let long : length c.args.self.now.words ≡ 4 = omega arith in
     may_have_first-written c.args.self.now 3 _ other long (omega arith) c.with_row-else-glyph-lt192.ensures.kept
 
-pub returns-else-glyph-lt-COUNT-clause-added : goal.returns-else-glyph-lt-COUNT-clause-added
-returns-else-glyph-lt-COUNT-clause-added c = may_have_first-past c.args.self.now c.args.glyph (omega arith)
+pub returns-then-glyph-ge-COUNT-clause-added : goal.returns-then-glyph-ge-COUNT-clause-added
+returns-then-glyph-ge-COUNT-clause-added c = may_have_first-past c.args.self.now c.args.glyph (omega arith)
