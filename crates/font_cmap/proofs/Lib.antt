@@ -2,7 +2,8 @@
 --
 -- The first subtable of a list of encodings that there is, in their order, is chosen (`First`). Each format computes,
 -- over the searches of `font_tables`; a row that lies outside of the table has no number, so it is no row that rises
--- (`Outside`).
+-- (`Outside`). No format gives the glyph 0, which so stands for none (`Numbers`).
 
 pub mod Outside
 pub mod First
+pub mod Numbers

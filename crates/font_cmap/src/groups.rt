@@ -1,11 +1,11 @@
 //! Groups of codes, each with its first and last code and a glyph (OpenType specification, `cmap`, "Format 12" and
 //! "Format 13").
 
-ghost use Rattle.std.specs.Prelude.{◌≡◌, ◌<◌, ◌≤◌, ◌*◌, ◌+◌, ℕ, None, get_or, option_and_then};
+ghost use Rattle.std.specs.Prelude.{◌≡◌, ◌<◌, ◌≤◌, ◌*◌, ◌+◌, ℕ, slice_index, option_and_then};
 ghost use Rattle.font_tables.specs.Bytes.{number_32};
 ghost use Rattle.font_tables.specs.Bisection.{row_with};
 ghost use Rattle.font_cmap.specs.Subtables.{beside_group, group_count, glyph_in_group, group_glyph};
-ghost use Rattle.font_cmap.specs.Subtables.{groups_glyph};
+ghost use Rattle.font_cmap.specs.Subtables.{groups_glyph, some_glyph};
 ghost use Rattle.font_cmap.specs.Runs.{glyph_of_group, IsGroupRun};
 
 use crate::arrays::some_glyph;
@@ -77,17 +77,26 @@ fn group_count(table: &[u8]) -> usize
 }
 
 /// The glyph that a group gives to a code that it reaches.
-#[tactic(auto, unfolding(crate::specs::Subtables::glyph_in_group))]
 fn glyph_in_group(format: u16, code: u32, start: u32, glyph: u32) -> Option<u16>
     ensures { result ≡ glyph_in_group format code start glyph }
 {
+    some_glyph(u64::from(number_in_group(format, code, start, glyph)))
+}
+
+/// The number of that glyph; 0 where there is none.
+#[tactic(auto, unfolding(crate::specs::Subtables::glyph_in_group))]
+fn number_in_group(format: u16, code: u32, start: u32, glyph: u32) -> u16
+    ensures { some_glyph result ≡ glyph_in_group format code start glyph }
+{
     if code < start {
-        None
-    } else if format == 12 {
-        some_glyph(u64::from(glyph) + u64::from(code - start))
-    } else {
-        some_glyph(u64::from(glyph))
+        return 0;
     }
+    let number = if format == 12 {
+        glyph.saturating_add(code - start)
+    } else {
+        glyph
+    };
+    if number > 65535 { 0 } else { number as u16 }
 }
 
 /// A group: its first code, and the glyph of that.
@@ -145,11 +154,11 @@ fn group_run(table: &[u8], code: u32) -> GroupRun
     }
 }
 
-/// The glyphs of the first codes by format 12 or 13.
-pub(crate) fn first_groups_glyphs(table: &[u8], format: u16) -> [Option<u16>; FIRST_COUNT]
-    ensures { (code : ℕ) → code < 128 → get_or result code None ≡ groups_glyph table.now format code }
+/// The numbers of the glyphs of the first codes by format 12 or 13; 0 where a code has none.
+pub(crate) fn first_groups_glyphs(table: &[u8], format: u16) -> [u16; FIRST_COUNT]
+    ensures { (code : ℕ) → code < 128 → some_glyph (slice_index result code) ≡ groups_glyph table.now format code }
 {
-    let mut glyphs = [None; FIRST_COUNT];
+    let mut glyphs = [0; FIRST_COUNT];
     let mut code = 0;
     while code < FIRST_COUNT {
         let run = group_run(table, code as u32);
@@ -160,24 +169,24 @@ pub(crate) fn first_groups_glyphs(table: &[u8], format: u16) -> [Option<u16>; FI
     glyphs
 }
 
-/// Puts the glyphs of codes that have one group, from one code to before another, in their places.
+/// Puts the numbers of the glyphs of codes that have one group, from one code to before another, in their places.
 #[inline]
 fn put_glyphs(
-    glyphs: &mut [Option<u16>; FIRST_COUNT],
+    glyphs: &mut [u16; FIRST_COUNT],
     start: usize,
     end: usize,
     format: u16,
     run: &GroupRun,
 )
     requires { end ≤ 128 }
-    ensures before { (code : ℕ) → code < start → get_or glyphs.new code None ≡ get_or glyphs.old code None }
+    ensures before { (code : ℕ) → code < start → slice_index glyphs.new code ≡ slice_index glyphs.old code }
     ensures put { (code : ℕ) → start ≤ code → code < end
-        → get_or glyphs.new code None ≡ glyph_of_group format code run.now.group }
+        → some_glyph (slice_index glyphs.new code) ≡ glyph_of_group format code run.now.group }
 {
     for code in start..end {
         glyphs[code] = match &run.group {
-            Some(group) => glyph_in_group(format, code as u32, group.start, group.glyph),
-            None => None,
+            Some(group) => number_in_group(format, code as u32, group.start, group.glyph),
+            None => 0,
         };
     }
 }

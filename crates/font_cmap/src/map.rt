@@ -1,11 +1,12 @@
 //! The map from characters to glyphs.
 
-ghost use Rattle.std.specs.Prelude.{◌≡◌, ◌<◌, ℕ, None, get_or, option_map, option_and_then};
+ghost use Rattle.std.specs.Prelude.{◌≡◌, ◌<◌, ℕ, slice_index, option_map, option_and_then};
 ghost use Rattle.font_cmap.specs.Choice.{chosen_subtable, chosen_encoding, variation_subtable};
 ghost use Rattle.font_cmap.specs.Codes.{glyph_index, glyph_variation_index};
 ghost use Rattle.font_cmap.specs.Variations.{glyph_variant};
-ghost use Rattle.font_cmap.specs.Subtables.{subtable_glyph};
+ghost use Rattle.font_cmap.specs.Subtables.{some_glyph, subtable_glyph};
 
+use crate::arrays::some_glyph;
 use crate::choice::{choose, variation_subtable};
 use crate::codes::{Encoding, other_code, own_code};
 use crate::runs::FIRST_COUNT;
@@ -45,6 +46,17 @@ impl Codes<'_> {
         }
     }
 
+    /// The number of that glyph, by the number of the other; 0 where there is none.
+    #[tactic(auto, using(crate::proofs::Numbers::some_glyph_of_character))]
+    fn number_or_other(&self, own: u16, character: u32) -> u16
+        requires first { character < 128 }
+        requires own { some_glyph own ≡ subtable_glyph self.now.subtable.now character }
+        ensures { some_glyph result ≡ glyph_index self.now.subtable.now self.now.encoding character }
+    {
+        let own = some_glyph(u64::from(own));
+        self.glyph_or_other(own, character).unwrap_or(0)
+    }
+
     /// The glyph of a code, if there is a code.
     fn glyph_of_code(&self, code: Option<u32>) -> Option<u16>
         ensures { result ≡ option_and_then (subtable_glyph self.now.subtable.now) code }
@@ -54,10 +66,10 @@ impl Codes<'_> {
     }
 }
 
-/// The glyphs of the first characters.
-fn first_glyphs(codes: &Codes<'_>) -> [Option<u16>; FIRST_COUNT]
+/// The numbers of the glyphs of the first characters; 0 where a character has none.
+fn first_glyphs(codes: &Codes<'_>) -> [u16; FIRST_COUNT]
     ensures { (character : ℕ) → character < 128
-        → get_or result character None ≡ glyph_index codes.now.subtable.now codes.now.encoding character }
+        → some_glyph (slice_index result character) ≡ glyph_index codes.now.subtable.now codes.now.encoding character }
 {
     let own = first_subtable_glyphs(codes.subtable);
     match codes.encoding {
@@ -66,19 +78,16 @@ fn first_glyphs(codes: &Codes<'_>) -> [Option<u16>; FIRST_COUNT]
     }
 }
 
-/// The glyphs of the first characters, by those of their own numbers.
-fn glyphs_or_others(
-    codes: &Codes<'_>,
-    own: &[Option<u16>; FIRST_COUNT],
-) -> [Option<u16>; FIRST_COUNT]
+/// The same by the glyphs of their own numbers.
+fn glyphs_or_others(codes: &Codes<'_>, own: &[u16; FIRST_COUNT]) -> [u16; FIRST_COUNT]
     requires { (character : ℕ) → character < 128
-        → get_or own.now character None ≡ subtable_glyph codes.now.subtable.now character }
+        → some_glyph (slice_index own.now character) ≡ subtable_glyph codes.now.subtable.now character }
     ensures { (character : ℕ) → character < 128
-        → get_or result character None ≡ glyph_index codes.now.subtable.now codes.now.encoding character }
+        → some_glyph (slice_index result character) ≡ glyph_index codes.now.subtable.now codes.now.encoding character }
 {
-    let mut glyphs = [None; FIRST_COUNT];
+    let mut glyphs = [0; FIRST_COUNT];
     for character in 0..FIRST_COUNT {
-        glyphs[character] = codes.glyph_or_other(own[character], character as u32);
+        glyphs[character] = codes.number_or_other(own[character], character as u32);
     }
     glyphs
 }
@@ -92,9 +101,9 @@ pub struct CharacterMap<'a> {
     pub encoding: Encoding,
     /// The subtable of variation sequences, from its format on; empty where the font has none.
     pub variations: &'a [u8],
-    first_glyphs: [Option<u16>; FIRST_COUNT],
+    first_glyphs: [u16; FIRST_COUNT],
     ghost firsts: { (character : ℕ) → character < 128
-        → get_or first_glyphs character None ≡ glyph_index subtable.now encoding character },
+        → some_glyph (slice_index first_glyphs character) ≡ glyph_index subtable.now encoding character },
 }
 
 impl<'a> CharacterMap<'a> {
@@ -129,7 +138,7 @@ impl<'a> CharacterMap<'a> {
             ≡ glyph_index self.now.subtable.now self.now.encoding character }
     {
         let glyph = match self.first_glyphs.get(character as usize) {
-            Some(glyph) => *glyph,
+            Some(number) => some_glyph(u64::from(*number)),
             None => self.codes().glyph_of(character),
         };
         glyph.map(GlyphId)

@@ -1,10 +1,10 @@
 //! Segments of codes (OpenType specification, `cmap`, "Format 4").
 
-ghost use Rattle.std.specs.Prelude.{◌≡◌, ◌<◌, ◌≤◌, ◌^◌, ℕ, None, IfSome, get_or, option_and_then};
+ghost use Rattle.std.specs.Prelude.{◌≡◌, ◌<◌, ◌≤◌, ◌^◌, ℕ, IfSome, slice_index, option_and_then};
 ghost use Rattle.font_tables.specs.Bisection.{row_with};
 ghost use Rattle.font_cmap.specs.Subtables.{beside_segment, segment_count, number_of_list};
 ghost use Rattle.font_cmap.specs.Subtables.{glyph_behind_range_offset, with_delta, glyph_in_segment};
-ghost use Rattle.font_cmap.specs.Subtables.{segment_glyph, segments_glyph};
+ghost use Rattle.font_cmap.specs.Subtables.{segment_glyph, segments_glyph, some_glyph};
 ghost use Rattle.font_cmap.specs.Runs.{glyph_of_segment, IsSegmentRun};
 
 use crate::arrays::some_glyph;
@@ -142,6 +142,16 @@ fn glyph_in_segment(table: &[u8], code: u32, segment: &Segment) -> Option<u16>
     with_delta(segment.delta, u32::from(glyph))
 }
 
+/// The number of that glyph; 0 where there is none.
+#[tactic(auto, using(crate::proofs::Numbers::some_glyph_in_segment))]
+fn number_in_segment(table: &[u8], code: u32, segment: &Segment) -> u16
+    requires { segment.now.row < 2 ^ 62 }
+    ensures { some_glyph result ≡ glyph_in_segment table.now code segment.now.row segment.now.start
+        segment.now.delta segment.now.range_offset }
+{
+    glyph_in_segment(table, code, segment).unwrap_or(0)
+}
+
 /// The segment of a row.
 #[tactic(auto, using(crate::proofs::Outside::segment_glyph_outside), unfolding(crate::specs::Subtables::segment_glyph))]
 fn segment_of(table: &[u8], row: usize) -> Option<Segment>
@@ -197,11 +207,11 @@ fn segment_run(table: &[u8], code: u32) -> SegmentRun
     }
 }
 
-/// The glyphs of the first codes by format 4.
-pub(crate) fn first_segments_glyphs(table: &[u8]) -> [Option<u16>; FIRST_COUNT]
-    ensures { (code : ℕ) → code < 128 → get_or result code None ≡ segments_glyph table.now code }
+/// The numbers of the glyphs of the first codes by format 4; 0 where a code has none.
+pub(crate) fn first_segments_glyphs(table: &[u8]) -> [u16; FIRST_COUNT]
+    ensures { (code : ℕ) → code < 128 → some_glyph (slice_index result code) ≡ segments_glyph table.now code }
 {
-    let mut glyphs = [None; FIRST_COUNT];
+    let mut glyphs = [0; FIRST_COUNT];
     let mut code = 0;
     while code < FIRST_COUNT {
         let run = segment_run(table, code as u32);
@@ -212,10 +222,10 @@ pub(crate) fn first_segments_glyphs(table: &[u8]) -> [Option<u16>; FIRST_COUNT]
     glyphs
 }
 
-/// Puts the glyphs of codes that have one segment, from one code to before another, in their places.
+/// Puts the numbers of the glyphs of codes that have one segment, from one code to before another, in their places.
 #[inline]
 fn put_glyphs(
-    glyphs: &mut [Option<u16>; FIRST_COUNT],
+    glyphs: &mut [u16; FIRST_COUNT],
     start: usize,
     end: usize,
     table: &[u8],
@@ -223,14 +233,14 @@ fn put_glyphs(
 )
     requires within { end ≤ 128 }
     requires small { IfSome run.now.segment (λ segment. segment.row < 2 ^ 62) }
-    ensures before { (code : ℕ) → code < start → get_or glyphs.new code None ≡ get_or glyphs.old code None }
+    ensures before { (code : ℕ) → code < start → slice_index glyphs.new code ≡ slice_index glyphs.old code }
     ensures put { (code : ℕ) → start ≤ code → code < end
-        → get_or glyphs.new code None ≡ glyph_of_segment table.now code run.now.segment }
+        → some_glyph (slice_index glyphs.new code) ≡ glyph_of_segment table.now code run.now.segment }
 {
     for code in start..end {
         glyphs[code] = match &run.segment {
-            Some(segment) => glyph_in_segment(table, code as u32, segment),
-            None => None,
+            Some(segment) => number_in_segment(table, code as u32, segment),
+            None => 0,
         };
     }
 }

@@ -1,7 +1,7 @@
 //! A subtable by its format.
 
-ghost use Rattle.std.specs.Prelude.{◌≡◌, ◌<◌, ℕ, None, get_or};
-ghost use Rattle.font_cmap.specs.Subtables.{glyph_by_format, subtable_glyph};
+ghost use Rattle.std.specs.Prelude.{◌≡◌, ◌<◌, ℕ, slice_index};
+ghost use Rattle.font_cmap.specs.Subtables.{glyph_by_format, some_glyph, subtable_glyph};
 
 use crate::arrays::{byte_glyph, trimmed_array_glyph, trimmed_table_glyph};
 use crate::groups::{first_groups_glyphs, groups_glyph};
@@ -25,10 +25,10 @@ pub(crate) fn subtable_glyph(table: &[u8], code: u32) -> Option<u16>
     }
 }
 
-/// The glyphs that a subtable gives to the first codes.
+/// The numbers of the glyphs that a subtable gives to the first codes; 0 where it gives none.
 #[tactic(auto, unfolding(crate::specs::Subtables::glyph_by_format, crate::specs::Subtables::subtable_glyph))]
-pub(crate) fn first_subtable_glyphs(table: &[u8]) -> [Option<u16>; FIRST_COUNT]
-    ensures { (code : ℕ) → code < 128 → get_or result code None ≡ subtable_glyph table.now code }
+pub(crate) fn first_subtable_glyphs(table: &[u8]) -> [u16; FIRST_COUNT]
+    ensures { (code : ℕ) → code < 128 → some_glyph (slice_index result code) ≡ subtable_glyph table.now code }
 {
     match u16_at(table, 0) {
         Some(4) => first_segments_glyphs(table),
@@ -37,13 +37,21 @@ pub(crate) fn first_subtable_glyphs(table: &[u8]) -> [Option<u16>; FIRST_COUNT]
     }
 }
 
-/// The glyphs that a subtable gives to the first codes, each asked for.
-fn glyphs_one_by_one(table: &[u8]) -> [Option<u16>; FIRST_COUNT]
-    ensures { (code : ℕ) → code < 128 → get_or result code None ≡ subtable_glyph table.now code }
+/// The same, each asked for.
+fn glyphs_one_by_one(table: &[u8]) -> [u16; FIRST_COUNT]
+    ensures { (code : ℕ) → code < 128 → some_glyph (slice_index result code) ≡ subtable_glyph table.now code }
 {
-    let mut glyphs = [None; FIRST_COUNT];
+    let mut glyphs = [0; FIRST_COUNT];
     for code in 0..FIRST_COUNT {
-        glyphs[code] = subtable_glyph(table, code as u32);
+        glyphs[code] = number_of_code(table, code as u32);
     }
     glyphs
+}
+
+/// The number of the glyph that a subtable gives to a code; 0 where it gives none.
+#[tactic(auto, using(crate::proofs::Numbers::some_glyph_of_subtable))]
+fn number_of_code(table: &[u8], code: u32) -> u16
+    ensures { some_glyph result ≡ subtable_glyph table.now code }
+{
+    subtable_glyph(table, code).unwrap_or(0)
 }

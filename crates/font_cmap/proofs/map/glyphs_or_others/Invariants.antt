@@ -1,5 +1,6 @@
-use Rattle.std.proofs.Common.{◌≡◌, ◌<◌, ℕ, None, get_or, length}
+use Rattle.std.proofs.Common.{◌≡◌, ◌<◌, ℕ, slice_index, length}
 use Rattle.font_cmap.specs.Codes.{glyph_index}
+use Rattle.font_cmap.specs.Subtables.{some_glyph}
 use Rattle.font_cmap.proofs.map.glyphs_or_others.Given as goal
 
 -- the glyphs so far are those of their characters
@@ -7,5 +8,5 @@ abbrev pub invariant-loop-character : goal.invariant-loop-character
 invariant-loop-character l = record {
   long : length l.glyphs ≡ 128;
   found : (character : ℕ) → character < l.character
-      → get_or l.glyphs character None ≡ glyph_index l.codes.subtable.now l.codes.encoding character;
+      → some_glyph (slice_index l.glyphs character) ≡ glyph_index l.codes.subtable.now l.codes.encoding character;
 }

@@ -1,12 +1,12 @@
-use Rattle.std.proofs.Common.{◌≡◌, ◌<◌, ◌-◌, ℕ, None, get_or, length}
-use Rattle.font_cmap.specs.Subtables.{segments_glyph}
+use Rattle.std.proofs.Common.{◌≡◌, ◌<◌, ◌-◌, ℕ, slice_index, length}
+use Rattle.font_cmap.specs.Subtables.{some_glyph, segments_glyph}
 use Rattle.font_cmap.proofs.segments.first_segments_glyphs.Given as goal
 
 -- the glyphs so far are those of their codes
 abbrev pub invariant-loop-code : goal.invariant-loop-code
 invariant-loop-code l = record {
   long : length l.glyphs ≡ 128;
-  found : (code : ℕ) → code < l.code → get_or l.glyphs code None ≡ segments_glyph l.table code;
+  found : (code : ℕ) → code < l.code → some_glyph (slice_index l.glyphs code) ≡ segments_glyph l.table code;
 }
 
 abbrev pub decreases-loop-code : goal.decreases-loop-code

@@ -73,13 +73,20 @@ fn group_count(table: &[u8]) -> usize {
 
 /// The glyph that a group gives to a code that it reaches.
 fn glyph_in_group(format: u16, code: u32, start: u32, glyph: u32) -> Option<u16> {
+    some_glyph(u64::from(number_in_group(format, code, start, glyph)))
+}
+
+/// The number of that glyph; 0 where there is none.
+fn number_in_group(format: u16, code: u32, start: u32, glyph: u32) -> u16 {
     if code < start {
-        None
-    } else if format == 12 {
-        some_glyph(u64::from(glyph) + u64::from(code - start))
-    } else {
-        some_glyph(u64::from(glyph))
+        return 0;
     }
+    let number = if format == 12 {
+        glyph.saturating_add(code - start)
+    } else {
+        glyph
+    };
+    if number > 65535 { 0 } else { number as u16 }
 }
 
 /// A group: its first code, and the glyph of that.
@@ -127,9 +134,9 @@ fn group_run(table: &[u8], code: u32) -> GroupRun {
     }
 }
 
-/// The glyphs of the first codes by format 12 or 13.
-pub(crate) fn first_groups_glyphs(table: &[u8], format: u16) -> [Option<u16>; FIRST_COUNT] {
-    let mut glyphs = [None; FIRST_COUNT];
+/// The numbers of the glyphs of the first codes by format 12 or 13; 0 where a code has none.
+pub(crate) fn first_groups_glyphs(table: &[u8], format: u16) -> [u16; FIRST_COUNT] {
+    let mut glyphs = [0; FIRST_COUNT];
     let mut code = 0;
     while code < FIRST_COUNT {
         let run = group_run(table, code as u32);
@@ -140,14 +147,15 @@ pub(crate) fn first_groups_glyphs(table: &[u8], format: u16) -> [Option<u16>; FI
     glyphs
 }
 
-/// Puts the glyphs of codes that have one group, from one code to before another, in their places.
+/// Puts the numbers of the glyphs of codes that have one group, from one code to before another, in
+/// their places.
 ///
 /// # Requires
 ///
 /// - `end ≤ 128`
 #[inline(always)]
 fn put_glyphs(
-    glyphs: &mut [Option<u16>; FIRST_COUNT],
+    glyphs: &mut [u16; FIRST_COUNT],
     start: usize,
     end: usize,
     format: u16,
@@ -156,8 +164,8 @@ fn put_glyphs(
     debug_assert!(end <= 128);
     for code in start..end {
         glyphs[code] = match &run.group {
-            Some(group) => glyph_in_group(format, code as u32, group.start, group.glyph),
-            None => None,
+            Some(group) => number_in_group(format, code as u32, group.start, group.glyph),
+            None => 0,
         };
     }
 }

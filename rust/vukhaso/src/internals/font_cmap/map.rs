@@ -3,6 +3,7 @@
 //! The map from characters to glyphs.
 
 use crate::common::GlyphId;
+use crate::font_cmap::arrays::some_glyph;
 use crate::font_cmap::choice::{choose, variation_subtable};
 use crate::font_cmap::codes::{Encoding, other_code, own_code};
 use crate::font_cmap::runs::FIRST_COUNT;
@@ -40,6 +41,18 @@ impl Codes<'_> {
         }
     }
 
+    /// The number of that glyph, by the number of the other; 0 where there is none.
+    ///
+    /// # Requires
+    ///
+    /// - `first: character < 128`
+    /// - `own: some_glyph own ≡ subtable_glyph self.now.subtable.now character`
+    fn number_or_other(&self, own: u16, character: u32) -> u16 {
+        debug_assert!(character < 128);
+        let own = some_glyph(u64::from(own));
+        self.glyph_or_other(own, character).unwrap_or(0)
+    }
+
     /// The glyph of a code, if there is a code.
     fn glyph_of_code(&self, code: Option<u32>) -> Option<u16> {
         let code = code?;
@@ -47,8 +60,8 @@ impl Codes<'_> {
     }
 }
 
-/// The glyphs of the first characters.
-fn first_glyphs(codes: &Codes<'_>) -> [Option<u16>; FIRST_COUNT] {
+/// The numbers of the glyphs of the first characters; 0 where a character has none.
+fn first_glyphs(codes: &Codes<'_>) -> [u16; FIRST_COUNT] {
     let own = first_subtable_glyphs(codes.subtable);
     match codes.encoding {
         Encoding::Unicode => own,
@@ -56,18 +69,15 @@ fn first_glyphs(codes: &Codes<'_>) -> [Option<u16>; FIRST_COUNT] {
     }
 }
 
-/// The glyphs of the first characters, by those of their own numbers.
+/// The same by the glyphs of their own numbers.
 ///
 /// # Requires
 ///
-/// - `(character : ℕ) → character < 128 → get_or own.now character None ≡ subtable_glyph codes.now.subtable.now character`
-fn glyphs_or_others(
-    codes: &Codes<'_>,
-    own: &[Option<u16>; FIRST_COUNT],
-) -> [Option<u16>; FIRST_COUNT] {
-    let mut glyphs = [None; FIRST_COUNT];
+/// - `(character : ℕ) → character < 128 → some_glyph (slice_index own.now character) ≡ subtable_glyph codes.now.subtable.now character`
+fn glyphs_or_others(codes: &Codes<'_>, own: &[u16; FIRST_COUNT]) -> [u16; FIRST_COUNT] {
+    let mut glyphs = [0; FIRST_COUNT];
     for character in 0..FIRST_COUNT {
-        glyphs[character] = codes.glyph_or_other(own[character], character as u32);
+        glyphs[character] = codes.number_or_other(own[character], character as u32);
     }
     glyphs
 }
@@ -78,7 +88,7 @@ fn glyphs_or_others(
 ///
 /// ```text
 /// ghost firsts: { (character : ℕ) → character < 128
-///     → get_or first_glyphs character None ≡ glyph_index subtable.now encoding character }
+///     → some_glyph (slice_index first_glyphs character) ≡ glyph_index subtable.now encoding character }
 /// ```
 #[derive(Clone, Copy, Debug)]
 pub struct CharacterMap<'a> {
@@ -88,7 +98,7 @@ pub struct CharacterMap<'a> {
     pub encoding: Encoding,
     /// The subtable of variation sequences, from its format on; empty where the font has none.
     pub variations: &'a [u8],
-    first_glyphs: [Option<u16>; FIRST_COUNT],
+    first_glyphs: [u16; FIRST_COUNT],
 }
 
 impl<'a> CharacterMap<'a> {
@@ -134,7 +144,7 @@ impl<'a> CharacterMap<'a> {
     #[inline]
     pub fn glyph_index(&self, character: u32) -> Option<GlyphId> {
         let glyph = match self.first_glyphs.get(character as usize) {
-            Some(glyph) => *glyph,
+            Some(number) => some_glyph(u64::from(*number)),
             None => self.codes().glyph_of(character),
         };
         glyph.map(GlyphId)

@@ -136,6 +136,15 @@ fn glyph_in_segment(table: &[u8], code: u32, segment: &Segment) -> Option<u16> {
     with_delta(segment.delta, u32::from(glyph))
 }
 
+/// The number of that glyph; 0 where there is none.
+///
+/// # Requires
+///
+/// - `segment.now.row < 2 ^ 62`
+fn number_in_segment(table: &[u8], code: u32, segment: &Segment) -> u16 {
+    glyph_in_segment(table, code, segment).unwrap_or(0)
+}
+
 /// The segment of a row.
 fn segment_of(table: &[u8], row: usize) -> Option<Segment> {
     if row >= table.len() / 2 {
@@ -179,9 +188,9 @@ fn segment_run(table: &[u8], code: u32) -> SegmentRun {
     }
 }
 
-/// The glyphs of the first codes by format 4.
-pub(crate) fn first_segments_glyphs(table: &[u8]) -> [Option<u16>; FIRST_COUNT] {
-    let mut glyphs = [None; FIRST_COUNT];
+/// The numbers of the glyphs of the first codes by format 4; 0 where a code has none.
+pub(crate) fn first_segments_glyphs(table: &[u8]) -> [u16; FIRST_COUNT] {
+    let mut glyphs = [0; FIRST_COUNT];
     let mut code = 0;
     while code < FIRST_COUNT {
         let run = segment_run(table, code as u32);
@@ -192,7 +201,8 @@ pub(crate) fn first_segments_glyphs(table: &[u8]) -> [Option<u16>; FIRST_COUNT] 
     glyphs
 }
 
-/// Puts the glyphs of codes that have one segment, from one code to before another, in their places.
+/// Puts the numbers of the glyphs of codes that have one segment, from one code to before another, in
+/// their places.
 ///
 /// # Requires
 ///
@@ -200,7 +210,7 @@ pub(crate) fn first_segments_glyphs(table: &[u8]) -> [Option<u16>; FIRST_COUNT] 
 /// - `small: IfSome run.now.segment (λ segment. segment.row < 2 ^ 62)`
 #[inline(always)]
 fn put_glyphs(
-    glyphs: &mut [Option<u16>; FIRST_COUNT],
+    glyphs: &mut [u16; FIRST_COUNT],
     start: usize,
     end: usize,
     table: &[u8],
@@ -209,8 +219,8 @@ fn put_glyphs(
     debug_assert!(end <= 128);
     for code in start..end {
         glyphs[code] = match &run.segment {
-            Some(segment) => glyph_in_segment(table, code as u32, segment),
-            None => None,
+            Some(segment) => number_in_segment(table, code as u32, segment),
+            None => 0,
         };
     }
 }

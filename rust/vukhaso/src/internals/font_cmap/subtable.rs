@@ -21,8 +21,8 @@ pub(crate) fn subtable_glyph(table: &[u8], code: u32) -> Option<u16> {
     }
 }
 
-/// The glyphs that a subtable gives to the first codes.
-pub(crate) fn first_subtable_glyphs(table: &[u8]) -> [Option<u16>; FIRST_COUNT] {
+/// The numbers of the glyphs that a subtable gives to the first codes; 0 where it gives none.
+pub(crate) fn first_subtable_glyphs(table: &[u8]) -> [u16; FIRST_COUNT] {
     match u16_at(table, 0) {
         Some(4) => first_segments_glyphs(table),
         Some(format @ (12 | 13)) => first_groups_glyphs(table, format),
@@ -30,11 +30,16 @@ pub(crate) fn first_subtable_glyphs(table: &[u8]) -> [Option<u16>; FIRST_COUNT] 
     }
 }
 
-/// The glyphs that a subtable gives to the first codes, each asked for.
-fn glyphs_one_by_one(table: &[u8]) -> [Option<u16>; FIRST_COUNT] {
-    let mut glyphs = [None; FIRST_COUNT];
+/// The same, each asked for.
+fn glyphs_one_by_one(table: &[u8]) -> [u16; FIRST_COUNT] {
+    let mut glyphs = [0; FIRST_COUNT];
     for code in 0..FIRST_COUNT {
-        glyphs[code] = subtable_glyph(table, code as u32);
+        glyphs[code] = number_of_code(table, code as u32);
     }
     glyphs
+}
+
+/// The number of the glyph that a subtable gives to a code; 0 where it gives none.
+fn number_of_code(table: &[u8], code: u32) -> u16 {
+    subtable_glyph(table, code).unwrap_or(0)
 }
