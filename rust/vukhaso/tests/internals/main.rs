@@ -6,6 +6,7 @@ type Fail = Box<dyn std::error::Error>;
 mod aat;
 mod buffer;
 mod fonts;
+mod formats;
 mod glyphs;
 mod layout;
 #[cfg(feature = "std")]
@@ -14,4 +15,5 @@ mod passes;
 mod positions;
 mod scripts;
 mod shapers;
+mod text;
 mod variations;

@@ -11,8 +11,6 @@
 type Fail = Box<dyn std::error::Error>;
 
 mod buffer_tests;
-mod format_tests;
 mod glyph_tests;
 mod shaping_uses;
-mod text_tests;
 mod unicode_tests;

@@ -1,5 +1,3 @@
-// Written by tools/plain_rust from crates/text_tests. Do not edit.
-
 use vukhaso::internals::text::{Tag, TagExt};
 
 /// Texts, their tags, and the tags in capitals.

@@ -1,11 +1,9 @@
 //! Tests of tags: tables, and complex cases. `rows/calls/tags.calls` has scripts and languages of every form.
-use rb_text::{
+use crate::Fail;
+use vukhaso::internals::text::{
     ComplexLanguages, Language, LanguageTable, NoComplexLanguages, SmallVecExt, Tag, ThreeTags,
     tags_from_script_and_language,
 };
-use std::alloc::Global;
-use std::process::Abort;
-use std::test::Fail;
 
 /// Languages, and the tags of scripts and of languages that they have with no script and over [`TABLE`].
 static ROWS_OF_TABLE: [(&str, &[Tag], &[Tag]); 20] = [
@@ -59,10 +57,6 @@ static TABLE: [(&str, Tag); 17] = [
 struct NoTags;
 
 impl ComplexLanguages for NoTags {
-    ghost use Rattle.std.specs.Prelude.{Some, []};
-
-    ghost cases = { λ all prefix. Some [] };
-
     fn tags(&self, _prefix: &str) -> Option<ThreeTags> {
         Some(ThreeTags::new())
     }
@@ -72,56 +66,46 @@ impl ComplexLanguages for NoTags {
 struct OneTwoThree;
 
 impl ComplexLanguages for OneTwoThree {
-    ghost use Rattle.std.specs.Prelude.{Some, [], ◌∷◌};
-
-    ghost cases = { λ all prefix. Some (1 ∷ 2 ∷ 3 ∷ []) };
-
     fn tags(&self, _prefix: &str) -> Option<ThreeTags> {
         Some(ThreeTags::from([Tag(1), Tag(2), Tag(3)]))
     }
 }
 
 fn assert_tags(
-    rt: &impl Abort,
-    alloc: Global,
     table: &LanguageTable<'_>,
     (text, scripts, languages): &(&str, &[Tag], &[Tag]),
 ) -> Result<(), Fail> {
-    let language = Language::from_str(alloc, text)?;
-    let (found_scripts, found_languages) = tags_from_script_and_language(
-        None,
-        Some(&language),
-        table,
-        &NoComplexLanguages,
-    );
-    assert!(rt; found_scripts.as_slice() == *scripts, "{text}");
-    assert!(rt; found_languages.as_slice() == *languages, "{text}");
+    let language = Language::from_str(text)?;
+    let (found_scripts, found_languages) =
+        tags_from_script_and_language(None, Some(&language), table, &NoComplexLanguages);
+    assert!(found_scripts.as_slice() == *scripts, "{text}");
+    assert!(found_languages.as_slice() == *languages, "{text}");
     Ok(())
 }
 
 #[test]
-fn rows_of_a_table(rt: HostRuntime) -> Result<(), Fail> {
+fn rows_of_a_table() -> Result<(), Fail> {
     let table = LanguageTable::new(&TABLE).ok_or("no table")?;
     for row in &ROWS_OF_TABLE {
-        assert_tags(&rt, rt.alloc(), &table, row)?;
+        assert_tags(&table, row)?;
     }
     Ok(())
 }
 
 /// The tags of `zz`, which has some in the table.
-fn language_tags(alloc: Global, complex: &impl ComplexLanguages) -> Result<ThreeTags, Fail> {
+fn language_tags(complex: &impl ComplexLanguages) -> Result<ThreeTags, Fail> {
     let table = LanguageTable::new(&TABLE).ok_or("no table")?;
-    let language = Language::from_str(alloc, "zz")?;
+    let language = Language::from_str("zz")?;
     let (_, tags) = tags_from_script_and_language(None, Some(&language), &table, complex);
     Ok(tags)
 }
 
 #[test]
-fn complex_cases_come_before_the_table(rt: HostRuntime) -> Result<(), Fail> {
-    assert!(rt; language_tags(rt.alloc(), &NoTags)?.left() == 3);
-    let three = language_tags(rt.alloc(), &OneTwoThree)?;
-    assert!(rt; three.as_slice() == [Tag(1), Tag(2), Tag(3)].as_slice());
-    assert!(rt; SmallVecExt::is_full(&three));
+fn complex_cases_come_before_the_table() -> Result<(), Fail> {
+    assert!(language_tags(&NoTags)?.left() == 3);
+    let three = language_tags(&OneTwoThree)?;
+    assert!(three.as_slice() == [Tag(1), Tag(2), Tag(3)].as_slice());
+    assert!(SmallVecExt::is_full(&three));
     Ok(())
 }
 
@@ -140,8 +124,8 @@ static TABLES: [(&[(&str, Tag)], bool); 8] = [
 ];
 
 #[test]
-fn keys_of_a_table_never_fall(rt: HostRuntime) {
+fn keys_of_a_table_never_fall() {
     for (rows, is_table) in &TABLES {
-        assert!(rt; LanguageTable::new(rows).is_some() == *is_table, "{rows:?}");
+        assert!(LanguageTable::new(rows).is_some() == *is_table, "{rows:?}");
     }
 }

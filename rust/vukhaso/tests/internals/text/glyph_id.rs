@@ -1,5 +1,3 @@
-// Written by tools/plain_rust from crates/text_tests. Do not edit.
-
 use vukhaso::internals::text::{GlyphId, hb_codepoint_t};
 
 #[test]

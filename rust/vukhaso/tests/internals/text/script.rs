@@ -1,5 +1,3 @@
-// Written by tools/plain_rust from crates/text_tests. Do not edit.
-
 //! Tests of other names of a script, and of texts in any case. The constants by name are tested by the package for Rust, in
 //! `rust/vukhaso/tests/scripts.rs`: here each would cost half a second of proof.
 use vukhaso::internals::text::Tag;

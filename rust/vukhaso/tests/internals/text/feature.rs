@@ -1,5 +1,3 @@
-// Written by tools/plain_rust from crates/text_tests. Do not edit.
-
 //! Tests of new features. `rows/calls/features.calls` has texts that are features, and texts that are none.
 use std::ops::Bound;
 use vukhaso::internals::text::{Feature, Tag, TagExt};

@@ -1,22 +1,22 @@
-use rb_text::{Tag, TextParser};
+use vukhaso::internals::text::{Tag, TextParser};
 
 #[test]
-fn bytes_are_read_from_the_left(rt: HostRuntime) {
+fn bytes_are_read_from_the_left() {
     let mut p = TextParser::new("ab\t \"'aab12k_9,kerns");
-    assert!(rt; p.curr_byte() == Some(b'a'));
+    assert!(p.curr_byte() == Some(b'a'));
     p.advance(1);
-    assert!(rt; [p.consume_byte(b'a'), p.consume_byte(b'b')] == [None, Some(())]);
+    assert!([p.consume_byte(b'a'), p.consume_byte(b'b')] == [None, Some(())]);
     p.skip_spaces();
     let quotes = [p.consume_quote(), p.consume_quote(), p.consume_quote()];
-    assert!(rt; quotes == [Some(b'"'), Some(b'\''), None]);
-    assert!(rt; p.consume_bytes(|b| b == b'a').len() == 2);
+    assert!(quotes == [Some(b'"'), Some(b'\''), None]);
+    assert!(p.consume_bytes(|b| b == b'a').len() == 2);
     p.skip_bytes(|b| b != b'k');
     let tags = [p.consume_tag(), p.consume_tag()];
-    assert!(rt; tags == [Some(Tag(0x6b5f3920)), Some(Tag(0))]);
-    assert!(rt; p.consume_byte(b',') == Some(()));
-    assert!(rt; !p.at_end());
-    assert!(rt; p.consume_tag().is_none());
-    assert!(rt; p.at_end());
+    assert!(tags == [Some(Tag(0x6b5f3920)), Some(Tag(0))]);
+    assert!(p.consume_byte(b',') == Some(()));
+    assert!(!p.at_end());
+    assert!(p.consume_tag().is_none());
+    assert!(p.at_end());
 }
 
 /// Texts, the numbers that they begin with, and the bytes after those.
@@ -35,13 +35,10 @@ static NUMBERS: [(&str, Option<i32>, Option<u8>); 11] = [
 ];
 
 #[test]
-fn numbers(rt: HostRuntime) {
+fn numbers() {
     for &(text, number, next) in &NUMBERS {
         let mut p = TextParser::new(text);
-        assert!(rt;
-            (p.consume_i32(), p.curr_byte()) == (number, next),
-            "{text}"
-        );
+        assert!((p.consume_i32(), p.curr_byte()) == (number, next), "{text}");
     }
 }
 
@@ -55,10 +52,10 @@ static TOGGLES: [(&str, Option<bool>, Option<u8>); 5] = [
 ];
 
 #[test]
-fn on_and_off(rt: HostRuntime) {
+fn on_and_off() {
     for &(text, toggle, next) in &TOGGLES {
         let mut p = TextParser::new(text);
-        assert!(rt;
+        assert!(
             (p.consume_bool(), p.curr_byte()) == (toggle, next),
             "{text}"
         );

@@ -1,5 +1,3 @@
-// Written by tools/plain_rust from crates/format_tests. Do not edit.
-
 //! What stands before answers.
 
 use crate::Fail;

@@ -1,4 +1,4 @@
-use rb_text::{Direction, script};
+use vukhaso::internals::text::{Direction, script};
 
 /// A text, the direction that it names, and what that is.
 struct Row<'a> {
@@ -48,7 +48,7 @@ static DIRECTIONS: [Row<'static>; 5] = [
 ];
 
 #[test]
-fn each_direction_has_its_line_and_its_opposite(rt: HostRuntime) {
+fn each_direction_has_its_line_and_its_opposite() {
     for row in &DIRECTIONS {
         let (text, direction) = (row.text, row.direction);
         let lines = [
@@ -58,22 +58,22 @@ fn each_direction_has_its_line_and_its_opposite(rt: HostRuntime) {
             !direction.is_backward(),
         ];
         let (is_horizontal, is_forward) = (row.is_horizontal, row.is_forward);
-        assert!(rt;
+        assert!(
             lines == [is_horizontal, is_horizontal, is_forward, is_forward],
             "`{text}`"
         );
         let named = text.parse::<Direction>().unwrap_or_default();
-        assert!(rt;
+        assert!(
             [named, direction.reverse()] == [direction, row.reverse],
             "`{text}`"
         );
     }
-    assert!(rt; Direction::default() == Direction::Invalid);
-    assert!(rt; " ltr".parse::<Direction>() == Err("invalid direction"));
+    assert!(Direction::default() == Direction::Invalid);
+    assert!(" ltr".parse::<Direction>() == Err("invalid direction"));
 }
 
 #[test]
-fn scripts_have_directions(rt: HostRuntime) {
+fn scripts_have_directions() {
     let found = [
         script::OLD_UYGHUR,
         script::RUNIC,
@@ -82,5 +82,5 @@ fn scripts_have_directions(rt: HostRuntime) {
     ]
     .map(Direction::from_script);
     let to_right = Some(Direction::LeftToRight);
-    assert!(rt; found == [Some(Direction::RightToLeft), None, to_right, to_right]);
+    assert!(found == [Some(Direction::RightToLeft), None, to_right, to_right]);
 }

@@ -1,9 +1,7 @@
-// Written by tools/plain_rust from crates/format_tests. Do not edit.
-
 //! Glyphs as JSON.
 
+use super::font::Five;
 use crate::Fail;
-use crate::format_tests::font::Five;
 use vukhaso::internals::glyph::{GlyphPosition, SerializeFlags, hb_glyph_info_t};
 use vukhaso::internals::line_formats::json::glyphs_json;
 

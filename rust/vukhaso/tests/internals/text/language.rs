@@ -1,5 +1,3 @@
-// Written by tools/plain_rust from crates/text_tests. Do not edit.
-
 use crate::Fail;
 use vukhaso::internals::text::{Language, LanguageError};
 use vukhaso::memory::{String, TryText};

@@ -1,5 +1,3 @@
-// Written by tools/plain_rust from crates/text_tests. Do not edit.
-
 //! Tests of how values are printed by `Debug`.
 use crate::Fail;
 use vukhaso::internals::text::{
