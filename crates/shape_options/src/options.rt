@@ -212,20 +212,37 @@ fn font_choice<'a>(matches: &ArgMatches<'a>) -> Result<FontChoice, OptionsError<
 
 /// Refuses the values of options that are there for HarfBuzz's sake alone, unless they change nothing.
 fn refuse_unsupported<'a>(matches: &ArgMatches<'a>) -> Result<(), OptionsError<'a>> {
-    let face_loader = matches.get_str("face-loader").unwrap_or("ot");
-    if !face_loader.eq_ignore_ascii_case("ot") {
-        return Err(OptionsError::FaceLoader(face_loader));
+    let loader = matches.get_str("face-loader").unwrap_or("ot");
+    if !is_open_type(loader) {
+        return Err(OptionsError::FaceLoader(loader));
     }
     if let Some(flags) = matches.get_str("ft-load-flags") {
         if flags.parse::<i32>().is_err() {
             return Err(OptionsError::Number("ft-load-flags", flags));
         }
     }
-    let font_funcs = matches.get_str("font-funcs").unwrap_or("ot");
-    if !font_funcs.eq_ignore_ascii_case("ot") {
-        return Err(OptionsError::FontFuncs(font_funcs));
+    let functions = matches.get_str("font-funcs").unwrap_or("ot");
+    if !is_open_type(functions) {
+        return Err(OptionsError::FontFuncs(functions));
     }
     Ok(())
+}
+
+/// Whether a reader or functions of a font are those that there are.
+fn is_open_type(name: &str) -> bool {
+    name.eq_ignore_ascii_case("ot")
+}
+
+/// The shapers, by their names.
+static SHAPERS: [(&str, Shaper); 2] = [("ot", Shaper::OpenType), ("fallback", Shaper::Fallback)];
+
+fn shaper_named(name: &str) -> Option<Shaper> {
+    for (own, shaper) in &SHAPERS {
+        if *own == name {
+            return Some(*shaper);
+        }
+    }
+    None
 }
 
 /// What makes glyphs: the first shaper that is named, since each of them shapes whatever the text is.
@@ -233,12 +250,10 @@ fn shaper_of<'a>(matches: &ArgMatches<'a>) -> Result<Shaper, OptionsError<'a>> {
     let mut first = None;
     for name in ["shapers", "shaper"] {
         for named in matches.get_str(name).unwrap_or("").split(',') {
-            let shaper = match named {
-                "ot" => Shaper::OpenType,
-                "fallback" => Shaper::Fallback,
-                "" if matches.get_str(name).is_none() => continue,
-                _ => return Err(OptionsError::Shaper(named)),
-            };
+            if named.is_empty() && matches.get_str(name).is_none() {
+                continue;
+            }
+            let shaper = shaper_named(named).ok_or(OptionsError::Shaper(named))?;
             first = first.or(Some(shaper));
         }
     }

@@ -78,15 +78,9 @@ fn option<'a>(
 fn with_help_options<'a>(command: Command<'a>) -> Result<Command<'a>, AllocError> {
     let mut command = command;
     for (_, name, about) in &GROUPS {
-        command = with_option(command, help_option(name, about))?;
+        command = with_option(command, option(name, "", about))?;
     }
-    with_option(command, help_option("help-all", "All options"))
-}
-
-/// An option that asks for help.
-fn help_option<'a>(name: &'static str, about: &'static str) -> Result<Arg<'a>, AllocError> {
-    let arg = Arg::new(name).long(name).overrides_with(name)?;
-    Ok(arg.action(ArgAction::SetTrue).help(about))
+    with_option(command, option("help-all", "", "All options"))
 }
 
 /// What words ask for in place of answers, if they do: help on some options, the version or the

@@ -364,16 +364,23 @@ pub(crate) static OPTIONS: [Row; 62] = [
     ),
 ];
 
-/// The letter of an option, where it has one, as in `hb-shape`.
+/// The options that have a letter too, as in `hb-shape`.
+static LETTERS: [(&str, char); 7] = [
+    ("face-index", 'y'),
+    ("unicodes", 'u'),
+    ("num-iterations", 'n'),
+    ("output-file", 'o'),
+    ("output-format", 'O'),
+    ("trace", 'V'),
+    ("v", 'v'),
+];
+
+/// The letter of an option, where it has one.
 pub(crate) fn letter_of(name: &str) -> Option<char> {
-    match name {
-        "face-index" => Some('y'),
-        "unicodes" => Some('u'),
-        "num-iterations" => Some('n'),
-        "output-file" => Some('o'),
-        "output-format" => Some('O'),
-        "trace" => Some('V'),
-        "v" => Some('v'),
-        _ => None,
+    for (option, letter) in &LETTERS {
+        if *option == name {
+            return Some(*letter);
+        }
     }
+    None
 }
