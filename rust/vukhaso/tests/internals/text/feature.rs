@@ -1,6 +1,6 @@
 //! Tests of new features. `rows/calls/features.calls` has texts that are features, and texts that are none.
 use std::ops::Bound;
-use vukhaso::internals::text::{Feature, Tag, TagExt};
+use vukhaso::internals::text::{Feature, Tag};
 
 #[test]
 fn texts_are_read_by_the_grammar() {
