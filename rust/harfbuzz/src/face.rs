@@ -16,8 +16,8 @@ use std::ffi::{c_char, c_uint, c_void};
 use std::ptr::null_mut;
 use std::sync::OnceLock;
 use std::sync::atomic::{AtomicU32, Ordering};
-use vukhaso::internals::ot_shape::KeptPlans;
 use vukhaso::internals::font_tables::directory::Tables;
+use vukhaso::internals::ot_shape::KeptPlans;
 
 pub type hb_reference_table_func_t = Option<unsafe extern "C" fn(*mut hb_face_t, hb_tag_t, *mut c_void) -> *mut hb_blob_t>;
 pub type hb_get_table_tags_func_t =
