@@ -248,7 +248,7 @@ class AsProved(Waiting):
     """The batches of each crate, once its name is read: another command says which crates it has proved, a line each. Meanwhile what is tried
     here gives way to it."""
 
-    GIVES_WAY = ["nice", "-n", "10"]
+    GIVES_WAY = ["nice", "-n", "19"]
 
     def __init__(self, place, batches, names):
         self.place, self.batches, self.names, self.read, self.is_open = place, batches, names, queue.SimpleQueue(), True

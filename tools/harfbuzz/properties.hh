@@ -1,4 +1,4 @@
-// Properties of characters, directions of scripts, Hangul, tables, and reversals, as lines: `unicode_properties` prints the same of ours.
+// Properties of characters, directions of scripts, Hangul, tables, and reversals, as lines: the package's example `properties` prints the same of ours.
 //
 // A property is printed as ranges of code points with one value, in hexadecimal digits.
 #include <cstdint>

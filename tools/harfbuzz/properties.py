@@ -1,21 +1,16 @@
-"""What `unicode_properties` prints of ours, beside what HarfBuzz prints: values of all code points, pairs, scripts, Hangul, reversals."""
+"""What the package's example `properties` prints of ours, beside what HarfBuzz prints: values of all code points, pairs, scripts, Hangul, reversals."""
 
 import collections
-import re
 import subprocess
 import sys
-from pathlib import Path
 
-HERE = Path(__file__).resolve().parent
-ROOT = HERE.parent.parent
 UNASSIGNED = 2
 CATEGORIES = "Cc Cf Cn Co Cs Ll Lm Lo Lt Lu Mc Me Mn Nd Nl No Pc Pd Pe Pf Pi Po Ps Sc Sk Sm So Zl Zp Zs".split()
 DIRECTIONS = {0: "either way", 4: "from left to right", 5: "from right to left"}
 NO_CHARACTERS = range(0xD800, 0xE000)
 # Syllables of Hangul are compared by a property of their own.
 HANGUL = range(0xAC00, 0xD7A4)
-# The program is too long for the interpreter of `rt try`, which gives up after so many steps. The compiled one has so many seconds.
-TRY = ["rt", "try", "--steps", "1000", "--seconds", "600", "--", "directions", "characters", "hangul", "tables", "reversals"]
+PARTS = ["directions", "characters", "hangul", "tables", "reversals"]
 
 # What may differ, by the property and the number that is asked for. docs/DIFFERENCES.md has a line for each.
 NEWER = "unassigned in Unicode 16, which HarfBuzz has, and not in Unicode 18, which the kit has"
@@ -29,14 +24,6 @@ KNOWN = {
     ("modified_class", 0xC55): TELUGU,
     ("modified_class", 0xC56): TELUGU,
 }
-
-
-def our_lines():
-    print("running unicode_properties ..", file=sys.stderr)
-    done = subprocess.run(TRY, cwd=ROOT / "crates/unicode_properties", capture_output=True, text=True)
-    if done.returncode or "ended status=0" not in done.stdout + done.stderr:
-        sys.exit(f"{done.stdout[-2000:]}{done.stderr[-2000:]}unicode_properties did not run")
-    return [line for line in done.stdout.splitlines() if re.match(r"[a-z_]+ [0-9a-f]+( |$)", line)]
 
 
 def ranges_of(lines):
@@ -124,8 +111,8 @@ def missed_pairs(theirs, asked):
     return bool(missed)
 
 
-def compare(program):
-    lines = our_lines()
+def compare(example, program):
+    lines = subprocess.run([example, *PARTS], stdout=subprocess.PIPE, text=True, check=True).stdout.splitlines()
     words = [line.split()[:2] for line in lines if line.startswith(("direction ", "asked_"))]
     text = "".join(f"{name} {number}\n" for name, number in words)
     done = subprocess.run([program, "properties"], input=text, stdout=subprocess.PIPE, text=True, check=True)

@@ -4,7 +4,8 @@ ghost use Rattle.std.specs.Prelude.{◌≡◌, ◌≤◌, IsFalse};
 ghost use Rattle.ot_layout.specs.Budget.{IsNotMore};
 
 use aat_tables::metamorphosis::all_glyphs;
-use ot_layout::{Budget, Digest};
+use glyph_digests::Digest;
+use ot_layout::Budget;
 use rb_glyph::hb_glyph_info_t;
 
 /// In texts of so many glyphs and more it is not asked which glyphs there are (HarfBuzz, `HB_AAT_BUFFER_DIGEST_THRESHOLD`).

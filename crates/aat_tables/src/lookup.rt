@@ -22,8 +22,8 @@ ghost use Rattle.aat_tables.specs.Lookup.{
 use crate::glyph_rows::GlyphRows;
 use font_tables::bytes::u16_at;
 use font_tables::rows::rows_within;
-use ot_layout::Digest;
-use ot_layout::summary::Summary;
+use glyph_digests::Digest;
+use glyph_digests::summary::Summary;
 
 /// The glyph that stands for one that was deleted, and the end of rows.
 pub const DELETED_GLYPH: u16 = 0xFFFF;

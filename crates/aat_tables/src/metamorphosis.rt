@@ -21,7 +21,7 @@ ghost use Rattle.aat_tables.specs.Metamorphosis.{
 use crate::lookup::Lookup;
 use crate::state_table::StateTable;
 use font_tables::bytes::{part, tail, u16_at, u32_at};
-use ot_layout::Digest;
+use glyph_digests::Digest;
 use std::alloc::{AllocError, Global};
 
 /// How many bytes the header of a chain has.

@@ -1,5 +1,7 @@
-//! Probes of the contracts: each function here asks one clause of an accessor or of a reference, and is no example of
-//! how to use a buffer.
+//! Probes of the contracts: each function here asks one clause of an accessor, of a reference or of a trait, and is no
+//! example of how to use a buffer.
 
 pub mod accessors;
+pub mod counters;
 pub mod references;
+pub mod traits;

@@ -6,7 +6,7 @@ use Rattle.font_tables.specs.IgnoredGdef.{is_ignored}
 use Rattle.font_tables.specs.Extents.{long_metric_count, horizontal_extents}
 use Rattle.font_tables.specs.declared.metrics.Metrics.{Metrics}
 use Rattle.font_tables.specs.declared.directory.Tables.{Tables}
-use Rattle.ot_layout.specs.SubtableLimit.{is_refused}
+use Rattle.ot_lookups.specs.SubtableLimit.{is_refused}
 use Rattle.font_cmap.specs.Choice.{chosen_subtable, chosen_encoding, variation_subtable}
 use Rattle.font_colors.specs.Strikes.{wanted_size}
 use Rattle.font_face.specs.declared.color.ColorTables.{ColorTables}

@@ -3,10 +3,10 @@
 ghost use Rattle.font_colors.specs.Strikes.{wanted_size};
 ghost use Rattle.font_face.specs.Face.{AreColorsOf};
 
+use crate::directory::Directory;
 use crate::measures::scaled_bounds;
 use font_colors::strikes::wanted_size;
 use font_colors::{CbdtTables, ColrTable, PixelBox, SbixTable};
-use font_tables::directory::Tables;
 use font_tables::scale::Scale;
 use rb_common::{GlyphId, Tag};
 use rb_glyph::GlyphExtents;
@@ -24,8 +24,8 @@ pub struct ColorTables<'a> {
 
 impl<'a> ColorTables<'a> {
     /// Those of a font with so many glyphs, where an em has so many pixels across and upwards.
-    pub(crate) fn new(tables: &Tables<'a>, glyph_count: u16, x_ppem: u16, y_ppem: u16) -> Self
-        ensures { AreColorsOf result tables.now glyph_count (wanted_size x_ppem y_ppem) }
+    pub(crate) fn new(tables: &Directory<'a>, glyph_count: u16, x_ppem: u16, y_ppem: u16) -> Self
+        ensures { AreColorsOf result tables.now.tables glyph_count (wanted_size x_ppem y_ppem) }
     {
         let wanted = wanted_size(x_ppem, y_ppem);
         let cblc = tables.table(Tag::from_bytes(b"CBLC"));

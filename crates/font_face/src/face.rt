@@ -9,6 +9,7 @@ ghost use Rattle.font_face.specs.Tables.{table_in};
 ghost use Rattle.font_cmap.specs.Codes.{glyph_index, glyph_variation_index};
 
 use crate::color::ColorTables;
+use crate::directory::Directory;
 use crate::layout::{Layout, is_read};
 use crate::variations::FaceVariations;
 use aat_tables::Metamorphosis;
@@ -23,8 +24,8 @@ use font_tables::ignored_gdef::is_ignored;
 use font_tables::metrics::Metrics;
 use font_tables::scale::Scale;
 use font_tables::vertical_origins::VerticalOrigins;
-use ot_layout::LookupList;
-use ot_layout::lookup_list::{POSITIONING_EXTENSION, SUBSTITUTION_EXTENSION};
+use ot_lookups::LookupList;
+use ot_lookups::lookup_list::{POSITIONING_EXTENSION, SUBSTITUTION_EXTENSION};
 use rb_common::{GlyphId, Tag};
 use std::alloc::{AllocError, Global};
 
@@ -81,11 +82,11 @@ pub struct Face<'a> {
 }
 
 /// The outlines of a font.
-fn outlines_of<'a>(tables: &Tables<'a>, head: &[u8], glyph_count: u16) -> Outlines<'a>
+fn outlines_of<'a>(tables: &Directory<'a>, head: &[u8], glyph_count: u16) -> Outlines<'a>
     ensures glyf { result.glyf.glyf.now
-        ≡ table_of tables.now.file.now tables.now.directory (tag_of (codes "glyf")) }
+        ≡ table_of tables.now.tables.file.now tables.now.tables.directory (tag_of (codes "glyf")) }
     ensures loca { result.glyf.loca.now
-        ≡ table_of tables.now.file.now tables.now.directory (tag_of (codes "loca")) }
+        ≡ table_of tables.now.tables.file.now tables.now.tables.directory (tag_of (codes "loca")) }
     ensures offsets { result.glyf.has_long_offsets ≡ not (index_to_loc_format head.now == 0) }
     ensures glyphs { result.glyf.glyph_count ≡ glyph_count }
 {
@@ -110,6 +111,7 @@ impl<'a> Face<'a> {
         let Some(tables) = Tables::new(file, index) else {
             return Ok(None);
         };
+        let tables = Directory::new(tables);
         let layout = Layout::new(&tables);
         let gdef = definitions_of(tables.table(Tag::from_bytes(b"GDEF")), &layout);
         let substitutions = LookupList::new(alloc, layout.gsub, SUBSTITUTION_EXTENSION, &gdef)?;
@@ -185,7 +187,8 @@ impl<'a> Face<'a> {
     {
         self.scale.x_ppem = x;
         self.scale.y_ppem = y;
-        self.color = ColorTables::new(&self.tables, self.glyph_count, x, y);
+        let tables = Directory::new(self.tables);
+        self.color = ColorTables::new(&tables, self.glyph_count, x, y);
     }
 
     /// Says how many points an em has; 0 where that is not said, as at first. By Apple's table `trak` glyphs stand closer or farther
@@ -202,14 +205,14 @@ impl<'a> Face<'a> {
 /// The font of these tables, with these classes of glyphs and these lookups.
 fn face_of<'a>(
     alloc: Global,
-    tables: Tables<'a>,
+    tables: Directory<'a>,
     layout: Layout<'a>,
     gdef: Gdef<'a>,
     lookups: Lookups<'a>,
 ) -> Face<'a>
-    requires layout { IsLayoutOf layout tables }
-    requires gdef { gdef.table.now ≡ believed (table_in tables (codes "GDEF")) layout.gsub.now layout.gpos.now }
-    ensures tables { result.tables ≡ tables.entry }
+    requires layout { IsLayoutOf layout tables.tables }
+    requires gdef { gdef.table.now ≡ believed (table_in tables.tables (codes "GDEF")) layout.gsub.now layout.gpos.now }
+    ensures tables { result.tables ≡ tables.entry.tables }
     ensures keeps { KeepsItsTables result }
 {
     let head = tables.table(Tag::from_bytes(b"head"));
@@ -220,7 +223,7 @@ fn face_of<'a>(
     let vmtx = tables.table(Tag::from_bytes(b"vmtx"));
     let vhea = tables.table(Tag::from_bytes(b"vhea"));
     Face {
-        tables,
+        tables: tables.tables,
         units_per_em,
         glyph_count,
         characters: CharacterMap::parse(tables.table(Tag::from_bytes(b"cmap")), font_page(os2)),

@@ -5,9 +5,9 @@ ghost use Rattle.rb_common.specs.Tag.{tag_of};
 ghost use Rattle.font_tables.specs.Directory.{table_of};
 ghost use Rattle.font_face.specs.Face.{IsLayoutOf, is_read, read_table};
 
+use crate::directory::Directory;
 use font_tables::bytes::{u16_at, u32_at};
-use font_tables::directory::Tables;
-use ot_layout::subtable_limit::is_refused;
+use ot_lookups::subtable_limit::is_refused;
 use rb_common::Tag;
 
 /// The tables that substitute and position glyphs, each empty where the font has none.
@@ -29,8 +29,8 @@ pub struct Layout<'a> {
 
 impl<'a> Layout<'a> {
     /// The tables of lookups among those of a font.
-    pub(crate) fn new(tables: &Tables<'a>) -> Self
-        ensures { IsLayoutOf result tables.now }
+    pub(crate) fn new(tables: &Directory<'a>) -> Self
+        ensures { IsLayoutOf result tables.now.tables }
     {
         Layout {
             gsub: read_table(tables.table(Tag::from_bytes(b"GSUB"))),

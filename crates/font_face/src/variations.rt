@@ -4,10 +4,10 @@ ghost use Rattle.std.specs.Prelude.{◌≡◌, [], None, OnOk, OnErr};
 ghost use Rattle.font_face.specs.Face.{KeepsItsTables};
 ghost use Rattle.font_face.specs.FaceVariations.{AreVariationsOf, DiffersInChoice};
 
+use crate::directory::Directory;
 use crate::face::Face;
 use font_gvar::GlyphVariations;
 use font_outlines::Cff2Table;
-use font_tables::directory::Tables;
 use font_variations::user_variations::value_on;
 use font_variations::{
     AxisMaps, MetricsVariations, ValueVariations, Variation, VariationAxes, VariationStore,
@@ -45,8 +45,13 @@ pub struct FaceVariations<'a> {
 impl<'a> FaceVariations<'a> {
     /// What the tables of a font say of its variations, of which none are chosen. `GDEF` is passed apart, since some are not
     /// believed.
-    pub(crate) fn new(alloc: Global, tables: &Tables<'a>, gdef: &'a [u8], glyph_count: u16) -> Self
-        ensures tables { AreVariationsOf result tables.now gdef.now }
+    pub(crate) fn new(
+        alloc: Global,
+        tables: &Directory<'a>,
+        gdef: &'a [u8],
+        glyph_count: u16,
+    ) -> Self
+        ensures tables { AreVariationsOf result tables.now.tables gdef.now }
         ensures none { result.coordinates.items ≡ [] }
     {
         FaceVariations {

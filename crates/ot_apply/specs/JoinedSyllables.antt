@@ -1,9 +1,9 @@
 -- What a lookup of forms does to a glyph of a joined syllable.
 use Rattle.std.specs.Prelude.{ℕ, ◌-◌, ◌^◌, ◌==◌, ◌&&◌, ◌||◌, Bool, not, nat_le, bit_and, if◌then◌else◌}
 use Rattle.rb_glyph.specs.declared.info.hb_glyph_info_t.{hb_glyph_info_t}
-use Rattle.ot_layout.specs.declared.lookup_list.Lookup.{Lookup}
-use Rattle.ot_layout.specs.Lookup.{is_for}
-use Rattle.ot_layout.specs.SkippingIterator.{passes_over}
+use Rattle.ot_lookups.specs.declared.lookup_list.Lookup.{Lookup}
+use Rattle.ot_lookups.specs.Lookup.{is_for}
+use Rattle.ot_lookups.specs.LookupProps.{passes_over}
 
 -- the bits of the lookup's features are in only one of two masks
 abbrev pub is_in_one : ℕ → ℕ → ℕ → Bool

@@ -7,7 +7,7 @@ ghost use Rattle.script_syllables.specs.KeepsNumbers.{KeepsNumbers};
 ghost use Rattle.ot_apply.specs.ClusterOrder.{least_from, rising, Takes, IsCourseOf};
 
 use glyph_lists::clusters::set_cluster;
-use ot_normalization::allows_any_order;
+use script_items::allows_any_order;
 use shaping_buffer::{hb_buffer_t, hb_glyph_info_t};
 
 /// How the clusters of a text run.

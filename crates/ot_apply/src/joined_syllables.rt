@@ -5,7 +5,7 @@ ghost use Rattle.shaping_buffer.specs.KeepsClusters.{KeepsClusters};
 ghost use Rattle.ot_apply.specs.JoinedSyllables as joined;
 
 use font_face::Face;
-use ot_layout::lookup_list::{Lookup, SUBSTITUTION_EXTENSION};
+use ot_lookups::lookup_list::{Lookup, SUBSTITUTION_EXTENSION};
 use ot_map::PlannedLookup;
 use ot_plan::TextPlan;
 use script_shapers::SyllablePlan;

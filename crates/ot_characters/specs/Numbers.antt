@@ -1,9 +1,9 @@
 -- Letters and numbers of a line that runs against its script, by the numbers of their general categories: letters have 5 to 9, digits 13.
 use Rattle.std.specs.Prelude.{◌==◌, ◌&&◌, ◌||◌, Bool, nat_le, if◌then◌else◌}
 use Rattle.rb_glyph.specs.declared.info.hb_glyph_info_t.{hb_glyph_info_t}
-use Rattle.ot_normalization.specs.Marks.{category}
-use Rattle.ot_normalization.specs.declared.ties.Tie.{Tie}
-use Rattle.ot_normalization.specs.declared.ties.Tie.TheVariants.{Anchor, Hanging, Loose}
+use Rattle.script_items.specs.Marks.{category}
+use Rattle.script_items.specs.declared.ties.Tie.{Tie}
+use Rattle.script_items.specs.declared.ties.Tie.TheVariants.{Anchor, Hanging, Loose}
 
 abbrev pub is_letter : hb_glyph_info_t → Bool
 is_letter g = nat_le 5 (category g) && nat_le (category g) 9

@@ -4,7 +4,7 @@ use Rattle.rb_glyph.specs.declared.info.hb_glyph_info_t.{hb_glyph_info_t}
 use Rattle.script_joining.specs.declared.joining.kind.JoiningType.{JoiningType}
 use Rattle.script_joining.specs.declared.joining.kind.JoiningType.TheVariants.{Left, Right, Dual, Alaph, DalathRish}
 use Rattle.script_joining.specs.Joining.{joins_next, joins_previous}
-use Rattle.ot_normalization.specs.Marks.{category}
+use Rattle.script_items.specs.Marks.{category}
 use Rattle.ot_characters.specs.declared.turned_contexts.Edges.{Edges}
 
 -- nonspacing and enclosing marks, and format characters

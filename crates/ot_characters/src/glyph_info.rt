@@ -2,11 +2,12 @@
 //! `hb-ot-layout.hh` gives them.
 
 ghost use Rattle.std.specs.Prelude.{◌≡◌, ◌==◌, ◌&&◌, nat_le};
-ghost use Rattle.ot_normalization.specs.Marks.{category};
-ghost use Rattle.ot_normalization.specs.Graphemes.{is_same_grapheme};
+ghost use Rattle.script_items.specs.Marks.{category};
+ghost use Rattle.script_items.specs.Graphemes.{is_same_grapheme};
 ghost use Rattle.ot_characters.specs.Numbers as numbers;
 
-use ot_normalization::glyph_info::{general_category, is_continuation};
+use script_items::glyph_info::is_continuation;
+use script_items::item::general_category;
 use shaping_buffer::rb_glyph::hb_gc::{
     RB_UNICODE_GENERAL_CATEGORY_DECIMAL_NUMBER, RB_UNICODE_GENERAL_CATEGORY_FORMAT,
     RB_UNICODE_GENERAL_CATEGORY_LOWERCASE_LETTER, RB_UNICODE_GENERAL_CATEGORY_UPPERCASE_LETTER,

@@ -5,7 +5,7 @@ ghost use Rattle.shaping_buffer.specs.KeepsClusters.{KeepsClusters};
 ghost use Rattle.ot_characters.specs.Numbers as numbers;
 
 use crate::glyph_info::{is_letter, is_number};
-use ot_normalization::{Tie, Ties, keep_tied};
+use script_items::{Tie, Ties, keep_tied};
 use shaping_buffer::{Direction, hb_buffer_t, hb_glyph_info_t};
 
 /// Whether the line runs from left to right, and the script from right to left.

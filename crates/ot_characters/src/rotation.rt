@@ -7,7 +7,8 @@ ghost use Rattle.shaping_buffer.specs.KeepsClusters.{KeepsClusters};
 use crate::glyph_info::{is_decimal_number, is_letter};
 use font_functions::FontFunctions;
 use ot_map::ShapePlan;
-use ot_normalization::glyph_info::{is_unicode_mark, is_unicode_space};
+use script_items::glyph_info::is_unicode_space;
+use script_items::item::is_unicode_mark;
 use shaping_buffer::{CharExt, Direction, Mirrors, hb_buffer_t, hb_glyph_info_t};
 use unicode_tables::mirrors;
 

@@ -9,10 +9,9 @@ use crate::glyph_info::{is_regional_indicator, is_same_grapheme, is_zwj, set_con
 use crate::numbers::{are_numbers, is_against_script};
 use crate::turned_contexts::keep_turned_contexts;
 use font_functions::FontFunctions;
-use ot_normalization::allows_any_order;
-use ot_normalization::glyph_info::{
-    general_category, is_continuation, is_unicode_mark, set_unicode_props,
-};
+use script_items::allows_any_order;
+use script_items::glyph_info::{is_continuation, set_unicode_props};
+use script_items::item::{general_category, is_unicode_mark};
 use shaping_buffer::rb_glyph::hb_gc::RB_UNICODE_GENERAL_CATEGORY_MODIFIER_SYMBOL;
 use shaping_buffer::{
     BufferFlags, CharExt, Direction, Flags, HB_BUFFER_CLUSTER_LEVEL_MONOTONE_GRAPHEMES,

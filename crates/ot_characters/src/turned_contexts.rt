@@ -6,7 +6,8 @@ ghost use Rattle.std.specs.Prelude.{◌≡◌, ◌<◌, ◌≤◌, false, length
 ghost use Rattle.shaping_buffer.specs.KeepsClusters.{KeepsClusters};
 ghost use Rattle.ot_characters.specs.TurnedContexts.{differs_by_next, differs_by_previous, is_heeded, is_transparent, side_of};
 
-use ot_normalization::glyph_info::{general_category, is_continuation};
+use script_items::glyph_info::is_continuation;
+use script_items::item::general_category;
 use script_joining::JoiningType::{self, *};
 use script_joining::joining_type;
 use shaping_buffer::rb_glyph::hb_gc::{

@@ -12,7 +12,7 @@ use Rattle.rb_common.specs.declared.direction.Direction.{Direction}
 use Rattle.std.proofs.lemmas.Bool.{cond_both, cond-true, cond-false}
 use Rattle.rb_glyph.specs.declared.position.GlyphPosition.{GlyphPosition}
 use Rattle.shaping_buffer.specs.Positions.{zero_position}
-use Rattle.ot_layout.specs.SkippingIterator.{share}
+use Rattle.ot_lookups.specs.LookupProps.{share}
 use Rattle.ot_gpos.specs.Chains.{chain_of, kind_of, with_chain, place_behind, position_at}
 use Rattle.ot_gpos.specs.Offsets.{across, down, hung, joined, moved_to_parent, parent_of, propagated, propagated_before, sum_between, unchained, way}
 use Rattle.ot_gpos.specs.Placing.{changed_at}

@@ -2,7 +2,8 @@
 use Rattle.std.proofs.Common.{◌≡◌, ℕ, ℤ, suc, ◌+◌, ◌-◌, ◌<◌, ◌≤◌, Bool, true, false, not, ◌||◌, cond, List, length, nat_eq, arith, refl, ap, pos}
 use Rattle.std.proofs.lemmas.Bool.{lt-ltb}
 use Rattle.rb_glyph.specs.declared.info.hb_glyph_info_t.{hb_glyph_info_t}
-use Rattle.ot_layout.specs.SkippingIterator.{glyph_at, matches, next_found, passes}
+use Rattle.ot_lookups.specs.LookupProps.{glyph_at}
+use Rattle.ot_layout.specs.SkippingIterator.{matches, next_found, passes}
 use Rattle.ot_layout.specs.declared.skipping_iterator.SkippingIterator.{SkippingIterator}
 use Rattle.ot_layout.specs.declared.skipping_iterator.Found.TheVariants.{At}
 use Rattle.ot_layout.specs.declared.matcher.Matcher.TheVariants.{Shown}

@@ -2,7 +2,8 @@
 use Rattle.std.specs.Prelude.{ℕ, ◌&&◌, List, Bool, false, not, nat_lt, length, if◌then◌else◌, slice_index_or}
 use Rattle.rb_glyph.specs.declared.info.hb_glyph_info_t.{hb_glyph_info_t}
 use Rattle.rb_glyph.specs.Fields.{field}
-use Rattle.ot_layout.specs.SkippingIterator.{is_within, passes_over, may_ignore, props, zero_glyph}
+use Rattle.ot_layout.specs.SkippingIterator.{is_within, may_ignore}
+use Rattle.ot_lookups.specs.LookupProps.{passes_over, props, zero_glyph}
 use Rattle.ot_layout.specs.declared.skipping_iterator.SkippingIterator.{SkippingIterator}
 
 -- whether a glyph counts in a walk, whatever is asked for: it is not passed over, is not invisible, and has the features' bits

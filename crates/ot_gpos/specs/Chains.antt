@@ -7,7 +7,7 @@ use Rattle.std.specs.Ordering.{int_eq}
 use Rattle.rb_glyph.specs.Fields.{field, field_of_signed, signed_of_field, with_field}
 use Rattle.rb_glyph.specs.declared.position.GlyphPosition.{GlyphPosition}
 use Rattle.shaping_buffer.specs.Positions.{zero_position}
-use Rattle.ot_layout.specs.SkippingIterator.{share}
+use Rattle.ot_lookups.specs.LookupProps.{share}
 use Rattle.ot_gpos.specs.Placing.{changed_at}
 use Rattle.ot_gpos.specs.declared.chains.Link.{Link}
 

@@ -12,7 +12,9 @@ use Rattle.rb_common.specs.declared.direction.Direction.TheVariants.{LeftToRight
 use Rattle.rb_glyph.specs.declared.info.hb_glyph_info_t.{hb_glyph_info_t}
 use Rattle.rb_glyph.specs.declared.position.GlyphPosition.{GlyphPosition}
 use Rattle.shaping_buffer.specs.State.{State}
-use Rattle.ot_layout.specs.SkippingIterator.{covered_index, glyph_at, previous_found, share}
+use Rattle.glyph_digests.specs.Covered.{covered_index}
+use Rattle.ot_lookups.specs.LookupProps.{glyph_at, share}
+use Rattle.ot_layout.specs.SkippingIterator.{previous_found}
 use Rattle.ot_layout.specs.declared.matcher.Matcher.TheVariants.{Shown}
 use Rattle.ot_layout.specs.declared.skipping_iterator.Found.{Found}
 use Rattle.ot_layout.specs.declared.skipping_iterator.Found.TheVariants.{At, Other, End}

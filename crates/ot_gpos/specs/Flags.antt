@@ -4,7 +4,7 @@ use Rattle.std.specs.Int.{bit_at}
 use Rattle.rb_glyph.specs.declared.info.hb_glyph_info_t.{hb_glyph_info_t}
 use Rattle.shaping_buffer.specs.State.{State}
 use Rattle.shaping_buffer.specs.ClusterStep.{unsafe_to_break, unsafe_to_concat}
-use Rattle.ot_layout.specs.SkippingIterator.{zero_glyph}
+use Rattle.ot_lookups.specs.LookupProps.{zero_glyph}
 
 -- a glyph without its flags of unsafe breaks and joins, the two lowest bits of its mask
 unfoldable pub without_flags : hb_glyph_info_t → hb_glyph_info_t

@@ -2,10 +2,11 @@
 use Rattle.std.specs.Prelude.{ℕ, ◌==◌, ◌||◌, Bool, true, not, Option, None}
 use Rattle.std.specs.Option.{option_map_or}
 use Rattle.shaping_buffer.specs.State.{State}
-use Rattle.ot_layout.specs.SkippingIterator.{covered_index, over_input}
-use Rattle.ot_layout.specs.declared.lookup_list.Lookup.{Lookup}
+use Rattle.glyph_digests.specs.Covered.{covered_index}
+use Rattle.ot_layout.specs.SkippingIterator.{over_input}
+use Rattle.ot_lookups.specs.declared.lookup_list.Lookup.{Lookup}
 use Rattle.ot_layout.specs.declared.skipping_iterator.LookupOptions.{LookupOptions}
-use Rattle.ot_layout.specs.declared.subtable.Subtable.{Subtable}
+use Rattle.ot_lookups.specs.declared.subtable.Subtable.{Subtable}
 use Rattle.ot_gpos_tables.specs.declared.instance.Instance.{Instance}
 use Rattle.ot_gpos.specs.Subtables.{bases_at, simple_at, simple_next}
 use Rattle.ot_gpos.specs.Visit.{Visit}

@@ -7,7 +7,7 @@ use Rattle.rb_common.specs.Direction.{is_forward, is_horizontal}
 use Rattle.rb_common.specs.declared.direction.Direction.{Direction}
 use Rattle.rb_glyph.specs.declared.position.GlyphPosition.{GlyphPosition}
 use Rattle.shaping_buffer.specs.State.{State}
-use Rattle.ot_layout.specs.SkippingIterator.{share}
+use Rattle.ot_lookups.specs.LookupProps.{share}
 use Rattle.ot_gpos.specs.Adjustments.{on_positions}
 use Rattle.ot_gpos.specs.Chains.{chain_of, kind_of, place_behind, position_at, with_chain}
 use Rattle.ot_gpos.specs.Placing.{changed_at}

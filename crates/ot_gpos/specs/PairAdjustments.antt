@@ -6,8 +6,9 @@ use Rattle.rb_common.specs.Direction.{is_horizontal}
 use Rattle.rb_glyph.specs.declared.info.hb_glyph_info_t.{hb_glyph_info_t}
 use Rattle.rb_glyph.specs.declared.position.GlyphPosition.{GlyphPosition}
 use Rattle.shaping_buffer.specs.State.{State}
-use Rattle.ot_layout.specs.Lookup.{is_for}
-use Rattle.ot_layout.specs.SkippingIterator.{class_in, glyph_at, next_found}
+use Rattle.ot_lookups.specs.Lookup.{is_for}
+use Rattle.ot_layout.specs.SkippingIterator.{class_in, next_found}
+use Rattle.ot_lookups.specs.LookupProps.{glyph_at}
 use Rattle.ot_layout.specs.declared.matcher.Matcher.TheVariants.{Shown}
 use Rattle.ot_layout.specs.declared.skipping_iterator.Found.{Found}
 use Rattle.ot_layout.specs.declared.skipping_iterator.Found.TheVariants.{At, Other, End}

@@ -1,8 +1,8 @@
 -- A subtable at a glyph.
 use Rattle.std.specs.Prelude.{ℕ}
-use Rattle.ot_layout.specs.declared.lookup_list.Lookup.{Lookup}
+use Rattle.ot_lookups.specs.declared.lookup_list.Lookup.{Lookup}
 use Rattle.ot_layout.specs.declared.skipping_iterator.SkippingIterator.{SkippingIterator}
-use Rattle.ot_layout.specs.declared.subtable.Subtable.{Subtable}
+use Rattle.ot_lookups.specs.declared.subtable.Subtable.{Subtable}
 use Rattle.ot_gpos_tables.specs.declared.instance.Instance.{Instance}
 use Rattle.ot_gpos.specs.declared.turn.Turn.{Turn}
 

@@ -5,9 +5,9 @@ ghost use Rattle.ot_layout.specs.Budget.{IsNotMore};
 
 use crate::turn::Turn;
 use ot_layout::context::{Fit, fitting_rule};
-use ot_layout::lookup_list::LookupList;
 use ot_layout::search::{ApplyContext, Reach, Search};
 use ot_layout::skipping_iterator::SkippingIterator;
+use ot_lookups::lookup_list::LookupList;
 use rb_glyph::hb_glyph_info_t;
 
 /// The kind of chained contexts.

@@ -3,7 +3,7 @@
 
 ghost use Rattle.std.specs.Prelude.{◌≡◌, ◌≤◌, ◌<◌, ◌-◌, true, false, length, IsSome, IfSome};
 ghost use Rattle.ot_layout.specs.Budget.{IsNotMore};
-ghost use Rattle.ot_layout.specs.SkippingIterator.{covered_index};
+ghost use Rattle.glyph_digests.specs.Covered.{covered_index};
 ghost use Rattle.ot_gpos.specs.Attachments.{HasNoPixels};
 ghost use Rattle.ot_gpos.specs.Flags.{KeepsBits, untouched};
 ghost use Rattle.ot_gpos.specs.Lookups.{applied, is_simple, one_tried, outcome, outcome_at};
@@ -20,11 +20,11 @@ use crate::turn::{Setting, Turn};
 use ot_gpos_tables::contour_points::ContourPoints;
 use ot_layout::budget::{PASSED_A_STEP, SUBTABLE_STEPS};
 use ot_layout::context::Fit;
-use ot_layout::lookup_list::Lookup;
-use ot_layout::lookup_props::covered_index;
 use ot_layout::search::{MatchPositions, Search};
 use ot_layout::skipping_iterator::{LookupOptions, SkippingIterator};
-use ot_layout::subtable::Subtable;
+use ot_lookups::lookup_list::Lookup;
+use ot_lookups::lookup_props::covered_index;
+use ot_lookups::subtable::Subtable;
 use rb_glyph::hb_glyph_info_t;
 use shaping_buffer::hb_buffer_t;
 use std::mem;

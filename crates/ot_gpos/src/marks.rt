@@ -1,7 +1,7 @@
 //! Marks on bases, on ligatures and on marks (HarfBuzz, `MarkBasePos`, `MarkLigPos`, `MarkMarkPos`).
 
 ghost use Rattle.std.specs.Prelude.{◌≡◌, ◌<◌, None, false, true, length, nat_lt, if◌then◌else◌, IsSome, IfOk};
-ghost use Rattle.ot_layout.specs.SkippingIterator.{glyph_at};
+ghost use Rattle.ot_lookups.specs.LookupProps.{glyph_at};
 ghost use Rattle.ot_gpos.specs.Attachments as marks;
 ghost use Rattle.ot_gpos.specs.Attachments.{HasNoPixels, nothing_sought};
 ghost use Rattle.ot_gpos.specs.Bases.{counts, counts_at};
@@ -14,9 +14,9 @@ use crate::turn::Turn;
 use font_tables::bytes::table_at_16;
 use ot_gpos_tables::anchors::ligature_matrix;
 use ot_gpos_tables::contour_points::ContourPoints;
-use ot_layout::lookup_props::{LookupProps, covered_index};
 use ot_layout::matcher::Matcher;
 use ot_layout::skipping_iterator::{Found, Skip, SkippingIterator};
+use ot_lookups::lookup_props::{LookupProps, covered_index};
 use rb_glyph::{Flags, GlyphPropsFlags, hb_glyph_info_t};
 use shaping_buffer::hb_buffer_t;
 

@@ -3,7 +3,8 @@
 ghost use Rattle.std.specs.Prelude.{◌≡◌, ◌<◌, Some, None, true, false, length, option_map, if◌then◌else◌, IsSome};
 ghost use Rattle.std.specs.Option.{option_map_or};
 ghost use Rattle.rb_common.specs.Direction.{is_horizontal};
-ghost use Rattle.ot_layout.specs.SkippingIterator.{IsBehind, glyph_at, next_found};
+ghost use Rattle.ot_layout.specs.SkippingIterator.{IsBehind, next_found};
+ghost use Rattle.ot_lookups.specs.LookupProps.{glyph_at};
 ghost use Rattle.ot_layout.specs.declared.matcher.Matcher.TheVariants.{Shown};
 ghost use Rattle.ot_layout.specs.declared.skipping_iterator.Found.TheVariants.{At};
 ghost use Rattle.ot_gpos_tables.specs.Pairs.{is_kerning, kerned};

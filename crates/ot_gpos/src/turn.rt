@@ -1,9 +1,9 @@
 //! What a subtable is given at a glyph.
 
 use ot_gpos_tables::instance::Instance;
-use ot_layout::lookup_list::{Lookup, LookupList};
 use ot_layout::skipping_iterator::SkippingIterator;
-use ot_layout::subtable::Subtable;
+use ot_lookups::lookup_list::{Lookup, LookupList};
+use ot_lookups::subtable::Subtable;
 
 /// A font's lookups of `GPOS`, the size and the variations at which it is used, and who knows the points of its outlines.
 #[derive(Drop)]

@@ -7,7 +7,7 @@ use Rattle.std.specs.Prelude.{IsErr, is_err, nat_le, nat_lt, ◌-◌, ◌==◌, 
 use Rattle.std.specs.declared.alloc.AllocError.{AllocError}
 use Rattle.rb_glyph.specs.declared.info.hb_glyph_info_t.{hb_glyph_info_t}
 use Rattle.glyph_lists.specs.Clusters.{zero_glyph}
-use Rattle.ot_layout.specs.SkippingIterator.{glyph_at}
+use Rattle.ot_lookups.specs.LookupProps.{glyph_at}
 use Rattle.shaping_buffer.specs.State.{State}
 use Rattle.shaping_buffer.specs.Step.{Outcome, clear_output, next_glyph, next_glyphs, unlimited}
 use Rattle.ot_gsub.specs.Singles.{opened_at}

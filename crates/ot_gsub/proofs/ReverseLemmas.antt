@@ -7,11 +7,11 @@ use Rattle.std.proofs.lemmas.Nat.{and_comm}
 use Rattle.std.specs.Prelude.{Option, None, min, nat_le, nat_lt, ◌-◌, ◌^◌, not, ◌==◌, ◌&&◌}
 use Rattle.glyph_lists.specs.Clusters.{zero_glyph}
 use Rattle.std.specs.Int.Bits.{and_zero_r}
-use Rattle.ot_layout.specs.Digest.{may_have}
-use Rattle.ot_layout.specs.FirstGlyphs.{may_have_first}
-use Rattle.ot_layout.specs.Lookup.{is_for}
-use Rattle.ot_layout.specs.SkippingIterator.{passes_over, share}
-use Rattle.ot_layout.specs.declared.lookup_list.Lookup.{Lookup}
+use Rattle.glyph_digests.specs.Digest.{may_have}
+use Rattle.glyph_digests.specs.FirstGlyphs.{may_have_first}
+use Rattle.ot_lookups.specs.Lookup.{is_for}
+use Rattle.ot_lookups.specs.LookupProps.{passes_over, share}
+use Rattle.ot_lookups.specs.declared.lookup_list.Lookup.{Lookup}
 use Rattle.ot_layout.specs.declared.search.Reach.{Reach}
 use Rattle.ot_layout.specs.declared.substitution.Edit.{Edit}
 use Rattle.shaping_buffer.specs.State.{State, len}

@@ -3,8 +3,8 @@ use Rattle.std.proofs.Common.{◌≡◌, ℕ, true, false, List, [], ◌∷◌, 
 use Rattle.std.proofs.lemmas.Bool.{false≢true}
 use Rattle.rb_glyph.specs.declared.info.hb_glyph_info_t.{hb_glyph_info_t}
 use Rattle.glyph_lists.specs.Clusters.{zero_glyph}
-use Rattle.ot_layout.specs.Lookup.{is_for}
-use Rattle.ot_layout.specs.declared.lookup_list.Lookup.{Lookup}
+use Rattle.ot_lookups.specs.Lookup.{is_for}
+use Rattle.ot_lookups.specs.declared.lookup_list.Lookup.{Lookup}
 use Rattle.ot_layout.specs.declared.substitution.Edit.{Edit}
 use Rattle.ot_layout.specs.declared.substitution.Edit.TheVariants.{Replace}
 use Rattle.shaping_buffer.specs.State.{State, empty_state}

@@ -12,11 +12,11 @@ use Rattle.rb_glyph.specs.declared.info.hb_glyph_info_t.{hb_glyph_info_t}
 use Rattle.font_tables.specs.declared.coverage.Coverage.{Coverage}
 use Rattle.ot_layout.specs.FirstEdit.{IsFirstEdit}
 use Rattle.ot_layout.specs.Substitution.{cursor_glyph}
-use Rattle.ot_layout.specs.SkippingIterator.{glyph_at}
-use Rattle.ot_layout.specs.declared.lookup_list.Lookup.{Lookup}
+use Rattle.ot_lookups.specs.LookupProps.{glyph_at}
+use Rattle.ot_lookups.specs.declared.lookup_list.Lookup.{Lookup}
 use Rattle.ot_layout.specs.declared.search.Reach.{Reach}
 use Rattle.ot_layout.specs.declared.search.ApplyContext.{ApplyContext}
-use Rattle.ot_layout.specs.declared.subtable.Subtable.{Subtable}
+use Rattle.ot_lookups.specs.declared.subtable.Subtable.{Subtable}
 use Rattle.ot_layout.specs.declared.substitution.Edit.{Edit}
 use Rattle.ot_layout.specs.declared.substitution.Edit.TheVariants.{Replace}
 use Rattle.ot_layout.specs.declared.skipping_iterator.LookupOptions.{LookupOptions}

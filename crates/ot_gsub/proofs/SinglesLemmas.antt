@@ -10,12 +10,12 @@ use Rattle.std.specs.Prelude.{not, ◌==◌, ◌&&◌}
 use Rattle.std.specs.declared.alloc.AllocError.{AllocError}
 use Rattle.rb_glyph.specs.declared.flag_sets.TheConstants.BufferFlags.{PRODUCE_UNSAFE_TO_CONCAT}
 use Rattle.rb_glyph.specs.declared.info.hb_glyph_info_t.{hb_glyph_info_t}
-use Rattle.ot_layout.specs.Lookup.{is_for}
-use Rattle.ot_layout.specs.Digest.{may_have}
-use Rattle.ot_layout.specs.FirstGlyphs.{may_have_first}
-use Rattle.ot_layout.specs.SkippingIterator.{glyph_at, passes_over, share}
-use Rattle.ot_layout.specs.declared.lookup_list.Lookup.{Lookup}
-use Rattle.ot_layout.specs.declared.subtable.Subtable.{Subtable}
+use Rattle.ot_lookups.specs.Lookup.{is_for}
+use Rattle.glyph_digests.specs.Digest.{may_have}
+use Rattle.glyph_digests.specs.FirstGlyphs.{may_have_first}
+use Rattle.ot_lookups.specs.LookupProps.{glyph_at, passes_over, share}
+use Rattle.ot_lookups.specs.declared.lookup_list.Lookup.{Lookup}
+use Rattle.ot_lookups.specs.declared.subtable.Subtable.{Subtable}
 use Rattle.shaping_buffer.specs.State.{State, len}
 use Rattle.shaping_buffer.specs.ClusterStep.{asks}
 use Rattle.shaping_buffer.specs.Step.{Meets, Outcome, limited, sync}

@@ -5,7 +5,7 @@ use Rattle.std.specs.Prelude.{nat_lt, slice_get}
 use Rattle.std.specs.Result.{IsErr}
 use Rattle.std.specs.declared.alloc.AllocError.{AllocError}
 use Rattle.ot_layout.specs.declared.glyph_table.Glyphs.{Glyphs}
-use Rattle.ot_layout.specs.declared.lookup_list.Lookup.{Lookup}
+use Rattle.ot_lookups.specs.declared.lookup_list.Lookup.{Lookup}
 use Rattle.ot_layout.specs.declared.search.Reach.{Reach}
 use Rattle.ot_layout.specs.declared.search.Search.{Search}
 use Rattle.ot_layout.specs.declared.substitution.Edit.{Edit}

@@ -3,7 +3,7 @@ use Rattle.std.specs.Prelude.{ℕ, ◌==◌, ◌&&◌, Bool, List, not, nat_lt, 
 use Rattle.font_tables.specs.Gdef.{has_glyph_classes, glyph_props}
 use Rattle.rb_glyph.specs.Fields.{field}
 use Rattle.rb_glyph.specs.declared.info.hb_glyph_info_t.{hb_glyph_info_t}
-use Rattle.ot_layout.specs.SkippingIterator.{share}
+use Rattle.ot_lookups.specs.LookupProps.{share}
 use Rattle.ot_gsub.specs.declared.properties.Way.{Way}
 use Rattle.ot_gsub.specs.declared.properties.Way.TheVariants.{Replaced, Ligated, Multiplied}
 

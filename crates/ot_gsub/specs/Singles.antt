@@ -5,11 +5,12 @@ use Rattle.std.specs.Option.{option_or}
 use Rattle.std.specs.declared.alloc.AllocError.{AllocError}
 use Rattle.rb_glyph.specs.declared.flag_sets.TheConstants.BufferFlags.{PRODUCE_UNSAFE_TO_CONCAT}
 use Rattle.rb_glyph.specs.declared.info.hb_glyph_info_t.{hb_glyph_info_t}
-use Rattle.ot_layout.specs.Lookup.{is_for}
+use Rattle.ot_lookups.specs.Lookup.{is_for}
 use Rattle.ot_layout.specs.Substitution.{single}
-use Rattle.ot_layout.specs.SkippingIterator.{covered_index, glyph_at}
-use Rattle.ot_layout.specs.declared.lookup_list.Lookup.{Lookup}
-use Rattle.ot_layout.specs.declared.subtable.Subtable.{Subtable}
+use Rattle.glyph_digests.specs.Covered.{covered_index}
+use Rattle.ot_lookups.specs.LookupProps.{glyph_at}
+use Rattle.ot_lookups.specs.declared.lookup_list.Lookup.{Lookup}
+use Rattle.ot_lookups.specs.declared.subtable.Subtable.{Subtable}
 use Rattle.shaping_buffer.specs.State.{State, len}
 use Rattle.shaping_buffer.specs.ClusterStep.{asks}
 use Rattle.shaping_buffer.specs.Step.{next_glyphs, unlimited, with_id}

@@ -4,12 +4,12 @@ use Rattle.std.specs.Prelude.{Option, None, Some, Result, Ok, Err, ⊤, if◌the
 use Rattle.std.specs.declared.alloc.AllocError.{AllocError}
 use Rattle.rb_glyph.specs.Fields.{field}
 use Rattle.ot_layout.specs.FirstEdit.{IsFirstEdit}
-use Rattle.ot_layout.specs.Subtables.{subtables_of}
+use Rattle.ot_lookups.specs.Subtables.{subtables_of}
 use Rattle.ot_layout.specs.SkippingIterator.{over_context, over_input}
-use Rattle.ot_layout.specs.declared.lookup_list.Lookup.{Lookup}
+use Rattle.ot_lookups.specs.declared.lookup_list.Lookup.{Lookup}
 use Rattle.ot_layout.specs.declared.search.Reach.{Reach}
 use Rattle.ot_layout.specs.declared.search.ApplyContext.{ApplyContext}
-use Rattle.ot_layout.specs.declared.subtable.Subtable.{Subtable}
+use Rattle.ot_lookups.specs.declared.subtable.Subtable.{Subtable}
 use Rattle.ot_layout.specs.declared.substitution.Edit.{Edit}
 use Rattle.ot_layout.specs.declared.substitution.Edit.TheVariants.{Replace, Choose, Multiply, Ligate, Apply, ReplaceInPlace}
 use Rattle.ot_layout.specs.declared.skipping_iterator.LookupOptions.{LookupOptions}

@@ -3,7 +3,7 @@ use Rattle.std.specs.Prelude.{ℕ, ◌-◌, ◌==◌, ◌&&◌, ◌||◌, Bool, 
 use Rattle.rb_glyph.specs.declared.info.hb_glyph_info_t.{hb_glyph_info_t}
 use Rattle.glyph_lists.specs.Clusters.{zero_glyph}
 use Rattle.glyph_lists.specs.Marks.{with_glyph_flags}
-use Rattle.ot_layout.specs.SkippingIterator.{share}
+use Rattle.ot_lookups.specs.LookupProps.{share}
 use Rattle.shaping_buffer.specs.State.{State, place_of}
 use Rattle.shaping_buffer.specs.ClusterStep.{any_order, delete_glyph}
 use Rattle.shaping_buffer.specs.Lending.{with_cur, with_prev}

@@ -2,7 +2,7 @@
 
 ghost use Rattle.std.specs.Prelude.{◌≡◌, ◌<◌, ◌≤◌, ◌∷◌, ◌-◌, ◌%◌, true, drop, length, map, if◌then◌else◌};
 ghost use Rattle.shaping_buffer.specs.Limits.{allocate_lig_id};
-ghost use Rattle.ot_layout.specs.SkippingIterator.{glyph_at};
+ghost use Rattle.ot_lookups.specs.LookupProps.{glyph_at};
 ghost use Rattle.ot_gsub.specs.Edits.{GivesOrWants};
 ghost use Rattle.ot_gsub.specs.Ligatures as ligatures;
 ghost use Rattle.ot_gsub.specs.Open.{IsLeftOpen};

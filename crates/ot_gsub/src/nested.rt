@@ -20,7 +20,8 @@ use crate::substitution::{Progress, Substitutions};
 use crate::writing::{fail, glyph_ahead};
 use ot_layout::context::{Fit, SequenceLookupRecord};
 use ot_layout::substitution::{Edit, edit_at};
-use ot_layout::{ApplyContext, Lookup, LookupOptions, Reach, SkippingIterator};
+use ot_layout::{ApplyContext, LookupOptions, Reach, SkippingIterator};
+use ot_lookups::Lookup;
 use shaping_buffer::hb_buffer_t;
 use std::alloc::AllocError;
 

@@ -4,7 +4,7 @@
 ghost use Rattle.std.specs.Prelude.{◌≡◌, ◌<◌, ◌≤◌, ◌+◌, false, true, length, take, drop, None, if◌then◌else◌};
 ghost use Rattle.rb_glyph.specs.Fields.{field};
 ghost use Rattle.ot_layout.specs.Budget.{IsNotMore};
-ghost use Rattle.ot_layout.specs.SkippingIterator.{glyph_at};
+ghost use Rattle.ot_lookups.specs.LookupProps.{glyph_at};
 ghost use Rattle.ot_gsub.specs.Edits as edits;
 ghost use Rattle.ot_gsub.specs.Nested.{now_of};
 ghost use Rattle.ot_gsub.specs.Runs.{AreDoneBackward, IsPlaceDone, mark_around, takes};
@@ -16,7 +16,8 @@ use crate::properties::{Way, substituted_props};
 use crate::substitution::{Progress, Substitutions};
 use font_tables::gdef::Gdef;
 use ot_layout::substitution::{Edit, edit_at};
-use ot_layout::{ApplyContext, Lookup, LookupOptions, Reach, SkippingIterator};
+use ot_layout::{ApplyContext, LookupOptions, Reach, SkippingIterator};
+use ot_lookups::Lookup;
 use rb_glyph::hb_glyph_info_t;
 use shaping_buffer::hb_buffer_t;
 

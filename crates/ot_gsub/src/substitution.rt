@@ -2,9 +2,9 @@
 
 ghost use Rattle.std.specs.Prelude.{ℕ, ◌≡◌, ◌+◌, ◌<◌, ◌≤◌, true, false, length, slice_get, IfOk, IsErr, Ok, Some};
 ghost use Rattle.ot_layout.specs.Budget.{IsNotMore};
-ghost use Rattle.ot_layout.specs.Lookup.{is_for};
-ghost use Rattle.ot_layout.specs.Subtables.{subtables_of};
-ghost use Rattle.ot_layout.specs.SkippingIterator.{glyph_at};
+ghost use Rattle.ot_lookups.specs.Lookup.{is_for};
+ghost use Rattle.ot_lookups.specs.Subtables.{subtables_of};
+ghost use Rattle.ot_lookups.specs.LookupProps.{glyph_at};
 ghost use Rattle.ot_gsub.specs.Nested.{now_of};
 ghost use Rattle.ot_gsub.specs.Open.{IsLeftOpen, IsLeftClosed};
 ghost use Rattle.ot_gsub.specs.Runs.{IsForward, IsRestDone, IsRun, IsRunOf, IsUnderWay, IsWanting};
@@ -16,7 +16,8 @@ use crate::reverse::substitute_reverse;
 use crate::writing::fail;
 use font_tables::gdef::Gdef;
 use ot_layout::budget::PASSED_A_STEP;
-use ot_layout::{Budget, Lookup, LookupList, LookupOptions, Search};
+use ot_layout::{Budget, LookupOptions, Search};
+use ot_lookups::{Lookup, LookupList};
 use shaping_buffer::hb_buffer_t;
 use std::alloc::AllocError;
 

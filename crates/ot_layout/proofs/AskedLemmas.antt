@@ -8,7 +8,8 @@ use Rattle.font_tables.specs.Bytes.{number_16}
 use Rattle.font_tables.proofs.ChunkLemmas.{number_16-drop}
 use Rattle.ot_layout.specs.Asked.{AreNumbersOf, Asks, AsksFor, IsApart, IsLookahead, IsBeside, IsInput, IsNumberOf, asked_around, asked_at, chained_asked, is_other, plain_asked}
 use Rattle.ot_layout.specs.Match.{place_of}
-use Rattle.ot_layout.specs.SkippingIterator.{glyph_at, next_found, skip_of}
+use Rattle.ot_lookups.specs.LookupProps.{glyph_at}
+use Rattle.ot_layout.specs.SkippingIterator.{next_found, skip_of}
 use Rattle.rb_glyph.specs.declared.info.hb_glyph_info_t.{hb_glyph_info_t}
 use Rattle.ot_layout.specs.Pattern.{Pattern, chained_of, chained_pattern, pattern_fits, plain_of, plain_pattern, rule_fits, rule_pattern}
 use Rattle.ot_layout.specs.Rule.{matcher_by}

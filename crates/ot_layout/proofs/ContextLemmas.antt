@@ -7,18 +7,20 @@ use Rattle.std.proofs.lemmas.Bool.{cases_Bool}
 use Rattle.font_tables.specs.declared.coverage.Coverage.{Coverage}
 use Rattle.rb_glyph.specs.declared.info.hb_glyph_info_t.{hb_glyph_info_t}
 use Rattle.ot_layout.specs.Context.{class_meanings, context_rule, covered_rule, next_walk, numbered_set, same_match_function}
-use Rattle.ot_layout.specs.Digest.{HasAll, may_have}
+use Rattle.glyph_digests.specs.Digest.{HasAll, may_have}
 use Rattle.ot_layout.specs.Match.{place_of}
-use Rattle.ot_layout.specs.SkippingIterator.{class_in, covered_index, glyph_at, may_ignore, next_found, skip_of}
+use Rattle.ot_layout.specs.SkippingIterator.{class_in, may_ignore, next_found, skip_of}
+use Rattle.glyph_digests.specs.Covered.{covered_index}
+use Rattle.ot_lookups.specs.LookupProps.{glyph_at}
 use Rattle.ot_layout.specs.Pattern.{IsFitBy, Pattern, fitting, rule_fits}
 use Rattle.ot_layout.specs.Rule.{context_iterator}
 use Rattle.ot_layout.specs.RuleSet.{rule_of_set}
 use Rattle.ot_layout.specs.declared.context.Fit.{Fit}
-use Rattle.ot_layout.specs.declared.digest.Digest.{Digest}
+use Rattle.glyph_digests.specs.declared.digest.Digest.{Digest}
 use Rattle.ot_layout.specs.declared.rule.MatchFunction.TheVariants.{Glyphs}
 use Rattle.ot_layout.specs.declared.search.ApplyContext.{ApplyContext}
-use Rattle.ot_layout.specs.declared.subtable.NextAsked.{NextAsked}
-use Rattle.ot_layout.specs.declared.subtable.Subtable.{Subtable}
+use Rattle.ot_lookups.specs.declared.subtable.NextAsked.{NextAsked}
+use Rattle.ot_lookups.specs.declared.subtable.Subtable.{Subtable}
 use Rattle.ot_layout.specs.declared.skipping_iterator.SkippingIterator.{SkippingIterator}
 use Rattle.ot_layout.specs.declared.skipping_iterator.Skip.TheVariants.{No}
 use Rattle.ot_layout.specs.declared.matcher.Matcher.{Matcher}

@@ -3,16 +3,16 @@ use Rattle.std.proofs.Common.{◌≡◌, ℕ, ◌+◌, ◌<◌, Bool, true, fals
 use Rattle.std.proofs.lemmas.List.{drop_more}
 use Rattle.std.proofs.lemmas.List.Elements.{All-drop, All-get_or, All-nil, All-take}
 use Rattle.std.specs.Prelude.{All, [], ◌-◌, ◌&&◌, if◌then◌else◌, nat_le, take}
-use Rattle.ot_layout.specs.NextAsked.{IsNextOf}
-use Rattle.ot_layout.specs.Subtables.{subtables_of}
-use Rattle.ot_layout.specs.declared.lookup_list.Lookup.{Lookup}
+use Rattle.ot_lookups.specs.NextAsked.{IsNextOf}
+use Rattle.ot_lookups.specs.Subtables.{subtables_of}
+use Rattle.ot_lookups.specs.declared.lookup_list.Lookup.{Lookup}
 use Rattle.font_tables.specs.declared.coverage.Coverage.{Coverage}
 use Rattle.ot_layout.specs.FirstEdit.{IsEditOf, IsFirstEdit, cursor_index}
 use Rattle.ot_layout.specs.Substitution.{cursor_glyph}
-use Rattle.ot_layout.specs.SkippingIterator.{covered_index}
+use Rattle.glyph_digests.specs.Covered.{covered_index}
 use Rattle.ot_layout.specs.declared.search.ApplyContext.{ApplyContext}
 use Rattle.ot_layout.specs.declared.substitution.Edit.{Edit}
-use Rattle.ot_layout.specs.declared.subtable.Subtable.{Subtable}
+use Rattle.ot_lookups.specs.declared.subtable.Subtable.{Subtable}
 use Rattle.ot_layout.specs.declared.skipping_iterator.LookupOptions.{LookupOptions}
 
 none_is : (o : Option ℕ) → (is_some o ≡ true → ⊥) → o ≡ None

@@ -2,23 +2,17 @@
 --
 -- A walk from glyph to glyph passes over those that the lookup ignores, one step of its definition each (`WalkLemmas`).
 -- A match is such walks in turn: it grows glyph by glyph, and where fewer do not match, more do not (`MatchLemmas`); so
--- the first ligature that fits is found. A digest may only say no where no glyph is covered: glyphs that share a row
--- share a bit, and each glyph of a coverage stands in a row of the digest (`DigestLemmas`). So the digests of what may stand
--- after a glyph let most ligatures and contexts be passed over (`SecondsLemmas`, `ContextLemmas`). A subtable that is not for the glyph
--- at the cursor has no edit there, so the first edit is that of the subtables that are tried (`EditLemmas`).
+-- the first ligature that fits is found. The digests of what may stand after a glyph let most ligatures and contexts be passed over
+-- (`SecondsLemmas`, `ContextLemmas`). A subtable that is not for the glyph at the cursor has no edit there, so the first edit is that
+-- of the subtables that are tried (`EditLemmas`).
 
 pub mod AroundLemmas
 pub mod AskedLemmas
 pub mod ContextLemmas
-pub mod DigestLemmas
-pub mod EarlyLemmas
 pub mod EditLemmas
-pub mod FirstGlyphsLemmas
-pub mod LookupTablesLemmas
 pub mod MatchLemmas
 pub mod MissedLemmas
 pub mod NeighbourLemmas
-pub mod NextLemmas
 pub mod PatternLemmas
 pub mod RuleSetLemmas
 pub mod SecondsLemmas

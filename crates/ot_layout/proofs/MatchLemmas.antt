@@ -6,12 +6,13 @@ use Rattle.std.proofs.lemmas.Grind.{common_steps}
 use Rattle.font_tables.specs.Bytes.{number_16, table_at_16}
 use Rattle.rb_glyph.specs.declared.info.hb_glyph_info_t.{hb_glyph_info_t}
 use Rattle.ot_layout.specs.LigatureParts.{ligature_id, ligature_component}
-use Rattle.ot_layout.specs.Match.{is_hidden_before, joins, last_place, next_place, first_of, ligature_at, ligature_of, match_end, match_of, match_places, components_match, AsksForOther, IsNext}
+use Rattle.ot_layout.specs.Match.{is_hidden_before, joins, last_place, next_place, first_of, ligature_at, ligature_of, match_end, match_of, match_places, components_match, IsNext}
+use Rattle.ot_lookups.specs.Seconds.{AsksForOther}
 use Rattle.ot_layout.specs.Rule.{input_iterator, matcher_by}
 use Rattle.ot_layout.specs.declared.rule.MatchFunction.TheVariants as rule
 use Rattle.ot_layout.specs.declared.neighbours.Next.{Next}
-use Rattle.ot_layout.specs.SkippingIterator.{glyph_at, passes_over}
-use Rattle.ot_layout.specs.declared.lookup_props.LookupProps.{LookupProps}
+use Rattle.ot_lookups.specs.LookupProps.{glyph_at, passes_over}
+use Rattle.ot_lookups.specs.declared.lookup_props.LookupProps.{LookupProps}
 use Rattle.ot_layout.specs.declared.search.ApplyContext.{ApplyContext}
 use Rattle.ot_layout.specs.declared.skipping_iterator.SkippingIterator.{SkippingIterator}
 use Rattle.ot_layout.specs.declared.matcher.Matcher.{Matcher}

@@ -4,10 +4,10 @@ use Rattle.std.proofs.lemmas.Bool.{cases_Bool}
 use Rattle.font_tables.specs.Bytes.{number_16}
 use Rattle.font_tables.specs.declared.coverage.Coverage.{Coverage}
 use Rattle.ot_layout.specs.Context.{IsMissed}
-use Rattle.ot_layout.specs.NextAsked.{IsNextAt, lookahead_number, backtrack_number, input_number}
+use Rattle.ot_lookups.specs.NextAsked.{IsNextAt, lookahead_number, backtrack_number, input_number}
 use Rattle.ot_layout.specs.Pattern.{Pattern, chained_covered_of, chained_covered_pattern, covered_by, covered_pattern, pattern_fits, plain_covered_of, plain_covered_pattern, rule_fits}
 use Rattle.ot_layout.specs.declared.search.ApplyContext.{ApplyContext}
-use Rattle.ot_layout.specs.declared.subtable.NextAsked.{NextAsked}
+use Rattle.ot_lookups.specs.declared.subtable.NextAsked.{NextAsked}
 use Rattle.ot_layout.specs.declared.matcher.Matcher.TheVariants.{Covered}
 use Rattle.ot_layout.proofs.PatternLemmas.{pattern_fits-no_lookahead, pattern_fits-no_next}
 

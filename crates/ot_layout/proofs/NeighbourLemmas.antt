@@ -8,7 +8,8 @@ use Rattle.ot_layout.specs.Match.{place_of}
 use Rattle.ot_layout.specs.Pattern.{Pattern}
 use Rattle.ot_layout.specs.Rule.{input_iterator}
 use Rattle.ot_layout.specs.RuleSet.{asks_nothing, counted, counts, fits_at, fits_next, fits_second, looks_first, next_counted}
-use Rattle.ot_layout.specs.SkippingIterator.{first_kept, fits, found_at, glyph_at, is_shown, is_within, matches, next_found, passed_over, passes, skip_of}
+use Rattle.ot_layout.specs.SkippingIterator.{first_kept, fits, found_at, is_shown, is_within, matches, next_found, passed_over, passes, skip_of}
+use Rattle.ot_lookups.specs.LookupProps.{glyph_at}
 use Rattle.ot_layout.specs.declared.neighbours.Next.{Next}
 use Rattle.ot_layout.specs.declared.search.ApplyContext.{ApplyContext}
 use Rattle.ot_layout.specs.declared.skipping_iterator.Found.TheVariants.{At, Other, End}

@@ -11,7 +11,8 @@ use Rattle.ot_layout.specs.Match.{joins, next_place, place_of}
 use Rattle.ot_layout.specs.Pattern.{IsFitBy, IsFitOf, Pattern, fitting, pattern_fits, plain_of, plain_pattern, rule_fits, rule_pattern}
 use Rattle.ot_layout.specs.Rule.{input_iterator, matcher_by}
 use Rattle.ot_layout.specs.RuleSet.{asks_nothing, counts, first_rule, fits_at, fits_found, fits_next, fits_second, is_asked, looks_first, next_counted, passes_joiners, rule_at, rule_count, taken}
-use Rattle.ot_layout.specs.SkippingIterator.{glyph_at, is_shown, next_found}
+use Rattle.ot_lookups.specs.LookupProps.{glyph_at}
+use Rattle.ot_layout.specs.SkippingIterator.{is_shown, next_found}
 use Rattle.ot_layout.specs.declared.context.Fit.{Fit}
 use Rattle.ot_layout.specs.declared.rule.MatchFunction.{MatchFunction}
 use Rattle.ot_layout.specs.declared.rule.MatchFunction.TheVariants.{Glyphs, Classes, Coverages}

@@ -3,7 +3,8 @@ use Rattle.std.proofs.Common.{◌≡◌, ℕ, ◌+◌, ◌<◌, Bool, true, fals
 use Rattle.std.proofs.Math.Seq.{drop-length}
 use Rattle.std.proofs.lemmas.List.{drop_more}
 use Rattle.rb_glyph.specs.declared.info.hb_glyph_info_t.{hb_glyph_info_t}
-use Rattle.ot_layout.specs.SkippingIterator.{glyph_at, zero_glyph, first_kept, kept_before}
+use Rattle.ot_lookups.specs.LookupProps.{glyph_at, zero_glyph}
+use Rattle.ot_layout.specs.SkippingIterator.{first_kept, kept_before}
 
 -- a glyph that is passed over
 pub first_kept-later : (pass : hb_glyph_info_t → Bool) (gs : List hb_glyph_info_t) (i : ℕ) → i < length gs

@@ -6,15 +6,16 @@ use Rattle.ot_layout.specs.Match.{place_of}
 use Rattle.ot_layout.specs.Pattern.{Pattern, covered_pattern, fitting}
 use Rattle.ot_layout.specs.Rule.{input_iterator}
 use Rattle.ot_layout.specs.RuleSet.{rule_of_set}
-use Rattle.ot_layout.specs.SkippingIterator.{class_in, glyph_at, next_found}
+use Rattle.ot_layout.specs.SkippingIterator.{class_in, next_found}
+use Rattle.ot_lookups.specs.LookupProps.{glyph_at}
 use Rattle.ot_layout.specs.declared.context.Fit.{Fit}
 use Rattle.ot_layout.specs.declared.context.SequenceLookupRecord.{SequenceLookupRecord}
 use Rattle.ot_layout.specs.declared.rule.MatchFunction.{MatchFunction}
 use Rattle.ot_layout.specs.declared.rule.MatchFunction.TheVariants.{Glyphs, Classes}
 use Rattle.ot_layout.specs.declared.rule.MatchFunctions.{MatchFunctions}
 use Rattle.ot_layout.specs.declared.search.ApplyContext.{ApplyContext}
-use Rattle.ot_layout.specs.declared.subtable.NextAsked.{NextAsked}
-use Rattle.ot_layout.specs.declared.subtable.Subtable.{Subtable}
+use Rattle.ot_lookups.specs.declared.subtable.NextAsked.{NextAsked}
+use Rattle.ot_lookups.specs.declared.subtable.Subtable.{Subtable}
 use Rattle.ot_layout.specs.declared.skipping_iterator.SkippingIterator.{SkippingIterator}
 use Rattle.ot_layout.specs.declared.matcher.Matcher.TheVariants.{Covered}
 

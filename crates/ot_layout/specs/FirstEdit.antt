@@ -4,13 +4,13 @@ use Rattle.font_tables.specs.declared.coverage.Coverage.{Coverage}
 use Rattle.ot_layout.specs.Context.{context_rule}
 use Rattle.ot_layout.specs.Match.{first_ligature, ligated}
 use Rattle.ot_layout.specs.Pattern.{IsFitBy, Pattern}
-use Rattle.ot_layout.specs.Sets.{set_at}
+use Rattle.ot_lookups.specs.Sets.{set_at}
 use Rattle.ot_layout.specs.Substitution.{IsMultiple, alternate_of, cursor_glyph, feature_value, replaced_by, single}
-use Rattle.ot_layout.specs.SkippingIterator.{covered_index}
+use Rattle.glyph_digests.specs.Covered.{covered_index}
 use Rattle.ot_layout.specs.declared.search.ApplyContext.{ApplyContext}
 use Rattle.ot_layout.specs.declared.substitution.Edit.{Edit}
 use Rattle.ot_layout.specs.declared.substitution.Edit.TheVariants.{Replace, Choose, Multiply, Ligate, Apply, ReplaceInPlace}
-use Rattle.ot_layout.specs.declared.subtable.Subtable.{Subtable}
+use Rattle.ot_lookups.specs.declared.subtable.Subtable.{Subtable}
 use Rattle.ot_layout.specs.declared.skipping_iterator.LookupOptions.{LookupOptions}
 
 -- the coverage index of the glyph at the cursor

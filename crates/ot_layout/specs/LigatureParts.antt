@@ -2,7 +2,7 @@
 use Rattle.std.specs.Prelude.{ℕ, ◌*◌, ◌/◌, ◌%◌, ◌&&◌, ◌||◌, ◌==◌, Bool, not, if◌then◌else◌, bit_and, bit_or}
 use Rattle.rb_glyph.specs.declared.info.hb_glyph_info_t.{hb_glyph_info_t}
 use Rattle.rb_glyph.specs.Fields.{field}
-use Rattle.ot_layout.specs.SkippingIterator.{props, share}
+use Rattle.ot_lookups.specs.LookupProps.{props, share}
 
 -- the ligature properties
 abbrev pub lig_props : hb_glyph_info_t → ℕ

@@ -1,13 +1,14 @@
 -- Where a match of glyphs that follow one another ends, and the first ligature of a set whose components match.
-use Rattle.std.specs.Prelude.{ℕ, zero, suc, ◌+◌, ◌-◌, ◌*◌, ◌==◌, ◌&&◌, ◌||◌, ◌≡◌, ◌≢◌, ◌<◌, Bool, false, not, List, [], ◌∷◌, ◌++◌, length, drop, Option, Some, None, nat_lt, if◌then◌else◌}
+use Rattle.std.specs.Prelude.{ℕ, zero, suc, ◌+◌, ◌-◌, ◌*◌, ◌==◌, ◌&&◌, ◌||◌, ◌≡◌, ◌≢◌, Bool, false, not, List, [], ◌∷◌, ◌++◌, length, drop, Option, Some, None, nat_lt, if◌then◌else◌}
 use Rattle.std.specs.Prelude.{unwrap_or, option_map, option_and_then}
 use Rattle.std.specs.Option.{option_or}
 use Rattle.font_tables.specs.Bytes.{number_16, table_at_16}
 use Rattle.rb_glyph.specs.declared.info.hb_glyph_info_t.{hb_glyph_info_t}
 use Rattle.ot_layout.specs.LigatureParts.{ligature_id, ligature_component, may_join}
 use Rattle.ot_layout.specs.Rule.{context_iterator, input_iterator, matcher_by}
-use Rattle.ot_layout.specs.SkippingIterator.{glyph_at, next_found, passes_over, previous_found}
-use Rattle.ot_layout.specs.declared.lookup_props.LookupProps.{LookupProps}
+use Rattle.ot_lookups.specs.LookupProps.{glyph_at, passes_over}
+use Rattle.ot_layout.specs.SkippingIterator.{next_found, previous_found}
+use Rattle.ot_lookups.specs.declared.lookup_props.LookupProps.{LookupProps}
 use Rattle.ot_layout.specs.declared.rule.MatchFunction.TheVariants as rule
 use Rattle.ot_layout.specs.declared.neighbours.Next.{Next}
 use Rattle.ot_layout.specs.declared.search.ApplyContext.{ApplyContext}
@@ -136,8 +137,3 @@ ligated places (Some (ReplaceInPlace change)) = None
 abbrev pub IsNext : SkippingIterator → List hb_glyph_info_t → ℕ → Next → Type 0
 IsNext iterator glyphs place next =
     (asked : ℕ) → asked ≢ next.glyph → place_of (next_found iterator (Glyph asked) glyphs place) ≡ None
-
--- a ligature asks for more than the first glyph, and for another second one than this, or its table is cut short there
-abbrev pub AsksForOther : List ℕ → ℕ → Type 0
-AsksForOther table glyph =
-    (1 < unwrap_or (number_16 table 2) 0) × (number_16 (drop 4 table) 0 ≢ Some glyph)

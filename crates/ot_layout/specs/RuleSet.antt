@@ -6,7 +6,8 @@ use Rattle.rb_glyph.specs.declared.info.hb_glyph_info_t.{hb_glyph_info_t}
 use Rattle.rb_glyph.specs.Fields.{field}
 use Rattle.ot_layout.specs.Pattern.{Pattern, fitting, rule_pattern}
 use Rattle.ot_layout.specs.Rule.{input_iterator}
-use Rattle.ot_layout.specs.SkippingIterator.{fits, glyph_at, may_ignore, next_found, passes_over, props}
+use Rattle.ot_layout.specs.SkippingIterator.{fits, may_ignore, next_found}
+use Rattle.ot_lookups.specs.LookupProps.{glyph_at, passes_over, props}
 use Rattle.ot_layout.specs.declared.neighbours.Next.{Next}
 use Rattle.ot_layout.specs.declared.rule.MatchFunctions.{MatchFunctions}
 use Rattle.ot_layout.specs.declared.search.ApplyContext.{ApplyContext}

@@ -1,10 +1,11 @@
--- Which glyphs a lookup is for, and where its walk over glyphs ends.
-use Rattle.std.specs.Prelude.{ℕ, ◌+◌, ◌-◌, ◌^◌, ◌==◌, ◌&&◌, ◌||◌, [], ◌∷◌, Bool, true, false, not, List, Option, None, zero, suc, length, drop, slice_index_or, is_some, nat_lt, if◌then◌else◌, bit_and, ⊤, ◌<◌}
+-- Where a walk over the glyphs that a lookup does not pass over ends.
+use Rattle.std.specs.Prelude.{ℕ, ◌+◌, ◌-◌, ◌^◌, ◌==◌, ◌&&◌, ◌||◌, [], ◌∷◌, Bool, true, false, not, List, zero, suc, length, drop, is_some, nat_lt, if◌then◌else◌, bit_and, ⊤, ◌<◌}
 use Rattle.rb_glyph.specs.declared.info.hb_glyph_info_t.{hb_glyph_info_t}
 use Rattle.rb_glyph.specs.Fields.{field}
-use Rattle.font_tables.specs.Coverage.{coverage_index}
 use Rattle.font_tables.specs.ClassDefinition.{class_of}
-use Rattle.ot_layout.specs.declared.lookup_props.LookupProps.{LookupProps}
+use Rattle.glyph_digests.specs.Covered.{covered_index}
+use Rattle.ot_lookups.specs.LookupProps.{glyph_at, passes_over, props, share}
+use Rattle.ot_lookups.specs.declared.lookup_props.LookupProps.{LookupProps}
 use Rattle.ot_layout.specs.declared.skipping_iterator.LookupOptions.{LookupOptions}
 use Rattle.ot_layout.specs.declared.skipping_iterator.SkippingIterator.{SkippingIterator}
 use Rattle.ot_layout.specs.declared.skipping_iterator.Found.{Found}
@@ -14,42 +15,9 @@ use Rattle.ot_layout.specs.declared.skipping_iterator.Skip.TheVariants.{No, Mayb
 use Rattle.ot_layout.specs.declared.matcher.Matcher.{Matcher}
 use Rattle.ot_layout.specs.declared.matcher.Matcher.TheVariants.{Shown, Any, Glyph, Class, Covered}
 
--- the glyph whose fields are all 0
-abbrev pub zero_glyph : hb_glyph_info_t
-zero_glyph = record { glyph_id = 0; mask = 0; cluster = 0; var1 = 0; var2 = 0 }
-
--- the glyph at a place
-abbrev pub glyph_at : List hb_glyph_info_t → ℕ → hb_glyph_info_t
-glyph_at gs i = slice_index_or gs i zero_glyph
-
--- whether two words have a bit in common
-abbrev pub share : ℕ → ℕ → Bool
-share a b = not (bit_and a b == 0)
-
--- the coverage index of a glyph of a buffer; none past 65,535
-abbrev pub covered_index : List ℕ → ℕ → Option ℕ
-covered_index coverage glyph = if nat_lt 65535 glyph then None else coverage_index coverage glyph
-
 -- the class of a glyph of a buffer; 0 past 65,535
 abbrev pub class_in : List ℕ → ℕ → ℕ
 class_in classes glyph = if nat_lt 65535 glyph then 0 else class_of classes glyph
-
--- the properties of a glyph: 2 for a base, 4 for a ligature, 8 for a mark, 16 for one that was substituted, and the
--- attachment class of a mark from bit 8 on
-abbrev pub props : hb_glyph_info_t → ℕ
-props g = field g.var1 0 16
-
--- whether the mark is passed over: it is not in the set that the flag asks for (bit 4), or else it is of another
--- attachment class than the flag names (bits 8 to 15)
-unfoldable pub passes_over_mark : LookupProps → ℕ → ℕ → Bool
-passes_over_mark f props glyph =
-    if share f.flags 16 then not (is_some (covered_index f.marks.table.now glyph))
-    else share f.flags 65280 && not (bit_and f.flags 65280 == bit_and props 65280)
-
--- whether a lookup passes over a glyph: its flag names the glyph's class (bits 1 to 3), or it is a mark that is passed over
-unfoldable pub passes_over : LookupProps → hb_glyph_info_t → Bool
-passes_over f g =
-    share (bit_and (props g) f.flags) 14 || (share (props g) 8 && passes_over_mark f (props g) g.glyph_id)
 
 -- whether these are the Unicode properties of a format character with this one
 abbrev pub is_format_with : ℕ → ℕ → Bool

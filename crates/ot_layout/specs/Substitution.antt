@@ -4,13 +4,14 @@ use Rattle.std.specs.List.{list_any}
 use Rattle.std.specs.Int.{trailing_zeros, w32}
 use Rattle.font_tables.specs.Bytes.{number_16}
 use Rattle.rb_glyph.specs.declared.info.hb_glyph_info_t.{hb_glyph_info_t}
-use Rattle.ot_layout.specs.SkippingIterator.{glyph_at, covered_index}
+use Rattle.ot_lookups.specs.LookupProps.{glyph_at}
+use Rattle.glyph_digests.specs.Covered.{covered_index}
 use Rattle.ot_layout.specs.GlyphTable.{listed, listed_glyph}
-use Rattle.ot_layout.specs.Sets.{set_at}
+use Rattle.ot_lookups.specs.Sets.{set_at}
 use Rattle.ot_layout.specs.Rule.{AreMatchPositions, input_iterator, matcher_by}
 use Rattle.ot_layout.specs.declared.rule.MatchFunction.TheVariants as rule
 use Rattle.ot_layout.specs.declared.search.ApplyContext.{ApplyContext}
-use Rattle.ot_layout.specs.declared.subtable.Subtable.{Subtable}
+use Rattle.ot_lookups.specs.declared.subtable.Subtable.{Subtable}
 use Rattle.ot_layout.specs.declared.substitution.Edit.{Edit}
 use Rattle.ot_layout.specs.declared.substitution.Edit.TheVariants.{Replace, Choose, Multiply, Ligate, Apply, ReplaceInPlace}
 

@@ -4,8 +4,8 @@ ghost use Rattle.std.specs.Prelude.{◌≡◌, ◌<◌, ◌+◌, Some, IfSome};
 ghost use Rattle.font_tables.specs.Bytes.{number_16};
 ghost use Rattle.ot_layout.specs.Asked.{asked_lookahead, asked_at, chained_asked, plain_asked};
 
-use crate::search::MAX_CONTEXT_LENGTH;
 use font_tables::bytes::u16_at;
+use ot_lookups::subtable::MAX_CONTEXT_LENGTH;
 
 /// The number that a rule asks for.
 #[derive(Clone, Copy, Debug)]

@@ -5,20 +5,20 @@ ghost use Rattle.std.specs.Prelude.{◌≡◌, ◌<◌, ◌≤◌, length, IfSom
 ghost use Rattle.ot_layout.specs.Budget.{IsNotMore};
 ghost use Rattle.ot_layout.specs.Context.{IsFitWithin, IsMissed, class_meanings, context_rule, covered_rule, next_walk, record_at};
 ghost use Rattle.ot_layout.specs.Context.{numbered_set, same_match_function};
-ghost use Rattle.ot_layout.specs.Forms.{is_chained_type};
-ghost use Rattle.ot_layout.specs.NextAsked.{IsNextOf};
+ghost use Rattle.ot_lookups.specs.Forms.{is_chained_type};
+ghost use Rattle.ot_lookups.specs.NextAsked.{IsNextOf};
 ghost use Rattle.ot_layout.specs.Pattern.{IsFitBy, rule_fits};
 ghost use Rattle.ot_layout.specs.SkippingIterator.{skip_of};
 ghost use Rattle.ot_layout.specs.declared.skipping_iterator.Skip.TheVariants.{No};
 
-use crate::lookup_list::LookupList;
 use crate::matcher::class_of;
 use crate::rule::{MatchFunction, MatchFunctions, coverage_rule};
 use crate::rule_set::{RuleSet, counts_around, first_fit, fit};
 use crate::search::{ApplyContext, Search};
 use crate::skipping_iterator::Skip;
-use crate::subtable::{NextAsked, Subtable};
 use font_tables::bytes::{table_at_16, u16_at};
+use ot_lookups::lookup_list::LookupList;
+use ot_lookups::subtable::{NextAsked, Subtable};
 use rb_glyph::hb_glyph_info_t;
 
 /// A rule that fits at the cursor. The places of its glyphs are in `Search::places`.

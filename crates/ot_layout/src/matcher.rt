@@ -3,9 +3,9 @@
 ghost use Rattle.std.specs.Prelude.{◌≡◌};
 ghost use Rattle.ot_layout.specs.SkippingIterator.{class_in, fits, is_shown};
 
-use crate::lookup_props::covered_index;
 use font_tables::class_definition::ClassDefinition;
 use font_tables::coverage::Coverage;
+use ot_lookups::lookup_props::covered_index;
 use rb_common::GlyphId;
 
 /// What is asked of a glyph.

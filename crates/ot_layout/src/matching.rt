@@ -4,7 +4,8 @@ ghost use Rattle.std.specs.Prelude.{◌≡◌, ◌<◌, ◌≤◌, ◌+◌, leng
 ghost use Rattle.std.specs.Prelude.{IsTrue, IsFalse, true, false};
 ghost use Rattle.arrayvec.specs.ArrayVec.{array_vec_len};
 ghost use Rattle.ot_layout.specs.Rule.{sequence_matcher, AreMatchPositions, input_iterator};
-ghost use Rattle.ot_layout.specs.SkippingIterator.{glyph_at, next_found, previous_found};
+ghost use Rattle.ot_lookups.specs.LookupProps.{glyph_at};
+ghost use Rattle.ot_layout.specs.SkippingIterator.{next_found, previous_found};
 ghost use Rattle.ot_layout.specs.declared.skipping_iterator.Found.TheVariants.{At};
 ghost use Rattle.ot_layout.specs.declared.matcher.Matcher.{Matcher};
 ghost use Rattle.ot_layout.specs.Budget.{IsNotMore};
@@ -14,8 +15,9 @@ ghost use Rattle.ot_layout.specs.Match.{lookahead_end, backtrack_start, joins, m
 use crate::budget::Budget;
 use crate::ligature_parts::{ligature_component, ligature_id};
 use crate::rule::Sequence;
-use crate::search::{ApplyContext, MAX_CONTEXT_LENGTH, Search};
+use crate::search::{ApplyContext, Search};
 use crate::skipping_iterator::{Found, SkippingIterator};
+use ot_lookups::subtable::MAX_CONTEXT_LENGTH;
 use rb_glyph::hb_glyph_info_t;
 
 /// The next glyph after a place, if it is what a part asks for at this number. `Err` says how far glyphs were looked at.

@@ -8,9 +8,6 @@ use crate::skipping_iterator::SkippingIterator;
 use arrayvec::ArrayVec;
 use rb_glyph::hb_glyph_info_t;
 
-/// The most glyphs that a match takes (HarfBuzz, `HB_MAX_CONTEXT_LENGTH`).
-pub const MAX_CONTEXT_LENGTH: usize = 64;
-
 /// The places of the glyphs of a match, counted from the cursor: the first is 0.
 pub type MatchPositions = ArrayVec<usize, 64>;
 

@@ -6,8 +6,8 @@ ghost use Rattle.ot_layout.specs.SkippingIterator.{over_context, over_input};
 ghost use Rattle.ot_layout.specs.SkippingIterator.{is_format_with, may_ignore, skip_of, is_within, passes, matches, found_at};
 ghost use Rattle.ot_layout.specs.SkippingIterator.{next_found, previous_found, first_kept, kept_before, IsBehind, IsBefore};
 
-use crate::lookup_props::LookupProps;
 use crate::matcher::Matcher;
+use ot_lookups::lookup_props::LookupProps;
 use rb_glyph::hb_glyph_info_t;
 
 /// The bits of the Unicode properties that hold the general category.

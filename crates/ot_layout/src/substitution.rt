@@ -4,27 +4,29 @@ ghost use Rattle.std.specs.Prelude.{ℕ, ◌≡◌, ◌<◌, ◌≤◌, length, 
 ghost use Rattle.std.specs.Prelude.{option_map};
 ghost use Rattle.ot_layout.specs.Budget.{IsNotMore};
 ghost use Rattle.ot_layout.specs.FirstEdit.{IsEditOf, IsFirstEdit, alternate_edit, cursor_index, is_of_use, ligature_edit, single_edit};
-ghost use Rattle.ot_layout.specs.Match.{AsksForOther, IsNext, first_ligature, ligated, ligature_at, ligature_of};
-ghost use Rattle.ot_layout.specs.NextAsked.{IsNextOf};
+ghost use Rattle.ot_layout.specs.Match.{IsNext, first_ligature, ligated, ligature_at, ligature_of};
+ghost use Rattle.ot_lookups.specs.Seconds.{AsksForOther};
+ghost use Rattle.ot_lookups.specs.NextAsked.{IsNextOf};
 ghost use Rattle.ot_layout.specs.Rule.{input_iterator};
-ghost use Rattle.ot_layout.specs.Sets.{set_at};
+ghost use Rattle.ot_lookups.specs.Sets.{set_at};
 ghost use Rattle.ot_layout.specs.Substitution.{IsSequence, alternate_of, feature_value, single};
 ghost use Rattle.ot_layout.specs.Substitution.{IsMultiple, IsLigature};
-ghost use Rattle.ot_layout.specs.Subtables.{subtables_of};
+ghost use Rattle.ot_lookups.specs.Subtables.{subtables_of};
 ghost use Rattle.ot_layout.specs.declared.substitution.Edit.TheVariants.{Replace};
 
 use crate::budget::{PASSED_A_STEP, SUBTABLE_STEPS};
 use crate::context::{Fit, fitting_rule};
 use crate::glyph_table::Glyphs;
-use crate::lookup_list::{Lookup, LookupList};
-use crate::lookup_props::covered_index;
 use crate::matching::{match_backtrack, match_input, match_lookahead};
 use crate::neighbours::{Next, next_seen};
 use crate::rule::{MatchFunction, Sequence};
 use crate::search::{ApplyContext, Search};
 use crate::skipping_iterator::LookupOptions;
-use crate::subtable::Subtable;
 use font_tables::bytes::{table_at_16, tail, u16_at};
+use ot_lookups::lookup_list::{Lookup, LookupList};
+use ot_lookups::lookup_props::covered_index;
+use ot_lookups::sets::set_at;
+use ot_lookups::subtable::Subtable;
 
 /// The value of a feature that stands for any of its alternates, where it is `rand` (HarfBuzz, `HB_OT_MAP_MAX_VALUE`).
 const ANY_ALTERNATE: u32 = 255;
@@ -154,18 +156,6 @@ fn single(subtable: &Subtable, glyph: u32, index: u32) -> Option<u16>
             u16_at(subtable.table, 6 + 2 * index as usize)
         }
         _ => None,
-    }
-}
-
-/// The table of this number of a list of tables whose count stands at the byte 4; an empty one where there is none.
-#[tactic(auto, unfolding(crate::specs::Sets::set_at))]
-pub(crate) fn set_at(table: &[u8], index: u32) -> &[u8]
-    ensures { result.now ≡ set_at table.now index }
-{
-    if index < u32::from(u16_at(table, 4).unwrap_or(0)) {
-        table_at_16(table, 6 + 2 * index as usize).unwrap_or(&[])
-    } else {
-        &[]
     }
 }
 

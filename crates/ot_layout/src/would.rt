@@ -6,13 +6,13 @@ ghost use Rattle.ot_layout.specs.Substitution.{begins_with};
 
 use crate::budget::Budget;
 use crate::context::{class_meanings, same_match_function, set_at};
-use crate::lookup_list::{Lookup, LookupList};
-use crate::lookup_props::covered_index;
 use crate::matcher::class_of;
 use crate::rule::{MatchFunction, MatchFunctions, Rule, coverage_rule, rule_in};
-use crate::substitution;
-use crate::subtable::Subtable;
 use font_tables::bytes::{table_at_16, tail, u16_at};
+use ot_lookups::lookup_list::{Lookup, LookupList};
+use ot_lookups::lookup_props::covered_index;
+use ot_lookups::sets;
+use ot_lookups::subtable::Subtable;
 
 /// Whether a lookup has a rule for just these glyphs, one after the other (HarfBuzz, `hb_ot_layout_lookup_would_substitute`). Where
 /// `wants_no_context` holds, a rule that asks for glyphs before them or after them is none. Where the budget is spent there is no rule,
@@ -81,7 +81,7 @@ fn ligature_would(subtable: &Subtable, glyphs: &[u32], budget: &mut Budget) -> b
     let Some(index) = covered_index(&subtable.coverage, glyphs[0]) else {
         return false;
     };
-    let set = substitution::set_at(subtable.table, index);
+    let set = sets::set_at(subtable.table, index);
     for number in 0..usize::from(u16_at(set, 0).unwrap_or(0)) {
         if !budget.pay(1) {
             return false;

@@ -1,6 +1,3 @@
-pub mod Graphemes
-pub mod Spaces
-pub mod Selectors
 pub mod FontRules
 -- what the public clauses name of the crates below
 pub use Rattle.script_items.specs.Marks

@@ -1,11 +1,6 @@
-//! Normalization with a font, and the properties of characters that it reads and leaves for the steps behind it.
+//! Normalization with a font (Unicode Standard Annex 15).
 #![tactic(auto)]
 
-mod cluster_level;
-pub mod glyph_info;
 mod normalization;
-mod ties;
 
-pub use cluster_level::allows_any_order;
 pub use normalization::normalize;
-pub use ties::{Tie, Ties, keep_tied};

@@ -13,13 +13,13 @@ mod recomposition;
 mod reordering;
 mod variations;
 
-use crate::cluster_level::allows_any_order;
-use crate::glyph_info::is_unicode_mark;
 use composed_again::keep_composed_again;
 use decomposition::decompose_all;
 use font_functions::FontFunctions;
 use recomposition::recompose_all;
 use reordering::{reorder_marks, unhide_joiners};
+use script_items::allows_any_order;
+use script_items::item::is_unicode_mark;
 use script_shapers::{NormalizationMode, ScriptPlan};
 use shaping_buffer::{HB_BUFFER_SCRATCH_FLAG_HAS_CGJ, hb_buffer_t, hb_glyph_info_t};
 use std::alloc::AllocError;

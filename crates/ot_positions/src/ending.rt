@@ -10,8 +10,8 @@ ghost use Rattle.shaping_buffer.specs.KeepsClusters.{KeepsClusters};
 
 use crate::positions::take_width_at;
 use font_functions::FontFunctions;
-use ot_normalization::glyph_info::{clear_variation_selector, is_variation_selector};
 use rb_common::GlyphId;
+use script_items::glyph_info::{clear_variation_selector, is_variation_selector};
 use shaping_buffer::{
     BufferFlags, Flags, HB_BUFFER_SCRATCH_FLAG_HAS_DEFAULT_IGNORABLES,
     HB_BUFFER_SCRATCH_FLAG_HAS_GLYPH_FLAGS, HB_BUFFER_SCRATCH_FLAG_HAS_VARIATION_SELECTOR_FALLBACK,

@@ -3,7 +3,7 @@
 
 ghost use Rattle.std.specs.Prelude.{◌≡◌, false, IsSome};
 ghost use Rattle.std.specs.List.{prefix_len};
-ghost use Rattle.ot_normalization.specs.Marks.{is_mark};
+ghost use Rattle.script_items.specs.Marks.{is_mark};
 ghost use Rattle.shaping_buffer.specs.ClusterStep as step;
 ghost use Rattle.shaping_buffer.specs.Clusters.{clusters};
 ghost use Rattle.ot_positions.specs.FallbackMarks.{fallback_class, placed_by_character, class_of_character, is_thai_above, is_lao_above};
@@ -15,10 +15,9 @@ use crate::positions::zero_mark_width;
 use font_face::Face;
 use font_functions::FontFunctions;
 use ot_layout::ligature_parts::{component_count, ligature_component, ligature_id};
-use ot_normalization::glyph_info::{
-    is_nonspacing_mark, is_unicode_mark, modified_combining_class, set_modified_combining_class,
-};
 use rb_common::{Direction, GlyphId};
+use script_items::glyph_info::is_nonspacing_mark;
+use script_items::item::{is_unicode_mark, modified_combining_class, set_modified_combining_class};
 use shaping_buffer::{GlyphPosition, hb_buffer_t, hb_glyph_info_t};
 use std::alloc::AllocError;
 

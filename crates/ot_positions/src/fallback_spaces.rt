@@ -7,8 +7,8 @@ use crate::glyph_info::has_ligated;
 use crate::kept_positions::FontPositions;
 use font_face::Face;
 use font_functions::FontFunctions;
-use ot_normalization::glyph_info::{is_unicode_space, space_fallback};
 use rb_common::GlyphId;
+use script_items::glyph_info::{is_unicode_space, space_fallback};
 use shaping_buffer::hb_glyph_info_t;
 use shaping_buffer::rb_glyph::hb_unicode_funcs_t::{
     SPACE_4_EM_18, SPACE_EM, SPACE_EM_2, SPACE_EM_3, SPACE_EM_4, SPACE_EM_5, SPACE_EM_6,

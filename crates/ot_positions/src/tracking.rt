@@ -5,7 +5,7 @@ ghost use Rattle.shaping_buffer.specs.KeepsClusters.{KeepsClusters};
 
 use aat_tables::tracking::Tracking;
 use font_face::Face;
-use ot_normalization::glyph_info::is_continuation;
+use script_items::glyph_info::is_continuation;
 use shaping_buffer::{GlyphPosition, hb_buffer_t};
 
 /// How far glyphs are moved apart, in the direction of the line.

@@ -1,4 +1,7 @@
+pub mod Graphemes
 pub mod Item
 pub mod Marks
 pub mod Masks
 pub mod Moves
+pub mod Selectors
+pub mod Spaces

@@ -2,9 +2,14 @@
 //! items that move in front of others. The font is asked by [`FontGlyphs`].
 #![tactic(auto)]
 
+pub use cluster_level::allows_any_order;
 pub use font::FontGlyphs;
+pub use ties::{Tie, Ties, keep_tied};
 
+mod cluster_level;
 pub mod font;
+pub mod glyph_info;
 pub mod item;
 pub mod masks;
 pub mod moves;
+mod ties;

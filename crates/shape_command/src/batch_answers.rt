@@ -2,15 +2,15 @@
 
 use crate::ending::NAME;
 use crate::loaded_font::LoadedFont;
-use crate::run::{answer_options, read_font_file};
+use crate::run::answer_options;
 use shape_fonts::font_file::FontFile;
-use shape_lines::errors::{CommandError, LinesError};
-use shape_lines::reading::{Reading, next_line};
+use shape_lines::batch::{has_next, say};
+use shape_lines::errors::CommandError;
+use shape_lines::fonts::read_font;
 use shape_options::batch::words_of_line;
 use shape_options::options::FontChoice;
-use shape_options::words::{WordsError, options_of};
-use std::alloc::Global;
-use std::io::{self, BufRead, ErrorKind, Write};
+use shape_options::words::options_of;
+use std::io::{self, BufRead, Write};
 use std::rt::Files;
 
 /// How the lines of one font were answered.
@@ -41,22 +41,6 @@ pub(crate) fn answer_batch<F: Files + AllocGlobal + Eprint, R: BufRead, W: Write
         has_line = run.has_line;
     }
     Ok(all_shaped)
-}
-
-/// Reads the next line, if there is one, up to a byte 0 if it has one.
-fn has_next<R: BufRead>(alloc: Global, input: &mut R, line: &mut Vec<u8>) -> io::Result<bool> {
-    match next_line(alloc, input, Reading::Whole, line) {
-        Ok(found) => {
-            line.truncate(
-                line.iter()
-                    .position(|byte| *byte == 0)
-                    .unwrap_or(line.len()),
-            );
-            Ok(found)
-        }
-        Err(LinesError::Read(error) | LinesError::Write(error)) => Err(error),
-        Err(LinesError::Memory) => Err(io::Error::from(ErrorKind::OutOfMemory)),
-    }
 }
 
 /// Answers the line that was read, and those behind it that name the same font.
@@ -100,17 +84,6 @@ fn read_named_font<F: Files + AllocGlobal, W: Write>(
             Ok(None)
         }
     }
-}
-
-/// Reads the file of the font that words name, unless it was read last, and says which font it is.
-fn read_font<'a, F: Files + AllocGlobal>(
-    rt: &F,
-    words: &'a [&'a str],
-    file: &mut FontFile,
-) -> Result<FontChoice, CommandError<'a>> {
-    let options = options_of(rt.alloc(), words)?;
-    read_font_file(rt, &options, file)?;
-    Ok(options.font)
 }
 
 /// Answers the line that was read with its font, and those behind it that name the same one.
@@ -180,17 +153,4 @@ fn answer_words<'a, F: Files + AllocGlobal + Eprint, R: BufRead, W: Write>(
     }
     let all_shaped = answer_options(rt, &options, font, input, output)?;
     Ok(Some(all_shaped))
-}
-
-/// Says in place of an answer why there is none. An answer that was not written is an error of the whole batch.
-fn say<W: Write>(alloc: Global, output: &mut W, error: CommandError<'_>) -> io::Result<()> {
-    let error = match error {
-        CommandError::Output(error) => return Err(error),
-        CommandError::Words(WordsError::Asked(text)) => return output.write_all(text.as_bytes()),
-        error => error,
-    };
-    let message = error.to_string(alloc)?;
-    let first = message.as_str().lines().next().unwrap_or("");
-    let reason = first.strip_prefix("error: ").unwrap_or(first);
-    writeln!(output, "error: {reason}")
 }

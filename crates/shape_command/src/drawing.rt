@@ -6,9 +6,8 @@ use crate::loaded_font::LoadedFont;
 use ot_shape::{Face, FaceNames, ShapeError, Step, Watch, shape_watched};
 use shape_lines::errors::CommandError;
 use shape_lines::picture::{Picture, RowName};
-use shape_lines::text::{empty_text, fill};
-use shape_options::options::{LineOptions, Options, OptionsError, TextSource};
-use shape_options::words::WordsError;
+use shape_lines::text::{empty_text, fill, given_text};
+use shape_options::options::{LineOptions, Options};
 use shaping_buffer::hb_buffer_t;
 use std::alloc::{AllocError, Global};
 use std::io::Write;
@@ -69,17 +68,6 @@ fn draw<'a, W: Write>(
     let svg = drawing.picture.draw(names)?;
     write_picture(output, svg.as_str())?;
     Ok(is_shaped)
-}
-
-/// The text that is given, and not in a file.
-fn given_text<'a, 't>(text: &'t TextSource<'a>) -> Result<&'t str, CommandError<'a>> {
-    match text {
-        TextSource::Given(text) => Ok(text),
-        TextSource::CodePoints(text) => Ok(text.as_str()),
-        TextSource::File(_) | TextSource::Input => {
-            Err(CommandError::Words(WordsError::Options(OptionsError::DrawnFile)))
-        }
-    }
 }
 
 /// Writes a picture.

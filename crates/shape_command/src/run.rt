@@ -1,6 +1,6 @@
 //! What the program does.
 
-ghost use Rattle.std.specs.Prelude.{◌≡◌, Some, true, false, IsErr, IsSome, OnOk};
+ghost use Rattle.std.specs.Prelude.{◌≡◌, true, false, IsErr, IsSome, OnOk};
 
 use crate::drawing::draw_text;
 use crate::lines::{answer_lines, answer_paragraph};
@@ -9,6 +9,7 @@ use crate::shaper::{KeptLine, LineShaper, LineState};
 use shape_fonts::font_file::FontFile;
 use shape_fonts::synthetic_font::{LineNames, SyntheticFont, SyntheticNames};
 use shape_lines::errors::CommandError;
+use shape_lines::fonts::read_font_file;
 use shape_lines::reading::Reading;
 use shape_options::options::{Options, Shaper, TextSource};
 use shape_options::words::options_of;
@@ -30,25 +31,23 @@ pub fn answer_command<'a, F: Files + AllocGlobal + Eprint, S: AsStr, R: BufRead,
     ensures { OnOk result (IsSome file.new.path) }
 {
     let options = options_of(rt.alloc(), words)?;
-    read_font_file(rt, &options, file)?;
-    match LoadedFont::new(rt.alloc(), file, options.font)? {
-        Some(mut font) => answer_options(rt, &options, &mut font, input, output),
-        None => Err(CommandError::Face(options.font_file)),
-    }
+    answer_with_file(rt, &options, file, input, output)
 }
 
-/// Reads the file of the font, unless it was read last.
-pub(crate) fn read_font_file<'a, F: Files + AllocGlobal>(
+/// Answers what a command line asks for, with the font of the file that it names.
+fn answer_with_file<'a, F: Files + AllocGlobal + Eprint, R: BufRead, W: Write>(
     rt: &F,
     options: &Options<'a>,
     file: &mut FontFile,
-) -> Result<(), CommandError<'a>>
-    ensures { OnOk result (file.new.path ≡ Some options.now.font_file.now) }
+    input: &mut R,
+    output: &mut W,
+) -> Result<bool, CommandError<'a>>
+    ensures { OnOk result (IsSome file.new.path) }
 {
-    let path = options.font_file;
-    match file.read(rt, path) {
-        Ok(()) => Ok(()),
-        Err(error) => Err(CommandError::Font { file: path, error }),
+    read_font_file(rt, options, file)?;
+    match LoadedFont::new(rt.alloc(), file, options.font)? {
+        Some(mut font) => answer_options(rt, options, &mut font, input, output),
+        None => Err(CommandError::Face(options.font_file)),
     }
 }
 

@@ -5,7 +5,6 @@ ghost use Rattle.shape_lines.specs.Answer.{answer_text};
 ghost use Rattle.shape_lines.specs.Lines.{IsAnswer, IsList};
 
 use crate::trace::Trace;
-use line_formats::characters::characters_list;
 use ot_shape::{
     Face, KeptPlans, ShapeError, shape_watched, shape_with_functions_and_plans,
     shape_with_functions_watched, shape_with_kept_plans,
@@ -14,6 +13,7 @@ use shape_fonts::fallback::shape_fallback;
 use shape_fonts::kept_advances::KeptAdvances;
 use shape_fonts::synthetic_font::{LineNames, SyntheticFont};
 use shape_lines::answers::Answer;
+use shape_lines::characters::shown_characters;
 use shape_lines::edits::{Edits, buffer_of};
 use shape_lines::glyph_line::read_glyphs;
 use shape_lines::printing::GlyphPrinter;
@@ -153,7 +153,7 @@ impl<'a> LineShaper<'a> {
         ensures answer { IfOk result (λ answered. IsAnswer self.now.output (answer_text answered.answer)) }
         ensures list { IfOk result (λ answered. IsList answered.characters.items) }
     {
-        let characters = self.characters(alloc, line)?;
+        let characters = shown_characters(alloc, self.options, self.output.shown, line)?;
         let mut trace = Trace::new(alloc);
         let answer = self.answer_to_line(alloc, state, &mut trace, line)?;
         Ok(Answered {
@@ -207,20 +207,6 @@ impl<'a> LineShaper<'a> {
             Some(glyphs) => self.print_edited(alloc, state, &edits, glyphs),
             None => Ok(Answer::Failed),
         }
-    }
-
-    /// The list of a line's characters, where that is shown; else it is empty.
-    fn characters(&self, alloc: Global, line: &str) -> Result<Vec<u8>, AllocError>
-        ensures { IfOk result (λ characters. IsList characters.items) }
-    {
-        let mut text = empty_text(alloc, self.options);
-        if self.output.shown.characters {
-            // Of a line that is too long there is no list.
-            let _fits = fill(alloc, self.options, line, &mut text)?;
-        }
-        let buffer = text.into_buffer();
-        let list = characters_list(alloc, buffer.info())?;
-        Ok(list)
     }
 
     /// Shapes a line once less than is asked for: what it gives is not printed.

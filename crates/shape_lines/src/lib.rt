@@ -2,8 +2,11 @@
 #![tactic(auto)]
 
 pub mod answers;
+pub mod batch;
+pub mod characters;
 pub mod edits;
 pub mod errors;
+pub mod fonts;
 pub mod glyph_line;
 pub mod normalized;
 pub mod picture;

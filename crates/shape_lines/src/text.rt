@@ -8,9 +8,22 @@ ghost use Rattle.shaping_buffer.specs.State.{State, cleared};
 ghost use Rattle.shaping_buffer.specs.Step.{GrowthMeets};
 ghost use Rattle.shape_lines.specs.Prepared.{prepared, with_properties, language_of};
 
-use shape_options::options::LineOptions;
+use crate::errors::CommandError;
+use shape_options::options::{LineOptions, OptionsError, TextSource};
+use shape_options::words::WordsError;
 use shaping_buffer::{GlyphBuffer, Language, LanguageError, UnicodeBuffer};
 use std::alloc::{AllocError, Global};
+
+/// The text that is given, and not in a file.
+pub fn given_text<'a, 't>(text: &'t TextSource<'a>) -> Result<&'t str, CommandError<'a>> {
+    match text {
+        TextSource::Given(text) => Ok(text),
+        TextSource::CodePoints(text) => Ok(text.as_str()),
+        TextSource::File(_) | TextSource::Input => {
+            Err(CommandError::Words(WordsError::Options(OptionsError::DrawnFile)))
+        }
+    }
+}
 
 /// The bytes as a text, in which each byte that is no part of a character in UTF-8 is a replacement character, as in
 /// HarfBuzz. Of bytes that are UTF-8 it is the text.

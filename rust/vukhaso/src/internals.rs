@@ -16,6 +16,7 @@ pub mod font_outlines;
 pub mod font_tables;
 pub mod font_variations;
 pub mod glyph;
+pub mod glyph_digests;
 pub mod glyph_lists;
 pub mod glyph_sides;
 pub mod glyph_text;
@@ -27,6 +28,7 @@ pub mod ot_gpos;
 pub mod ot_gpos_tables;
 pub mod ot_gsub;
 pub mod ot_layout;
+pub mod ot_lookups;
 pub mod ot_map;
 pub mod ot_normalization;
 pub mod ot_plan;
@@ -53,7 +55,7 @@ pub mod options;
 pub(crate) mod fonts;
 
 #[cfg(feature = "std")]
-pub(crate) mod lines;
+pub mod lines;
 
 #[cfg(feature = "std")]
 pub(crate) mod command;

@@ -6,9 +6,9 @@ ghost use Rattle.ot_normalization.specs.FontRules as rules;
 
 use super::pairs::{Composing, composite_of};
 use super::parts::parts_of;
-use crate::glyph_info::is_unicode_mark;
-use crate::ties::{Tie, Ties, keep_tied};
 use font_functions::FontFunctions;
+use script_items::item::is_unicode_mark;
+use script_items::{Tie, Ties, keep_tied};
 use script_shapers::{NormalizationMode, ScriptPlan};
 use shaping_buffer::{hb_buffer_t, hb_glyph_info_t};
 

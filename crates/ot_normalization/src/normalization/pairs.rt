@@ -3,8 +3,8 @@
 ghost use Rattle.std.specs.Prelude.{◌≡◌, Some};
 ghost use Rattle.ot_normalization.specs.FontRules as rules;
 
-use crate::glyph_info::is_unicode_mark;
 use font_functions::FontFunctions;
+use script_items::item::is_unicode_mark;
 use script_shapers::{ScriptPlan, ScriptShaper};
 use shaping_buffer::hb_glyph_info_t;
 use shaping_passes::normalization::CharacterPairs;

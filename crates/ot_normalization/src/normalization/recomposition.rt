@@ -8,8 +8,9 @@ ghost use Rattle.shaping_passes.specs.NormalizationComposition.{IsReady, IsPlace
 
 use super::pairs::{Composing, pair_of};
 use super::reordering::KeptClasses;
-use crate::glyph_info::{modified_combining_class, set_unicode_props};
 use font_functions::FontFunctions;
+use script_items::glyph_info::set_unicode_props;
+use script_items::item::modified_combining_class;
 use script_shapers::ScriptPlan;
 use shaping_buffer::{hb_buffer_t, hb_glyph_info_t};
 use shaping_passes::normalization::next_turn;

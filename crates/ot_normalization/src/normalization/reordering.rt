@@ -4,7 +4,7 @@ ghost use Rattle.std.specs.Prelude.{◌≡◌, ◌<◌, ◌≤◌, false, length
 ghost use Rattle.shaping_buffer.specs.Clusters.{clusters};
 ghost use Rattle.shaping_buffer.specs.KeepsClusters.{KeepsClusters};
 
-use crate::glyph_info::modified_combining_class;
+use script_items::item::modified_combining_class;
 use script_shapers::ScriptShaper;
 use shaping_buffer::{hb_buffer_t, hb_glyph_info_t};
 use shaping_passes::normalization::{MOST_MARKS, MarkClasses, order_run, run_end};

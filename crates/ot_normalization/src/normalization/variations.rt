@@ -4,8 +4,8 @@ ghost use Rattle.std.specs.Prelude.{◌≡◌, ◌+◌, ◌<◌, ◌≤◌, true
 ghost use Rattle.shaping_buffer.specs.KeepsClusters.{KeepsClusters};
 
 use super::decomposition::{is_variation_selector, set_current_glyph};
-use crate::glyph_info::{clear_default_ignorable, set_variation_selector};
 use font_functions::FontFunctions;
+use script_items::glyph_info::{clear_default_ignorable, set_variation_selector};
 use shaping_buffer::{
     HB_BUFFER_SCRATCH_FLAG_HAS_VARIATION_SELECTOR_FALLBACK, hb_buffer_t, hb_glyph_info_t,
 };

@@ -16,7 +16,7 @@ impl From<AllocError> for Error {
 }
 
 /// What is read to its end.
-pub(crate) trait Read {
+pub trait Read {
     /// Adds all bytes that are left, and says how many they are.
     fn read_to_end(&mut self, bytes: &mut Vec<u8>) -> Result<usize>;
 }
@@ -37,7 +37,7 @@ impl<R: std::io::Read> Read for R {
 }
 
 /// What is read line by line.
-pub(crate) trait BufRead: Read {
+pub trait BufRead: Read {
     /// Adds the bytes up to the next such byte, and that byte. It says how many they are: 0 at the end.
     fn read_until(&mut self, end: u8, bytes: &mut Vec<u8>) -> Result<usize>;
 }

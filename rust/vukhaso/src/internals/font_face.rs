@@ -4,6 +4,7 @@
 
 mod bounds;
 mod color;
+mod directory;
 mod face;
 mod layout;
 mod measures;

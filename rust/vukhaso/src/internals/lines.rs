@@ -3,8 +3,11 @@
 //! Lines of the program `vukhaso_shape`: how they are read and become texts, and how glyphs are changed, printed and drawn.
 
 pub mod answers;
+pub mod batch;
+pub mod characters;
 pub mod edits;
 pub mod errors;
+pub(crate) mod fonts;
 pub mod glyph_line;
 pub mod normalized;
 pub mod picture;

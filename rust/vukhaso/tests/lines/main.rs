@@ -1,4 +1,5 @@
-//! The example's lines: the stored run of the proved program, rows of calls, and random programs beside it.
+//! The example's lines: the stored run of the proved program, rows of calls, random programs beside it, lines that are no
+//! commands, streams that are slow or fail, and how the program ends.
 #![allow(dead_code, unused_variables)]
 
 use shaping_session::run::run_on;
@@ -9,6 +10,13 @@ use std::path::PathBuf;
 #[allow(clippy::needless_question_mark)] // written code
 #[path = "../../examples/lines/shaping_session/mod.rs"]
 mod shaping_session;
+
+#[path = "../../examples/lines/ending.rs"]
+mod program;
+
+mod ending;
+mod streams;
+mod unknown;
 
 /// What the session answers to these lines, and its status.
 fn answers(mut lines: &[u8]) -> (Vec<u8>, u8) {

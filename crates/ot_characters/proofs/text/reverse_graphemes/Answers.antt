@@ -1,7 +1,7 @@
 use Rattle.std.proofs.Common.{sym, ◌∙◌}
 use Rattle.std.proofs.lemmas.Bool.{false≢true}
 use Rattle.shaping_buffer.proofs.KeepsLemmas.{turns_then_keeps}
-use Rattle.ot_normalization.specs.Graphemes.{is_same_grapheme}
+use Rattle.script_items.specs.Graphemes.{is_same_grapheme}
 use Rattle.ot_characters.proofs.TurnLemmas.{either_turns}
 use Rattle.ot_characters.proofs.text.reverse_graphemes.Goals as goal
 

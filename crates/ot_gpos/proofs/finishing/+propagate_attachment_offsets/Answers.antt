@@ -1,5 +1,5 @@
 use Rattle.std.proofs.Common.{◌≡◌, ◌<◌, ◌-◌, true, false, length, sym, ap, ◌∙◌, arith}
-use Rattle.ot_layout.specs.SkippingIterator.{share}
+use Rattle.ot_lookups.specs.LookupProps.{share}
 use Rattle.ot_gpos.specs.Chains.{kind_of, position_at}
 use Rattle.ot_gpos.specs.Offsets.{across, down, propagated, way}
 use Rattle.ot_gpos.proofs.OffsetsLemmas.{parent_of-within, propagated-last, propagated-joined, propagated-hung}

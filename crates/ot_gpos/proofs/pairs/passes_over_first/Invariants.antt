@@ -1,6 +1,6 @@
 use Rattle.std.proofs.Common.{◌≡◌, ◌-◌}
-use Rattle.ot_layout.specs.Lookup.{is_for}
-use Rattle.ot_layout.specs.SkippingIterator.{glyph_at}
+use Rattle.ot_lookups.specs.Lookup.{is_for}
+use Rattle.ot_lookups.specs.LookupProps.{glyph_at}
 use Rattle.ot_gpos.specs.Adjustments.{behind}
 use Rattle.ot_gpos.specs.PairAdjustments.{some_place}
 use Rattle.ot_gpos.proofs.pairs.passes_over_first.Given as goal

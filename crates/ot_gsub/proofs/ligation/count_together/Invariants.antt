@@ -1,5 +1,5 @@
 use Rattle.std.proofs.Common.{◌≡◌, ◌≤◌, ◌+◌, ◌*◌, ◌∷◌, map, drop}
-use Rattle.ot_layout.specs.SkippingIterator.{glyph_at}
+use Rattle.ot_lookups.specs.LookupProps.{glyph_at}
 use Rattle.ot_gsub.specs.Ligatures.{count_together}
 use Rattle.ot_gsub.proofs.ligation.count_together.Given as goal
 

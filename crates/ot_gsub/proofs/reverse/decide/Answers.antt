@@ -4,7 +4,7 @@ use Rattle.std.proofs.lemmas.List.{length-take-le}
 use Rattle.std.specs.Prelude.{if◌then◌else◌}
 use Rattle.rb_glyph.specs.Fields.{field}
 use Rattle.rb_glyph.specs.declared.info.hb_glyph_info_t.{hb_glyph_info_t}
-use Rattle.ot_layout.specs.SkippingIterator.{glyph_at}
+use Rattle.ot_lookups.specs.LookupProps.{glyph_at}
 use Rattle.ot_layout.specs.declared.search.ApplyContext.{ApplyContext}
 use Rattle.ot_layout.specs.declared.search.Reach.{Reach}
 use Rattle.ot_gsub.proofs.PutOutLemmas.{glyph_at-drop}

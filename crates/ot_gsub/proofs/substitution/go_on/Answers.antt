@@ -1,8 +1,8 @@
 use Rattle.std.proofs.Common.{List, ap, arith, length, sym, ◌∙◌}
 use Rattle.std.proofs.lemmas.Bool.{false≢true}
 use Rattle.rb_glyph.specs.declared.info.hb_glyph_info_t.{hb_glyph_info_t}
-use Rattle.ot_layout.specs.Lookup.{is_for}
-use Rattle.ot_layout.specs.SkippingIterator.{glyph_at}
+use Rattle.ot_lookups.specs.Lookup.{is_for}
+use Rattle.ot_lookups.specs.LookupProps.{glyph_at}
 use Rattle.ot_gsub.proofs.PutOutLemmas.{wants_storage}
 use Rattle.ot_gsub.proofs.substitution.go_on.Goals as goal
 

@@ -1,9 +1,9 @@
 use Rattle.std.proofs.Common.{◌≡◌, Ok, Option, List, arith, ap, length, refl, sym, subst, ◌∙◌, true, ◌<◌}
 use Rattle.std.specs.Option.{option_copied}
 use Rattle.rb_glyph.specs.declared.info.hb_glyph_info_t.{hb_glyph_info_t}
-use Rattle.ot_layout.specs.Lookup.{is_for}
-use Rattle.ot_layout.specs.SkippingIterator.{glyph_at}
-use Rattle.ot_layout.specs.declared.lookup_list.Lookup.{Lookup}
+use Rattle.ot_lookups.specs.Lookup.{is_for}
+use Rattle.ot_lookups.specs.LookupProps.{glyph_at}
+use Rattle.ot_lookups.specs.declared.lookup_list.Lookup.{Lookup}
 use Rattle.ot_layout.specs.declared.budget.Budget.{Budget}
 use Rattle.ot_gsub.specs.Nested.{Now, now_of}
 use Rattle.ot_gsub.specs.Runs.{IsRun, IsRunOf}

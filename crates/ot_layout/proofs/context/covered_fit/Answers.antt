@@ -1,5 +1,5 @@
 use Rattle.std.proofs.Common.{Bool, subst, sym}
-use Rattle.ot_layout.specs.NextAsked.{IsNextAt}
+use Rattle.ot_lookups.specs.NextAsked.{IsNextAt}
 use Rattle.ot_layout.proofs.MissedLemmas.{rule_fits-missed}
 use Rattle.ot_layout.proofs.context.covered_fit.Goals as goal
 

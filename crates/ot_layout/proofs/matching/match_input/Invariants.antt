@@ -3,7 +3,7 @@ use Rattle.arrayvec.specs.ArrayVec.{array_vec_len}
 use Rattle.std.specs.Prelude.{slice_index, Some, true}
 use Rattle.ot_layout.specs.Budget.{IsNotMore}
 use Rattle.ot_layout.specs.Match.{last_place, match_places, may_leave}
-use Rattle.ot_layout.specs.SkippingIterator.{glyph_at}
+use Rattle.ot_lookups.specs.LookupProps.{glyph_at}
 use Rattle.ot_layout.specs.Rule.{AreMatchPositions, input_iterator, sequence_matcher}
 use Rattle.ot_layout.proofs.matching.match_input.Given as goal
 

@@ -1,8 +1,8 @@
 use Rattle.std.proofs.Common.{◌≡◌, false, arith, sym, ◌∙◌}
-use Rattle.ot_layout.specs.Digest.{may_have}
+use Rattle.glyph_digests.specs.Digest.{may_have}
 use Rattle.ot_layout.specs.Match.{IsNext}
 use Rattle.ot_layout.specs.Rule.{input_iterator}
-use Rattle.ot_layout.specs.Sets.{set_at}
+use Rattle.ot_lookups.specs.Sets.{set_at}
 use Rattle.ot_layout.proofs.SecondsLemmas.{first_of-missed}
 use Rattle.ot_layout.proofs.substitution.missed_second.Goals as goal
 

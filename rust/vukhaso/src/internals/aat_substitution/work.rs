@@ -4,7 +4,8 @@
 
 use crate::aat_tables::metamorphosis::all_glyphs;
 use crate::glyph::hb_glyph_info_t;
-use crate::ot_layout::{Budget, Digest};
+use crate::glyph_digests::Digest;
+use crate::ot_layout::Budget;
 
 /// In texts of so many glyphs and more it is not asked which glyphs there are (HarfBuzz, `HB_AAT_BUFFER_DIGEST_THRESHOLD`).
 const DIGEST_THRESHOLD: usize = 32;

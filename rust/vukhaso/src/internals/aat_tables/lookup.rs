@@ -6,8 +6,8 @@
 use crate::aat_tables::glyph_rows::GlyphRows;
 use crate::font_tables::bytes::u16_at;
 use crate::font_tables::rows::rows_within;
-use crate::ot_layout::Digest;
-use crate::ot_layout::summary::Summary;
+use crate::glyph_digests::Digest;
+use crate::glyph_digests::summary::Summary;
 
 /// The glyph that stands for one that was deleted, and the end of rows.
 pub const DELETED_GLYPH: u16 = 0xFFFF;

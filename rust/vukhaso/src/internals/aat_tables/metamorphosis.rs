@@ -6,8 +6,8 @@
 use crate::aat_tables::lookup::Lookup;
 use crate::aat_tables::state_table::StateTable;
 use crate::font_tables::bytes::{part, tail, u16_at, u32_at};
+use crate::glyph_digests::Digest;
 use crate::memory::{AllocError, Vec};
-use crate::ot_layout::Digest;
 
 /// How many bytes the header of a chain has.
 const CHAIN_HEADER: usize = 16;

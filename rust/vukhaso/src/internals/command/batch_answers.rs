@@ -4,16 +4,17 @@
 
 use crate::command::ending::NAME;
 use crate::command::loaded_font::LoadedFont;
-use crate::command::run::{answer_options, read_font_file};
+use crate::command::run::answer_options;
 use crate::fonts::font_file::FontFile;
-use crate::host::io::{self, BufRead, ErrorKind, Write};
+use crate::host::io::{self, BufRead, Write};
 use crate::host::{AllocGlobal, Eprint, Files};
-use crate::lines::errors::{CommandError, LinesError};
-use crate::lines::reading::{Reading, next_line};
-use crate::memory::{TryDisplay, Vec};
+use crate::lines::batch::{has_next, say};
+use crate::lines::errors::CommandError;
+use crate::lines::fonts::read_font;
+use crate::memory::Vec;
 use crate::options::batch::words_of_line;
 use crate::options::options::FontChoice;
-use crate::options::words::{WordsError, options_of};
+use crate::options::words::options_of;
 
 /// How the lines of one font were answered.
 struct Run {
@@ -42,22 +43,6 @@ pub(crate) fn answer_batch<F: Files + AllocGlobal + Eprint, R: BufRead, W: Write
         has_line = run.has_line;
     }
     Ok(all_shaped)
-}
-
-/// Reads the next line, if there is one, up to a byte 0 if it has one.
-fn has_next<R: BufRead>(input: &mut R, line: &mut Vec<u8>) -> io::Result<bool> {
-    match next_line(input, Reading::Whole, line) {
-        Ok(found) => {
-            line.truncate(
-                line.iter()
-                    .position(|byte| *byte == 0)
-                    .unwrap_or(line.len()),
-            );
-            Ok(found)
-        }
-        Err(LinesError::Read(error) | LinesError::Write(error)) => Err(error),
-        Err(LinesError::Memory) => Err(io::Error::from(ErrorKind::OutOfMemory)),
-    }
 }
 
 /// Answers the line that was read, and those behind it that name the same font.
@@ -101,17 +86,6 @@ fn read_named_font<F: Files + AllocGlobal, W: Write>(
             Ok(None)
         }
     }
-}
-
-/// Reads the file of the font that words name, unless it was read last, and says which font it is.
-fn read_font<'a, F: Files + AllocGlobal>(
-    rt: &F,
-    words: &'a [&'a str],
-    file: &mut FontFile,
-) -> Result<FontChoice, CommandError<'a>> {
-    let options = options_of(words)?;
-    read_font_file(rt, &options, file)?;
-    Ok(options.font)
 }
 
 /// Answers the line that was read with its font, and those behind it that name the same one.
@@ -183,18 +157,4 @@ fn answer_words<'a, F: Files + AllocGlobal + Eprint, R: BufRead, W: Write>(
     }
     let all_shaped = answer_options(rt, &options, font, input, output)?;
     Ok(Some(all_shaped))
-}
-
-/// Says in place of an answer why there is none. An answer that was not written is an error of the
-/// whole batch.
-fn say<W: Write>(output: &mut W, error: CommandError<'_>) -> io::Result<()> {
-    let error = match error {
-        CommandError::Output(error) => return Err(error),
-        CommandError::Words(WordsError::Asked(text)) => return output.write_all(text.as_bytes()),
-        error => error,
-    };
-    let message = error.try_to_string()?;
-    let first = message.as_str().lines().next().unwrap_or("");
-    let reason = first.strip_prefix("error: ").unwrap_or(first);
-    writeln!(output, "error: {reason}")
 }

@@ -7,10 +7,9 @@ use crate::command::loaded_font::LoadedFont;
 use crate::host::io::Write;
 use crate::lines::errors::CommandError;
 use crate::lines::picture::{Picture, RowName};
-use crate::lines::text::{empty_text, fill};
+use crate::lines::text::{empty_text, fill, given_text};
 use crate::memory::AllocError;
-use crate::options::options::{LineOptions, Options, OptionsError, TextSource};
-use crate::options::words::WordsError;
+use crate::options::options::{LineOptions, Options};
 use crate::ot_shape::{Face, FaceNames, ShapeError, Step, Watch, shape_watched};
 
 /// A picture, to which each step of shaping adds a row.
@@ -67,17 +66,6 @@ fn draw<'a, W: Write>(
     let svg = drawing.picture.draw(names)?;
     write_picture(output, svg.as_str())?;
     Ok(is_shaped)
-}
-
-/// The text that is given, and not in a file.
-fn given_text<'a, 't>(text: &'t TextSource<'a>) -> Result<&'t str, CommandError<'a>> {
-    match text {
-        TextSource::Given(text) => Ok(text),
-        TextSource::CodePoints(text) => Ok(text.as_str()),
-        TextSource::File(_) | TextSource::Input => Err(CommandError::Words(WordsError::Options(
-            OptionsError::DrawnFile,
-        ))),
-    }
 }
 
 /// Writes a picture.

@@ -14,6 +14,7 @@ use crate::host::fs;
 use crate::host::io::{self, BufRead, BufReader, BufWriter, Write};
 use crate::host::{AllocGlobal, AsStr, Eprint};
 use crate::lines::errors::CommandError;
+use crate::lines::fonts::read_font_file;
 use crate::lines::reading::Reading;
 use crate::options::options::{Options, Shaper, TextSource};
 use crate::options::words::options_of;
@@ -39,23 +40,21 @@ pub fn answer_command<'a, F: Files + AllocGlobal + Eprint, S: AsStr, R: BufRead,
     output: &mut W,
 ) -> Result<bool, CommandError<'a>> {
     let options = options_of(words)?;
-    read_font_file(rt, &options, file)?;
-    match LoadedFont::new(file, options.font)? {
-        Some(mut font) => answer_options(rt, &options, &mut font, input, output),
-        None => Err(CommandError::Face(options.font_file)),
-    }
+    answer_with_file(rt, &options, file, input, output)
 }
 
-/// Reads the file of the font, unless it was read last.
-pub(crate) fn read_font_file<'a, F: Files + AllocGlobal>(
+/// Answers what a command line asks for, with the font of the file that it names.
+fn answer_with_file<'a, F: Files + AllocGlobal + Eprint, R: BufRead, W: Write>(
     rt: &F,
     options: &Options<'a>,
     file: &mut FontFile,
-) -> Result<(), CommandError<'a>> {
-    let path = options.font_file;
-    match file.read(rt, path) {
-        Ok(()) => Ok(()),
-        Err(error) => Err(CommandError::Font { file: path, error }),
+    input: &mut R,
+    output: &mut W,
+) -> Result<bool, CommandError<'a>> {
+    read_font_file(rt, options, file)?;
+    match LoadedFont::new(file, options.font)? {
+        Some(mut font) => answer_options(rt, options, &mut font, input, output),
+        None => Err(CommandError::Face(options.font_file)),
     }
 }
 

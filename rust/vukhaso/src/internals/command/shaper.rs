@@ -7,8 +7,8 @@ use crate::command::trace::Trace;
 use crate::fonts::fallback::shape_fallback;
 use crate::fonts::kept_advances::KeptAdvances;
 use crate::fonts::synthetic_font::{LineNames, SyntheticFont};
-use crate::line_formats::characters::characters_list;
 use crate::lines::answers::Answer;
+use crate::lines::characters::shown_characters;
 use crate::lines::edits::{Edits, buffer_of};
 use crate::lines::glyph_line::read_glyphs;
 use crate::lines::printing::GlyphPrinter;
@@ -170,7 +170,7 @@ impl<'a> LineShaper<'a> {
         state: &mut LineState<'_, N>,
         line: &str,
     ) -> Result<Answered, AllocError> {
-        let characters = self.characters(line)?;
+        let characters = shown_characters(self.options, self.output.shown, line)?;
         let mut trace = Trace::new();
         let answer = self.answer_to_line(state, &mut trace, line)?;
         Ok(Answered {
@@ -220,18 +220,6 @@ impl<'a> LineShaper<'a> {
             Some(glyphs) => self.print_edited(state, &edits, glyphs),
             None => Ok(Answer::Failed),
         }
-    }
-
-    /// The list of a line's characters, where that is shown; else it is empty.
-    fn characters(&self, line: &str) -> Result<Vec<u8>, AllocError> {
-        let mut text = empty_text(self.options);
-        if self.output.shown.characters {
-            // Of a line that is too long there is no list.
-            let _fits = fill(self.options, line, &mut text)?;
-        }
-        let buffer = text.into_buffer();
-        let list = characters_list(buffer.info())?;
-        Ok(list)
     }
 
     /// Shapes a line once less than is asked for: what it gives is not printed.

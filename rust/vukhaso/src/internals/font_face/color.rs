@@ -5,8 +5,8 @@
 use crate::common::{GlyphId, Tag};
 use crate::font_colors::strikes::wanted_size;
 use crate::font_colors::{CbdtTables, ColrTable, PixelBox, SbixTable};
+use crate::font_face::directory::Directory;
 use crate::font_face::measures::scaled_bounds;
-use crate::font_tables::directory::Tables;
 use crate::font_tables::scale::Scale;
 use crate::glyph::GlyphExtents;
 
@@ -23,7 +23,7 @@ pub struct ColorTables<'a> {
 
 impl<'a> ColorTables<'a> {
     /// Those of a font with so many glyphs, where an em has so many pixels across and upwards.
-    pub(crate) fn new(tables: &Tables<'a>, glyph_count: u16, x_ppem: u16, y_ppem: u16) -> Self {
+    pub(crate) fn new(tables: &Directory<'a>, glyph_count: u16, x_ppem: u16, y_ppem: u16) -> Self {
         let wanted = wanted_size(x_ppem, y_ppem);
         let cblc = tables.table(Tag::from_bytes(b"CBLC"));
         let cbdt = tables.table(Tag::from_bytes(b"CBDT"));

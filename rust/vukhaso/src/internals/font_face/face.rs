@@ -6,6 +6,7 @@ use crate::aat_tables::Metamorphosis;
 use crate::common::{GlyphId, Tag};
 use crate::font_cmap::CharacterMap;
 use crate::font_face::color::ColorTables;
+use crate::font_face::directory::Directory;
 use crate::font_face::layout::{Layout, is_read};
 use crate::font_face::variations::FaceVariations;
 use crate::font_outlines::{GlyfTables, Outlines};
@@ -19,8 +20,8 @@ use crate::font_tables::metrics::Metrics;
 use crate::font_tables::scale::Scale;
 use crate::font_tables::vertical_origins::VerticalOrigins;
 use crate::memory::{AllocError, Shared};
-use crate::ot_layout::LookupList;
-use crate::ot_layout::lookup_list::{POSITIONING_EXTENSION, SUBSTITUTION_EXTENSION};
+use crate::ot_lookups::LookupList;
+use crate::ot_lookups::lookup_list::{POSITIONING_EXTENSION, SUBSTITUTION_EXTENSION};
 
 /// The lookups of a font.
 #[derive(Debug)]
@@ -90,7 +91,7 @@ pub struct Face<'a> {
 }
 
 /// The outlines of a font.
-fn outlines_of<'a>(tables: &Tables<'a>, head: &[u8], glyph_count: u16) -> Outlines<'a> {
+fn outlines_of<'a>(tables: &Directory<'a>, head: &[u8], glyph_count: u16) -> Outlines<'a> {
     let glyf = GlyfTables {
         glyf: tables.table(Tag::from_bytes(b"glyf")),
         loca: tables.table(Tag::from_bytes(b"loca")),
@@ -121,6 +122,7 @@ impl<'a> Face<'a> {
         let Some(tables) = Tables::new(file, index) else {
             return Ok(None);
         };
+        let tables = Directory::new(tables);
         let layout = Layout::new(&tables);
         let gdef = definitions_of(tables.table(Tag::from_bytes(b"GDEF")), &layout);
         let substitutions = LookupList::new(layout.gsub, SUBSTITUTION_EXTENSION, &gdef)?;
@@ -232,7 +234,8 @@ impl<'a> Face<'a> {
     pub fn set_pixels_per_em(&mut self, x: u16, y: u16) {
         self.scale.x_ppem = x;
         self.scale.y_ppem = y;
-        self.color = ColorTables::new(&self.tables, self.glyph_count, x, y);
+        let tables = Directory::new(self.tables);
+        self.color = ColorTables::new(&tables, self.glyph_count, x, y);
     }
 
     /// Says how many points an em has; 0 where that is not said, as at first. By Apple's table `trak`
@@ -255,10 +258,10 @@ impl<'a> Face<'a> {
 ///
 /// # Requires
 ///
-/// - `layout: IsLayoutOf layout tables`
-/// - `gdef: gdef.table.now ≡ believed (table_in tables (codes "GDEF")) layout.gsub.now layout.gpos.now`
+/// - `layout: IsLayoutOf layout tables.tables`
+/// - `gdef: gdef.table.now ≡ believed (table_in tables.tables (codes "GDEF")) layout.gsub.now layout.gpos.now`
 fn face_of<'a>(
-    tables: Tables<'a>,
+    tables: Directory<'a>,
     layout: Layout<'a>,
     gdef: Gdef<'a>,
     lookups: Lookups<'a>,
@@ -271,7 +274,7 @@ fn face_of<'a>(
     let vmtx = tables.table(Tag::from_bytes(b"vmtx"));
     let vhea = tables.table(Tag::from_bytes(b"vhea"));
     Face {
-        tables,
+        tables: tables.tables,
         units_per_em,
         glyph_count,
         characters: CharacterMap::parse(tables.table(Tag::from_bytes(b"cmap")), font_page(os2)),

@@ -3,9 +3,9 @@
 //! The tables of a font's lookups.
 
 use crate::common::Tag;
+use crate::font_face::directory::Directory;
 use crate::font_tables::bytes::{u16_at, u32_at};
-use crate::font_tables::directory::Tables;
-use crate::ot_layout::subtable_limit::is_refused;
+use crate::ot_lookups::subtable_limit::is_refused;
 
 /// The tables that substitute and position glyphs, each empty where the font has none.
 #[derive(Clone, Copy, Debug)]
@@ -26,7 +26,7 @@ pub struct Layout<'a> {
 
 impl<'a> Layout<'a> {
     /// The tables of lookups among those of a font.
-    pub(crate) fn new(tables: &Tables<'a>) -> Self {
+    pub(crate) fn new(tables: &Directory<'a>) -> Self {
         Layout {
             gsub: read_table(tables.table(Tag::from_bytes(b"GSUB"))),
             gpos: read_table(tables.table(Tag::from_bytes(b"GPOS"))),

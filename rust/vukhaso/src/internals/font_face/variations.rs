@@ -3,10 +3,10 @@
 //! Variations of a font: those that it has, and those that are chosen.
 
 use crate::common::Tag;
+use crate::font_face::directory::Directory;
 use crate::font_face::face::Face;
 use crate::font_gvar::GlyphVariations;
 use crate::font_outlines::Cff2Table;
-use crate::font_tables::directory::Tables;
 use crate::font_variations::user_variations::value_on;
 use crate::font_variations::{
     AxisMaps, MetricsVariations, ValueVariations, Variation, VariationAxes, VariationStore,
@@ -43,7 +43,7 @@ pub struct FaceVariations<'a> {
 impl<'a> FaceVariations<'a> {
     /// What the tables of a font say of its variations, of which none are chosen. `GDEF` is passed apart,
     /// since some are not believed.
-    pub(crate) fn new(tables: &Tables<'a>, gdef: &'a [u8], glyph_count: u16) -> Self {
+    pub(crate) fn new(tables: &Directory<'a>, gdef: &'a [u8], glyph_count: u16) -> Self {
         FaceVariations {
             axes: VariationAxes::new(tables.table(Tag::from_bytes(b"fvar"))),
             maps: AxisMaps::new(tables.table(Tag::from_bytes(b"avar"))),

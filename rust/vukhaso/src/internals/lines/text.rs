@@ -3,8 +3,30 @@
 //! The text that a line is shaped as.
 
 use crate::buffer::{GlyphBuffer, Language, LanguageError, UnicodeBuffer};
+use crate::lines::errors::CommandError;
 use crate::memory::{AllocError, String};
-use crate::options::options::LineOptions;
+use crate::options::options::{LineOptions, OptionsError, TextSource};
+use crate::options::words::WordsError;
+
+/// The text that is given, and not in a file.
+///
+/// # Errors
+///
+/// `Err`: the clauses below say when.
+///
+/// # Proved
+///
+/// That it returns.
+#[inline]
+pub fn given_text<'a, 't>(text: &'t TextSource<'a>) -> Result<&'t str, CommandError<'a>> {
+    match text {
+        TextSource::Given(text) => Ok(text),
+        TextSource::CodePoints(text) => Ok(text.as_str()),
+        TextSource::File(_) | TextSource::Input => Err(CommandError::Words(WordsError::Options(
+            OptionsError::DrawnFile,
+        ))),
+    }
+}
 
 /// The bytes as a text, in which each byte that is no part of a character in UTF-8 is a replacement
 /// character, as in HarfBuzz. Of bytes that are UTF-8 it is the text.

@@ -4,7 +4,7 @@
 
 use crate::buffer::{hb_buffer_t, hb_glyph_info_t};
 use crate::glyph_lists::clusters::set_cluster;
-use crate::ot_normalization::allows_any_order;
+use crate::script_items::allows_any_order;
 
 /// How the clusters of a text run.
 #[derive(Clone, Copy, PartialEq, Eq, Debug)]

@@ -4,7 +4,7 @@
 
 use crate::buffer::{hb_buffer_t, hb_glyph_info_t};
 use crate::font_face::Face;
-use crate::ot_layout::lookup_list::{Lookup, SUBSTITUTION_EXTENSION};
+use crate::ot_lookups::lookup_list::{Lookup, SUBSTITUTION_EXTENSION};
 use crate::ot_map::PlannedLookup;
 use crate::ot_plan::TextPlan;
 use crate::script_shapers::SyllablePlan;

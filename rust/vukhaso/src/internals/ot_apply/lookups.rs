@@ -7,13 +7,14 @@ use crate::common::GlyphId;
 use crate::font_face::Face;
 use crate::font_functions::FontFunctions;
 use crate::font_variations::Deltas;
+use crate::glyph_digests::Digest;
 use crate::memory::AllocError;
 use crate::ot_apply::watch::{Step, Watch};
 use crate::ot_gpos::{Setting, position_start};
 use crate::ot_gpos_tables::contour_points::{ContourPoint, ContourPoints};
 use crate::ot_gpos_tables::instance::Instance;
 use crate::ot_gpos_tables::kern_table::KernTable;
-use crate::ot_layout::{Budget, Digest, LookupOptions, Search};
+use crate::ot_layout::{Budget, LookupOptions, Search};
 use crate::ot_map::{LayoutPlan, PlannedLookup, ShapePlan};
 
 /// How a lookup of the plan is applied.

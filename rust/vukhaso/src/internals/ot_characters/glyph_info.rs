@@ -8,7 +8,8 @@ use crate::glyph::hb_gc::{
     RB_UNICODE_GENERAL_CATEGORY_DECIMAL_NUMBER, RB_UNICODE_GENERAL_CATEGORY_FORMAT,
     RB_UNICODE_GENERAL_CATEGORY_LOWERCASE_LETTER, RB_UNICODE_GENERAL_CATEGORY_UPPERCASE_LETTER,
 };
-use crate::ot_normalization::glyph_info::{general_category, is_continuation};
+use crate::script_items::glyph_info::is_continuation;
+use crate::script_items::item::general_category;
 
 /// Whether the character is a letter.
 pub(crate) fn is_letter(info: &hb_glyph_info_t) -> bool {

@@ -4,7 +4,7 @@
 
 use crate::buffer::{Direction, hb_buffer_t, hb_glyph_info_t};
 use crate::ot_characters::glyph_info::{is_letter, is_number};
-use crate::ot_normalization::{Tie, Ties, keep_tied};
+use crate::script_items::{Tie, Ties, keep_tied};
 
 /// Whether the line runs from left to right, and the script from right to left.
 pub(crate) fn is_against_script(buffer: &hb_buffer_t) -> bool {

@@ -6,7 +6,8 @@ use crate::buffer::{CharExt, Direction, Mirrors, hb_buffer_t, hb_glyph_info_t};
 use crate::font_functions::FontFunctions;
 use crate::ot_characters::glyph_info::{is_decimal_number, is_letter};
 use crate::ot_map::ShapePlan;
-use crate::ot_normalization::glyph_info::{is_unicode_mark, is_unicode_space};
+use crate::script_items::glyph_info::is_unicode_space;
+use crate::script_items::item::is_unicode_mark;
 use crate::unicode_tables::mirrors;
 
 /// Replaces each character by its mirror image in text that runs backward, and by its vertical form in

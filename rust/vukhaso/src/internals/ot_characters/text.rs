@@ -14,10 +14,9 @@ use crate::ot_characters::glyph_info::{
 };
 use crate::ot_characters::numbers::{are_numbers, is_against_script};
 use crate::ot_characters::turned_contexts::keep_turned_contexts;
-use crate::ot_normalization::allows_any_order;
-use crate::ot_normalization::glyph_info::{
-    general_category, is_continuation, is_unicode_mark, set_unicode_props,
-};
+use crate::script_items::allows_any_order;
+use crate::script_items::glyph_info::{is_continuation, set_unicode_props};
+use crate::script_items::item::{general_category, is_unicode_mark};
 
 /// No character before this one goes on with a grapheme: the first that emoji are made from.
 const FIRST_PICTOGRAPHIC: u32 = 0xA9;

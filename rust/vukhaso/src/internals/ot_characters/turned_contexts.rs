@@ -10,7 +10,8 @@ use crate::glyph::hb_gc::{
     RB_UNICODE_GENERAL_CATEGORY_NON_SPACING_MARK,
 };
 use crate::glyph::hb_unicode_general_category_t;
-use crate::ot_normalization::glyph_info::{general_category, is_continuation};
+use crate::script_items::glyph_info::is_continuation;
+use crate::script_items::item::general_category;
 use crate::script_joining::JoiningType::{self, *};
 use crate::script_joining::joining_type;
 

@@ -5,9 +5,9 @@
 use crate::glyph::hb_glyph_info_t;
 use crate::ot_gpos::turn::Turn;
 use crate::ot_layout::context::{Fit, fitting_rule};
-use crate::ot_layout::lookup_list::LookupList;
 use crate::ot_layout::search::{ApplyContext, Reach, Search};
 use crate::ot_layout::skipping_iterator::SkippingIterator;
+use crate::ot_lookups::lookup_list::LookupList;
 
 /// The kind of chained contexts.
 pub(crate) const CHAINED_CONTEXT: u16 = 8;

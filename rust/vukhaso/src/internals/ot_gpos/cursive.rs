@@ -13,9 +13,9 @@ use crate::ot_gpos::flags::{mark_attached, mark_break, mark_concat};
 use crate::ot_gpos::turn::Turn;
 use crate::ot_gpos_tables::anchors::Anchor;
 use crate::ot_gpos_tables::contour_points::ContourPoints;
-use crate::ot_layout::lookup_props::covered_index;
 use crate::ot_layout::matcher::Matcher;
 use crate::ot_layout::skipping_iterator::Found;
+use crate::ot_lookups::lookup_props::covered_index;
 
 /// The bit of a lookup's flag by which the last glyph of a chain stays on the baseline, as in lines from right to left.
 const RIGHT_TO_LEFT: u16 = 0x0001;

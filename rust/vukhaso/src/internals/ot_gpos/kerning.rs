@@ -10,9 +10,9 @@ use crate::glyph::{GlyphPosition, hb_glyph_info_t};
 use crate::ot_gpos::chains::ATTACH_TYPE_CURSIVE;
 use crate::ot_gpos::flags::{mark_attached, mark_break, mark_concat};
 use crate::ot_gpos_tables::kern_table::{KernSubtable, KernTable};
-use crate::ot_layout::lookup_props::LookupProps;
 use crate::ot_layout::matcher::Matcher;
 use crate::ot_layout::skipping_iterator::{Found, LookupOptions, SkippingIterator};
+use crate::ot_lookups::lookup_props::LookupProps;
 
 /// The bit of a lookup's flag that passes over marks.
 const IGNORE_MARKS: u16 = 0x0008;

@@ -14,11 +14,11 @@ use crate::ot_gpos::turn::{Setting, Turn};
 use crate::ot_gpos_tables::contour_points::ContourPoints;
 use crate::ot_layout::budget::{PASSED_A_STEP, SUBTABLE_STEPS};
 use crate::ot_layout::context::Fit;
-use crate::ot_layout::lookup_list::Lookup;
-use crate::ot_layout::lookup_props::covered_index;
 use crate::ot_layout::search::{MatchPositions, Search};
 use crate::ot_layout::skipping_iterator::{LookupOptions, SkippingIterator};
-use crate::ot_layout::subtable::Subtable;
+use crate::ot_lookups::lookup_list::Lookup;
+use crate::ot_lookups::lookup_props::covered_index;
+use crate::ot_lookups::subtable::Subtable;
 use core::mem;
 
 /// How deep lookups may apply others (HarfBuzz, `HB_MAX_NESTING_LEVEL`).

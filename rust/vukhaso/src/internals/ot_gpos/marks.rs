@@ -10,9 +10,9 @@ use crate::ot_gpos::ligatures::{are_of_one_part, is_first_of_many, ligature_row}
 use crate::ot_gpos::turn::Turn;
 use crate::ot_gpos_tables::anchors::ligature_matrix;
 use crate::ot_gpos_tables::contour_points::ContourPoints;
-use crate::ot_layout::lookup_props::{LookupProps, covered_index};
 use crate::ot_layout::matcher::Matcher;
 use crate::ot_layout::skipping_iterator::{Found, Skip, SkippingIterator};
+use crate::ot_lookups::lookup_props::{LookupProps, covered_index};
 
 /// The bits of a lookup's flag that pass over classes of glyphs.
 const IGNORED_CLASSES: u16 = 0x000E;

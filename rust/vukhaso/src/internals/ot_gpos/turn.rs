@@ -3,9 +3,9 @@
 //! What a subtable is given at a glyph.
 
 use crate::ot_gpos_tables::instance::Instance;
-use crate::ot_layout::lookup_list::{Lookup, LookupList};
 use crate::ot_layout::skipping_iterator::SkippingIterator;
-use crate::ot_layout::subtable::Subtable;
+use crate::ot_lookups::lookup_list::{Lookup, LookupList};
+use crate::ot_lookups::subtable::Subtable;
 
 /// A font's lookups of `GPOS`, the size and the variations at which it is used, and who knows the points of its outlines.
 pub struct Setting<'a, P> {

@@ -11,7 +11,8 @@ use crate::ot_gsub::substitution::{Progress, Substitutions};
 use crate::ot_gsub::writing::{fail, glyph_ahead};
 use crate::ot_layout::context::{Fit, SequenceLookupRecord};
 use crate::ot_layout::substitution::{Edit, edit_at};
-use crate::ot_layout::{ApplyContext, Lookup, LookupOptions, Reach, SkippingIterator};
+use crate::ot_layout::{ApplyContext, LookupOptions, Reach, SkippingIterator};
+use crate::ot_lookups::Lookup;
 
 /// How deep lookups may apply others (HarfBuzz, `HB_MAX_NESTING_LEVEL`).
 pub(crate) const MAX_NESTING_LEVEL: u32 = 64;

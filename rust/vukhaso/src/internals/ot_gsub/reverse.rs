@@ -9,7 +9,8 @@ use crate::glyph::hb_glyph_info_t;
 use crate::ot_gsub::properties::{Way, substituted_props};
 use crate::ot_gsub::substitution::{Progress, Substitutions};
 use crate::ot_layout::substitution::{Edit, edit_at};
-use crate::ot_layout::{ApplyContext, Lookup, LookupOptions, Reach, SkippingIterator};
+use crate::ot_layout::{ApplyContext, LookupOptions, Reach, SkippingIterator};
+use crate::ot_lookups::Lookup;
 
 /// Applies a lookup of reverse substitutions at each glyph, from the last one to the first.
 ///

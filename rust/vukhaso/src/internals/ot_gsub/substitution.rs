@@ -9,7 +9,8 @@ use crate::ot_gsub::nested::{MAX_NESTING_LEVEL, Step, apply_at};
 use crate::ot_gsub::reverse::substitute_reverse;
 use crate::ot_gsub::writing::fail;
 use crate::ot_layout::budget::PASSED_A_STEP;
-use crate::ot_layout::{Budget, Lookup, LookupList, LookupOptions, Search};
+use crate::ot_layout::{Budget, LookupOptions, Search};
+use crate::ot_lookups::{Lookup, LookupList};
 
 /// The kind of reverse substitutions.
 const REVERSE: u16 = 8;

@@ -3,7 +3,7 @@
 //! What a rule asks of the next glyphs after the cursor, read from its bytes without the rest of it.
 
 use crate::font_tables::bytes::u16_at;
-use crate::ot_layout::search::MAX_CONTEXT_LENGTH;
+use crate::ot_lookups::subtable::MAX_CONTEXT_LENGTH;
 
 /// The number that a rule asks for.
 #[derive(Clone, Copy, Debug)]

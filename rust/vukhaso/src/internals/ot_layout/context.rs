@@ -5,13 +5,13 @@
 
 use crate::font_tables::bytes::{table_at_16, u16_at};
 use crate::glyph::hb_glyph_info_t;
-use crate::ot_layout::lookup_list::LookupList;
 use crate::ot_layout::matcher::class_of;
 use crate::ot_layout::rule::{MatchFunction, MatchFunctions, coverage_rule};
 use crate::ot_layout::rule_set::{RuleSet, counts_around, first_fit, fit};
 use crate::ot_layout::search::{ApplyContext, Search};
 use crate::ot_layout::skipping_iterator::Skip;
-use crate::ot_layout::subtable::{NextAsked, Subtable};
+use crate::ot_lookups::lookup_list::LookupList;
+use crate::ot_lookups::subtable::{NextAsked, Subtable};
 
 /// A rule that fits at the cursor. The places of its glyphs are in `Search::places`.
 #[derive(Clone, Copy, Debug)]

@@ -5,7 +5,7 @@
 use crate::common::GlyphId;
 use crate::font_tables::class_definition::ClassDefinition;
 use crate::font_tables::coverage::Coverage;
-use crate::ot_layout::lookup_props::covered_index;
+use crate::ot_lookups::lookup_props::covered_index;
 
 /// What is asked of a glyph.
 #[derive(Clone, Copy, Debug)]

@@ -6,8 +6,9 @@ use crate::glyph::hb_glyph_info_t;
 use crate::ot_layout::budget::Budget;
 use crate::ot_layout::ligature_parts::{ligature_component, ligature_id};
 use crate::ot_layout::rule::Sequence;
-use crate::ot_layout::search::{ApplyContext, MAX_CONTEXT_LENGTH, Search};
+use crate::ot_layout::search::{ApplyContext, Search};
 use crate::ot_layout::skipping_iterator::{Found, SkippingIterator};
+use crate::ot_lookups::subtable::MAX_CONTEXT_LENGTH;
 
 /// The next glyph after a place, if it is what a part asks for at this number.
 ///

@@ -7,9 +7,6 @@ use crate::glyph::hb_glyph_info_t;
 use crate::ot_layout::budget::Budget;
 use crate::ot_layout::skipping_iterator::SkippingIterator;
 
-/// The most glyphs that a match takes (HarfBuzz, `HB_MAX_CONTEXT_LENGTH`).
-pub const MAX_CONTEXT_LENGTH: usize = 64;
-
 /// The places of the glyphs of a match, counted from the cursor: the first is 0.
 pub type MatchPositions = ArrayVec<usize, 64>;
 

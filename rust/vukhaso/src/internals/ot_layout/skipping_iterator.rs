@@ -4,8 +4,8 @@
 //! `skipping_iterator_t` decides it.
 
 use crate::glyph::hb_glyph_info_t;
-use crate::ot_layout::lookup_props::LookupProps;
 use crate::ot_layout::matcher::Matcher;
+use crate::ot_lookups::lookup_props::LookupProps;
 
 /// The bits of the Unicode properties that hold the general category.
 const GENERAL_CATEGORY: u16 = 0x001F;

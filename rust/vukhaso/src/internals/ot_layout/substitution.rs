@@ -6,14 +6,15 @@ use crate::font_tables::bytes::{table_at_16, tail, u16_at};
 use crate::ot_layout::budget::{PASSED_A_STEP, SUBTABLE_STEPS};
 use crate::ot_layout::context::{Fit, fitting_rule};
 use crate::ot_layout::glyph_table::Glyphs;
-use crate::ot_layout::lookup_list::{Lookup, LookupList};
-use crate::ot_layout::lookup_props::covered_index;
 use crate::ot_layout::matching::{match_backtrack, match_input, match_lookahead};
 use crate::ot_layout::neighbours::{Next, next_seen};
 use crate::ot_layout::rule::{MatchFunction, Sequence};
 use crate::ot_layout::search::{ApplyContext, Search};
 use crate::ot_layout::skipping_iterator::LookupOptions;
-use crate::ot_layout::subtable::Subtable;
+use crate::ot_lookups::lookup_list::{Lookup, LookupList};
+use crate::ot_lookups::lookup_props::covered_index;
+use crate::ot_lookups::sets::set_at;
+use crate::ot_lookups::subtable::Subtable;
 
 /// The value of a feature that stands for any of its alternates, where it is `rand` (HarfBuzz, `HB_OT_MAP_MAX_VALUE`).
 const ANY_ALTERNATE: u32 = 255;
@@ -143,16 +144,6 @@ fn single(subtable: &Subtable, glyph: u32, index: u32) -> Option<u16> {
             u16_at(subtable.table, 6 + 2 * index as usize)
         }
         _ => None,
-    }
-}
-
-/// The table of this number of a list of tables whose count stands at the byte 4; an empty one where
-/// there is none.
-pub(crate) fn set_at(table: &[u8], index: u32) -> &[u8] {
-    if index < u32::from(u16_at(table, 4).unwrap_or(0)) {
-        table_at_16(table, 6 + 2 * index as usize).unwrap_or(&[])
-    } else {
-        &[]
     }
 }
 

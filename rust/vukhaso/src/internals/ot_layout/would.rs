@@ -5,12 +5,12 @@
 use crate::font_tables::bytes::{table_at_16, tail, u16_at};
 use crate::ot_layout::budget::Budget;
 use crate::ot_layout::context::{class_meanings, same_match_function, set_at};
-use crate::ot_layout::lookup_list::{Lookup, LookupList};
-use crate::ot_layout::lookup_props::covered_index;
 use crate::ot_layout::matcher::class_of;
 use crate::ot_layout::rule::{MatchFunction, MatchFunctions, Rule, coverage_rule, rule_in};
-use crate::ot_layout::substitution;
-use crate::ot_layout::subtable::Subtable;
+use crate::ot_lookups::lookup_list::{Lookup, LookupList};
+use crate::ot_lookups::lookup_props::covered_index;
+use crate::ot_lookups::sets;
+use crate::ot_lookups::subtable::Subtable;
 
 /// Whether a lookup has a rule for just these glyphs, one after the other (HarfBuzz,
 /// `hb_ot_layout_lookup_would_substitute`). Where `wants_no_context` holds, a rule that asks for glyphs
@@ -92,7 +92,7 @@ fn ligature_would(subtable: &Subtable, glyphs: &[u32], budget: &mut Budget) -> b
     let Some(index) = covered_index(&subtable.coverage, glyphs[0]) else {
         return false;
     };
-    let set = substitution::set_at(subtable.table, index);
+    let set = sets::set_at(subtable.table, index);
     for number in 0..usize::from(u16_at(set, 0).unwrap_or(0)) {
         if !budget.pay(1) {
             return false;

@@ -9,9 +9,9 @@ use crate::buffer::{
 };
 use crate::common::GlyphId;
 use crate::font_functions::FontFunctions;
-use crate::ot_normalization::glyph_info::{clear_variation_selector, is_variation_selector};
 use crate::ot_positions::positions::take_width_at;
 use crate::passes::hide_default_ignorables;
+use crate::script_items::glyph_info::{clear_variation_selector, is_variation_selector};
 
 /// Gives each variation selector that the font does not know the glyph that the buffer has for it,
 /// without width.

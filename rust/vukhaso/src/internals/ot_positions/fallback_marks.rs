@@ -9,11 +9,12 @@ use crate::font_face::Face;
 use crate::font_functions::FontFunctions;
 use crate::memory::AllocError;
 use crate::ot_layout::ligature_parts::{component_count, ligature_component, ligature_id};
-use crate::ot_normalization::glyph_info::{
-    is_nonspacing_mark, is_unicode_mark, modified_combining_class, set_modified_combining_class,
-};
 use crate::ot_positions::mark_placing::{Line, Marks};
 use crate::ot_positions::positions::zero_mark_width;
+use crate::script_items::glyph_info::is_nonspacing_mark;
+use crate::script_items::item::{
+    is_unicode_mark, modified_combining_class, set_modified_combining_class,
+};
 
 /// Says of each mark without width where it stands, by a class from 200 on, in place of the class that
 /// it is ordered by. The items are still characters.

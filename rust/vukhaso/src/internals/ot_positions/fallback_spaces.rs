@@ -11,9 +11,9 @@ use crate::glyph::hb_unicode_funcs_t::{
     SPACE_EM_16, SPACE_FIGURE, SPACE_NARROW, SPACE_PUNCTUATION,
 };
 use crate::memory::AllocError;
-use crate::ot_normalization::glyph_info::{is_unicode_space, space_fallback};
 use crate::ot_positions::glyph_info::has_ligated;
 use crate::ot_positions::kept_positions::FontPositions;
+use crate::script_items::glyph_info::{is_unicode_space, space_fallback};
 
 /// The advance of a glyph, of which the font says `own`. If it stands for a space that the font has no
 /// glyph for, the kind of the space decides: it is a part of an em, or that of another character. A

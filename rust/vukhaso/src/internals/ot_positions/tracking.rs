@@ -5,7 +5,7 @@
 use crate::aat_tables::tracking::Tracking;
 use crate::buffer::{GlyphPosition, hb_buffer_t};
 use crate::font_face::Face;
-use crate::ot_normalization::glyph_info::is_continuation;
+use crate::script_items::glyph_info::is_continuation;
 
 /// How far glyphs are moved apart, in the direction of the line.
 #[derive(Clone, Copy, Debug)]

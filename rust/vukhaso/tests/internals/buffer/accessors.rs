@@ -116,3 +116,12 @@ fn clear_forgets_the_text() {
     assert_states(&buffer, [true, false, false, true]);
     assert!(buffer.cluster_level == 0);
 }
+
+#[test]
+fn a_new_buffer_is_empty() {
+    let buffer = hb_buffer_t::new();
+    assert_counts(&buffer, [0, 0, 0, 0, 0]);
+    assert_states(&buffer, [true, false, false, true]);
+    assert!(buffer.max_len() == 0x3FFF_FFFF);
+    assert!(buffer.max_ops == 0x1FFF_FFFF);
+}

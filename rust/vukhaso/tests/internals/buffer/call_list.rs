@@ -1,8 +1,10 @@
 //! Lists of calls, where lines of the program do not say all: what a caller alone can hand in, and how a buffer stores its glyphs.
 
+use crate::Fail;
 use crate::buffer::lists::buffer_of;
 use vukhaso::internals::buffer::{hb_buffer_t, hb_glyph_info_t};
-use vukhaso::internals::runs::{Answer, Call, replay};
+use vukhaso::internals::runs::{Answer, Call, Stopped, replay};
+use vukhaso::memory::String;
 
 /// A glyph as it is seen here: its id, its cluster and its glyph flags.
 type Seen = (u32, u32, u32);
@@ -186,4 +188,37 @@ fn an_output_is_separate_once_it_is_the_longer() {
         make_all(&mut buffer, calls);
         assert!(buffer.len() == len, "the run of {len}");
     }
+}
+
+const CALLERS: &[(Call<'static>, Answer, bool)] = &[
+    (Call::ClearOutput, DONE, false),
+    (Call::OutputInfo(GLYPH), DONE, true),
+    (Call::NextGlyphs(2), OUTSIDE, true),
+    (Call::NextGlyphs(1), DONE, true),
+];
+
+#[test]
+fn a_glyph_of_the_callers_is_put_out() {
+    let mut buffer = buffer_of("a");
+    make_all(&mut buffer, CALLERS);
+    assert_glyphs(buffer.out_info(), &[(5, 6, 1), (97, 0, 0)]);
+    assert!(buffer.scratch_flags == 0);
+}
+
+#[test]
+fn calls_and_answers_are_printed_by_name() -> Result<(), Fail> {
+    let calls = [
+        Call::ClearOutput,
+        Call::ReplaceGlyph(7),
+        Call::ReplaceGlyphs(2, 1, &[9]),
+        Call::UnsafeToBreak(Some(1), None),
+    ];
+    let printed = String::format(format_args!("{calls:?}"))?;
+    assert!(
+        printed.as_str()
+            == "[ClearOutput, ReplaceGlyph(7), ReplaceGlyphs(2, 1, [9]), UnsafeToBreak(Some(1), None)]"
+    );
+    let printed = String::format(format_args!("{OUTSIDE:?} {:?}", Stopped { at: 3 }))?;
+    assert!(printed.as_str() == "Outside Stopped { at: 3 }");
+    Ok(())
 }

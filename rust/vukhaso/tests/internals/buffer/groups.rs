@@ -1,4 +1,5 @@
 use crate::buffer::lists::{add, clear_positions};
+use crate::buffer_tests::probes::counters::*;
 use vukhaso::internals::buffer::{_cluster_group_func, UnicodeBuffer, hb_buffer_t};
 
 /// A text from `a` on, of these clusters and masks, with advances of 10, 20 and so on.
@@ -240,4 +241,56 @@ fn groups_and_syllables_end() {
     assert_ends(&buffer, 2, 3, 3);
     assert!(!buffer.have_output());
     assert!(buffer.next_syllable(5) == 5);
+}
+
+#[test]
+fn an_empty_list_stays_empty() {
+    let mut plain = hb_buffer_t::new();
+    reverse(&mut plain);
+    reverse_range(&mut plain, 0, 0);
+    reverse_clusters(&mut plain);
+    delete(&mut plain, &[97]);
+    assert!(!plain.have_positions());
+    assert_eq!(plain.len(), 0);
+}
+
+/// Five glyphs, positions and all.
+fn five(level: u32) -> hb_buffer_t {
+    buffer_at(level, &[(0, 1), (0, 2), (3, 3), (1, 0), (1, 7)])
+}
+
+/// A group ends after its start and in the list.
+fn assert_group_ends(buffer: &hb_buffer_t, start: usize, every: u32) {
+    assert!(!buffer.have_output() && start < buffer.len());
+    let end = end_by_a_counter(buffer, start, every);
+    assert!(start < end && end <= buffer.len());
+}
+
+/// A reversal keeps the length.
+fn assert_reversal_keeps(mut buffer: hb_buffer_t, every: u32, merge: bool) {
+    assert!(!buffer.have_output());
+    reverse_by_a_counter(&mut buffer, every, merge);
+    assert!(buffer.len() == 5 && buffer.successful() && !buffer.have_output());
+}
+
+/// A deletion never raises the length.
+fn assert_deletion_lowers(mut buffer: hb_buffer_t, every: u32) {
+    assert!(!buffer.have_output());
+    delete_by_a_counter(&mut buffer, every);
+    assert!(buffer.len() <= 5 && buffer.successful() && !buffer.have_output());
+}
+
+#[test]
+fn closures_may_answer_by_a_counter() {
+    for every in 0..6 {
+        for level in 0..4 {
+            let buffer = five(level);
+            for start in 0..5 {
+                assert_group_ends(&buffer, start, every);
+            }
+            assert_reversal_keeps(buffer, every, false);
+            assert_reversal_keeps(five(level), every, true);
+            assert_deletion_lowers(five(level), every);
+        }
+    }
 }

@@ -1,6 +1,7 @@
 //! Buffers and lists of glyphs for tests.
 
 use vukhaso::internals::buffer::{UnicodeBuffer, hb_buffer_t, hb_glyph_info_t};
+use vukhaso::memory::{AllocError, String};
 
 /// Asserts the clusters and the masks of the glyphs.
 pub(crate) fn assert_glyphs(glyphs: &[hb_glyph_info_t], want: &[(u32, u32)]) {
@@ -48,4 +49,13 @@ pub(crate) fn read_one(buffer: &mut hb_buffer_t) {
     clear_output(buffer);
     assert!(buffer.lookahead_len() > 0);
     assert!(buffer.next_glyph() == Ok(true));
+}
+
+/// A text so many times.
+pub(crate) fn long_text(part: &str, times: usize) -> Result<String, AllocError> {
+    let mut text = String::new();
+    for _ in 0..times {
+        text.push_str(part)?;
+    }
+    Ok(text)
 }

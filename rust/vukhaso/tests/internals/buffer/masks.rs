@@ -1,5 +1,5 @@
 use crate::buffer::lists::{add, assert_glyphs};
-use vukhaso::internals::buffer::{UnicodeBuffer, hb_buffer_t};
+use vukhaso::internals::buffer::{UnicodeBuffer, hb_buffer_t, hb_glyph_info_t};
 
 fn reset(buffer: &mut hb_buffer_t, mask: u32) {
     assert!(!buffer.have_output());
@@ -24,4 +24,17 @@ fn the_largest_cluster_is_in_the_range_of_all() {
         set(&mut buffer, start);
         assert_glyphs(buffer.info(), &[(u32::MAX, mask)]);
     }
+}
+
+#[test]
+fn a_glyph_is_put_into_a_cluster() {
+    let mut info = hb_glyph_info_t {
+        glyph_id: 97,
+        mask: 31,
+        cluster: 3,
+        var1: 0,
+        var2: 0,
+    };
+    hb_buffer_t::set_cluster(&mut info, 1, 10);
+    assert_glyphs(&[info], &[(1, 26)]);
 }

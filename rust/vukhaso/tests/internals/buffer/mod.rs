@@ -8,16 +8,11 @@ mod groups;
 mod levels;
 mod limits;
 mod lists;
+mod long_texts;
 mod masks;
 mod rendering;
 mod unicode_buffer;
 mod use_steps;
 mod uses;
-
-#[path = "../../ported/shaping_uses/mod.rs"]
-#[allow(
-    dead_code,
-    unused_variables,
-    reason = "of some uses only a part is a test here"
-)]
-mod shaping_uses;
+mod write_steps;
+mod writes;

@@ -134,3 +134,10 @@ fn assert_faults(level: Option<BufferClusterLevel>) {
 fn faults_say_where() {
     assert_faults(None);
 }
+
+#[test]
+fn faults_come_at_each_level() {
+    for level in LEVELS {
+        assert_faults(Some(level));
+    }
+}

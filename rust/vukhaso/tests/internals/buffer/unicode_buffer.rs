@@ -1,6 +1,9 @@
 use crate::Fail;
 use crate::buffer::lists::{add, push};
-use vukhaso::internals::buffer::{BufferFlags, Direction, Language, Script, UnicodeBuffer, script};
+use vukhaso::internals::buffer::{
+    BufferClusterLevel, BufferFlags, Direction, Language, Script, UnicodeBuffer, script,
+};
+use vukhaso::memory::String;
 
 /// The ids and clusters of a text.
 fn assert_text(text: UnicodeBuffer, want: &[(u32, u32)]) {
@@ -113,5 +116,16 @@ fn assert_language(mut text: UnicodeBuffer, said: Language, want: &str) {
 fn languages_are_told_again() -> Result<(), Fail> {
     let said = Language::from_str("En")?;
     assert_language(UnicodeBuffer::new(), said, "en");
+    Ok(())
+}
+
+#[test]
+fn levels_are_told_again() -> Result<(), Fail> {
+    let mut text = UnicodeBuffer::new();
+    text.set_cluster_level(BufferClusterLevel::Characters);
+    assert!(text.cluster_level() == BufferClusterLevel::Characters);
+    assert!(BufferClusterLevel::default() == BufferClusterLevel::MonotoneGraphemes);
+    let printed = String::format(format_args!("{:?}", BufferClusterLevel::default()))?;
+    assert!(printed.as_str() == "MonotoneGraphemes");
     Ok(())
 }

@@ -2,10 +2,10 @@
 //! tested, and one that may be refused has to be done.
 
 use crate::buffer::lists::clear_output;
-use crate::buffer::shaping_uses::deletion::delete_every_second;
-use crate::buffer::shaping_uses::in_place::*;
-use crate::buffer::shaping_uses::ligature::ligate;
-use crate::buffer::shaping_uses::room::{put_marks, put_marks_within_room};
+use crate::shaping_uses::deletion::delete_every_second;
+use crate::shaping_uses::in_place::*;
+use crate::shaping_uses::ligature::ligate;
+use crate::shaping_uses::room::{put_marks, put_marks_within_room};
 use vukhaso::internals::buffer::hb_buffer_t;
 
 /// A step of a run.

@@ -1,12 +1,12 @@
 use crate::Fail;
 use crate::buffer::lists::{assert_ids, buffer_of, clear_positions, read_one};
-use crate::buffer::shaping_uses::groups::{count_clusters, reverse_clusters, reverse_with_marks};
-use crate::buffer::shaping_uses::in_place::rewind_in_place;
-use crate::buffer::shaping_uses::merging::{cluster_numbers, clusters_of_merged};
-use crate::buffer::shaping_uses::printing::print_characters;
-use crate::buffer::shaping_uses::rendering::render_with_ligature;
-use crate::buffer::shaping_uses::runs::ligate_first_two;
 use crate::buffer::use_steps::{Step, make_all};
+use crate::shaping_uses::groups::{count_clusters, reverse_clusters, reverse_with_marks};
+use crate::shaping_uses::in_place::rewind_in_place;
+use crate::shaping_uses::merging::{cluster_numbers, clusters_of_merged};
+use crate::shaping_uses::printing::print_characters;
+use crate::shaping_uses::rendering::render_with_ligature;
+use crate::shaping_uses::runs::{first_two_as_one, ligate_first_two};
 use vukhaso::internals::buffer::{Feature, SerializeFlags, hb_buffer_t, hb_glyph_info_t};
 use vukhaso::internals::glyph::NoGlyphNames;
 use vukhaso::internals::runs::Answer;
@@ -277,4 +277,11 @@ fn marks_are_put_in() {
     assert_ids(buffer.info(), &[9, 97, 9, 98]);
     make_all(&mut buffer, &[Step::Ensure(8), Step::PutMarksWithinRoom(8)]);
     assert_ids(buffer.info(), &[8, 9, 8, 97, 8, 9, 8, 98]);
+}
+
+#[test]
+fn the_first_two_become_one() {
+    for (text, done) in [("ab", true), ("a", false)] {
+        assert!(first_two_as_one(text) == Ok(done), "{text}");
+    }
 }

@@ -9,8 +9,9 @@ mod limits;
 use vukhaso::internals::font_tables::bytes::tail;
 use vukhaso::internals::font_tables::gdef::Gdef;
 use vukhaso::internals::glyph::hb_glyph_info_t;
-use vukhaso::internals::ot_layout::lookup_list::SUBSTITUTION_EXTENSION;
-use vukhaso::internals::ot_layout::{LookupList, LookupOptions};
+use vukhaso::internals::ot_layout::LookupOptions;
+use vukhaso::internals::ot_lookups::LookupList;
+use vukhaso::internals::ot_lookups::lookup_list::SUBSTITUTION_EXTENSION;
 use vukhaso::memory::AllocError;
 
 /// The bits of the only feature.

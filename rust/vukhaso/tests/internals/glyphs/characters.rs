@@ -1,5 +1,8 @@
+use crate::Fail;
 use vukhaso::internals::glyph::hb_unicode_funcs_t::*;
-use vukhaso::internals::glyph::{CharExt, hb_unicode_general_category_t as Category};
+use vukhaso::internals::glyph::{
+    CharExt, CombiningClasses, Mirrors, hb_unicode_general_category_t as Category,
+};
 use vukhaso::internals::text::tag::Tag;
 
 /// Characters, the tags of their scripts, their categories and the kinds of spaces that they are.
@@ -54,4 +57,32 @@ fn a_character_has_its_properties() {
         );
         assert!(character.vertical() == form, "{character:?}");
     }
+}
+
+/// Characters, their canonical combining classes, and the classes that they are reordered by.
+static CLASSES: [(char, u8, u8); 6] = [
+    ('\u{5b0}', 10, 22),
+    ('\u{651}', 33, 27),
+    ('\u{c55}', 84, 0),
+    ('\u{f39}', 216, 127),
+    ('\u{fc6}', 220, 254),
+    ('\u{1a60}', 9, 254),
+];
+
+#[test]
+fn tables_are_asked() -> Result<(), Fail> {
+    for &(character, class, changed) in &CLASSES {
+        let rows = [(character, class)];
+        let classes = CombiningClasses::new(&rows).ok_or("one row")?;
+        assert!(
+            character.modified_combining_class(&classes) == changed,
+            "{character:?}"
+        );
+        assert!('a'.modified_combining_class(&classes) == 0, "{character:?}");
+    }
+    let rows = [('(', ')'), (')', '('), ('\u{ab}', '\u{bb}')];
+    let mirrors = Mirrors::new(&rows).ok_or("three rows")?;
+    assert!('\u{ab}'.mirrored(&mirrors) == Some('\u{bb}'));
+    assert!('a'.mirrored(&mirrors).is_none());
+    Ok(())
 }

@@ -31,3 +31,11 @@ fn characters_of_every_length_are_read_from_both_ends() -> Result<(), Fail> {
     assert!(context.as_slice() == ['a', 'é', '€', '𐌀', 'z'].as_slice());
     Ok(())
 }
+
+#[test]
+fn the_last_five_characters_before_a_text_are_kept_outward() -> Result<(), Fail> {
+    let mut context = Context::new();
+    keep_before(&mut context, "abcdefg");
+    assert!(context.as_slice() == ['g', 'f', 'e', 'd', 'c'].as_slice());
+    Ok(())
+}

@@ -1,7 +1,7 @@
 use crate::glyphs::lists::{assert_clusters, assert_glyphs, glyph, glyphs};
 use vukhaso::internals::glyph_lists::cluster_order::ClusterOrder;
 use vukhaso::internals::glyph_lists::cluster_order::ClusterOrder::{Any, Monotone};
-use vukhaso::internals::glyph_lists::deletion::{keep_cluster, set_trailing_run};
+use vukhaso::internals::glyph_lists::deletion::{keep_cluster, merges_next, set_trailing_run};
 
 /// What was put out, if anything, and the current glyph with the two glyphs after it.
 static DELETIONS: [(
@@ -37,4 +37,11 @@ fn the_trailing_run_takes_the_flags_too() {
     let mut out = [glyph(7, 2), glyph(4, 15), glyph(4, 0)];
     set_trailing_run(&mut out, 1, 6);
     assert_glyphs(&out, &[(7, 2), (1, 14), (1, 6)]);
+}
+
+#[test]
+fn the_last_glyph_is_merged_with_none() {
+    assert!(merges_next(&[], &glyphs([0, 1])));
+    assert!(!merges_next(&[], &glyphs([1])));
+    assert!(!merges_next(&glyphs([3]), &glyphs([0, 1])));
 }

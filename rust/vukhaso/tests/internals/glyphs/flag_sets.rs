@@ -1,4 +1,4 @@
-use vukhaso::internals::glyph::BufferFlags;
+use vukhaso::internals::glyph::{BufferFlags, GlyphPropsFlags, SerializeFlags, UnicodeProps};
 
 #[test]
 fn sets_are_asked_and_changed() {
@@ -22,4 +22,16 @@ fn sets_are_asked_and_changed() {
     changed.toggle(twelve);
     changed.set(BufferFlags::VERIFY, true);
     assert!(changed.bits() == 0x24);
+}
+
+#[test]
+fn a_set_is_its_bits() {
+    let buffer = BufferFlags::VERIFY.union(BufferFlags::PRODUCE_UNSAFE_TO_CONCAT);
+    assert!([buffer.bits(), BufferFlags::all().bits()] == [0x60, 0xFF]);
+    let serialize = SerializeFlags::NO_CLUSTERS.union(SerializeFlags::NO_GLYPH_NAMES);
+    assert!([serialize.bits(), SerializeFlags::all().bits()] == [5, 63]);
+    let unicode = UnicodeProps::IGNORABLE.union(UnicodeProps::CF_ZWJ);
+    assert!([unicode.bits(), UnicodeProps::all().bits()] == [0x120, 0x7FF]);
+    let glyph = GlyphPropsFlags::MARK.union(GlyphPropsFlags::SUBSTITUTED);
+    assert!([glyph.bits(), GlyphPropsFlags::all().bits()] == [0x18, 0x7E]);
 }

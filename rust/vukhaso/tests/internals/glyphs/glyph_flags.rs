@@ -51,3 +51,12 @@ fn a_scan_of_two_parts_goes_by_the_least_of_both() {
         assert_masks(input, &masks[cut..]);
     }
 }
+
+#[test]
+fn a_range_is_marked_on_both_sides() {
+    let mut out = glyphs([0, 1]);
+    let mut input = [glyph(2, 1), glyph(3, 0)];
+    change(&mut out, &mut input, 1, 3, RangeChange::Mark { bits: 2 });
+    assert_masks(&out, &[0, 2]);
+    assert_masks(&input, &[3, 0]);
+}

@@ -40,3 +40,11 @@ fn a_script_that_is_written_either_way_is_taken_from_left_to_right() -> Result<(
     assert!(guess_direction(Some(script::ARABIC)) == Direction::RightToLeft);
     Ok(())
 }
+
+#[test]
+fn digits_tell_no_script() -> Result<(), Fail> {
+    let guessed = first_script(&[item('1'), item('2')]);
+    assert!(guessed.is_none());
+    assert!(guess_direction(guessed) == Direction::LeftToRight);
+    Ok(())
+}

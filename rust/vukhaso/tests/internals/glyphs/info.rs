@@ -1,4 +1,5 @@
-use vukhaso::internals::glyph::GlyphInfo;
+use vukhaso::internals::glyph::{GlyphInfo, glyph_flag, hb_glyph_info_t};
+use vukhaso::internals::text::GlyphId;
 
 #[test]
 fn properties_share_words() {
@@ -17,4 +18,16 @@ fn properties_share_words() {
     assert!(info.unicode_props() == 0xEC);
     info.unhide();
     assert!(info.var2 == 0xABCD_00AC);
+}
+
+#[test]
+fn an_item_is_a_character_or_a_glyph() {
+    let info = hb_glyph_info_t {
+        glyph_id: 'z' as u32,
+        mask: glyph_flag::UNSAFE_TO_BREAK,
+        ..hb_glyph_info_t::default()
+    };
+    assert!(info.as_char() == 'z');
+    assert!(info.as_glyph() == GlyphId(122));
+    assert!(info.unsafe_to_break());
 }

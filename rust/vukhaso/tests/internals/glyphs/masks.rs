@@ -1,5 +1,5 @@
 use crate::glyphs::lists::{assert_glyphs, glyph, glyphs};
-use vukhaso::internals::glyph_lists::masks::set_masks;
+use vukhaso::internals::glyph_lists::masks::{reset_masks, set_masks};
 
 #[test]
 fn the_full_range_holds_the_largest_cluster() {
@@ -18,4 +18,11 @@ fn bits_are_set_in_a_range_of_clusters() {
     set_masks(&mut info, 0, 0, 0, 3);
     set_masks(&mut info, 0, 2, 0, 2);
     assert_glyphs(&info, &[(0, 1), (1, 0x100), (2, 3)]);
+}
+
+#[test]
+fn each_mask_is_reset() {
+    let mut info = [glyph(0, 3), glyph(1, 256)];
+    reset_masks(&mut info, 5);
+    assert_glyphs(&info, &[(0, 5), (1, 5)]);
 }

@@ -1,4 +1,4 @@
-use crate::glyphs::lists::glyphs;
+use crate::glyphs::lists::{glyph, glyphs};
 use vukhaso::internals::glyph_lists::cluster_order::ClusterOrder::{Any, Monotone};
 use vukhaso::internals::glyph_lists::merged_head::{keeps_head, lowered_head};
 
@@ -46,4 +46,12 @@ fn a_head_is_lowered_where_its_run_begins_there() {
             "{count} of {input:?} behind {out:?}"
         );
     }
+}
+
+#[test]
+fn a_lowered_head_loses_its_flags() {
+    let input = [glyph(2, 15), glyph(1, 15)];
+    let head = lowered_head(&[], &input, 2, Monotone);
+    assert!(head.map(|head| head.mask) == Some(8));
+    assert!(lowered_head(&[], &input, 2, Any).is_none());
 }

@@ -1,4 +1,4 @@
-use crate::glyphs::lists::{assert_clusters, assert_glyphs, glyphs};
+use crate::glyphs::lists::{assert_clusters, assert_glyphs, glyph, glyphs};
 use vukhaso::internals::glyph_lists::cluster_order::ClusterOrder;
 use vukhaso::internals::glyph_lists::merging::{merge_input, merge_out, merge_slice};
 
@@ -86,4 +86,11 @@ fn a_merge_in_any_order_marks() {
         assert_glyphs(out, out_after);
         assert_glyphs(input, input_after);
     }
+}
+
+#[test]
+fn flags_go_where_the_cluster_changes() {
+    let mut info = [glyph(0, 0), glyph(1, 3), glyph(2, 3)];
+    merge_input(&mut [], &mut info, 1, 3, ClusterOrder::Monotone);
+    assert_glyphs(&info, &[(0, 0), (1, 3), (1, 0)]);
 }

@@ -1,12 +1,14 @@
 //! Tests of glyphs, of lists of them, of both sides of a buffer, and of the text of glyphs.
 
+mod algs;
+mod category;
 mod characters;
+mod cluster_numbers;
 mod cluster_reads;
 mod clusters;
 mod context;
 mod deletion;
 mod flag_sets;
-mod font;
 mod glyph_flags;
 mod guess;
 mod info;
@@ -15,6 +17,9 @@ mod masks;
 mod merge_range;
 mod merged_head;
 mod merging;
+mod names;
+mod normalize;
+mod position;
 mod reversal;
 mod row_search;
 mod serialize;
@@ -22,3 +27,4 @@ mod side_steps;
 mod sides;
 mod tables;
 mod unicode_props;
+mod wording;

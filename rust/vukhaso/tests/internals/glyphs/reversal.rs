@@ -1,3 +1,4 @@
+use crate::glyphs::lists::{assert_clusters, glyphs};
 use vukhaso::internals::glyph::GlyphPosition;
 use vukhaso::internals::glyph_lists::reversal::reverse;
 
@@ -16,4 +17,14 @@ fn positions_are_put_into_reverse_order() {
         assert!(position.x_offset == want, "{want}");
         assert!(position.var == 7, "{want}");
     }
+}
+
+#[test]
+fn glyphs_are_put_into_reverse_order() {
+    let mut even = glyphs([1, 2, 3, 4]);
+    reverse(&mut even);
+    assert_clusters(&even, &[4, 3, 2, 1]);
+    let mut odd = glyphs([1, 2, 3]);
+    reverse(&mut odd);
+    assert_clusters(&odd, &[3, 2, 1]);
 }

@@ -1,6 +1,6 @@
 use std::cmp::Ordering;
 use vukhaso::internals::glyph::row_search::{
-    holds, range_order, row_at, row_of, value_of, value_of_pair,
+    holds, range_order, rises, row_at, row_of, value_of, value_of_pair,
 };
 
 const LETTERS: [(char, u32); 3] = [('b', 1), ('d', 2), ('f', 3)];
@@ -40,4 +40,11 @@ fn a_range_holds_its_first_and_its_last() {
     assert!(range_order(5, 7, 4) == Ordering::Greater);
     assert!(range_order(5, 7, 8) == Ordering::Less);
     assert!(range_order(5, 7, 7) == Ordering::Equal);
+}
+
+#[test]
+fn rows_rise_strictly() {
+    assert!(rises(&[1, 2, 4], |a, b| a < b));
+    assert!(!rises(&[1, 2, 2], |a, b| a < b));
+    assert!(!rises(&[2, 1], |a, b| a < b));
 }

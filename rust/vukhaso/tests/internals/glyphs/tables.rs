@@ -1,5 +1,5 @@
 //! Tests of what is a table: keys that rise.
-use vukhaso::internals::glyph::{CombiningClasses, Compositions, Decompositions};
+use vukhaso::internals::glyph::{CombiningClasses, Compositions, Decompositions, Mirrors};
 
 fn are_classes(rows: &[(char, u8)]) -> bool {
     CombiningClasses::new(rows).is_some()
@@ -68,5 +68,24 @@ static DECOMPOSITIONS: [(&[(char, char, Option<char>)], bool); 5] = [
 fn decompositions_have_rising_rows() {
     for (rows, is_table) in &DECOMPOSITIONS {
         assert!(are_decompositions(rows) == *is_table, "{rows:?}");
+    }
+}
+
+fn are_mirrors(rows: &[(char, char)]) -> bool {
+    Mirrors::new(rows).is_some()
+}
+
+static MIRRORS: [(&[(char, char)], bool); 5] = [
+    (&[], true),
+    (&[('(', ')'), (')', '(')], true),
+    (&[('(', ')'), ('(', ')')], false),
+    (&[('b', 'x'), ('b', 'y')], false),
+    (&[('b', 'x'), ('a', 'y')], false),
+];
+
+#[test]
+fn mirrors_have_rising_rows() {
+    for (rows, is_table) in &MIRRORS {
+        assert!(are_mirrors(rows) == *is_table, "{rows:?}");
     }
 }

@@ -16,9 +16,9 @@ use vukhaso::internals::ot_gpos_tables::contour_points::NoPoints;
 use vukhaso::internals::ot_gpos_tables::instance::Instance;
 use vukhaso::internals::ot_gpos_tables::kern_table::KernTable;
 use vukhaso::internals::ot_layout::budget::Budget;
-use vukhaso::internals::ot_layout::lookup_list::LookupList;
 use vukhaso::internals::ot_layout::search::Search;
 use vukhaso::internals::ot_layout::skipping_iterator::LookupOptions;
+use vukhaso::internals::ot_lookups::lookup_list::LookupList;
 use vukhaso::memory::{AllocError, Vec};
 
 /// The bits of the only feature.

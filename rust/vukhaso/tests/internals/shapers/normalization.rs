@@ -4,13 +4,16 @@ use crate::Fail;
 use crate::shapers::upright::upright;
 use vukhaso::internals::buffer::{BufferClusterLevel, UnicodeBuffer, hb_buffer_t, hb_glyph_info_t};
 use vukhaso::internals::common::GlyphId;
-use vukhaso::internals::ot_normalization::glyph_info::{
-    clear_variation_selector, general_category, is_continuation, is_nonspacing_mark,
-    is_unicode_mark, is_unicode_space, is_variation_selector, modified_combining_class,
-    set_modified_combining_class, set_unicode_props, space_fallback,
-};
-use vukhaso::internals::ot_normalization::{allows_any_order, normalize};
+use vukhaso::internals::ot_normalization::normalize;
 use vukhaso::internals::ot_shape::{Face, OwnFunctions};
+use vukhaso::internals::script_items::allows_any_order;
+use vukhaso::internals::script_items::glyph_info::{
+    clear_variation_selector, is_continuation, is_nonspacing_mark, is_unicode_space,
+    is_variation_selector, set_unicode_props, space_fallback,
+};
+use vukhaso::internals::script_items::item::{
+    general_category, is_unicode_mark, modified_combining_class, set_modified_combining_class,
+};
 use vukhaso::internals::script_shapers::{ScriptPlan, ScriptShaper};
 
 /// The characters of a text with their properties, in a buffer whose invisible glyph is 1.

@@ -1,6 +1,7 @@
 use Rattle.std.proofs.Common.{◌≡◌, ◌∙◌, ap, rules, sym}
 use Rattle.ot_layout.specs.Match.{place_of}
-use Rattle.ot_layout.specs.SkippingIterator.{glyph_at, next_found, skip_of}
+use Rattle.ot_lookups.specs.LookupProps.{glyph_at}
+use Rattle.ot_layout.specs.SkippingIterator.{next_found, skip_of}
 use Rattle.ot_layout.specs.declared.skipping_iterator.Found.TheVariants.{At}
 use Rattle.ot_layout.specs.declared.skipping_iterator.Skip.TheVariants.{No}
 use Rattle.ot_layout.specs.declared.matcher.Matcher.TheVariants.{Any}

@@ -6,8 +6,8 @@ use super::pairs::{Composing, composite_of};
 use super::parts::parts_of;
 use crate::buffer::{hb_buffer_t, hb_glyph_info_t};
 use crate::font_functions::FontFunctions;
-use crate::ot_normalization::glyph_info::is_unicode_mark;
-use crate::ot_normalization::ties::{Tie, Ties, keep_tied};
+use crate::script_items::item::is_unicode_mark;
+use crate::script_items::{Tie, Ties, keep_tied};
 use crate::script_shapers::{NormalizationMode, ScriptPlan};
 
 /// Marks as unsafe to break what lies between such a character and a mark, where the text has one: in a

@@ -13,10 +13,9 @@ use crate::font_functions::FontFunctions;
 use crate::glyph::hb_unicode_funcs_t::NOT_SPACE;
 use crate::glyph::space_t;
 use crate::memory::AllocError;
-use crate::ot_normalization::glyph_info::{
-    is_unicode_mark, is_unicode_space, set_space_fallback, set_unicode_props,
-};
 use crate::passes::normalization::{Parts, add_font_parts};
+use crate::script_items::glyph_info::{is_unicode_space, set_space_fallback, set_unicode_props};
+use crate::script_items::item::is_unicode_mark;
 use crate::script_shapers::{NormalizationMode, ScriptShaper};
 
 /// The hyphen that no line is broken at, and the one that stands for it.

@@ -4,8 +4,8 @@
 
 use crate::buffer::hb_glyph_info_t;
 use crate::font_functions::FontFunctions;
-use crate::ot_normalization::glyph_info::is_unicode_mark;
 use crate::passes::normalization::CharacterPairs;
+use crate::script_items::item::is_unicode_mark;
 use crate::script_shapers::{ScriptPlan, ScriptShaper};
 
 /// How marks are composed.

@@ -8,8 +8,9 @@ use super::reordering::KeptClasses;
 use crate::buffer::{hb_buffer_t, hb_glyph_info_t};
 use crate::font_functions::FontFunctions;
 use crate::memory::AllocError;
-use crate::ot_normalization::glyph_info::{modified_combining_class, set_unicode_props};
 use crate::passes::normalization::next_turn;
+use crate::script_items::glyph_info::set_unicode_props;
+use crate::script_items::item::modified_combining_class;
 use crate::script_shapers::ScriptPlan;
 
 /// Composes marks with the last starter before them, unless a mark between blocks them. The first

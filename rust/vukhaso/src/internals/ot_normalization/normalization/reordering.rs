@@ -3,8 +3,8 @@
 //! The second round of normalization: marks in the order of their modified combining classes.
 
 use crate::buffer::{hb_buffer_t, hb_glyph_info_t};
-use crate::ot_normalization::glyph_info::modified_combining_class;
 use crate::passes::normalization::{MOST_MARKS, MarkClasses, order_run, run_end};
+use crate::script_items::item::modified_combining_class;
 use crate::script_shapers::ScriptShaper;
 
 /// The combining grapheme joiner, which keeps marks from being put in order.

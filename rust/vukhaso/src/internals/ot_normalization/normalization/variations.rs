@@ -8,7 +8,7 @@ use crate::buffer::{
 };
 use crate::font_functions::FontFunctions;
 use crate::memory::AllocError;
-use crate::ot_normalization::glyph_info::{clear_default_ignorable, set_variation_selector};
+use crate::script_items::glyph_info::{clear_default_ignorable, set_variation_selector};
 
 /// Reads so many characters. A character and a variation selector behind it become one where the font
 /// has a glyph for the two; nothing is taken apart.

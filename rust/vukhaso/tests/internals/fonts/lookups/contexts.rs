@@ -4,7 +4,8 @@ use crate::fonts::bytes::bytes_of;
 use crate::fonts::lookups::{JOINER, NON_JOINER, OPTIONS, fill, list_of};
 use vukhaso::internals::glyph::hb_glyph_info_t;
 use vukhaso::internals::ot_layout::context::fitting_rule;
-use vukhaso::internals::ot_layout::{ApplyContext, Budget, LookupList, Search, SkippingIterator};
+use vukhaso::internals::ot_layout::{ApplyContext, Budget, Search, SkippingIterator};
+use vukhaso::internals::ot_lookups::LookupList;
 use vukhaso::memory::AllocError;
 
 /// A table `GSUB` with one lookup, a chained context of glyphs, for the glyph 10. Its four rules ask for 11 behind it, for 12, for 13 as

@@ -3,17 +3,17 @@
 use crate::fonts::bytes::bytes_of;
 use vukhaso::internals::font_tables::coverage::Coverage;
 use vukhaso::internals::glyph::hb_glyph_info_t;
-use vukhaso::internals::ot_layout::first_glyphs::FirstGlyphs;
+use vukhaso::internals::glyph_digests::Digest;
+use vukhaso::internals::glyph_digests::first_glyphs::FirstGlyphs;
+use vukhaso::internals::glyph_digests::summary::{Summary, summary_of};
 use vukhaso::internals::ot_layout::glyph_table::Glyphs;
 use vukhaso::internals::ot_layout::ligature_parts::{
     component_count, ligature_component, ligature_id, ligature_properties, mark_properties,
 };
-use vukhaso::internals::ot_layout::lookup_props::covered_index;
-use vukhaso::internals::ot_layout::subtable::{behind_list, table_or_empty};
-use vukhaso::internals::ot_layout::summary::{Summary, summary_of};
-use vukhaso::internals::ot_layout::{
-    Budget, Digest, LookupOptions, LookupProps, Reach, SkippingIterator,
-};
+use vukhaso::internals::ot_layout::{Budget, LookupOptions, Reach, SkippingIterator};
+use vukhaso::internals::ot_lookups::LookupProps;
+use vukhaso::internals::ot_lookups::lookup_props::covered_index;
+use vukhaso::internals::ot_lookups::subtable::{behind_list, table_or_empty};
 use vukhaso::memory::AllocError;
 
 /// A glyph with these glyph properties and ligature properties.

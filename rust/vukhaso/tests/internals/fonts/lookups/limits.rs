@@ -2,7 +2,7 @@
 
 use crate::fonts::bytes::bytes_of;
 use crate::fonts::lookups::list_of;
-use vukhaso::internals::ot_layout::subtable_limit::is_refused;
+use vukhaso::internals::ot_lookups::subtable_limit::is_refused;
 use vukhaso::memory::{AllocError, Vec};
 
 /// A table `GSUB` of so many lookups, which share one of 512 subtables.

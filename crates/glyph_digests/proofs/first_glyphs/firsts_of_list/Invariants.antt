@@ -1,0 +1,12 @@
+use Rattle.std.proofs.Common.{ℕ, ◌≡◌, ◌<◌, Some, true}
+use Rattle.std.specs.Prelude.{option_and_then, slice_get}
+use Rattle.font_tables.specs.Bytes.{number_16}
+use Rattle.glyph_digests.specs.FirstGlyphs.{may_have_first}
+use Rattle.glyph_digests.proofs.first_glyphs.firsts_of_list.Given as goal
+
+-- the set has the glyphs of the rows so far
+abbrev pub invariant-loop-glyph : goal.invariant-loop-glyph
+invariant-loop-glyph l =
+    (row : ℕ) → row < l.glyph-index → (glyph : ℕ)
+    → option_and_then (λ chunk. number_16 chunk 0) (slice_get l.glyphs row) ≡ Some glyph
+    → may_have_first l.firsts glyph ≡ true

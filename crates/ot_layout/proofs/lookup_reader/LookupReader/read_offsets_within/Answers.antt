@@ -1,7 +1,0 @@
-use Rattle.ot_layout.proofs.NextLemmas.{nexts_appended}
-use Rattle.ot_layout.proofs.lookup_reader.LookupReader.read_offsets_within.Goals as goal
-
-pub invariant_of-self : goal.invariant_of-self
-invariant_of-self c = record {
-  nexts = nexts_appended _ _ _ _ _ c.push.ensures.items c.coverage-coverage.new.self.nexts;
-}

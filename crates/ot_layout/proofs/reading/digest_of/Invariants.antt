@@ -1,7 +1,0 @@
-use Rattle.std.specs.List.{AllWithin}
-use Rattle.ot_layout.specs.Digest.{HasMore}
-use Rattle.ot_layout.proofs.reading.digest_of.Given as goal
-
--- the digest has the glyphs of the subtables so far
-abbrev pub invariant-loop-subtable : goal.invariant-loop-subtable
-invariant-loop-subtable l = AllWithin (λ s. HasMore s.digest l.digest) l.subtables 0 l.subtable-index

@@ -1,7 +1,0 @@
-use Rattle.std.specs.List.{AllWithin}
-use Rattle.ot_layout.specs.FirstGlyphs.{HasMoreFirst}
-use Rattle.ot_layout.proofs.reading.firsts_of.Given as goal
-
--- the first glyphs of the subtables so far are there
-abbrev pub invariant-loop-subtable : goal.invariant-loop-subtable
-invariant-loop-subtable l = AllWithin (λ s. HasMoreFirst s.firsts l.firsts) l.subtables 0 l.subtable-index

@@ -1,9 +1,0 @@
-use Rattle.std.proofs.Common.{ℕ, ◌<◌}
-use Rattle.ot_layout.specs.Digest.{HasMore}
-use Rattle.ot_layout.specs.Seconds.{HasSecondAt}
-use Rattle.ot_layout.proofs.seconds.add_seconds.Given as goal
-
--- the digest has the second glyphs of the ligatures so far
-abbrev pub invariant-loop-index : goal.invariant-loop-index
-invariant-loop-index l =
-    HasMore l.fn.digest l.digest × ((k : ℕ) → k < l.index → HasSecondAt l.set k l.digest)

@@ -1,8 +1,0 @@
-use Rattle.std.proofs.Common.{ℕ, ◌<◌}
-use Rattle.ot_layout.specs.Seconds.{HasSecondOfEach}
-use Rattle.ot_layout.specs.Sets.{set_at}
-use Rattle.ot_layout.proofs.seconds.seconds_of.Given as goal
-
--- the digest has the second glyphs of the sets so far
-abbrev pub invariant-loop-index : goal.invariant-loop-index
-invariant-loop-index l = (k : ℕ) → k < l.index → HasSecondOfEach (set_at l.table k) l.digest

@@ -1,0 +1,478 @@
+//! Reads lookups and their subtables, as far as there is room.
+
+ghost use Rattle.std.specs.Prelude.{◌≡◌, ◌<◌, true, All, IfSome, is_some};
+ghost use Rattle.ot_lookups.specs.Forms.{is_chained_form, is_chained_type, is_covered_form};
+ghost use Rattle.ot_lookups.specs.LookupTables.{head_of, head_in, lookup_flag, mark_filtering_set, marks_at};
+ghost use Rattle.ot_lookups.specs.NextAsked.{IsNextAt, IsNextOf};
+ghost use Rattle.ot_lookups.specs.Seconds.{AreSeconds};
+
+use crate::formats::has_format;
+use crate::known::{
+    Known, Summed, known_at, make_room, quick_coverage, read_coverage, size_of, summed_of,
+};
+use crate::lookup_list::{Lookup, POSITIONING_EXTENSION};
+use crate::lookup_props::LookupProps;
+use crate::reading::{count_at, coverage_numbers, has_next, quick_classes, summaries_of_all};
+use crate::seconds::seconds_of;
+use crate::subtable::{
+    Form, MAX_CONTEXT_LENGTH, NextAsked, Subtable, behind_extension, behind_list, positioning_form,
+    substitution_form, table_or_empty,
+};
+use crate::subtable_limit::subtable_count;
+use font_tables::bytes::{part, table_at_16, tail, u16_at};
+use font_tables::class_definition::ClassDefinition;
+use font_tables::coverage::Coverage;
+use font_tables::gdef::Gdef;
+use glyph_digests::digest::Digest;
+use std::alloc::{AllocError, Global};
+
+/// How many subtables room is made for before they are read.
+const MOST_RESERVED: usize = 4096;
+
+/// The kind of ligatures in `GSUB`.
+const LIGATURES: u16 = 4;
+
+/// The bit of a lookup's flag that says that a set of marks follows the subtables.
+const USE_MARK_FILTERING_SET: u16 = 0x0010;
+
+/// Reads lookups, one after the other.
+#[derive(Drop, Debug)]
+pub(crate) struct LookupReader<'a> {
+    /// The subtables that were read.
+    pub(crate) subtables: Vec<Subtable<'a>>,
+    /// The coverages of contexts by coverages.
+    pub(crate) coverages: Vec<Coverage<'a>>,
+    /// The kind of an extension.
+    pub(crate) extension: u16,
+    /// Whether more had to be read than there was room for.
+    pub(crate) is_short: bool,
+    /// How many bytes may still be read.
+    room: usize,
+    /// How many ligatures may still be read for their second glyphs.
+    second_room: usize,
+    /// The coverages that were read last.
+    known: Vec<Known<'a>>,
+    ghost nexts: { All (IsNextOf coverages.items) subtables.items },
+}
+
+impl<'a> LookupReader<'a> {
+    /// A reader of a table that has read nothing.
+    pub(crate) fn new(alloc: Global, table: &[u8], extension: u16) -> Self {
+        LookupReader {
+            subtables: Vec::new(alloc),
+            coverages: Vec::new(alloc),
+            extension,
+            is_short: false,
+            room: table.len().saturating_mul(64),
+            second_room: table.len(),
+            known: Vec::new(alloc),
+        }
+    }
+
+    /// Makes room for so many subtables, as far as these are not too many.
+    pub(crate) fn make_room(&mut self, subtables: usize) -> Result<(), AllocError> {
+        self.subtables.reserve(subtables.min(MOST_RESERVED))?;
+        make_room(&mut self.known, subtables)
+    }
+
+    /// Whether the table is `GPOS`.
+    fn is_positioning(&self) -> bool {
+        self.extension == POSITIONING_EXTENSION
+    }
+
+    /// Reads the subtables of a lookup.
+    #[inline]
+    pub(crate) fn read_lookup(&mut self, table: &'a [u8]) -> Result<(), AllocError> {
+        let lookup_type = u16_at(table, 0).unwrap_or(0);
+        let count = subtable_count(table);
+        if self.pay(2 * count) && self.has_one_type(lookup_type, table, count) {
+            for index in 0..count {
+                if let Some(subtable) = table_at_16(table, 6 + 2 * index) {
+                    self.read_subtable(lookup_type, subtable)?;
+                }
+            }
+        }
+        Ok(())
+    }
+
+    /// A lookup, of which the subtables that were read begin with this one.
+    #[inline]
+    pub(crate) fn lookup_of(&self, table: &[u8], first: usize, gdef: &Gdef<'a>) -> Lookup<'a>
+        ensures { head_of result ≡ head_in gdef.now.table.now table.now }
+    {
+        let summaries = summaries_of_all(self.subtables_from(first));
+        Lookup {
+            lookup_type: u16_at(table, 0).unwrap_or(0),
+            lookup_props: props_of(table, gdef),
+            digest: summaries.digest,
+            firsts: summaries.firsts,
+            first,
+            last: self.subtables.len(),
+        }
+    }
+
+    /// The subtables from the one of this number on.
+    fn subtables_from(&self, first: usize) -> &[Subtable<'a>] {
+        if first <= self.subtables.len() {
+            &self.subtables[first..]
+        } else {
+            &[]
+        }
+    }
+
+    /// Whether the subtables of a lookup, so many, are no extensions, or of one type.
+    fn has_one_type(&self, lookup_type: u16, table: &[u8], count: usize) -> bool
+        requires { count < 65536 }
+    {
+        if lookup_type != self.extension {
+            return true;
+        }
+        let (first, _subtable) = behind_extension(table_or_empty(table, 6));
+        for index in 0..count {
+            let (lookup_type, _subtable) = behind_extension(table_or_empty(table, 6 + 2 * index));
+            if lookup_type != first {
+                return false;
+            }
+        }
+        true
+    }
+
+    /// Reads a subtable, or that behind an extension, if its type has its format.
+    #[inline]
+    fn read_subtable(&mut self, lookup_type: u16, table: &'a [u8]) -> Result<(), AllocError> {
+        let (lookup_type, table) = if lookup_type == self.extension {
+            behind_extension(table)
+        } else {
+            (lookup_type, table)
+        };
+        let format = u16_at(table, 0).unwrap_or(0);
+        if !has_format(self.is_positioning(), lookup_type, format) {
+            return Ok(());
+        }
+        let form = self.form_of(lookup_type, format);
+        match form {
+            Form::Plain | Form::Marks => self.read_plain(form, lookup_type, format, table),
+            _ => self.read_formed(form, lookup_type, format, table),
+        }
+    }
+
+    /// Reads a subtable of which nothing is parsed but its coverages, and the second glyphs of its ligatures.
+    #[inline]
+    fn read_plain(
+        &mut self,
+        form: Form,
+        lookup_type: u16,
+        format: u16,
+        table: &'a [u8],
+    ) -> Result<(), AllocError> {
+        let bases = self.bases_if(form == Form::Marks, table);
+        let first = self.summed(table_or_empty(table, 2));
+        let subtable = Subtable {
+            lookup_type,
+            format,
+            table,
+            coverage: first.coverage,
+            digest: first.summaries.digest,
+            firsts: first.summaries.firsts,
+            bases,
+            classes: ClassDefinition::new(&[]),
+            backtrack_classes: ClassDefinition::new(&[]),
+            lookahead_classes: ClassDefinition::new(&[]),
+            next: None,
+            first_coverage: self.coverages.len(),
+            seconds: self.seconds(lookup_type, table),
+        };
+        self.add_subtable(subtable)
+    }
+
+    /// Reads a subtable of another form. None of these has ligatures.
+    fn read_formed(
+        &mut self,
+        form: Form,
+        lookup_type: u16,
+        format: u16,
+        table: &'a [u8],
+    ) -> Result<(), AllocError>
+        requires { is_covered_form form ≡ true → is_chained_type lookup_type ≡ is_chained_form form }
+    {
+        let first_coverage = self.coverages.len();
+        self.read_coverages(form, table)?;
+        let first = self.first_of(form, table, first_coverage);
+        let subtable = Subtable {
+            lookup_type,
+            format,
+            table,
+            coverage: first.coverage,
+            digest: first.summaries.digest,
+            firsts: first.summaries.firsts,
+            bases: Coverage::new(&[]),
+            classes: self.input_classes(form, table),
+            backtrack_classes: self.classes_if(form == Form::ChainedClasses, table, 4),
+            lookahead_classes: self.ahead_classes(form, table),
+            next: self.next_asked(form, table, first_coverage),
+            first_coverage,
+            seconds: None,
+        };
+        self.add_subtable(subtable)
+    }
+
+    /// Adds a subtable.
+    fn add_subtable(&mut self, subtable: Subtable<'a>) -> Result<(), AllocError>
+        requires { IsNextOf self.old.coverages.items subtable }
+    {
+        self.subtables.push(subtable)?;
+        Ok(())
+    }
+
+    /// The form of a subtable.
+    fn form_of(&self, lookup_type: u16, format: u16) -> Form
+        ensures { is_covered_form result ≡ true → is_chained_type lookup_type ≡ is_chained_form result }
+    {
+        if self.is_positioning() {
+            positioning_form(lookup_type, format)
+        } else {
+            substitution_form(lookup_type, format)
+        }
+    }
+
+    /// Reads the coverages of a context by coverages, or around a reverse substitution.
+    fn read_coverages(&mut self, form: Form, table: &'a [u8]) -> Result<(), AllocError> {
+        match form {
+            Form::Coverages => { self.read_offsets(table, 6, u16_at(table, 2).unwrap_or(0)) }
+            Form::ChainedCoverages => {
+                let input = self.read_list(table, 2)?;
+                let lookahead = self.read_list(table, input)?;
+                let _records = self.read_list(table, lookahead)?;
+                Ok(())
+            }
+            Form::Reverse => {
+                let lookahead = self.read_list(table, 4)?;
+                let _substitutes = self.read_list(table, lookahead)?;
+                Ok(())
+            }
+            _ => Ok(()),
+        }
+    }
+
+    /// Reads the coverages of a list of offsets with their number before it, and says where it ends.
+    fn read_list(&mut self, table: &'a [u8], at: usize) -> Result<usize, AllocError> {
+        let count = u16_at(table, at).unwrap_or(0);
+        if count > 0 {
+            self.read_offsets(table, at.saturating_add(2), count)?;
+        }
+        Ok(behind_list(table, at))
+    }
+
+    /// Reads the coverages of so many offsets from a place on.
+    fn read_offsets(&mut self, table: &'a [u8], at: usize, count: u16) -> Result<(), AllocError> {
+        let count = usize::from(count);
+        let listed = part(table, at, 2 * count);
+        if listed.len() < 2 * count {
+            return self.read_offsets_within(table, at, count);
+        }
+        let (offsets, _) = listed.as_chunks::<2>();
+        for offset in offsets {
+            let coverage = self.coverage(behind_offset(table, *offset));
+            self.coverages.push(coverage)?;
+        }
+        Ok(())
+    }
+
+    /// The same, where the list is cut short: an offset behind its end leads nowhere.
+    #[inline(never)]
+    fn read_offsets_within(
+        &mut self,
+        table: &'a [u8],
+        at: usize,
+        count: usize,
+    ) -> Result<(), AllocError> {
+        for index in 0..count {
+            let coverage = self.coverage(table_or_empty(
+                table,
+                at.saturating_add(index.saturating_mul(2)),
+            ));
+            self.coverages.push(coverage)?;
+        }
+        Ok(())
+    }
+
+    /// The glyphs at the cursor: in a context by coverages the first of those of the input.
+    fn first_of(&mut self, form: Form, table: &'a [u8], first: usize) -> Summed<'a> {
+        let input = match form {
+            Form::Coverages => first,
+            Form::ChainedCoverages => {
+                first.saturating_add(usize::from(u16_at(table, 2).unwrap_or(0)))
+            }
+            _ => return self.summed(table_or_empty(table, 2)),
+        };
+        let coverage = match self.coverages.get(input) {
+            Some(coverage) => *coverage,
+            None => Coverage::new(&[]),
+        };
+        let table = coverage.table;
+        summed_of(&mut self.known, &self.subtables, table, size_of(table))
+    }
+
+    /// What a context by coverages asks of the glyph after the one at the cursor: the second coverage of the input, or where the
+    /// input has one, the first after it.
+    fn next_asked(&self, form: Form, table: &'a [u8], first: usize) -> Option<NextAsked<'a>>
+        ensures covered { is_some result ≡ true → is_covered_form form ≡ true }
+        ensures is { IfSome result (IsNextAt self.now.coverages.items first (is_chained_form form) table.now) }
+    {
+        let (backtrack, input, lookahead) = coverage_numbers(form, table)?;
+        if usize::from(input) > MAX_CONTEXT_LENGTH || !has_next(input, lookahead) {
+            return None;
+        }
+        let number = usize::from(backtrack) + usize::from(input.min(1));
+        let coverage = self.coverages.get(first.saturating_add(number))?;
+        Some(NextAsked::new(*coverage, input > 1))
+    }
+
+    /// The second glyphs of the ligatures of a subtable, if it has ligatures, each with a second glyph.
+    #[inline]
+    fn seconds(&mut self, lookup_type: u16, table: &[u8]) -> Option<Digest>
+        ensures seconds { AreSeconds table.now result }
+        ensures same { self.new.coverages.items ≡ self.old.coverages.items }
+    {
+        if self.is_positioning() || lookup_type != LIGATURES {
+            return None;
+        }
+        seconds_of(table, &mut self.second_room)
+    }
+
+    /// The classes of the input.
+    fn input_classes(&mut self, form: Form, table: &'a [u8]) -> ClassDefinition<'a> {
+        match form {
+            Form::Classes => self.classes(table_or_empty(table, 4)),
+            Form::ChainedClasses => self.classes(table_or_empty(table, 6)),
+            Form::PairClasses => self.classes(table_or_empty(table, 8)),
+            _ => ClassDefinition::new(&[]),
+        }
+    }
+
+    /// The classes of what stands after the input.
+    fn ahead_classes(&mut self, form: Form, table: &'a [u8]) -> ClassDefinition<'a> {
+        match form {
+            Form::ChainedClasses => self.classes(table_or_empty(table, 8)),
+            Form::PairClasses => self.classes(table_or_empty(table, 10)),
+            _ => ClassDefinition::new(&[]),
+        }
+    }
+
+    /// What marks are attached to, if there are any. It is not remembered: hardly any other subtable shares it.
+    fn bases_if(&mut self, are_there: bool, table: &'a [u8]) -> Coverage<'a> {
+        if !are_there {
+            return Coverage::new(&[]);
+        }
+        let table = table_or_empty(table, 4);
+        if self.pay(size_of(table)) {
+            quick_coverage(table)
+        } else {
+            Coverage::new(&[])
+        }
+    }
+
+    /// The classes that the offset at a place leads to, if there are any in this form.
+    fn classes_if(&mut self, is_there: bool, table: &'a [u8], at: usize) -> ClassDefinition<'a> {
+        if is_there {
+            self.classes(table_or_empty(table, at))
+        } else {
+            ClassDefinition::new(&[])
+        }
+    }
+
+    /// The coverage in these bytes, or one that covers nothing where there is no room, or it is slow to ask.
+    #[inline]
+    fn coverage(&mut self, table: &'a [u8]) -> Coverage<'a> {
+        if let Some(known) = known_at(&self.known, table)
+            && known.size <= self.room
+        {
+            self.room -= known.size;
+            return known.coverage;
+        }
+        self.read_coverage(table)
+    }
+
+    /// The same, where it is read.
+    #[inline(never)]
+    fn read_coverage(&mut self, table: &'a [u8]) -> Coverage<'a> {
+        if self.pay(size_of(table)) {
+            read_coverage(&mut self.known, table)
+        } else {
+            Coverage::new(&[])
+        }
+    }
+
+    /// The same coverage, with the summaries of its glyphs.
+    fn summed(&mut self, table: &'a [u8]) -> Summed<'a> {
+        let size = size_of(table);
+        if self.pay(size) {
+            summed_of(&mut self.known, &self.subtables, table, size)
+        } else {
+            Summed::none()
+        }
+    }
+
+    /// The classes in these bytes, or none where there is no room, or they are slow to ask.
+    fn classes(&mut self, table: &'a [u8]) -> ClassDefinition<'a> {
+        if self.pay_for_classes(table) {
+            quick_classes(table)
+        } else {
+            ClassDefinition::new(&[])
+        }
+    }
+
+    /// Whether a table of classes may be read: its ranges are gone through, and a list of classes is not.
+    fn pay_for_classes(&mut self, table: &[u8]) -> bool {
+        let size = if u16_at(table, 0) == Some(2) { 6 } else { 0 };
+        self.pay(4 + size * count_at(table, 2))
+    }
+
+    /// Whether so many bytes may be read.
+    fn pay(&mut self, bytes: usize) -> bool {
+        if self.room < bytes {
+            self.room = 0;
+            self.is_short = true;
+            return false;
+        }
+        self.room -= bytes;
+        true
+    }
+}
+
+/// The table that an offset leads to, or an empty one.
+fn behind_offset(table: &[u8], offset: [u8; 2]) -> &[u8] {
+    match u16::from_be_bytes(offset) {
+        0 => &[],
+        offset => tail(table, usize::from(offset)),
+    }
+}
+
+/// What a lookup passes over.
+#[inline]
+fn props_of<'a>(table: &[u8], gdef: &Gdef<'a>) -> LookupProps<'a>
+    ensures flags { result.flags ≡ lookup_flag table.now }
+    ensures marks { result.marks.table.now ≡ mark_filtering_set gdef.now.table.now table.now }
+{
+    let flags = u16_at(table, 2).unwrap_or(0);
+    let marks = if flags & USE_MARK_FILTERING_SET != 0 {
+        marks_of(table, gdef)
+    } else {
+        &[]
+    };
+    LookupProps {
+        flags,
+        marks: Coverage::new(marks),
+    }
+}
+
+/// The mark filtering set of a lookup that has one: its number stands after the offsets of the subtables.
+#[inline(never)]
+fn marks_of<'a>(table: &[u8], gdef: &Gdef<'a>) -> &'a [u8]
+    ensures { result.now ≡ marks_at gdef.now.table.now table.now }
+{
+    match u16_at(table, 6 + 2 * count_at(table, 4)) {
+        Some(set) => gdef.mark_glyph_set(set).table,
+        None => &[],
+    }
+}

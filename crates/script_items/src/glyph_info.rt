@@ -1,0 +1,137 @@
+//! What the steps of shaping ask of a character, and set: its Unicode properties, in the bits that HarfBuzz's
+//! `hb-ot-layout.hh` gives them. They are the general category and flags in the low byte, and in the high byte what is kept of a
+//! character of that category: of a mark the class that it is reordered by, of a space its kind.
+
+ghost use Rattle.std.specs.Prelude.{◌≡◌};
+ghost use Rattle.script_items.specs.Graphemes.{is_continuation};
+ghost use Rattle.script_items.specs.Marks as marks;
+ghost use Rattle.script_items.specs.Spaces as spaces;
+ghost use Rattle.script_items.specs.Selectors as selectors;
+
+use crate::item::{general_category, set_modified_combining_class};
+use shaping_buffer::rb_glyph::hb_gc::{
+    RB_UNICODE_GENERAL_CATEGORY_FORMAT, RB_UNICODE_GENERAL_CATEGORY_NON_SPACING_MARK,
+    RB_UNICODE_GENERAL_CATEGORY_SPACE_SEPARATOR,
+};
+use shaping_buffer::rb_glyph::space_t;
+use shaping_buffer::{CombiningClasses, Flags, UnicodeProps, hb_glyph_info_t};
+use ucd_normal::canonical_combining_class;
+
+/// The flags in the low byte of the properties, above the general category.
+const LOW_FLAGS: u16 = 0xE0;
+
+/// Sets the general category, and takes away what the high byte says.
+fn set_general_category(info: &mut hb_glyph_info_t, category: u16)
+    ensures { info.new ≡ selectors.with_category category info.old }
+{
+    info.set_unicode_props(category | info.unicode_props() & LOW_FLAGS);
+}
+
+/// Sets the properties of a character that is not shaped yet, and adds what is to be remembered of the text to its scratch flags:
+/// whether it has characters past ASCII, ones that are invisible by default, and grapheme joiners. Nothing is set where the number is
+/// that of no character.
+#[inline]
+pub fn set_unicode_props(info: &mut hb_glyph_info_t, scratch_flags: &mut u32)
+    ensures only { info.new ≡ record info.old { var2 = info.new.var2 } }
+    ensures cluster { info.new.cluster ≡ info.old.cluster }
+{
+    let Some(character) = char::from_u32(info.glyph_id) else {
+        return;
+    };
+    let row = [(character, combining_class(character))];
+    if let Some(classes) = CombiningClasses::new(&row) {
+        info.init_unicode_props(scratch_flags, &classes);
+    }
+    set_telugu_class(info);
+}
+
+/// The canonical combining class of a character. The first that has one is U+0300.
+fn combining_class(character: char) -> u8 {
+    if character < '\u{300}' {
+        0
+    } else {
+        canonical_combining_class(character)
+    }
+}
+
+/// Gives the Telugu length marks the classes that HarfBuzz reorders them by: they come before a halant.
+fn set_telugu_class(info: &mut hb_glyph_info_t)
+    ensures { info.new ≡ record info.old { var2 = info.new.var2 } }
+{
+    match info.glyph_id {
+        0xC55 => set_modified_combining_class(info, 4),
+        0xC56 => set_modified_combining_class(info, 5),
+        _ => {}
+    }
+}
+
+/// Whether the character is a mark without width.
+pub fn is_nonspacing_mark(info: &hb_glyph_info_t) -> bool
+    ensures { result ≡ marks.is_nonspacing info.now }
+{
+    general_category(info) == RB_UNICODE_GENERAL_CATEGORY_NON_SPACING_MARK
+}
+
+/// Whether the character goes on with the grapheme before it.
+pub fn is_continuation(info: &hb_glyph_info_t) -> bool
+    ensures { result ≡ is_continuation info.now }
+{
+    info.unicode_props() & UnicodeProps::CONTINUATION.bits() != 0
+}
+
+/// Whether the item is a variation selector that the font does not know.
+pub fn is_variation_selector(info: &hb_glyph_info_t) -> bool
+    ensures { result ≡ selectors.is_unknown_selector info.now }
+{
+    general_category(info) == RB_UNICODE_GENERAL_CATEGORY_FORMAT
+        && info.unicode_props() & UnicodeProps::CF_VS.bits() != 0
+}
+
+/// Says that the item is a variation selector that the font does not know.
+pub fn set_variation_selector(info: &mut hb_glyph_info_t)
+    ensures { info.new.cluster ≡ info.old.cluster }
+{
+    set_general_category(info, RB_UNICODE_GENERAL_CATEGORY_FORMAT as u16);
+    info.set_unicode_props(info.unicode_props() | UnicodeProps::CF_VS.bits());
+}
+
+/// Takes back that the item is a variation selector that the font does not know: it is a mark without width then.
+pub fn clear_variation_selector(info: &mut hb_glyph_info_t)
+    ensures is { info.new ≡ selectors.with_category 12 info.old }
+    ensures cluster { info.new.cluster ≡ info.old.cluster }
+{
+    set_general_category(info, RB_UNICODE_GENERAL_CATEGORY_NON_SPACING_MARK as u16);
+}
+
+/// Says that the character is visible by default.
+pub fn clear_default_ignorable(info: &mut hb_glyph_info_t)
+    ensures { info.new.cluster ≡ info.old.cluster }
+{
+    info.set_unicode_props(info.unicode_props() & !UnicodeProps::IGNORABLE.bits());
+}
+
+/// Whether the character is a space.
+pub fn is_unicode_space(info: &hb_glyph_info_t) -> bool
+    ensures { result ≡ spaces.is_space info.now }
+{
+    general_category(info) == RB_UNICODE_GENERAL_CATEGORY_SPACE_SEPARATOR
+}
+
+/// Keeps the kind of a space that the font has no glyph for.
+pub fn set_space_fallback(info: &mut hb_glyph_info_t, space: space_t)
+    ensures { info.new.cluster ≡ info.old.cluster }
+{
+    info.set_unicode_props(u16::from(space) * 256 | info.unicode_props() & 0xFF);
+}
+
+/// The kind of a space that the font has no glyph for, as the module `hb_unicode_funcs_t` of `rb_glyph` numbers them; 0 for any
+/// other item.
+pub fn space_fallback(info: &hb_glyph_info_t) -> u8
+    ensures { result ≡ spaces.kept_kind info.now }
+{
+    if is_unicode_space(info) {
+        (info.unicode_props() >> 8) as u8
+    } else {
+        0
+    }
+}

@@ -1,7 +1,0 @@
-use Rattle.std.proofs.Common.{arith}
-use Rattle.std.proofs.lemmas.Grind.{common_steps}
-use Rattle.shape_command.proofs.RunLemmas.{of_all}
-use Rattle.shape_command.proofs.run.answer_command.Goals as goal
-
-pub returns-in-Some : goal.returns-in-Some
-returns-in-Some g c = of_all c.answer_options.result (grind (arith, common_steps))

@@ -1,0 +1,35 @@
+//! The file of the font that a command line names.
+
+ghost use Rattle.std.specs.Prelude.{◌≡◌, Some, OnOk};
+
+use crate::errors::CommandError;
+use shape_fonts::font_file::FontFile;
+use shape_options::options::{FontChoice, Options};
+use shape_options::words::options_of;
+use std::rt::Files;
+
+/// Reads the file of the font, unless it was read last.
+pub fn read_font_file<'a, F: Files + AllocGlobal>(
+    rt: &F,
+    options: &Options<'a>,
+    file: &mut FontFile,
+) -> Result<(), CommandError<'a>>
+    ensures { OnOk result (file.new.path ≡ Some options.now.font_file.now) }
+{
+    let path = options.font_file;
+    match file.read(rt, path) {
+        Ok(()) => Ok(()),
+        Err(error) => Err(CommandError::Font { file: path, error }),
+    }
+}
+
+/// Reads the file of the font that words name, unless it was read last, and says which font it is.
+pub fn read_font<'a, F: Files + AllocGlobal>(
+    rt: &F,
+    words: &'a [&'a str],
+    file: &mut FontFile,
+) -> Result<FontChoice, CommandError<'a>> {
+    let options = options_of(rt.alloc(), words)?;
+    read_font_file(rt, &options, file)?;
+    Ok(options.font)
+}

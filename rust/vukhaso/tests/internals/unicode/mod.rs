@@ -1,0 +1,3 @@
+//! Tests of the tables of Unicode.
+
+mod rows;
