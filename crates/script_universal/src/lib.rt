@@ -2,7 +2,6 @@
 #![tactic(auto)]
 
 pub use khmer::plan::KhmerPlan;
-pub use universal::category::{UniversalCategory, universal_category_of};
 pub use universal::plan::{FormMasks, UniversalPlan};
 pub use universal::{FormLookup, flag_forms};
 

@@ -1,7 +1,6 @@
 //! The universal shaper, of scripts that have no shaper of their own (OpenType, "Creating and supporting OpenType fonts for the
 //! Universal Shaping Engine"): HarfBuzz's `hb-ot-shaper-use.cc`.
 
-pub mod category;
 pub mod features;
 mod flags;
 pub mod item;

@@ -46,6 +46,7 @@ pub mod script_syllables;
 pub mod script_universal;
 pub mod text;
 pub mod unicode_tables;
+pub mod universal_categories;
 pub mod verification;
 
 #[cfg(feature = "std")]

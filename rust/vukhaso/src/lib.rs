@@ -77,7 +77,7 @@ use internals::{
     ot_characters, ot_gpos, ot_gpos_tables, ot_gsub, ot_layout, ot_lookups, ot_map,
     ot_normalization, ot_plan, ot_positions, ot_shape, ot_tags, runs, script_indic, script_items,
     script_joining, script_letters, script_shapers, script_syllables, script_universal, text,
-    verification,
+    universal_categories, verification,
 };
 
 pub use facade::*;

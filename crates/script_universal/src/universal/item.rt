@@ -4,11 +4,11 @@ ghost use Rattle.std.specs.Prelude.{◌≡◌, false};
 ghost use Rattle.glyph_lists.specs.Clusters.{clusters};
 ghost use Rattle.shaping_buffer.specs.KeepsClusters.{KeepsClusters};
 
-use crate::universal::category::{UniversalCategory, universal_category_of};
-use UniversalCategory::*;
 use script_items::item::is_unicode_mark;
 use script_syllables::item::{category_byte, is_ligated, set_category_byte};
 use shaping_buffer::{hb_buffer_t, hb_glyph_info_t};
+use universal_categories::UniversalCategory::{self, *};
+use universal_categories::universal_category_of;
 
 /// Whether an item has a category.
 pub(crate) fn is(info: &hb_glyph_info_t, category: UniversalCategory) -> bool {

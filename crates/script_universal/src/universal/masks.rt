@@ -4,12 +4,12 @@ ghost use Rattle.std.specs.Prelude.{◌≡◌, false};
 ghost use Rattle.glyph_lists.specs.Clusters.{clusters};
 ghost use Rattle.shaping_buffer.specs.KeepsClusters.{KeepsClusters};
 
-use crate::universal::category::UniversalCategory;
 use crate::universal::item::is;
 use crate::universal::plan::{BROKEN, FormMasks};
 use script_syllables::item::add_mask;
 use script_syllables::syllables::{kind_at, syllable_end};
 use shaping_buffer::{hb_buffer_t, hb_glyph_info_t};
+use universal_categories::UniversalCategory;
 
 /// How many items may make a reph.
 const REPH_LENGTH: usize = 3;

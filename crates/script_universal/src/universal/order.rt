@@ -3,7 +3,6 @@
 ghost use Rattle.std.specs.Prelude.{◌≡◌, false};
 ghost use Rattle.script_syllables.specs.KeepsNumbers.{KeepsNumbers};
 
-use crate::universal::category::UniversalCategory;
 use crate::universal::item::{is, is_behind_base, is_halant};
 use crate::universal::plan::BROKEN;
 use script_syllables::clusters::merge;
@@ -11,6 +10,7 @@ use script_syllables::moves::{move_first, move_last};
 use script_syllables::syllables::{kind_at, syllable};
 use shaping_buffer::{hb_buffer_t, hb_glyph_info_t};
 use std::ops::Range;
+use universal_categories::UniversalCategory;
 
 /// The last kind of syllables of letters, and the kind of symbols.
 const STANDARD: u8 = 2;

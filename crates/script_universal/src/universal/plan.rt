@@ -4,7 +4,6 @@ ghost use Rattle.std.specs.Prelude.{◌≡◌, true, false, IfOk};
 ghost use Rattle.shaping_buffer.specs.KeepsClusters.{KeepsClusters};
 ghost use Rattle.script_syllables.specs.KeepsNumbers.{KeepsNumbers};
 
-use crate::universal::category::UniversalCategory;
 use crate::universal::item::mark_passed_over;
 use crate::universal::machine::universal_machine;
 use crate::universal::masks::{mask_forms, mask_rephs};
@@ -17,6 +16,7 @@ use script_syllables::syllables::find_syllables;
 use script_syllables::{FontForms, Position};
 use shaping_buffer::hb_buffer_t;
 use std::alloc::AllocError;
+use universal_categories::UniversalCategory;
 
 /// The kind of syllables without a base.
 pub(crate) const BROKEN: u8 = 7;

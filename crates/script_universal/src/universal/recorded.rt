@@ -4,12 +4,12 @@ ghost use Rattle.std.specs.Prelude.{◌≡◌, false};
 ghost use Rattle.glyph_lists.specs.Clusters.{clusters};
 ghost use Rattle.shaping_buffer.specs.KeepsClusters.{KeepsClusters};
 
-use crate::universal::category::UniversalCategory;
 use crate::universal::item::set;
 use rb_glyph::{Flags, GlyphPropsFlags};
 use script_syllables::item::is_substituted;
 use script_syllables::syllables::syllable_end;
 use shaping_buffer::{hb_buffer_t, hb_glyph_info_t};
+use universal_categories::UniversalCategory;
 
 /// Forgets which glyphs lookups put there.
 pub(crate) fn forget_substitutions(buffer: &mut hb_buffer_t)

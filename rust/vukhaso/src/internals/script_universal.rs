@@ -3,7 +3,6 @@
 //! The universal shaper, and the shapers of Khmer and of Myanmar, which work as it does: one order for each syllable.
 
 pub use khmer::plan::KhmerPlan;
-pub use universal::category::{UniversalCategory, universal_category_of};
 pub use universal::plan::{FormMasks, UniversalPlan};
 pub use universal::{FormLookup, flag_forms};
 

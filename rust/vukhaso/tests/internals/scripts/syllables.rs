@@ -5,7 +5,7 @@ use vukhaso::internals::script_syllables::{Category, Machine, Position, category
 use vukhaso::internals::script_universal::khmer::machine::khmer_machine;
 use vukhaso::internals::script_universal::myanmar::machine::myanmar_machine;
 use vukhaso::internals::script_universal::universal::machine::universal_machine;
-use vukhaso::internals::script_universal::{UniversalCategory, universal_category_of};
+use vukhaso::internals::universal_categories::{UniversalCategory, universal_category_of};
 
 /// The letter KA, the vowel sign I on its left, the Khmer sign of a subjoined letter, and a Latin letter.
 static CHARACTERS: [(u32, Category, Position); 4] = [

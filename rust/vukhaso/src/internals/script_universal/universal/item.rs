@@ -5,8 +5,8 @@
 use crate::buffer::{hb_buffer_t, hb_glyph_info_t};
 use crate::script_items::item::is_unicode_mark;
 use crate::script_syllables::item::{category_byte, is_ligated, set_category_byte};
-use crate::script_universal::universal::category::{UniversalCategory, universal_category_of};
-use UniversalCategory::*;
+use crate::universal_categories::UniversalCategory::{self, *};
+use crate::universal_categories::universal_category_of;
 
 /// Whether an item has a category.
 pub(crate) fn is(info: &hb_glyph_info_t, category: UniversalCategory) -> bool {

@@ -5,9 +5,9 @@
 use crate::buffer::{hb_buffer_t, hb_glyph_info_t};
 use crate::script_syllables::item::add_mask;
 use crate::script_syllables::syllables::{kind_at, syllable_end};
-use crate::script_universal::universal::category::UniversalCategory;
 use crate::script_universal::universal::item::is;
 use crate::script_universal::universal::plan::{BROKEN, FormMasks};
+use crate::universal_categories::UniversalCategory;
 
 /// How many items may make a reph.
 const REPH_LENGTH: usize = 3;

@@ -6,9 +6,9 @@ use crate::buffer::{hb_buffer_t, hb_glyph_info_t};
 use crate::script_syllables::clusters::merge;
 use crate::script_syllables::moves::{move_first, move_last};
 use crate::script_syllables::syllables::{kind_at, syllable};
-use crate::script_universal::universal::category::UniversalCategory;
 use crate::script_universal::universal::item::{is, is_behind_base, is_halant};
 use crate::script_universal::universal::plan::BROKEN;
+use crate::universal_categories::UniversalCategory;
 use core::ops::Range;
 
 /// The last kind of syllables of letters, and the kind of symbols.

@@ -9,7 +9,6 @@ use crate::script_syllables::dotted_circle::{CircleKind, insert_dotted_circles};
 use crate::script_syllables::grammar::Grammar;
 use crate::script_syllables::syllables::find_syllables;
 use crate::script_syllables::{FontForms, Position};
-use crate::script_universal::universal::category::UniversalCategory;
 use crate::script_universal::universal::item::mark_passed_over;
 use crate::script_universal::universal::machine::universal_machine;
 use crate::script_universal::universal::masks::{mask_forms, mask_rephs};
@@ -17,6 +16,7 @@ use crate::script_universal::universal::order::order_syllables;
 use crate::script_universal::universal::recorded::{
     forget_substitutions, record_prefs, record_rephs,
 };
+use crate::universal_categories::UniversalCategory;
 
 /// The kind of syllables without a base.
 pub(crate) const BROKEN: u8 = 7;

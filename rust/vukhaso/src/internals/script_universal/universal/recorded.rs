@@ -6,8 +6,8 @@ use crate::buffer::{hb_buffer_t, hb_glyph_info_t};
 use crate::glyph::GlyphPropsFlags;
 use crate::script_syllables::item::is_substituted;
 use crate::script_syllables::syllables::syllable_end;
-use crate::script_universal::universal::category::UniversalCategory;
 use crate::script_universal::universal::item::set;
+use crate::universal_categories::UniversalCategory;
 
 /// Forgets which glyphs lookups put there.
 ///

@@ -1,9 +1,7 @@
-// Written by tools/plain_rust from crates/script_universal. Do not edit.
-
 //! What characters are in syllables of the universal shaper, as `tools/universal_categories` writes it from the files of Unicode
 //! 18.0.0, with Microsoft's additions.
 
-use crate::script_universal::universal::category::UniversalCategory::{self, *};
+use crate::UniversalCategory::{self, *};
 
 /// The characters that have a category, from the first of each row to its last.
 pub(crate) static ROWS: [(u32, u32, UniversalCategory); 1060] = [

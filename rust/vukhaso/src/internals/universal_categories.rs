@@ -1,4 +1,4 @@
-// Written by tools/plain_rust from crates/script_universal. Do not edit.
+// Written by tools/plain_rust from crates/universal_categories. Do not edit.
 
 //! What a character is in a syllable of the universal shaper.
 

@@ -1,7 +1,9 @@
+// Written by tools/plain_rust from crates/universal_categories. Do not edit.
+
 //! What characters are in syllables of the universal shaper, as `tools/universal_categories` writes it from the files of Unicode
 //! 18.0.0, with Microsoft's additions.
 
-use crate::universal::category::UniversalCategory::{self, *};
+use crate::universal_categories::UniversalCategory::{self, *};
 
 /// The characters that have a category, from the first of each row to its last.
 pub(crate) static ROWS: [(u32, u32, UniversalCategory); 1060] = [

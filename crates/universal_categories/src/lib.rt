@@ -1,4 +1,5 @@
 //! What a character is in a syllable of the universal shaper.
+#![tactic(auto)]
 
 mod rows;
 
