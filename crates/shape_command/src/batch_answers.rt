@@ -6,9 +6,8 @@ use crate::run::answer_options;
 use shape_fonts::font_file::FontFile;
 use shape_lines::batch::{has_next, say};
 use shape_lines::errors::CommandError;
-use shape_lines::fonts::read_font;
+use shape_lines::fonts::read_named_font;
 use shape_options::batch::words_of_line;
-use shape_options::options::FontChoice;
 use shape_options::words::options_of;
 use std::io::{self, BufRead, Write};
 use std::rt::Files;
@@ -51,7 +50,7 @@ fn answer_run<F: Files + AllocGlobal + Eprint, R: BufRead, W: Write>(
     input: &mut R,
     output: &mut W,
 ) -> io::Result<Run> {
-    if let Some(choice) = read_named_font(rt, line.as_slice(), file, output)? {
+    if let Some(choice) = read_named_font(rt, NAME, line.as_slice(), file, output)? {
         match LoadedFont::new(rt.alloc(), file, choice)? {
             Some(mut font) => return answer_with(rt, &mut font, line, input, output),
             None => writeln!(output, "error: {}: Failed loading font face", file.path())?,
@@ -62,28 +61,6 @@ fn answer_run<F: Files + AllocGlobal + Eprint, R: BufRead, W: Write>(
         has_line: has_next(rt.alloc(), input, line)?,
         all_shaped: false,
     })
-}
-
-/// Reads the file of the font that a line names, unless it was read last, and says which font it is. `None` where there
-/// is no such file, which is said.
-fn read_named_font<F: Files + AllocGlobal, W: Write>(
-    rt: &F,
-    line: &[u8],
-    file: &mut FontFile,
-    output: &mut W,
-) -> io::Result<Option<FontChoice>> {
-    let Ok(line) = std::str::from_utf8(line) else {
-        writeln!(output, "error: not UTF-8")?;
-        return Ok(None);
-    };
-    let words = words_of_line(rt.alloc(), NAME, line)?;
-    match read_font(rt, words.as_slice(), file) {
-        Ok(choice) => Ok(Some(choice)),
-        Err(error) => {
-            say(rt.alloc(), output, error)?;
-            Ok(None)
-        }
-    }
 }
 
 /// Answers the line that was read with its font, and those behind it that name the same one.

@@ -2,7 +2,7 @@
 
 ghost use Rattle.std.specs.Prelude.{◌≡◌, false};
 
-use crate::loaded_font::LoadedFont;
+use crate::loaded_font::{LoadedFont, take_names};
 use ot_shape::{Face, FaceNames, ShapeError, Step, Watch, shape_watched};
 use shape_lines::errors::CommandError;
 use shape_lines::picture::{Picture, RowName};
@@ -46,7 +46,7 @@ pub(crate) fn draw_text<'a, W: Write>(
     output: &mut W,
 ) -> Result<bool, CommandError<'a>> {
     let text = given_text(&options.text)?;
-    let names = font.take_names(alloc)?;
+    let names = take_names(alloc, &mut font.names, &font.face)?;
     let drawn = draw(alloc, &font.face, &names, &options.line, text, output);
     font.names = Some(names);
     drawn

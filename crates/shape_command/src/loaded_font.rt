@@ -10,7 +10,6 @@ use ot_shape::{Face, FaceNames, Variation};
 use shape_fonts::font_file::FontFile;
 use shape_options::options::{FontChoice, Options};
 use std::alloc::{AllocError, Global};
-use std::mem;
 
 /// A font at a size, with the names of its glyphs once they were asked for.
 #[derive(Drop)]
@@ -77,22 +76,19 @@ impl<'f> LoadedFont<'f> {
         self.names = None;
         Ok(())
     }
+}
 
-    /// The names of the glyphs, which are found where they are asked for the first time. The caller puts them back.
-    pub(crate) fn take_names(&mut self, alloc: Global) -> Result<FaceNames<'f>, AllocError>
-        ensures { self.new ≡ record self.old { names = None } }
-    {
-        match self.names.take() {
-            Some(names) => Ok(names),
-            None => FaceNames::new(alloc, &self.face),
-        }
-    }
-
-    /// What is kept of the last line. The caller puts it back.
-    pub(crate) fn take_kept(&mut self) -> KeptLine
-        ensures { result ≡ self.old.kept }
-    {
-        mem::replace(&mut self.kept, KeptLine::new())
+/// The names of the glyphs of a font, which are found where they are asked for the first time. The caller puts them back.
+pub(crate) fn take_names<'f>(
+    alloc: Global,
+    names: &mut Option<FaceNames<'f>>,
+    face: &Face<'f>,
+) -> Result<FaceNames<'f>, AllocError>
+    ensures { names.new ≡ None }
+{
+    match names.take() {
+        Some(names) => Ok(names),
+        None => FaceNames::new(alloc, face),
     }
 }
 

@@ -4,7 +4,7 @@ ghost use Rattle.std.specs.Prelude.{◌≡◌, true, false, IsErr, IsSome, OnOk}
 
 use crate::drawing::draw_text;
 use crate::lines::{answer_lines, answer_paragraph};
-use crate::loaded_font::LoadedFont;
+use crate::loaded_font::{LoadedFont, take_names};
 use crate::shaper::{KeptLine, LineShaper, LineState};
 use shape_fonts::font_file::FontFile;
 use shape_fonts::synthetic_font::{LineNames, SyntheticFont, SyntheticNames};
@@ -15,9 +15,9 @@ use shape_options::options::{Options, Shaper, TextSource};
 use shape_options::words::options_of;
 use shaping_buffer::{Flags, GlyphId, NoGlyphNames, SerializeFlags};
 use std::convert::AsStr;
-use std::fs;
 use std::io::{self, BufRead, BufReader, BufWriter, Write};
 use std::rt::Files;
+use std::{fs, mem};
 
 /// Answers a command line, whose first word is the name of the program, and says whether each line was shaped. The
 /// font's file is read unless it was read last, and held for the next command line.
@@ -104,7 +104,7 @@ fn answer_into<'a, F: Files + AllocGlobal + Eprint, R: BufRead, W: Write>(
     if !asks_font(options.output.flags) && !options.line.glyphs {
         return answer_named(rt, options, font, NoGlyphNames, input, output).0;
     }
-    let names = font.take_names(rt.alloc())?;
+    let names = take_names(rt.alloc(), &mut font.names, &font.face)?;
     if synthetic_of(font, options).is_plain() {
         let (answered, names) = answer_named(rt, options, font, names, input, output);
         font.names = Some(names);
@@ -126,7 +126,7 @@ fn answer_named<'a, F: Files + AllocGlobal + Eprint, N: LineNames, R: BufRead, W
     input: &mut R,
     output: &mut W,
 ) -> (Result<bool, CommandError<'a>>, N) {
-    let kept = font.take_kept();
+    let kept = mem::replace(&mut font.kept, KeptLine::new());
     let shaper = shaper_of(font, options);
     let mut state = LineState {
         names,

@@ -10,10 +10,9 @@ use crate::host::io::{self, BufRead, Write};
 use crate::host::{AllocGlobal, Eprint, Files};
 use crate::lines::batch::{has_next, say};
 use crate::lines::errors::CommandError;
-use crate::lines::fonts::read_font;
+use crate::lines::fonts::read_named_font;
 use crate::memory::Vec;
 use crate::options::batch::words_of_line;
-use crate::options::options::FontChoice;
 use crate::options::words::options_of;
 
 /// How the lines of one font were answered.
@@ -53,7 +52,7 @@ fn answer_run<F: Files + AllocGlobal + Eprint, R: BufRead, W: Write>(
     input: &mut R,
     output: &mut W,
 ) -> io::Result<Run> {
-    if let Some(choice) = read_named_font(rt, line.as_slice(), file, output)? {
+    if let Some(choice) = read_named_font(rt, NAME, line.as_slice(), file, output)? {
         match LoadedFont::new(file, choice)? {
             Some(mut font) => return answer_with(rt, &mut font, line, input, output),
             None => writeln!(output, "error: {}: Failed loading font face", file.path())?,
@@ -64,28 +63,6 @@ fn answer_run<F: Files + AllocGlobal + Eprint, R: BufRead, W: Write>(
         has_line: has_next(input, line)?,
         all_shaped: false,
     })
-}
-
-/// Reads the file of the font that a line names, unless it was read last, and says which font it is.
-/// `None` where there is no such file, which is said.
-fn read_named_font<F: Files + AllocGlobal, W: Write>(
-    rt: &F,
-    line: &[u8],
-    file: &mut FontFile,
-    output: &mut W,
-) -> io::Result<Option<FontChoice>> {
-    let Ok(line) = std::str::from_utf8(line) else {
-        writeln!(output, "error: not UTF-8")?;
-        return Ok(None);
-    };
-    let words = words_of_line(NAME, line)?;
-    match read_font(rt, words.as_slice(), file) {
-        Ok(choice) => Ok(Some(choice)),
-        Err(error) => {
-            say(output, error)?;
-            Ok(None)
-        }
-    }
 }
 
 /// Answers the line that was read with its font, and those behind it that name the same one.

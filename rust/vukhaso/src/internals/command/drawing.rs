@@ -3,7 +3,7 @@
 //! A text whose shaping is drawn step by step.
 
 use crate::buffer::hb_buffer_t;
-use crate::command::loaded_font::LoadedFont;
+use crate::command::loaded_font::{LoadedFont, take_names};
 use crate::host::io::Write;
 use crate::lines::errors::CommandError;
 use crate::lines::picture::{Picture, RowName};
@@ -45,7 +45,7 @@ pub(crate) fn draw_text<'a, W: Write>(
     output: &mut W,
 ) -> Result<bool, CommandError<'a>> {
     let text = given_text(&options.text)?;
-    let names = font.take_names()?;
+    let names = take_names(&mut font.names, &font.face)?;
     let drawn = draw(&font.face, &names, &options.line, text, output);
     font.names = Some(names);
     drawn

@@ -8,7 +8,6 @@ use crate::fonts::font_file::FontFile;
 use crate::memory::{AllocError, Vec};
 use crate::options::options::{FontChoice, Options};
 use crate::ot_shape::{Face, FaceNames, Variation};
-use std::mem;
 
 /// A font at a size, with the names of its glyphs once they were asked for.
 pub(crate) struct LoadedFont<'f> {
@@ -65,19 +64,17 @@ impl<'f> LoadedFont<'f> {
         self.names = None;
         Ok(())
     }
+}
 
-    /// The names of the glyphs, which are found where they are asked for the first time. The caller puts
-    /// them back.
-    pub(crate) fn take_names(&mut self) -> Result<FaceNames<'f>, AllocError> {
-        match self.names.take() {
-            Some(names) => Ok(names),
-            None => FaceNames::new(&self.face),
-        }
-    }
-
-    /// What is kept of the last line. The caller puts it back.
-    pub(crate) fn take_kept(&mut self) -> KeptLine {
-        mem::replace(&mut self.kept, KeptLine::new())
+/// The names of the glyphs of a font, which are found where they are asked for the first time. The
+/// caller puts them back.
+pub(crate) fn take_names<'f>(
+    names: &mut Option<FaceNames<'f>>,
+    face: &Face<'f>,
+) -> Result<FaceNames<'f>, AllocError> {
+    match names.take() {
+        Some(names) => Ok(names),
+        None => FaceNames::new(face),
     }
 }
 

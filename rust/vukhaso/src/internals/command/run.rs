@@ -5,7 +5,7 @@
 use crate::buffer::{GlyphId, NoGlyphNames, SerializeFlags};
 use crate::command::drawing::draw_text;
 use crate::command::lines::{answer_lines, answer_paragraph};
-use crate::command::loaded_font::LoadedFont;
+use crate::command::loaded_font::{LoadedFont, take_names};
 use crate::command::shaper::{KeptLine, LineShaper, LineState};
 use crate::fonts::font_file::FontFile;
 use crate::fonts::synthetic_font::{LineNames, SyntheticFont, SyntheticNames};
@@ -18,6 +18,7 @@ use crate::lines::fonts::read_font_file;
 use crate::lines::reading::Reading;
 use crate::options::options::{Options, Shaper, TextSource};
 use crate::options::words::options_of;
+use std::mem;
 
 /// Answers a command line, whose first word is the name of the program, and says whether each line was
 /// shaped. The font's file is read unless it was read last, and held for the next command line.
@@ -113,7 +114,7 @@ fn answer_into<'a, F: Files + AllocGlobal + Eprint, R: BufRead, W: Write>(
     if !asks_font(options.output.flags) && !options.line.glyphs {
         return answer_named(rt, options, font, NoGlyphNames, input, output).0;
     }
-    let names = font.take_names()?;
+    let names = take_names(&mut font.names, &font.face)?;
     if synthetic_of(font, options).is_plain() {
         let (answered, names) = answer_named(rt, options, font, names, input, output);
         font.names = Some(names);
@@ -135,7 +136,7 @@ fn answer_named<'a, F: Files + AllocGlobal + Eprint, N: LineNames, R: BufRead, W
     input: &mut R,
     output: &mut W,
 ) -> (Result<bool, CommandError<'a>>, N) {
-    let kept = font.take_kept();
+    let kept = mem::replace(&mut font.kept, KeptLine::new());
     let shaper = shaper_of(font, options);
     let mut state = LineState {
         names,

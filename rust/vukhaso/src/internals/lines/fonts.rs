@@ -3,8 +3,11 @@
 //! The file of the font that a command line names.
 
 use crate::fonts::font_file::FontFile;
+use crate::host::io::{self, Write};
 use crate::host::{AllocGlobal, Files};
+use crate::lines::batch::say;
 use crate::lines::errors::CommandError;
+use crate::options::batch::words_of_line;
 use crate::options::options::{FontChoice, Options};
 use crate::options::words::options_of;
 
@@ -33,6 +36,18 @@ pub fn read_font_file<'a, F: Files + AllocGlobal>(
 }
 
 /// Reads the file of the font that words name, unless it was read last, and says which font it is.
+fn read_font<'a, F: Files + AllocGlobal>(
+    rt: &F,
+    words: &'a [&'a str],
+    file: &mut FontFile,
+) -> Result<FontChoice, CommandError<'a>> {
+    let options = options_of(words)?;
+    read_font_file(rt, &options, file)?;
+    Ok(options.font)
+}
+
+/// Reads the file of the font that a line of a batch names, unless it was read last, and says which
+/// font it is. `None` where there is no such file, which is said.
 ///
 /// # Errors
 ///
@@ -42,12 +57,23 @@ pub fn read_font_file<'a, F: Files + AllocGlobal>(
 ///
 /// That it returns.
 #[inline]
-pub fn read_font<'a, F: Files + AllocGlobal>(
+pub fn read_named_font<F: Files + AllocGlobal, W: Write>(
     rt: &F,
-    words: &'a [&'a str],
+    program: &str,
+    line: &[u8],
     file: &mut FontFile,
-) -> Result<FontChoice, CommandError<'a>> {
-    let options = options_of(words)?;
-    read_font_file(rt, &options, file)?;
-    Ok(options.font)
+    output: &mut W,
+) -> io::Result<Option<FontChoice>> {
+    let Ok(line) = std::str::from_utf8(line) else {
+        writeln!(output, "error: not UTF-8")?;
+        return Ok(None);
+    };
+    let words = words_of_line(program, line)?;
+    match read_font(rt, words.as_slice(), file) {
+        Ok(choice) => Ok(Some(choice)),
+        Err(error) => {
+            say(output, error)?;
+            Ok(None)
+        }
+    }
 }
