@@ -66,7 +66,7 @@ impl<'a> Face<'a> {
     /// share the face is kept by an `Arc` of std, which ends the program where there is no memory for it.
     pub fn parse(data: &'a [u8], index: u32) -> Result<Face<'a>, FaceError> {
         let mut face = Face::parse_if_there(data, index)?.ok_or(FaceError::NoFont)?;
-        face.lookups = face.lookups.counted();
+        face.lookups.count();
         Ok(face)
     }
 
@@ -75,7 +75,7 @@ impl<'a> Face<'a> {
     pub fn from_slice(data: &'a [u8], index: u32) -> Option<Face<'a>> {
         // by `parse` the face would be moved twice more
         let mut face = Face::parse_if_there(data, index).ok()??;
-        face.lookups = face.lookups.counted();
+        face.lookups.count();
         Some(face)
     }
 }
