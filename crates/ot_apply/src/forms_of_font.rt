@@ -4,12 +4,11 @@ ghost use Rattle.std.specs.Prelude.{◌≡◌, true, false, IfOk};
 ghost use Rattle.ot_apply.specs.ClusterOrder.{KeepsStage};
 ghost use Rattle.shaping_buffer.specs.KeepsClusters.{KeepsClusters};
 
-use crate::lookups::budget_of;
 use font_face::Face;
 use font_functions::FontFunctions;
 use ot_layout::{Budget, would_substitute};
 use ot_map::{LayoutPlan, Pause};
-use ot_plan::{FormPlaces, TextPlan};
+use ot_plan::{FormPlaces, TextPlan, budget_of};
 use script_syllables::{FontForms, FormFeature};
 use shaping_buffer::hb_buffer_t;
 use std::alloc::AllocError;

@@ -2,12 +2,16 @@
 --
 -- Lookups write positions, which the list of glyphs does not have (`PositionsLemmas`), and glyph flags, which change masks
 -- alone (`FlagLemmas`): so the list keeps its length, its glyphs and its clusters. The next glyph of a pair is the one
--- after, where that counts (`PairLemmas`).
+-- after, where that counts (`PairLemmas`); in kerning by the table `kern` it may stand before (`KerningLemmas`). A lookup does its
+-- glyphs in order (`RunsLemmas`).
 
 pub mod AttachmentLemmas
 pub mod CursiveLemmas
 pub mod FlagLemmas
+pub mod KerningLemmas
 pub mod LookupLemmas
 pub mod OffsetsLemmas
 pub mod PairLemmas
 pub mod PositionsLemmas
+pub mod RunsLemmas
+pub mod RunsRows

@@ -4,10 +4,12 @@ pub mod Bases
 pub mod Chains
 pub mod Cursive
 pub mod Flags
+pub mod Kerning
 pub mod Lookups
 pub mod Offsets
 pub mod PairAdjustments
 pub mod Placing
+pub mod Runs
 pub mod Spans
 pub mod Subtables
 pub mod Visit

@@ -1,43 +1,33 @@
 //! Kerning by the table `kern` (HarfBuzz, `hb_ot_layout_kern`, `hb_kern_machine_t`).
 
-ghost use Rattle.std.specs.Prelude.{◌≡◌, false, IsSome};
+ghost use Rattle.std.specs.Prelude.{◌≡◌, ℕ, ◌<◌, ◌+◌, ◌||◌, IsSome, false, suc, length, drop, map, nat_le, option_map};
 ghost use Rattle.ot_gpos.specs.Flags.{KeepsBits, untouched};
+ghost use Rattle.ot_gpos.specs.Kerning as kerning;
+ghost use Rattle.ot_gpos.specs.Kerning.{PassesMarks, machine_of, pair_table};
 ghost use Rattle.shaping_buffer.specs.KeepsClusters.{KeepsClusters};
 ghost use Rattle.ot_gpos.specs.Placing.{changed_at, advanced, shifted, pair_kerned};
 
 use crate::chains::ATTACH_TYPE_CURSIVE;
 use crate::flags::{mark_attached, mark_break, mark_concat};
+use crate::kern_pairs::{KernMachine, KernPair, in_line, pair_of, passes_over_pair};
 use font_tables::coverage::Coverage;
 use font_tables::scale::Scale;
-use ot_gpos_tables::kern_table::{KernSubtable, KernTable};
-use ot_layout::matcher::Matcher;
-use ot_layout::skipping_iterator::{Found, LookupOptions, SkippingIterator};
+use ot_gpos_tables::kern_table::{KernCoverage, KernSubtable, KernTable};
+use ot_layout::skipping_iterator::{LookupOptions, SkippingIterator};
 use ot_lookups::lookup_props::LookupProps;
 use rb_common::Direction;
-use rb_glyph::{GlyphPosition, hb_glyph_info_t};
+use rb_glyph::GlyphPosition;
 use shaping_buffer::hb_buffer_t;
 
 /// The bit of a lookup's flag that passes over marks.
 const IGNORE_MARKS: u16 = 0x0008;
-
-/// A pair of glyphs in the order in which a line shows them.
-#[derive(Clone, Copy, Debug)]
-struct KernPair {
-    /// The place of the left or upper glyph.
-    left: usize,
-    /// The place of the right or lower one.
-    right: usize,
-    /// How far the right glyph is moved from the left one.
-    value: i32,
-    /// Whether it is moved across the line.
-    is_cross_stream: bool,
-}
 
 /// Moves pairs of glyphs by the subtables for lines of this direction, where the glyphs have one of the options' bits.
 #[tactic(auto, using(crate::proofs::FlagLemmas::keeps_by))]
 pub fn kern(buffer: &mut hb_buffer_t, table: &KernTable, scale: &Scale, options: &LookupOptions)
     requires closed { buffer.old.have_output ≡ false }
     requires placed { IsSome buffer.old.positions }
+    ensures is { buffer.new ≡ kerning.kerned table.now scale.now options.now buffer.old }
     ensures closed { buffer.new.have_output ≡ false }
     ensures placed { IsSome buffer.new.positions }
     ensures rest { untouched buffer.new ≡ untouched buffer.old }
@@ -50,202 +40,314 @@ pub fn kern(buffer: &mut hb_buffer_t, table: &KernTable, scale: &Scale, options:
 }
 
 /// Moves pairs of glyphs by each subtable.
-#[tactic(auto, using(crate::proofs::FlagLemmas::untouched_with_positions))]
+#[tactic(auto, unfolding(crate::specs::Kerning::kerned))]
 fn kern_by_all(buffer: &mut hb_buffer_t, table: &KernTable, scale: &Scale, options: &LookupOptions)
     requires closed { buffer.old.have_output ≡ false }
     requires placed { IsSome buffer.old.positions }
+    ensures is { buffer.new ≡ kerning.kerned table.now scale.now options.now buffer.old }
     ensures closed { buffer.new.have_output ≡ false }
     ensures placed { IsSome buffer.new.positions }
     ensures rest { untouched buffer.new ≡ untouched buffer.old }
     ensures flags { KeepsBits buffer.old.input buffer.new.input }
 {
     mark_concat(buffer, 0, usize::MAX);
+    let iterator = over_bases(options);
+    let mut is_chained = false;
+    let mut at = table.start();
+    for number in 0..table.count {
+        let Some(subtable) = subtable_of(table, at, number) else {
+            return;
+        };
+        let direction = direction_of(buffer);
+        let machine = KernMachine {
+            subtable,
+            iterator,
+            scale: *scale,
+            direction,
+        };
+        is_chained = apply(buffer, &machine, is_chained);
+        at = at.saturating_add(subtable.length);
+    }
+}
+
+/// The direction of the line.
+fn direction_of(buffer: &hb_buffer_t) -> Direction
+    ensures { result ≡ buffer.now.direction }
+{
+    buffer.direction
+}
+
+/// The subtable that begins at a place, whose number is this one.
+fn subtable_of<'a>(table: &KernTable<'a>, at: usize, number: u32) -> Option<KernSubtable<'a>>
+    ensures { option_map pair_table result
+        ≡ kerning.table_at table.now.is_apple (nat_le table.now.count (number + 1)) (drop at table.now.table.now) }
+{
+    table.subtable_at(at, number)
+}
+
+/// The iterator over the glyphs that are kerned: it passes over marks.
+fn over_bases<'a>(options: &LookupOptions) -> SkippingIterator<'a>
+    ensures passes { PassesMarks result }
+    ensures mask { result.mask ≡ options.now.mask }
+    ensures joiners { result.ignores_zwj ≡ options.now.auto_zwj }
+{
     let lookup_props = LookupProps {
         flags: IGNORE_MARKS,
         marks: Coverage::new(&[]),
     };
-    let iterator = SkippingIterator::over_input(lookup_props, options, true);
-    let mut is_chained = false;
-    let mut at = table.start();
-    for number in 0..table.count {
-        let Some(subtable) = table.subtable_at(at, number) else {
-            return;
-        };
-        at = at.saturating_add(subtable.length);
-        if is_for(&subtable, buffer.direction) {
-            if subtable.coverage.is_cross_stream && !is_chained {
-                is_chained = true;
-                let direction = buffer.direction;
-                chain_all(buffer.pos_mut(), direction);
-            }
-            kern_by(buffer, &subtable, &iterator, scale);
-        }
+    SkippingIterator::over_input(lookup_props, options, true)
+}
+
+/// Moves pairs of glyphs by a subtable, if it is for lines of this direction. The first that moves glyphs across the line joins all of
+/// them before. Says whether they are joined.
+#[tactic(auto, unfolding(crate::specs::Kerning::applied))]
+fn apply(buffer: &mut hb_buffer_t, machine: &KernMachine, is_chained: bool) -> bool
+    requires closed { buffer.old.have_output ≡ false }
+    requires placed { IsSome buffer.old.positions }
+    requires passes { PassesMarks machine.now.iterator }
+    ensures is { buffer.new ≡ kerning.applied (machine_of machine.now) is_chained buffer.old }
+    ensures chained { result ≡ (is_chained || kerning.chains (machine_of machine.now)) }
+    ensures closed { buffer.new.have_output ≡ false }
+    ensures placed { IsSome buffer.new.positions }
+    ensures rest { untouched buffer.new ≡ untouched buffer.old }
+    ensures flags { KeepsBits buffer.old.input buffer.new.input }
+{
+    if is_for(&machine.subtable.coverage, machine.direction) {
+        chain(buffer, machine, is_chained);
+        kern_by(buffer, machine);
+        is_chained || machine.subtable.coverage.is_cross_stream
+    } else {
+        is_chained
     }
 }
 
 /// Whether a subtable is for lines of this direction.
-fn is_for(subtable: &KernSubtable, direction: Direction) -> bool {
-    !subtable.coverage.is_variation && subtable.coverage.is_horizontal == direction.is_horizontal()
-}
-
-/// Joins each glyph to the one before it in the line: what moves one across the line moves all that follow.
-fn chain_all(positions: &mut [GlyphPosition], direction: Direction) {
-    let chain = if direction.is_forward() { -1 } else { 1 };
-    for position in positions.iter_mut() {
-        position.set_attach_type(ATTACH_TYPE_CURSIVE);
-        position.set_attach_chain(chain);
+fn is_for(coverage: &KernCoverage, direction: Direction) -> bool
+    ensures { result ≡ kerning.is_for coverage.now direction }
+{
+    if coverage.is_variation {
+        false
+    } else if direction.is_horizontal() {
+        coverage.is_horizontal
+    } else {
+        !coverage.is_horizontal
     }
 }
 
-/// Moves pairs of glyphs by a subtable. In lines that run backward the iterator begins at the end, as the left glyph of a pair stands there.
-fn kern_by(
-    buffer: &mut hb_buffer_t,
-    subtable: &KernSubtable,
-    iterator: &SkippingIterator,
-    scale: &Scale,
-)
+/// Joins all glyphs, if the subtable moves glyphs across the line and they are not joined yet.
+#[tactic(auto, using(crate::proofs::KerningLemmas::with_positions_chained, crate::proofs::FlagLemmas::untouched_with_positions), unfolding(crate::specs::Kerning::chained))]
+fn chain(buffer: &mut hb_buffer_t, machine: &KernMachine, is_chained: bool)
     requires closed { buffer.old.have_output ≡ false }
     requires placed { IsSome buffer.old.positions }
+    ensures is { buffer.new ≡ kerning.chained (machine_of machine.now) is_chained buffer.old }
+    ensures closed { buffer.new.have_output ≡ false }
+    ensures placed { IsSome buffer.new.positions }
+    ensures rest { untouched buffer.new ≡ untouched buffer.old }
+    ensures flags { KeepsBits buffer.old.input buffer.new.input }
+{
+    if machine.subtable.coverage.is_cross_stream && !is_chained {
+        let chain = chain_back(machine.direction);
+        chain_all(buffer.pos_mut(), chain);
+    }
+}
+
+/// The chain to the glyph before, in the order of the line.
+fn chain_back(direction: Direction) -> i16
+    ensures { result ≡ kerning.chain_back direction }
+{
+    if direction.is_forward() { -1 } else { 1 }
+}
+
+/// Joins each glyph to the one before it in the line: what moves one across the line moves all that follow.
+#[tactic(auto, using(glyph_lists::proofs::MapLemmas::walks))]
+fn chain_all(positions: &mut [GlyphPosition], chain: i16)
+    ensures { positions.new ≡ map (kerning.joined chain) positions.old }
+{
+    for position in positions.iter_mut() {
+        join(position, chain);
+    }
+}
+
+/// Joins a glyph to another by this chain.
+#[tactic(auto, unfolding(crate::specs::Kerning::joined))]
+fn join(position: &mut GlyphPosition, chain: i16)
+    ensures { position.new ≡ kerning.joined chain position.old }
+{
+    position.set_attach_type(ATTACH_TYPE_CURSIVE);
+    position.set_attach_chain(chain);
+}
+
+/// Moves pairs of glyphs by a subtable, one after the other in the order of the line.
+#[tactic(auto, unfolding(crate::specs::Kerning::line_kerned))]
+fn kern_by(buffer: &mut hb_buffer_t, machine: &KernMachine)
+    requires closed { buffer.old.have_output ≡ false }
+    requires placed { IsSome buffer.old.positions }
+    requires passes { PassesMarks machine.now.iterator }
+    ensures is { buffer.new ≡ kerning.line_kerned (machine_of machine.now) buffer.old }
     ensures closed { buffer.new.have_output ≡ false }
     ensures placed { IsSome buffer.new.positions }
     ensures rest { untouched buffer.new ≡ untouched buffer.old }
     ensures flags { KeepsBits buffer.old.input buffer.new.input }
 {
     let len = buffer.len();
-    let is_backward = buffer.direction.is_backward();
-    let mut next = 0;
-    let mut first_crossed = None;
-    for turn in 0..len {
-        let left = if is_backward { len - 1 - turn } else { turn };
-        if next <= turn
-            && let Some(pair) = pair_of(buffer.info(), subtable, iterator, left, is_backward)
-        {
-            next = if is_backward {
-                len.saturating_sub(1).saturating_sub(pair.right)
+    let mut turn = 0;
+    let mut across = None;
+    for _step in 0..len {
+        if turn >= buffer.len() {
+            mark_rest(buffer, machine.direction, across);
+            return;
+        }
+        turn = kern_at(buffer, machine, turn, &mut across);
+    }
+    mark_rest(buffer, machine.direction, across);
+}
+
+/// Moves the pair of the glyph whose turn it is, and says whose turn it is then: that of its right glyph, or of the next one where there
+/// is no pair.
+#[tactic(auto, using(crate::proofs::KerningLemmas::walked_pair, crate::proofs::KerningLemmas::walked_lone))]
+fn kern_at(
+    buffer: &mut hb_buffer_t,
+    machine: &KernMachine,
+    turn: usize,
+    across: &mut Option<usize>,
+) -> usize
+    requires closed { buffer.old.have_output ≡ false }
+    requires placed { IsSome buffer.old.positions }
+    requires passes { PassesMarks machine.now.iterator }
+    requires there { turn < length buffer.old.input }
+    ensures is { (steps : ℕ) → kerning.walked (suc steps) (machine_of machine.now) turn across.old buffer.old
+        ≡ kerning.walked steps (machine_of machine.now) result across.new buffer.new }
+    ensures closed { buffer.new.have_output ≡ false }
+    ensures placed { IsSome buffer.new.positions }
+    ensures rest { untouched buffer.new ≡ untouched buffer.old }
+    ensures flags { KeepsBits buffer.old.input buffer.new.input }
+{
+    let len = buffer.len();
+    let left = in_line(machine.direction, len, turn);
+    let Some(pair) = pair_of(buffer.info(), machine, left) else {
+        return turn + 1;
+    };
+    try_pair(buffer, machine, &pair);
+    *across = first_crossed(&pair, *across);
+    in_line(machine.direction, len, pair.right)
+}
+
+/// The left glyph of the first pair that is moved across the line.
+fn first_crossed(pair: &KernPair, across: Option<usize>) -> Option<usize>
+    ensures { result ≡ kerning.first_crossed pair.now across }
+{
+    match across {
+        Some(place) => Some(place),
+        None => {
+            if pair.is_cross_stream && pair.value != 0 {
+                Some(pair.left)
             } else {
-                pair.right
-            };
-            if pair.value != 0 {
-                kern_pair(buffer, &pair, scale);
-                if pair.is_cross_stream && first_crossed.is_none() {
-                    first_crossed = Some(left);
-                }
-            } else if passes_over_pair(buffer.info(), subtable, iterator, &pair) {
-                mark_passed(buffer, &pair);
+                None
             }
         }
-    }
-    if let Some(left) = first_crossed {
-        mark_rest(buffer, left, is_backward);
     }
 }
 
 /// Marks that no glyph from a place on, in the order of the line, may be parted from it: what is moved across the line moves all that
 /// follow.
-fn mark_rest(buffer: &mut hb_buffer_t, left: usize, is_backward: bool)
+fn mark_rest(buffer: &mut hb_buffer_t, direction: Direction, across: Option<usize>)
     requires closed { buffer.old.have_output ≡ false }
     requires placed { IsSome buffer.old.positions }
+    ensures is { buffer.new ≡ kerning.rest_marked direction across buffer.old }
     ensures closed { buffer.new.have_output ≡ false }
     ensures placed { IsSome buffer.new.positions }
     ensures rest { untouched buffer.new ≡ untouched buffer.old }
     ensures flags { KeepsBits buffer.old.input buffer.new.input }
 {
-    if is_backward {
-        mark_break(buffer, 0, left.saturating_add(1));
+    match across {
+        Some(left) => {
+            if direction.is_forward() {
+                mark_break(buffer, left, usize::MAX);
+            } else {
+                mark_break(buffer, 0, left.saturating_add(1));
+            }
+        }
+        None => {}
+    }
+}
+
+/// Moves a pair that has a value. What another passes over may not be parted, where it might be kerned.
+#[tactic(auto, unfolding(crate::specs::Kerning::pair_tried))]
+fn try_pair(buffer: &mut hb_buffer_t, machine: &KernMachine, pair: &KernPair)
+    requires closed { buffer.old.have_output ≡ false }
+    requires placed { IsSome buffer.old.positions }
+    requires left { pair.now.left < length buffer.old.input }
+    requires right { pair.now.right < length buffer.old.input }
+    ensures is { buffer.new ≡ kerning.pair_tried (machine_of machine.now) pair.now buffer.old }
+    ensures closed { buffer.new.have_output ≡ false }
+    ensures placed { IsSome buffer.new.positions }
+    ensures rest { untouched buffer.new ≡ untouched buffer.old }
+    ensures flags { KeepsBits buffer.old.input buffer.new.input }
+{
+    if pair.value == 0 {
+        mark_unkerned(buffer, machine, pair);
     } else {
-        mark_break(buffer, left, usize::MAX);
+        kern_pair(buffer, machine, pair);
     }
 }
 
-/// The pair of the glyph at a place and the next one in the line that is not passed over; `None` where there is none, or the glyph has
-/// not the bits that are asked for.
-fn pair_of(
-    glyphs: &[hb_glyph_info_t],
-    subtable: &KernSubtable,
-    iterator: &SkippingIterator,
-    left: usize,
-    is_backward: bool,
-) -> Option<KernPair> {
-    let glyph = glyphs.get(left)?;
-    if glyph.mask & iterator.mask == 0 {
-        return None;
-    }
-    let Found::At(right) = neighbour(glyphs, iterator, left, is_backward) else {
-        return None;
-    };
-    Some(KernPair {
-        left,
-        right,
-        value: i32::from(value_of(subtable, glyph, glyphs.get(right)?)),
-        is_cross_stream: subtable.coverage.is_cross_stream,
-    })
-}
-
-/// The next glyph in the line.
-fn neighbour(
-    glyphs: &[hb_glyph_info_t],
-    iterator: &SkippingIterator,
-    left: usize,
-    is_backward: bool,
-) -> Found {
-    if left >= glyphs.len() {
-        Found::End
-    } else if is_backward {
-        iterator.previous(&Matcher::Shown, glyphs, left)
-    } else {
-        iterator.next(&Matcher::Shown, glyphs, left)
-    }
-}
-
-/// Whether one of the glyphs between those of a pair would be kerned with its right glyph, if the line began there.
-fn passes_over_pair(
-    glyphs: &[hb_glyph_info_t],
-    subtable: &KernSubtable,
-    iterator: &SkippingIterator,
-    pair: &KernPair,
-) -> bool {
-    let (first, last) = (pair.left.min(pair.right), pair.left.max(pair.right));
-    let Some(right) = glyphs.get(pair.right) else {
-        return false;
-    };
-    match glyphs.get(first.saturating_add(1)..last) {
-        Some(passed) => passed.iter().any(|glyph| glyph.mask & iterator.mask != 0
-            && value_of(subtable, glyph, right) != 0),
-        None => false,
-    }
-}
-
-/// The value of two glyphs, in font units.
-fn value_of(subtable: &KernSubtable, left: &hb_glyph_info_t, right: &hb_glyph_info_t) -> i16 {
-    match (u16::try_from(left.glyph_id), u16::try_from(right.glyph_id)) {
-        (Ok(left), Ok(right)) => subtable.kerning(left, right),
-        _ => 0,
+/// Marks what a pair passes over, if one of these glyphs would be kerned with its right glyph.
+#[tactic(auto, unfolding(crate::specs::Kerning::unkerned))]
+fn mark_unkerned(buffer: &mut hb_buffer_t, machine: &KernMachine, pair: &KernPair)
+    requires closed { buffer.old.have_output ≡ false }
+    requires placed { IsSome buffer.old.positions }
+    requires left { pair.now.left < length buffer.old.input }
+    requires right { pair.now.right < length buffer.old.input }
+    ensures is { buffer.new ≡ kerning.unkerned (machine_of machine.now) pair.now buffer.old }
+    ensures closed { buffer.new.have_output ≡ false }
+    ensures placed { IsSome buffer.new.positions }
+    ensures rest { untouched buffer.new ≡ untouched buffer.old }
+    ensures flags { KeepsBits buffer.old.input buffer.new.input }
+{
+    if passes_over_pair(buffer.info(), machine, pair) {
+        mark_passed(buffer, pair);
     }
 }
 
 /// Moves a pair, and marks that it may not be parted.
-#[tactic(auto, using(crate::proofs::FlagLemmas::untouched_with_positions))]
-fn kern_pair(buffer: &mut hb_buffer_t, pair: &KernPair, scale: &Scale)
+#[tactic(auto, unfolding(crate::specs::Kerning::kerned_pair))]
+fn kern_pair(buffer: &mut hb_buffer_t, machine: &KernMachine, pair: &KernPair)
     requires closed { buffer.old.have_output ≡ false }
     requires placed { IsSome buffer.old.positions }
+    ensures is { buffer.new ≡ kerning.kerned_pair (machine_of machine.now) pair.now buffer.old }
     ensures closed { buffer.new.have_output ≡ false }
     ensures placed { IsSome buffer.new.positions }
     ensures rest { untouched buffer.new ≡ untouched buffer.old }
     ensures flags { KeepsBits buffer.old.input buffer.new.input }
 {
-    let is_horizontal = buffer.direction.is_horizontal();
-    move_pair(buffer.pos_mut(), pair, scale, is_horizontal);
-    if pair.is_cross_stream {
-        mark_attached(buffer);
-    }
+    put(buffer, machine, pair);
     let (first, second) = (pair.left.min(pair.right), pair.left.max(pair.right));
     mark_break(buffer, first, second.saturating_add(1));
 }
 
+/// Moves a pair. A glyph that is moved across the line is attached to the one before it.
+#[tactic(auto, using(crate::proofs::KerningLemmas::with_positions_moved, crate::proofs::FlagLemmas::untouched_with_positions), unfolding(crate::specs::Kerning::put))]
+fn put(buffer: &mut hb_buffer_t, machine: &KernMachine, pair: &KernPair)
+    requires closed { buffer.old.have_output ≡ false }
+    requires placed { IsSome buffer.old.positions }
+    ensures is { buffer.new ≡ kerning.put (machine_of machine.now) pair.now buffer.old }
+    ensures closed { buffer.new.have_output ≡ false }
+    ensures placed { IsSome buffer.new.positions }
+    ensures rest { untouched buffer.new ≡ untouched buffer.old }
+    ensures flags { KeepsBits buffer.old.input buffer.new.input }
+{
+    move_pair(buffer.pos_mut(), machine, pair);
+    if pair.is_cross_stream {
+        mark_attached(buffer);
+    }
+}
+
 /// Marks what a pair passes over: if a line began there, it might be kerned with the right glyph.
+#[tactic(auto, unfolding(crate::specs::Kerning::passed_marked))]
 fn mark_passed(buffer: &mut hb_buffer_t, pair: &KernPair)
     requires closed { buffer.old.have_output ≡ false }
     requires placed { IsSome buffer.old.positions }
+    ensures is { buffer.new ≡ kerning.passed_marked pair.now buffer.old }
     ensures closed { buffer.new.have_output ≡ false }
     ensures placed { IsSome buffer.new.positions }
     ensures rest { untouched buffer.new ≡ untouched buffer.old }
@@ -263,18 +365,38 @@ fn mark_passed(buffer: &mut hb_buffer_t, pair: &KernPair)
 }
 
 /// Moves a pair along the line, or its right glyph across it.
-fn move_pair(positions: &mut [GlyphPosition], pair: &KernPair, scale: &Scale, is_horizontal: bool) {
-    let value = if is_horizontal {
-        scale.em_scale_x(pair.value)
-    } else {
-        scale.em_scale_y(pair.value)
-    };
+#[tactic(auto, unfolding(crate::specs::Kerning::pair_moved))]
+fn move_pair(positions: &mut [GlyphPosition], machine: &KernMachine, pair: &KernPair)
+    ensures { positions.new ≡ kerning.pair_moved (machine_of machine.now) pair.now positions.old }
+{
+    let is_horizontal = machine.direction.is_horizontal();
+    let value = scaled(machine, pair.value);
     if pair.is_cross_stream {
-        if let Some(right) = positions.get_mut(pair.right) {
-            cross(right, value, is_horizontal);
-        }
+        cross_at(positions, pair.right, value, is_horizontal);
     } else {
         draw_together(positions, pair.left, pair.right, value, is_horizontal);
+    }
+}
+
+/// A length along the line, at the font's size.
+#[tactic(auto, unfolding(crate::specs::Kerning::scaled))]
+fn scaled(machine: &KernMachine, value: i32) -> i32
+    ensures { result ≡ kerning.scaled (machine_of machine.now) value }
+{
+    if machine.direction.is_horizontal() {
+        machine.scale.em_scale_x(value)
+    } else {
+        machine.scale.em_scale_y(value)
+    }
+}
+
+/// Puts the glyph at a place so far across the line.
+#[tactic(auto, unfolding(crate::specs::Placing::changed_at))]
+fn cross_at(positions: &mut [GlyphPosition], place: usize, value: i32, is_horizontal: bool)
+    ensures { positions.new ≡ changed_at (kerning.crossed is_horizontal value) place positions.old }
+{
+    if place < positions.len() {
+        cross(&mut positions[place], value, is_horizontal);
     }
 }
 
@@ -303,7 +425,10 @@ fn draw_together(
 }
 
 /// Puts a glyph so far across the line.
-fn cross(position: &mut GlyphPosition, value: i32, is_horizontal: bool) {
+#[tactic(auto, unfolding(crate::specs::Kerning::crossed))]
+fn cross(position: &mut GlyphPosition, value: i32, is_horizontal: bool)
+    ensures { position.new ≡ kerning.crossed is_horizontal value position.old }
+{
     if is_horizontal {
         position.y_offset = value;
     } else {

@@ -11,6 +11,7 @@ mod contexts;
 mod cursive;
 mod finishing;
 mod flags;
+mod kern_pairs;
 mod kerning;
 mod ligatures;
 mod lookups;

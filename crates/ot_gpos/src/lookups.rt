@@ -1,14 +1,18 @@
 //! A lookup of `GPOS` over a buffer: each glyph that it is for is tried with its subtables, one after the other (HarfBuzz,
 //! `apply_forward`).
 
-ghost use Rattle.std.specs.Prelude.{◌≡◌, ◌≤◌, ◌<◌, ◌-◌, true, false, length, IsSome, IfSome};
+ghost use Rattle.std.specs.Prelude.{ℕ, ◌≡◌, ◌≤◌, ◌<◌, ◌-◌, true, false, length, min, slice_get, IsSome, IfSome};
 ghost use Rattle.ot_layout.specs.Budget.{IsNotMore};
 ghost use Rattle.glyph_digests.specs.Covered.{covered_index};
 ghost use Rattle.ot_gpos.specs.Attachments.{HasNoPixels};
 ghost use Rattle.ot_gpos.specs.Flags.{KeepsBits, untouched};
 ghost use Rattle.ot_gpos.specs.Lookups.{applied, is_simple, one_tried, outcome, outcome_at};
+ghost use Rattle.ot_gpos.specs.Runs.{AreSimple, HasNoContexts, positioned, positioned_by, tried_at};
 ghost use Rattle.ot_gpos.specs.Subtables.{bases_at, simple_at, simple_next};
 ghost use Rattle.ot_gpos.specs.Visit.{visit_of};
+ghost use Rattle.ot_lookups.specs.Lookup.{is_for};
+ghost use Rattle.ot_lookups.specs.LookupProps.{glyph_at};
+ghost use Rattle.ot_lookups.specs.Subtables.{subtables_of};
 ghost use Rattle.shaping_buffer.specs.KeepsClusters.{KeepsClusters};
 
 use crate::contexts::fit_at;
@@ -65,6 +69,10 @@ pub fn position<P: ContourPoints>(
     ensures flags { KeepsBits buffer.old.input buffer.new.input }
     ensures spent { IsNotMore search.old.budget search.new.budget }
     ensures says { search.new.budget.steps ≡ 0 → buffer.new.shaping_failed ≡ true }
+    ensures exact { let subtables = setting.now.list.now.subtables.items in
+        let at = slice_get setting.now.list.now.lookups.items lookup in
+        HasNoContexts subtables at → HasNoPixels setting.now.instance → 0 < search.new.budget.steps
+        → buffer.new ≡ positioned subtables at options.now setting.now.instance buffer.old }
     ensures keeps { KeepsClusters buffer.old buffer.new }
 {
     prove!(buffer.out_len() == 0);
@@ -88,11 +96,16 @@ fn place_all<'a, P: ContourPoints>(
     ensures rest { untouched buffer.new ≡ untouched buffer.old }
     ensures flags { KeepsBits buffer.old.input buffer.new.input }
     ensures spent { IsNotMore search.old.budget search.new.budget }
+    ensures exact { let subtables = setting.now.list.now.subtables.items in
+        let at = slice_get setting.now.list.now.lookups.items lookup in
+        HasNoContexts subtables at → HasNoPixels setting.now.instance → 0 < search.new.budget.steps
+        → buffer.new ≡ positioned subtables at options.now setting.now.instance buffer.old }
 {
-    if let Some(lookup) = setting.list.lookup(lookup) {
-        search.budget.pay_for(1 + buffer.len() / PASSED_A_STEP);
-        place_by_all(buffer, setting, lookup, options, search);
-    }
+    let Some(lookup) = setting.list.lookup(lookup) else {
+        return;
+    };
+    search.budget.pay_for(1 + buffer.len() / PASSED_A_STEP);
+    place_by_all(buffer, setting, lookup, options, search);
 }
 
 /// Positions the glyphs by this lookup, one after the other.
@@ -110,6 +123,9 @@ fn place_by_all<'a, P: ContourPoints>(
     ensures rest { untouched buffer.new ≡ untouched buffer.old }
     ensures flags { KeepsBits buffer.old.input buffer.new.input }
     ensures spent { IsNotMore search.old.budget search.new.budget }
+    ensures exact { let subtables = subtables_of setting.now.list.now.subtables.items lookup.now in
+        AreSimple subtables → HasNoPixels setting.now.instance → 0 < search.new.budget.steps
+        → buffer.new ≡ positioned_by (applied lookup.now options.now setting.now.instance) subtables buffer.old }
 {
     let mut last = LastBase::none();
     let mut next = 0;
@@ -133,7 +149,10 @@ fn place_by_all<'a, P: ContourPoints>(
 
 /// The first place from this one on at which the lookup may do something, or the number of glyphs.
 fn next_place(glyphs: &[hb_glyph_info_t], lookup: &Lookup, mask: u32, from: usize) -> usize
-    ensures { result ≤ length glyphs.now }
+    ensures within { result ≤ length glyphs.now }
+    ensures from { min from (length glyphs.now) ≤ result }
+    ensures at { result < length glyphs.now → is_for lookup.now mask (glyph_at glyphs.now result) ≡ true }
+    ensures passed { (place : ℕ) → from ≤ place → place < result → is_for lookup.now mask (glyph_at glyphs.now place) ≡ false }
 {
     lookup.first_place(mask, glyphs, from.min(glyphs.len()))
 }
@@ -153,6 +172,12 @@ fn place_by_lookup<'a, P: ContourPoints>(
     ensures rest { untouched buffer.new ≡ untouched buffer.old }
     ensures flags { KeepsBits buffer.old.input buffer.new.input }
     ensures spent { IsNotMore search.old.budget search.new.budget }
+    ensures exact { let subtables = subtables_of task.now.setting.now.list.now.subtables.items task.now.lookup.now in
+        task.now.place < length buffer.old.input → AreSimple subtables → HasNoPixels task.now.setting.now.instance
+        → 0 < search.new.budget.steps
+        → outcome buffer.new last.new result
+        ≡ tried_at (applied task.now.lookup.now task.now.options.now task.now.setting.now.instance) task.now.place subtables
+        last.old buffer.old }
 {
     if task.place >= buffer.len() {
         return None;
@@ -365,6 +390,7 @@ fn fail_if_spent(buffer: &mut hb_buffer_t, search: &Search)
     ensures rest { untouched buffer.new ≡ untouched buffer.old }
     ensures flags { KeepsBits buffer.old.input buffer.new.input }
     ensures says { search.now.budget.steps ≡ 0 → buffer.new.shaping_failed ≡ true }
+    ensures same { 0 < search.now.budget.steps → buffer.new ≡ buffer.old }
 {
     if search.budget.is_spent() {
         fail(buffer);

@@ -28,6 +28,7 @@ uncovered cs o s n t none = record {
   ligatures = λ is. rw none refl;
   contexts = λ is. rw none refl;
   chained_contexts = λ is. rw none refl;
+  reverse_chained = λ is outermost. rw none refl;
   others = λ is. refl;
 }
 
@@ -63,6 +64,7 @@ no_edit cs o s n t places None has none = record {
   ligatures = has.ligatures;
   contexts = has.contexts;
   chained_contexts = has.chained_contexts;
+  reverse_chained = has.reverse_chained;
   others = has.others;
 }
 no_edit cs o s n t places (Some e) has none = cc

@@ -14,6 +14,7 @@ pub mod MatchLemmas
 pub mod MissedLemmas
 pub mod NeighbourLemmas
 pub mod PatternLemmas
+pub mod ReverseLemmas
 pub mod RuleSetLemmas
 pub mod SecondsLemmas
 pub mod SkippingIteratorLemmas

@@ -1,9 +1,10 @@
 -- What a lookup of `GSUB` does at the cursor: the edit of the first of its subtables that has one.
-use Rattle.std.specs.Prelude.{◌≡◌, ◌⊎◌, ◌==◌, ◌&&◌, ◌||◌, ℕ, Bool, true, false, not, List, [], ◌∷◌, Option, None, Some, IsTrue, is_some, nat_lt, option_and_then}
+use Rattle.std.specs.Prelude.{◌≡◌, ◌⊎◌, ◌==◌, ◌&&◌, ◌||◌, ℕ, Bool, true, false, not, List, [], ◌∷◌, drop, Option, None, Some, IsTrue, is_some, nat_lt, option_and_then}
 use Rattle.font_tables.specs.declared.coverage.Coverage.{Coverage}
 use Rattle.ot_layout.specs.Context.{context_rule}
 use Rattle.ot_layout.specs.Match.{first_ligature, ligated}
 use Rattle.ot_layout.specs.Pattern.{IsFitBy, Pattern}
+use Rattle.ot_layout.specs.Reverse.{reverse}
 use Rattle.ot_lookups.specs.Sets.{set_at}
 use Rattle.ot_layout.specs.Substitution.{IsMultiple, alternate_of, cursor_glyph, feature_value, replaced_by, single}
 use Rattle.glyph_digests.specs.Covered.{covered_index}
@@ -44,6 +45,11 @@ abbrev pub context_edit : List Coverage → Subtable → Bool → ApplyContext �
 context_edit coverages subtable is_chained ctx =
     option_and_then (λ index. context_rule coverages subtable index is_chained ctx) (cursor_index subtable ctx)
 
+-- the reverse chaining substitution of the glyph at the cursor: its coverages stand one after the other in a list, from a place on
+abbrev pub reverse_edit : List Coverage → Subtable → ApplyContext → Option Edit
+reverse_edit coverages subtable ctx =
+    option_and_then (λ index. reverse (drop subtable.first_coverage coverages) subtable.table.now index ctx) (cursor_index subtable ctx)
+
 -- the lookups of a rule, if there is one, are applied where it fits, at these places
 abbrev pub IsRuleEdit : ApplyContext → Option Pattern → List ℕ → Option Edit → Type 0
 IsRuleEdit ctx rule places None = rule ≡ None
@@ -54,8 +60,9 @@ IsRuleEdit ctx rule places (Some (Multiply glyphs)) = IsTrue false
 IsRuleEdit ctx rule places (Some (Ligate ligation)) = IsTrue false
 IsRuleEdit ctx rule places (Some (ReplaceInPlace change)) = IsTrue false
 
--- what a subtable does at the cursor, by its kind: a single, multiple, alternate or ligature substitution, or the lookups of the rule of
--- a context; the glyphs of the match of a ligature or a rule stand at these places
+-- what a subtable does at the cursor, by its kind: a single, multiple, alternate or ligature substitution, the lookups of the rule of
+-- a context, or a reverse chaining substitution where no other lookup applies it; the glyphs of the match of a ligature or a rule stand
+-- at these places
 pub record IsEditOf (coverages : List Coverage) (options : LookupOptions) (ctx : ApplyContext) (is_nested : Bool) (subtable : Subtable) (places : List ℕ) (edit : Option Edit) : Type 0 where
   pub singles : subtable.lookup_type ≡ 1 → edit ≡ single_edit subtable ctx
   pub multiples : subtable.lookup_type ≡ 2 → IsMultiple subtable.table.now (cursor_index subtable ctx) edit
@@ -63,6 +70,7 @@ pub record IsEditOf (coverages : List Coverage) (options : LookupOptions) (ctx :
   pub ligatures : subtable.lookup_type ≡ 4 → ligated places edit ≡ ligature_edit subtable ctx
   pub contexts : subtable.lookup_type ≡ 5 → IsRuleEdit ctx (context_edit coverages subtable false ctx) places edit
   pub chained_contexts : subtable.lookup_type ≡ 6 → IsRuleEdit ctx (context_edit coverages subtable true ctx) places edit
+  pub reverse_chained : subtable.lookup_type ≡ 8 → is_nested ≡ false → edit ≡ reverse_edit coverages subtable ctx
   pub others : is_of_use subtable.lookup_type is_nested ≡ false → edit ≡ None
 
 -- the edit of the first of these subtables that has one, or none

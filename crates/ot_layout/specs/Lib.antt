@@ -7,6 +7,7 @@ pub mod LigatureParts
 pub mod Match
 pub mod Neighbours
 pub mod Pattern
+pub mod Reverse
 pub mod Rule
 pub mod RuleSet
 pub mod Substitution

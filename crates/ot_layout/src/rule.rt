@@ -151,7 +151,7 @@ fn chained_rule<'a>(table: &'a [u8], match_functions: &MatchFunctions<'a>) -> Op
 }
 
 /// So many coverages of a list from a place on, or as many as there are from there on.
-fn coverages_at<'a>(coverages: &'a [Coverage<'a>], at: usize, count: u16) -> Sequence<'a>
+pub(crate) fn coverages_at<'a>(coverages: &'a [Coverage<'a>], at: usize, count: u16) -> Sequence<'a>
     ensures count { result.count ≡ count }
     ensures asks { sequence_matcher result ≡ covered_by (drop at coverages.now) }
 {

@@ -1,13 +1,15 @@
 //! What a lookup of `GSUB` does at the cursor (OpenType specification, "GSUB - Glyph Substitution Table").
 
 ghost use Rattle.std.specs.Prelude.{ℕ, ◌≡◌, ◌<◌, ◌≤◌, length, IfSome, IsTrue, Some, None, is_some, true, false};
-ghost use Rattle.std.specs.Prelude.{option_map};
+ghost use Rattle.std.specs.Prelude.{drop, option_map};
 ghost use Rattle.ot_layout.specs.Budget.{IsNotMore};
 ghost use Rattle.ot_layout.specs.FirstEdit.{IsEditOf, IsFirstEdit, alternate_edit, cursor_index, is_of_use, ligature_edit, single_edit};
 ghost use Rattle.ot_layout.specs.Match.{IsNext, first_ligature, ligated, ligature_at, ligature_of};
 ghost use Rattle.ot_lookups.specs.Seconds.{AsksForOther};
 ghost use Rattle.ot_lookups.specs.NextAsked.{IsNextOf};
-ghost use Rattle.ot_layout.specs.Rule.{input_iterator};
+ghost use Rattle.ot_layout.specs.Pattern.{covered_by};
+ghost use Rattle.ot_layout.specs.Reverse.{reverse, substitute};
+ghost use Rattle.ot_layout.specs.Rule.{input_iterator, sequence_matcher};
 ghost use Rattle.ot_lookups.specs.Sets.{set_at};
 ghost use Rattle.ot_layout.specs.Substitution.{IsSequence, alternate_of, feature_value, single};
 ghost use Rattle.ot_layout.specs.Substitution.{IsMultiple, IsLigature};
@@ -19,7 +21,7 @@ use crate::context::{Fit, fitting_rule};
 use crate::glyph_table::Glyphs;
 use crate::matching::{match_backtrack, match_input, match_lookahead};
 use crate::neighbours::{Next, next_seen};
-use crate::rule::{MatchFunction, Sequence};
+use crate::rule::{MatchFunction, Sequence, coverages_at};
 use crate::search::{ApplyContext, Search};
 use crate::skipping_iterator::LookupOptions;
 use font_tables::bytes::{table_at_16, tail, u16_at};
@@ -364,6 +366,7 @@ fn ligature<'a>(
 }
 
 /// The reverse substitution of a glyph with this coverage index, if the glyphs before it and after it are covered.
+#[tactic(auto, using(crate::proofs::ReverseLemmas::reverse_parts))]
 fn reverse<'a>(
     list: &'a LookupList<'a>,
     subtable: &Subtable<'a>,
@@ -373,16 +376,13 @@ fn reverse<'a>(
 ) -> Option<Edit<'a>>
     requires { 0 < length ctx.now.input.now }
     ensures spent { IsNotMore search.old.budget search.new.budget }
+    ensures is { 0 < search.new.budget.steps → result
+        ≡ reverse (drop subtable.now.first_coverage list.now.coverages.items) subtable.now.table.now index ctx.now }
 {
     let table = subtable.table;
-    let backtrack = u16_at(table, 4)?;
-    let lookahead_at = 6 + 2 * usize::from(backtrack);
-    let lookahead = u16_at(table, lookahead_at)?;
-    let substitutes_at = lookahead_at + 2 + 2 * usize::from(lookahead);
-    if index >= u32::from(u16_at(table, substitutes_at)?) {
-        return None;
-    }
-    let glyph = u16_at(table, substitutes_at + 2 + 2 * index as usize)?;
+    let backtrack = u16_at(table, 4).unwrap_or(0);
+    let lookahead = u16_at(table, 6 + 2 * usize::from(backtrack)).unwrap_or(0);
+    let glyph = substitute(table, backtrack, lookahead, index)?;
     let parts = covered_sequence(list, subtable, 0, backtrack);
     let from = match match_backtrack(ctx, &parts, search) {
         Ok(from) => from,
@@ -401,16 +401,27 @@ fn reverse<'a>(
     }
 }
 
+/// The substitute of a coverage index, behind the offsets of so many coverages.
+fn substitute(table: &[u8], backtrack: u16, lookahead: u16, index: u32) -> Option<u16>
+    ensures { result ≡ substitute table.now backtrack lookahead index }
+{
+    let count_at = 8 + 2 * usize::from(backtrack) + 2 * usize::from(lookahead);
+    if index < u32::from(u16_at(table, count_at)?) {
+        u16_at(table, count_at + 2 + 2 * index as usize)
+    } else {
+        None
+    }
+}
+
 /// So many of the coverages of a subtable, from the one of this number on.
 fn covered_sequence<'a>(
     list: &'a LookupList<'a>,
     subtable: &Subtable<'a>,
     first: usize,
     count: u16,
-) -> Sequence<'a> {
-    Sequence {
-        match_function: MatchFunction::Coverages(list.coverages_from(subtable, first)),
-        numbers: &[],
-        count,
-    }
+) -> Sequence<'a>
+    ensures count { result.count ≡ count }
+    ensures asks { sequence_matcher result ≡ covered_by (drop first (drop subtable.now.first_coverage list.now.coverages.items)) }
+{
+    coverages_at(list.coverages_from(subtable, 0), first, count)
 }

@@ -9,8 +9,7 @@ pub use font_face::{
     Axis, ColorTables, Face, FaceNames, FaceVariations, Layout, Lookups, Variation,
 };
 pub use font_functions::{FontFunctions, OwnFunctions};
-pub use ot_apply::{Step, Unwatched, Watch};
-pub use ot_plan::{KeptPlans, ShapePlan};
+pub use ot_plan::{KeptPlans, ShapePlan, Step, Unwatched, Watch};
 pub use shaping::{shape, shape_watched, shape_with_functions, shape_with_functions_watched};
 pub use shaping_verification::{Differences, ShapeError, VerifyError, compare};
 pub use with_plans::{

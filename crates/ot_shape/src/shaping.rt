@@ -14,14 +14,15 @@ use crate::verified::shape_verified;
 use aat_substitution::remove_deleted_glyphs;
 use font_face::Face;
 use font_functions::{FontFunctions, OwnFunctions};
-use ot_apply::{Step, Unwatched, Watch, position, set_masks, substitute};
+use ot_apply::{set_masks, substitute};
 use ot_characters::{
     ensure_native_direction, form_clusters, insert_dotted_circle, keep_contexts, keep_numbers,
     rotate_characters, set_direction, set_properties,
 };
 use ot_gsub::substitute_start;
 use ot_normalization::normalize;
-use ot_plan::{FaceGlyphs, TextPlan, plan_of_text};
+use ot_plan::{FaceGlyphs, Step, TextPlan, Unwatched, Watch, plan_of_text};
+use ot_positioning::position;
 use ot_positions::{
     hide_ignorables, mark_given_up, propagate_flags, recategorize_marks, share_flags,
     show_variation_selectors,

@@ -8,8 +8,7 @@ ghost use Rattle.ot_shape.specs.ShapedClusters.{ShapedClusters};
 use crate::shaping::shape_planned;
 use font_face::Face;
 use font_functions::FontFunctions;
-use ot_apply::Unwatched;
-use ot_plan::TextPlan;
+use ot_plan::{TextPlan, Unwatched};
 use shaping_buffer::{Feature, GlyphBuffer, hb_buffer_t};
 use shaping_verification::{Original, ShapeError, ShapesParts, verify};
 

@@ -10,8 +10,7 @@ ghost use Rattle.ot_shape.specs.ShapedClusters.{ShapedClusters};
 use crate::shaping::shape_by_plan;
 use font_face::Face;
 use font_functions::{FontFunctions, OwnFunctions};
-use ot_apply::{Unwatched, Watch};
-use ot_plan::{KeptPlans, ShapePlan, text_plan};
+use ot_plan::{KeptPlans, ShapePlan, Unwatched, Watch, text_plan};
 use shaping_buffer::{Feature, GlyphBuffer, UnicodeBuffer};
 use shaping_verification::ShapeError;
 

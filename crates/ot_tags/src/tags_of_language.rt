@@ -1,5 +1,9 @@
 //! The tags of one language.
-ghost use Rattle.std.specs.Prelude.{◌≡◌, [], IsNone};
+ghost use Rattle.std.specs.Prelude.{◌≡◌, ◌∷◌, []};
+ghost use Rattle.std.specs.Option.{option_copied};
+ghost use Rattle.rb_common.specs.Tag.{tag_of};
+ghost use Rattle.ot_tags.specs.LanguageTags.{looked_up, tags_of};
+ghost use Rattle.ot_tags.specs.Subtags.{extended_language};
 
 use crate::registry::{own_tag, registered_tags};
 use crate::subtag_rules::{tags_of_name, tags_of_region, tags_of_variant};
@@ -39,8 +43,9 @@ impl LanguageTags {
     /// - the script or the region beside the language (`zh-hant-hk`, `ro-md`);
     /// - the extended language, or else the first subtag, in the registry;
     /// - a first subtag of three letters itself, in capitals.
+    #[tactic(auto, unfolding(crate::specs::LanguageTags::tags_of, crate::specs::LanguageTags::tags_of_language))]
     pub fn of(language: Option<&Language>) -> Self
-        ensures none { IsNone language.entry → result ≡ [] }
+        ensures { result ≡ tags_of (option_copied language.entry) }
     {
         let Some(language) = language else {
             return LanguageTags::none();
@@ -66,7 +71,9 @@ impl LanguageTags {
     }
 
     /// One tag.
-    pub(crate) fn one(tag: &[u8; 4]) -> Self {
+    pub(crate) fn one(tag: &[u8; 4]) -> Self
+        ensures { result ≡ tag_of tag.now ∷ [] }
+    {
         LanguageTags {
             first: Some(Tag::from_bytes(tag)),
             second: None,
@@ -75,7 +82,9 @@ impl LanguageTags {
     }
 
     /// Two tags.
-    pub(crate) fn two(first: &[u8; 4], second: &[u8; 4]) -> Self {
+    pub(crate) fn two(first: &[u8; 4], second: &[u8; 4]) -> Self
+        ensures { result ≡ tag_of first.now ∷ tag_of second.now ∷ [] }
+    {
         LanguageTags {
             first: Some(Tag::from_bytes(first)),
             second: Some(Tag::from_bytes(second)),
@@ -106,7 +115,10 @@ impl ComplexLanguages for LanguageTags {
 
 /// The tags of an extended language, where there is one, or else of the first subtag. A first subtag of three letters that the
 /// registry does not have is its own tag.
-fn looked_up(prefix: &[u8], first: &[u8], rest: &[u8]) -> LanguageTags {
+#[tactic(auto, unfolding(crate::specs::LanguageTags::looked_up))]
+fn looked_up(prefix: &[u8], first: &[u8], rest: &[u8]) -> LanguageTags
+    ensures { result ≡ looked_up prefix.now first.now rest.now }
+{
     match extended_language(prefix, rest) {
         Some(extended) => registered_tags(extended).unwrap_or(LanguageTags::none()),
         None => registered_tags(first).unwrap_or(own_tag(first)),
@@ -114,7 +126,10 @@ fn looked_up(prefix: &[u8], first: &[u8], rest: &[u8]) -> LanguageTags {
 }
 
 /// A second subtag of three letters, where the prefix is long enough.
-fn extended_language<'a>(prefix: &[u8], rest: &'a [u8]) -> Option<&'a [u8]> {
+#[tactic(auto, unfolding(crate::specs::Subtags::extended_language))]
+fn extended_language<'a>(prefix: &[u8], rest: &'a [u8]) -> Option<&'a [u8]>
+    ensures { option_copied result ≡ extended_language prefix.now rest.now }
+{
     if prefix.len() < EXTENDED_PREFIX_MIN {
         return None;
     }

@@ -1,4 +1,3 @@
-pub mod Numbered
 pub mod Status
 -- the lines of a text, and what is held of a file
 pub use Rattle.shape_lines.specs.Answer

@@ -1,9 +1,9 @@
 //! The answers to the lines of a batch. A font is kept for all lines in a row that name it.
 
 use crate::ending::NAME;
-use crate::loaded_font::LoadedFont;
 use crate::run::answer_options;
 use shape_fonts::font_file::FontFile;
+use shape_kept::loaded_font::LoadedFont;
 use shape_lines::batch::{has_next, say};
 use shape_lines::errors::CommandError;
 use shape_lines::fonts::read_named_font;

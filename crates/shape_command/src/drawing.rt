@@ -2,10 +2,10 @@
 
 ghost use Rattle.std.specs.Prelude.{◌≡◌, false};
 
-use crate::loaded_font::{LoadedFont, take_names};
 use ot_shape::{Face, FaceNames, ShapeError, Step, Watch, shape_watched};
+use shape_glyphs::picture::{Picture, RowName};
+use shape_kept::loaded_font::{LoadedFont, take_names};
 use shape_lines::errors::CommandError;
-use shape_lines::picture::{Picture, RowName};
 use shape_lines::text::{empty_text, fill, given_text};
 use shape_options::options::{LineOptions, Options};
 use shaping_buffer::hb_buffer_t;

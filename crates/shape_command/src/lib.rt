@@ -5,7 +5,5 @@ mod batch_answers;
 mod drawing;
 pub mod ending;
 pub mod lines;
-mod loaded_font;
 pub mod run;
 pub mod shaper;
-pub mod trace;

@@ -4,9 +4,9 @@ ghost use Rattle.std.specs.Prelude.{OnOk};
 ghost use Rattle.shape_lines.specs.Lines.{AnswersAll, AnswersParagraph, IsShown, Shows};
 
 use crate::shaper::{LineShaper, LineState};
-use crate::trace::trace_lines;
 use line_formats::heads::head;
 use shape_fonts::synthetic_font::LineNames;
+use shape_kept::trace::trace_lines;
 use shape_lines::answers::{put, write_answer};
 use shape_lines::errors::{LinesError, read_error};
 use shape_lines::reading::{keep_seen, next_line};
@@ -79,7 +79,7 @@ fn answer_line<F: AllocGlobal + Eprint, N: LineNames, W: Write>(
     let answered = shaper.answer(rt.alloc(), state, line)?;
     let steps = trace_lines(
         rt.alloc(),
-        shaper,
+        &shaper.step_printer(),
         &mut state.names,
         number,
         &answered.trace,

@@ -4,10 +4,11 @@ ghost use Rattle.std.specs.Prelude.{◌≡◌, true, false, IsErr, IsSome, OnOk}
 
 use crate::drawing::draw_text;
 use crate::lines::{answer_lines, answer_paragraph};
-use crate::loaded_font::{LoadedFont, take_names};
-use crate::shaper::{KeptLine, LineShaper, LineState};
+use crate::shaper::{LineShaper, LineState};
 use shape_fonts::font_file::FontFile;
 use shape_fonts::synthetic_font::{LineNames, SyntheticFont, SyntheticNames};
+use shape_kept::kept_line::KeptLine;
+use shape_kept::loaded_font::{LoadedFont, take_names};
 use shape_lines::errors::CommandError;
 use shape_lines::fonts::read_font_file;
 use shape_lines::reading::Reading;

@@ -1,24 +1,25 @@
 //! What a line is answered with: how it is shaped.
 
-ghost use Rattle.std.specs.Prelude.{◌≡◌, [], None, false, IfOk};
+ghost use Rattle.std.specs.Prelude.{◌≡◌, IfOk};
 ghost use Rattle.shape_lines.specs.Answer.{answer_text};
 ghost use Rattle.shape_lines.specs.Lines.{IsAnswer, IsList};
 
-use crate::trace::Trace;
 use ot_shape::{
-    Face, KeptPlans, ShapeError, shape_watched, shape_with_functions_and_plans,
-    shape_with_functions_watched, shape_with_kept_plans,
+    Face, ShapeError, shape_watched, shape_with_functions_and_plans, shape_with_functions_watched,
+    shape_with_kept_plans,
 };
 use shape_fonts::fallback::shape_fallback;
 use shape_fonts::kept_advances::KeptAdvances;
 use shape_fonts::synthetic_font::{LineNames, SyntheticFont};
+use shape_glyphs::edits::{Edits, buffer_of};
+use shape_glyphs::glyph_line::read_glyphs;
+use shape_kept::kept_line::KeptLine;
+use shape_kept::trace::{StepPrinter, Trace};
 use shape_lines::answers::Answer;
 use shape_lines::characters::shown_characters;
-use shape_lines::edits::{Edits, buffer_of};
-use shape_lines::glyph_line::read_glyphs;
 use shape_lines::printing::GlyphPrinter;
 use shape_lines::reading::Reading;
-use shape_lines::text::{emptied, empty_text, fill, lossy_text};
+use shape_lines::text::{fill, lossy_text};
 use shape_options::options::{LineOptions, Shaper};
 use shape_options::output::Output;
 use shaping_buffer::{Direction, GlyphBuffer, GlyphId, UnicodeBuffer};
@@ -33,44 +34,6 @@ pub struct Answered {
     pub characters: Vec<u8>,
     /// What it is answered with.
     pub answer: Answer,
-}
-
-/// What is kept of a line for the next one of the same font.
-#[derive(Drop)]
-pub struct KeptLine {
-    /// The plans of its text and of those before.
-    pub plans: KeptPlans,
-    /// Its buffer, emptied.
-    pub text: Option<UnicodeBuffer>,
-    /// Whether the shaping of a line was given up, and nothing was said of it yet.
-    pub has_given_up: bool,
-}
-
-impl KeptLine {
-    /// Nothing is kept.
-    pub fn new() -> Self
-        ensures plans { result.plans ≡ [] }
-        ensures text { result.text ≡ None }
-        ensures has_given_up { result.has_given_up ≡ false }
-    {
-        KeptLine {
-            plans: KeptPlans::new(),
-            text: None,
-            has_given_up: false,
-        }
-    }
-
-    /// An empty text for the next line, in the buffer that is kept, if one is. In it characters that are invisible by default are
-    /// to have the glyph of the options.
-    pub fn take_text(&mut self, alloc: Global, options: &LineOptions<'_>) -> UnicodeBuffer
-        ensures invisible { result.invisible ≡ options.now.invisible_glyph }
-        ensures plans { self.new.plans ≡ self.old.plans }
-    {
-        match self.text.take() {
-            Some(text) => emptied(text, options),
-            None => empty_text(alloc, options),
-        }
-    }
 }
 
 /// What lines are answered by that changes from line to line.
@@ -122,6 +85,17 @@ impl<'a> LineShaper<'a> {
             Direction::TopToBottom | Direction::BottomToTop
         );
         options.shaper == Shaper::OpenType && !options.glyphs && !is_down && !self.output.trace
+    }
+
+    /// How the steps of shaping a line are printed.
+    pub(crate) fn step_printer(&self) -> StepPrinter<'a>
+        ensures { result.output ≡ self.now.output }
+    {
+        StepPrinter {
+            font: self.font,
+            options: self.options,
+            output: self.output,
+        }
     }
 
     /// The answer to a line.

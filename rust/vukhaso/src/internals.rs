@@ -32,6 +32,7 @@ pub mod ot_lookups;
 pub mod ot_map;
 pub mod ot_normalization;
 pub mod ot_plan;
+pub mod ot_positioning;
 pub mod ot_positions;
 pub mod ot_shape;
 pub mod ot_tags;
@@ -50,6 +51,9 @@ pub mod universal_categories;
 pub mod verification;
 
 #[cfg(feature = "std")]
+pub mod glyphs;
+
+#[cfg(feature = "std")]
 pub mod options;
 
 #[cfg(feature = "std")]
@@ -57,6 +61,9 @@ pub(crate) mod fonts;
 
 #[cfg(feature = "std")]
 pub mod lines;
+
+#[cfg(feature = "std")]
+pub(crate) mod kept;
 
 #[cfg(feature = "std")]
 pub(crate) mod command;

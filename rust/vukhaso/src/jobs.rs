@@ -7,11 +7,11 @@ mod rounds;
 
 use crate::clap::{Arg, ArgMatches};
 use crate::command::ending;
-use crate::command::loaded_font::LoadedFont;
 use crate::command::run::shaper_of;
 use crate::fonts::font_file::FontFile;
 use crate::host::io::{BufRead, BufReader, BufWriter};
 use crate::host::{Env, Host, fs};
+use crate::kept::loaded_font::LoadedFont;
 use crate::lines::errors::CommandError;
 use crate::lines::fonts::read_font_file;
 use crate::memory::String;

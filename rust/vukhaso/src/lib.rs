@@ -67,6 +67,10 @@ use internals::command;
 #[cfg(feature = "std")]
 use internals::fonts;
 #[cfg(feature = "std")]
+use internals::glyphs;
+#[cfg(feature = "std")]
+use internals::kept;
+#[cfg(feature = "std")]
 use internals::lines;
 #[cfg(feature = "std")]
 use internals::options;
@@ -75,9 +79,9 @@ use internals::{
     font_face, font_functions, font_gvar, font_outlines, font_tables, font_variations, glyph,
     glyph_digests, glyph_lists, glyph_sides, glyph_text, line_formats, numbers, ot_apply,
     ot_characters, ot_gpos, ot_gpos_tables, ot_gsub, ot_layout, ot_lookups, ot_map,
-    ot_normalization, ot_plan, ot_positions, ot_shape, ot_tags, runs, script_indic, script_items,
-    script_joining, script_letters, script_shapers, script_syllables, script_universal, text,
-    universal_categories, verification,
+    ot_normalization, ot_plan, ot_positioning, ot_positions, ot_shape, ot_tags, runs, script_indic,
+    script_items, script_joining, script_letters, script_shapers, script_syllables,
+    script_universal, text, universal_categories, verification,
 };
 
 pub use facade::*;

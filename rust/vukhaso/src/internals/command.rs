@@ -6,7 +6,5 @@ mod batch_answers;
 mod drawing;
 pub mod ending;
 pub mod lines;
-pub(crate) mod loaded_font;
 pub mod run;
 pub mod shaper;
-pub mod trace;

@@ -12,6 +12,7 @@ mod contexts;
 mod cursive;
 mod finishing;
 mod flags;
+mod kern_pairs;
 mod kerning;
 mod ligatures;
 mod lookups;

@@ -10,8 +10,7 @@ pub use crate::font_face::{
     Axis, ColorTables, Face, FaceNames, FaceVariations, Layout, Lookups, Variation,
 };
 pub use crate::font_functions::{FontFunctions, OwnFunctions};
-pub use crate::ot_apply::{Step, Unwatched, Watch};
-pub use crate::ot_plan::{KeptPlans, ShapePlan};
+pub use crate::ot_plan::{KeptPlans, ShapePlan, Step, Unwatched, Watch};
 pub use crate::verification::{Differences, ShapeError, VerifyError, compare};
 pub use shaping::{shape, shape_watched, shape_with_functions, shape_with_functions_watched};
 pub use with_plans::{

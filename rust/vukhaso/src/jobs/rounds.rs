@@ -1,9 +1,10 @@
 //! Rounds of lines, which threads answer.
 
 use crate::command::lines::answer_lines;
-use crate::command::shaper::{KeptLine, LineShaper, LineState};
+use crate::command::shaper::{LineShaper, LineState};
 use crate::host::Host;
 use crate::host::io::BufRead;
+use crate::kept::kept_line::KeptLine;
 use crate::lines::errors::LinesError;
 use crate::lines::reading::{Reading, read_run};
 use crate::memory::{AllocError, Vec};

@@ -1,10 +1,14 @@
-use Rattle.std.proofs.Common.{◌≡◌, false}
+use Rattle.std.proofs.Common.{◌≡◌, ◌-◌, false, length, None}
 use Rattle.std.specs.Prelude.{IsSome}
 use Rattle.ot_gpos.specs.Flags.{KeepsBits, untouched}
+use Rattle.ot_gpos.specs.Kerning.{machine_of, walked}
 use Rattle.ot_gpos.proofs.kerning.kern_by.Given as goal
 
-abbrev pub invariant-loop-turn : goal.invariant-loop-turn
-invariant-loop-turn l = record {
+-- the walk goes on in as many steps as are left
+abbrev pub invariant-loop-step : goal.invariant-loop-step
+invariant-loop-step l = record {
+  same : walked (l.len - l._step) (machine_of l.machine) l.turn l.across l.buffer
+      ≡ walked (length l.fn.buffer.input) (machine_of l.machine) 0 None l.fn.buffer;
   closed : l.buffer.have_output ≡ false;
   placed : IsSome l.buffer.positions;
   rest : untouched l.buffer ≡ untouched l.fn.buffer;

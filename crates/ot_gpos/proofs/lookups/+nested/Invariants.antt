@@ -1,9 +1,13 @@
-use Rattle.std.proofs.Common.{◌≡◌, ◌+◌, ◌*◌, false}
+use Rattle.std.proofs.Common.{◌≡◌, ◌+◌, ◌*◌, ◌<◌, drop, false}
 use Rattle.std.specs.Prelude.{IsSome}
+use Rattle.ot_gpos.specs.Attachments.{HasNoPixels}
 use Rattle.ot_gpos.specs.Flags.{KeepsBits, untouched}
+use Rattle.ot_gpos.specs.Lookups.{applied}
+use Rattle.ot_gpos.specs.Runs.{AreSimple, tried}
 use Rattle.ot_layout.specs.Budget.{IsNotMore}
 use Rattle.ot_gpos.proofs.lookups.+nested.Given as goal
 
+-- what comes of the subtables that are left comes of all of them
 abbrev pub invariant-place_by_lookup-loop-subtable : goal.invariant-place_by_lookup-loop-subtable
 invariant-place_by_lookup-loop-subtable g l = record {
   closed : l.buffer.have_output ≡ false;
@@ -11,6 +15,11 @@ invariant-place_by_lookup-loop-subtable g l = record {
   rest : untouched l.buffer ≡ untouched l.fn.buffer;
   flags : KeepsBits l.fn.buffer.input l.buffer.input;
   spent : IsNotMore l.fn.search.budget l.search.budget;
+  exact : AreSimple l.subtables → HasNoPixels l.task.setting.now.instance → 0 < l.search.budget.steps
+      → tried (applied l.task.lookup.now l.task.options.now l.task.setting.now.instance) l.task.place l.glyph
+      (drop l.subtable-index l.subtables) l.last l.buffer
+      ≡ tried (applied l.task.lookup.now l.task.options.now l.task.setting.now.instance) l.task.place l.glyph l.subtables
+      l.fn.last l.fn.buffer;
 }
 
 abbrev pub invariant-apply_records-loop-index : goal.invariant-apply_records-loop-index

@@ -1,9 +1,15 @@
-use Rattle.std.proofs.Common.{◌≡◌, false}
+use Rattle.std.proofs.Common.{◌≡◌, ◌<◌, ◌≤◌, false}
 use Rattle.std.specs.Prelude.{IsSome}
 use Rattle.ot_layout.specs.Budget.{IsNotMore}
+use Rattle.ot_lookups.specs.Subtables.{subtables_of}
+use Rattle.ot_gpos.specs.Attachments.{HasNoPixels}
 use Rattle.ot_gpos.specs.Flags.{KeepsBits, untouched}
+use Rattle.ot_gpos.specs.Lookups.{applied}
+use Rattle.ot_gpos.specs.Runs.{AreSimple}
+use Rattle.ot_gpos.proofs.RunsLemmas.{IsUnderWay}
 use Rattle.ot_gpos.proofs.lookups.place_by_all.Given as goal
 
+-- the glyphs before the place where the lookup goes on are done
 abbrev pub invariant-loop-turn : goal.invariant-loop-turn
 invariant-loop-turn g l = record {
   closed : l.buffer.have_output ≡ false;
@@ -11,4 +17,9 @@ invariant-loop-turn g l = record {
   rest : untouched l.buffer ≡ untouched l.fn.buffer;
   flags : KeepsBits l.fn.buffer.input l.buffer.input;
   spent : IsNotMore l.fn.search.budget l.search.budget;
+  far : l._turn ≤ l.next;
+  exact : AreSimple (subtables_of l.setting.list.now.subtables.items l.lookup) → HasNoPixels l.setting.instance
+      → 0 < l.search.budget.steps
+      → IsUnderWay (applied l.lookup l.options l.setting.instance)
+      (subtables_of l.setting.list.now.subtables.items l.lookup) l.fn.buffer l.next l.last l.buffer;
 }

@@ -3,11 +3,11 @@
 //! The answers to the lines of a batch. A font is kept for all lines in a row that name it.
 
 use crate::command::ending::NAME;
-use crate::command::loaded_font::LoadedFont;
 use crate::command::run::answer_options;
 use crate::fonts::font_file::FontFile;
 use crate::host::io::{self, BufRead, Write};
 use crate::host::{AllocGlobal, Eprint, Files};
+use crate::kept::loaded_font::LoadedFont;
 use crate::lines::batch::{has_next, say};
 use crate::lines::errors::CommandError;
 use crate::lines::fonts::read_named_font;

@@ -3,10 +3,10 @@
 //! A text whose shaping is drawn step by step.
 
 use crate::buffer::hb_buffer_t;
-use crate::command::loaded_font::{LoadedFont, take_names};
+use crate::glyphs::picture::{Picture, RowName};
 use crate::host::io::Write;
+use crate::kept::loaded_font::{LoadedFont, take_names};
 use crate::lines::errors::CommandError;
-use crate::lines::picture::{Picture, RowName};
 use crate::lines::text::{empty_text, fill, given_text};
 use crate::memory::AllocError;
 use crate::options::options::{LineOptions, Options};

@@ -3,10 +3,10 @@
 //! The lines of a text, and their answers.
 
 use crate::command::shaper::{LineShaper, LineState};
-use crate::command::trace::trace_lines;
 use crate::fonts::synthetic_font::LineNames;
 use crate::host::io::{self, BufRead, ErrorKind, Read, Write};
 use crate::host::{AllocGlobal, Eprint};
+use crate::kept::trace::trace_lines;
 use crate::line_formats::heads::head;
 use crate::lines::answers::{put, write_answer};
 use crate::lines::errors::{LinesError, read_error};
@@ -93,7 +93,12 @@ fn answer_line<F: AllocGlobal + Eprint, N: LineNames, W: Write>(
     writer: &mut W,
 ) -> Result<bool, LinesError> {
     let answered = shaper.answer(state, line)?;
-    let steps = trace_lines(shaper, &mut state.names, number, &answered.trace)?;
+    let steps = trace_lines(
+        &shaper.step_printer(),
+        &mut state.names,
+        number,
+        &answered.trace,
+    )?;
     tell(rt, steps.as_slice())?;
     let characters = answered.characters.as_slice();
     let before = head(shaper.output.shown, number, line, characters)?;

@@ -5,14 +5,15 @@
 use crate::buffer::{GlyphId, NoGlyphNames, SerializeFlags};
 use crate::command::drawing::draw_text;
 use crate::command::lines::{answer_lines, answer_paragraph};
-use crate::command::loaded_font::{LoadedFont, take_names};
-use crate::command::shaper::{KeptLine, LineShaper, LineState};
+use crate::command::shaper::{LineShaper, LineState};
 use crate::fonts::font_file::FontFile;
 use crate::fonts::synthetic_font::{LineNames, SyntheticFont, SyntheticNames};
 use crate::host::Files;
 use crate::host::fs;
 use crate::host::io::{self, BufRead, BufReader, BufWriter, Write};
 use crate::host::{AllocGlobal, AsStr, Eprint};
+use crate::kept::kept_line::KeptLine;
+use crate::kept::loaded_font::{LoadedFont, take_names};
 use crate::lines::errors::CommandError;
 use crate::lines::fonts::read_font_file;
 use crate::lines::reading::Reading;

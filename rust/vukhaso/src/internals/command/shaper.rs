@@ -3,23 +3,24 @@
 //! What a line is answered with: how it is shaped.
 
 use crate::buffer::{Direction, GlyphBuffer, GlyphId, UnicodeBuffer};
-use crate::command::trace::Trace;
 use crate::fonts::fallback::shape_fallback;
 use crate::fonts::kept_advances::KeptAdvances;
 use crate::fonts::synthetic_font::{LineNames, SyntheticFont};
+use crate::glyphs::edits::{Edits, buffer_of};
+use crate::glyphs::glyph_line::read_glyphs;
+use crate::kept::kept_line::KeptLine;
+use crate::kept::trace::{StepPrinter, Trace};
 use crate::lines::answers::Answer;
 use crate::lines::characters::shown_characters;
-use crate::lines::edits::{Edits, buffer_of};
-use crate::lines::glyph_line::read_glyphs;
 use crate::lines::printing::GlyphPrinter;
 use crate::lines::reading::Reading;
-use crate::lines::text::{emptied, empty_text, fill, lossy_text};
+use crate::lines::text::{fill, lossy_text};
 use crate::memory::{AllocError, Vec};
 use crate::options::options::{LineOptions, Shaper};
 use crate::options::output::Output;
 use crate::ot_shape::{
-    Face, KeptPlans, ShapeError, shape_watched, shape_with_functions_and_plans,
-    shape_with_functions_watched, shape_with_kept_plans,
+    Face, ShapeError, shape_watched, shape_with_functions_and_plans, shape_with_functions_watched,
+    shape_with_kept_plans,
 };
 
 /// What is printed of a line.
@@ -31,53 +32,6 @@ pub struct Answered {
     pub characters: Vec<u8>,
     /// What it is answered with.
     pub answer: Answer,
-}
-
-/// What is kept of a line for the next one of the same font.
-pub struct KeptLine {
-    /// The plans of its text and of those before.
-    pub plans: KeptPlans,
-    /// Its buffer, emptied.
-    pub text: Option<UnicodeBuffer>,
-    /// Whether the shaping of a line was given up, and nothing was said of it yet.
-    pub has_given_up: bool,
-}
-
-impl KeptLine {
-    /// Nothing is kept.
-    ///
-    /// # Proved
-    ///
-    /// ```text
-    /// ensures plans { result.plans ≡ [] }
-    /// ensures text { result.text ≡ None }
-    /// ensures has_given_up { result.has_given_up ≡ false }
-    /// ```
-    #[inline]
-    pub fn new() -> Self {
-        KeptLine {
-            plans: KeptPlans::new(),
-            text: None,
-            has_given_up: false,
-        }
-    }
-
-    /// An empty text for the next line, in the buffer that is kept, if one is. In it characters that are
-    /// invisible by default are to have the glyph of the options.
-    ///
-    /// # Proved
-    ///
-    /// ```text
-    /// ensures invisible { result.invisible ≡ options.now.invisible_glyph }
-    /// ensures plans { self.new.plans ≡ self.old.plans }
-    /// ```
-    #[inline]
-    pub fn take_text(&mut self, options: &LineOptions<'_>) -> UnicodeBuffer {
-        match self.text.take() {
-            Some(text) => emptied(text, options),
-            None => empty_text(options),
-        }
-    }
 }
 
 /// What lines are answered by that changes from line to line.
@@ -133,6 +87,15 @@ impl<'a> LineShaper<'a> {
             Direction::TopToBottom | Direction::BottomToTop
         );
         options.shaper == Shaper::OpenType && !options.glyphs && !is_down && !self.output.trace
+    }
+
+    /// How the steps of shaping a line are printed.
+    pub(crate) fn step_printer(&self) -> StepPrinter<'a> {
+        StepPrinter {
+            font: self.font,
+            options: self.options,
+            output: self.output,
+        }
     }
 
     /// The answer to a line.

@@ -12,14 +12,12 @@ use crate::memory::AllocError;
 use crate::ot_apply::cluster_order::ClusterCourse;
 use crate::ot_apply::forms_of_font::work_on_syllables;
 use crate::ot_apply::joined_syllables::keep_joined;
-use crate::ot_apply::lookups::{budget_of, options_of};
-use crate::ot_apply::watch::{Step, Watch};
 use crate::ot_gsub::{Progress, Substitutions};
 use crate::ot_layout::LookupOptions;
 use crate::ot_lookups::LookupList;
 use crate::ot_lookups::lookup_list::SUBSTITUTION_EXTENSION;
 use crate::ot_map::{Pause, PlannedLookup};
-use crate::ot_plan::TextPlan;
+use crate::ot_plan::{Step, TextPlan, Watch, budget_of, options_of};
 use crate::script_joining::FallbackLookups;
 
 /// Applies the lookups of `GSUB`, stage by stage, and lets clusters run as they ran before, also where

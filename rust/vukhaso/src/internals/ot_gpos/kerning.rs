@@ -6,29 +6,16 @@ use crate::buffer::hb_buffer_t;
 use crate::common::Direction;
 use crate::font_tables::coverage::Coverage;
 use crate::font_tables::scale::Scale;
-use crate::glyph::{GlyphPosition, hb_glyph_info_t};
+use crate::glyph::GlyphPosition;
 use crate::ot_gpos::chains::ATTACH_TYPE_CURSIVE;
 use crate::ot_gpos::flags::{mark_attached, mark_break, mark_concat};
-use crate::ot_gpos_tables::kern_table::{KernSubtable, KernTable};
-use crate::ot_layout::matcher::Matcher;
-use crate::ot_layout::skipping_iterator::{Found, LookupOptions, SkippingIterator};
+use crate::ot_gpos::kern_pairs::{KernMachine, KernPair, in_line, pair_of, passes_over_pair};
+use crate::ot_gpos_tables::kern_table::{KernCoverage, KernSubtable, KernTable};
+use crate::ot_layout::skipping_iterator::{LookupOptions, SkippingIterator};
 use crate::ot_lookups::lookup_props::LookupProps;
 
 /// The bit of a lookup's flag that passes over marks.
 const IGNORE_MARKS: u16 = 0x0008;
-
-/// A pair of glyphs in the order in which a line shows them.
-#[derive(Clone, Copy, Debug)]
-struct KernPair {
-    /// The place of the left or upper glyph.
-    left: usize,
-    /// The place of the right or lower one.
-    right: usize,
-    /// How far the right glyph is moved from the left one.
-    value: i32,
-    /// Whether it is moved across the line.
-    is_cross_stream: bool,
-}
 
 /// Moves pairs of glyphs by the subtables for lines of this direction, where the glyphs have one of the
 /// options' bits.
@@ -41,6 +28,7 @@ struct KernPair {
 /// # Proved
 ///
 /// ```text
+/// ensures is { buffer.new ≡ kerning.kerned table.now scale.now options.now buffer.old }
 /// ensures closed { buffer.new.have_output ≡ false }
 /// ensures placed { IsSome buffer.new.positions }
 /// ensures rest { untouched buffer.new ≡ untouched buffer.old }
@@ -71,85 +59,171 @@ fn kern_by_all(
     debug_assert!(!buffer.have_output());
     debug_assert!(buffer.have_positions());
     mark_concat(buffer, 0, usize::MAX);
+    let iterator = over_bases(options);
+    let mut is_chained = false;
+    let mut at = table.start();
+    for number in 0..table.count {
+        let Some(subtable) = subtable_of(table, at, number) else {
+            return;
+        };
+        let direction = direction_of(buffer);
+        let machine = KernMachine {
+            subtable,
+            iterator,
+            scale: *scale,
+            direction,
+        };
+        is_chained = apply(buffer, &machine, is_chained);
+        at = at.saturating_add(subtable.length);
+    }
+}
+
+/// The direction of the line.
+fn direction_of(buffer: &hb_buffer_t) -> Direction {
+    buffer.direction
+}
+
+/// The subtable that begins at a place, whose number is this one.
+fn subtable_of<'a>(table: &KernTable<'a>, at: usize, number: u32) -> Option<KernSubtable<'a>> {
+    table.subtable_at(at, number)
+}
+
+/// The iterator over the glyphs that are kerned: it passes over marks.
+fn over_bases<'a>(options: &LookupOptions) -> SkippingIterator<'a> {
     let lookup_props = LookupProps {
         flags: IGNORE_MARKS,
         marks: Coverage::new(&[]),
     };
-    let iterator = SkippingIterator::over_input(lookup_props, options, true);
-    let mut is_chained = false;
-    let mut at = table.start();
-    for number in 0..table.count {
-        let Some(subtable) = table.subtable_at(at, number) else {
-            return;
-        };
-        at = at.saturating_add(subtable.length);
-        if is_for(&subtable, buffer.direction) {
-            if subtable.coverage.is_cross_stream && !is_chained {
-                is_chained = true;
-                let direction = buffer.direction;
-                chain_all(buffer.pos_mut(), direction);
-            }
-            kern_by(buffer, &subtable, &iterator, scale);
-        }
-    }
+    SkippingIterator::over_input(lookup_props, options, true)
 }
 
-/// Whether a subtable is for lines of this direction.
-fn is_for(subtable: &KernSubtable, direction: Direction) -> bool {
-    !subtable.coverage.is_variation && subtable.coverage.is_horizontal == direction.is_horizontal()
-}
-
-/// Joins each glyph to the one before it in the line: what moves one across the line moves all that
-/// follow.
-fn chain_all(positions: &mut [GlyphPosition], direction: Direction) {
-    let chain = if direction.is_forward() { -1 } else { 1 };
-    for position in positions.iter_mut() {
-        position.set_attach_type(ATTACH_TYPE_CURSIVE);
-        position.set_attach_chain(chain);
-    }
-}
-
-/// Moves pairs of glyphs by a subtable. In lines that run backward the iterator begins at the end, as
-/// the left glyph of a pair stands there.
+/// Moves pairs of glyphs by a subtable, if it is for lines of this direction. The first that moves
+/// glyphs across the line joins all of them before. Says whether they are joined.
 ///
 /// # Requires
 ///
 /// - `closed: buffer.old.have_output ≡ false`
 /// - `placed: IsSome buffer.old.positions`
-fn kern_by(
-    buffer: &mut hb_buffer_t,
-    subtable: &KernSubtable,
-    iterator: &SkippingIterator,
-    scale: &Scale,
-) {
+/// - `passes: PassesMarks machine.now.iterator`
+fn apply(buffer: &mut hb_buffer_t, machine: &KernMachine, is_chained: bool) -> bool {
+    debug_assert!(!buffer.have_output());
+    debug_assert!(buffer.have_positions());
+    if is_for(&machine.subtable.coverage, machine.direction) {
+        chain(buffer, machine, is_chained);
+        kern_by(buffer, machine);
+        is_chained || machine.subtable.coverage.is_cross_stream
+    } else {
+        is_chained
+    }
+}
+
+/// Whether a subtable is for lines of this direction.
+fn is_for(coverage: &KernCoverage, direction: Direction) -> bool {
+    if coverage.is_variation {
+        false
+    } else if direction.is_horizontal() {
+        coverage.is_horizontal
+    } else {
+        !coverage.is_horizontal
+    }
+}
+
+/// Joins all glyphs, if the subtable moves glyphs across the line and they are not joined yet.
+///
+/// # Requires
+///
+/// - `closed: buffer.old.have_output ≡ false`
+/// - `placed: IsSome buffer.old.positions`
+fn chain(buffer: &mut hb_buffer_t, machine: &KernMachine, is_chained: bool) {
+    debug_assert!(!buffer.have_output());
+    debug_assert!(buffer.have_positions());
+    if machine.subtable.coverage.is_cross_stream && !is_chained {
+        let chain = chain_back(machine.direction);
+        chain_all(buffer.pos_mut(), chain);
+    }
+}
+
+/// The chain to the glyph before, in the order of the line.
+fn chain_back(direction: Direction) -> i16 {
+    if direction.is_forward() { -1 } else { 1 }
+}
+
+/// Joins each glyph to the one before it in the line: what moves one across the line moves all that
+/// follow.
+fn chain_all(positions: &mut [GlyphPosition], chain: i16) {
+    for position in positions.iter_mut() {
+        join(position, chain);
+    }
+}
+
+/// Joins a glyph to another by this chain.
+fn join(position: &mut GlyphPosition, chain: i16) {
+    position.set_attach_type(ATTACH_TYPE_CURSIVE);
+    position.set_attach_chain(chain);
+}
+
+/// Moves pairs of glyphs by a subtable, one after the other in the order of the line.
+///
+/// # Requires
+///
+/// - `closed: buffer.old.have_output ≡ false`
+/// - `placed: IsSome buffer.old.positions`
+/// - `passes: PassesMarks machine.now.iterator`
+fn kern_by(buffer: &mut hb_buffer_t, machine: &KernMachine) {
     debug_assert!(!buffer.have_output());
     debug_assert!(buffer.have_positions());
     let len = buffer.len();
-    let is_backward = buffer.direction.is_backward();
-    let mut next = 0;
-    let mut first_crossed = None;
-    for turn in 0..len {
-        let left = if is_backward { len - 1 - turn } else { turn };
-        if next <= turn {
-            if let Some(pair) = pair_of(buffer.info(), subtable, iterator, left, is_backward) {
-                next = if is_backward {
-                    len.saturating_sub(1).saturating_sub(pair.right)
-                } else {
-                    pair.right
-                };
-                if pair.value != 0 {
-                    kern_pair(buffer, &pair, scale);
-                    if pair.is_cross_stream && first_crossed.is_none() {
-                        first_crossed = Some(left);
-                    }
-                } else if passes_over_pair(buffer.info(), subtable, iterator, &pair) {
-                    mark_passed(buffer, &pair);
-                }
+    let mut turn = 0;
+    let mut across = None;
+    for _step in 0..len {
+        if turn >= buffer.len() {
+            mark_rest(buffer, machine.direction, across);
+            return;
+        }
+        turn = kern_at(buffer, machine, turn, &mut across);
+    }
+    mark_rest(buffer, machine.direction, across);
+}
+
+/// Moves the pair of the glyph whose turn it is, and says whose turn it is then: that of its right
+/// glyph, or of the next one where there is no pair.
+///
+/// # Requires
+///
+/// - `closed: buffer.old.have_output ≡ false`
+/// - `placed: IsSome buffer.old.positions`
+/// - `passes: PassesMarks machine.now.iterator`
+/// - `there: turn < length buffer.old.input`
+fn kern_at(
+    buffer: &mut hb_buffer_t,
+    machine: &KernMachine,
+    turn: usize,
+    across: &mut Option<usize>,
+) -> usize {
+    debug_assert!(!buffer.have_output());
+    debug_assert!(buffer.have_positions());
+    debug_assert!(turn < buffer.info().len());
+    let len = buffer.len();
+    let left = in_line(machine.direction, len, turn);
+    let Some(pair) = pair_of(buffer.info(), machine, left) else {
+        return turn + 1;
+    };
+    try_pair(buffer, machine, &pair);
+    *across = first_crossed(&pair, *across);
+    in_line(machine.direction, len, pair.right)
+}
+
+/// The left glyph of the first pair that is moved across the line.
+fn first_crossed(pair: &KernPair, across: Option<usize>) -> Option<usize> {
+    match across {
+        Some(place) => Some(place),
+        None => {
+            if pair.is_cross_stream && pair.value != 0 {
+                Some(pair.left)
+            } else {
+                None
             }
         }
-    }
-    if let Some(left) = first_crossed {
-        mark_rest(buffer, left, is_backward);
     }
 }
 
@@ -160,81 +234,52 @@ fn kern_by(
 ///
 /// - `closed: buffer.old.have_output ≡ false`
 /// - `placed: IsSome buffer.old.positions`
-fn mark_rest(buffer: &mut hb_buffer_t, left: usize, is_backward: bool) {
+fn mark_rest(buffer: &mut hb_buffer_t, direction: Direction, across: Option<usize>) {
     debug_assert!(!buffer.have_output());
     debug_assert!(buffer.have_positions());
-    if is_backward {
-        mark_break(buffer, 0, left.saturating_add(1));
+    match across {
+        Some(left) => {
+            if direction.is_forward() {
+                mark_break(buffer, left, usize::MAX);
+            } else {
+                mark_break(buffer, 0, left.saturating_add(1));
+            }
+        }
+        None => {}
+    }
+}
+
+/// Moves a pair that has a value. What another passes over may not be parted, where it might be kerned.
+///
+/// # Requires
+///
+/// - `closed: buffer.old.have_output ≡ false`
+/// - `placed: IsSome buffer.old.positions`
+/// - `left: pair.now.left < length buffer.old.input`
+/// - `right: pair.now.right < length buffer.old.input`
+fn try_pair(buffer: &mut hb_buffer_t, machine: &KernMachine, pair: &KernPair) {
+    debug_assert!(!buffer.have_output());
+    debug_assert!(buffer.have_positions());
+    if pair.value == 0 {
+        mark_unkerned(buffer, machine, pair);
     } else {
-        mark_break(buffer, left, usize::MAX);
+        kern_pair(buffer, machine, pair);
     }
 }
 
-/// The pair of the glyph at a place and the next one in the line that is not passed over; `None` where
-/// there is none, or the glyph has not the bits that are asked for.
-fn pair_of(
-    glyphs: &[hb_glyph_info_t],
-    subtable: &KernSubtable,
-    iterator: &SkippingIterator,
-    left: usize,
-    is_backward: bool,
-) -> Option<KernPair> {
-    let glyph = glyphs.get(left)?;
-    if glyph.mask & iterator.mask == 0 {
-        return None;
-    }
-    let Found::At(right) = neighbour(glyphs, iterator, left, is_backward) else {
-        return None;
-    };
-    Some(KernPair {
-        left,
-        right,
-        value: i32::from(value_of(subtable, glyph, glyphs.get(right)?)),
-        is_cross_stream: subtable.coverage.is_cross_stream,
-    })
-}
-
-/// The next glyph in the line.
-fn neighbour(
-    glyphs: &[hb_glyph_info_t],
-    iterator: &SkippingIterator,
-    left: usize,
-    is_backward: bool,
-) -> Found {
-    if left >= glyphs.len() {
-        Found::End
-    } else if is_backward {
-        iterator.previous(&Matcher::Shown, glyphs, left)
-    } else {
-        iterator.next(&Matcher::Shown, glyphs, left)
-    }
-}
-
-/// Whether one of the glyphs between those of a pair would be kerned with its right glyph, if the line
-/// began there.
-fn passes_over_pair(
-    glyphs: &[hb_glyph_info_t],
-    subtable: &KernSubtable,
-    iterator: &SkippingIterator,
-    pair: &KernPair,
-) -> bool {
-    let (first, last) = (pair.left.min(pair.right), pair.left.max(pair.right));
-    let Some(right) = glyphs.get(pair.right) else {
-        return false;
-    };
-    match glyphs.get(first.saturating_add(1)..last) {
-        Some(passed) => passed
-            .iter()
-            .any(|glyph| glyph.mask & iterator.mask != 0 && value_of(subtable, glyph, right) != 0),
-        None => false,
-    }
-}
-
-/// The value of two glyphs, in font units.
-fn value_of(subtable: &KernSubtable, left: &hb_glyph_info_t, right: &hb_glyph_info_t) -> i16 {
-    match (u16::try_from(left.glyph_id), u16::try_from(right.glyph_id)) {
-        (Ok(left), Ok(right)) => subtable.kerning(left, right),
-        _ => 0,
+/// Marks what a pair passes over, if one of these glyphs would be kerned with its right glyph.
+///
+/// # Requires
+///
+/// - `closed: buffer.old.have_output ≡ false`
+/// - `placed: IsSome buffer.old.positions`
+/// - `left: pair.now.left < length buffer.old.input`
+/// - `right: pair.now.right < length buffer.old.input`
+fn mark_unkerned(buffer: &mut hb_buffer_t, machine: &KernMachine, pair: &KernPair) {
+    debug_assert!(!buffer.have_output());
+    debug_assert!(buffer.have_positions());
+    if passes_over_pair(buffer.info(), machine, pair) {
+        mark_passed(buffer, pair);
     }
 }
 
@@ -244,16 +289,27 @@ fn value_of(subtable: &KernSubtable, left: &hb_glyph_info_t, right: &hb_glyph_in
 ///
 /// - `closed: buffer.old.have_output ≡ false`
 /// - `placed: IsSome buffer.old.positions`
-fn kern_pair(buffer: &mut hb_buffer_t, pair: &KernPair, scale: &Scale) {
+fn kern_pair(buffer: &mut hb_buffer_t, machine: &KernMachine, pair: &KernPair) {
     debug_assert!(!buffer.have_output());
     debug_assert!(buffer.have_positions());
-    let is_horizontal = buffer.direction.is_horizontal();
-    move_pair(buffer.pos_mut(), pair, scale, is_horizontal);
+    put(buffer, machine, pair);
+    let (first, second) = (pair.left.min(pair.right), pair.left.max(pair.right));
+    mark_break(buffer, first, second.saturating_add(1));
+}
+
+/// Moves a pair. A glyph that is moved across the line is attached to the one before it.
+///
+/// # Requires
+///
+/// - `closed: buffer.old.have_output ≡ false`
+/// - `placed: IsSome buffer.old.positions`
+fn put(buffer: &mut hb_buffer_t, machine: &KernMachine, pair: &KernPair) {
+    debug_assert!(!buffer.have_output());
+    debug_assert!(buffer.have_positions());
+    move_pair(buffer.pos_mut(), machine, pair);
     if pair.is_cross_stream {
         mark_attached(buffer);
     }
-    let (first, second) = (pair.left.min(pair.right), pair.left.max(pair.right));
-    mark_break(buffer, first, second.saturating_add(1));
 }
 
 /// Marks what a pair passes over: if a line began there, it might be kerned with the right glyph.
@@ -277,18 +333,29 @@ fn mark_passed(buffer: &mut hb_buffer_t, pair: &KernPair) {
 }
 
 /// Moves a pair along the line, or its right glyph across it.
-fn move_pair(positions: &mut [GlyphPosition], pair: &KernPair, scale: &Scale, is_horizontal: bool) {
-    let value = if is_horizontal {
-        scale.em_scale_x(pair.value)
-    } else {
-        scale.em_scale_y(pair.value)
-    };
+fn move_pair(positions: &mut [GlyphPosition], machine: &KernMachine, pair: &KernPair) {
+    let is_horizontal = machine.direction.is_horizontal();
+    let value = scaled(machine, pair.value);
     if pair.is_cross_stream {
-        if let Some(right) = positions.get_mut(pair.right) {
-            cross(right, value, is_horizontal);
-        }
+        cross_at(positions, pair.right, value, is_horizontal);
     } else {
         draw_together(positions, pair.left, pair.right, value, is_horizontal);
+    }
+}
+
+/// A length along the line, at the font's size.
+fn scaled(machine: &KernMachine, value: i32) -> i32 {
+    if machine.direction.is_horizontal() {
+        machine.scale.em_scale_x(value)
+    } else {
+        machine.scale.em_scale_y(value)
+    }
+}
+
+/// Puts the glyph at a place so far across the line.
+fn cross_at(positions: &mut [GlyphPosition], place: usize, value: i32, is_horizontal: bool) {
+    if place < positions.len() {
+        cross(&mut positions[place], value, is_horizontal);
     }
 }
 

@@ -55,6 +55,10 @@ struct Task<'a, P> {
 /// ensures flags { KeepsBits buffer.old.input buffer.new.input }
 /// ensures spent { IsNotMore search.old.budget search.new.budget }
 /// ensures says { search.new.budget.steps ≡ 0 → buffer.new.shaping_failed ≡ true }
+/// ensures exact { let subtables = setting.now.list.now.subtables.items in
+///     let at = slice_get setting.now.list.now.lookups.items lookup in
+///     HasNoContexts subtables at → HasNoPixels setting.now.instance → 0 < search.new.budget.steps
+///     → buffer.new ≡ positioned subtables at options.now setting.now.instance buffer.old }
 /// ensures keeps { KeepsClusters buffer.old buffer.new }
 /// ```
 #[inline]
@@ -88,10 +92,11 @@ fn place_all<'a, P: ContourPoints>(
 ) {
     debug_assert!(!buffer.have_output());
     debug_assert!(buffer.have_positions());
-    if let Some(lookup) = setting.list.lookup(lookup) {
-        search.budget.pay_for(1 + buffer.len() / PASSED_A_STEP);
-        place_by_all(buffer, setting, lookup, options, search);
-    }
+    let Some(lookup) = setting.list.lookup(lookup) else {
+        return;
+    };
+    search.budget.pay_for(1 + buffer.len() / PASSED_A_STEP);
+    place_by_all(buffer, setting, lookup, options, search);
 }
 
 /// Positions the glyphs by this lookup, one after the other.

@@ -139,7 +139,11 @@ fn chained_rule<'a>(table: &'a [u8], match_functions: &MatchFunctions<'a>) -> Op
 }
 
 /// So many coverages of a list from a place on, or as many as there are from there on.
-fn coverages_at<'a>(coverages: &'a [Coverage<'a>], at: usize, count: u16) -> Sequence<'a> {
+pub(crate) fn coverages_at<'a>(
+    coverages: &'a [Coverage<'a>],
+    at: usize,
+    count: u16,
+) -> Sequence<'a> {
     Sequence {
         match_function: MatchFunction::Coverages(if at < coverages.len() {
             &coverages[at..]

@@ -8,7 +8,7 @@ use crate::ot_layout::context::{Fit, fitting_rule};
 use crate::ot_layout::glyph_table::Glyphs;
 use crate::ot_layout::matching::{match_backtrack, match_input, match_lookahead};
 use crate::ot_layout::neighbours::{Next, next_seen};
-use crate::ot_layout::rule::{MatchFunction, Sequence};
+use crate::ot_layout::rule::{MatchFunction, Sequence, coverages_at};
 use crate::ot_layout::search::{ApplyContext, Search};
 use crate::ot_layout::skipping_iterator::LookupOptions;
 use crate::ot_lookups::lookup_list::{Lookup, LookupList};
@@ -346,14 +346,9 @@ fn reverse<'a>(
     search: &mut Search,
 ) -> Option<Edit<'a>> {
     let table = subtable.table;
-    let backtrack = u16_at(table, 4)?;
-    let lookahead_at = 6 + 2 * usize::from(backtrack);
-    let lookahead = u16_at(table, lookahead_at)?;
-    let substitutes_at = lookahead_at + 2 + 2 * usize::from(lookahead);
-    if index >= u32::from(u16_at(table, substitutes_at)?) {
-        return None;
-    }
-    let glyph = u16_at(table, substitutes_at + 2 + 2 * index as usize)?;
+    let backtrack = u16_at(table, 4).unwrap_or(0);
+    let lookahead = u16_at(table, 6 + 2 * usize::from(backtrack)).unwrap_or(0);
+    let glyph = substitute(table, backtrack, lookahead, index)?;
     let parts = covered_sequence(list, subtable, 0, backtrack);
     let from = match match_backtrack(ctx, &parts, search) {
         Ok(from) => from,
@@ -372,6 +367,16 @@ fn reverse<'a>(
     }
 }
 
+/// The substitute of a coverage index, behind the offsets of so many coverages.
+fn substitute(table: &[u8], backtrack: u16, lookahead: u16, index: u32) -> Option<u16> {
+    let count_at = 8 + 2 * usize::from(backtrack) + 2 * usize::from(lookahead);
+    if index < u32::from(u16_at(table, count_at)?) {
+        u16_at(table, count_at + 2 + 2 * index as usize)
+    } else {
+        None
+    }
+}
+
 /// So many of the coverages of a subtable, from the one of this number on.
 fn covered_sequence<'a>(
     list: &'a LookupList<'a>,
@@ -379,9 +384,5 @@ fn covered_sequence<'a>(
     first: usize,
     count: u16,
 ) -> Sequence<'a> {
-    Sequence {
-        match_function: MatchFunction::Coverages(list.coverages_from(subtable, first)),
-        numbers: &[],
-        count,
-    }
+    coverages_at(list.coverages_from(subtable, 0), first, count)
 }

@@ -9,14 +9,15 @@ use crate::buffer::{
 use crate::font_face::Face;
 use crate::font_functions::{FontFunctions, OwnFunctions};
 use crate::memory::AllocError;
-use crate::ot_apply::{Step, Unwatched, Watch, position, set_masks, substitute};
+use crate::ot_apply::{set_masks, substitute};
 use crate::ot_characters::{
     ensure_native_direction, form_clusters, insert_dotted_circle, keep_contexts, keep_numbers,
     rotate_characters, set_direction, set_properties,
 };
 use crate::ot_gsub::substitute_start;
 use crate::ot_normalization::normalize;
-use crate::ot_plan::{FaceGlyphs, TextPlan, plan_of_text};
+use crate::ot_plan::{FaceGlyphs, Step, TextPlan, Unwatched, Watch, plan_of_text};
+use crate::ot_positioning::position;
 use crate::ot_positions::{
     hide_ignorables, mark_given_up, propagate_flags, recategorize_marks, share_flags,
     show_variation_selectors,

@@ -5,8 +5,7 @@
 use crate::buffer::{Feature, GlyphBuffer, hb_buffer_t};
 use crate::font_face::Face;
 use crate::font_functions::FontFunctions;
-use crate::ot_apply::Unwatched;
-use crate::ot_plan::TextPlan;
+use crate::ot_plan::{TextPlan, Unwatched};
 use crate::ot_shape::shaping::shape_planned;
 use crate::verification::{Original, ShapeError, ShapesParts, verify};
 

@@ -5,8 +5,7 @@
 use crate::buffer::{Feature, GlyphBuffer, UnicodeBuffer};
 use crate::font_face::Face;
 use crate::font_functions::{FontFunctions, OwnFunctions};
-use crate::ot_apply::{Unwatched, Watch};
-use crate::ot_plan::{KeptPlans, ShapePlan, text_plan};
+use crate::ot_plan::{KeptPlans, ShapePlan, Unwatched, Watch, text_plan};
 use crate::ot_shape::shaping::shape_by_plan;
 use crate::verification::ShapeError;
 

@@ -10,12 +10,6 @@ use core::cmp::Ordering;
 /// How many bytes a row has: a code of three, three tags, and the end of the line.
 const ROW_LEN: usize = 16;
 
-/// How many bytes two rows have.
-const TWO_ROWS: usize = 32;
-
-/// As many turns of a bisection as 65536 rows need.
-const TURNS: usize = 17;
-
 /// The tags of a code of two or three letters, of which there may be none; `None` where the registry
 /// does not have it.
 pub(crate) fn registered_tags(code: &[u8]) -> Option<LanguageTags> {
@@ -28,7 +22,7 @@ pub(crate) fn registered_tags(code: &[u8]) -> Option<LanguageTags> {
 
 /// The tags in the row of a code.
 fn tags_of_code(code: &[u8; 3]) -> Option<LanguageTags> {
-    let row = row_of(LANGUAGE_ROWS.as_bytes(), code)?;
+    let row = row_of(registry(), code)?;
     Some(LanguageTags {
         first: tag_at(row, 3),
         second: tag_at(row, 7),
@@ -36,39 +30,65 @@ fn tags_of_code(code: &[u8; 3]) -> Option<LanguageTags> {
     })
 }
 
-/// The row of a code, found by bisection.
+/// The rows of the registry, one after the other.
+fn registry() -> &'static [u8] {
+    LANGUAGE_ROWS.as_bytes()
+}
+
+/// The row of a code, found by bisection of rows whose codes rise.
+///
+/// # Requires
+///
+/// - `codes_rise (rows_of rows.now) ≡ true`
 fn row_of<'a>(rows: &'a [u8], code: &[u8; 3]) -> Option<&'a [u8]> {
-    let mut rest = rows;
-    for _turn in 0..TURNS {
-        let start = (rest.len() / TWO_ROWS).wrapping_mul(ROW_LEN);
-        let from = rest.get(start..)?;
-        let row = from.get(..ROW_LEN)?;
-        match row[..3].cmp(&code[..]) {
-            Ordering::Less => rest = &from[ROW_LEN..],
+    let mut low = 0;
+    let mut high = rows.len() / ROW_LEN;
+    while low < high {
+        let middle = low + (high - low) / 2;
+        let row = row_at(rows, middle);
+        match order(row, code) {
+            Ordering::Less => low = middle + 1,
             Ordering::Equal => return Some(row),
-            Ordering::Greater => rest = &rest[..start],
+            Ordering::Greater => high = middle,
         }
     }
     None
 }
 
+/// The row of this number.
+///
+/// # Requires
+///
+/// - `number < length rows.now / 16`
+fn row_at(rows: &[u8], number: usize) -> &[u8] {
+    &rows[ROW_LEN * number..ROW_LEN * number + ROW_LEN]
+}
+
+/// How the code of a row is to a code.
+///
+/// # Requires
+///
+/// - `3 ≤ length row.now`
+fn order(row: &[u8], code: &[u8; 3]) -> Ordering {
+    debug_assert!(3 <= row.len());
+    row[..3].cmp(&code[..])
+}
+
 /// The tag at a place of a row; `None` where it begins with `-`.
 fn tag_at(row: &[u8], at: usize) -> Option<Tag> {
     match *row.get(at..)? {
-        [b'-', ..] => None,
-        [a, b, c, d, ..] => Some(Tag::from_bytes(&[a, b, c, d])),
+        [a, b, c, d, ..] if a != b'-' => Some(Tag::from_bytes(&[a, b, c, d])),
         _ => None,
     }
 }
 
 /// A subtag of three letters is its own tag, in capitals.
 pub(crate) fn own_tag(subtag: &[u8]) -> LanguageTags {
-    let tag = match *subtag {
-        [_, _, _] => Some(Tag::from_bytes_lossy(subtag).to_uppercase()),
-        _ => None,
-    };
+    if subtag.len() != 3 {
+        return LanguageTags::none();
+    }
     LanguageTags {
-        first: tag,
+        first: Some(Tag::from_bytes_lossy(subtag).to_uppercase()),
         second: None,
         third: None,
     }

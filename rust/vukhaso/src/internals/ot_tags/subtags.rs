@@ -8,34 +8,51 @@ pub(crate) fn prefix(language: &[u8]) -> &[u8] {
     if language.starts_with(b"x-") {
         return &[];
     }
-    for i in 1..language.len().saturating_sub(2) {
-        if language[i] == b'-' && language[i + 2] == b'-' {
-            return &language[..i];
+    &language[..before_singleton(language)]
+}
+
+/// How many bytes stand before the `-` of the first singleton, or how many there are.
+fn before_singleton(text: &[u8]) -> usize {
+    for i in 1..text.len().saturating_sub(2) {
+        if text[i] == b'-' && text[i + 2] == b'-' {
+            return i;
         }
     }
-    language
+    text.len()
 }
 
 /// What stands before the first `-`, and what stands behind it. Where there is none, all stands before
 /// it.
 pub(crate) fn first_subtag(text: &[u8]) -> (&[u8], &[u8]) {
-    for i in 0..text.len() {
-        if text[i] == b'-' {
-            return (&text[..i], &text[i + 1..]);
-        }
+    let len = first_subtag_len(text);
+    if len < text.len() {
+        (&text[..len], &text[len + 1..])
+    } else {
+        (text, &[])
     }
-    (text, &[])
+}
+
+/// How many bytes stand before the first `-`, or how many there are.
+fn first_subtag_len(text: &[u8]) -> usize {
+    text.iter().take_while(|b| **b != b'-').count()
+}
+
+/// Whether a text is this one.
+pub(crate) fn is_same(text: &[u8], other: &[u8]) -> bool {
+    text == other
 }
 
 /// Whether one of the subtags is this one.
+///
+/// # Requires
+///
+/// - `0 < length subtag.now`
 pub(crate) fn has_subtag(subtags: &[u8], subtag: &[u8]) -> bool {
+    debug_assert!(!subtag.is_empty());
     let mut rest = subtags;
-    for _turn in 0..subtags.len() {
-        if rest.is_empty() {
-            break;
-        }
+    while !rest.is_empty() {
         let (first, behind) = first_subtag(rest);
-        if first == subtag {
+        if is_same(first, subtag) {
             return true;
         }
         rest = behind;

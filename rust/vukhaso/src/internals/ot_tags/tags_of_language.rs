@@ -42,7 +42,7 @@ impl LanguageTags {
     /// # Proved
     ///
     /// ```text
-    /// ensures none { IsNone language.entry → result ≡ [] }
+    /// ensures { result ≡ tags_of (option_copied language.entry) }
     /// ```
     #[inline]
     pub fn of(language: Option<&Language>) -> Self {

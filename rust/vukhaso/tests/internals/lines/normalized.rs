@@ -1,7 +1,7 @@
 //! Glyphs of a cluster in their nominal order.
 
 use vukhaso::internals::buffer::{GlyphPosition, hb_glyph_info_t};
-use vukhaso::internals::lines::normalized::normalize_glyphs;
+use vukhaso::internals::glyphs::normalized::normalize_glyphs;
 
 /// A glyph of this number in a cluster.
 fn glyph(number: u32, cluster: u32) -> hb_glyph_info_t {

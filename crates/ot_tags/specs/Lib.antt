@@ -1,0 +1,4 @@
+pub mod LanguageTags
+pub mod Registry
+pub mod SubtagRules
+pub mod Subtags

@@ -1,0 +1,5 @@
+pub mod Numbered
+-- what is said of a font
+pub use Rattle.font_face.specs.Face
+-- the lines of a text
+pub use Rattle.shape_lines.specs.Lines

@@ -1,0 +1,7 @@
+//! What `vukhaso_shape` keeps: a font for all command lines in a row that name it, plans and a buffer from line to line, and the steps
+//! of shaping a line.
+#![tactic(auto)]
+
+pub mod kept_line;
+pub mod loaded_font;
+pub mod trace;

@@ -1,0 +1,8 @@
+// Written by tools/plain_rust from crates/shape_glyphs. Do not edit.
+
+//! What `vukhaso_shape` does with glyphs: lines that write them are read, options change them, and they are drawn.
+
+pub mod edits;
+pub mod glyph_line;
+pub mod normalized;
+pub mod picture;
