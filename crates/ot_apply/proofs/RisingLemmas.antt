@@ -99,6 +99,10 @@ in_front_of-stays g (h ∷ l) up =
     let e : g.cluster ≡ min g.cluster h.cluster = omega (arith, le) in
     cond-true _ _ _ (eq-eqb _ _ e)
 
+pub length-rising : (l : List hb_glyph_info_t) → length (rising l) ≡ length l
+length-rising l =
+    sym (length-clusters (rising l)) ∙ ap length (clusters-rising l) ∙ length-least_from (clusters l) ∙ length-clusters l
+
 pub rising_stays : (l : List hb_glyph_info_t) → NeverFalls (clusters l) → rising l ≡ l
 unfolding rising
 rising_stays [] up = refl

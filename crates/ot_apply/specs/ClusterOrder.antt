@@ -5,6 +5,7 @@ use Rattle.glyph_lists.specs.Clusters.{least, with_cluster}
 use Rattle.glyph_lists.specs.KeptClusters.{Runs}
 use Rattle.shaping_buffer.specs.State.{State}
 use Rattle.shaping_buffer.specs.KeepsClusters.{KeepsClusters}
+use Rattle.shaping_buffer.specs.GroupStep.{reverse}
 use Rattle.script_syllables.specs.KeepsNumbers.{KeepsNumbers}
 use Rattle.script_shapers.specs.declared.syllables.SyllablePlan.{SyllablePlan}
 use Rattle.ot_plan.specs.Shapers.{orders_syllables}
@@ -41,6 +42,16 @@ abbrev pub IsCourseOf : ClusterCourse → List ℕ → Type 0
 IsCourseOf Rising cs = Runs true cs
 IsCourseOf Falling cs = Runs false cs
 IsCourseOf Neither cs = (up : Bool) → Runs up cs → ⊥
+
+-- the glyphs of a buffer, each in front of those behind it
+abbrev pub raised : State → State
+raised s = record s { input = rising s.input }
+
+-- Clusters that ran this way are put in order. A text in which they fell is turned for that.
+abbrev pub put_in_order : ClusterCourse → State → State
+put_in_order Rising s = raised s
+put_in_order Falling s = reverse (raised (reverse s))
+put_in_order Neither s = s
 
 -- ---- stages of substitution
 

@@ -1,2 +1,4 @@
 pub mod ClusterOrder
 pub mod JoinedSyllables
+pub mod Masks
+pub mod Stages

@@ -4,7 +4,7 @@ ghost use Rattle.std.specs.Prelude.{◌≡◌, true, false};
 ghost use Rattle.glyph_lists.specs.Clusters.{clusters, NeverFalls, NeverRises};
 ghost use Rattle.shaping_buffer.specs.ClusterStep.{any_order, both};
 ghost use Rattle.script_syllables.specs.KeepsNumbers.{KeepsNumbers};
-ghost use Rattle.ot_apply.specs.ClusterOrder.{least_from, rising, Takes, IsCourseOf};
+ghost use Rattle.ot_apply.specs.ClusterOrder.{least_from, put_in_order, raised, rising, Takes, IsCourseOf};
 
 use glyph_lists::clusters::set_cluster;
 use script_items::allows_any_order;
@@ -39,6 +39,7 @@ impl ClusterCourse {
     #[tactic(auto, using(crate::proofs::StageLemmas::numbers))]
     pub(crate) fn restore(self, buffer: &mut hb_buffer_t)
         requires { buffer.old.have_output ≡ false }
+        ensures is { buffer.new ≡ put_in_order self buffer.old }
         ensures closed { buffer.new.have_output ≡ false }
         ensures runs { any_order buffer.old ≡ false → Takes self (clusters (both buffer.new)) }
         ensures numbers { KeepsNumbers buffer.old buffer.new }
@@ -100,6 +101,7 @@ fn never_rises(infos: &[hb_glyph_info_t]) -> bool
 /// Puts each glyph of a buffer into the least cluster from its place on.
 fn raise(buffer: &mut hb_buffer_t)
     requires { buffer.old.have_output ≡ false }
+    ensures is { buffer.new ≡ raised buffer.old }
     ensures closed { buffer.new.have_output ≡ false }
     ensures rises { NeverFalls (clusters (both buffer.new)) }
     ensures numbers { KeepsNumbers buffer.old buffer.new }

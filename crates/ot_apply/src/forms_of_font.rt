@@ -1,6 +1,6 @@
 //! What the shapers of syllables ask of a font.
 
-ghost use Rattle.std.specs.Prelude.{◌≡◌, true, false, IfOk};
+ghost use Rattle.std.specs.Prelude.{◌≡◌, ◌<◌, true, false, IfOk};
 ghost use Rattle.ot_apply.specs.ClusterOrder.{KeepsStage};
 ghost use Rattle.shaping_buffer.specs.KeepsClusters.{KeepsClusters};
 
@@ -87,10 +87,11 @@ pub(crate) fn work_on_syllables<F: FontFunctions>(
 }
 
 /// Says that shaping was given up where the budget is spent.
-fn fail_if_spent(buffer: &mut hb_buffer_t, budget: &Budget)
+pub(crate) fn fail_if_spent(buffer: &mut hb_buffer_t, budget: &Budget)
     ensures same_output { buffer.new.have_output ≡ buffer.old.have_output }
     ensures keeps { KeepsClusters buffer.old buffer.new }
     ensures says { budget.now.steps ≡ 0 → buffer.new.shaping_failed ≡ true }
+    ensures same { 0 < budget.now.steps → buffer.new ≡ buffer.old }
 {
     if budget.is_spent() {
         buffer.shaping_failed = true;

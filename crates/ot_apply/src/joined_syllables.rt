@@ -1,10 +1,14 @@
 //! Joined syllables of which a lookup of a stage hangs on the form.
 
 ghost use Rattle.std.specs.Prelude.{◌≡◌, false};
+ghost use Rattle.glyph_digests.specs.Digest.{HasGlyphs};
 ghost use Rattle.shaping_buffer.specs.KeepsClusters.{KeepsClusters};
 ghost use Rattle.ot_apply.specs.JoinedSyllables as joined;
+ghost use Rattle.ot_apply.specs.Stages.{joins};
 
+use crate::seen_glyphs::digest_of;
 use font_face::Face;
+use glyph_digests::Digest;
 use ot_lookups::lookup_list::{Lookup, SUBSTITUTION_EXTENSION};
 use ot_map::PlannedLookup;
 use ot_plan::TextPlan;
@@ -55,15 +59,19 @@ fn is_in_one(bits: u32, one: u32, other: u32) -> bool
     }
 }
 
-/// Marks as unsafe to break joined syllables of which a lookup of a stage hangs on the form.
+/// Marks as unsafe to break joined syllables of which a lookup of a stage hangs on the form, and sees which glyphs there are then.
 #[tactic(auto, using(shaping_buffer::proofs::ClosedKeepsLemmas::kept))]
 pub(crate) fn keep_joined(
     buffer: &mut hb_buffer_t,
     face: &Face,
     plan: &TextPlan,
     lookups: &[PlannedLookup],
+    glyphs: &mut Digest,
 )
-    requires { buffer.old.have_output ≡ false }
+    requires closed { buffer.old.have_output ≡ false }
+    requires met { HasGlyphs glyphs.old buffer.old.input }
+    ensures met { HasGlyphs glyphs.new buffer.new.input }
+    ensures unjoined { joins plan.now.syllables ≡ false → buffer.new ≡ buffer.old }
     ensures closed { buffer.new.have_output ≡ false }
     ensures keeps { KeepsClusters buffer.old buffer.new }
 {
@@ -73,6 +81,7 @@ pub(crate) fn keep_joined(
     for planned in lookups {
         keep_formed(buffer, face, &universal.forms, planned);
     }
+    *glyphs = digest_of(buffer);
 }
 
 /// Marks those of which a lookup hangs on the form.

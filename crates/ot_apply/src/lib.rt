@@ -6,6 +6,7 @@ mod cluster_order;
 mod forms_of_font;
 mod joined_syllables;
 mod masks;
+mod seen_glyphs;
 mod substitution;
 
 pub use masks::set_masks;

@@ -1,60 +1,53 @@
-//! Which glyphs have a feature: the masks of fractions, of the forms of letters, and of features that are asked for in a part of the text.
+//! Which glyphs have a feature (HarfBuzz, `hb_ot_shape_setup_masks`): the masks of fractions, of the forms of letters, and of features
+//! that are asked for in a part of the text.
 
-ghost use Rattle.std.specs.Prelude.{◌≡◌, ◌<◌, ◌≤◌, false, length};
-ghost use Rattle.shaping_buffer.specs.Clusters.{clusters};
+ghost use Rattle.std.specs.Prelude.{◌≡◌, ◌<◌, ◌≤◌, ◌+◌, false, length, map};
+ghost use Rattle.glyph_lists.specs.Marks.{with_glyph_flags};
+ghost use Rattle.glyph_lists.specs.Parts.{map_range};
+ghost use Rattle.ot_apply.specs.Masks as steps;
+ghost use Rattle.shaping_buffer.specs.ClusterStep as step;
 ghost use Rattle.shaping_buffer.specs.KeepsClusters.{KeepsClusters};
 
 use ot_characters::is_decimal_number;
-use ot_map::{LayoutPlan, ShapePlan};
+use ot_map::{LayoutPlan, PlannedFeature, ShapePlan};
 use ot_plan::TextPlan;
 use rb_text::Feature;
-use shaping_buffer::{HB_BUFFER_SCRATCH_FLAG_HAS_NON_ASCII, hb_buffer_t, hb_glyph_info_t};
-use std::ops::Range;
+use shaping_buffer::{
+    Direction, HB_BUFFER_SCRATCH_FLAG_HAS_NON_ASCII, hb_buffer_t, hb_glyph_info_t,
+};
 
 /// The slash of a fraction.
 const FRACTION_SLASH: u32 = 0x2044;
-
-/// The masks of the parts of a fraction.
-#[derive(Clone, Copy)]
-struct FractionMasks {
-    before: u32,
-    slash: u32,
-    behind: u32,
-}
-
-impl FractionMasks {
-    /// The mask of a place of the fraction.
-    fn at(&self, place: usize, slash: usize) -> u32 {
-        if place < slash {
-            self.before
-        } else if place == slash {
-            self.slash
-        } else {
-            self.behind
-        }
-    }
-}
 
 /// Sets the masks of a text that is mapped to glyphs, but has its characters yet.
 #[tactic(auto, using(shaping_buffer::proofs::ClosedKeepsLemmas::kept))]
 pub fn set_masks(buffer: &mut hb_buffer_t, plan: &TextPlan, features: &[Feature])
     requires { buffer.old.have_output ≡ false }
+    ensures set { steps.HasMasks plan.now features.now buffer.old buffer.new }
     ensures closed { buffer.new.have_output ≡ false }
     ensures keeps { KeepsClusters buffer.old buffer.new }
 {
-    if buffer.scratch_flags & HB_BUFFER_SCRATCH_FLAG_HAS_NON_ASCII != 0 && plan.shape.has_frac {
-        let masks = fraction_masks(&plan.shape, buffer.direction.is_forward());
-        set_fraction_masks(buffer, masks);
-    }
+    set_fractions(buffer, &plan.shape);
+    set_masks_of_script(buffer, plan);
+    set_feature_masks(buffer, &plan.shape.layout, features);
+}
+
+/// Sets the masks that the shaper of a script gives each glyph by itself.
+#[tactic(auto, using(shaping_buffer::proofs::ClosedKeepsLemmas::kept))]
+fn set_masks_of_script(buffer: &mut hb_buffer_t, plan: &TextPlan)
+    requires { buffer.old.have_output ≡ false }
+    ensures closed { buffer.new.have_output ≡ false }
+    ensures keeps { KeepsClusters buffer.old buffer.new }
+{
     plan.script.setup_masks(buffer);
     plan.syllables.setup_masks(buffer);
-    set_feature_masks(buffer, &plan.shape.layout, features);
 }
 
 /// Gives the glyphs of parts of the text the values of features that are asked for there.
 #[tactic(auto, using(shaping_buffer::proofs::ClosedKeepsLemmas::kept))]
 fn set_feature_masks(buffer: &mut hb_buffer_t, layout: &LayoutPlan, features: &[Feature])
     requires { buffer.old.have_output ≡ false }
+    ensures set { steps.HasFeatures layout.now features.now buffer.old buffer.new }
     ensures closed { buffer.new.have_output ≡ false }
     ensures keeps { KeepsClusters buffer.old buffer.new }
 {
@@ -67,107 +60,212 @@ fn set_feature_masks(buffer: &mut hb_buffer_t, layout: &LayoutPlan, features: &[
 #[tactic(auto, using(shaping_buffer::proofs::ClosedKeepsLemmas::kept))]
 fn set_feature_mask(buffer: &mut hb_buffer_t, layout: &LayoutPlan, feature: &Feature)
     requires { buffer.old.have_output ≡ false }
+    ensures set { steps.HasFeature layout.now feature.now buffer.old buffer.new }
     ensures closed { buffer.new.have_output ≡ false }
     ensures keeps { KeepsClusters buffer.old buffer.new }
 {
     if feature.is_global() {
         return;
     }
-    if let Some(planned) = layout.feature(feature.tag) {
-        let bits = planned.bits;
-        let value = bits.of_value(feature.value);
-        buffer.set_masks(value, bits.mask(), feature.start, feature.end);
+    set_value(buffer, layout, feature);
+}
+
+/// Gives the glyphs of a part of the text the value of a feature, if the plan has it.
+#[tactic(auto, using(shaping_buffer::proofs::ClosedKeepsLemmas::kept))]
+fn set_value(buffer: &mut hb_buffer_t, layout: &LayoutPlan, feature: &Feature)
+    requires { buffer.old.have_output ≡ false }
+    ensures set { steps.HasValue layout.now feature.now buffer.old buffer.new }
+    ensures closed { buffer.new.have_output ≡ false }
+    ensures keeps { KeepsClusters buffer.old buffer.new }
+{
+    match layout.feature(feature.tag) {
+        Some(planned) => set_bits(buffer, planned, feature),
+        None => {}
     }
 }
 
-/// The masks of the parts of a fraction, in the order of the text.
-fn fraction_masks(plan: &ShapePlan, is_forward: bool) -> FractionMasks {
-    let numerator = plan.numr_mask | plan.frac_mask;
-    let denominator = plan.frac_mask | plan.dnom_mask;
-    let (before, behind) = if is_forward {
-        (numerator, denominator)
-    } else {
-        (denominator, numerator)
-    };
-    FractionMasks {
-        before,
-        slash: plan.frac_mask,
-        behind,
+/// Gives the glyphs of a part of the text the value of a feature, in the bits of the plan's.
+fn set_bits(buffer: &mut hb_buffer_t, planned: &PlannedFeature, feature: &Feature)
+    requires { buffer.old.have_output ≡ false }
+    ensures is { buffer.new ≡ steps.with_value feature.now (Some planned.now) buffer.old }
+    ensures closed { buffer.new.have_output ≡ false }
+    ensures keeps { KeepsClusters buffer.old buffer.new }
+{
+    let bits = planned.bits;
+    let value = bits.of_value(feature.value);
+    buffer.set_masks(value, bits.mask(), feature.start, feature.end);
+}
+
+/// Sets the masks of fractions, if the font makes them. Their slash is past ASCII.
+#[tactic(auto, using(crate::proofs::FractionLemmas::texts, shaping_buffer::proofs::ClosedKeepsLemmas::kept))]
+fn set_fractions(buffer: &mut hb_buffer_t, plan: &ShapePlan)
+    requires { buffer.old.have_output ≡ false }
+    ensures is { buffer.new ≡ steps.with_fractions plan.now buffer.old }
+    ensures closed { buffer.new.have_output ≡ false }
+    ensures keeps { KeepsClusters buffer.old buffer.new }
+{
+    if buffer.scratch_flags & HB_BUFFER_SCRATCH_FLAG_HAS_NON_ASCII != 0 && plan.has_frac {
+        set_each_fraction(buffer, plan);
     }
 }
 
 /// Sets the masks of each fraction: digits, a slash, and digits.
 #[tactic(auto, using(shaping_buffer::proofs::ClosedKeepsLemmas::kept))]
-fn set_fraction_masks(buffer: &mut hb_buffer_t, masks: FractionMasks)
+fn set_each_fraction(buffer: &mut hb_buffer_t, plan: &ShapePlan)
     requires { buffer.old.have_output ≡ false }
+    ensures is { buffer.new ≡ steps.fractions_before plan.now (length buffer.old.input) buffer.old }
     ensures closed { buffer.new.have_output ≡ false }
     ensures keeps { KeepsClusters buffer.old buffer.new }
 {
-    let mut place = 0;
-    for _turn in 0..buffer.len() {
-        if place >= buffer.len() {
-            break;
-        }
-        place = set_fraction_mask(buffer, place, masks);
+    let count = buffer.info().len();
+    for place in 0..count {
+        set_if_slash(buffer, place, plan);
     }
 }
 
-/// Sets the masks of a fraction, if its slash is at a place, and says where to go on.
-#[tactic(auto, using(shaping_buffer::proofs::ClosedKeepsLemmas::kept))]
-fn set_fraction_mask(buffer: &mut hb_buffer_t, place: usize, masks: FractionMasks) -> usize
-    requires closed { buffer.old.have_output ≡ false }
-    requires there { place < length buffer.old.input }
+/// Sets the masks of a fraction, if its slash is at a place.
+#[tactic(auto, using(crate::proofs::FractionLemmas::slashes, shaping_buffer::proofs::ClosedKeepsLemmas::kept))]
+fn set_if_slash(buffer: &mut hb_buffer_t, place: usize, plan: &ShapePlan)
+    requires { buffer.old.have_output ≡ false }
+    ensures is { buffer.new ≡ steps.slash_at plan.now place buffer.old }
     ensures closed { buffer.new.have_output ≡ false }
     ensures keeps { KeepsClusters buffer.old buffer.new }
 {
-    if buffer.info()[place].glyph_id != FRACTION_SLASH {
-        return place + 1;
+    let infos = buffer.info();
+    if place < infos.len() && is_slash(&infos[place]) {
+        set_fraction(buffer, place, plan);
     }
-    let start = digits_before(buffer.info(), place);
-    let end = digits_behind(buffer.info(), place + 1);
-    if start == place || end == place + 1 {
-        buffer.unsafe_to_concat(Some(place), Some(place + 1));
-        return place + 1;
+}
+
+/// Whether a character is the slash of a fraction.
+fn is_slash(info: &hb_glyph_info_t) -> bool
+    ensures { result ≡ steps.is_slash info.now }
+{
+    info.glyph_id == FRACTION_SLASH && !is_decimal_number(info)
+}
+
+/// Sets the masks of the fraction whose slash is at a place, if it has digits on both sides. Else the slash is unsafe to concatenate.
+#[tactic(auto, using(crate::proofs::FractionLemmas::fractions, shaping_buffer::proofs::ClosedKeepsLemmas::kept))]
+fn set_fraction(buffer: &mut hb_buffer_t, slash: usize, plan: &ShapePlan)
+    requires closed { buffer.old.have_output ≡ false }
+    requires there { slash < length buffer.old.input }
+    ensures is { buffer.new ≡ steps.fraction_at plan.now slash buffer.old }
+    ensures closed { buffer.new.have_output ≡ false }
+    ensures keeps { KeepsClusters buffer.old buffer.new }
+{
+    let start = digits_before(buffer.info(), slash);
+    let end = digits_behind(buffer.info(), slash + 1);
+    if start == slash {
+        buffer.unsafe_to_concat(Some(slash), Some(slash + 1));
+    } else if end == slash + 1 {
+        buffer.unsafe_to_concat(Some(slash), Some(slash + 1));
+    } else {
+        keep_fraction(buffer, start, end);
+        add_fraction(buffer, start, slash, end, plan);
     }
+}
+
+/// Marks a fraction as unsafe to break.
+fn keep_fraction(buffer: &mut hb_buffer_t, start: usize, end: usize)
+    requires closed { buffer.old.have_output ≡ false }
+    requires order { start ≤ end }
+    requires within { end ≤ length buffer.old.input }
+    ensures is { buffer.new ≡ step.unsafe_to_break (Some start) (Some end) buffer.old }
+    ensures length { length buffer.new.input ≡ length buffer.old.input }
+    ensures closed { buffer.new.have_output ≡ false }
+    ensures keeps { KeepsClusters buffer.old buffer.new }
+{
     buffer.unsafe_to_break(Some(start), Some(end));
-    add_fraction_masks(buffer, start..end, place, masks);
-    end
 }
 
 /// Adds the masks of a fraction to its glyphs.
-fn add_fraction_masks(
-    buffer: &mut hb_buffer_t,
-    places: Range<usize>,
-    slash: usize,
-    masks: FractionMasks,
-)
-    requires { buffer.old.have_output ≡ false }
+fn add_fraction(buffer: &mut hb_buffer_t, start: usize, slash: usize, end: usize, plan: &ShapePlan)
+    requires closed { buffer.old.have_output ≡ false }
+    requires before { start ≤ slash }
+    requires behind { slash < end }
+    requires within { end ≤ length buffer.old.input }
+    ensures is { buffer.new ≡ steps.with_fraction plan.now start slash end buffer.old }
     ensures closed { buffer.new.have_output ≡ false }
     ensures keeps { KeepsClusters buffer.old buffer.new }
 {
-    add_masks(buffer.info_slice_mut(), places, slash, masks);
+    let direction = buffer.direction;
+    add_fraction_masks(buffer.info_slice_mut(), start, slash, end, plan, direction);
 }
 
-/// Adds the masks of a fraction to the glyphs at these places.
-#[tactic(auto, using(shaping_buffer::proofs::ClosedKeepsLemmas::clusters_written))]
-fn add_masks(
+/// Adds the masks of a fraction to these glyphs.
+fn add_fraction_masks(
     infos: &mut [hb_glyph_info_t],
-    places: Range<usize>,
+    start: usize,
     slash: usize,
-    masks: FractionMasks,
+    end: usize,
+    plan: &ShapePlan,
+    direction: Direction,
 )
-    ensures { clusters infos.new ≡ clusters infos.old }
+    requires before { start ≤ slash }
+    requires behind { slash < end }
+    requires within { end ≤ length infos.old }
+    ensures { infos.new ≡ steps.fraction_masked plan.now direction start slash end infos.old }
 {
-    for place in places.start..places.end.min(infos.len()) {
-        let mask = masks.at(place, slash);
-        infos[place].mask |= mask;
+    add_mask_from(infos, start, slash, mask_before(plan, direction));
+    add_mask_from(infos, slash, slash + 1, plan.frac_mask);
+    add_mask_from(infos, slash + 1, end, mask_behind(plan, direction));
+}
+
+/// The mask of the digits before a slash: numerators in a line that runs forward.
+fn mask_before(plan: &ShapePlan, direction: Direction) -> u32
+    ensures { result ≡ steps.mask_before plan.now direction }
+{
+    if direction.is_forward() {
+        plan.numr_mask | plan.frac_mask
+    } else {
+        plan.frac_mask | plan.dnom_mask
     }
 }
 
+/// The mask of the digits behind a slash: denominators in a line that runs forward.
+fn mask_behind(plan: &ShapePlan, direction: Direction) -> u32
+    ensures { result ≡ steps.mask_behind plan.now direction }
+{
+    if direction.is_forward() {
+        plan.frac_mask | plan.dnom_mask
+    } else {
+        plan.numr_mask | plan.frac_mask
+    }
+}
+
+/// Adds a mask to those of the glyphs from a place to another one.
+fn add_mask_from(infos: &mut [hb_glyph_info_t], start: usize, end: usize, mask: u32)
+    requires order { start ≤ end }
+    requires within { end ≤ length infos.old }
+    ensures { infos.new ≡ map_range (with_glyph_flags mask) infos.old start end }
+{
+    add_mask(&mut infos[start..end], mask);
+}
+
+/// Adds a mask to that of each glyph.
+#[tactic(auto, using(glyph_lists::proofs::MapLemmas::walks))]
+fn add_mask(infos: &mut [hb_glyph_info_t], mask: u32)
+    ensures { infos.new ≡ map (with_glyph_flags mask) infos.old }
+{
+    for info in infos.iter_mut() {
+        add_mask_to(info, mask);
+    }
+}
+
+/// Adds a mask to that of a glyph.
+#[tactic(auto, unfolding(glyph_lists::specs::Marks::with_glyph_flags))]
+fn add_mask_to(info: &mut hb_glyph_info_t, mask: u32)
+    ensures { info.new ≡ with_glyph_flags mask info.old }
+{
+    info.mask |= mask;
+}
+
 /// Where the digits begin that end before a place.
+#[tactic(auto, using(crate::proofs::FractionLemmas::digits))]
 fn digits_before(infos: &[hb_glyph_info_t], place: usize) -> usize
     requires { place ≤ length infos.now }
-    ensures { result ≤ place }
+    ensures is { result ≡ steps.digits_start infos.now place }
+    ensures within { result ≤ place }
 {
     let mut start = place;
     while start > 0 && is_decimal_number(&infos[start - 1]) {
@@ -177,8 +275,10 @@ fn digits_before(infos: &[hb_glyph_info_t], place: usize) -> usize
 }
 
 /// Where the digits end that begin at a place.
+#[tactic(auto, using(crate::proofs::FractionLemmas::digits))]
 fn digits_behind(infos: &[hb_glyph_info_t], place: usize) -> usize
     requires { place ≤ length infos.now }
+    ensures is { result ≡ steps.digits_end infos.now place }
     ensures from { place ≤ result }
     ensures within { result ≤ length infos.now }
 {

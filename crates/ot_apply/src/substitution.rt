@@ -1,12 +1,18 @@
 //! The lookups that substitute glyphs, applied to a text stage by stage, and what the shaper of its script does between two stages.
 
-ghost use Rattle.std.specs.Prelude.{◌≡◌, true, false, IfOk};
+ghost use Rattle.std.specs.Prelude.{◌≡◌, ◌<◌, true, false, IfOk, None, Ok};
+ghost use Rattle.glyph_digests.specs.Digest.{HasGlyphs};
+ghost use Rattle.ot_layout.specs.Budget.{IsNotMore};
+ghost use Rattle.ot_gsub.specs.Nested.{now_of};
 ghost use Rattle.shaping_buffer.specs.KeepsClusters.{KeepsClusters};
 ghost use Rattle.ot_apply.specs.ClusterOrder.{KeepsStage};
+ghost use Rattle.ot_apply.specs.Stages as by_stage;
+ghost use Rattle.ot_apply.specs.Stages.{AreRuns, AreStagesDone, IsDoneByStages, IsPlannedRun, IsPutInOrder};
 
 use crate::cluster_order::ClusterCourse;
-use crate::forms_of_font::work_on_syllables;
+use crate::forms_of_font::{fail_if_spent, work_on_syllables};
 use crate::joined_syllables::keep_joined;
+use crate::seen_glyphs::{digest_of, see_after, see_changes};
 use aat_substitution::{ChainFlags, Substitution, remove_deleted_glyphs};
 use font_face::Face;
 use font_functions::FontFunctions;
@@ -16,14 +22,15 @@ use ot_gsub::{Progress, Substitutions};
 use ot_layout::LookupOptions;
 use ot_lookups::LookupList;
 use ot_lookups::lookup_list::SUBSTITUTION_EXTENSION;
-use ot_map::{Pause, PlannedLookup};
-use ot_plan::{Step, TextPlan, Watch, budget_of, options_of};
+use ot_map::{LayoutPlan, Pause, PlannedLookup};
+use ot_plan::{Step, TextPlan, Watch, budget_of};
 use script_joining::FallbackLookups;
 use shaping_buffer::hb_buffer_t;
 use std::alloc::AllocError;
 
 /// Applies the lookups of `GSUB`, stage by stage, and lets clusters run as they ran before, also where the shaper of the script
-/// puts the glyphs of syllables in another order. `Ok(false)` where a call was refused for length.
+/// puts the glyphs of syllables in another order. `Ok(false)` where a call was refused for length. Where the budget of the lookups is
+/// spent, `buffer.shaping_failed` says so.
 pub fn substitute<F: FontFunctions, W: Watch>(
     buffer: &mut hb_buffer_t,
     face: &Face,
@@ -34,11 +41,18 @@ pub fn substitute<F: FontFunctions, W: Watch>(
     requires { buffer.old.have_output ≡ false }
     ensures closed { IfOk result (λ done. done ≡ true → buffer.new.have_output ≡ false) }
     ensures keeps { IfOk result (λ done. done ≡ true → KeepsClusters buffer.old buffer.new) }
+    ensures stages { result ≡ Ok true → plan.now.chain_flags ≡ None → buffer.new.shaping_failed ≡ false
+        → IsDoneByStages face.now plan.now buffer.old buffer.new }
 {
     if let Some(flags) = &plan.chain_flags {
         return substitute_by_morx(buffer, face, flags, plan.shape.apply_gpos);
     }
-    substitute_by_gsub(buffer, face, font, plan, watch)
+    let mut progress = Progress::new(budget_of(buffer));
+    if !substitute_by_gsub(buffer, face, font, plan, &mut progress, watch)? {
+        return Ok(false);
+    }
+    fail_if_spent(buffer, &progress.search.budget);
+    Ok(true)
 }
 
 /// Substitutes glyphs by Apple's table `morx`. Those that it deletes are taken out at once where `GPOS` is to position the glyphs.
@@ -83,17 +97,20 @@ fn substitute_by_gsub<F: FontFunctions, W: Watch>(
     face: &Face,
     font: &F,
     plan: &TextPlan,
+    progress: &mut Progress,
     watch: &mut W,
 ) -> Result<bool, AllocError>
     requires { buffer.old.have_output ≡ false }
     ensures closed { IfOk result (λ done. done ≡ true → buffer.new.have_output ≡ false) }
     ensures keeps { IfOk result (λ done. done ≡ true → KeepsClusters buffer.old buffer.new) }
+    ensures stages { result ≡ Ok true → 0 < progress.new.search.budget.steps
+        → IsPutInOrder face.now plan.now (now_of buffer.old progress.old) buffer.new }
 {
     if !plan.orders_syllables() {
-        return apply_stages(buffer, face, font, plan, watch);
+        return apply_stages(buffer, face, font, plan, progress, watch);
     }
     let course = ClusterCourse::of(buffer);
-    if !apply_stages(buffer, face, font, plan, watch)? {
+    if !apply_stages(buffer, face, font, plan, progress, watch)? {
         return Ok(false);
     }
     course.restore(buffer);
@@ -107,31 +124,44 @@ fn apply_stages<F: FontFunctions, W: Watch>(
     face: &Face,
     font: &F,
     plan: &TextPlan,
+    progress: &mut Progress,
     watch: &mut W,
 ) -> Result<bool, AllocError>
     requires { buffer.old.have_output ≡ false }
     ensures closed { IfOk result (λ done. done ≡ true → buffer.new.have_output ≡ false) }
     ensures keeps { KeepsStage plan.now.syllables buffer.old buffer.new }
+    ensures stages { result ≡ Ok true → 0 < progress.new.search.budget.steps
+        → AreStagesDone face.now plan.now plan.now.shape.layout.stages.items 0 (now_of buffer.old progress.old)
+        (now_of buffer.new progress.new) }
 {
-    let mut progress = Progress::new(budget_of(buffer));
-    let mut glyphs = Digest::of_glyphs(buffer.info());
+    progress.has_changed = false;
+    let mut glyphs = digest_of(buffer);
     let mut start = 0;
-    for stage in &plan.shape.layout.stages {
-        let lookups = &plan.shape.layout.gsub_lookups;
-        let lookups = lookups.get(start..stage.end).unwrap_or(&[]);
-        keep_joined(buffer, face, plan, lookups);
-        if !apply_stage(buffer, face, lookups, &mut glyphs, &mut progress, watch)? {
+    let stages = plan.shape.layout.stages.as_slice();
+    for stage in stages {
+        let lookups = lookups_of(&plan.shape.layout, start, stage.end);
+        keep_joined(buffer, face, plan, lookups, &mut glyphs);
+        if !apply_stage(buffer, face, lookups, &mut glyphs, progress, watch)? {
             return Ok(false);
         }
-        if !pause(buffer, face, font, plan, stage.pause, &mut progress)? {
+        if !pause(buffer, face, font, plan, stage.pause, progress)? {
             return Ok(false);
         }
-        if stage.pause != Pause::Nothing {
-            glyphs = Digest::of_glyphs(buffer.info());
-        }
+        see_after(buffer, stage.pause, &mut glyphs, progress);
         start = stage.end;
     }
     Ok(true)
+}
+
+/// The lookups of a stage, from its first place in the list of all to its end.
+fn lookups_of(layout: &LayoutPlan, start: usize, end: usize) -> &[PlannedLookup]
+    ensures { result.now ≡ by_stage.lookups_of layout.now.gsub_lookups.items start end }
+{
+    if start <= end && end <= layout.gsub_lookups.len() {
+        &layout.gsub_lookups[start..end]
+    } else {
+        &[]
+    }
 }
 
 /// Applies the lookups of a stage. `Ok(false)` where a call was refused for length.
@@ -144,8 +174,15 @@ fn apply_stage<W: Watch>(
     progress: &mut Progress,
     watch: &mut W,
 ) -> Result<bool, AllocError>
-    requires { buffer.old.have_output ≡ false }
+    requires closed { buffer.old.have_output ≡ false }
+    requires unchanged { progress.old.has_changed ≡ false }
+    requires met { HasGlyphs glyphs.old buffer.old.input }
+    ensures runs { result ≡ Ok true → 0 < progress.new.search.budget.steps
+        → AreRuns face.now lookups.now (now_of buffer.old progress.old) (now_of buffer.new progress.new) }
+    ensures met { result ≡ Ok true → HasGlyphs glyphs.new buffer.new.input }
+    ensures unchanged { result ≡ Ok true → progress.new.has_changed ≡ false }
     ensures closed { IfOk result (λ done. done ≡ true → buffer.new.have_output ≡ false) }
+    ensures spent { IsNotMore progress.old.search.budget progress.new.search.budget }
     ensures keeps { KeepsClusters buffer.old buffer.new }
 {
     for planned in lookups {
@@ -168,26 +205,46 @@ fn apply_planned(
     glyphs: &mut Digest,
     progress: &mut Progress,
 ) -> Result<bool, AllocError>
-    requires { buffer.old.have_output ≡ false }
+    requires closed { buffer.old.have_output ≡ false }
+    requires unchanged { progress.old.has_changed ≡ false }
+    requires met { HasGlyphs glyphs.old buffer.old.input }
+    ensures run { result ≡ Ok true → 0 < progress.new.search.budget.steps
+        → IsPlannedRun face.now planned.now (now_of buffer.old progress.old) (now_of buffer.new progress.new) }
+    ensures met { result ≡ Ok true → HasGlyphs glyphs.new buffer.new.input }
+    ensures unchanged { result ≡ Ok true → progress.new.has_changed ≡ false }
     ensures closed { IfOk result (λ done. done ≡ true → buffer.new.have_output ≡ false) }
+    ensures spent { IsNotMore progress.old.search.budget progress.new.search.budget }
     ensures keeps { KeepsClusters buffer.old buffer.new }
 {
-    if !face.lookups.substitutions.may_apply(planned.index, glyphs) {
+    prove!(buffer.out_len() == 0);
+    let substitutions = substitutions_of(face, planned);
+    if !substitutions.list.may_apply(planned.index, glyphs) {
         return Ok(true);
     }
-    let substitutions = Substitutions {
-        list: &face.lookups.substitutions,
-        gdef: &face.gdef,
-        options: options_of(planned),
-    };
     if !ot_gsub::substitute(buffer, &substitutions, planned.index, progress)? {
         return Ok(false);
     }
-    if progress.has_changed {
-        progress.has_changed = false;
-        *glyphs = Digest::of_glyphs(buffer.info());
-    }
+    see_changes(buffer, glyphs, progress);
     Ok(true)
+}
+
+/// The lookups of a font, and how one of the plan is applied.
+fn substitutions_of<'a>(face: &'a Face<'a>, planned: &PlannedLookup) -> Substitutions<'a>
+    ensures list { result.list.now ≡ face.now.lookups.substitutions }
+    ensures gdef { result.gdef.now ≡ face.now.gdef }
+    ensures options { result.options ≡ by_stage.options_of planned.now }
+{
+    Substitutions {
+        list: &face.lookups.substitutions,
+        gdef: &face.gdef,
+        options: LookupOptions {
+            mask: planned.mask,
+            auto_zwnj: planned.auto_zwnj,
+            auto_zwj: planned.auto_zwj,
+            per_syllable: planned.per_syllable,
+            random: planned.random,
+        },
+    }
 }
 
 /// What is done after a stage. `Ok(false)` where a call was refused for length.
@@ -201,7 +258,9 @@ fn pause<F: FontFunctions>(
     progress: &mut Progress,
 ) -> Result<bool, AllocError>
     requires { buffer.old.have_output ≡ false }
+    ensures nothing { pause ≡ Pause.Nothing → (result ≡ Ok true) × (buffer.new ≡ buffer.old) × (progress.new ≡ progress.old) }
     ensures closed { IfOk result (λ done. done ≡ true → buffer.new.have_output ≡ false) }
+    ensures spent { IsNotMore progress.old.search.budget progress.new.search.budget }
     ensures keeps { KeepsStage plan.now.syllables buffer.old buffer.new }
 {
     match pause {
@@ -230,6 +289,7 @@ fn join_by_fallback(
 ) -> Result<bool, AllocError>
     requires { buffer.old.have_output ≡ false }
     ensures closed { IfOk result (λ done. done ≡ true → buffer.new.have_output ≡ false) }
+    ensures spent { IsNotMore progress.old.search.budget progress.new.search.budget }
     ensures keeps { KeepsClusters buffer.old buffer.new }
 {
     match &plan.fallback {
@@ -247,6 +307,7 @@ fn apply_fallback(
 ) -> Result<bool, AllocError>
     requires { buffer.old.have_output ≡ false }
     ensures closed { IfOk result (λ done. done ≡ true → buffer.new.have_output ≡ false) }
+    ensures spent { IsNotMore progress.old.search.budget progress.new.search.budget }
     ensures keeps { KeepsClusters buffer.old buffer.new }
 {
     let list = LookupList::new(
@@ -275,6 +336,7 @@ fn apply_each(
 ) -> Result<bool, AllocError>
     requires { buffer.old.have_output ≡ false }
     ensures closed { IfOk result (λ done. done ≡ true → buffer.new.have_output ≡ false) }
+    ensures spent { IsNotMore progress.old.search.budget progress.new.search.budget }
     ensures keeps { KeepsClusters buffer.old buffer.new }
 {
     for index in 0..masks.len() {

@@ -5,6 +5,7 @@ ghost use Rattle.std.specs.Prelude.{◌≡◌, ◌==◌, ◌&&◌, nat_le};
 ghost use Rattle.script_items.specs.Marks.{category};
 ghost use Rattle.script_items.specs.Graphemes.{is_same_grapheme};
 ghost use Rattle.ot_characters.specs.Numbers as numbers;
+ghost use Rattle.ot_characters.specs.Properties as properties;
 
 use script_items::glyph_info::is_continuation;
 use script_items::item::general_category;
@@ -46,7 +47,8 @@ pub(crate) fn is_number(info: &hb_glyph_info_t) -> bool
 
 /// Says that the character goes on with the grapheme before it.
 pub(crate) fn set_continuation(info: &mut hb_glyph_info_t)
-    ensures { info.new.cluster ≡ info.old.cluster }
+    ensures is { info.new ≡ properties.continued info.old }
+    ensures cluster { info.new.cluster ≡ info.old.cluster }
 {
     info.set_unicode_props(info.unicode_props() | UnicodeProps::CONTINUATION.bits());
 }
@@ -59,7 +61,9 @@ pub(crate) fn is_same_grapheme(_first: &hb_glyph_info_t, second: &hb_glyph_info_
 }
 
 /// Whether the character is the zero width joiner.
-pub(crate) fn is_zwj(info: &hb_glyph_info_t) -> bool {
+pub(crate) fn is_zwj(info: &hb_glyph_info_t) -> bool
+    ensures { result ≡ properties.is_zwj info.now }
+{
     general_category(info) == RB_UNICODE_GENERAL_CATEGORY_FORMAT
         && info.unicode_props() & UnicodeProps::CF_ZWJ.bits() != 0
 }

@@ -1,22 +1,34 @@
 //! Numbers in a line that runs from left to right in a script that does not: alone they run as the line does.
 
 ghost use Rattle.std.specs.Prelude.{◌≡◌, false};
+ghost use Rattle.std.specs.List.{list_any};
 ghost use Rattle.shaping_buffer.specs.KeepsClusters.{KeepsClusters};
 ghost use Rattle.ot_characters.specs.Numbers as numbers;
 
 use crate::glyph_info::{is_letter, is_number};
+use crate::native_direction::is_against_script;
 use script_items::{Tie, Ties, keep_tied};
-use shaping_buffer::{Direction, hb_buffer_t, hb_glyph_info_t};
-
-/// Whether the line runs from left to right, and the script from right to left.
-pub(crate) fn is_against_script(buffer: &hb_buffer_t) -> bool {
-    buffer.direction == Direction::LeftToRight
-        && buffer.script.and_then(Direction::from_script) == Some(Direction::RightToLeft)
-}
+use shaping_buffer::{hb_buffer_t, hb_glyph_info_t};
 
 /// Whether the text has digits or regional indicators, and no letters.
-pub(crate) fn are_numbers(infos: &[hb_glyph_info_t]) -> bool {
-    !infos.iter().any(|info| is_letter(info)) && infos.iter().any(|info| is_number(info))
+pub(crate) fn are_numbers(infos: &[hb_glyph_info_t]) -> bool
+    ensures { result ≡ numbers.are_numbers infos.now }
+{
+    !has_letter(infos) && has_number(infos)
+}
+
+/// Whether one of the characters is a letter.
+fn has_letter(infos: &[hb_glyph_info_t]) -> bool
+    ensures { result ≡ list_any numbers.is_letter infos.now }
+{
+    infos.iter().any(|info| is_letter(info))
+}
+
+/// Whether one of the characters is a digit or a regional indicator.
+fn has_number(infos: &[hb_glyph_info_t]) -> bool
+    ensures { result ≡ list_any numbers.is_number infos.now }
+{
+    infos.iter().any(|info| is_number(info))
 }
 
 /// Marks as unsafe to break where a part of such a line would run otherwise than the whole: numbers without the letters that turn

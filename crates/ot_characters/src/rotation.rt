@@ -1,8 +1,10 @@
-//! Characters that have another form in text which runs from right to left or in vertical lines.
+//! Characters that have another form in text which runs from right to left or in vertical lines (HarfBuzz, `hb_ot_rotate_chars`).
 
-ghost use Rattle.std.specs.Prelude.{◌≡◌, false};
-ghost use Rattle.shaping_buffer.specs.Clusters.{clusters};
+ghost use Rattle.std.specs.Prelude.{◌≡◌, false, map};
+ghost use Rattle.std.specs.List.{list_any};
+ghost use Rattle.glyph_lists.specs.Marks.{with_glyph_flags};
 ghost use Rattle.shaping_buffer.specs.KeepsClusters.{KeepsClusters};
+ghost use Rattle.ot_characters.specs.Rotation as rotation;
 
 use crate::glyph_info::{is_decimal_number, is_letter};
 use font_functions::FontFunctions;
@@ -22,6 +24,9 @@ pub fn rotate_characters<F: FontFunctions>(
     direction: Direction,
 )
     requires { buffer.old.have_output ≡ false }
+    ensures is { buffer.new ≡ record buffer.old {
+      input = map (rotation.rotated (F.has font.now) plan.now direction) buffer.old.input;
+    } }
     ensures closed { buffer.new.have_output ≡ false }
     ensures keeps { KeepsClusters buffer.old buffer.new }
 {
@@ -35,105 +40,182 @@ fn rotate_all<F: FontFunctions>(
     plan: &ShapePlan,
     direction: Direction,
 )
-    ensures { clusters infos.new ≡ clusters infos.old }
+    ensures { infos.new ≡ map (rotation.rotated (F.has font.now) plan.now direction) infos.old }
 {
-    if direction.is_backward() {
-        let mirrors = if infos.iter().any(may_be_mirrored) {
-            mirrors()
-        } else {
-            None
-        };
-        mirror_all(infos, font, mirrors.as_ref(), plan.rtlm_mask);
+    turn_all(infos, font, plan, direction);
+    raise_all(infos, font, plan, direction);
+}
+
+/// Replaces each of the characters by its mirror image where the line runs backward.
+#[tactic(auto, using(crate::proofs::RotationLemmas::turns))]
+fn turn_all<F: FontFunctions>(
+    infos: &mut [hb_glyph_info_t],
+    font: &F,
+    plan: &ShapePlan,
+    direction: Direction,
+)
+    ensures { infos.new ≡ map (rotation.turned (F.has font.now) plan.now direction) infos.old }
+{
+    if direction.is_forward() {
+        return;
     }
-    if direction.is_vertical() && !plan.has_vert {
-        make_all_vertical(infos, font);
+    if !are_mirrored(infos) {
+        return add_features_to_all(infos, plan.rtlm_mask);
     }
+    match mirrors() {
+        Some(rows) => mirror_all(infos, font, &rows, plan.rtlm_mask),
+        None => {}
+    }
+}
+
+/// Whether any of the characters may have a mirror image.
+fn are_mirrored(infos: &[hb_glyph_info_t]) -> bool
+    ensures { result ≡ list_any rotation.may_be_mirrored infos.now }
+{
+    infos.iter().any(|info| may_be_mirrored(info))
 }
 
 /// Whether a character may have a mirror image: no letter, mark, digit or space has one.
-fn may_be_mirrored(info: &hb_glyph_info_t) -> bool {
-    !is_letter(info)
-        && !is_unicode_mark(info)
-        && !is_decimal_number(info)
-        && !is_unicode_space(info)
+fn may_be_mirrored(info: &hb_glyph_info_t) -> bool
+    ensures { result ≡ rotation.may_be_mirrored info.now }
+{
+    !(is_letter_or_mark(info) || is_digit_or_space(info))
 }
 
-/// Replaces each character by its mirror image, or gives it the mask.
-#[tactic(auto, using(shaping_buffer::proofs::ClosedKeepsLemmas::clusters_written))]
+/// Whether a character is a letter or a mark.
+fn is_letter_or_mark(info: &hb_glyph_info_t) -> bool
+    ensures { result ≡ rotation.is_letter_or_mark info.now }
+{
+    is_letter(info) || is_unicode_mark(info)
+}
+
+/// Whether a character is a digit or a space.
+fn is_digit_or_space(info: &hb_glyph_info_t) -> bool
+    ensures { result ≡ rotation.is_digit_or_space info.now }
+{
+    is_decimal_number(info) || is_unicode_space(info)
+}
+
+/// Gives each of the characters these features too.
+#[tactic(auto, using(glyph_lists::proofs::MapLemmas::walks))]
+fn add_features_to_all(infos: &mut [hb_glyph_info_t], bits: u32)
+    ensures { infos.new ≡ map (with_glyph_flags bits) infos.old }
+{
+    for info in infos.iter_mut() {
+        add_features(info, bits);
+    }
+}
+
+/// Gives a character these features too.
+#[tactic(auto, unfolding(glyph_lists::specs::Marks::with_glyph_flags))]
+fn add_features(info: &mut hb_glyph_info_t, bits: u32)
+    ensures { info.new ≡ with_glyph_flags bits info.old }
+{
+    info.mask |= bits;
+}
+
+/// Replaces each character by its mirror image, or gives it the feature of mirrored forms.
+#[tactic(auto, using(glyph_lists::proofs::MapLemmas::walks))]
 fn mirror_all<F: FontFunctions>(
     infos: &mut [hb_glyph_info_t],
     font: &F,
-    mirrors: Option<&Mirrors>,
-    mask: u32,
+    mirrors: &Mirrors,
+    rtlm: u32,
 )
-    ensures { clusters infos.new ≡ clusters infos.old }
+    ensures { infos.new ≡ map (rotation.mirrored (F.has font.now) mirrors.now rtlm) infos.old }
 {
-    for i in 0..infos.len() {
-        mirror(&mut infos[i], font, mirrors, mask);
+    for info in infos.iter_mut() {
+        mirror(info, font, mirrors, rtlm);
     }
 }
 
-/// Replaces a character by its mirror image, or gives it the mask.
-fn mirror<F: FontFunctions>(
-    info: &mut hb_glyph_info_t,
-    font: &F,
-    mirrors: Option<&Mirrors>,
-    mask: u32,
-)
-    ensures { info.new.cluster ≡ info.old.cluster }
+/// Replaces a character by its mirror image, or gives it the feature of mirrored forms.
+fn mirror<F: FontFunctions>(info: &mut hb_glyph_info_t, font: &F, mirrors: &Mirrors, rtlm: u32)
+    ensures { info.new ≡ rotation.mirrored (F.has font.now) mirrors.now rtlm info.old }
 {
-    if !is_mirrored(info, font, mirrors) {
-        info.mask |= mask;
-    }
-}
-
-/// Replaces a character by its mirror image, and says whether the font has a glyph for that.
-fn is_mirrored<F: FontFunctions>(
-    info: &mut hb_glyph_info_t,
-    font: &F,
-    mirrors: Option<&Mirrors>,
-) -> bool
-    ensures { info.new.cluster ≡ info.old.cluster }
-{
-    match mirror_image(info, mirrors) {
-        Some(image) => replace_character(info, font, image),
-        None => false,
+    match if_there(font, mirror_image(info, mirrors)) {
+        Some(image) => info.glyph_id = image,
+        None => add_features(info, rtlm),
     }
 }
 
 /// The mirror image of a character.
-fn mirror_image(info: &hb_glyph_info_t, mirrors: Option<&Mirrors>) -> Option<char> {
-    char::from_u32(info.glyph_id)?.mirrored(mirrors?)
+#[tactic(auto, using(crate::proofs::RotationLemmas::images))]
+fn mirror_image(info: &hb_glyph_info_t, mirrors: &Mirrors) -> Option<char>
+    ensures { result ≡ rotation.mirror_image mirrors.now info.now }
+{
+    if !may_be_mirrored(info) {
+        return None;
+    }
+    match char::from_u32(info.glyph_id) {
+        Some(character) => character.mirrored(mirrors),
+        None => None,
+    }
+}
+
+/// Replaces each of the characters by its vertical form where the line is vertical, and the font has none itself.
+#[tactic(auto, using(crate::proofs::RotationLemmas::turns))]
+fn raise_all<F: FontFunctions>(
+    infos: &mut [hb_glyph_info_t],
+    font: &F,
+    plan: &ShapePlan,
+    direction: Direction,
+)
+    ensures { infos.new ≡ map (rotation.raised (F.has font.now) plan.now direction) infos.old }
+{
+    if direction.is_horizontal() || plan.has_vert {
+        return;
+    }
+    make_all_vertical(infos, font);
 }
 
 /// Replaces each character by its vertical form.
-#[tactic(auto, using(shaping_buffer::proofs::ClosedKeepsLemmas::clusters_written))]
+#[tactic(auto, using(glyph_lists::proofs::MapLemmas::walks))]
 fn make_all_vertical<F: FontFunctions>(infos: &mut [hb_glyph_info_t], font: &F)
-    ensures { clusters infos.new ≡ clusters infos.old }
+    ensures { infos.new ≡ map (rotation.upright (F.has font.now)) infos.old }
 {
-    for i in 0..infos.len() {
-        make_vertical(&mut infos[i], font);
+    for info in infos.iter_mut() {
+        make_vertical(info, font);
     }
 }
 
 /// Replaces a character by its vertical form.
 fn make_vertical<F: FontFunctions>(info: &mut hb_glyph_info_t, font: &F)
-    ensures { info.new.cluster ≡ info.old.cluster }
+    ensures { info.new ≡ rotation.upright (F.has font.now) info.old }
 {
-    if let Some(character) = char::from_u32(info.glyph_id)
-        && let Some(vertical) = character.vertical()
-    {
-        let _ = replace_character(info, font, vertical);
+    match if_there(font, vertical_form(info)) {
+        Some(form) => info.glyph_id = form,
+        None => {}
     }
 }
 
-/// Replaces a character by another one, if the font has a glyph for that, and says whether it has.
-fn replace_character<F: FontFunctions>(info: &mut hb_glyph_info_t, font: &F, other: char) -> bool
-    ensures { info.new.cluster ≡ info.old.cluster }
+/// The form of a character in vertical lines.
+fn vertical_form(info: &hb_glyph_info_t) -> Option<char>
+    ensures { result ≡ rotation.vertical_form info.now }
 {
-    if font.nominal_glyph(other as u32).is_none() {
-        return false;
+    match char::from_u32(info.glyph_id) {
+        Some(character) => character.vertical(),
+        None => None,
     }
-    info.glyph_id = other as u32;
-    true
+}
+
+/// A form of a character, if the font has a glyph for it.
+fn if_there<F: FontFunctions>(font: &F, form: Option<char>) -> Option<u32>
+    ensures { result ≡ rotation.if_there (F.has font.now) form }
+{
+    match form {
+        Some(form) => if_known(font, form as u32),
+        None => None,
+    }
+}
+
+/// A code point, if the font has a glyph for it.
+fn if_known<F: FontFunctions>(font: &F, code: u32) -> Option<u32>
+    ensures { result ≡ rotation.if_there (F.has font.now) (Some code) }
+{
+    if font.nominal_glyph(code).is_some() {
+        Some(code)
+    } else {
+        None
+    }
 }

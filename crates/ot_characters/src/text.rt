@@ -1,23 +1,23 @@
 //! The characters of a text, before they are mapped to glyphs: their properties, graphemes and direction.
 
-ghost use Rattle.std.specs.Prelude.{◌≡◌, ◌<◌, ◌≤◌, true, false, length, IfOk};
-ghost use Rattle.shaping_buffer.specs.Clusters.{clusters};
+ghost use Rattle.std.specs.Prelude.{◌≡◌, ◌<◌, ◌≤◌, false, length};
 ghost use Rattle.shaping_buffer.specs.KeepsClusters.{KeepsClusters, TurnsClusters};
+ghost use Rattle.ot_characters.specs.FormedClusters as formed;
+ghost use Rattle.ot_characters.specs.NativeDirection as ways;
+ghost use Rattle.ot_characters.specs.Properties as properties;
 ghost use Rattle.ot_characters.specs.Turned.{KeepsOrTurns};
 
 use crate::glyph_info::{is_regional_indicator, is_same_grapheme, is_zwj, set_continuation};
-use crate::numbers::{are_numbers, is_against_script};
+use crate::native_direction::runs_against;
 use crate::turned_contexts::keep_turned_contexts;
-use font_functions::FontFunctions;
 use script_items::allows_any_order;
 use script_items::glyph_info::{is_continuation, set_unicode_props};
-use script_items::item::{general_category, is_unicode_mark};
+use script_items::item::general_category;
 use shaping_buffer::rb_glyph::hb_gc::RB_UNICODE_GENERAL_CATEGORY_MODIFIER_SYMBOL;
 use shaping_buffer::{
-    BufferFlags, CharExt, Direction, Flags, HB_BUFFER_CLUSTER_LEVEL_MONOTONE_GRAPHEMES,
+    CharExt, Direction, HB_BUFFER_CLUSTER_LEVEL_MONOTONE_GRAPHEMES,
     HB_BUFFER_SCRATCH_FLAG_HAS_NON_ASCII, hb_buffer_t, hb_glyph_info_t,
 };
-use std::alloc::AllocError;
 
 /// No character before this one goes on with a grapheme: the first that emoji are made from.
 const FIRST_PICTOGRAPHIC: u32 = 0xA9;
@@ -25,22 +25,33 @@ const FIRST_PICTOGRAPHIC: u32 = 0xA9;
 /// Of a text of so many characters, the properties of so many are remembered.
 const REMEMBERED: usize = 64;
 
-/// The dotted circle, which a mark without a base is put on.
-const DOTTED_CIRCLE: u32 = 0x25CC;
-
 /// Sets the properties of each character, and says which go on with the grapheme before them.
+#[tactic(auto, using(shaping_buffer::proofs::ClosedKeepsLemmas::kept))]
 pub fn set_properties(buffer: &mut hb_buffer_t)
     requires { buffer.old.have_output ≡ false }
+    ensures sets { properties.SetsProperties buffer.old buffer.new }
     ensures closed { buffer.new.have_output ≡ false }
     ensures keeps { KeepsClusters buffer.old buffer.new }
 {
     let scratch_flags = set_all_in(buffer);
+    remember(buffer, scratch_flags);
+}
+
+/// Remembers these scratch flags of a text.
+fn remember(buffer: &mut hb_buffer_t, scratch_flags: u32)
+    requires { buffer.old.have_output ≡ false }
+    ensures is { buffer.new ≡ record buffer.old { scratch_flags = scratch_flags } }
+    ensures closed { buffer.new.have_output ≡ false }
+    ensures keeps { KeepsClusters buffer.old buffer.new }
+{
     buffer.scratch_flags = scratch_flags;
 }
 
 /// Sets the properties of each character of a buffer; the scratch flags that then hold.
 fn set_all_in(buffer: &mut hb_buffer_t) -> u32
     requires { buffer.old.have_output ≡ false }
+    ensures alike { properties.AreAlike buffer.old.input buffer.new.input }
+    ensures others { buffer.new ≡ record buffer.old { input = buffer.new.input } }
     ensures closed { buffer.new.have_output ≡ false }
     ensures keeps { KeepsClusters buffer.old buffer.new }
 {
@@ -50,26 +61,26 @@ fn set_all_in(buffer: &mut hb_buffer_t) -> u32
 }
 
 /// Sets the properties of each character.
-#[tactic(auto, using(shaping_buffer::proofs::ClosedKeepsLemmas::clusters_written))]
+#[tactic(auto, using(crate::proofs::PropertiesLemmas::map_alike))]
 fn set_all_properties(infos: &mut [hb_glyph_info_t], scratch_flags: &mut u32)
-    ensures { clusters infos.new ≡ clusters infos.old }
+    ensures { properties.AreAlike infos.old infos.new }
 {
     if infos.len() >= REMEMBERED {
         return set_many_properties(infos, scratch_flags);
     }
     for i in 0..infos.len() {
-        set_unicode_props(&mut infos[i], scratch_flags);
+        set_own_properties(&mut infos[i], scratch_flags);
         if continues_grapheme(infos, i) {
-            set_continuation(&mut infos[i]);
+            go_on(&mut infos[i]);
         }
     }
 }
 
 /// Sets the properties of each of many characters, most of which were met before. The last character of each number, counted round, is
 /// remembered.
-#[tactic(auto, using(shaping_buffer::proofs::ClosedKeepsLemmas::clusters_written))]
+#[tactic(auto, using(crate::proofs::PropertiesLemmas::map_alike))]
 fn set_many_properties(infos: &mut [hb_glyph_info_t], scratch_flags: &mut u32)
-    ensures { clusters infos.new ≡ clusters infos.old }
+    ensures { properties.AreAlike infos.old infos.new }
 {
     let mut known = [(0, 0); REMEMBERED];
     // No character 0 was met: where it would be found stands another one.
@@ -78,15 +89,36 @@ fn set_many_properties(infos: &mut [hb_glyph_info_t], scratch_flags: &mut u32)
         let character = infos[i].glyph_id;
         let place = character as usize % REMEMBERED;
         if known[place].0 == character {
-            infos[i].set_unicode_props(known[place].1);
+            set_known_properties(&mut infos[i], known[place].1);
         } else {
-            set_unicode_props(&mut infos[i], scratch_flags);
+            set_own_properties(&mut infos[i], scratch_flags);
             known[place] = (character, infos[i].unicode_props());
         }
         if continues_grapheme(infos, i) {
-            set_continuation(&mut infos[i]);
+            go_on(&mut infos[i]);
         }
     }
+}
+
+/// Sets the properties of a character.
+fn set_own_properties(info: &mut hb_glyph_info_t, scratch_flags: &mut u32)
+    ensures { properties.bare info.new ≡ properties.bare info.old }
+{
+    set_unicode_props(info, scratch_flags);
+}
+
+/// Sets the properties of a character that was met before.
+fn set_known_properties(info: &mut hb_glyph_info_t, known: u16)
+    ensures { properties.bare info.new ≡ properties.bare info.old }
+{
+    info.set_unicode_props(known);
+}
+
+/// Says that a character goes on with the grapheme before it.
+fn go_on(info: &mut hb_glyph_info_t)
+    ensures { properties.bare info.new ≡ properties.bare info.old }
+{
+    set_continuation(info);
 }
 
 /// Whether a character that is no mark goes on with the grapheme before it (Unicode Standard Annex 29): a modifier of
@@ -116,63 +148,11 @@ fn is_pictographic(info: &hb_glyph_info_t) -> bool {
     }
 }
 
-/// Puts a dotted circle before a text that is the beginning of a paragraph and begins with a mark.
-#[tactic(auto, using(shaping_buffer::proofs::ClosedKeepsLemmas::kept))]
-pub fn insert_dotted_circle<F: FontFunctions>(
-    buffer: &mut hb_buffer_t,
-    font: &F,
-) -> Result<bool, AllocError>
-    requires { buffer.old.have_output ≡ false }
-    ensures closed { IfOk result (λ done. done ≡ true → buffer.new.have_output ≡ false) }
-    ensures keeps { KeepsClusters buffer.old buffer.new }
-{
-    if !wants_dotted_circle(buffer) || font.nominal_glyph(DOTTED_CIRCLE).is_none() {
-        return Ok(true);
-    }
-    buffer.clear_output();
-    put_dotted_circle(buffer)?;
-    buffer.sync()
-}
-
-/// Whether the text begins a paragraph, with a mark.
-fn wants_dotted_circle(buffer: &hb_buffer_t) -> bool {
-    if buffer
-        .flags
-        .contains(BufferFlags::DO_NOT_INSERT_DOTTED_CIRCLE)
-        || !buffer.flags.contains(BufferFlags::BEGINNING_OF_TEXT)
-        || !buffer.context(0).is_empty()
-    {
-        return false;
-    }
-    match buffer.info() {
-        [first, ..] => is_unicode_mark(first),
-        [] => false,
-    }
-}
-
-/// Puts a dotted circle out, in the cluster of the current character.
-fn put_dotted_circle(buffer: &mut hb_buffer_t) -> Result<bool, AllocError>
-    requires { buffer.old.have_output ≡ true }
-    ensures opened { IfOk result (λ _. buffer.new.have_output ≡ true) }
-    ensures keeps { KeepsClusters buffer.old buffer.new }
-{
-    let Some(current) = buffer.info().first() else {
-        return Ok(true);
-    };
-    let mut circle = hb_glyph_info_t {
-        glyph_id: DOTTED_CIRCLE,
-        mask: current.mask,
-        cluster: current.cluster,
-        ..hb_glyph_info_t::default()
-    };
-    set_unicode_props(&mut circle, &mut 0);
-    buffer.output_info(circle)
-}
-
 /// Makes each grapheme one cluster, or unsafe to break where the cluster level keeps its characters apart.
-#[tactic(auto, using(shaping_buffer::proofs::ClosedKeepsLemmas::kept))]
+#[tactic(auto, using(crate::proofs::FormedLemmas::texts, shaping_buffer::proofs::ClosedKeepsLemmas::kept))]
 pub fn form_clusters(buffer: &mut hb_buffer_t)
     requires { buffer.old.have_output ≡ false }
+    ensures is { buffer.new ≡ formed.with_clusters buffer.old }
     ensures closed { buffer.new.have_output ≡ false }
     ensures keeps { KeepsClusters buffer.old buffer.new }
 {
@@ -180,9 +160,21 @@ pub fn form_clusters(buffer: &mut hb_buffer_t)
         return;
     }
     let merges = buffer.cluster_level == HB_BUFFER_CLUSTER_LEVEL_MONOTONE_GRAPHEMES;
+    form_each(buffer, merges);
+}
+
+/// Makes each grapheme one cluster, or unsafe to break.
+#[tactic(auto, using(crate::proofs::FormedLemmas::turns, shaping_buffer::proofs::ClosedKeepsLemmas::kept))]
+fn form_each(buffer: &mut hb_buffer_t, merges: bool)
+    requires { buffer.old.have_output ≡ false }
+    ensures is { buffer.new ≡ formed.graphemes_formed merges (length buffer.old.input) 0 buffer.old }
+    ensures closed { buffer.new.have_output ≡ false }
+    ensures keeps { KeepsClusters buffer.old buffer.new }
+{
+    let count = buffer.info().len();
     let mut start = 0;
-    for _turn in 0..buffer.len() {
-        if start >= buffer.len() {
+    for _turn in 0..count {
+        if start >= buffer.info().len() {
             break;
         }
         let end = buffer.group_end(start, is_same_grapheme);
@@ -192,10 +184,12 @@ pub fn form_clusters(buffer: &mut hb_buffer_t)
 }
 
 /// Makes a grapheme one cluster, or unsafe to break.
+#[tactic(auto, unfolding(crate::specs::FormedClusters::grapheme_formed))]
 fn form_cluster(buffer: &mut hb_buffer_t, start: usize, end: usize, merges: bool)
     requires closed { buffer.old.have_output ≡ false }
     requires order { start ≤ end }
     requires within { end ≤ length buffer.old.input }
+    ensures is { buffer.new ≡ formed.grapheme_formed merges start end buffer.old }
     ensures closed { buffer.new.have_output ≡ false }
     ensures keeps { KeepsClusters buffer.old buffer.new }
 {
@@ -207,17 +201,20 @@ fn form_cluster(buffer: &mut hb_buffer_t, start: usize, end: usize, merges: bool
 }
 
 /// Reverses a text that runs against its script, grapheme by grapheme, and says whether it did.
+#[tactic(auto, using(crate::proofs::TurnLemmas::natives, shaping_buffer::proofs::ClosedKeepsLemmas::kept))]
 pub fn ensure_native_direction(buffer: &mut hb_buffer_t) -> bool
     requires { buffer.old.have_output ≡ false }
+    ensures turned { result ≡ ways.runs_against buffer.old }
+    ensures is { buffer.new ≡ ways.in_native_direction buffer.old }
     ensures closed { buffer.new.have_output ≡ false }
     ensures runs { KeepsOrTurns result buffer.old buffer.new }
 {
-    let is_against = is_to_be_turned(buffer);
-    if is_against {
-        let direction = buffer.direction.reverse();
-        reverse_graphemes(buffer, direction);
+    if !runs_against(buffer) {
+        return false;
     }
-    is_against
+    let direction = buffer.direction.reverse();
+    reverse_graphemes(buffer, direction);
+    true
 }
 
 /// Marks as unsafe to break where a text that runs against its script would be shaped otherwise by contexts, which are not reversed with it.
@@ -226,23 +223,16 @@ pub fn keep_contexts(buffer: &mut hb_buffer_t)
     ensures closed { buffer.new.have_output ≡ false }
     ensures keeps { KeepsClusters buffer.old buffer.new }
 {
-    if is_to_be_turned(buffer) {
+    if runs_against(buffer) {
         keep_turned_contexts(buffer);
     }
-}
-
-/// Whether the text runs against its script.
-fn is_to_be_turned(buffer: &hb_buffer_t) -> bool {
-    let direction = buffer.direction;
-    let native = native_direction(buffer);
-    direction.is_horizontal() && native.is_some_and(|native| native != direction)
-        || direction.is_vertical() && direction != Direction::TopToBottom
 }
 
 /// Puts the graphemes into reverse order, each in its own order, so that the text runs in this direction. Where clusters have to
 /// stay in order each grapheme is made one cluster before; at the level of graphemes it is one already.
 fn reverse_graphemes(buffer: &mut hb_buffer_t, direction: Direction)
     requires { buffer.old.have_output ≡ false }
+    ensures is { buffer.new ≡ ways.turned_to direction buffer.old }
     ensures closed { buffer.new.have_output ≡ false }
     ensures turns { TurnsClusters buffer.old buffer.new }
 {
@@ -258,16 +248,4 @@ pub fn set_direction(buffer: &mut hb_buffer_t, direction: Direction)
     ensures keeps { KeepsClusters buffer.old buffer.new }
 {
     buffer.direction = direction;
-}
-
-/// The direction in which the script runs, if it has one: numbers in a script that runs from right to left run from
-/// left to right, and so does a text of no script.
-fn native_direction(buffer: &hb_buffer_t) -> Option<Direction> {
-    if is_against_script(buffer) && are_numbers(buffer.info()) {
-        return Some(Direction::LeftToRight);
-    }
-    match buffer.script {
-        Some(script) => Direction::from_script(script),
-        None => Some(Direction::LeftToRight),
-    }
 }

@@ -1,10 +1,9 @@
--- What a subtable of a lookup does at a glyph, if it covers it.
-use Rattle.std.specs.Prelude.{ℕ, ◌==◌, ◌||◌, Bool, true, not, Option, None}
-use Rattle.std.specs.Option.{option_map_or}
+-- What a subtable of a lookup does at a glyph, if it is no context.
+use Rattle.std.specs.Prelude.{ℕ, ◌==◌, ◌||◌, Bool, true, not, Option}
 use Rattle.shaping_buffer.specs.State.{State}
-use Rattle.glyph_digests.specs.Covered.{covered_index}
 use Rattle.ot_layout.specs.SkippingIterator.{over_input}
 use Rattle.ot_lookups.specs.declared.lookup_list.Lookup.{Lookup}
+use Rattle.ot_lookups.specs.declared.lookup_list.LookupList.{LookupList}
 use Rattle.ot_layout.specs.declared.skipping_iterator.LookupOptions.{LookupOptions}
 use Rattle.ot_lookups.specs.declared.subtable.Subtable.{Subtable}
 use Rattle.ot_gpos_tables.specs.declared.instance.Instance.{Instance}
@@ -12,25 +11,34 @@ use Rattle.ot_gpos.specs.Subtables.{bases_at, simple_at, simple_next}
 use Rattle.ot_gpos.specs.Visit.{Visit}
 use Rattle.ot_gpos.specs.declared.marks.LastBase.{LastBase}
 
--- a lookup as it is applied: how, and at which size and variations of the font
+-- a lookup of a list as it is applied: how, and at which size and variations of the font
 pub record Applied : Type 0 where
+  pub list : LookupList
   pub lookup : Lookup
   pub options : LookupOptions
   pub instance : Instance
 
-abbrev pub applied : Lookup → LookupOptions → Instance → Applied
-applied lookup options instance = record { lookup = lookup; options = options; instance = instance }
+abbrev pub applied : LookupList → Lookup → LookupOptions → Instance → Applied
+applied list lookup options instance = record { list = list; lookup = lookup; options = options; instance = instance }
 
--- what comes of a subtable or a lookup at a glyph: the buffer, what is remembered of bases, and where the lookup goes on, if it did anything
-pub record Outcome : Type 0 where
-  pub state : State
+-- a text on its way: the buffer, what is remembered of bases, and how many more lookups others may apply
+pub record Text : Type 0 where
+  pub buffer : State
   pub last : LastBase
+  pub left : ℕ
+
+abbrev pub text_of : State → LastBase → ℕ → Text
+text_of buffer last left = record { buffer = buffer; last = last; left = left }
+
+-- what comes of a subtable or a lookup at a glyph: the text, and where the lookup goes on, if it did anything
+pub record Outcome : Type 0 where
+  pub text : Text
   pub next : Option ℕ
 
-abbrev pub outcome : State → LastBase → Option ℕ → Outcome
-outcome state last next = record { state = state; last = last; next = next }
+abbrev pub outcome : Text → Option ℕ → Outcome
+outcome text next = record { text = text; next = next }
 
--- whether none of the subtables is a context (kinds 7 and 8)
+-- whether a subtable is no context (kinds 7 and 8)
 abbrev pub is_simple : Subtable → Bool
 is_simple subtable = not ((subtable.lookup_type == 7) || (subtable.lookup_type == 8))
 
@@ -45,13 +53,13 @@ visit_by a place subtable index = record {
   index = index;
 }
 
-abbrev pub outcome_at : Subtable → Visit → LastBase → State → Outcome
-outcome_at subtable visit last s =
-    outcome (simple_at subtable.lookup_type visit last s) (bases_at subtable.lookup_type visit s.input last)
-    (simple_next subtable.lookup_type visit last s)
-
--- a subtable does something only where it covers the glyph
-unfoldable pub one_tried : Applied → ℕ → ℕ → Subtable → LastBase → State → Outcome
-one_tried a place glyph subtable last s =
-    option_map_or (λ index. outcome_at subtable (visit_by a place subtable index) last s)
-    (covered_index subtable.coverage.table.now glyph) (outcome s last None)
+-- what comes of one that is no context, by its kind
+abbrev pub outcome_at : Visit → Text → Outcome
+outcome_at visit old =
+    let kind = visit.subtable.lookup_type in
+    outcome
+    (record old {
+      buffer = simple_at kind visit old.last old.buffer;
+      last = bases_at kind visit old.buffer.input old.last;
+    })
+    (simple_next kind visit old.last old.buffer)

@@ -1,7 +1,11 @@
 //! Contexts: which rule fits at a glyph (HarfBuzz, `ContextPos`, `ChainContextPos`).
 
-ghost use Rattle.std.specs.Prelude.{◌≡◌, false, IsSome};
+ghost use Rattle.std.specs.Prelude.{◌≡◌, ◌<◌, false, length};
+ghost use Rattle.ot_gpos.specs.Contexts.{IsDecided};
+ghost use Rattle.ot_gpos.specs.Lookups.{is_simple};
+ghost use Rattle.ot_gpos.specs.Visit.{visit_of};
 ghost use Rattle.ot_layout.specs.Budget.{IsNotMore};
+ghost use Rattle.ot_lookups.specs.NextAsked.{IsNextOf};
 
 use crate::turn::Turn;
 use ot_layout::context::{Fit, fitting_rule};
@@ -14,7 +18,7 @@ use rb_glyph::hb_glyph_info_t;
 pub(crate) const CHAINED_CONTEXT: u16 = 8;
 
 /// The rule that fits at the glyph; how far rules that do not fit have looked stands in the search. The places of the rule's glyphs
-/// are counted from the glyph.
+/// are counted from the glyph. No lookup is applied, so that as many may be as before.
 pub(crate) fn fit_at<'a>(
     glyphs: &[hb_glyph_info_t],
     list: &'a LookupList<'a>,
@@ -22,12 +26,16 @@ pub(crate) fn fit_at<'a>(
     context: &SkippingIterator<'a>,
     search: &mut Search,
 ) -> Option<Fit<'a>>
-    ensures { IsNotMore search.old.budget search.new.budget }
+    requires within { turn.now.place < length glyphs.now }
+    requires next { IsNextOf list.now.coverages.items turn.now.subtable.now }
+    requires is_context { is_simple turn.now.subtable.now ≡ false }
+    ensures spent { IsNotMore search.old.budget search.new.budget }
+    ensures same_left { search.new.budget.nested ≡ search.old.budget.nested }
+    ensures decided { 0 < search.new.budget.steps
+        → IsDecided list.now (visit_of turn.now) context.now glyphs.now search.new.places.items result }
 {
     search.reach = Reach::none(turn.place);
-    if turn.place >= glyphs.len() {
-        return None;
-    }
+    let nested = search.budget.nested;
     let ctx = ApplyContext {
         out: &glyphs[..turn.place],
         input: &glyphs[turn.place..],
@@ -37,5 +45,7 @@ pub(crate) fn fit_at<'a>(
         is_level: true,
     };
     let is_chained = turn.subtable.lookup_type == CHAINED_CONTEXT;
-    fitting_rule(list, turn.subtable, turn.index, is_chained, &ctx, search)
+    let found = fitting_rule(list, turn.subtable, turn.index, is_chained, &ctx, search);
+    search.budget.nested = nested;
+    found
 }

@@ -1,18 +1,21 @@
 //! A lookup of `GPOS` over a buffer: each glyph that it is for is tried with its subtables, one after the other (HarfBuzz,
 //! `apply_forward`).
 
-ghost use Rattle.std.specs.Prelude.{ℕ, ◌≡◌, ◌≤◌, ◌<◌, ◌-◌, true, false, length, min, slice_get, IsSome, IfSome};
+ghost use Rattle.std.specs.Prelude.{ℕ, ◌≡◌, ◌≤◌, ◌<◌, ◌-◌, true, false, length, min, slice_get, None, Some, IsSome, IfNone, IfSome};
 ghost use Rattle.ot_layout.specs.Budget.{IsNotMore};
 ghost use Rattle.glyph_digests.specs.Covered.{covered_index};
 ghost use Rattle.ot_gpos.specs.Attachments.{HasNoPixels};
+ghost use Rattle.ot_gpos.specs.Contexts.{AreDone, IsContextDone, named, record_done, target};
 ghost use Rattle.ot_gpos.specs.Flags.{KeepsBits, untouched};
-ghost use Rattle.ot_gpos.specs.Lookups.{applied, is_simple, one_tried, outcome, outcome_at};
-ghost use Rattle.ot_gpos.specs.Runs.{AreSimple, HasNoContexts, positioned, positioned_by, tried_at};
+ghost use Rattle.ot_gpos.specs.Lookups.{applied, is_simple, outcome, text_of};
+ghost use Rattle.ot_gpos.specs.Nested as others;
+ghost use Rattle.ot_gpos.specs.Nested.{IsOneTried, IsTried, IsVisited};
+ghost use Rattle.ot_gpos.specs.Runs.{IsPositioned, IsPositionedBy};
 ghost use Rattle.ot_gpos.specs.Subtables.{bases_at, simple_at, simple_next};
 ghost use Rattle.ot_gpos.specs.Visit.{visit_of};
 ghost use Rattle.ot_lookups.specs.Lookup.{is_for};
 ghost use Rattle.ot_lookups.specs.LookupProps.{glyph_at};
-ghost use Rattle.ot_lookups.specs.Subtables.{subtables_of};
+ghost use Rattle.ot_lookups.specs.NextAsked.{IsNextOf};
 ghost use Rattle.shaping_buffer.specs.KeepsClusters.{KeepsClusters};
 
 use crate::contexts::fit_at;
@@ -69,10 +72,10 @@ pub fn position<P: ContourPoints>(
     ensures flags { KeepsBits buffer.old.input buffer.new.input }
     ensures spent { IsNotMore search.old.budget search.new.budget }
     ensures says { search.new.budget.steps ≡ 0 → buffer.new.shaping_failed ≡ true }
-    ensures exact { let subtables = setting.now.list.now.subtables.items in
-        let at = slice_get setting.now.list.now.lookups.items lookup in
-        HasNoContexts subtables at → HasNoPixels setting.now.instance → 0 < search.new.budget.steps
-        → buffer.new ≡ positioned subtables at options.now setting.now.instance buffer.old }
+    ensures exact { let list = setting.now.list.now in
+        HasNoPixels setting.now.instance → 0 < search.new.budget.steps
+        → IsPositioned list (slice_get list.lookups.items lookup) options.now setting.now.instance
+        search.old.budget.nested buffer.old search.new.budget.nested buffer.new }
     ensures keeps { KeepsClusters buffer.old buffer.new }
 {
     prove!(buffer.out_len() == 0);
@@ -96,10 +99,10 @@ fn place_all<'a, P: ContourPoints>(
     ensures rest { untouched buffer.new ≡ untouched buffer.old }
     ensures flags { KeepsBits buffer.old.input buffer.new.input }
     ensures spent { IsNotMore search.old.budget search.new.budget }
-    ensures exact { let subtables = setting.now.list.now.subtables.items in
-        let at = slice_get setting.now.list.now.lookups.items lookup in
-        HasNoContexts subtables at → HasNoPixels setting.now.instance → 0 < search.new.budget.steps
-        → buffer.new ≡ positioned subtables at options.now setting.now.instance buffer.old }
+    ensures exact { let list = setting.now.list.now in
+        HasNoPixels setting.now.instance → 0 < search.new.budget.steps
+        → IsPositioned list (slice_get list.lookups.items lookup) options.now setting.now.instance
+        search.old.budget.nested buffer.old search.new.budget.nested buffer.new }
 {
     let Some(lookup) = setting.list.lookup(lookup) else {
         return;
@@ -123,9 +126,9 @@ fn place_by_all<'a, P: ContourPoints>(
     ensures rest { untouched buffer.new ≡ untouched buffer.old }
     ensures flags { KeepsBits buffer.old.input buffer.new.input }
     ensures spent { IsNotMore search.old.budget search.new.budget }
-    ensures exact { let subtables = subtables_of setting.now.list.now.subtables.items lookup.now in
-        AreSimple subtables → HasNoPixels setting.now.instance → 0 < search.new.budget.steps
-        → buffer.new ≡ positioned_by (applied lookup.now options.now setting.now.instance) subtables buffer.old }
+    ensures exact { HasNoPixels setting.now.instance → 0 < search.new.budget.steps
+        → IsPositionedBy (applied setting.now.list.now lookup.now options.now setting.now.instance)
+        search.old.budget.nested buffer.old search.new.budget.nested buffer.new }
 {
     let mut last = LastBase::none();
     let mut next = 0;
@@ -172,12 +175,11 @@ fn place_by_lookup<'a, P: ContourPoints>(
     ensures rest { untouched buffer.new ≡ untouched buffer.old }
     ensures flags { KeepsBits buffer.old.input buffer.new.input }
     ensures spent { IsNotMore search.old.budget search.new.budget }
-    ensures exact { let subtables = subtables_of task.now.setting.now.list.now.subtables.items task.now.lookup.now in
-        task.now.place < length buffer.old.input → AreSimple subtables → HasNoPixels task.now.setting.now.instance
-        → 0 < search.new.budget.steps
-        → outcome buffer.new last.new result
-        ≡ tried_at (applied task.now.lookup.now task.now.options.now task.now.setting.now.instance) task.now.place subtables
-        last.old buffer.old }
+    ensures exact { let setting = task.now.setting.now in
+        let a = applied setting.list.now task.now.lookup.now task.now.options.now setting.instance in
+        HasNoPixels setting.instance → 0 < search.new.budget.steps
+        → IsTried task.now.depth a task.now.place (text_of buffer.old last.old search.old.budget.nested)
+        (outcome (text_of buffer.new last.new search.new.budget.nested) result) }
 {
     if task.place >= buffer.len() {
         return None;
@@ -196,7 +198,6 @@ fn place_by_lookup<'a, P: ContourPoints>(
 
 /// Positions the glyph of this number by a subtable, if it covers the glyph, and says where the iterator goes on.
 #[cycle(nested)]
-#[tactic(auto, using(crate::proofs::LookupLemmas::uncovered), unfolding(crate::specs::Lookups::one_tried))]
 fn try_subtable<'a, P: ContourPoints>(
     buffer: &mut hb_buffer_t,
     task: &Task<'a, P>,
@@ -207,16 +208,19 @@ fn try_subtable<'a, P: ContourPoints>(
 ) -> Option<usize>
     requires closed { buffer.old.have_output ≡ false }
     requires placed { IsSome buffer.old.positions }
+    requires within { task.now.place < length buffer.old.input }
+    requires next { IsNextOf task.now.setting.now.list.now.coverages.items subtable.now }
     ensures closed { buffer.new.have_output ≡ false }
     ensures placed { IsSome buffer.new.positions }
     ensures rest { untouched buffer.new ≡ untouched buffer.old }
     ensures flags { KeepsBits buffer.old.input buffer.new.input }
     ensures spent { IsNotMore search.old.budget search.new.budget }
-    ensures exact { is_simple subtable.now ≡ true → HasNoPixels task.now.setting.now.instance
-        → 0 < search.new.budget.steps
-        → outcome buffer.new last.new result
-        ≡ one_tried (applied task.now.lookup.now task.now.options.now task.now.setting.now.instance) task.now.place glyph
-        subtable.now last.old buffer.old }
+    ensures exact { let setting = task.now.setting.now in
+        let a = applied setting.list.now task.now.lookup.now task.now.options.now setting.instance in
+        HasNoPixels setting.instance → 0 < search.new.budget.steps
+        → IsOneTried (others.nested task.now.depth a) a task.now.place glyph subtable.now
+        (text_of buffer.old last.old search.old.budget.nested)
+        (outcome (text_of buffer.new last.new search.new.budget.nested) result) }
 {
     if !subtable.may_be_for(glyph) {
         return None;
@@ -256,14 +260,19 @@ fn place_by_subtable<'a, P: ContourPoints>(
 ) -> Option<usize>
     requires closed { buffer.old.have_output ≡ false }
     requires placed { IsSome buffer.old.positions }
+    requires within { turn.now.place < length buffer.old.input }
+    requires place { turn.now.place ≡ task.now.place }
+    requires next { IsNextOf task.now.setting.now.list.now.coverages.items turn.now.subtable.now }
     ensures closed { buffer.new.have_output ≡ false }
     ensures placed { IsSome buffer.new.positions }
     ensures rest { untouched buffer.new ≡ untouched buffer.old }
     ensures flags { KeepsBits buffer.old.input buffer.new.input }
-    ensures exact { is_simple turn.now.subtable.now ≡ true → HasNoPixels turn.now.instance.now
-        → outcome buffer.new last.new result
-        ≡ outcome_at turn.now.subtable.now (visit_of turn.now) last.old buffer.old }
     ensures spent { IsNotMore search.old.budget search.new.budget }
+    ensures exact { let setting = task.now.setting.now in
+        let a = applied setting.list.now task.now.lookup.now task.now.options.now setting.instance in
+        HasNoPixels setting.instance → HasNoPixels turn.now.instance.now → 0 < search.new.budget.steps
+        → IsVisited (others.nested task.now.depth a) a (visit_of turn.now) (text_of buffer.old last.old search.old.budget.nested)
+        (outcome (text_of buffer.new last.new search.new.budget.nested) result) }
 {
     match turn.subtable.lookup_type {
         7 | 8 => place_by_context(buffer, task, turn, search, last),
@@ -312,11 +321,20 @@ fn place_by_context<'a, P: ContourPoints>(
 ) -> Option<usize>
     requires closed { buffer.old.have_output ≡ false }
     requires placed { IsSome buffer.old.positions }
+    requires within { turn.now.place < length buffer.old.input }
+    requires place { turn.now.place ≡ task.now.place }
+    requires next { IsNextOf task.now.setting.now.list.now.coverages.items turn.now.subtable.now }
+    requires is_context { is_simple turn.now.subtable.now ≡ false }
     ensures closed { buffer.new.have_output ≡ false }
     ensures placed { IsSome buffer.new.positions }
     ensures rest { untouched buffer.new ≡ untouched buffer.old }
     ensures flags { KeepsBits buffer.old.input buffer.new.input }
     ensures spent { IsNotMore search.old.budget search.new.budget }
+    ensures exact { let setting = task.now.setting.now in
+        let a = applied setting.list.now task.now.lookup.now task.now.options.now setting.instance in
+        HasNoPixels setting.instance → 0 < search.new.budget.steps
+        → IsContextDone (others.nested task.now.depth a) a (visit_of turn.now) (text_of buffer.old last.old search.old.budget.nested)
+        (outcome (text_of buffer.new last.new search.new.budget.nested) result) }
 {
     let context = SkippingIterator::over_context(task.lookup.lookup_props, task.options, true);
     let fit = fit_at(buffer.info(), task.setting.list, turn, &context, search);
@@ -348,6 +366,12 @@ fn apply_records<'a, P: ContourPoints>(
     ensures rest { untouched buffer.new ≡ untouched buffer.old }
     ensures flags { KeepsBits buffer.old.input buffer.new.input }
     ensures spent { IsNotMore search.old.budget search.new.budget }
+    ensures exact { let setting = task.now.setting.now in
+        let a = applied setting.list.now task.now.lookup.now task.now.options.now setting.instance in
+        HasNoPixels setting.instance → 0 < search.new.budget.steps
+        → AreDone (record_done (others.nested task.now.depth a) a.list.lookups.items fit.now.records.now task.now.place places.now.items)
+        fit.now.record_count (text_of buffer.old last.old search.old.budget.nested)
+        (text_of buffer.new last.new search.new.budget.nested) }
 {
     for index in 0..usize::from(fit.record_count) {
         if let Some(nested) = nested_task(task, fit, places, index) {
@@ -367,7 +391,16 @@ fn nested_task<'a, P>(
     places: &MatchPositions,
     index: usize,
 ) -> Option<Task<'a, P>>
-    ensures { IfSome result (λ nested. nested.depth ≡ task.now.depth - 1) }
+    requires { index < 65536 }
+    ensures depth { IfSome result (λ nested. nested.depth ≡ task.now.depth - 1) }
+    ensures same { IfSome result (λ nested.
+        applied nested.setting.now.list.now nested.lookup.now nested.options.now nested.setting.now.instance
+        ≡ applied task.now.setting.now.list.now nested.lookup.now task.now.options.now task.now.setting.now.instance) }
+    ensures some { IfSome result (λ nested.
+        named task.now.setting.now.list.now.lookups.items fit.now.records.now task.now.place places.now.items index
+        ≡ Some (target nested.lookup.now nested.place)) }
+    ensures none { IfNone result
+        (named task.now.setting.now.list.now.lookups.items fit.now.records.now task.now.place places.now.items index ≡ None) }
 {
     let record = fit.record(index)?;
     let at = *places.as_slice().get(record.sequence_index)?;
@@ -406,6 +439,7 @@ fn fail(buffer: &mut hb_buffer_t)
     ensures placed { IsSome buffer.new.positions }
     ensures rest { untouched buffer.new ≡ untouched buffer.old }
     ensures flags { KeepsBits buffer.old.input buffer.new.input }
+    ensures is { buffer.new ≡ record buffer.old { shaping_failed = true } }
     ensures says { buffer.new.shaping_failed ≡ true }
 {
     buffer.shaping_failed = true;

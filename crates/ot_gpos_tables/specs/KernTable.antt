@@ -1,10 +1,14 @@
 -- The table `kern`: subtables of pairs of glyphs, or of pairs of classes.
 use Rattle.std.specs.Prelude.{◌≡◌, ℕ, ℤ, List, Option, None, Some, ◌+◌, ◌-◌, ◌*◌, ◌/◌, ◌&&◌, ◌||◌, nat_le, nat_lt}
 use Rattle.std.specs.Prelude.{if◌then◌else◌, unwrap_or, pos, option_and_then, option_map, drop, take, length, Bool, true, false, not, nat_eq}
-use Rattle.std.specs.Prelude.{bit_and}
+use Rattle.std.specs.Prelude.{bit_and, zero, suc, min, ◌^◌}
+use Rattle.std.specs.Option.{option_map_or}
 use Rattle.font_tables.specs.Bytes.{byte_at, number_16, number_32, signed_16, is_number}
 use Rattle.ot_gpos_tables.specs.declared.kern_table.KernCoverage.{KernCoverage}
 use Rattle.ot_gpos_tables.specs.declared.kern_table.KernSubtable.{KernSubtable}
+use Rattle.ot_gpos_tables.specs.declared.kern_table.KernTable.{KernTable}
+use Rattle.ot_gpos_tables.specs.declared.kern_table.Property.{Property}
+use Rattle.ot_gpos_tables.specs.declared.kern_table.Property.TheVariants.{CrossStream, Machine}
 use Rattle.std.specs.declared.cmp.Ordering.{Ordering}
 use Rattle.font_tables.specs.Bisection.{beside_key, row_with}
 use Rattle.font_tables.specs.Rows.{rows_within}
@@ -113,3 +117,67 @@ subtable_length apple rest = option_and_then (lying apple rest) (declared_length
 -- its bytes; those of the last subtable go up to the end of the table
 abbrev pub subtable_bytes : Bool → ℕ → List ℕ → List ℕ
 subtable_bytes is_last count rest = if is_last then rest else take count rest
+
+-- ---- the subtables, one after the other
+
+-- the format of the subtable at the head of what is left of the table, and what its values are for
+abbrev pub format_in : Bool → List ℕ → ℕ
+format_in apple rest = unwrap_or (byte_at rest (if apple then 5 else 4)) 0
+
+abbrev pub coverage_in : Bool → List ℕ → KernCoverage
+coverage_in apple rest = coverage_of apple (unwrap_or (byte_at rest (if apple then 4 else 5)) 0)
+
+-- whether it is a state machine, and whether it moves glyphs across the line
+abbrev pub is_machine : Bool → List ℕ → Bool
+is_machine apple rest = nat_eq (format_in apple rest) 1
+
+abbrev pub is_crossing : Bool → List ℕ → Bool
+is_crossing apple rest = (coverage_in apple rest).is_cross_stream
+
+-- a property of it, and of a subtable that was read
+abbrev pub is_such : Property → Bool → List ℕ → Bool
+is_such Machine = is_machine
+is_such CrossStream = is_crossing
+
+abbrev pub has_property : Property → KernSubtable → Bool
+has_property Machine s = nat_eq s.format 1
+has_property CrossStream s = s.coverage.is_cross_stream
+
+-- whether a subtable holds the pairs that it says that it has, if it is one of pairs
+abbrev pub holds_pairs : ℕ → ℕ → List ℕ → Bool
+holds_pairs format header subtable =
+    not (nat_eq format 0) || nat_le (header + 8 + 6 * unwrap_or (number_16 subtable header) 0) (length subtable)
+
+-- where the first subtable begins, and the one behind a subtable of a size
+abbrev pub first_subtable : Bool → ℕ
+first_subtable apple = if apple then 8 else 4
+
+abbrev pub behind_subtable : ℕ → ℕ → ℕ
+behind_subtable at size = min (at + size) (2 ^ 64 - 1)
+
+-- whether so many subtables from a place on lie in the table, with the pairs that they say that they have
+abbrev pub are_whole : ℕ → Bool → List ℕ → ℕ → Bool
+are_whole zero apple table at = true
+are_whole (suc left) apple table at =
+    option_map_or (λ size.
+    holds_pairs (format_in apple (drop at table)) (if apple then 8 else 6) (subtable_bytes (nat_eq left 0) size (drop at table))
+    && are_whole left apple table (behind_subtable at size))
+    (subtable_length apple (drop at table)) false
+
+-- how many subtables are read: those that the table declares, or none where one of them is cut short
+abbrev pub subtable_count : List ℕ → ℕ
+subtable_count table =
+    if are_whole (declared_count table) (is_apple table) table (first_subtable (is_apple table)) then declared_count table else 0
+
+-- whether a test holds of one of so many subtables from a place on. Where one does not lie in the table, none follows
+abbrev pub some_subtable : (Bool → List ℕ → Bool) → ℕ → Bool → List ℕ → ℕ → Bool
+some_subtable test zero apple table at = false
+some_subtable test (suc left) apple table at =
+    option_map_or (λ size.
+    test apple (drop at table) || some_subtable test left apple table (behind_subtable at size))
+    (subtable_length apple (drop at table)) false
+
+-- whether a test holds of one of the subtables of a table
+abbrev pub has_subtable : (Bool → List ℕ → Bool) → KernTable → Bool
+has_subtable test kern =
+    some_subtable test kern.count kern.is_apple kern.table.now (first_subtable kern.is_apple)

@@ -8,7 +8,8 @@ ghost use Rattle.font_tables.specs.Bisection.{AreInOrder};
 ghost use Rattle.std.specs.Prelude.{not, nat_eq, nat_le, if◌then◌else◌, drop, option_map, false, true};
 ghost use Rattle.font_tables.specs.Bytes.{number_16, signed_16};
 ghost use Rattle.ot_gpos_tables.specs.KernTable.{declared_count, declared_length, is_apple, subtable_bytes, subtable_length};
-ghost use Rattle.ot_gpos_tables.specs.KernTable.{IsHeader};
+ghost use Rattle.ot_gpos_tables.specs.KernTable.{IsHeader, are_whole, first_subtable, has_property, has_subtable, holds_pairs};
+ghost use Rattle.ot_gpos_tables.specs.KernTable.{is_crossing, is_machine, is_such, subtable_count};
 ghost use Rattle.ot_gpos_tables.specs.KernTable.{beside_pair, class_number, classed_value, kerning, pair_count, pair_row, pair_value, value_at};
 
 use crate::sorted_rows::Keys32;
@@ -60,12 +61,9 @@ impl<'a> KernTable<'a> {
         ensures table { result.table.now ≡ table.now }
         ensures form { result.is_apple ≡ is_apple table.now }
         ensures count { result.count ≢ 0 → result.count ≡ declared_count table.now }
+        ensures whole { result.count ≡ subtable_count table.now }
     {
-        let (is_apple, count) = match u16_at(table, 0) {
-            Some(0) => (false, u32::from(u16_at(table, 2).unwrap_or(0))),
-            Some(1) => (true, u32_at(table, 4).unwrap_or(0)),
-            _ => (false, 0),
-        };
+        let (is_apple, count) = declared(table);
         let kern = KernTable {
             table,
             is_apple,
@@ -115,15 +113,19 @@ impl<'a> KernTable<'a> {
     }
 
     /// Whether each subtable lies in the table, with the pairs that it says that it has.
-    fn is_whole(&self) -> bool {
+    fn is_whole(&self) -> bool
+        ensures { result
+            ≡ are_whole self.now.count self.now.is_apple self.now.table.now (first_subtable self.now.is_apple) }
+    {
         let mut at = self.start();
         for number in 0..self.count {
-            match self.subtable_at(at, number) {
-                Some(subtable) if subtable.has_its_pairs() => {
-                    at = at.saturating_add(subtable.length);
-                }
-                _ => return false,
+            let Some(subtable) = self.subtable_at(at, number) else {
+                return false;
+            };
+            if !subtable.has_its_pairs() {
+                return false;
             }
+            at = at.saturating_add(subtable.length);
         }
         true
     }
@@ -136,17 +138,23 @@ impl<'a> KernTable<'a> {
     }
 
     /// Whether a subtable is a state machine, which may also attach marks.
-    pub fn has_machine_kerning(&self) -> bool {
+    pub fn has_machine_kerning(&self) -> bool
+        ensures { result ≡ has_subtable is_machine self.now }
+    {
         self.has(Property::Machine)
     }
 
     /// Whether a subtable moves glyphs across the line.
-    pub fn has_cross_kerning(&self) -> bool {
+    pub fn has_cross_kerning(&self) -> bool
+        ensures { result ≡ has_subtable is_crossing self.now }
+    {
         self.has(Property::CrossStream)
     }
 
     /// Whether a subtable has this property.
-    fn has(&self, property: Property) -> bool {
+    fn has(&self, property: Property) -> bool
+        ensures { result ≡ has_subtable (is_such property) self.now }
+    {
         let mut at = self.start();
         for number in 0..self.count {
             let Some(subtable) = self.subtable_at(at, number) else {
@@ -168,6 +176,18 @@ enum Property {
     Machine,
     /// It moves glyphs across the line.
     CrossStream,
+}
+
+/// Whether the headers of a table are Apple's, and how many subtables it declares, by its version.
+fn declared(table: &[u8]) -> (bool, u32)
+    ensures form { result.0 ≡ is_apple table.now }
+    ensures count { result.1 ≡ declared_count table.now }
+{
+    match u16_at(table, 0) {
+        Some(0) => (false, u32::from(u16_at(table, 2).unwrap_or(0))),
+        Some(1) => (true, u32_at(table, 4).unwrap_or(0)),
+        _ => (false, 0),
+    }
 }
 
 /// A subtable, by the header of Apple or of Windows.
@@ -235,7 +255,9 @@ impl KernSubtable<'_> {
     }
 
     /// Whether it has this property.
-    fn has(&self, property: Property) -> bool {
+    fn has(&self, property: Property) -> bool
+        ensures { result ≡ has_property property self.now }
+    {
         match property {
             Property::Machine => self.format == 1,
             Property::CrossStream => self.coverage.is_cross_stream,
@@ -243,7 +265,9 @@ impl KernSubtable<'_> {
     }
 
     /// Whether the pairs of a subtable of format 0 lie in it.
-    fn has_its_pairs(&self) -> bool {
+    fn has_its_pairs(&self) -> bool
+        ensures { result ≡ holds_pairs self.now.format self.now.header self.now.table.now }
+    {
         let start = usize::from(self.header);
         let count = usize::from(u16_at(self.table, start).unwrap_or(0));
         self.format != 0 || start + 8 + 6 * count <= self.table.len()

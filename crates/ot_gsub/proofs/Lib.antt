@@ -5,6 +5,7 @@
 -- that was put out is in the cluster of the one that it came from (`BufferLemmas`).
 
 pub mod BufferLemmas
+pub mod ChangesLemmas
 pub mod EditsLemmas
 pub mod LigaturesLemmas
 pub mod MatchPositionsLemmas

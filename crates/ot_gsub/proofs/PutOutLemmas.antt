@@ -2,13 +2,14 @@
 use Rattle.std.proofs.Common.{◌≡◌, ℕ, zero, suc, ◌+◌, ◌<◌, ◌≤◌, Bool, true, false, List, [], ◌∷◌, ◌++◌, length, take, drop, Result, Ok}
 use Rattle.std.proofs.Common.{refl, sym, ap, subst, ◌∙◌, inl, inr, arith, append_assoc, length-append}
 use Rattle.std.proofs.lemmas.Bool.{cases_lt, cond-true, cond-false, cond_both, eqb-true, false≢true, le-leb, le-ltb, lt-leb, lt-ltb, ne_eqb}
-use Rattle.std.proofs.lemmas.List.{get_or-drop, length-take-le}
+use Rattle.std.proofs.lemmas.List.{get_or-drop, length-take-le, take-append-drop}
 use Rattle.std.specs.Prelude.{IsErr, is_err, nat_le, nat_lt, ◌-◌, ◌==◌, ◌||◌, if◌then◌else◌}
 use Rattle.std.specs.declared.alloc.AllocError.{AllocError}
 use Rattle.rb_glyph.specs.declared.info.hb_glyph_info_t.{hb_glyph_info_t}
 use Rattle.glyph_lists.specs.Clusters.{zero_glyph}
 use Rattle.ot_lookups.specs.LookupProps.{glyph_at}
 use Rattle.shaping_buffer.specs.State.{State}
+use Rattle.shaping_buffer.specs.ClusterStep.{both}
 use Rattle.shaping_buffer.specs.Step.{Outcome, clear_output, next_glyph, next_glyphs, unlimited}
 use Rattle.ot_gsub.specs.Singles.{opened_at}
 use Rattle.ot_gsub.proofs.EditsLemmas.{state-limited}
@@ -45,11 +46,24 @@ module _ (b : State) (p : Bool) (o l : List hb_glyph_info_t) (i n : ℕ) where
       cond_both (n == 0) _ _ (λ (r : Outcome). r.done ≡ true → r.state.input ≡ drop n l)
       (λ none _. ap (λ k. drop k l) (sym (eqb-true n 0 none))) (λ _ done. ap (λ (t : State). t.input) (state-held done))
 
+  both-held : (put n (held b p o l i)).done ≡ true → both (put n (held b p o l i)).state ≡ o ++ l
+  both-held =
+      cond_both (n == 0) _ _ (λ (r : Outcome). r.done ≡ true → both r.state ≡ o ++ l)
+      (λ _ _. refl)
+      (λ _ done. ap both (state-held done) ∙ append_assoc o (take n l) (drop n l)
+      ∙ ap (λ (x : List hb_glyph_info_t). o ++ x) (take-append-drop n l))
+
 -- what is left to read after that
 pub input-put : (n : ℕ) (s : State) → s.have_output ≡ true → (put n s).done ≡ true → (put n s).state.input ≡ drop n s.input
 input-put n s is =
     subst (λ (t : State). (put n t).done ≡ true → (put n t).state.input ≡ drop n t.input) (sym (held_is s is))
     (input-held s s.have_separate_output s.out s.input s.idx n)
+
+-- and both sides as one list
+pub both-put : (n : ℕ) (s : State) → s.have_output ≡ true → (put n s).done ≡ true → both (put n s).state ≡ both s
+both-put n s is =
+    subst (λ (t : State). (put n t).done ≡ true → both (put n t).state ≡ both t) (sym (held_is s is))
+    (both-held s s.have_separate_output s.out s.input s.idx n)
 
 nat_lt-shift : (a b c d k : ℕ) → a + k ≡ c → b + k ≡ d → nat_lt a b ≡ nat_lt c d
 nat_lt-shift a b c d k p q = elim (cases_lt a b) [

@@ -2,6 +2,7 @@
 
 ghost use Rattle.std.specs.Prelude.{◌≡◌, ◌+◌, ◌<◌, ◌≤◌, true, length, min, nat_lt, IfOk, Ok, if◌then◌else◌};
 ghost use Rattle.ot_layout.specs.Budget.{IsNotMore};
+ghost use Rattle.ot_gsub.specs.Changes.{glyph_numbers};
 ghost use Rattle.ot_gsub.specs.Edits.{GivesOrWants};
 ghost use Rattle.ot_gsub.specs.MatchPositions.{followed, is_full, match_of};
 ghost use Rattle.ot_gsub.specs.Open.{IsLeftOpen};
@@ -53,6 +54,8 @@ pub(crate) fn apply_at(
     ensures turn { 0 < progress.new.search.budget.steps
         → IsTurnAt depth substitutions.now lookup.now (now_of buffer.old progress.old) result (now_of buffer.new progress.new) }
     ensures changed { result ≡ Ok Step.Applied → progress.new.has_changed ≡ true }
+    ensures passed { result ≡ Ok Step.Passed → progress.new.has_changed ≡ progress.old.has_changed }
+    ensures numbers { result ≡ Ok Step.Passed → glyph_numbers buffer.new ≡ glyph_numbers buffer.old }
     ensures same_length { result ≡ Ok Step.Passed → length buffer.new.input ≡ length buffer.old.input }
     ensures left { IsLeftOpen result buffer.new }
     ensures spent { IsNotMore progress.old.search.budget progress.new.search.budget }
@@ -85,6 +88,7 @@ fn decide<'a>(
     ensures decided { 0 < progress.new.search.budget.steps
         → IsDecided substitutions.now lookup.now (nat_lt depth 64) buffer.now progress.new.search.places.items result }
     ensures same_random { progress.new.random_state ≡ progress.old.random_state }
+    ensures same_changed { progress.new.has_changed ≡ progress.old.has_changed }
     ensures spent { IsNotMore progress.old.search.budget progress.new.search.budget }
 {
     let options = &substitutions.options;

@@ -5,6 +5,7 @@ ghost use Rattle.std.specs.Prelude.{◌≡◌, ◌<◌, ◌≤◌, ◌+◌, fals
 ghost use Rattle.rb_glyph.specs.Fields.{field};
 ghost use Rattle.ot_layout.specs.Budget.{IsNotMore};
 ghost use Rattle.ot_lookups.specs.LookupProps.{glyph_at};
+ghost use Rattle.ot_gsub.specs.Changes.{TellsChanges};
 ghost use Rattle.ot_gsub.specs.Edits as edits;
 ghost use Rattle.ot_gsub.specs.Nested.{now_of};
 ghost use Rattle.ot_gsub.specs.Runs.{AreDoneBackward, IsPlaceDone, mark_around, takes};
@@ -32,6 +33,7 @@ pub(crate) fn substitute_reverse(
     ensures run { 0 < progress.new.search.budget.steps
         → AreDoneBackward substitutions.now lookup.now (length buffer.old.input) (now_of buffer.old progress.old)
         (now_of buffer.new progress.new) }
+    ensures tells { TellsChanges buffer.old progress.old.has_changed buffer.new progress.new.has_changed }
     ensures closed { buffer.new.have_output ≡ false }
     ensures spent { IsNotMore progress.old.search.budget progress.new.search.budget }
     ensures keeps { KeepsClusters buffer.old buffer.new }
@@ -53,6 +55,7 @@ fn substitute_one(
     requires { buffer.old.have_output ≡ false }
     ensures done { 0 < progress.new.search.budget.steps
         → IsPlaceDone substitutions.now lookup.now place (now_of buffer.old progress.old) (now_of buffer.new progress.new) }
+    ensures tells { TellsChanges buffer.old progress.old.has_changed buffer.new progress.new.has_changed }
     ensures closed { buffer.new.have_output ≡ false }
     ensures spent { IsNotMore progress.old.search.budget progress.new.search.budget }
     ensures keeps { KeepsClusters buffer.old buffer.new }
@@ -93,6 +96,7 @@ fn decide<'a>(
     ensures passed { takes substitutions.now lookup.now place buffer.now ≡ false
         → (result ≡ None) × (progress.new.search.reach.to ≡ 0) × (now_of buffer.now progress.new ≡ now_of buffer.now progress.old) }
     ensures same_random { progress.new.random_state ≡ progress.old.random_state }
+    ensures same_changed { progress.new.has_changed ≡ progress.old.has_changed }
     ensures spent { IsNotMore progress.old.search.budget progress.new.search.budget }
 {
     progress.search.reach = Reach::none(0);

@@ -5,6 +5,7 @@ ghost use Rattle.ot_layout.specs.Budget.{IsNotMore};
 ghost use Rattle.ot_lookups.specs.Lookup.{is_for};
 ghost use Rattle.ot_lookups.specs.Subtables.{subtables_of};
 ghost use Rattle.ot_lookups.specs.LookupProps.{glyph_at};
+ghost use Rattle.ot_gsub.specs.Changes.{TellsChanges, glyph_numbers};
 ghost use Rattle.ot_gsub.specs.Nested.{now_of};
 ghost use Rattle.ot_gsub.specs.Open.{IsLeftOpen, IsLeftClosed};
 ghost use Rattle.ot_gsub.specs.Runs.{IsForward, IsRestDone, IsRun, IsRunOf, IsUnderWay, IsWanting};
@@ -49,7 +50,8 @@ pub struct Progress {
 impl Progress {
     /// The progress of a text of which nothing is substituted yet.
     pub fn new(budget: Budget) -> Self
-        ensures { result.search.budget ≡ budget }
+        ensures budget { result.search.budget ≡ budget }
+        ensures random { result.random_state ≡ 1 }
     {
         Progress {
             search: Search::new(budget),
@@ -78,6 +80,7 @@ pub fn substitute(
         0 < progress.new.search.budget.steps → buffer.old.successful ≡ true
         → IsSingleIf substitutions.now lookup buffer.old
         → IsSubstituted substitutions.now lookup buffer.old result buffer.new }
+    ensures tells { result ≡ Ok true → TellsChanges buffer.old progress.old.has_changed buffer.new progress.new.has_changed }
     ensures left { IsLeftClosed result buffer.new }
     ensures spent { IsNotMore progress.old.search.budget progress.new.search.budget }
     ensures keeps { KeepsClusters buffer.old buffer.new }
@@ -119,6 +122,7 @@ fn apply(
     ensures singles { 0 < progress.new.search.budget.steps → buffer.old.successful ≡ true
         → IsSingle substitutions.now lookup.now buffer.old
         → IsSubstituted substitutions.now (Some lookup.now) buffer.old result buffer.new }
+    ensures tells { result ≡ Ok true → TellsChanges buffer.old progress.old.has_changed buffer.new progress.new.has_changed }
     ensures left { IsLeftClosed result buffer.new }
     ensures spent { IsNotMore progress.old.search.budget progress.new.search.budget }
     ensures keeps { KeepsClusters buffer.old buffer.new }
@@ -139,6 +143,7 @@ fn apply(
 fn fail_if_spent(buffer: &mut hb_buffer_t, progress: &Progress)
     ensures same_output { buffer.new.have_output ≡ buffer.old.have_output }
     ensures same_length { length buffer.new.input ≡ length buffer.old.input }
+    ensures numbers { glyph_numbers buffer.new ≡ glyph_numbers buffer.old }
     ensures keeps { KeepsClusters buffer.old buffer.new }
     ensures says { progress.now.search.budget.steps ≡ 0 → buffer.new.shaping_failed ≡ true }
     ensures same { 0 < progress.now.search.budget.steps → buffer.new ≡ buffer.old }
@@ -177,6 +182,7 @@ fn substitute_forward(
     ensures singles { 0 < progress.new.search.budget.steps → buffer.old.successful ≡ true
         → IsSingle substitutions.now lookup.now buffer.old
         → IsSubstituted substitutions.now (Some lookup.now) buffer.old result buffer.new }
+    ensures tells { result ≡ Ok true → TellsChanges buffer.old progress.old.has_changed buffer.new progress.new.has_changed }
     ensures left { IsLeftClosed result buffer.new }
     ensures spent { IsNotMore progress.old.search.budget progress.new.search.budget }
     ensures keeps { KeepsClusters buffer.old buffer.new }
@@ -220,6 +226,7 @@ fn substitute_rest(
         → IsLevel buffer.old → IsForNext substitutions.now lookup.now buffer.old
         → (result ≡ Ok true)
         × (buffer.new ≡ moved (substituted substitutions.now lookup.now) (length buffer.old.input) buffer.old) }
+    ensures tells { result ≡ Ok true → TellsChanges buffer.old progress.old.has_changed buffer.new progress.new.has_changed }
     ensures left { IsLeftOpen result buffer.new }
     ensures spent { IsNotMore progress.old.search.budget progress.new.search.budget }
     ensures keeps { KeepsClusters buffer.old buffer.new }
@@ -253,6 +260,7 @@ fn substitute_next(
     ensures singles { 0 < progress.new.search.budget.steps → IsSingle substitutions.now lookup.now buffer.old
         → IsLevel buffer.old → IsForNext substitutions.now lookup.now buffer.old
         → (result ≡ Ok true) × HasMoved substitutions.now lookup.now 1 buffer.old buffer.new }
+    ensures tells { result ≡ Ok true → TellsChanges buffer.old progress.old.has_changed buffer.new progress.new.has_changed }
     ensures left { IsLeftOpen result buffer.new }
     ensures spent { IsNotMore progress.old.search.budget progress.new.search.budget }
     ensures keeps { KeepsClusters buffer.old buffer.new }

@@ -2,6 +2,7 @@
 //! buffer. No cluster changes by it.
 
 ghost use Rattle.std.specs.Prelude.{◌≡◌, ◌<◌, true, length};
+ghost use Rattle.ot_gsub.specs.Changes.{glyph_numbers};
 ghost use Rattle.ot_gsub.specs.Writing as writing;
 ghost use Rattle.shaping_buffer.specs.ClusterStep.{any_order};
 ghost use Rattle.shaping_buffer.specs.KeepsClusters.{KeepsClusters};
@@ -43,6 +44,7 @@ pub(crate) fn fail(buffer: &mut hb_buffer_t)
     ensures says { buffer.new.shaping_failed ≡ true }
     ensures same_output { buffer.new.have_output ≡ buffer.old.have_output }
     ensures same_length { length buffer.new.input ≡ length buffer.old.input }
+    ensures numbers { glyph_numbers buffer.new ≡ glyph_numbers buffer.old }
     ensures keeps { KeepsClusters buffer.old buffer.new }
 {
     buffer.shaping_failed = true;

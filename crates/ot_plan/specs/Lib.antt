@@ -1,2 +1,4 @@
 pub mod Plans
+pub mod Decisions
+pub mod Forms
 pub mod Shapers

@@ -2,6 +2,7 @@
 //! `hb_shape_plan_t`).
 #![tactic(auto)]
 
+mod decisions;
 mod form_places;
 mod glyphs_of_font;
 mod kept_plans;

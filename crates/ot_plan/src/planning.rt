@@ -1,10 +1,12 @@
 //! How a text is shaped: the plan of its script, its language and its features.
 
-ghost use Rattle.std.specs.Prelude.{◌≡◌, is_some, map, IfOk};
+ghost use Rattle.std.specs.Prelude.{◌≡◌, false, is_some, map, IfOk};
 ghost use Rattle.std.specs.Option.{option_copied};
 ghost use Rattle.rb_text.specs.Tags.{scripts_of};
-ghost use Rattle.ot_plan.specs.Shapers.{IsMadeOf, shaper_in, has_morx, orders_syllables};
+ghost use Rattle.ot_plan.specs.Decisions.{kern_of};
+ghost use Rattle.ot_plan.specs.Shapers.{IsDecided, IsMadeOf, shaper_in, has_morx, orders_syllables};
 
+use crate::decisions::{ChosenShaper, decided, kern_layout, mask};
 use crate::form_places::FormPlaces;
 use crate::glyphs_of_font::FaceGlyphs;
 use aat_substitution::{ChainFlags, selected_features};
@@ -12,18 +14,15 @@ use aat_tables::FeatureNames;
 use font_face::Face;
 use font_functions::FontFunctions;
 use font_variations::substitutions_of;
-use ot_gpos_tables::kern_table::KernTable;
-use ot_map::{
-    FeatureFlags, FontLayout, KernLayout, PlanBuilder, ShapePlan, ShaperRules, TextProperties,
-};
+use ot_map::{FeatureFlags, FontLayout, PlanBuilder, ShapePlan, TextProperties};
 use ot_tags::LanguageTags;
 use rb_common::{Direction, Script, Tag};
 use rb_text::tags::tags_from_script_and_language;
 use rb_text::{Feature, Language, LanguageTable};
 use script_joining::FallbackLookups;
 use script_shapers::{
-    ScriptPlan, ScriptShaper, SyllablePlan, ZeroWidthMarks, collect_features, override_features,
-    script_plan, syllable_plan,
+    ScriptPlan, ScriptShaper, SyllablePlan, collect_features, override_features, script_plan,
+    syllable_plan,
 };
 use shaping_buffer::hb_buffer_t;
 use std::alloc::AllocError;
@@ -80,7 +79,9 @@ pub fn plan_of_text<F: FontFunctions>(
     buffer: &hb_buffer_t,
     features: &[Feature],
 ) -> Result<TextPlan, AllocError>
-    ensures { IfOk result (IsMadeOf face.now buffer.now.direction buffer.now.script
+    ensures made { IfOk result (IsMadeOf face.now buffer.now.direction buffer.now.script
+        (scripts_of buffer.now.script buffer.now.language)) }
+    ensures decides { IfOk result (IsDecided face.now buffer.now.direction buffer.now.script
         (scripts_of buffer.now.script buffer.now.language)) }
 {
     let segment = SegmentProperties {
@@ -98,7 +99,9 @@ pub(crate) fn plan_for<F: FontFunctions>(
     segment: &SegmentProperties,
     features: &[Feature],
 ) -> Result<TextPlan, AllocError>
-    ensures { IfOk result (IsMadeOf face.now segment.now.direction segment.now.script
+    ensures made { IfOk result (IsMadeOf face.now segment.now.direction segment.now.script
+        (scripts_of segment.now.script (option_copied segment.now.language))) }
+    ensures decides { IfOk result (IsDecided face.now segment.now.direction segment.now.script
         (scripts_of segment.now.script (option_copied segment.now.language))) }
 {
     let Some(table) = LanguageTable::new(&[]) else {
@@ -127,30 +130,19 @@ fn plan_of<F: FontFunctions>(
     text: &TextProperties,
     features: &[Feature],
 ) -> Result<TextPlan, AllocError>
-    ensures { IfOk result (IsMadeOf face.now segment.now.direction segment.now.script
+    ensures made { IfOk result (IsMadeOf face.now segment.now.direction segment.now.script
+        (map (λ tag. tag.0) text.now.scripts.now)) }
+    ensures decides { IfOk result (IsDecided face.now segment.now.direction segment.now.script
         (map (λ tag. tag.0) text.now.scripts.now)) }
 {
-    let tables = FontLayout {
-        gsub: face.layout.gsub,
-        gpos: face.layout.gpos,
-        kern: kern_layout(face),
-        gsub_substitutions: substitutions_of(face.layout.gsub, face.coordinates()),
-        gpos_substitutions: substitutions_of(face.layout.gpos, face.coordinates()),
-    };
+    let tables = layout_of(face);
     let substitutes = substitutes_by_morx(face, segment.direction);
     let mut builder = ShapePlan::begin(face.alloc, &tables, text)?;
     let chosen = add_features(&mut builder, segment, features, substitutes)?;
-    let mut shape = ShapePlan::complete(
-        face.alloc,
-        builder,
-        &tables,
-        segment.direction,
-        chosen.rules,
-    )?;
-    let adjusts = shape.adjust_mark_positioning_when_zeroing;
-    shape.adjust_mark_positioning_when_zeroing = adjusts && !substitutes;
+    let layout = builder.compile(face.alloc)?;
+    let shape = decided(layout, &tables, segment.direction, &chosen);
     let chain_flags = chain_flags_of(face, features, substitutes)?;
-    let trak_mask = shape.layout.mask(Tag::from_bytes(b"trak"));
+    let trak_mask = mask(&shape.layout, b"trak");
     let syllables = syllable_plan(chosen.shaper, segment.script, &shape.layout);
     let script = script_plan(
         chosen.shaper,
@@ -169,6 +161,21 @@ fn plan_of<F: FontFunctions>(
         trak_mask,
         fallback,
     })
+}
+
+/// What the plan asks of the font.
+fn layout_of<'a>(face: &'a Face) -> FontLayout<'a>
+    ensures gsub { result.gsub.now ≡ face.now.layout.gsub.now }
+    ensures gpos { result.gpos.now ≡ face.now.layout.gpos.now }
+    ensures kern { result.kern ≡ kern_of face.now.layout.kern.now }
+{
+    FontLayout {
+        gsub: face.layout.gsub,
+        gpos: face.layout.gpos,
+        kern: kern_layout(face),
+        gsub_substitutions: substitutions_of(face.layout.gsub, face.coordinates()),
+        gpos_substitutions: substitutions_of(face.layout.gpos, face.coordinates()),
+    }
 }
 
 /// Whether Apple's table `morx` substitutes glyphs in place of the lookups of `GSUB`: in horizontal lines, and where the font has no
@@ -202,23 +209,14 @@ fn fallback_of<F: FontFunctions>(
     face: &Face,
     font: &F,
     script: &ScriptPlan,
-) -> Result<Option<FallbackLookups>, AllocError> {
+) -> Result<Option<FallbackLookups>, AllocError>
+    ensures { IfOk result (λ fallback. is_some fallback ≡ script.now.does_fallback) }
+{
     if !script.does_fallback {
         return Ok(None);
     }
     let glyphs = FaceGlyphs { face, font };
     Ok(Some(FallbackLookups::new(face.alloc, &glyphs, &script.masks, script.rlig_mask)?))
-}
-
-/// The shaper of a script.
-#[derive(Clone, Copy)]
-struct ChosenShaper {
-    /// The shaper.
-    shaper: ScriptShaper,
-    /// What it says of positions; where glyphs are substituted by `morx`, marks are placed as the script's own shaper places them.
-    rules: ShaperRules,
-    /// Whether the font has the script in its table `GSUB`.
-    finds_script: bool,
 }
 
 /// Chooses the shaper of a script, and asks for its features, those of every text and of a user.
@@ -228,18 +226,18 @@ fn add_features(
     features: &[Feature],
     substitutes_by_morx: bool,
 ) -> Result<ChosenShaper, AllocError>
-    ensures { IfOk result (λ chosen. chosen.shaper
+    ensures shaper { IfOk result (λ chosen. chosen.shaper
         ≡ shaper_in substitutes_by_morx segment.now.script segment.now.direction builder.old.gsub.script.tag.0) }
+    ensures own { IfOk result (λ chosen. chosen.own
+        ≡ shaper_in false segment.now.script segment.now.direction builder.old.gsub.script.tag.0) }
+    ensures morx { IfOk result (λ chosen. chosen.substitutes_by_morx ≡ substitutes_by_morx) }
 {
     let own = ScriptShaper::of(segment.script, segment.direction, builder.gsub.script.tag);
     let shaper = own.with_morx(substitutes_by_morx);
     let chosen = ChosenShaper {
+        own,
         shaper,
-        rules: ShaperRules {
-            gpos_script: shaper.gpos_script(),
-            zero_marks: own.zero_width_marks() != ZeroWidthMarks::Never,
-            fallback_position: own.fallback_position(),
-        },
+        substitutes_by_morx,
         finds_script: builder.gsub.script.is_found,
     };
     let with_fallback = FeatureFlags {
@@ -251,14 +249,4 @@ fn add_features(
     ShapePlan::add_common_features(builder, segment.direction, features)?;
     override_features(chosen.shaper, builder)?;
     Ok(chosen)
-}
-
-/// What the plan asks of the font's table `kern`.
-fn kern_layout(face: &Face) -> KernLayout {
-    let table = KernTable::new(face.layout.kern);
-    KernLayout {
-        is_there: table.has_kerning(),
-        is_cross_stream: table.has_cross_kerning(),
-        has_machine: table.has_machine_kerning(),
-    }
 }

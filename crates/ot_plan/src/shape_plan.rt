@@ -5,7 +5,7 @@ ghost use Rattle.glyph_lists.specs.Guess.{unknown_script};
 ghost use Rattle.std.specs.Option.{option_copied};
 ghost use Rattle.rb_text.specs.Tags.{scripts_of};
 ghost use Rattle.ot_plan.specs.Plans.{IsFor, IsPlanOf, asked};
-ghost use Rattle.ot_plan.specs.Shapers.{IsMadeOf};
+ghost use Rattle.ot_plan.specs.Shapers.{IsDecided, IsMadeOf};
 
 use crate::planning::{SegmentProperties, TextPlan, plan_for};
 use font_face::Face;
@@ -63,6 +63,8 @@ impl ShapePlan {
         }) }
         ensures made { IfOk result (λ plan. IsMadeOf face.now direction script
             (scripts_of script (option_copied language.entry)) plan.made) }
+        ensures decides { IfOk result (λ plan. IsDecided face.now direction script
+            (scripts_of script (option_copied language.entry)) plan.made) }
     {
         let own = OwnFunctions { face };
         Self::with_functions(face, &own, direction, script, language, user_features)
@@ -85,6 +87,8 @@ impl ShapePlan {
           coordinates = face.now.variations.coordinates.items;
         }) }
         ensures made { IfOk result (λ plan. IsMadeOf face.now direction script
+            (scripts_of script (option_copied language.entry)) plan.made) }
+        ensures decides { IfOk result (λ plan. IsDecided face.now direction script
             (scripts_of script (option_copied language.entry)) plan.made) }
     {
         let segment = SegmentProperties {

@@ -1,3 +1,5 @@
+pub mod ChangedAt
+pub mod ClusterFlags
 pub mod FallbackMarks
 pub mod FontPositions
-pub mod SharedFlags
+pub mod Widths

@@ -11,7 +11,7 @@ ghost use Rattle.ot_positions.specs.FallbackMarks.{placed_by_class, placed_at_a_
 ghost use Rattle.shaping_buffer.specs.KeepsClusters.{KeepsClusters};
 
 use crate::mark_placing::{Line, Marks};
-use crate::positions::zero_mark_width;
+use crate::widths::zero_mark_width;
 use font_face::Face;
 use font_functions::FontFunctions;
 use ot_layout::ligature_parts::{component_count, ligature_component, ligature_id};

@@ -27,6 +27,8 @@ pub(crate) fn space_advance<F: FontFunctions>(
 ) -> Result<i32, AllocError>
     requires { AreTheFonts (F.may_advance positions.old.font.now) positions.old.is_horizontal positions.old.kept }
     ensures kept { AreTheFonts (F.may_advance positions.new.font.now) positions.new.is_horizontal positions.new.kept }
+    ensures font { positions.new.font ≡ positions.old.font }
+    ensures direction { positions.new.is_horizontal ≡ positions.old.is_horizontal }
 {
     if !is_unicode_space(info) || has_ligated(info) {
         return Ok(own);
@@ -77,6 +79,8 @@ fn first_advance<F: FontFunctions>(
 ) -> Result<Option<i32>, AllocError>
     requires { AreTheFonts (F.may_advance positions.old.font.now) positions.old.is_horizontal positions.old.kept }
     ensures kept { AreTheFonts (F.may_advance positions.new.font.now) positions.new.is_horizontal positions.new.kept }
+    ensures font { positions.new.font ≡ positions.old.font }
+    ensures direction { positions.new.is_horizontal ≡ positions.old.is_horizontal }
 {
     let font = positions.font;
     let found = characters

@@ -4,6 +4,7 @@
 ghost use Rattle.std.specs.Prelude.{◌≡◌, IfOk};
 ghost use Rattle.ot_positions.specs.FontPositions.{AreTheFonts, IsTheFonts};
 
+use crate::positions::advanced;
 use font_face::Face;
 use font_functions::FontFunctions;
 use rb_common::GlyphId;
@@ -38,7 +39,9 @@ pub(crate) struct FontPositions<'f, 'a, F> {
 impl<'f, 'a, F: FontFunctions> FontPositions<'f, 'a, F> {
     /// The positions that a font gives.
     pub(crate) fn new(face: &'f Face<'a>, font: &'f F, is_horizontal: bool) -> Self
-        ensures { AreTheFonts (F.may_advance result.font.now) result.is_horizontal result.kept }
+        ensures kept { AreTheFonts (F.may_advance result.font.now) result.is_horizontal result.kept }
+        ensures font { result.font.now ≡ font.now }
+        ensures direction { result.is_horizontal ≡ is_horizontal }
     {
         FontPositions {
             face,
@@ -93,10 +96,7 @@ fn font_position<F: FontFunctions>(
     ensures { IfOk result (λ position. IsTheFonts (F.may_advance font.now) is_horizontal glyph.0 position) }
 {
     if is_horizontal {
-        return Ok(GlyphPosition {
-            x_advance: font.glyph_h_advance(glyph),
-            ..GlyphPosition::default()
-        });
+        return Ok(advanced(font, glyph));
     }
     let (x, y) = font.glyph_v_origin(glyph)?;
     Ok(GlyphPosition {

@@ -1,38 +1,43 @@
 //! Where glyphs stand before any lookup moves them.
 
-ghost use Rattle.std.specs.Prelude.{◌≡◌, false, length, IsSome};
+ghost use Rattle.std.specs.Prelude.{◌≡◌, ◌<◌, true, false, not, replicate, slice_index_or, length, IfOk, IfSome, IsSome, Some};
+ghost use Rattle.glyph_lists.specs.Clusters.{zero_glyph};
+ghost use Rattle.ot_positions.specs.ChangedAt.{changed_at, position_changed};
+ghost use Rattle.ot_positions.specs.FontPositions as font_positions;
+ghost use Rattle.ot_positions.specs.FontPositions.{AreAdvanced, AreTheFonts, IsAdvanced, IsTheFonts, has_no_fallback_spaces};
+ghost use Rattle.rb_common.specs.Direction.{is_horizontal};
 ghost use Rattle.shaping_buffer.specs.KeepsClusters.{KeepsClusters};
-ghost use Rattle.ot_positions.specs.FontPositions.{AreTheFonts};
+ghost use Rattle.shaping_buffer.specs.Positions.{zero_position};
 
 use crate::fallback_spaces::space_advance;
-use crate::glyph_info::{is_default_ignorable, is_mark};
 use crate::kept_positions::FontPositions;
-use aat_substitution::deletion::is_deleted;
 use font_face::Face;
 use font_functions::FontFunctions;
 use rb_common::GlyphId;
 use shaping_buffer::{
-    BufferFlags, Flags, GlyphPosition, HB_BUFFER_SCRATCH_FLAG_HAS_DEFAULT_IGNORABLES,
-    HB_BUFFER_SCRATCH_FLAG_HAS_SPACE_FALLBACK, hb_buffer_t, hb_glyph_info_t,
+    GlyphPosition, HB_BUFFER_SCRATCH_FLAG_HAS_SPACE_FALLBACK, hb_buffer_t, hb_glyph_info_t,
 };
 use std::alloc::AllocError;
 
 /// Gives each glyph the font's advance at the size of its face, and in vertical lines its vertical origin. A space that the font has no glyph for
 /// is as wide as its kind says. Requires that no output is open. `Err(AllocError)` where memory runs out for the points of an outline
 /// that varies.
-#[tactic(auto, using(shaping_buffer::proofs::ClosedKeepsLemmas::kept))]
+#[tactic(auto, using(crate::proofs::WidthsLemmas::keeps_positions, crate::proofs::AdvanceLemmas::advanced_none))]
 pub fn position_glyphs<F: FontFunctions>(
     buffer: &mut hb_buffer_t,
     face: &Face,
     font: &F,
 ) -> Result<(), AllocError>
     requires { buffer.old.have_output ≡ false }
+    ensures advances { is_horizontal buffer.old.direction ≡ true → has_no_fallback_spaces buffer.old ≡ true
+        → IfOk result (λ _. IfSome buffer.new.positions (AreAdvanced (F.may_advance font.now) buffer.old.input)) }
+    ensures rest { buffer.new ≡ record buffer.old { positions = buffer.new.positions } }
     ensures closed { buffer.new.have_output ≡ false }
     ensures placed { IsSome buffer.new.positions }
     ensures keeps { KeepsClusters buffer.old buffer.new }
 {
-    let is_horizontal = buffer.direction.is_horizontal();
-    let has_spaces = buffer.scratch_flags & HB_BUFFER_SCRATCH_FLAG_HAS_SPACE_FALLBACK != 0;
+    let is_horizontal = is_horizontal_line(buffer);
+    let has_spaces = has_fallback_spaces(buffer);
     buffer.clear_positions();
     let is_varied = !face.coordinates().is_empty();
     if is_horizontal && !has_spaces && !is_varied {
@@ -43,26 +48,38 @@ pub fn position_glyphs<F: FontFunctions>(
     place_glyphs(buffer, &mut positions, has_spaces)
 }
 
+/// Whether the line is horizontal.
+fn is_horizontal_line(buffer: &hb_buffer_t) -> bool
+    ensures { result ≡ is_horizontal buffer.now.direction }
+{
+    buffer.direction.is_horizontal()
+}
+
+/// Whether some character is a space that the font has no glyph for.
+fn has_fallback_spaces(buffer: &hb_buffer_t) -> bool
+    ensures { result ≡ not (has_no_fallback_spaces buffer.now) }
+{
+    buffer.scratch_flags & HB_BUFFER_SCRATCH_FLAG_HAS_SPACE_FALLBACK != 0
+}
+
 /// Gives each glyph its position; a space that the font has no glyph for is as wide as its kind says, if there may be some.
-#[tactic(auto, using(shaping_buffer::proofs::ClosedKeepsLemmas::kept))]
+#[tactic(auto, using(crate::proofs::AdvanceLemmas::walks))]
 fn place_glyphs<F: FontFunctions>(
     buffer: &mut hb_buffer_t,
     positions: &mut FontPositions<F>,
     has_spaces: bool,
 ) -> Result<(), AllocError>
     requires closed { buffer.old.have_output ≡ false }
-    requires placed { IsSome buffer.old.positions }
+    requires zero { buffer.old.positions ≡ Some (replicate (length buffer.old.input) zero_position) }
     requires kept { AreTheFonts (F.may_advance positions.old.font.now) positions.old.is_horizontal positions.old.kept }
-    ensures closed { buffer.new.have_output ≡ false }
+    ensures advances { positions.old.is_horizontal ≡ true → has_spaces ≡ false
+        → IfOk result (λ _. IfSome buffer.new.positions (AreAdvanced (F.may_advance positions.old.font.now) buffer.old.input)) }
+    ensures rest { buffer.new ≡ record buffer.old { positions = buffer.new.positions } }
     ensures placed { IsSome buffer.new.positions }
-    ensures keeps { KeepsClusters buffer.old buffer.new }
 {
     let invisible = buffer.invisible;
     for i in 0..buffer.len() {
-        let Some(info) = buffer.info().get(i) else {
-            break;
-        };
-        let position = position_of(info, positions, has_spaces, invisible)?;
+        let position = position_of(info_at(buffer.info(), i), positions, has_spaces, invisible)?;
         set_position(buffer, i, position);
     }
     Ok(())
@@ -77,6 +94,10 @@ fn position_of<F: FontFunctions>(
 ) -> Result<GlyphPosition, AllocError>
     requires { AreTheFonts (F.may_advance positions.old.font.now) positions.old.is_horizontal positions.old.kept }
     ensures kept { AreTheFonts (F.may_advance positions.new.font.now) positions.new.is_horizontal positions.new.kept }
+    ensures font { positions.new.font ≡ positions.old.font }
+    ensures direction { positions.new.is_horizontal ≡ positions.old.is_horizontal }
+    ensures position { may_be_space ≡ false → IfOk result (λ position.
+        IsTheFonts (F.may_advance positions.old.font.now) positions.old.is_horizontal (font_positions.glyph_of info.now) position) }
 {
     let mut position = positions.position(glyph_of(info))?;
     if !may_be_space {
@@ -88,41 +109,67 @@ fn position_of<F: FontFunctions>(
 }
 
 /// Gives each glyph of a horizontal line the font's advance.
-#[tactic(auto, using(shaping_buffer::proofs::ClosedKeepsLemmas::kept))]
+#[tactic(auto, using(crate::proofs::AdvanceLemmas::walks))]
 fn advance_glyphs<F: FontFunctions>(buffer: &mut hb_buffer_t, font: &F)
     requires closed { buffer.old.have_output ≡ false }
-    requires placed { IsSome buffer.old.positions }
-    ensures closed { buffer.new.have_output ≡ false }
+    requires zero { buffer.old.positions ≡ Some (replicate (length buffer.old.input) zero_position) }
+    ensures advances { IfSome buffer.new.positions (AreAdvanced (F.may_advance font.now) buffer.old.input) }
+    ensures rest { buffer.new ≡ record buffer.old { positions = buffer.new.positions } }
     ensures placed { IsSome buffer.new.positions }
-    ensures keeps { KeepsClusters buffer.old buffer.new }
 {
     for i in 0..buffer.len() {
-        let Some(info) = buffer.info().get(i) else {
-            break;
-        };
-        let advance = font.glyph_h_advance(glyph_of(info));
-        if let Some(position) = buffer.pos_mut().get_mut(i) {
-            position.x_advance = advance;
-        }
+        let position = advanced(font, glyph_of(info_at(buffer.info(), i)));
+        set_position(buffer, i, position);
     }
 }
 
+/// The position of a glyph of a horizontal line.
+#[inline]
+pub(crate) fn advanced<F: FontFunctions>(font: &F, glyph: GlyphId) -> GlyphPosition
+    ensures { IsAdvanced (F.may_advance font.now) glyph.0 result }
+{
+    GlyphPosition {
+        x_advance: font.glyph_h_advance(glyph),
+        ..GlyphPosition::default()
+    }
+}
+
+/// The item at a place.
+#[inline]
+fn info_at(infos: &[hb_glyph_info_t], place: usize) -> &hb_glyph_info_t
+    requires { place < length infos.now }
+    ensures { result.now ≡ slice_index_or infos.now place zero_glyph }
+{
+    &infos[place]
+}
+
 /// The glyph of an item.
-fn glyph_of(info: &hb_glyph_info_t) -> GlyphId {
+#[inline]
+fn glyph_of(info: &hb_glyph_info_t) -> GlyphId
+    ensures { result.0 ≡ font_positions.glyph_of info.now }
+{
     GlyphId(u16::try_from(info.glyph_id).unwrap_or(0))
 }
 
 /// Sets the position at a place.
-#[tactic(auto, using(shaping_buffer::proofs::ClosedKeepsLemmas::kept))]
+#[inline]
+#[tactic(auto, using(crate::proofs::WidthsLemmas::written))]
 fn set_position(buffer: &mut hb_buffer_t, place: usize, position: GlyphPosition)
     requires closed { buffer.old.have_output ≡ false }
     requires placed { IsSome buffer.old.positions }
-    ensures closed { buffer.new.have_output ≡ false }
+    ensures is { buffer.new ≡ position_changed (λ _. position) place buffer.old }
     ensures placed { IsSome buffer.new.positions }
-    ensures keeps { KeepsClusters buffer.old buffer.new }
 {
-    if let Some(own) = buffer.pos_mut().get_mut(place) {
-        *own = position;
+    set_in(buffer.pos_mut(), place, position);
+}
+
+/// Sets the position at a place of these.
+#[inline]
+fn set_in(positions: &mut [GlyphPosition], place: usize, position: GlyphPosition)
+    ensures { positions.new ≡ changed_at (λ _. position) place positions.old }
+{
+    if place < positions.len() {
+        positions[place] = position;
     }
 }
 
@@ -133,102 +180,4 @@ fn advance_of(position: &mut GlyphPosition, is_horizontal: bool) -> &mut i32 {
     } else {
         &mut position.y_advance
     }
-}
-
-/// Takes the advance of each glyph that is a mark by its font; moves the mark back by it if `adjusts` says so. Requires positions, and
-/// that no output is open.
-#[tactic(auto, using(shaping_buffer::proofs::ClosedKeepsLemmas::kept))]
-pub fn zero_mark_widths(buffer: &mut hb_buffer_t, adjusts: bool)
-    requires closed { buffer.old.have_output ≡ false }
-    requires placed { IsSome buffer.old.positions }
-    ensures closed { buffer.new.have_output ≡ false }
-    ensures placed { IsSome buffer.new.positions }
-    ensures keeps { KeepsClusters buffer.old buffer.new }
-{
-    for i in 0..buffer.len() {
-        if buffer.info().get(i).is_some_and(|info| is_mark(info))
-            && let Some(position) = buffer.pos_mut().get_mut(i)
-        {
-            zero_mark_width(position, adjusts);
-        }
-    }
-}
-
-/// Takes the advance of a mark.
-pub(crate) fn zero_mark_width(position: &mut GlyphPosition, adjusts: bool) {
-    if adjusts {
-        position.x_offset = position.x_offset.wrapping_sub(position.x_advance);
-        position.y_offset = position.y_offset.wrapping_sub(position.y_advance);
-    }
-    position.x_advance = 0;
-    position.y_advance = 0;
-}
-
-/// Takes the advances and offsets of characters that are invisible by default, unless the buffer's flags say that they are kept or
-/// removed. Requires positions, and that no output is open.
-#[tactic(auto, using(shaping_buffer::proofs::ClosedKeepsLemmas::kept))]
-pub fn zero_width_default_ignorables(buffer: &mut hb_buffer_t)
-    requires closed { buffer.old.have_output ≡ false }
-    requires placed { IsSome buffer.old.positions }
-    ensures closed { buffer.new.have_output ≡ false }
-    ensures placed { IsSome buffer.new.positions }
-    ensures keeps { KeepsClusters buffer.old buffer.new }
-{
-    if buffer.scratch_flags & HB_BUFFER_SCRATCH_FLAG_HAS_DEFAULT_IGNORABLES == 0
-        || buffer
-            .flags
-            .contains(BufferFlags::PRESERVE_DEFAULT_IGNORABLES)
-        || buffer
-            .flags
-            .contains(BufferFlags::REMOVE_DEFAULT_IGNORABLES)
-    {
-        return;
-    }
-    for i in 0..buffer.len() {
-        if buffer
-            .info()
-            .get(i)
-            .is_some_and(|info| is_default_ignorable(info))
-        {
-            take_width_at(buffer, i);
-        }
-    }
-}
-
-/// Takes the advances and offsets of glyphs that Apple's table `morx` deleted. Requires positions, and that no output is open.
-#[tactic(auto, using(shaping_buffer::proofs::ClosedKeepsLemmas::kept))]
-pub fn zero_width_deleted_glyphs(buffer: &mut hb_buffer_t)
-    requires closed { buffer.old.have_output ≡ false }
-    requires placed { IsSome buffer.old.positions }
-    ensures closed { buffer.new.have_output ≡ false }
-    ensures placed { IsSome buffer.new.positions }
-    ensures keeps { KeepsClusters buffer.old buffer.new }
-{
-    for i in 0..buffer.len() {
-        if buffer.info().get(i).is_some_and(|info| is_deleted(info)) {
-            take_width_at(buffer, i);
-        }
-    }
-}
-
-/// Takes all width and every offset of the glyph at a place.
-#[tactic(auto, using(shaping_buffer::proofs::ClosedKeepsLemmas::kept))]
-pub(crate) fn take_width_at(buffer: &mut hb_buffer_t, place: usize)
-    requires closed { buffer.old.have_output ≡ false }
-    requires placed { IsSome buffer.old.positions }
-    ensures closed { buffer.new.have_output ≡ false }
-    ensures placed { IsSome buffer.new.positions }
-    ensures keeps { KeepsClusters buffer.old buffer.new }
-{
-    if let Some(own) = buffer.pos_mut().get_mut(place) {
-        take_width(own);
-    }
-}
-
-/// Takes all width and every offset of a glyph; what it is attached to stays.
-fn take_width(position: &mut GlyphPosition) {
-    *position = GlyphPosition {
-        var: position.var,
-        ..GlyphPosition::default()
-    };
 }

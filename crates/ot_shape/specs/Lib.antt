@@ -1,3 +1,4 @@
+pub mod Glyphs
 pub mod ShapedClusters
 -- what is said of a plan, and of a font
 pub use Rattle.ot_plan.specs.Plans

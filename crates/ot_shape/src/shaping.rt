@@ -1,12 +1,12 @@
 //! The shaping of a text by a font: HarfBuzz's steps, one after the other.
 
-ghost use Rattle.std.specs.Prelude.{◌≡◌, ◌≢◌, ◌≤◌, [], true, false, not, length, IfOk, IfErr, IsSome, if◌then◌else◌};
+ghost use Rattle.std.specs.Prelude.{◌≡◌, ◌≢◌, ◌≤◌, [], true, false, not, length, map, IfOk, IfErr, IsSome, if◌then◌else◌};
 ghost use Rattle.rb_common.specs.Direction.{is_forward};
-ghost use Rattle.shaping_buffer.specs.Clusters.{clusters};
 ghost use Rattle.shaping_buffer.specs.Limits.{enter};
 ghost use Rattle.shaping_buffer.specs.Properties.{guessed};
 ghost use Rattle.shaping_buffer.specs.State.{HasPositions};
 ghost use Rattle.ot_characters.specs.Turned.{KeepsOrTurns};
+ghost use Rattle.ot_shape.specs.Glyphs.{glyph_of, in_place};
 ghost use Rattle.ot_shape.specs.ShapedClusters.{ShapedClusters};
 ghost use Rattle.shaping_buffer.specs.KeepsClusters.{KeepsClusters};
 
@@ -443,9 +443,10 @@ fn prepare_characters<F: FontFunctions>(
 }
 
 /// Puts the glyph of each character in its place, with the properties that the font gives it.
-#[tactic(auto, using(shaping_buffer::proofs::ClosedKeepsLemmas::kept))]
 fn map_glyphs(buffer: &mut hb_buffer_t, face: &Face)
     requires { buffer.old.have_output ≡ false }
+    ensures is { buffer.new
+        ≡ record buffer.old { input = map (glyph_of face.now.gdef.table.now) buffer.old.input } }
     ensures closed { buffer.new.have_output ≡ false }
     ensures keeps { KeepsClusters buffer.old buffer.new }
 {
@@ -456,6 +457,7 @@ fn map_glyphs(buffer: &mut hb_buffer_t, face: &Face)
 /// Puts the glyph of each character in its place.
 fn put_glyphs(buffer: &mut hb_buffer_t)
     requires { buffer.old.have_output ≡ false }
+    ensures is { buffer.new ≡ record buffer.old { input = map in_place buffer.old.input } }
     ensures closed { buffer.new.have_output ≡ false }
     ensures keeps { KeepsClusters buffer.old buffer.new }
 {
@@ -463,11 +465,18 @@ fn put_glyphs(buffer: &mut hb_buffer_t)
 }
 
 /// Puts the glyph of each of the characters in its place.
-#[tactic(auto, using(shaping_buffer::proofs::ClosedKeepsLemmas::clusters_written))]
+#[tactic(auto, using(glyph_lists::proofs::MapLemmas::walks))]
 fn put_all(infos: &mut [hb_glyph_info_t])
-    ensures { clusters infos.new ≡ clusters infos.old }
+    ensures { infos.new ≡ map in_place infos.old }
 {
-    for i in 0..infos.len() {
-        infos[i].glyph_id = infos[i].glyph_index();
+    for info in infos.iter_mut() {
+        put(info);
     }
+}
+
+/// Puts the glyph of a character in its place.
+fn put(info: &mut hb_glyph_info_t)
+    ensures { info.new ≡ in_place info.old }
+{
+    info.glyph_id = info.glyph_index();
 }

@@ -3,6 +3,7 @@
 //! How texts of a script, a language and a direction are shaped by a font: what is made once for all of them (HarfBuzz's
 //! `hb_shape_plan_t`).
 
+mod decisions;
 mod form_places;
 mod glyphs_of_font;
 mod kept_plans;

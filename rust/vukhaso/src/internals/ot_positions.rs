@@ -3,6 +3,7 @@
 //! Where glyphs stand by a font besides its lookups: advances and origins, marks and spaces that a font does not place itself, the
 //! space of Apple's table `trak`, and glyphs that are not to be seen.
 
+mod cluster_flags;
 mod ending;
 mod fallback_marks;
 mod fallback_spaces;
@@ -11,12 +12,11 @@ mod kept_positions;
 mod mark_placing;
 mod positions;
 mod tracking;
+mod widths;
 
-pub use ending::{
-    hide_ignorables, mark_given_up, propagate_flags, share_flags, show_variation_selectors,
-};
+pub use cluster_flags::{propagate_flags, share_flags};
+pub use ending::{hide_ignorables, mark_given_up, show_variation_selectors};
 pub use fallback_marks::{position_marks, recategorize_marks};
-pub use positions::{
-    position_glyphs, zero_mark_widths, zero_width_default_ignorables, zero_width_deleted_glyphs,
-};
+pub use positions::position_glyphs;
 pub use tracking::track;
+pub use widths::{zero_mark_widths, zero_width_default_ignorables, zero_width_deleted_glyphs};

@@ -1,6 +1,13 @@
-use Rattle.std.proofs.Common.{arith}
-use Rattle.std.proofs.lemmas.Grind.{common_steps}
-use Rattle.ot_apply.proofs.StageLemmas.{stage_then, stage_of_keeps}
+use Rattle.std.proofs.Common.{◌≡◌, ◌<◌, Bool, true, List, Ok, ap, arith, refl, subst, sym, ◌∙◌}
+use Rattle.glyph_digests.specs.Digest.{HasGlyphs}
+use Rattle.ot_layout.specs.declared.search.Search.{Search}
+use Rattle.ot_map.specs.declared.plan.Stage.{Stage}
+use Rattle.shaping_buffer.specs.State.{State}
+use Rattle.ot_gsub.specs.Nested.{now_of}
+use Rattle.ot_gsub.specs.declared.substitution.Progress.{Progress}
+use Rattle.ot_apply.specs.Stages.{AreStagesDone}
+use Rattle.ot_apply.proofs.RunLemmas.{now_of-same, stages_next, stages_none}
+use Rattle.ot_apply.proofs.StageLemmas.{stage_none, stage_then, stage_of_keeps}
 use Rattle.ot_apply.proofs.substitution.apply_stages.Goals as goal
 
 pub returns-in_err-apply_stage-clause-keeps : goal.returns-in_err-apply_stage-clause-keeps
@@ -8,7 +15,7 @@ returns-in_err-apply_stage-clause-keeps g c =
     let plan = c.args.plan.now.syllables in
     let t = c.keep_joined.new.buffer in
     let kept = stage_of_keeps plan c.loop-stage.buffer t c.keep_joined.ensures.keeps in
-    let first = stage_then plan c.args.buffer.now c.loop-stage.buffer t c.loop-stage.invariant.1 kept in
+    let first = stage_then plan c.args.buffer.now c.loop-stage.buffer t c.loop-stage.invariant.keeps kept in
     let u = c.apply_stage.new.buffer in
     stage_then plan c.args.buffer.now t u first (stage_of_keeps plan t u c.apply_stage.ensures.keeps)
 
@@ -17,7 +24,7 @@ returns-then-not-branch-clause-keeps g c =
     let plan = c.args.plan.now.syllables in
     let t = c.keep_joined.new.buffer in
     let kept = stage_of_keeps plan c.loop-stage.buffer t c.keep_joined.ensures.keeps in
-    let first = stage_then plan c.args.buffer.now c.loop-stage.buffer t c.loop-stage.invariant.1 kept in
+    let first = stage_then plan c.args.buffer.now c.loop-stage.buffer t c.loop-stage.invariant.keeps kept in
     let u = c.apply_stage.new.buffer in
     stage_then plan c.args.buffer.now t u first (stage_of_keeps plan t u c.apply_stage.ensures.keeps)
 
@@ -26,7 +33,7 @@ returns-in_err-pause-clause-keeps g c =
     let plan = c.args.plan.now.syllables in
     let t = c.keep_joined.new.buffer in
     let kept = stage_of_keeps plan c.loop-stage.buffer t c.keep_joined.ensures.keeps in
-    let first = stage_then plan c.args.buffer.now c.loop-stage.buffer t c.loop-stage.invariant.1 kept in
+    let first = stage_then plan c.args.buffer.now c.loop-stage.buffer t c.loop-stage.invariant.keeps kept in
     let u = c.apply_stage.new.buffer in
     let staged =
     stage_then plan c.args.buffer.now t u first (stage_of_keeps plan t u c.apply_stage.ensures.keeps)
@@ -37,22 +44,69 @@ returns-then-not-branch-2-clause-keeps g c =
     let plan = c.args.plan.now.syllables in
     let t = c.keep_joined.new.buffer in
     let kept = stage_of_keeps plan c.loop-stage.buffer t c.keep_joined.ensures.keeps in
-    let first = stage_then plan c.args.buffer.now c.loop-stage.buffer t c.loop-stage.invariant.1 kept in
+    let first = stage_then plan c.args.buffer.now c.loop-stage.buffer t c.loop-stage.invariant.keeps kept in
     let u = c.apply_stage.new.buffer in
     let staged =
     stage_then plan c.args.buffer.now t u first (stage_of_keeps plan t u c.apply_stage.ensures.keeps)
     in stage_then plan c.args.buffer.now u c.pause.new.buffer staged c.pause.ensures.keeps
 
+pub loop-stage-init : goal.loop-stage-init
+loop-stage-init g c =
+    let plan = c.args.plan.now in
+    let s = c.args.buffer.now in
+    record {
+      closed = c.requires;
+      keeps = stage_none plan.syllables s;
+      unchanged = refl;
+      met = c.digest_of-glyphs.ensures;
+      rest = λ steps new done.
+          subst (λ (l : List Stage). AreStagesDone c.args.face.now plan l 0 (now_of s c.args.progress.now) new)
+          c.as_slice-stages.ensures.value done;
+    }
+
 pub loop-stage-preserved : goal.loop-stage-preserved
 loop-stage-preserved g c =
-    let plan = c.args.plan.now.syllables in
+    let face = c.args.face.now in
+    let plan = c.args.plan.now in
+    let s = c.args.buffer.now in
+    let b = c.loop-stage.buffer in
+    let p = c.loop-stage.progress in
     let t = c.keep_joined.new.buffer in
-    let kept = stage_of_keeps plan c.loop-stage.buffer t c.keep_joined.ensures.keeps in
-    let first = stage_then plan c.args.buffer.now c.loop-stage.buffer t c.loop-stage.invariant.1 kept in
     let u = c.apply_stage.new.buffer in
-    let staged =
-    stage_then plan c.args.buffer.now t u first (stage_of_keeps plan t u c.apply_stage.ensures.keeps)
-    in (
-      grind (arith, common_steps),
-      stage_then plan c.args.buffer.now u c.pause.new.buffer staged c.pause.ensures.keeps,
-    )
+    let q = c.apply_stage.new.progress in
+    let v = c.pause.new.buffer in
+    let r = c.pause.new.progress in
+    let e = c.see_after.new.progress in
+    let list = c.as_slice-stages.result.now in
+    let i = c.loop-stage.stage-index in
+    let ran : c.apply_stage.result ≡ Ok true = c.in_ok-apply_stage.was ∙ ap (λ (d : Bool). Ok d) c.if-not-branch.false in
+    let kept = stage_of_keeps plan.syllables b t c.keep_joined.ensures.keeps in
+    let first = stage_then plan.syllables s b t c.loop-stage.invariant.keeps kept in
+    let staged = stage_then plan.syllables s t u first (stage_of_keeps plan.syllables t u c.apply_stage.ensures.keeps) in
+    record {
+      closed = c.in_ok-pause.ensures.closed c.if-not-branch-2.false;
+      keeps = stage_then plan.syllables s u v staged c.pause.ensures.keeps;
+      unchanged = c.see_after.ensures.unchanged
+          (λ none. ap (λ (x : Progress). x.has_changed) (c.pause.ensures.nothing none).2 ∙ c.apply_stage.ensures.unchanged ran);
+      met = c.see_after.ensures.met
+          (λ none. subst (λ (x : State). HasGlyphs c.apply_stage.new.glyphs x.input) (sym (c.pause.ensures.nothing none).1)
+          (c.apply_stage.ensures.met ran));
+      rest = λ steps new others.
+          let left : 0 < r.search.budget.steps = subst (λ (x : Search). 0 < x.budget.steps) c.see_after.ensures.same_search steps in
+          let mid : 0 < q.search.budget.steps = omega (arith, left, c.pause.ensures.spent.1) in
+          let before : 0 < p.search.budget.steps = omega (arith, mid, c.apply_stage.ensures.spent.1) in
+          c.loop-stage.invariant.rest before new
+          (stages_next face plan list i c.loop-stage.start _ c.lookups_of-lookups.result.now (now_of b p) t (now_of u q) (now_of v r)
+          (now_of v e) new c.loop-stage-test.true c.lookups_of-lookups.ensures c.keep_joined.ensures.keeps
+          c.keep_joined.ensures.unjoined (c.apply_stage.ensures.runs ran mid) c.pause.ensures.keeps c.pause.ensures.spent.0
+          (λ none. ap (λ (x : State). now_of x r) (c.pause.ensures.nothing none).1
+          ∙ ap (λ (x : Progress). now_of u x) (c.pause.ensures.nothing none).2)
+          (now_of-same v r e c.see_after.ensures.same_search c.see_after.ensures.same_random) others);
+    }
+
+pub returns-clause-stages : goal.returns-clause-stages
+returns-clause-stages g c = λ is steps.
+    let last = now_of c.loop-stage.buffer c.loop-stage.progress in
+    c.loop-stage.invariant.rest steps last
+    (stages_none c.args.face.now c.args.plan.now c.as_slice-stages.result.now c.loop-stage.stage-index c.loop-stage.start last
+    c.loop-stage-test.false)

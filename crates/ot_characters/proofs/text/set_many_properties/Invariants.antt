@@ -1,6 +1,5 @@
-use Rattle.std.proofs.Common.{◌≡◌}
-use Rattle.shaping_buffer.specs.Clusters.{clusters}
+use Rattle.ot_characters.specs.Properties.{AreAlike}
 use Rattle.ot_characters.proofs.text.set_many_properties.Given as goal
 
 abbrev pub invariant-loop-i : goal.invariant-loop-i
-invariant-loop-i l = clusters l.infos ≡ clusters l.fn.infos
+invariant-loop-i l = AreAlike l.fn.infos l.infos

@@ -1,35 +1,47 @@
 use Rattle.std.proofs.Common.{◌≡◌, ◌+◌, ◌*◌, ◌<◌, drop, false}
 use Rattle.std.specs.Prelude.{IsSome}
 use Rattle.ot_gpos.specs.Attachments.{HasNoPixels}
+use Rattle.ot_gpos.specs.Contexts.{AreDone, record_done}
 use Rattle.ot_gpos.specs.Flags.{KeepsBits, untouched}
-use Rattle.ot_gpos.specs.Lookups.{applied}
-use Rattle.ot_gpos.specs.Runs.{AreSimple, tried}
+use Rattle.ot_gpos.specs.Lookups.{Outcome, applied, text_of}
+use Rattle.ot_gpos.specs.Nested.{AreTried, nested}
 use Rattle.ot_layout.specs.Budget.{IsNotMore}
 use Rattle.ot_gpos.proofs.lookups.+nested.Given as goal
 
 -- what comes of the subtables that are left comes of all of them
 abbrev pub invariant-place_by_lookup-loop-subtable : goal.invariant-place_by_lookup-loop-subtable
-invariant-place_by_lookup-loop-subtable g l = record {
-  closed : l.buffer.have_output ≡ false;
-  placed : IsSome l.buffer.positions;
-  rest : untouched l.buffer ≡ untouched l.fn.buffer;
-  flags : KeepsBits l.fn.buffer.input l.buffer.input;
-  spent : IsNotMore l.fn.search.budget l.search.budget;
-  exact : AreSimple l.subtables → HasNoPixels l.task.setting.now.instance → 0 < l.search.budget.steps
-      → tried (applied l.task.lookup.now l.task.options.now l.task.setting.now.instance) l.task.place l.glyph
-      (drop l.subtable-index l.subtables) l.last l.buffer
-      ≡ tried (applied l.task.lookup.now l.task.options.now l.task.setting.now.instance) l.task.place l.glyph l.subtables
-      l.fn.last l.fn.buffer;
-}
+invariant-place_by_lookup-loop-subtable g l =
+    let setting = l.task.setting.now in
+    let a = applied setting.list.now l.task.lookup.now l.task.options.now setting.instance in
+    record {
+      closed : l.buffer.have_output ≡ false;
+      placed : IsSome l.buffer.positions;
+      rest : untouched l.buffer ≡ untouched l.fn.buffer;
+      flags : KeepsBits l.fn.buffer.input l.buffer.input;
+      spent : IsNotMore l.fn.search.budget l.search.budget;
+      exact : HasNoPixels setting.instance → 0 < l.search.budget.steps → (o : Outcome)
+          → AreTried (nested l.task.depth a) a l.task.place l.glyph (drop l.subtable-index l.subtables)
+          (text_of l.buffer l.last l.search.budget.nested) o
+          → AreTried (nested l.task.depth a) a l.task.place l.glyph l.subtables
+          (text_of l.fn.buffer l.fn.last l.fn.search.budget.nested) o;
+    }
 
+-- the records before this one are done
 abbrev pub invariant-apply_records-loop-index : goal.invariant-apply_records-loop-index
-invariant-apply_records-loop-index g l = record {
-  closed : l.buffer.have_output ≡ false;
-  placed : IsSome l.buffer.positions;
-  rest : untouched l.buffer ≡ untouched l.fn.buffer;
-  flags : KeepsBits l.fn.buffer.input l.buffer.input;
-  spent : IsNotMore l.fn.search.budget l.search.budget;
-}
+invariant-apply_records-loop-index g l =
+    let setting = l.task.setting.now in
+    let a = applied setting.list.now l.task.lookup.now l.task.options.now setting.instance in
+    record {
+      closed : l.buffer.have_output ≡ false;
+      placed : IsSome l.buffer.positions;
+      rest : untouched l.buffer ≡ untouched l.fn.buffer;
+      flags : KeepsBits l.fn.buffer.input l.buffer.input;
+      spent : IsNotMore l.fn.search.budget l.search.budget;
+      exact : HasNoPixels setting.instance → 0 < l.search.budget.steps
+          → AreDone
+          (record_done (nested l.task.depth a) setting.list.now.lookups.items l.fit.records.now l.task.place l.places.items)
+          l.index (text_of l.fn.buffer l.fn.last l.fn.search.budget.nested) (text_of l.buffer l.last l.search.budget.nested);
+    }
 
 abbrev pub decreases-place_by_lookup : goal.decreases-place_by_lookup
 decreases-place_by_lookup g l = 5 * l.task.now.depth + 4

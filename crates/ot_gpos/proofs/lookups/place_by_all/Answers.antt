@@ -2,8 +2,8 @@ use Rattle.std.proofs.Common.{◌≡◌, ℕ, ◌+◌, ◌<◌, ◌≤◌, List,
 use Rattle.rb_glyph.specs.declared.info.hb_glyph_info_t.{hb_glyph_info_t}
 use Rattle.ot_lookups.specs.Lookup.{is_for}
 use Rattle.ot_lookups.specs.LookupProps.{glyph_at}
-use Rattle.ot_lookups.specs.Subtables.{subtables_of}
-use Rattle.ot_gpos.specs.Lookups.{applied, outcome}
+use Rattle.ot_gpos.specs.Attachments.{nothing_sought}
+use Rattle.ot_gpos.specs.Lookups.{applied, outcome, text_of}
 use Rattle.ot_gpos.specs.declared.marks.LastBase.{LastBase}
 use Rattle.ot_gpos.proofs.RunsLemmas.{IsUnderWay, len_closed, same_length, under_way-end, under_way-first, under_way-next}
 use Rattle.ot_gpos.proofs.lookups.place_by_all.Goals as goal
@@ -18,17 +18,17 @@ loop-turn-init g c = record {
   flags = λ k bit has. has;
   spent = (omega arith, omega arith);
   far = omega arith;
-  exact = λ simple plain steps.
-      let a = applied c.args.lookup.now c.args.options.now c.args.setting.now.instance in
-      let ts = subtables_of c.args.setting.now.list.now.subtables.items c.args.lookup.now in
+  exact = λ plain steps.
+      let a = applied c.args.setting.now.list.now c.args.lookup.now c.args.options.now c.args.setting.now.instance in
       let s = c.args.buffer.now in
-      subst (λ (l : LastBase). IsUnderWay a ts s 0 l s) (sym c.none-last.ensures) (under_way-first a ts s);
+      let left = c.args.search.now.budget.nested in
+      let old = text_of s nothing_sought left in
+      subst (λ (l : LastBase). IsUnderWay a old 0 (text_of s l left)) (sym c.none-last.ensures) (under_way-first a old);
 }
 
 pub loop-turn-preserved : goal.loop-turn-preserved
 loop-turn-preserved g c =
-    let a = applied c.args.lookup.now c.args.options.now c.args.setting.now.instance in
-    let ts = subtables_of c.args.setting.now.list.now.subtables.items c.args.lookup.now in
+    let a = applied c.args.setting.now.list.now c.args.lookup.now c.args.options.now c.args.setting.now.instance in
     let s = c.args.buffer.now in
     let b = c.loop-turn.buffer in
     let gs = c.info.result.now in
@@ -58,42 +58,56 @@ loop-turn-preserved g c =
         len_closed s c.requires.closed,
         c.max-next.ensures,
       );
-      exact = λ simple plain steps.
+      exact = λ plain steps.
           let before : 0 < c.loop-turn.search.budget.steps = omega (arith, steps, c.place_by_lookup.ensures.spent.1) in
-          let o = outcome c.place_by_lookup.new.buffer c.place_by_lookup.new.last c.place_by_lookup.result in
-          under_way-next a ts s c.loop-turn.next place c.max-next.result c.loop-turn.last b gs o
-          (c.loop-turn.invariant.exact simple plain before) same c.info.ensures c.next_place-place.ensures.from within
+          let old = text_of s nothing_sought c.args.search.now.budget.nested in
+          let mid = text_of b c.loop-turn.last c.loop-turn.search.budget.nested in
+          let o = outcome
+          (text_of c.place_by_lookup.new.buffer c.place_by_lookup.new.last c.place_by_lookup.new.search.budget.nested)
+          c.place_by_lookup.result in
+          under_way-next a old c.loop-turn.next place c.max-next.result mid gs o
+          (c.loop-turn.invariant.exact plain before) same c.info.ensures c.next_place-place.ensures.from within
           c.next_place-place.ensures.passed (c.next_place-place.ensures.at within)
-          (c.place_by_lookup.ensures.exact (omega (arith, within, read)) simple plain steps)
+          (c.place_by_lookup.ensures.exact plain steps)
           (c.max-next.ensures ∙ ap (λ (n : ℕ). max n (place + 1)) c.unwrap_or.ensures);
     }
 
 pub returns-then-place-len-clause-exact : goal.returns-then-place-len-clause-exact
-returns-then-place-len-clause-exact g c = λ simple plain steps.
-    let a = applied c.args.lookup.now c.args.options.now c.args.setting.now.instance in
-    let ts = subtables_of c.args.setting.now.list.now.subtables.items c.args.lookup.now in
+returns-then-place-len-clause-exact g c = λ plain steps.
+    let a = applied c.args.setting.now.list.now c.args.lookup.now c.args.options.now c.args.setting.now.instance in
     let s = c.args.buffer.now in
     let b = c.loop-turn.buffer in
+    let old = text_of s nothing_sought c.args.search.now.budget.nested in
+    let mid = text_of b c.loop-turn.last c.loop-turn.search.budget.nested in
     let same : length b.input ≡ length s.input = same_length s b c.loop-turn.invariant.rest in
     elim c.then-place-len.branch [
-      | then-place-len-via-then-place-len w ↦
-          under_way-end a ts s c.loop-turn.next c.loop-turn.last b (c.loop-turn.invariant.exact simple plain steps) same
-          (λ k up less.
-          let before : k < c.next_place-place.result =
-          omega (arith, less, w.if-place-len.true, c.len.ensures.len, len_closed b c.loop-turn.invariant.closed) in
-          ap (λ (l : List hb_glyph_info_t). is_for c.args.lookup.now c.args.options.now.mask (glyph_at l k)) (sym c.info.ensures)
-          ∙ c.next_place-place.ensures.passed k up before)
+      | then-place-len-via-then-place-len w ↦ record {
+        last = c.loop-turn.last;
+        next = c.loop-turn.next;
+        done = under_way-end a old c.loop-turn.next mid (c.loop-turn.invariant.exact plain steps) same
+            (λ k up less.
+            let before : k < c.next_place-place.result =
+            omega (arith, less, w.if-place-len.true, c.len.ensures.len, len_closed b c.loop-turn.invariant.closed) in
+            ap (λ (l : List hb_glyph_info_t). is_for c.args.lookup.now c.args.options.now.mask (glyph_at l k))
+            (sym c.info.ensures)
+            ∙ c.next_place-place.ensures.passed k up before);
+      }
       | then-place-len-via-else-place-len+then-is_spent w ↦ absurd (omega (arith, steps, w.is_spent.ensures.spent w.if-is_spent.true))
     ]
 
 pub returns-clause-exact : goal.returns-clause-exact
-returns-clause-exact g c = λ simple plain steps.
-    let a = applied c.args.lookup.now c.args.options.now c.args.setting.now.instance in
-    let ts = subtables_of c.args.setting.now.list.now.subtables.items c.args.lookup.now in
+returns-clause-exact g c = λ plain steps.
+    let a = applied c.args.setting.now.list.now c.args.lookup.now c.args.options.now c.args.setting.now.instance in
     let s = c.args.buffer.now in
     let b = c.loop-turn.buffer in
+    let old = text_of s nothing_sought c.args.search.now.budget.nested in
+    let mid = text_of b c.loop-turn.last c.loop-turn.search.budget.nested in
     let same : length b.input ≡ length s.input = same_length s b c.loop-turn.invariant.rest in
     let all : length s.input ≤ c.loop-turn.next =
     omega (arith, c.loop-turn.invariant.far, c.loop-turn-test.false, c.len-turn-end.ensures.len, len_closed s c.requires.closed) in
-    under_way-end a ts s c.loop-turn.next c.loop-turn.last b (c.loop-turn.invariant.exact simple plain steps) same
-    (λ k up less. absurd (omega (arith, all, up, less, same)))
+    record {
+      last = c.loop-turn.last;
+      next = c.loop-turn.next;
+      done = under_way-end a old c.loop-turn.next mid (c.loop-turn.invariant.exact plain steps) same
+          (λ k up less. absurd (omega (arith, all, up, less, same)));
+    }

@@ -1,11 +1,9 @@
 use Rattle.std.proofs.Common.{◌≡◌, ◌<◌, ◌≤◌, false}
 use Rattle.std.specs.Prelude.{IsSome}
 use Rattle.ot_layout.specs.Budget.{IsNotMore}
-use Rattle.ot_lookups.specs.Subtables.{subtables_of}
-use Rattle.ot_gpos.specs.Attachments.{HasNoPixels}
+use Rattle.ot_gpos.specs.Attachments.{HasNoPixels, nothing_sought}
 use Rattle.ot_gpos.specs.Flags.{KeepsBits, untouched}
-use Rattle.ot_gpos.specs.Lookups.{applied}
-use Rattle.ot_gpos.specs.Runs.{AreSimple}
+use Rattle.ot_gpos.specs.Lookups.{applied, text_of}
 use Rattle.ot_gpos.proofs.RunsLemmas.{IsUnderWay}
 use Rattle.ot_gpos.proofs.lookups.place_by_all.Given as goal
 
@@ -18,8 +16,8 @@ invariant-loop-turn g l = record {
   flags : KeepsBits l.fn.buffer.input l.buffer.input;
   spent : IsNotMore l.fn.search.budget l.search.budget;
   far : l._turn ≤ l.next;
-  exact : AreSimple (subtables_of l.setting.list.now.subtables.items l.lookup) → HasNoPixels l.setting.instance
-      → 0 < l.search.budget.steps
-      → IsUnderWay (applied l.lookup l.options l.setting.instance)
-      (subtables_of l.setting.list.now.subtables.items l.lookup) l.fn.buffer l.next l.last l.buffer;
+  exact : HasNoPixels l.setting.instance → 0 < l.search.budget.steps
+      → IsUnderWay (applied l.setting.list.now l.lookup l.options l.setting.instance)
+      (text_of l.fn.buffer nothing_sought l.fn.search.budget.nested) l.next
+      (text_of l.buffer l.last l.search.budget.nested);
 }

@@ -1,4 +1,7 @@
-use Rattle.std.proofs.Common.{◌∙◌}
+use Rattle.std.proofs.Common.{sym, subst, ◌∙◌}
+use Rattle.std.specs.Prelude.{slice_get}
+use Rattle.shaping_buffer.specs.State.{State}
+use Rattle.ot_gpos.specs.Runs.{IsPositioned}
 use Rattle.ot_gpos.proofs.FlagLemmas.{keeps_by}
 use Rattle.ot_gpos.proofs.lookups.position.Goals as goal
 
@@ -8,4 +11,10 @@ returns-clause-keeps g c =
     (c.out_len-2.ensures.closed c.fail_if_spent.ensures.closed) (c.fail_if_spent.ensures.rest ∙ c.place_all.ensures.rest)
 
 pub returns-clause-exact : goal.returns-clause-exact
-returns-clause-exact g c = λ simple plain steps. c.fail_if_spent.ensures.same steps ∙ c.place_all.ensures.exact simple plain steps
+returns-clause-exact g c = λ plain steps.
+    let setting = c.args.setting.now in
+    let list = setting.list.now in
+    subst
+    (λ (b : State). IsPositioned list (slice_get list.lookups.items c.args.lookup) c.args.options.now setting.instance
+    c.args.search.now.budget.nested c.args.buffer.now c.place_all.new.search.budget.nested b)
+    (sym (c.fail_if_spent.ensures.same steps)) (c.place_all.ensures.exact plain steps)

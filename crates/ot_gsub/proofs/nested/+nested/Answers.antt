@@ -6,6 +6,7 @@ use Rattle.shaping_buffer.proofs.KeepsLemmas.{keeps_then}
 use Rattle.shaping_buffer.specs.KeepsClusters.{KeepsClusters}
 use Rattle.shaping_buffer.specs.State.{State}
 use Rattle.shaping_buffer.specs.Step.{move_to}
+use Rattle.ot_gsub.specs.Changes.{glyph_numbers}
 use Rattle.ot_gsub.specs.MatchPositions.{match_of}
 use Rattle.ot_gsub.specs.Nested.{IsRecordDone, Now, now_of}
 use Rattle.ot_gsub.specs.Turn.{nested}
@@ -15,11 +16,17 @@ use Rattle.ot_gsub.specs.declared.nested.Step.TheVariants.{Applied, Passed}
 use Rattle.ot_gsub.specs.declared.nested.Turn.{Turn}
 use Rattle.ot_gsub.specs.declared.nested.Turn.TheVariants.{On, Refused}
 use Rattle.ot_gsub.specs.declared.substitution.Progress.{Progress}
+use Rattle.ot_gsub.proofs.ChangesLemmas.{glyph_numbers-mark_reach}
 use Rattle.ot_gsub.proofs.NestedLemmas.{Leads, along, done_by, done_refused, fit_ended, given, left_cut, left_enough, left_next, left_none, lookahead_len-opened, left_refused, none_left, there}
 use Rattle.ot_gsub.proofs.TurnLemmas.{ends_by_choose, nested-at_end, nested-given_up, nested-not_there, nested_by_turn, turn_applied, turn_err, turn_refused}
 use Rattle.ot_gsub.proofs.nested.+nested.Goals as goal
 use Rattle.ot_gsub.proofs.nested.+nested.Goals.{apply_fit-else-loop-index-test, apply_fit-then-loop-index-test+in_default, apply_fit-then-loop-index-test+in-Some+in_ok-apply_record+in-Enough}
 use Rattle.ot_gsub.proofs.nested.+nested.Goals.{apply_other-then-depth-eq0-via-then-depth-eq0, apply_other-then-depth-eq0-via-else-depth-eq0+then-not-nest}
+
+pub apply_at-returns-in_default-clause-numbers : goal.apply_at-returns-in_default-clause-numbers
+apply_at-returns-in_default-clause-numbers t c = λ is.
+    ap glyph_numbers c.mark_reach.ensures.is
+    ∙ glyph_numbers-mark_reach c.decide-edit.new.progress.search.reach c.args.buffer.now
 
 pub apply_at-returns-in_err-make-clause-turn : goal.apply_at-returns-in_err-make-clause-turn
 apply_at-returns-in_err-make-clause-turn t c = λ steps.

@@ -8,6 +8,7 @@ use Rattle.ot_layout.specs.declared.budget.Budget.{Budget}
 use Rattle.ot_gsub.specs.Nested.{Now, now_of}
 use Rattle.ot_gsub.specs.Runs.{IsRun, IsRunOf}
 use Rattle.ot_gsub.specs.Singles.{IsSubstituted}
+use Rattle.ot_gsub.proofs.ChangesLemmas.{tells_none}
 use Rattle.ot_gsub.proofs.RunsLemmas.{run_none}
 use Rattle.ot_gsub.proofs.SinglesLemmas.{for_none, is_for-no_mask, len_closed}
 use Rattle.ot_gsub.proofs.substitution.substitute.Goals as goal
@@ -82,3 +83,15 @@ returns-clause-run c = λ steps.
     omega (arith, c.if-first-len.false, c.first_place-first.ensures.within, ap length c.info.ensures, c.len-2.ensures.len, len_closed s c.requires) in
     subst (λ (o : Option Lookup). IsRun subs o old c.apply.result new) c.in-Some.ensures
     (subst (λ (n : Now). IsRunOf subs lookup n c.apply.result new) paid (c.apply.ensures.run steps within))
+
+pub returns-in_default-clause-tells : goal.returns-in_default-clause-tells
+returns-in_default-clause-tells c = λ is. tells_none c.args.buffer.now c.args.progress.now.has_changed
+
+pub returns-then-mask-eq0-clause-tells : goal.returns-then-mask-eq0-clause-tells
+returns-then-mask-eq0-clause-tells c = λ is. tells_none c.args.buffer.now c.args.progress.now.has_changed
+
+pub returns-then-first-len-clause-tells : goal.returns-then-first-len-clause-tells
+returns-then-first-len-clause-tells c = λ is. tells_none c.args.buffer.now c.args.progress.now.has_changed
+
+pub returns-clause-tells : goal.returns-clause-tells
+returns-clause-tells c = c.apply.ensures.tells

@@ -4,6 +4,7 @@ use Rattle.shaping_buffer.specs.Step.{Meets, sync}
 use Rattle.ot_gsub.specs.Nested.{now_of}
 use Rattle.ot_gsub.specs.Runs.{AreGlyphsDone, opened}
 use Rattle.ot_gsub.specs.Singles.{IsForNext, IsLevel, moved, substituted}
+use Rattle.ot_gsub.proofs.ChangesLemmas.{error_is_no_answer, glyph_numbers-opened_at, glyph_numbers-sync, tells_passed, tells_then}
 use Rattle.ot_gsub.proofs.RunsLemmas.{forward_stopped, forward_through, opened_done, way_ended, way_failed, way_refused}
 use Rattle.ot_gsub.proofs.SinglesLemmas.{err_is_no_answer, false_is_no_answer, len_closed, opened_level, opened_next, opened_single_at, synced}
 use Rattle.ot_gsub.proofs.substitution.substitute_forward.Goals as goal
@@ -127,3 +128,33 @@ returns-clause-run c = λ steps.
     (way_ended subs lookup mid end c.substitute_rest.result
     (c.in_ok-substitute_rest.was ∙ ap (λ (x : Bool). Ok x) c.if-not-branch-2.false) rest) all rest.all
     (subst (λ (t : State). Meets (sync t) t c.sync.result new) (c.fail_if_spent.ensures.same steps) c.sync.ensures.meets) refl
+
+pub returns-in_err-open_at-clause-tells : goal.returns-in_err-open_at-clause-tells
+returns-in_err-open_at-clause-tells c = λ is.
+    absurd (error_is_no_answer c.from_residual.result is c.from_residual.ensures.0)
+
+pub returns-then-not-branch-clause-tells : goal.returns-then-not-branch-clause-tells
+returns-then-not-branch-clause-tells c = λ is. absurd (false_is_no_answer (Ok false) is refl)
+
+pub returns-in_err-substitute_rest-clause-tells : goal.returns-in_err-substitute_rest-clause-tells
+returns-in_err-substitute_rest-clause-tells c = λ is.
+    absurd (error_is_no_answer c.from_residual-in_err-substitute_rest.result is
+    c.from_residual-in_err-substitute_rest.ensures.0)
+
+pub returns-then-not-branch-2-clause-tells : goal.returns-then-not-branch-2-clause-tells
+returns-then-not-branch-2-clause-tells c = λ is. absurd (false_is_no_answer (Ok false) is refl)
+
+pub returns-clause-tells : goal.returns-clause-tells
+returns-clause-tells c = λ is.
+    let s = c.args.buffer.now in
+    let b = c.open_at.new.buffer in
+    let e = c.substitute_rest.new.buffer in
+    let f = c.fail_if_spent.new.buffer in
+    let new = c.sync.new.self in
+    let told = c.args.progress.now.has_changed in
+    let tells = c.substitute_rest.new.progress.has_changed in
+    let start = tells_passed s b told told refl
+    (glyph_numbers-opened_at c.args.first s b (c.out_len.ensures.closed c.requires.closed) c.open_at.ensures.opened.1) in
+    let rest = c.substitute_rest.ensures.tells (c.in_ok-substitute_rest.was ∙ ap (λ (x : Bool). Ok x) c.if-not-branch-2.false) in
+    tells_then s e new told tells tells (tells_then s b e told told tells start rest)
+    (tells_passed e new tells tells refl (glyph_numbers-sync f c.sync.result new c.sync.ensures.meets is ∙ c.fail_if_spent.ensures.numbers))

@@ -1,10 +1,12 @@
-use Rattle.std.proofs.Common.{Ok, Result, ap, arith, subst, ◌∙◌}
+use Rattle.std.proofs.Common.{◌≡◌, Ok, Result, ap, arith, false, refl, subst, ◌∙◌}
 use Rattle.std.specs.declared.alloc.AllocError.{AllocError}
 use Rattle.ot_gsub.specs.Nested.{now_of}
 use Rattle.ot_gsub.specs.Turn.{IsTurnAt}
 use Rattle.ot_gsub.specs.declared.nested.Step.{Step}
+use Rattle.ot_gsub.specs.declared.nested.Step.TheVariants.{Passed}
+use Rattle.ot_gsub.proofs.ChangesLemmas.{error_is_no_answer, glyph_numbers-goes_on, tells_changed, tells_passed}
 use Rattle.ot_gsub.proofs.RunsLemmas.{after_applied, after_passed, turn_failed, turn_refused}
-use Rattle.ot_gsub.proofs.SinglesLemmas.{leads_on, next_by_applied, next_by_passed, no_error, no_refusal}
+use Rattle.ot_gsub.proofs.SinglesLemmas.{false_is_no_answer, leads_on, next_by_applied, next_by_passed, no_error, no_refusal}
 use Rattle.ot_gsub.proofs.substitution.substitute_next.Goals as goal
 
 pub returns-in_err-apply_at-clause-singles : goal.returns-in_err-apply_at-clause-singles
@@ -100,3 +102,25 @@ returns-in-Passed-clause-next c = λ steps next.
     (subst (λ (r : Result Step AllocError). IsTurnAt 64 subs lookup old r mid) is (c.apply_at.ensures.turn steps))
     c.in_ok-apply_at.ensures.left (omega (arith, c.requires.glyph, c.apply_at.ensures.same_length is))
     (c.go_on-in-Passed.ensures.on, c.go_on-in-Passed.ensures.wants)
+
+pub returns-in_err-apply_at-clause-tells : goal.returns-in_err-apply_at-clause-tells
+returns-in_err-apply_at-clause-tells c = λ is.
+    absurd (error_is_no_answer c.from_residual.result is c.from_residual.ensures.0)
+
+pub returns-in-Applied-clause-tells : goal.returns-in-Applied-clause-tells
+returns-in-Applied-clause-tells c = λ is.
+    tells_changed c.args.buffer.now c.go_on.new.buffer c.args.progress.now.has_changed c.apply_at.new.progress.has_changed
+    (c.apply_at.ensures.changed (c.in_ok-apply_at.was ∙ ap (λ (x : Step). Ok x) c.in-Applied.is))
+
+pub returns-in-Refused-clause-tells : goal.returns-in-Refused-clause-tells
+returns-in-Refused-clause-tells c = λ is. absurd (false_is_no_answer (Ok false) is refl)
+
+pub returns-in-Passed-clause-tells : goal.returns-in-Passed-clause-tells
+returns-in-Passed-clause-tells c = λ is.
+    let new = c.go_on-in-Passed.new.buffer in
+    let was : c.apply_at.result ≡ Ok Passed = c.in_ok-apply_at.was ∙ ap (λ (x : Step). Ok x) c.in-Passed.is in
+    tells_passed c.args.buffer.now new c.args.progress.now.has_changed c.apply_at.new.progress.has_changed
+    (c.apply_at.ensures.passed was)
+    (glyph_numbers-goes_on c.args.lookup.now c.args.substitutions.now.options.mask 1 c.apply_at.new.buffer c.go_on-in-Passed.result new
+    c.in_ok-apply_at.ensures.left c.go_on-in-Passed.ensures.on is
+    ∙ c.apply_at.ensures.numbers was)

@@ -1,6 +1,7 @@
 use Rattle.std.proofs.Common.{◌≡◌, ◌<◌, true}
 use Rattle.shaping_buffer.specs.KeepsClusters.{KeepsClusters}
 use Rattle.ot_layout.specs.Budget.{IsNotMore}
+use Rattle.ot_gsub.specs.Changes.{TellsChanges}
 use Rattle.ot_gsub.specs.Nested.{now_of}
 use Rattle.ot_gsub.specs.Runs.{HasDone}
 use Rattle.ot_gsub.specs.Singles.{HasMoved, IsForNext, IsLevel, IsSingle}
@@ -11,6 +12,7 @@ invariant-loop-turn l = record {
   opened : l.buffer.have_output ≡ true;
   keeps : KeepsClusters l.fn.buffer l.buffer;
   spent : IsNotMore l.fn.progress.search.budget l.progress.search.budget;
+  tells : TellsChanges l.fn.buffer l.fn.progress.has_changed l.buffer l.progress.has_changed;
   moves : 0 < l.progress.search.budget.steps → IsSingle l.substitutions l.lookup l.fn.buffer → IsLevel l.fn.buffer
       → IsForNext l.substitutions l.lookup l.fn.buffer → HasMoved l.substitutions l.lookup l._turn l.fn.buffer l.buffer;
   done : 0 < l.progress.search.budget.steps → IsForNext l.substitutions l.lookup l.fn.buffer

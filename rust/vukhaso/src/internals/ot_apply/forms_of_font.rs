@@ -88,7 +88,7 @@ pub(crate) fn work_on_syllables<F: FontFunctions>(
 }
 
 /// Says that shaping was given up where the budget is spent.
-fn fail_if_spent(buffer: &mut hb_buffer_t, budget: &Budget) {
+pub(crate) fn fail_if_spent(buffer: &mut hb_buffer_t, budget: &Budget) {
     if budget.is_spent() {
         buffer.shaping_failed = true;
     }

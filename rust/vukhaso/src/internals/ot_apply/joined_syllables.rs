@@ -4,6 +4,8 @@
 
 use crate::buffer::{hb_buffer_t, hb_glyph_info_t};
 use crate::font_face::Face;
+use crate::glyph_digests::Digest;
+use crate::ot_apply::seen_glyphs::digest_of;
 use crate::ot_lookups::lookup_list::{Lookup, SUBSTITUTION_EXTENSION};
 use crate::ot_map::PlannedLookup;
 use crate::ot_plan::TextPlan;
@@ -48,16 +50,19 @@ fn is_in_one(bits: u32, one: u32, other: u32) -> bool {
     }
 }
 
-/// Marks as unsafe to break joined syllables of which a lookup of a stage hangs on the form.
+/// Marks as unsafe to break joined syllables of which a lookup of a stage hangs on the form, and sees
+/// which glyphs there are then.
 ///
 /// # Requires
 ///
-/// - `buffer.old.have_output ≡ false`
+/// - `closed: buffer.old.have_output ≡ false`
+/// - `met: HasGlyphs glyphs.old buffer.old.input`
 pub(crate) fn keep_joined(
     buffer: &mut hb_buffer_t,
     face: &Face,
     plan: &TextPlan,
     lookups: &[PlannedLookup],
+    glyphs: &mut Digest,
 ) {
     debug_assert!(!buffer.have_output());
     let SyllablePlan::Universal(universal) = &plan.syllables else {
@@ -66,6 +71,7 @@ pub(crate) fn keep_joined(
     for planned in lookups {
         keep_formed(buffer, face, &universal.forms, planned);
     }
+    *glyphs = digest_of(buffer);
 }
 
 /// Marks those of which a lookup hangs on the form.

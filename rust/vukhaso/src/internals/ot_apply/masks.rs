@@ -1,37 +1,18 @@
 // Written by tools/plain_rust from crates/ot_apply. Do not edit.
 
-//! Which glyphs have a feature: the masks of fractions, of the forms of letters, and of features that are asked for in a part of the text.
+//! Which glyphs have a feature (HarfBuzz, `hb_ot_shape_setup_masks`): the masks of fractions, of the forms of letters, and of features
+//! that are asked for in a part of the text.
 
-use crate::buffer::{HB_BUFFER_SCRATCH_FLAG_HAS_NON_ASCII, hb_buffer_t, hb_glyph_info_t};
+use crate::buffer::{
+    Direction, HB_BUFFER_SCRATCH_FLAG_HAS_NON_ASCII, hb_buffer_t, hb_glyph_info_t,
+};
 use crate::ot_characters::is_decimal_number;
-use crate::ot_map::{LayoutPlan, ShapePlan};
+use crate::ot_map::{LayoutPlan, PlannedFeature, ShapePlan};
 use crate::ot_plan::TextPlan;
 use crate::text::Feature;
-use core::ops::Range;
 
 /// The slash of a fraction.
 const FRACTION_SLASH: u32 = 0x2044;
-
-/// The masks of the parts of a fraction.
-#[derive(Clone, Copy)]
-struct FractionMasks {
-    before: u32,
-    slash: u32,
-    behind: u32,
-}
-
-impl FractionMasks {
-    /// The mask of a place of the fraction.
-    fn at(&self, place: usize, slash: usize) -> u32 {
-        if place < slash {
-            self.before
-        } else if place == slash {
-            self.slash
-        } else {
-            self.behind
-        }
-    }
-}
 
 /// Sets the masks of a text that is mapped to glyphs, but has its characters yet.
 ///
@@ -42,19 +23,27 @@ impl FractionMasks {
 /// # Proved
 ///
 /// ```text
+/// ensures set { steps.HasMasks plan.now features.now buffer.old buffer.new }
 /// ensures closed { buffer.new.have_output ≡ false }
 /// ensures keeps { KeepsClusters buffer.old buffer.new }
 /// ```
 #[inline]
 pub fn set_masks(buffer: &mut hb_buffer_t, plan: &TextPlan, features: &[Feature]) {
     debug_assert!(!buffer.have_output());
-    if buffer.scratch_flags & HB_BUFFER_SCRATCH_FLAG_HAS_NON_ASCII != 0 && plan.shape.has_frac {
-        let masks = fraction_masks(&plan.shape, buffer.direction.is_forward());
-        set_fraction_masks(buffer, masks);
-    }
+    set_fractions(buffer, &plan.shape);
+    set_masks_of_script(buffer, plan);
+    set_feature_masks(buffer, &plan.shape.layout, features);
+}
+
+/// Sets the masks that the shaper of a script gives each glyph by itself.
+///
+/// # Requires
+///
+/// - `buffer.old.have_output ≡ false`
+fn set_masks_of_script(buffer: &mut hb_buffer_t, plan: &TextPlan) {
+    debug_assert!(!buffer.have_output());
     plan.script.setup_masks(buffer);
     plan.syllables.setup_masks(buffer);
-    set_feature_masks(buffer, &plan.shape.layout, features);
 }
 
 /// Gives the glyphs of parts of the text the values of features that are asked for there.
@@ -80,26 +69,43 @@ fn set_feature_mask(buffer: &mut hb_buffer_t, layout: &LayoutPlan, feature: &Fea
     if feature.is_global() {
         return;
     }
-    if let Some(planned) = layout.feature(feature.tag) {
-        let bits = planned.bits;
-        let value = bits.of_value(feature.value);
-        buffer.set_masks(value, bits.mask(), feature.start, feature.end);
+    set_value(buffer, layout, feature);
+}
+
+/// Gives the glyphs of a part of the text the value of a feature, if the plan has it.
+///
+/// # Requires
+///
+/// - `buffer.old.have_output ≡ false`
+fn set_value(buffer: &mut hb_buffer_t, layout: &LayoutPlan, feature: &Feature) {
+    debug_assert!(!buffer.have_output());
+    match layout.feature(feature.tag) {
+        Some(planned) => set_bits(buffer, planned, feature),
+        None => {}
     }
 }
 
-/// The masks of the parts of a fraction, in the order of the text.
-fn fraction_masks(plan: &ShapePlan, is_forward: bool) -> FractionMasks {
-    let numerator = plan.numr_mask | plan.frac_mask;
-    let denominator = plan.frac_mask | plan.dnom_mask;
-    let (before, behind) = if is_forward {
-        (numerator, denominator)
-    } else {
-        (denominator, numerator)
-    };
-    FractionMasks {
-        before,
-        slash: plan.frac_mask,
-        behind,
+/// Gives the glyphs of a part of the text the value of a feature, in the bits of the plan's.
+///
+/// # Requires
+///
+/// - `buffer.old.have_output ≡ false`
+fn set_bits(buffer: &mut hb_buffer_t, planned: &PlannedFeature, feature: &Feature) {
+    debug_assert!(!buffer.have_output());
+    let bits = planned.bits;
+    let value = bits.of_value(feature.value);
+    buffer.set_masks(value, bits.mask(), feature.start, feature.end);
+}
+
+/// Sets the masks of fractions, if the font makes them. Their slash is past ASCII.
+///
+/// # Requires
+///
+/// - `buffer.old.have_output ≡ false`
+fn set_fractions(buffer: &mut hb_buffer_t, plan: &ShapePlan) {
+    debug_assert!(!buffer.have_output());
+    if buffer.scratch_flags & HB_BUFFER_SCRATCH_FLAG_HAS_NON_ASCII != 0 && plan.has_frac {
+        set_each_fraction(buffer, plan);
     }
 }
 
@@ -108,66 +114,154 @@ fn fraction_masks(plan: &ShapePlan, is_forward: bool) -> FractionMasks {
 /// # Requires
 ///
 /// - `buffer.old.have_output ≡ false`
-fn set_fraction_masks(buffer: &mut hb_buffer_t, masks: FractionMasks) {
+fn set_each_fraction(buffer: &mut hb_buffer_t, plan: &ShapePlan) {
     debug_assert!(!buffer.have_output());
-    let mut place = 0;
-    for _turn in 0..buffer.len() {
-        if place >= buffer.len() {
-            break;
-        }
-        place = set_fraction_mask(buffer, place, masks);
+    let count = buffer.info().len();
+    for place in 0..count {
+        set_if_slash(buffer, place, plan);
     }
 }
 
-/// Sets the masks of a fraction, if its slash is at a place, and says where to go on.
+/// Sets the masks of a fraction, if its slash is at a place.
+///
+/// # Requires
+///
+/// - `buffer.old.have_output ≡ false`
+fn set_if_slash(buffer: &mut hb_buffer_t, place: usize, plan: &ShapePlan) {
+    debug_assert!(!buffer.have_output());
+    let infos = buffer.info();
+    if place < infos.len() && is_slash(&infos[place]) {
+        set_fraction(buffer, place, plan);
+    }
+}
+
+/// Whether a character is the slash of a fraction.
+fn is_slash(info: &hb_glyph_info_t) -> bool {
+    info.glyph_id == FRACTION_SLASH && !is_decimal_number(info)
+}
+
+/// Sets the masks of the fraction whose slash is at a place, if it has digits on both sides. Else the
+/// slash is unsafe to concatenate.
 ///
 /// # Requires
 ///
 /// - `closed: buffer.old.have_output ≡ false`
-/// - `there: place < length buffer.old.input`
-fn set_fraction_mask(buffer: &mut hb_buffer_t, place: usize, masks: FractionMasks) -> usize {
+/// - `there: slash < length buffer.old.input`
+fn set_fraction(buffer: &mut hb_buffer_t, slash: usize, plan: &ShapePlan) {
     debug_assert!(!buffer.have_output());
-    debug_assert!(place < buffer.info().len());
-    if buffer.info()[place].glyph_id != FRACTION_SLASH {
-        return place + 1;
+    debug_assert!(slash < buffer.info().len());
+    let start = digits_before(buffer.info(), slash);
+    let end = digits_behind(buffer.info(), slash + 1);
+    if start == slash {
+        buffer.unsafe_to_concat(Some(slash), Some(slash + 1));
+    } else if end == slash + 1 {
+        buffer.unsafe_to_concat(Some(slash), Some(slash + 1));
+    } else {
+        keep_fraction(buffer, start, end);
+        add_fraction(buffer, start, slash, end, plan);
     }
-    let start = digits_before(buffer.info(), place);
-    let end = digits_behind(buffer.info(), place + 1);
-    if start == place || end == place + 1 {
-        buffer.unsafe_to_concat(Some(place), Some(place + 1));
-        return place + 1;
-    }
+}
+
+/// Marks a fraction as unsafe to break.
+///
+/// # Requires
+///
+/// - `closed: buffer.old.have_output ≡ false`
+/// - `order: start ≤ end`
+/// - `within: end ≤ length buffer.old.input`
+fn keep_fraction(buffer: &mut hb_buffer_t, start: usize, end: usize) {
+    debug_assert!(!buffer.have_output());
+    debug_assert!(start <= end);
+    debug_assert!(end <= buffer.info().len());
     buffer.unsafe_to_break(Some(start), Some(end));
-    add_fraction_masks(buffer, start..end, place, masks);
-    end
 }
 
 /// Adds the masks of a fraction to its glyphs.
 ///
 /// # Requires
 ///
-/// - `buffer.old.have_output ≡ false`
-fn add_fraction_masks(
+/// - `closed: buffer.old.have_output ≡ false`
+/// - `before: start ≤ slash`
+/// - `behind: slash < end`
+/// - `within: end ≤ length buffer.old.input`
+fn add_fraction(
     buffer: &mut hb_buffer_t,
-    places: Range<usize>,
+    start: usize,
     slash: usize,
-    masks: FractionMasks,
+    end: usize,
+    plan: &ShapePlan,
 ) {
     debug_assert!(!buffer.have_output());
-    add_masks(buffer.info_slice_mut(), places, slash, masks);
+    debug_assert!(start <= slash);
+    debug_assert!(slash < end);
+    debug_assert!(end <= buffer.info().len());
+    let direction = buffer.direction;
+    add_fraction_masks(buffer.info_slice_mut(), start, slash, end, plan, direction);
 }
 
-/// Adds the masks of a fraction to the glyphs at these places.
-fn add_masks(
+/// Adds the masks of a fraction to these glyphs.
+///
+/// # Requires
+///
+/// - `before: start ≤ slash`
+/// - `behind: slash < end`
+/// - `within: end ≤ length infos.old`
+fn add_fraction_masks(
     infos: &mut [hb_glyph_info_t],
-    places: Range<usize>,
+    start: usize,
     slash: usize,
-    masks: FractionMasks,
+    end: usize,
+    plan: &ShapePlan,
+    direction: Direction,
 ) {
-    for place in places.start..places.end.min(infos.len()) {
-        let mask = masks.at(place, slash);
-        infos[place].mask |= mask;
+    debug_assert!(start <= slash);
+    debug_assert!(slash < end);
+    debug_assert!(end <= infos.len());
+    add_mask_from(infos, start, slash, mask_before(plan, direction));
+    add_mask_from(infos, slash, slash + 1, plan.frac_mask);
+    add_mask_from(infos, slash + 1, end, mask_behind(plan, direction));
+}
+
+/// The mask of the digits before a slash: numerators in a line that runs forward.
+fn mask_before(plan: &ShapePlan, direction: Direction) -> u32 {
+    if direction.is_forward() {
+        plan.numr_mask | plan.frac_mask
+    } else {
+        plan.frac_mask | plan.dnom_mask
     }
+}
+
+/// The mask of the digits behind a slash: denominators in a line that runs forward.
+fn mask_behind(plan: &ShapePlan, direction: Direction) -> u32 {
+    if direction.is_forward() {
+        plan.frac_mask | plan.dnom_mask
+    } else {
+        plan.numr_mask | plan.frac_mask
+    }
+}
+
+/// Adds a mask to those of the glyphs from a place to another one.
+///
+/// # Requires
+///
+/// - `order: start ≤ end`
+/// - `within: end ≤ length infos.old`
+fn add_mask_from(infos: &mut [hb_glyph_info_t], start: usize, end: usize, mask: u32) {
+    debug_assert!(start <= end);
+    debug_assert!(end <= infos.len());
+    add_mask(&mut infos[start..end], mask);
+}
+
+/// Adds a mask to that of each glyph.
+fn add_mask(infos: &mut [hb_glyph_info_t], mask: u32) {
+    for info in infos.iter_mut() {
+        add_mask_to(info, mask);
+    }
+}
+
+/// Adds a mask to that of a glyph.
+fn add_mask_to(info: &mut hb_glyph_info_t, mask: u32) {
+    info.mask |= mask;
 }
 
 /// Where the digits begin that end before a place.

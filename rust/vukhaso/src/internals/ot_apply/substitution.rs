@@ -10,18 +10,20 @@ use crate::font_tables::gdef::Gdef;
 use crate::glyph_digests::Digest;
 use crate::memory::AllocError;
 use crate::ot_apply::cluster_order::ClusterCourse;
-use crate::ot_apply::forms_of_font::work_on_syllables;
+use crate::ot_apply::forms_of_font::{fail_if_spent, work_on_syllables};
 use crate::ot_apply::joined_syllables::keep_joined;
+use crate::ot_apply::seen_glyphs::{digest_of, see_after, see_changes};
 use crate::ot_gsub::{Progress, Substitutions};
 use crate::ot_layout::LookupOptions;
 use crate::ot_lookups::LookupList;
 use crate::ot_lookups::lookup_list::SUBSTITUTION_EXTENSION;
-use crate::ot_map::{Pause, PlannedLookup};
-use crate::ot_plan::{Step, TextPlan, Watch, budget_of, options_of};
+use crate::ot_map::{LayoutPlan, Pause, PlannedLookup};
+use crate::ot_plan::{Step, TextPlan, Watch, budget_of};
 use crate::script_joining::FallbackLookups;
 
 /// Applies the lookups of `GSUB`, stage by stage, and lets clusters run as they ran before, also where
-/// the shaper of the script puts the glyphs of syllables in another order.
+/// the shaper of the script puts the glyphs of syllables in another order. Where the budget of the
+/// lookups is spent, `buffer.shaping_failed` says so.
 ///
 /// # Requires
 ///
@@ -36,6 +38,8 @@ use crate::script_joining::FallbackLookups;
 /// ```text
 /// ensures closed { IfOk result (λ done. done ≡ true → buffer.new.have_output ≡ false) }
 /// ensures keeps { IfOk result (λ done. done ≡ true → KeepsClusters buffer.old buffer.new) }
+/// ensures stages { result ≡ Ok true → plan.now.chain_flags ≡ None → buffer.new.shaping_failed ≡ false
+///     → IsDoneByStages face.now plan.now buffer.old buffer.new }
 /// ```
 #[inline]
 pub fn substitute<F: FontFunctions, W: Watch>(
@@ -49,7 +53,12 @@ pub fn substitute<F: FontFunctions, W: Watch>(
     if let Some(flags) = &plan.chain_flags {
         return substitute_by_morx(buffer, face, flags, plan.shape.apply_gpos);
     }
-    substitute_by_gsub(buffer, face, font, plan, watch)
+    let mut progress = Progress::new(budget_of(buffer));
+    if !substitute_by_gsub(buffer, face, font, plan, &mut progress, watch)? {
+        return Ok(false);
+    }
+    fail_if_spent(buffer, &progress.search.budget);
+    Ok(true)
 }
 
 /// Substitutes glyphs by Apple's table `morx`. Those that it deletes are taken out at once where `GPOS`
@@ -107,14 +116,15 @@ fn substitute_by_gsub<F: FontFunctions, W: Watch>(
     face: &Face,
     font: &F,
     plan: &TextPlan,
+    progress: &mut Progress,
     watch: &mut W,
 ) -> Result<bool, AllocError> {
     debug_assert!(!buffer.have_output());
     if !plan.orders_syllables() {
-        return apply_stages(buffer, face, font, plan, watch);
+        return apply_stages(buffer, face, font, plan, progress, watch);
     }
     let course = ClusterCourse::of(buffer);
-    if !apply_stages(buffer, face, font, plan, watch)? {
+    if !apply_stages(buffer, face, font, plan, progress, watch)? {
         return Ok(false);
     }
     course.restore(buffer);
@@ -135,35 +145,45 @@ fn apply_stages<F: FontFunctions, W: Watch>(
     face: &Face,
     font: &F,
     plan: &TextPlan,
+    progress: &mut Progress,
     watch: &mut W,
 ) -> Result<bool, AllocError> {
     debug_assert!(!buffer.have_output());
-    let mut progress = Progress::new(budget_of(buffer));
-    let mut glyphs = Digest::of_glyphs(buffer.info());
+    progress.has_changed = false;
+    let mut glyphs = digest_of(buffer);
     let mut start = 0;
-    for stage in &plan.shape.layout.stages {
-        let lookups = &plan.shape.layout.gsub_lookups;
-        let lookups = lookups.get(start..stage.end).unwrap_or(&[]);
-        keep_joined(buffer, face, plan, lookups);
-        if !apply_stage(buffer, face, lookups, &mut glyphs, &mut progress, watch)? {
+    let stages = plan.shape.layout.stages.as_slice();
+    for stage in stages {
+        let lookups = lookups_of(&plan.shape.layout, start, stage.end);
+        keep_joined(buffer, face, plan, lookups, &mut glyphs);
+        if !apply_stage(buffer, face, lookups, &mut glyphs, progress, watch)? {
             return Ok(false);
         }
-        if !pause(buffer, face, font, plan, stage.pause, &mut progress)? {
+        if !pause(buffer, face, font, plan, stage.pause, progress)? {
             return Ok(false);
         }
-        if stage.pause != Pause::Nothing {
-            glyphs = Digest::of_glyphs(buffer.info());
-        }
+        see_after(buffer, stage.pause, &mut glyphs, progress);
         start = stage.end;
     }
     Ok(true)
+}
+
+/// The lookups of a stage, from its first place in the list of all to its end.
+fn lookups_of(layout: &LayoutPlan, start: usize, end: usize) -> &[PlannedLookup] {
+    if start <= end && end <= layout.gsub_lookups.len() {
+        &layout.gsub_lookups[start..end]
+    } else {
+        &[]
+    }
 }
 
 /// Applies the lookups of a stage.
 ///
 /// # Requires
 ///
-/// - `buffer.old.have_output ≡ false`
+/// - `closed: buffer.old.have_output ≡ false`
+/// - `unchanged: progress.old.has_changed ≡ false`
+/// - `met: HasGlyphs glyphs.old buffer.old.input`
 ///
 /// # Errors
 ///
@@ -191,7 +211,9 @@ fn apply_stage<W: Watch>(
 ///
 /// # Requires
 ///
-/// - `buffer.old.have_output ≡ false`
+/// - `closed: buffer.old.have_output ≡ false`
+/// - `unchanged: progress.old.has_changed ≡ false`
+/// - `met: HasGlyphs glyphs.old buffer.old.input`
 ///
 /// # Errors
 ///
@@ -205,22 +227,31 @@ fn apply_planned(
     progress: &mut Progress,
 ) -> Result<bool, AllocError> {
     debug_assert!(!buffer.have_output());
-    if !face.lookups.substitutions.may_apply(planned.index, glyphs) {
+    debug_assert!(buffer.out_len() == 0);
+    let substitutions = substitutions_of(face, planned);
+    if !substitutions.list.may_apply(planned.index, glyphs) {
         return Ok(true);
     }
-    let substitutions = Substitutions {
-        list: &face.lookups.substitutions,
-        gdef: &face.gdef,
-        options: options_of(planned),
-    };
     if !crate::ot_gsub::substitute(buffer, &substitutions, planned.index, progress)? {
         return Ok(false);
     }
-    if progress.has_changed {
-        progress.has_changed = false;
-        *glyphs = Digest::of_glyphs(buffer.info());
-    }
+    see_changes(buffer, glyphs, progress);
     Ok(true)
+}
+
+/// The lookups of a font, and how one of the plan is applied.
+fn substitutions_of<'a>(face: &'a Face<'a>, planned: &PlannedLookup) -> Substitutions<'a> {
+    Substitutions {
+        list: &face.lookups.substitutions,
+        gdef: &face.gdef,
+        options: LookupOptions {
+            mask: planned.mask,
+            auto_zwnj: planned.auto_zwnj,
+            auto_zwj: planned.auto_zwj,
+            per_syllable: planned.per_syllable,
+            random: planned.random,
+        },
+    }
 }
 
 /// What is done after a stage.

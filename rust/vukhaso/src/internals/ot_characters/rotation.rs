@@ -1,6 +1,6 @@
 // Written by tools/plain_rust from crates/ot_characters. Do not edit.
 
-//! Characters that have another form in text which runs from right to left or in vertical lines.
+//! Characters that have another form in text which runs from right to left or in vertical lines (HarfBuzz, `hb_ot_rotate_chars`).
 
 use crate::buffer::{CharExt, Direction, Mirrors, hb_buffer_t, hb_glyph_info_t};
 use crate::font_functions::FontFunctions;
@@ -21,6 +21,9 @@ use crate::unicode_tables::mirrors;
 /// # Proved
 ///
 /// ```text
+/// ensures is { buffer.new ≡ record buffer.old {
+///       input = map (rotation.rotated (F.has font.now) plan.now direction) buffer.old.input;
+///     } }
 /// ensures closed { buffer.new.have_output ≡ false }
 /// ensures keeps { KeepsClusters buffer.old buffer.new }
 /// ```
@@ -42,89 +45,142 @@ fn rotate_all<F: FontFunctions>(
     plan: &ShapePlan,
     direction: Direction,
 ) {
-    if direction.is_backward() {
-        let mirrors = if infos.iter().any(may_be_mirrored) {
-            mirrors()
-        } else {
-            None
-        };
-        mirror_all(infos, font, mirrors.as_ref(), plan.rtlm_mask);
+    turn_all(infos, font, plan, direction);
+    raise_all(infos, font, plan, direction);
+}
+
+/// Replaces each of the characters by its mirror image where the line runs backward.
+fn turn_all<F: FontFunctions>(
+    infos: &mut [hb_glyph_info_t],
+    font: &F,
+    plan: &ShapePlan,
+    direction: Direction,
+) {
+    if direction.is_forward() {
+        return;
     }
-    if direction.is_vertical() && !plan.has_vert {
-        make_all_vertical(infos, font);
+    if !are_mirrored(infos) {
+        return add_features_to_all(infos, plan.rtlm_mask);
     }
+    match mirrors() {
+        Some(rows) => mirror_all(infos, font, &rows, plan.rtlm_mask),
+        None => {}
+    }
+}
+
+/// Whether any of the characters may have a mirror image.
+fn are_mirrored(infos: &[hb_glyph_info_t]) -> bool {
+    infos.iter().any(|info| may_be_mirrored(info))
 }
 
 /// Whether a character may have a mirror image: no letter, mark, digit or space has one.
 fn may_be_mirrored(info: &hb_glyph_info_t) -> bool {
-    !is_letter(info)
-        && !is_unicode_mark(info)
-        && !is_decimal_number(info)
-        && !is_unicode_space(info)
+    !(is_letter_or_mark(info) || is_digit_or_space(info))
 }
 
-/// Replaces each character by its mirror image, or gives it the mask.
+/// Whether a character is a letter or a mark.
+fn is_letter_or_mark(info: &hb_glyph_info_t) -> bool {
+    is_letter(info) || is_unicode_mark(info)
+}
+
+/// Whether a character is a digit or a space.
+fn is_digit_or_space(info: &hb_glyph_info_t) -> bool {
+    is_decimal_number(info) || is_unicode_space(info)
+}
+
+/// Gives each of the characters these features too.
+fn add_features_to_all(infos: &mut [hb_glyph_info_t], bits: u32) {
+    for info in infos.iter_mut() {
+        add_features(info, bits);
+    }
+}
+
+/// Gives a character these features too.
+fn add_features(info: &mut hb_glyph_info_t, bits: u32) {
+    info.mask |= bits;
+}
+
+/// Replaces each character by its mirror image, or gives it the feature of mirrored forms.
 fn mirror_all<F: FontFunctions>(
     infos: &mut [hb_glyph_info_t],
     font: &F,
-    mirrors: Option<&Mirrors>,
-    mask: u32,
+    mirrors: &Mirrors,
+    rtlm: u32,
 ) {
-    for i in 0..infos.len() {
-        mirror(&mut infos[i], font, mirrors, mask);
+    for info in infos.iter_mut() {
+        mirror(info, font, mirrors, rtlm);
     }
 }
 
-/// Replaces a character by its mirror image, or gives it the mask.
-fn mirror<F: FontFunctions>(
-    info: &mut hb_glyph_info_t,
-    font: &F,
-    mirrors: Option<&Mirrors>,
-    mask: u32,
-) {
-    if !is_mirrored(info, font, mirrors) {
-        info.mask |= mask;
-    }
-}
-
-/// Replaces a character by its mirror image, and says whether the font has a glyph for that.
-fn is_mirrored<F: FontFunctions>(
-    info: &mut hb_glyph_info_t,
-    font: &F,
-    mirrors: Option<&Mirrors>,
-) -> bool {
-    match mirror_image(info, mirrors) {
-        Some(image) => replace_character(info, font, image),
-        None => false,
+/// Replaces a character by its mirror image, or gives it the feature of mirrored forms.
+fn mirror<F: FontFunctions>(info: &mut hb_glyph_info_t, font: &F, mirrors: &Mirrors, rtlm: u32) {
+    match if_there(font, mirror_image(info, mirrors)) {
+        Some(image) => info.glyph_id = image,
+        None => add_features(info, rtlm),
     }
 }
 
 /// The mirror image of a character.
-fn mirror_image(info: &hb_glyph_info_t, mirrors: Option<&Mirrors>) -> Option<char> {
-    char::from_u32(info.glyph_id)?.mirrored(mirrors?)
+fn mirror_image(info: &hb_glyph_info_t, mirrors: &Mirrors) -> Option<char> {
+    if !may_be_mirrored(info) {
+        return None;
+    }
+    match char::from_u32(info.glyph_id) {
+        Some(character) => character.mirrored(mirrors),
+        None => None,
+    }
+}
+
+/// Replaces each of the characters by its vertical form where the line is vertical, and the font has
+/// none itself.
+fn raise_all<F: FontFunctions>(
+    infos: &mut [hb_glyph_info_t],
+    font: &F,
+    plan: &ShapePlan,
+    direction: Direction,
+) {
+    if direction.is_horizontal() || plan.has_vert {
+        return;
+    }
+    make_all_vertical(infos, font);
 }
 
 /// Replaces each character by its vertical form.
 fn make_all_vertical<F: FontFunctions>(infos: &mut [hb_glyph_info_t], font: &F) {
-    for i in 0..infos.len() {
-        make_vertical(&mut infos[i], font);
+    for info in infos.iter_mut() {
+        make_vertical(info, font);
     }
 }
 
 /// Replaces a character by its vertical form.
 fn make_vertical<F: FontFunctions>(info: &mut hb_glyph_info_t, font: &F) {
-    if let Some(character) = char::from_u32(info.glyph_id) {
-        if let Some(vertical) = character.vertical() {
-            let _ = replace_character(info, font, vertical);
-        }
+    match if_there(font, vertical_form(info)) {
+        Some(form) => info.glyph_id = form,
+        None => {}
     }
 }
 
-/// Replaces a character by another one, if the font has a glyph for that, and says whether it has.
-fn replace_character<F: FontFunctions>(info: &mut hb_glyph_info_t, font: &F, other: char) -> bool {
-    if font.nominal_glyph(other as u32).is_none() {
-        return false;
+/// The form of a character in vertical lines.
+fn vertical_form(info: &hb_glyph_info_t) -> Option<char> {
+    match char::from_u32(info.glyph_id) {
+        Some(character) => character.vertical(),
+        None => None,
     }
-    info.glyph_id = other as u32;
-    true
+}
+
+/// A form of a character, if the font has a glyph for it.
+fn if_there<F: FontFunctions>(font: &F, form: Option<char>) -> Option<u32> {
+    match form {
+        Some(form) => if_known(font, form as u32),
+        None => None,
+    }
+}
+
+/// A code point, if the font has a glyph for it.
+fn if_known<F: FontFunctions>(font: &F, code: u32) -> Option<u32> {
+    if font.nominal_glyph(code).is_some() {
+        Some(code)
+    } else {
+        None
+    }
 }

@@ -3,29 +3,24 @@
 //! The characters of a text, before they are mapped to glyphs: their properties, graphemes and direction.
 
 use crate::buffer::{
-    BufferFlags, CharExt, Direction, HB_BUFFER_CLUSTER_LEVEL_MONOTONE_GRAPHEMES,
+    CharExt, Direction, HB_BUFFER_CLUSTER_LEVEL_MONOTONE_GRAPHEMES,
     HB_BUFFER_SCRATCH_FLAG_HAS_NON_ASCII, hb_buffer_t, hb_glyph_info_t,
 };
-use crate::font_functions::FontFunctions;
 use crate::glyph::hb_gc::RB_UNICODE_GENERAL_CATEGORY_MODIFIER_SYMBOL;
-use crate::memory::AllocError;
 use crate::ot_characters::glyph_info::{
     is_regional_indicator, is_same_grapheme, is_zwj, set_continuation,
 };
-use crate::ot_characters::numbers::{are_numbers, is_against_script};
+use crate::ot_characters::native_direction::runs_against;
 use crate::ot_characters::turned_contexts::keep_turned_contexts;
 use crate::script_items::allows_any_order;
 use crate::script_items::glyph_info::{is_continuation, set_unicode_props};
-use crate::script_items::item::{general_category, is_unicode_mark};
+use crate::script_items::item::general_category;
 
 /// No character before this one goes on with a grapheme: the first that emoji are made from.
 const FIRST_PICTOGRAPHIC: u32 = 0xA9;
 
 /// Of a text of so many characters, the properties of so many are remembered.
 const REMEMBERED: usize = 64;
-
-/// The dotted circle, which a mark without a base is put on.
-const DOTTED_CIRCLE: u32 = 0x25CC;
 
 /// Sets the properties of each character, and says which go on with the grapheme before them.
 ///
@@ -36,6 +31,7 @@ const DOTTED_CIRCLE: u32 = 0x25CC;
 /// # Proved
 ///
 /// ```text
+/// ensures sets { properties.SetsProperties buffer.old buffer.new }
 /// ensures closed { buffer.new.have_output ≡ false }
 /// ensures keeps { KeepsClusters buffer.old buffer.new }
 /// ```
@@ -43,6 +39,16 @@ const DOTTED_CIRCLE: u32 = 0x25CC;
 pub fn set_properties(buffer: &mut hb_buffer_t) {
     debug_assert!(!buffer.have_output());
     let scratch_flags = set_all_in(buffer);
+    remember(buffer, scratch_flags);
+}
+
+/// Remembers these scratch flags of a text.
+///
+/// # Requires
+///
+/// - `buffer.old.have_output ≡ false`
+fn remember(buffer: &mut hb_buffer_t, scratch_flags: u32) {
+    debug_assert!(!buffer.have_output());
     buffer.scratch_flags = scratch_flags;
 }
 
@@ -64,9 +70,9 @@ fn set_all_properties(infos: &mut [hb_glyph_info_t], scratch_flags: &mut u32) {
         return set_many_properties(infos, scratch_flags);
     }
     for i in 0..infos.len() {
-        set_unicode_props(&mut infos[i], scratch_flags);
+        set_own_properties(&mut infos[i], scratch_flags);
         if continues_grapheme(infos, i) {
-            set_continuation(&mut infos[i]);
+            go_on(&mut infos[i]);
         }
     }
 }
@@ -81,15 +87,30 @@ fn set_many_properties(infos: &mut [hb_glyph_info_t], scratch_flags: &mut u32) {
         let character = infos[i].glyph_id;
         let place = character as usize % REMEMBERED;
         if known[place].0 == character {
-            infos[i].set_unicode_props(known[place].1);
+            set_known_properties(&mut infos[i], known[place].1);
         } else {
-            set_unicode_props(&mut infos[i], scratch_flags);
+            set_own_properties(&mut infos[i], scratch_flags);
             known[place] = (character, infos[i].unicode_props());
         }
         if continues_grapheme(infos, i) {
-            set_continuation(&mut infos[i]);
+            go_on(&mut infos[i]);
         }
     }
+}
+
+/// Sets the properties of a character.
+fn set_own_properties(info: &mut hb_glyph_info_t, scratch_flags: &mut u32) {
+    set_unicode_props(info, scratch_flags);
+}
+
+/// Sets the properties of a character that was met before.
+fn set_known_properties(info: &mut hb_glyph_info_t, known: u16) {
+    info.set_unicode_props(known);
+}
+
+/// Says that a character goes on with the grapheme before it.
+fn go_on(info: &mut hb_glyph_info_t) {
+    set_continuation(info);
 }
 
 /// Whether a character that is no mark goes on with the grapheme before it (Unicode Standard Annex 29):
@@ -122,72 +143,6 @@ fn is_pictographic(info: &hb_glyph_info_t) -> bool {
     }
 }
 
-/// Puts a dotted circle before a text that is the beginning of a paragraph and begins with a mark.
-///
-/// # Requires
-///
-/// - `buffer.old.have_output ≡ false`
-///
-/// # Errors
-///
-/// `Err(AllocError)` where memory ran out.
-///
-/// # Proved
-///
-/// ```text
-/// ensures closed { IfOk result (λ done. done ≡ true → buffer.new.have_output ≡ false) }
-/// ensures keeps { KeepsClusters buffer.old buffer.new }
-/// ```
-#[inline]
-pub fn insert_dotted_circle<F: FontFunctions>(
-    buffer: &mut hb_buffer_t,
-    font: &F,
-) -> Result<bool, AllocError> {
-    debug_assert!(!buffer.have_output());
-    if !wants_dotted_circle(buffer) || font.nominal_glyph(DOTTED_CIRCLE).is_none() {
-        return Ok(true);
-    }
-    buffer.clear_output();
-    put_dotted_circle(buffer)?;
-    buffer.sync()
-}
-
-/// Whether the text begins a paragraph, with a mark.
-fn wants_dotted_circle(buffer: &hb_buffer_t) -> bool {
-    if buffer
-        .flags
-        .contains(BufferFlags::DO_NOT_INSERT_DOTTED_CIRCLE)
-        || !buffer.flags.contains(BufferFlags::BEGINNING_OF_TEXT)
-        || !buffer.context(0).is_empty()
-    {
-        return false;
-    }
-    match buffer.info() {
-        [first, ..] => is_unicode_mark(first),
-        [] => false,
-    }
-}
-
-/// Puts a dotted circle out, in the cluster of the current character.
-///
-/// # Requires
-///
-/// - `buffer.old.have_output ≡ true`
-fn put_dotted_circle(buffer: &mut hb_buffer_t) -> Result<bool, AllocError> {
-    debug_assert!(buffer.have_output());
-    let Some(current) = buffer.info().first() else {
-        return Ok(true);
-    };
-    let mut circle = hb_glyph_info_t {
-        glyph_id: DOTTED_CIRCLE,
-        mask: current.mask,
-        cluster: current.cluster,
-        ..hb_glyph_info_t::default()
-    };
-    set_unicode_props(&mut circle, &mut 0);
-    buffer.output_info(circle)
-}
-
 /// Makes each grapheme one cluster, or unsafe to break where the cluster level keeps its characters
 /// apart.
 ///
@@ -198,6 +153,7 @@ fn put_dotted_circle(buffer: &mut hb_buffer_t) -> Result<bool, AllocError> {
 /// # Proved
 ///
 /// ```text
+/// ensures is { buffer.new ≡ formed.with_clusters buffer.old }
 /// ensures closed { buffer.new.have_output ≡ false }
 /// ensures keeps { KeepsClusters buffer.old buffer.new }
 /// ```
@@ -208,9 +164,20 @@ pub fn form_clusters(buffer: &mut hb_buffer_t) {
         return;
     }
     let merges = buffer.cluster_level == HB_BUFFER_CLUSTER_LEVEL_MONOTONE_GRAPHEMES;
+    form_each(buffer, merges);
+}
+
+/// Makes each grapheme one cluster, or unsafe to break.
+///
+/// # Requires
+///
+/// - `buffer.old.have_output ≡ false`
+fn form_each(buffer: &mut hb_buffer_t, merges: bool) {
+    debug_assert!(!buffer.have_output());
+    let count = buffer.info().len();
     let mut start = 0;
-    for _turn in 0..buffer.len() {
-        if start >= buffer.len() {
+    for _turn in 0..count {
+        if start >= buffer.info().len() {
             break;
         }
         let end = buffer.group_end(start, is_same_grapheme);
@@ -246,18 +213,20 @@ fn form_cluster(buffer: &mut hb_buffer_t, start: usize, end: usize, merges: bool
 /// # Proved
 ///
 /// ```text
+/// ensures turned { result ≡ ways.runs_against buffer.old }
+/// ensures is { buffer.new ≡ ways.in_native_direction buffer.old }
 /// ensures closed { buffer.new.have_output ≡ false }
 /// ensures runs { KeepsOrTurns result buffer.old buffer.new }
 /// ```
 #[inline]
 pub fn ensure_native_direction(buffer: &mut hb_buffer_t) -> bool {
     debug_assert!(!buffer.have_output());
-    let is_against = is_to_be_turned(buffer);
-    if is_against {
-        let direction = buffer.direction.reverse();
-        reverse_graphemes(buffer, direction);
+    if !runs_against(buffer) {
+        return false;
     }
-    is_against
+    let direction = buffer.direction.reverse();
+    reverse_graphemes(buffer, direction);
+    true
 }
 
 /// Marks as unsafe to break where a text that runs against its script would be shaped otherwise by
@@ -276,17 +245,9 @@ pub fn ensure_native_direction(buffer: &mut hb_buffer_t) -> bool {
 #[inline]
 pub fn keep_contexts(buffer: &mut hb_buffer_t) {
     debug_assert!(!buffer.have_output());
-    if is_to_be_turned(buffer) {
+    if runs_against(buffer) {
         keep_turned_contexts(buffer);
     }
-}
-
-/// Whether the text runs against its script.
-fn is_to_be_turned(buffer: &hb_buffer_t) -> bool {
-    let direction = buffer.direction;
-    let native = native_direction(buffer);
-    direction.is_horizontal() && native.is_some_and(|native| native != direction)
-        || direction.is_vertical() && direction != Direction::TopToBottom
 }
 
 /// Puts the graphemes into reverse order, each in its own order, so that the text runs in this
@@ -319,16 +280,4 @@ fn reverse_graphemes(buffer: &mut hb_buffer_t, direction: Direction) {
 pub fn set_direction(buffer: &mut hb_buffer_t, direction: Direction) {
     debug_assert!(!buffer.have_output());
     buffer.direction = direction;
-}
-
-/// The direction in which the script runs, if it has one: numbers in a script that runs from right to
-/// left run from left to right, and so does a text of no script.
-fn native_direction(buffer: &hb_buffer_t) -> Option<Direction> {
-    if is_against_script(buffer) && are_numbers(buffer.info()) {
-        return Some(Direction::LeftToRight);
-    }
-    match buffer.script {
-        Some(script) => Direction::from_script(script),
-        None => Some(Direction::LeftToRight),
-    }
 }

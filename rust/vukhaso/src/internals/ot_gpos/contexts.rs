@@ -13,7 +13,14 @@ use crate::ot_lookups::lookup_list::LookupList;
 pub(crate) const CHAINED_CONTEXT: u16 = 8;
 
 /// The rule that fits at the glyph; how far rules that do not fit have looked stands in the search. The
-/// places of the rule's glyphs are counted from the glyph.
+/// places of the rule's glyphs are counted from the glyph. No lookup is applied, so that as many may be
+/// as before.
+///
+/// # Requires
+///
+/// - `within: turn.now.place < length glyphs.now`
+/// - `next: IsNextOf list.now.coverages.items turn.now.subtable.now`
+/// - `is_context: is_simple turn.now.subtable.now ≡ false`
 pub(crate) fn fit_at<'a>(
     glyphs: &[hb_glyph_info_t],
     list: &'a LookupList<'a>,
@@ -22,9 +29,7 @@ pub(crate) fn fit_at<'a>(
     search: &mut Search,
 ) -> Option<Fit<'a>> {
     search.reach = Reach::none(turn.place);
-    if turn.place >= glyphs.len() {
-        return None;
-    }
+    let nested = search.budget.nested;
     let ctx = ApplyContext {
         out: &glyphs[..turn.place],
         input: &glyphs[turn.place..],
@@ -34,5 +39,7 @@ pub(crate) fn fit_at<'a>(
         is_level: true,
     };
     let is_chained = turn.subtable.lookup_type == CHAINED_CONTEXT;
-    fitting_rule(list, turn.subtable, turn.index, is_chained, &ctx, search)
+    let found = fitting_rule(list, turn.subtable, turn.index, is_chained, &ctx, search);
+    search.budget.nested = nested;
+    found
 }

@@ -55,10 +55,10 @@ struct Task<'a, P> {
 /// ensures flags { KeepsBits buffer.old.input buffer.new.input }
 /// ensures spent { IsNotMore search.old.budget search.new.budget }
 /// ensures says { search.new.budget.steps ≡ 0 → buffer.new.shaping_failed ≡ true }
-/// ensures exact { let subtables = setting.now.list.now.subtables.items in
-///     let at = slice_get setting.now.list.now.lookups.items lookup in
-///     HasNoContexts subtables at → HasNoPixels setting.now.instance → 0 < search.new.budget.steps
-///     → buffer.new ≡ positioned subtables at options.now setting.now.instance buffer.old }
+/// ensures exact { let list = setting.now.list.now in
+///     HasNoPixels setting.now.instance → 0 < search.new.budget.steps
+///     → IsPositioned list (slice_get list.lookups.items lookup) options.now setting.now.instance
+///     search.old.budget.nested buffer.old search.new.budget.nested buffer.new }
 /// ensures keeps { KeepsClusters buffer.old buffer.new }
 /// ```
 #[inline]
@@ -175,6 +175,8 @@ fn place_by_lookup<'a, P: ContourPoints>(
 ///
 /// - `closed: buffer.old.have_output ≡ false`
 /// - `placed: IsSome buffer.old.positions`
+/// - `within: task.now.place < length buffer.old.input`
+/// - `next: IsNextOf task.now.setting.now.list.now.coverages.items subtable.now`
 fn try_subtable<'a, P: ContourPoints>(
     buffer: &mut hb_buffer_t,
     task: &Task<'a, P>,
@@ -216,6 +218,9 @@ fn index_in(subtable: &Subtable, glyph: u32) -> Option<u32> {
 ///
 /// - `closed: buffer.old.have_output ≡ false`
 /// - `placed: IsSome buffer.old.positions`
+/// - `within: turn.now.place < length buffer.old.input`
+/// - `place: turn.now.place ≡ task.now.place`
+/// - `next: IsNextOf task.now.setting.now.list.now.coverages.items turn.now.subtable.now`
 #[inline(never)]
 fn place_by_subtable<'a, P: ContourPoints>(
     buffer: &mut hb_buffer_t,
@@ -264,6 +269,10 @@ fn place_by_simple<P: ContourPoints>(
 ///
 /// - `closed: buffer.old.have_output ≡ false`
 /// - `placed: IsSome buffer.old.positions`
+/// - `within: turn.now.place < length buffer.old.input`
+/// - `place: turn.now.place ≡ task.now.place`
+/// - `next: IsNextOf task.now.setting.now.list.now.coverages.items turn.now.subtable.now`
+/// - `is_context: is_simple turn.now.subtable.now ≡ false`
 fn place_by_context<'a, P: ContourPoints>(
     buffer: &mut hb_buffer_t,
     task: &Task<'a, P>,
@@ -316,12 +325,17 @@ fn apply_records<'a, P: ContourPoints>(
 
 /// The lookup of a record, at the glyph that the record names; `None` where there is no such lookup or
 /// glyph.
+///
+/// # Requires
+///
+/// - `index < 65536`
 fn nested_task<'a, P>(
     task: &Task<'a, P>,
     fit: &Fit,
     places: &MatchPositions,
     index: usize,
 ) -> Option<Task<'a, P>> {
+    debug_assert!(index < 65536);
     let record = fit.record(index)?;
     let at = *places.as_slice().get(record.sequence_index)?;
     let lookup = task.setting.list.lookup(record.lookup)?;

@@ -56,14 +56,11 @@ impl<'a> KernTable<'a> {
     /// ensures table { result.table.now ≡ table.now }
     /// ensures form { result.is_apple ≡ is_apple table.now }
     /// ensures count { result.count ≢ 0 → result.count ≡ declared_count table.now }
+    /// ensures whole { result.count ≡ subtable_count table.now }
     /// ```
     #[inline]
     pub fn new(table: &'a [u8]) -> Self {
-        let (is_apple, count) = match u16_at(table, 0) {
-            Some(0) => (false, u32::from(u16_at(table, 2).unwrap_or(0))),
-            Some(1) => (true, u32_at(table, 4).unwrap_or(0)),
-            _ => (false, 0),
-        };
+        let (is_apple, count) = declared(table);
         let kern = KernTable {
             table,
             is_apple,
@@ -126,12 +123,13 @@ impl<'a> KernTable<'a> {
     fn is_whole(&self) -> bool {
         let mut at = self.start();
         for number in 0..self.count {
-            match self.subtable_at(at, number) {
-                Some(subtable) if subtable.has_its_pairs() => {
-                    at = at.saturating_add(subtable.length);
-                }
-                _ => return false,
+            let Some(subtable) = self.subtable_at(at, number) else {
+                return false;
+            };
+            if !subtable.has_its_pairs() {
+                return false;
             }
+            at = at.saturating_add(subtable.length);
         }
         true
     }
@@ -152,7 +150,9 @@ impl<'a> KernTable<'a> {
     ///
     /// # Proved
     ///
-    /// That it returns.
+    /// ```text
+    /// ensures { result ≡ has_subtable is_machine self.now }
+    /// ```
     #[inline]
     pub fn has_machine_kerning(&self) -> bool {
         self.has(Property::Machine)
@@ -162,7 +162,9 @@ impl<'a> KernTable<'a> {
     ///
     /// # Proved
     ///
-    /// That it returns.
+    /// ```text
+    /// ensures { result ≡ has_subtable is_crossing self.now }
+    /// ```
     #[inline]
     pub fn has_cross_kerning(&self) -> bool {
         self.has(Property::CrossStream)
@@ -191,6 +193,15 @@ enum Property {
     Machine,
     /// It moves glyphs across the line.
     CrossStream,
+}
+
+/// Whether the headers of a table are Apple's, and how many subtables it declares, by its version.
+fn declared(table: &[u8]) -> (bool, u32) {
+    match u16_at(table, 0) {
+        Some(0) => (false, u32::from(u16_at(table, 2).unwrap_or(0))),
+        Some(1) => (true, u32_at(table, 4).unwrap_or(0)),
+        _ => (false, 0),
+    }
 }
 
 /// A subtable, by the header of Apple or of Windows.

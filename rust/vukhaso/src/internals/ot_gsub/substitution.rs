@@ -43,7 +43,8 @@ impl Progress {
     /// # Proved
     ///
     /// ```text
-    /// ensures { result.search.budget ≡ budget }
+    /// ensures budget { result.search.budget ≡ budget }
+    /// ensures random { result.random_state ≡ 1 }
     /// ```
     #[inline]
     pub fn new(budget: Budget) -> Self {
@@ -79,6 +80,7 @@ impl Progress {
 ///     0 < progress.new.search.budget.steps → buffer.old.successful ≡ true
 ///     → IsSingleIf substitutions.now lookup buffer.old
 ///     → IsSubstituted substitutions.now lookup buffer.old result buffer.new }
+/// ensures tells { result ≡ Ok true → TellsChanges buffer.old progress.old.has_changed buffer.new progress.new.has_changed }
 /// ensures left { IsLeftClosed result buffer.new }
 /// ensures spent { IsNotMore progress.old.search.budget progress.new.search.budget }
 /// ensures keeps { KeepsClusters buffer.old buffer.new }

@@ -8,6 +8,19 @@ use crate::script_syllables::FormFeature;
 use core::ops::Range;
 
 /// Where the lookups of each feature that a shaper of syllables asks of stand in the list of a plan.
+///
+/// # Proved
+///
+/// ```text
+/// ghost Value = { FeaturePlaces }
+/// ghost view = { λ places. record {
+///   rphf = (places.rphf.start, places.rphf.end);
+///   pref = (places.pref.start, places.pref.end);
+///   blwf = (places.blwf.start, places.blwf.end);
+///   pstf = (places.pstf.start, places.pstf.end);
+///   vatu = (places.vatu.start, places.vatu.end);
+/// } }
+/// ```
 #[derive(Debug)]
 pub struct FormPlaces {
     rphf: Range<usize>,
@@ -22,15 +35,17 @@ impl FormPlaces {
     ///
     /// # Proved
     ///
-    /// That it returns.
+    /// ```text
+    /// ensures { AreFormsOf layout.now result }
+    /// ```
     #[inline]
     pub fn new(layout: &LayoutPlan) -> Self {
         FormPlaces {
-            rphf: layout.stage_places(Tag::from_bytes(b"rphf")),
-            pref: layout.stage_places(Tag::from_bytes(b"pref")),
-            blwf: layout.stage_places(Tag::from_bytes(b"blwf")),
-            pstf: layout.stage_places(Tag::from_bytes(b"pstf")),
-            vatu: layout.stage_places(Tag::from_bytes(b"vatu")),
+            rphf: places_of(layout, b"rphf"),
+            pref: places_of(layout, b"pref"),
+            blwf: places_of(layout, b"blwf"),
+            pstf: places_of(layout, b"pstf"),
+            vatu: places_of(layout, b"vatu"),
         }
     }
 
@@ -38,7 +53,9 @@ impl FormPlaces {
     ///
     /// # Proved
     ///
-    /// That it returns.
+    /// ```text
+    /// ensures { (result.start, result.end) ≡ places_in feature self.now }
+    /// ```
     #[inline]
     pub fn of(&self, feature: FormFeature) -> Range<usize> {
         let places = match feature {
@@ -50,4 +67,10 @@ impl FormPlaces {
         };
         places.start..places.end
     }
+}
+
+/// Where the lookups stand that are applied in the stage of a feature.
+fn places_of(layout: &LayoutPlan, name: &[u8; 4]) -> Range<usize> {
+    let tag = Tag::from_bytes(name);
+    layout.stage_places(tag)
 }

@@ -10,17 +10,15 @@ use crate::font_face::Face;
 use crate::font_functions::FontFunctions;
 use crate::font_variations::substitutions_of;
 use crate::memory::AllocError;
-use crate::ot_gpos_tables::kern_table::KernTable;
-use crate::ot_map::{
-    FeatureFlags, FontLayout, KernLayout, PlanBuilder, ShapePlan, ShaperRules, TextProperties,
-};
+use crate::ot_map::{FeatureFlags, FontLayout, PlanBuilder, ShapePlan, TextProperties};
+use crate::ot_plan::decisions::{ChosenShaper, decided, kern_layout, mask};
 use crate::ot_plan::form_places::FormPlaces;
 use crate::ot_plan::glyphs_of_font::FaceGlyphs;
 use crate::ot_tags::LanguageTags;
 use crate::script_joining::FallbackLookups;
 use crate::script_shapers::{
-    ScriptPlan, ScriptShaper, SyllablePlan, ZeroWidthMarks, collect_features, override_features,
-    script_plan, syllable_plan,
+    ScriptPlan, ScriptShaper, SyllablePlan, collect_features, override_features, script_plan,
+    syllable_plan,
 };
 use crate::text::tags::tags_from_script_and_language;
 use crate::text::{Feature, Language, LanguageTable};
@@ -84,7 +82,9 @@ pub(crate) struct SegmentProperties<'a> {
 /// # Proved
 ///
 /// ```text
-/// ensures { IfOk result (IsMadeOf face.now buffer.now.direction buffer.now.script
+/// ensures made { IfOk result (IsMadeOf face.now buffer.now.direction buffer.now.script
+///     (scripts_of buffer.now.script buffer.now.language)) }
+/// ensures decides { IfOk result (IsDecided face.now buffer.now.direction buffer.now.script
 ///     (scripts_of buffer.now.script buffer.now.language)) }
 /// ```
 #[inline]
@@ -132,21 +132,14 @@ fn plan_of<F: FontFunctions>(
     text: &TextProperties,
     features: &[Feature],
 ) -> Result<TextPlan, AllocError> {
-    let tables = FontLayout {
-        gsub: face.layout.gsub,
-        gpos: face.layout.gpos,
-        kern: kern_layout(face),
-        gsub_substitutions: substitutions_of(face.layout.gsub, face.coordinates()),
-        gpos_substitutions: substitutions_of(face.layout.gpos, face.coordinates()),
-    };
+    let tables = layout_of(face);
     let substitutes = substitutes_by_morx(face, segment.direction);
     let mut builder = ShapePlan::begin(&tables, text)?;
     let chosen = add_features(&mut builder, segment, features, substitutes)?;
-    let mut shape = ShapePlan::complete(builder, &tables, segment.direction, chosen.rules)?;
-    let adjusts = shape.adjust_mark_positioning_when_zeroing;
-    shape.adjust_mark_positioning_when_zeroing = adjusts && !substitutes;
+    let layout = builder.compile()?;
+    let shape = decided(layout, &tables, segment.direction, &chosen);
     let chain_flags = chain_flags_of(face, features, substitutes)?;
-    let trak_mask = shape.layout.mask(Tag::from_bytes(b"trak"));
+    let trak_mask = mask(&shape.layout, b"trak");
     let syllables = syllable_plan(chosen.shaper, segment.script, &shape.layout);
     let script = script_plan(
         chosen.shaper,
@@ -165,6 +158,17 @@ fn plan_of<F: FontFunctions>(
         trak_mask,
         fallback,
     })
+}
+
+/// What the plan asks of the font.
+fn layout_of<'a>(face: &'a Face) -> FontLayout<'a> {
+    FontLayout {
+        gsub: face.layout.gsub,
+        gpos: face.layout.gpos,
+        kern: kern_layout(face),
+        gsub_substitutions: substitutions_of(face.layout.gsub, face.coordinates()),
+        gpos_substitutions: substitutions_of(face.layout.gpos, face.coordinates()),
+    }
 }
 
 /// Whether Apple's table `morx` substitutes glyphs in place of the lookups of `GSUB`: in horizontal
@@ -206,17 +210,6 @@ fn fallback_of<F: FontFunctions>(
     )?))
 }
 
-/// The shaper of a script.
-#[derive(Clone, Copy)]
-struct ChosenShaper {
-    /// The shaper.
-    shaper: ScriptShaper,
-    /// What it says of positions; where glyphs are substituted by `morx`, marks are placed as the script's own shaper places them.
-    rules: ShaperRules,
-    /// Whether the font has the script in its table `GSUB`.
-    finds_script: bool,
-}
-
 /// Chooses the shaper of a script, and asks for its features, those of every text and of a user.
 fn add_features(
     builder: &mut PlanBuilder,
@@ -227,12 +220,9 @@ fn add_features(
     let own = ScriptShaper::of(segment.script, segment.direction, builder.gsub.script.tag);
     let shaper = own.with_morx(substitutes_by_morx);
     let chosen = ChosenShaper {
+        own,
         shaper,
-        rules: ShaperRules {
-            gpos_script: shaper.gpos_script(),
-            zero_marks: own.zero_width_marks() != ZeroWidthMarks::Never,
-            fallback_position: own.fallback_position(),
-        },
+        substitutes_by_morx,
         finds_script: builder.gsub.script.is_found,
     };
     let with_fallback = FeatureFlags {
@@ -244,14 +234,4 @@ fn add_features(
     ShapePlan::add_common_features(builder, segment.direction, features)?;
     override_features(chosen.shaper, builder)?;
     Ok(chosen)
-}
-
-/// What the plan asks of the font's table `kern`.
-fn kern_layout(face: &Face) -> KernLayout {
-    let table = KernTable::new(face.layout.kern);
-    KernLayout {
-        is_there: table.has_kerning(),
-        is_cross_stream: table.has_cross_kerning(),
-        has_machine: table.has_machine_kerning(),
-    }
 }

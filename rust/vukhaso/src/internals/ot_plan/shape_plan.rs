@@ -56,6 +56,8 @@ impl ShapePlan {
     ///     }) }
     /// ensures made { IfOk result (λ plan. IsMadeOf face.now direction script
     ///     (scripts_of script (option_copied language.entry)) plan.made) }
+    /// ensures decides { IfOk result (λ plan. IsDecided face.now direction script
+    ///     (scripts_of script (option_copied language.entry)) plan.made) }
     /// ```
     #[inline]
     pub fn new(

@@ -1,15 +1,15 @@
 // Written by tools/plain_rust from crates/ot_positions. Do not edit.
 
-//! The last steps of shaping: glyphs that are not to be seen, and glyph flags of whole clusters.
+//! The last steps of shaping: glyphs that are not to be seen, and a text of which shaping was given up.
 
 use crate::buffer::{
     BufferFlags, HB_BUFFER_SCRATCH_FLAG_HAS_DEFAULT_IGNORABLES,
-    HB_BUFFER_SCRATCH_FLAG_HAS_GLYPH_FLAGS, HB_BUFFER_SCRATCH_FLAG_HAS_VARIATION_SELECTOR_FALLBACK,
-    glyph_flag, hb_buffer_t, hb_glyph_info_t,
+    HB_BUFFER_SCRATCH_FLAG_HAS_VARIATION_SELECTOR_FALLBACK, hb_buffer_t, hb_glyph_info_t,
 };
 use crate::common::GlyphId;
 use crate::font_functions::FontFunctions;
-use crate::ot_positions::positions::take_width_at;
+use crate::ot_positions::cluster_flags::share_flags;
+use crate::ot_positions::widths::take_width_at;
 use crate::passes::hide_default_ignorables;
 use crate::script_items::glyph_info::{clear_variation_selector, is_variation_selector};
 
@@ -135,90 +135,6 @@ fn share_flags_of_removed(buffer: &mut hb_buffer_t) {
     }
 }
 
-/// Gives all glyphs of a cluster the glyph flags that one of them has, if one is unsafe to break: so a
-/// glyph that is taken out leaves its own.
-///
-/// # Requires
-///
-/// Positions, and that no output is open.
-///
-/// - `closed: buffer.old.have_output ≡ false`
-/// - `placed: IsSome buffer.old.positions`
-///
-/// # Proved
-///
-/// ```text
-/// ensures closed { buffer.new.have_output ≡ false }
-/// ensures placed { IsSome buffer.new.positions }
-/// ensures keeps { KeepsClusters buffer.old buffer.new }
-/// ```
-#[inline]
-pub fn share_flags(buffer: &mut hb_buffer_t) {
-    debug_assert!(!buffer.have_output());
-    debug_assert!(buffer.have_positions());
-    if buffer.scratch_flags & HB_BUFFER_SCRATCH_FLAG_HAS_GLYPH_FLAGS != 0 {
-        share_in(buffer);
-    }
-}
-
-/// Shares the glyph flags of each cluster of a buffer.
-///
-/// # Requires
-///
-/// - `closed: buffer.old.have_output ≡ false`
-/// - `placed: IsSome buffer.old.positions`
-fn share_in(buffer: &mut hb_buffer_t) {
-    debug_assert!(!buffer.have_output());
-    debug_assert!(buffer.have_positions());
-    share_all(buffer.info_slice_mut());
-}
-
-/// Shares the glyph flags of each cluster.
-fn share_all(infos: &mut [hb_glyph_info_t]) {
-    let mut start = 0;
-    while start < infos.len() {
-        let end = cluster_end(infos, start);
-        share_from(infos, start, end);
-        start = end;
-    }
-}
-
-/// Gives the glyphs from a place to another one the glyph flags that one of them has, if one is unsafe
-/// to break.
-///
-/// # Requires
-///
-/// - `order: start ≤ end`
-/// - `within: end ≤ length infos.old`
-fn share_from(infos: &mut [hb_glyph_info_t], start: usize, end: usize) {
-    debug_assert!(start <= end);
-    debug_assert!(end <= infos.len());
-    let flags = shared_flags(&infos[start..end]);
-    add_flags(&mut infos[start..end], flags);
-}
-
-/// All glyph flags of some glyphs, if one is unsafe to break.
-fn shared_flags(infos: &[hb_glyph_info_t]) -> u32 {
-    let flags = all_flags(infos);
-    if flags & glyph_flag::UNSAFE_TO_BREAK != 0 {
-        flags
-    } else {
-        0
-    }
-}
-
-/// Adds glyph flags to those of each glyph.
-fn add_flags(infos: &mut [hb_glyph_info_t], flags: u32) {
-    for info in infos.iter_mut() {
-        add_flags_to(info, flags);
-    }
-}
-
-/// Adds glyph flags to those of a glyph.
-fn add_flags_to(info: &mut hb_glyph_info_t, flags: u32) {
-    info.mask |= flags;
-}
-
 /// Sets the glyph that stands for what is not to be seen.
 ///
 /// # Requires
@@ -270,125 +186,4 @@ pub fn mark_given_up(buffer: &mut hb_buffer_t) {
     if buffer.shaping_failed {
         buffer.unsafe_to_break(None, None);
     }
-}
-
-/// Gives all glyphs of a cluster the same glyph flags, and takes away those that the buffer was not
-/// asked for.
-///
-/// # Requires
-///
-/// Positions, and that no output is open.
-///
-/// - `closed: buffer.old.have_output ≡ false`
-/// - `placed: IsSome buffer.old.positions`
-///
-/// # Proved
-///
-/// ```text
-/// ensures closed { buffer.new.have_output ≡ false }
-/// ensures placed { IsSome buffer.new.positions }
-/// ensures keeps { KeepsClusters buffer.old buffer.new }
-/// ```
-#[inline]
-pub fn propagate_flags(buffer: &mut hb_buffer_t) {
-    debug_assert!(!buffer.have_output());
-    debug_assert!(buffer.have_positions());
-    if buffer.scratch_flags & HB_BUFFER_SCRATCH_FLAG_HAS_GLYPH_FLAGS == 0 {
-        return;
-    }
-    let flags = buffer.flags;
-    propagate_in(buffer, flags);
-}
-
-/// Gives all glyphs of each cluster of a buffer the same glyph flags.
-///
-/// # Requires
-///
-/// - `closed: buffer.old.have_output ≡ false`
-/// - `placed: IsSome buffer.old.positions`
-fn propagate_in(buffer: &mut hb_buffer_t, flags: BufferFlags) {
-    debug_assert!(!buffer.have_output());
-    debug_assert!(buffer.have_positions());
-    propagate_all(buffer.info_slice_mut(), flags);
-}
-
-/// Gives all glyphs of each cluster the same glyph flags.
-fn propagate_all(infos: &mut [hb_glyph_info_t], flags: BufferFlags) {
-    let mut start = 0;
-    while start < infos.len() {
-        let end = cluster_end(infos, start);
-        if end - start == 1 {
-            set_own_flags(infos, start, flags);
-        } else {
-            let mask = flags_of_cluster(all_flags(&infos[start..end]), flags);
-            set_masks(infos, start, end, mask);
-        }
-        start = end;
-    }
-}
-
-/// Gives the only glyph of a cluster its glyph flags.
-///
-/// # Requires
-///
-/// - `place < length infos.old`
-#[inline(always)]
-fn set_own_flags(infos: &mut [hb_glyph_info_t], place: usize, flags: BufferFlags) {
-    debug_assert!(place < infos.len());
-    let all = infos[place].mask & glyph_flag::DEFINED;
-    infos[place].mask = flags_of_cluster(all, flags);
-}
-
-/// All glyph flags of some glyphs.
-fn all_flags(infos: &[hb_glyph_info_t]) -> u32 {
-    let mut all = 0;
-    for info in infos.iter() {
-        all = all | info.mask & glyph_flag::DEFINED;
-    }
-    all
-}
-
-/// Gives the glyphs from a place to another one this mask.
-///
-/// # Requires
-///
-/// - `end ≤ length infos.old`
-fn set_masks(infos: &mut [hb_glyph_info_t], start: usize, end: usize, mask: u32) {
-    debug_assert!(end <= infos.len());
-    for place in start..end {
-        infos[place].mask = mask;
-    }
-}
-
-/// Where the cluster ends whose first glyph is at a place.
-///
-/// # Requires
-///
-/// - `start < length infos.now`
-fn cluster_end(infos: &[hb_glyph_info_t], start: usize) -> usize {
-    debug_assert!(start < infos.len());
-    let cluster = infos[start].cluster;
-    let mut end = start + 1;
-    while end < infos.len() && infos[end].cluster == cluster {
-        end += 1;
-    }
-    end
-}
-
-/// The glyph flags of a cluster, from all those of its glyphs. A place that is unsafe to break is not
-/// safe to insert a tatweel at, and one that is safe to insert a tatweel at is unsafe to break.
-fn flags_of_cluster(all: u32, flags: BufferFlags) -> u32 {
-    let mut mask = all;
-    if flags.contains(BufferFlags::PRODUCE_SAFE_TO_INSERT_TATWEEL) {
-        if mask & glyph_flag::UNSAFE_TO_BREAK != 0 {
-            mask = mask & !glyph_flag::SAFE_TO_INSERT_TATWEEL;
-        }
-        if mask & glyph_flag::SAFE_TO_INSERT_TATWEEL != 0 {
-            mask = mask | glyph_flag::UNSAFE_TO_BREAK | glyph_flag::UNSAFE_TO_CONCAT;
-        }
-    }
-    if !flags.contains(BufferFlags::PRODUCE_UNSAFE_TO_CONCAT) {
-        mask = mask & !glyph_flag::UNSAFE_TO_CONCAT;
-    }
-    mask
 }

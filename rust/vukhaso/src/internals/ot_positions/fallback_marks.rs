@@ -10,7 +10,7 @@ use crate::font_functions::FontFunctions;
 use crate::memory::AllocError;
 use crate::ot_layout::ligature_parts::{component_count, ligature_component, ligature_id};
 use crate::ot_positions::mark_placing::{Line, Marks};
-use crate::ot_positions::positions::zero_mark_width;
+use crate::ot_positions::widths::zero_mark_width;
 use crate::script_items::glyph_info::is_nonspacing_mark;
 use crate::script_items::item::{
     is_unicode_mark, modified_combining_class, set_modified_combining_class,

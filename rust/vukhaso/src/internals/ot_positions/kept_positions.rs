@@ -8,6 +8,7 @@ use crate::common::GlyphId;
 use crate::font_face::Face;
 use crate::font_functions::FontFunctions;
 use crate::memory::AllocError;
+use crate::ot_positions::positions::advanced;
 
 /// How many positions are kept.
 const KEPT: usize = 256;
@@ -83,10 +84,7 @@ fn font_position<F: FontFunctions>(
     is_horizontal: bool,
 ) -> Result<GlyphPosition, AllocError> {
     if is_horizontal {
-        return Ok(GlyphPosition {
-            x_advance: font.glyph_h_advance(glyph),
-            ..GlyphPosition::default()
-        });
+        return Ok(advanced(font, glyph));
     }
     let (x, y) = font.glyph_v_origin(glyph)?;
     Ok(GlyphPosition {

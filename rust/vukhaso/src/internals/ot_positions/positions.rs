@@ -2,17 +2,14 @@
 
 //! Where glyphs stand before any lookup moves them.
 
-use crate::aat_substitution::deletion::is_deleted;
 use crate::buffer::{
-    BufferFlags, GlyphPosition, HB_BUFFER_SCRATCH_FLAG_HAS_DEFAULT_IGNORABLES,
-    HB_BUFFER_SCRATCH_FLAG_HAS_SPACE_FALLBACK, hb_buffer_t, hb_glyph_info_t,
+    GlyphPosition, HB_BUFFER_SCRATCH_FLAG_HAS_SPACE_FALLBACK, hb_buffer_t, hb_glyph_info_t,
 };
 use crate::common::GlyphId;
 use crate::font_face::Face;
 use crate::font_functions::FontFunctions;
 use crate::memory::AllocError;
 use crate::ot_positions::fallback_spaces::space_advance;
-use crate::ot_positions::glyph_info::{is_default_ignorable, is_mark};
 use crate::ot_positions::kept_positions::FontPositions;
 
 /// Gives each glyph the font's advance at the size of its face, and in vertical lines its vertical
@@ -31,6 +28,9 @@ use crate::ot_positions::kept_positions::FontPositions;
 /// # Proved
 ///
 /// ```text
+/// ensures advances { is_horizontal buffer.old.direction ≡ true → has_no_fallback_spaces buffer.old ≡ true
+///     → IfOk result (λ _. IfSome buffer.new.positions (AreAdvanced (F.may_advance font.now) buffer.old.input)) }
+/// ensures rest { buffer.new ≡ record buffer.old { positions = buffer.new.positions } }
 /// ensures closed { buffer.new.have_output ≡ false }
 /// ensures placed { IsSome buffer.new.positions }
 /// ensures keeps { KeepsClusters buffer.old buffer.new }
@@ -42,8 +42,8 @@ pub fn position_glyphs<F: FontFunctions>(
     font: &F,
 ) -> Result<(), AllocError> {
     debug_assert!(!buffer.have_output());
-    let is_horizontal = buffer.direction.is_horizontal();
-    let has_spaces = buffer.scratch_flags & HB_BUFFER_SCRATCH_FLAG_HAS_SPACE_FALLBACK != 0;
+    let is_horizontal = is_horizontal_line(buffer);
+    let has_spaces = has_fallback_spaces(buffer);
     buffer.clear_positions();
     let is_varied = !face.coordinates().is_empty();
     if is_horizontal && !has_spaces && !is_varied {
@@ -54,13 +54,23 @@ pub fn position_glyphs<F: FontFunctions>(
     place_glyphs(buffer, &mut positions, has_spaces)
 }
 
+/// Whether the line is horizontal.
+fn is_horizontal_line(buffer: &hb_buffer_t) -> bool {
+    buffer.direction.is_horizontal()
+}
+
+/// Whether some character is a space that the font has no glyph for.
+fn has_fallback_spaces(buffer: &hb_buffer_t) -> bool {
+    buffer.scratch_flags & HB_BUFFER_SCRATCH_FLAG_HAS_SPACE_FALLBACK != 0
+}
+
 /// Gives each glyph its position; a space that the font has no glyph for is as wide as its kind says,
 /// if there may be some.
 ///
 /// # Requires
 ///
 /// - `closed: buffer.old.have_output ≡ false`
-/// - `placed: IsSome buffer.old.positions`
+/// - `zero: buffer.old.positions ≡ Some (replicate (length buffer.old.input) zero_position)`
 /// - `kept: AreTheFonts (F.may_advance positions.old.font.now) positions.old.is_horizontal positions.old.kept`
 fn place_glyphs<F: FontFunctions>(
     buffer: &mut hb_buffer_t,
@@ -68,13 +78,9 @@ fn place_glyphs<F: FontFunctions>(
     has_spaces: bool,
 ) -> Result<(), AllocError> {
     debug_assert!(!buffer.have_output());
-    debug_assert!(buffer.have_positions());
     let invisible = buffer.invisible;
     for i in 0..buffer.len() {
-        let Some(info) = buffer.info().get(i) else {
-            break;
-        };
-        let position = position_of(info, positions, has_spaces, invisible)?;
+        let position = position_of(info_at(buffer.info(), i), positions, has_spaces, invisible)?;
         set_position(buffer, i, position);
     }
     Ok(())
@@ -106,22 +112,37 @@ fn position_of<F: FontFunctions>(
 /// # Requires
 ///
 /// - `closed: buffer.old.have_output ≡ false`
-/// - `placed: IsSome buffer.old.positions`
+/// - `zero: buffer.old.positions ≡ Some (replicate (length buffer.old.input) zero_position)`
 fn advance_glyphs<F: FontFunctions>(buffer: &mut hb_buffer_t, font: &F) {
     debug_assert!(!buffer.have_output());
-    debug_assert!(buffer.have_positions());
     for i in 0..buffer.len() {
-        let Some(info) = buffer.info().get(i) else {
-            break;
-        };
-        let advance = font.glyph_h_advance(glyph_of(info));
-        if let Some(position) = buffer.pos_mut().get_mut(i) {
-            position.x_advance = advance;
-        }
+        let position = advanced(font, glyph_of(info_at(buffer.info(), i)));
+        set_position(buffer, i, position);
     }
 }
 
+/// The position of a glyph of a horizontal line.
+#[inline(always)]
+pub(crate) fn advanced<F: FontFunctions>(font: &F, glyph: GlyphId) -> GlyphPosition {
+    GlyphPosition {
+        x_advance: font.glyph_h_advance(glyph),
+        ..GlyphPosition::default()
+    }
+}
+
+/// The item at a place.
+///
+/// # Requires
+///
+/// - `place < length infos.now`
+#[inline(always)]
+fn info_at(infos: &[hb_glyph_info_t], place: usize) -> &hb_glyph_info_t {
+    debug_assert!(place < infos.len());
+    &infos[place]
+}
+
 /// The glyph of an item.
+#[inline(always)]
 fn glyph_of(info: &hb_glyph_info_t) -> GlyphId {
     GlyphId(u16::try_from(info.glyph_id).unwrap_or(0))
 }
@@ -132,11 +153,18 @@ fn glyph_of(info: &hb_glyph_info_t) -> GlyphId {
 ///
 /// - `closed: buffer.old.have_output ≡ false`
 /// - `placed: IsSome buffer.old.positions`
+#[inline(always)]
 fn set_position(buffer: &mut hb_buffer_t, place: usize, position: GlyphPosition) {
     debug_assert!(!buffer.have_output());
     debug_assert!(buffer.have_positions());
-    if let Some(own) = buffer.pos_mut().get_mut(place) {
-        *own = position;
+    set_in(buffer.pos_mut(), place, position);
+}
+
+/// Sets the position at a place of these.
+#[inline(always)]
+fn set_in(positions: &mut [GlyphPosition], place: usize, position: GlyphPosition) {
+    if place < positions.len() {
+        positions[place] = position;
     }
 }
 
@@ -147,135 +175,4 @@ fn advance_of(position: &mut GlyphPosition, is_horizontal: bool) -> &mut i32 {
     } else {
         &mut position.y_advance
     }
-}
-
-/// Takes the advance of each glyph that is a mark by its font; moves the mark back by it if `adjusts`
-/// says so.
-///
-/// # Requires
-///
-/// Positions, and that no output is open.
-///
-/// - `closed: buffer.old.have_output ≡ false`
-/// - `placed: IsSome buffer.old.positions`
-///
-/// # Proved
-///
-/// ```text
-/// ensures closed { buffer.new.have_output ≡ false }
-/// ensures placed { IsSome buffer.new.positions }
-/// ensures keeps { KeepsClusters buffer.old buffer.new }
-/// ```
-#[inline]
-pub fn zero_mark_widths(buffer: &mut hb_buffer_t, adjusts: bool) {
-    debug_assert!(!buffer.have_output());
-    debug_assert!(buffer.have_positions());
-    for i in 0..buffer.len() {
-        if buffer.info().get(i).is_some_and(|info| is_mark(info)) {
-            if let Some(position) = buffer.pos_mut().get_mut(i) {
-                zero_mark_width(position, adjusts);
-            }
-        }
-    }
-}
-
-/// Takes the advance of a mark.
-pub(crate) fn zero_mark_width(position: &mut GlyphPosition, adjusts: bool) {
-    if adjusts {
-        position.x_offset = position.x_offset.wrapping_sub(position.x_advance);
-        position.y_offset = position.y_offset.wrapping_sub(position.y_advance);
-    }
-    position.x_advance = 0;
-    position.y_advance = 0;
-}
-
-/// Takes the advances and offsets of characters that are invisible by default, unless the buffer's
-/// flags say that they are kept or removed.
-///
-/// # Requires
-///
-/// Positions, and that no output is open.
-///
-/// - `closed: buffer.old.have_output ≡ false`
-/// - `placed: IsSome buffer.old.positions`
-///
-/// # Proved
-///
-/// ```text
-/// ensures closed { buffer.new.have_output ≡ false }
-/// ensures placed { IsSome buffer.new.positions }
-/// ensures keeps { KeepsClusters buffer.old buffer.new }
-/// ```
-#[inline]
-pub fn zero_width_default_ignorables(buffer: &mut hb_buffer_t) {
-    debug_assert!(!buffer.have_output());
-    debug_assert!(buffer.have_positions());
-    if buffer.scratch_flags & HB_BUFFER_SCRATCH_FLAG_HAS_DEFAULT_IGNORABLES == 0
-        || buffer
-            .flags
-            .contains(BufferFlags::PRESERVE_DEFAULT_IGNORABLES)
-        || buffer
-            .flags
-            .contains(BufferFlags::REMOVE_DEFAULT_IGNORABLES)
-    {
-        return;
-    }
-    for i in 0..buffer.len() {
-        if buffer
-            .info()
-            .get(i)
-            .is_some_and(|info| is_default_ignorable(info))
-        {
-            take_width_at(buffer, i);
-        }
-    }
-}
-
-/// Takes the advances and offsets of glyphs that Apple's table `morx` deleted.
-///
-/// # Requires
-///
-/// Positions, and that no output is open.
-///
-/// - `closed: buffer.old.have_output ≡ false`
-/// - `placed: IsSome buffer.old.positions`
-///
-/// # Proved
-///
-/// ```text
-/// ensures closed { buffer.new.have_output ≡ false }
-/// ensures placed { IsSome buffer.new.positions }
-/// ensures keeps { KeepsClusters buffer.old buffer.new }
-/// ```
-#[inline]
-pub fn zero_width_deleted_glyphs(buffer: &mut hb_buffer_t) {
-    debug_assert!(!buffer.have_output());
-    debug_assert!(buffer.have_positions());
-    for i in 0..buffer.len() {
-        if buffer.info().get(i).is_some_and(|info| is_deleted(info)) {
-            take_width_at(buffer, i);
-        }
-    }
-}
-
-/// Takes all width and every offset of the glyph at a place.
-///
-/// # Requires
-///
-/// - `closed: buffer.old.have_output ≡ false`
-/// - `placed: IsSome buffer.old.positions`
-pub(crate) fn take_width_at(buffer: &mut hb_buffer_t, place: usize) {
-    debug_assert!(!buffer.have_output());
-    debug_assert!(buffer.have_positions());
-    if let Some(own) = buffer.pos_mut().get_mut(place) {
-        take_width(own);
-    }
-}
-
-/// Takes all width and every offset of a glyph; what it is attached to stays.
-fn take_width(position: &mut GlyphPosition) {
-    *position = GlyphPosition {
-        var: position.var,
-        ..GlyphPosition::default()
-    };
 }

@@ -512,7 +512,12 @@ fn put_glyphs(buffer: &mut hb_buffer_t) {
 
 /// Puts the glyph of each of the characters in its place.
 fn put_all(infos: &mut [hb_glyph_info_t]) {
-    for i in 0..infos.len() {
-        infos[i].glyph_id = infos[i].glyph_index();
+    for info in infos.iter_mut() {
+        put(info);
     }
+}
+
+/// Puts the glyph of a character in its place.
+fn put(info: &mut hb_glyph_info_t) {
+    info.glyph_id = info.glyph_index();
 }

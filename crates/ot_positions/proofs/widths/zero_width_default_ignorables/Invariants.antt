@@ -1,0 +1,11 @@
+use Rattle.std.proofs.Common.{◌≡◌, IsSome}
+use Rattle.ot_positions.specs.Widths.{is_default_ignorable, where_glyph, without_width}
+use Rattle.ot_positions.proofs.WidthsLemmas.{changed_before}
+use Rattle.ot_positions.proofs.widths.zero_width_default_ignorables.Given as goal
+
+-- the glyphs before the place have become what they are to become
+abbrev pub invariant-loop-i : goal.invariant-loop-i
+invariant-loop-i l = record {
+  is : l.buffer ≡ changed_before (where_glyph is_default_ignorable without_width) l.i l.fn.buffer;
+  placed : IsSome l.buffer.positions;
+}

@@ -1,0 +1,148 @@
+//! Glyphs that take no room: marks, what is invisible by default, and what was deleted.
+
+ghost use Rattle.std.specs.Prelude.{◌≡◌, false, IsSome};
+ghost use Rattle.ot_positions.specs.ChangedAt.{changed_at, position_changed};
+ghost use Rattle.ot_positions.specs.Widths as widths;
+ghost use Rattle.ot_positions.specs.Widths.{without_advance, without_width};
+ghost use Rattle.shaping_buffer.specs.KeepsClusters.{KeepsClusters};
+
+use crate::glyph_info::{is_default_ignorable, is_mark};
+use aat_substitution::deletion::is_deleted;
+use shaping_buffer::{
+    BufferFlags, Flags, GlyphPosition, HB_BUFFER_SCRATCH_FLAG_HAS_DEFAULT_IGNORABLES, hb_buffer_t,
+};
+
+/// Takes the advance of each glyph that is a mark by its font; moves the mark back by it if `adjusts` says so. Requires positions, and
+/// that no output is open.
+#[tactic(auto, using(crate::proofs::WidthsLemmas::walks))]
+pub fn zero_mark_widths(buffer: &mut hb_buffer_t, adjusts: bool)
+    requires closed { buffer.old.have_output ≡ false }
+    requires placed { IsSome buffer.old.positions }
+    ensures is { buffer.new ≡ widths.zero_mark_widths adjusts buffer.old }
+    ensures closed { buffer.new.have_output ≡ false }
+    ensures placed { IsSome buffer.new.positions }
+    ensures keeps { KeepsClusters buffer.old buffer.new }
+{
+    for i in 0..buffer.len() {
+        if is_mark(&buffer.info()[i]) {
+            zero_mark_width_at(buffer, i, adjusts);
+        }
+    }
+}
+
+/// Takes the advance of the glyph at a place.
+#[inline]
+#[tactic(auto, using(crate::proofs::WidthsLemmas::written))]
+fn zero_mark_width_at(buffer: &mut hb_buffer_t, place: usize, adjusts: bool)
+    requires closed { buffer.old.have_output ≡ false }
+    requires placed { IsSome buffer.old.positions }
+    ensures is { buffer.new ≡ position_changed (without_advance adjusts) place buffer.old }
+    ensures placed { IsSome buffer.new.positions }
+{
+    narrow(buffer.pos_mut(), place, adjusts);
+}
+
+/// Takes the advance at a place.
+#[inline]
+fn narrow(positions: &mut [GlyphPosition], place: usize, adjusts: bool)
+    ensures { positions.new ≡ changed_at (without_advance adjusts) place positions.old }
+{
+    if place < positions.len() {
+        zero_mark_width(&mut positions[place], adjusts);
+    }
+}
+
+/// Takes the advance of a mark.
+pub(crate) fn zero_mark_width(position: &mut GlyphPosition, adjusts: bool)
+    ensures { position.new ≡ without_advance adjusts position.old }
+{
+    if adjusts {
+        position.x_offset = position.x_offset.wrapping_sub(position.x_advance);
+        position.y_offset = position.y_offset.wrapping_sub(position.y_advance);
+    }
+    position.x_advance = 0;
+    position.y_advance = 0;
+}
+
+/// Takes the advances and offsets of characters that are invisible by default, unless the buffer's flags say that they are kept or
+/// removed. Requires positions, and that no output is open.
+#[tactic(auto, using(crate::proofs::WidthsLemmas::walks))]
+pub fn zero_width_default_ignorables(buffer: &mut hb_buffer_t)
+    requires closed { buffer.old.have_output ≡ false }
+    requires placed { IsSome buffer.old.positions }
+    ensures is { buffer.new ≡ widths.zero_width_default_ignorables buffer.old }
+    ensures closed { buffer.new.have_output ≡ false }
+    ensures placed { IsSome buffer.new.positions }
+    ensures keeps { KeepsClusters buffer.old buffer.new }
+{
+    if !hides_ignorables(buffer) {
+        return;
+    }
+    for i in 0..buffer.len() {
+        if is_default_ignorable(&buffer.info()[i]) {
+            take_width_at(buffer, i);
+        }
+    }
+}
+
+/// Whether characters that are invisible by default are to take no room.
+fn hides_ignorables(buffer: &hb_buffer_t) -> bool
+    ensures { result ≡ widths.hides_ignorables buffer.now }
+{
+    buffer.scratch_flags & HB_BUFFER_SCRATCH_FLAG_HAS_DEFAULT_IGNORABLES != 0
+        && !buffer
+            .flags
+            .contains(BufferFlags::PRESERVE_DEFAULT_IGNORABLES)
+        && !buffer
+            .flags
+            .contains(BufferFlags::REMOVE_DEFAULT_IGNORABLES)
+}
+
+/// Takes the advances and offsets of glyphs that Apple's table `morx` deleted. Requires positions, and that no output is open.
+#[tactic(auto, using(crate::proofs::WidthsLemmas::walks))]
+pub fn zero_width_deleted_glyphs(buffer: &mut hb_buffer_t)
+    requires closed { buffer.old.have_output ≡ false }
+    requires placed { IsSome buffer.old.positions }
+    ensures is { buffer.new ≡ widths.zero_width_deleted_glyphs buffer.old }
+    ensures closed { buffer.new.have_output ≡ false }
+    ensures placed { IsSome buffer.new.positions }
+    ensures keeps { KeepsClusters buffer.old buffer.new }
+{
+    for i in 0..buffer.len() {
+        if is_deleted(&buffer.info()[i]) {
+            take_width_at(buffer, i);
+        }
+    }
+}
+
+/// Takes all width and every offset of the glyph at a place.
+#[inline]
+#[tactic(auto, using(crate::proofs::WidthsLemmas::written))]
+pub(crate) fn take_width_at(buffer: &mut hb_buffer_t, place: usize)
+    requires closed { buffer.old.have_output ≡ false }
+    requires placed { IsSome buffer.old.positions }
+    ensures is { buffer.new ≡ position_changed without_width place buffer.old }
+    ensures placed { IsSome buffer.new.positions }
+{
+    take_width_in(buffer.pos_mut(), place);
+}
+
+/// Takes all width and every offset at a place.
+#[inline]
+fn take_width_in(positions: &mut [GlyphPosition], place: usize)
+    ensures { positions.new ≡ changed_at without_width place positions.old }
+{
+    if place < positions.len() {
+        take_width(&mut positions[place]);
+    }
+}
+
+/// Takes all width and every offset of a glyph; what it is attached to stays.
+fn take_width(position: &mut GlyphPosition)
+    ensures { position.new ≡ without_width position.old }
+{
+    *position = GlyphPosition {
+        var: position.var,
+        ..GlyphPosition::default()
+    };
+}
