@@ -52,6 +52,7 @@ pub(crate) fn in_line(direction: Direction, count: usize, number: usize) -> usiz
 
 /// The pair of the glyph at a place and the next one in the line that is not passed over; `None` where there is none, or the glyph has
 /// not the bits that are asked for.
+#[inline]
 #[tactic(auto, unfolding(crate::specs::Kerning::pair_of))]
 pub(crate) fn pair_of(
     glyphs: &[hb_glyph_info_t],
@@ -121,6 +122,7 @@ fn next_backward(glyphs: &[hb_glyph_info_t], machine: &KernMachine, left: usize)
 }
 
 /// Whether one of the glyphs between those of a pair would be kerned with its right glyph, if the line began there.
+#[inline]
 #[tactic(auto, using(crate::proofs::PairLemmas::some_place_here, crate::proofs::PairLemmas::some_place_later, crate::proofs::PairLemmas::some_place_none))]
 pub(crate) fn passes_over_pair(
     glyphs: &[hb_glyph_info_t],

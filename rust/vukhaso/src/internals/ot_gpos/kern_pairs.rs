@@ -57,6 +57,7 @@ pub(crate) fn in_line(direction: Direction, count: usize, number: usize) -> usiz
 ///
 /// - `passes: PassesMarks machine.now.iterator`
 /// - `there: left < length glyphs.now`
+#[inline(always)]
 pub(crate) fn pair_of(
     glyphs: &[hb_glyph_info_t],
     machine: &KernMachine,
@@ -123,6 +124,7 @@ fn next_backward(glyphs: &[hb_glyph_info_t], machine: &KernMachine, left: usize)
 ///
 /// - `left: pair.now.left < length glyphs.now`
 /// - `right: pair.now.right < length glyphs.now`
+#[inline(always)]
 pub(crate) fn passes_over_pair(
     glyphs: &[hb_glyph_info_t],
     machine: &KernMachine,
